@@ -1,0 +1,100 @@
+-- Agreement of the plain program, one output at a time from the front.
+use Rattle.std.proofs.Common.{◌≡◌, ℕ, zero, suc, ◌+◌, ◌-◌, ◌*◌, ◌%◌, ◌^◌, ◌<◌, ◌≤◌, true, List, [], ◌∷◌, ◌++◌, length, get_or, refl, sym, ◌∙◌, ap, ap₂, subst, arith, pow_mono}
+use Rattle.std.proofs.lemmas.List.{get_or_append_left, get_or-append-add}
+use Rattle.chain_theory.specs.Agreement.{is_met, output_value, Agrees}
+use Rattle.chain_theory.specs.Value.{out_value}
+use Rattle.chain_theory.specs.Plain.{chain_of, MeetsRows, flat_specification}
+use Rattle.chain_theory.specs.declared.data.Cell.{Cell}
+use Rattle.chain_theory.specs.declared.data.Cell.TheVariants.{Free}
+use Rattle.chain_theory.specs.declared.data.Out.{Out}
+use Rattle.chain_theory.specs.declared.data.Out.TheVariants.{Zero, One, Place}
+use Rattle.chain_theory.specs.declared.plain.PlainStep.{PlainStep}
+
+-- a chain of these outs agrees with these cells
+abbrev pub AgreesFlat : ℕ → List PlainStep → List Out → List Cell → Type 0
+AgreesFlat n steps outs cells = Agrees (chain_of n steps outs) (flat_specification n (length outs) cells)
+
+-- the first out and the others, and the cells of the first and of the others
+pub record IsCut (n : ℕ) (outs : List Out) (cells : List Cell) (out : Out) (others : List Out) (own behind : List Cell) : Type 0 where
+  pub outs_are : outs ≡ out ∷ others
+  pub cells_are : cells ≡ own ++ behind
+  pub count : length own ≡ 2 ^ n
+
+-- a shift by fewer than 32 places keeps its bit in a word
+shifted : (n : ℕ) → n < 32 → (1 * 2 ^ n) % 18446744073709551616 ≡ 2 ^ n
+shifted n low = let few : n ≤ 31 = omega arith in let most : 2 ^ n ≤ 2 ^ 31 = pow_mono few in omega (arith, most)
+
+-- the cut behind the first out and its cells
+pub cut_behind : (n : ℕ) (outs : List Out) (cells : List Cell) (out : Out) (others : List Out) (own behind : List Cell) → n < 32 → outs ≡ out ∷ others → cells ≡ own ++ behind → length own ≡ (1 * 2 ^ n) % 18446744073709551616 → IsCut n outs cells out others own behind
+cut_behind n outs cells out others own behind low outs_are cells_are count = record { outs_are = outs_are; cells_are = cells_are; count = count ∙ shifted n low }
+
+-- The value of an out is the same whatever outs the chain has.
+any_outs : (n t : ℕ) (steps : List PlainStep) (xs ys : List Out) (out : Out) → out_value (chain_of n steps xs) t out ≡ out_value (chain_of n steps ys) t out
+any_outs n t steps xs ys Zero = refl
+any_outs n t steps xs ys One = refl
+any_outs n t steps xs ys (Place p) = refl
+
+-- Without outputs there is nothing to miss.
+pub agrees-none : (n : ℕ) (steps : List PlainStep) (outs : List Out) (cells : List Cell) → length outs ≡ 0 → AgreesFlat n steps outs cells
+agrees-none n steps outs cells none = record { inputs = refl; outputs = refl; cells = λ h t from to low. absurd (omega arith) }
+
+-- the cells of the first output
+first_cell : (n t : ℕ) (own behind : List Cell) → length own ≡ 2 ^ n → t < 2 ^ n → get_or (own ++ behind) ((1 - 1) * 2 ^ n + t) Free ≡ get_or own t Free
+first_cell n t own behind count low =
+    let place : (1 - 1) * 2 ^ n + t ≡ t = omega arith in
+    ap (λ (i : ℕ). get_or (own ++ behind) i Free) place ∙ get_or_append_left own behind Free t (omega (arith, count))
+
+-- the cells of the others
+other_cell : (n h t : ℕ) (own behind : List Cell) → length own ≡ 2 ^ n → get_or (own ++ behind) ((suc (suc h) - 1) * 2 ^ n + t) Free ≡ get_or behind ((suc h - 1) * 2 ^ n + t) Free
+other_cell n h t own behind count =
+    let next : suc (suc h) - 1 ≡ suc h = omega arith in
+    let this : suc h - 1 ≡ h = omega arith in
+    let place : (suc (suc h) - 1) * 2 ^ n + t ≡ length own + ((suc h - 1) * 2 ^ n + t) = rw (count, next, this) (omega arith) in
+    ap (λ (i : ℕ). get_or (own ++ behind) i Free) place ∙ get_or-append-add own behind ((suc h - 1) * 2 ^ n + t) Free
+
+-- an output's cell is met behind the first output as it is with it
+same_met : (n h t : ℕ) (steps : List PlainStep) (out : Out) (others : List Out) (own behind : List Cell) → length own ≡ 2 ^ n → is_met (get_or (own ++ behind) ((suc (suc h) - 1) * 2 ^ n + t) Free) (output_value (chain_of n steps (out ∷ others)) (suc (suc h)) t) ≡ is_met (get_or behind ((suc h - 1) * 2 ^ n + t) Free) (output_value (chain_of n steps others) (suc h) t)
+same_met n h t steps out others own behind count =
+    let next : suc (suc h) - 1 ≡ suc h = omega arith in
+    let this : suc h - 1 ≡ h = omega arith in
+    let same : output_value (chain_of n steps (out ∷ others)) (suc (suc h)) t ≡ output_value (chain_of n steps others) (suc h) t = rw (next, this) (any_outs n t steps (out ∷ others) others (get_or others h Zero)) in
+    ap₂ is_met (other_cell n h t own behind count) same
+
+-- and the first output's cell as it is by its out alone
+first_met : (n t : ℕ) (steps : List PlainStep) (out : Out) (others : List Out) (own behind : List Cell) → length own ≡ 2 ^ n → t < 2 ^ n → is_met (get_or (own ++ behind) ((1 - 1) * 2 ^ n + t) Free) (output_value (chain_of n steps (out ∷ others)) 1 t) ≡ is_met (get_or own t Free) (out_value (chain_of n steps []) t out)
+first_met n t steps out others own behind count low =
+    ap₂ is_met (first_cell n t own behind count low) (any_outs n t steps (out ∷ others) [] out)
+
+all_met : (n : ℕ) (steps : List PlainStep) (out : Out) (others : List Out) (own behind : List Cell) → length own ≡ 2 ^ n → MeetsRows n steps out own → AgreesFlat n steps others behind → (h t : ℕ) → 1 ≤ h → h ≤ suc (length others) → t < 2 ^ n → is_met (get_or (own ++ behind) ((h - 1) * 2 ^ n + t) Free) (output_value (chain_of n steps (out ∷ others)) h t) ≡ true
+all_met n steps out others own behind count first rest zero t from to low = absurd (omega arith)
+all_met n steps out others own behind count first rest (suc zero) t from to low = first_met n t steps out others own behind count low ∙ first t low
+all_met n steps out others own behind count first rest (suc (suc h)) t from to low = same_met n h t steps out others own behind count ∙ rest.cells (suc h) t (omega arith) (omega arith) low
+
+others_met : (n : ℕ) (steps : List PlainStep) (out : Out) (others : List Out) (own behind : List Cell) → length own ≡ 2 ^ n → AgreesFlat n steps (out ∷ others) (own ++ behind) → (h t : ℕ) → 1 ≤ h → h ≤ length others → t < 2 ^ n → is_met (get_or behind ((h - 1) * 2 ^ n + t) Free) (output_value (chain_of n steps others) h t) ≡ true
+others_met n steps out others own behind count all zero t from to low = absurd (omega arith)
+others_met n steps out others own behind count all (suc h) t from to low = sym (same_met n h t steps out others own behind count) ∙ all.cells (suc (suc h)) t (omega arith) (omega arith) low
+
+-- the whole is the parts together
+put_together : (n : ℕ) (steps : List PlainStep) (outs : List Out) (cells : List Cell) (out : Out) (others : List Out) (own behind : List Cell) → IsCut n outs cells out others own behind → AgreesFlat n steps (out ∷ others) (own ++ behind) → AgreesFlat n steps outs cells
+put_together n steps outs cells out others own behind cut all =
+    subst (λ (os : List Out). AgreesFlat n steps os cells) (sym cut.outs_are) (subst (λ (cs : List Cell). AgreesFlat n steps (out ∷ others) cs) (sym cut.cells_are) all)
+
+taken_apart : (n : ℕ) (steps : List PlainStep) (outs : List Out) (cells : List Cell) (out : Out) (others : List Out) (own behind : List Cell) → IsCut n outs cells out others own behind → AgreesFlat n steps outs cells → AgreesFlat n steps (out ∷ others) (own ++ behind)
+taken_apart n steps outs cells out others own behind cut all =
+    subst (λ (cs : List Cell). AgreesFlat n steps (out ∷ others) cs) cut.cells_are (subst (λ (os : List Out). AgreesFlat n steps os cells) cut.outs_are all)
+
+-- A chain agrees where its first out meets its cells and the others agree with theirs.
+pub agrees-more : (n : ℕ) (steps : List PlainStep) (outs : List Out) (cells : List Cell) (out : Out) (others : List Out) (own behind : List Cell) → IsCut n outs cells out others own behind → MeetsRows n steps out own → AgreesFlat n steps others behind → AgreesFlat n steps outs cells
+agrees-more n steps outs cells out others own behind cut first rest =
+    put_together n steps outs cells out others own behind cut record { inputs = refl; outputs = refl; cells = all_met n steps out others own behind cut.count first rest }
+
+-- Where a chain agrees, its first out meets its cells.
+pub agrees-first : (n : ℕ) (steps : List PlainStep) (outs : List Out) (cells : List Cell) (out : Out) (others : List Out) (own behind : List Cell) → IsCut n outs cells out others own behind → AgreesFlat n steps outs cells → MeetsRows n steps out own
+agrees-first n steps outs cells out others own behind cut all t low =
+    let whole = taken_apart n steps outs cells out others own behind cut all in
+    sym (first_met n t steps out others own behind cut.count low) ∙ whole.cells 1 t (omega arith) (omega arith) low
+
+-- And the others agree with theirs.
+pub agrees-others : (n : ℕ) (steps : List PlainStep) (outs : List Out) (cells : List Cell) (out : Out) (others : List Out) (own behind : List Cell) → IsCut n outs cells out others own behind → AgreesFlat n steps outs cells → AgreesFlat n steps others behind
+agrees-others n steps outs cells out others own behind cut all =
+    record { inputs = refl; outputs = refl; cells = others_met n steps out others own behind cut.count (taken_apart n steps outs cells out others own behind cut all) }

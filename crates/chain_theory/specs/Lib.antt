@@ -1,0 +1,9 @@
+pub mod Operator
+pub mod Specification
+pub mod Chain
+pub mod Value
+pub mod Agreement
+pub mod Difference
+pub mod Plain
+pub mod ValueLaws
+pub mod DifferenceLaws

@@ -1,0 +1,21 @@
+/// What a specification asks of an output on a row.
+#[derive(Clone, Copy, Debug, PartialEq, Eq)]
+pub enum Cell {
+    /// The output is 0 there.
+    Zero,
+    /// The output is 1 there.
+    One,
+    /// The output may be either: a don't-care.
+    Free,
+}
+
+/// What an output of a chain is.
+#[derive(Clone, Copy, Debug, PartialEq, Eq)]
+pub enum Out {
+    /// The constant 0.
+    Zero,
+    /// The constant 1.
+    One,
+    /// The value of a place: 1 to n are the inputs, the steps follow from n + 1 on.
+    Place(u32),
+}

@@ -1,0 +1,118 @@
+//! The definitions, computed as they stand: recursion over the steps, one place at a time. It is
+//! meant for reading and for small inputs, and takes exponential time.
+ghost use Rattle.std.specs.Prelude.{◌≡◌, ℕ, ◌*◌, ◌^◌, ◌<◌, length, [], true, false};
+ghost use Rattle.chain_theory.specs.Operator.{apply as apply_of};
+ghost use Rattle.chain_theory.specs.Specification.{input as input_of};
+ghost use Rattle.chain_theory.specs.Value.{values_on, out_value as out_value_of};
+ghost use Rattle.chain_theory.specs.Agreement.{is_met as is_met_of, Agrees};
+ghost use Rattle.chain_theory.specs.Plain.{steps_of, chain_of, MeetsRows, flat_specification};
+
+use crate::data::{Cell, Out};
+
+/// An operator on two places: `j` and `k` from 1 on, `op` the number of the operator's word.
+#[derive(Clone, Copy, Debug, PartialEq, Eq)]
+pub struct PlainStep {
+    pub j: u32,
+    pub k: u32,
+    pub op: u8,
+}
+
+/// The value of an operator, given as the number of its word, at two bits.
+pub fn apply(op: u8, a: bool, b: bool) -> bool
+    ensures { result ≡ apply_of op a b }
+{
+    let place = match (a, b) {
+        (false, false) => 3,
+        (false, true) => 2,
+        (true, false) => 1,
+        (true, true) => 0,
+    };
+    (op >> place) & 1 == 1
+}
+
+/// The bit that row `t` gives input `j` of `n`. As in the definitions, `n - j` stops at 0.
+pub fn input(n: u32, t: u32, j: u32) -> bool
+    requires { n < 32 }
+    ensures { result ≡ input_of n t j }
+{
+    (t >> n.saturating_sub(j)) & 1 == 1
+}
+
+/// The value of a place on row `t`, by steps over `n` inputs.
+pub fn place_value(n: u32, steps: &[PlainStep], t: u32, place: u32) -> bool
+    requires inputs { n < 32 }
+    requires steps { length steps.now < 2 ^ 31 }
+    ensures { result ≡ values_on n t (steps_of steps.now) place }
+{
+    let Some((last, before)) = steps.split_last() else {
+        return input(n, t, place);
+    };
+    if place as usize == n as usize + 1 + before.len() {
+        let a = place_value(n, before, t, last.j);
+        let b = place_value(n, before, t, last.k);
+        apply(last.op, a, b)
+    } else {
+        place_value(n, before, t, place)
+    }
+}
+
+/// The value of an out on row `t`.
+pub fn out_value(n: u32, steps: &[PlainStep], t: u32, out: Out) -> bool
+    requires inputs { n < 32 }
+    requires steps { length steps.now < 2 ^ 31 }
+    ensures { result ≡ out_value_of (chain_of n steps.now []) t out }
+{
+    match out {
+        Out::Zero => false,
+        Out::One => true,
+        Out::Place(place) => place_value(n, steps, t, place),
+    }
+}
+
+/// Whether the bit meets the cell.
+pub fn is_met(cell: Cell, bit: bool) -> bool
+    ensures { result ≡ is_met_of cell bit }
+{
+    match cell {
+        Cell::Zero => !bit,
+        Cell::One => bit,
+        Cell::Free => true,
+    }
+}
+
+/// Whether an out meets the cells of its rows, row 0 first.
+pub fn meets_rows(n: u32, steps: &[PlainStep], out: Out, cells: &[Cell]) -> bool
+    requires inputs { n < 32 }
+    requires steps { length steps.now < 2 ^ 31 }
+    requires rows { length cells.now ≡ 2 ^ n }
+    ensures meets { result ≡ true → MeetsRows n steps.now out cells.now }
+    ensures misses { result ≡ false → MeetsRows n steps.now out cells.now → ⊥ }
+{
+    let mut row = 0;
+    for cell in cells {
+        if !is_met(*cell, out_value(n, steps, row, out)) {
+            return false;
+        }
+        row += 1;
+    }
+    true
+}
+
+/// Whether a chain with these outs agrees with tables: `cells` holds all cells of output 1, row 0
+/// first, then all of output 2, and so on.
+pub fn agrees(n: u32, steps: &[PlainStep], outs: &[Out], cells: &[Cell]) -> bool
+    requires inputs { n < 32 }
+    requires steps { length steps.now < 2 ^ 31 }
+    requires rows { length cells.now ≡ length outs.now * 2 ^ n }
+    ensures agrees { result ≡ true → Agrees (chain_of n steps.now outs.now) (flat_specification n (length outs.now) cells.now) }
+    ensures differs { result ≡ false → Agrees (chain_of n steps.now outs.now) (flat_specification n (length outs.now) cells.now) → ⊥ }
+{
+    let Some((out, others)) = outs.split_first() else {
+        return true;
+    };
+    let (own, behind) = cells.split_at(1 << n);
+    if !meets_rows(n, steps, *out, own) {
+        return false;
+    }
+    agrees(n, steps, others, behind)
+}
