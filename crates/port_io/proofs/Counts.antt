@@ -1,0 +1,14 @@
+-- Counts of faults over several calls.
+use Rattle.std.proofs.Common.{ℕ, ◌≤◌, arith}
+use Rattle.port_io.specs.Faults.{Rose}
+
+-- A count that rose and then doesn't fall has risen.
+pub rose_later : (old mid new : ℕ) → old ≤ mid → Rose old mid → mid ≤ new → Rose old new
+rose_later old mid new up rose on = grind (arith)
+
+-- A count that doesn't fall and then rises has risen.
+pub rose_earlier : (old mid new : ℕ) → old ≤ mid → Rose mid new → Rose old new
+rose_earlier old mid new up rose = grind (arith)
+
+-- what holds of counts over several calls
+pub ruleset counts = (rose_later, rose_earlier)

@@ -1,0 +1,3 @@
+pub mod Counts
+mod Pieces
+pub mod Texts

@@ -1,0 +1,97 @@
+-- Texts put behind and in front of told bytes.
+use Rattle.std.proofs.Common.{◌≡◌, ℕ, ◌+◌, ◌≤◌, List, [], ◌++◌, Option, None, Some, is_some, take, drop, length, refl, ap, sym, ◌∙◌, append_assoc, length-append, arith}
+use Rattle.std.proofs.Math.Seq.{take-add, take-append-add}
+use Rattle.std.proofs.lemmas.List.{take_all, take-append-le}
+use Rattle.std.proofs.lemmas.Grind.{common_steps}
+use Rattle.port_io.specs.Bytes.{appended, prepended, Consumes, Appends, AppendsFront, IsAtEnd, TakesFront}
+
+-- A text and then another is both together.
+pub appended-twice : (old : Option (List ℕ)) (a b : List ℕ) → appended (appended old a) b ≡ appended old (a ++ b)
+unfolding appended
+appended-twice None a b = refl
+appended-twice (Some before) a b = ap (λ x. Some x) (append_assoc before a b)
+
+-- Nothing behind the bytes leaves them.
+pub appended-none : (old : Option (List ℕ)) → appended old [] ≡ old
+unfolding appended
+appended-none None = refl
+appended-none (Some before) = grind (arith, common_steps)
+
+-- One piece more of the text has gone out.
+pub appends_more : (old mid new : Option (List ℕ)) (text : List ℕ) (at count : ℕ) → Appends old mid (take at text) → Appends mid new (take count (drop at text)) → Appends old new (take (at + count) text)
+appends_more old mid new text at count a b = b ∙ ap (λ x. appended x (take count (drop at text))) a ∙ appended-twice old _ _ ∙ ap (λ x. appended old x) (sym (take-add at count text))
+
+-- A text in front of another in front of the bytes is both together.
+pub prepended-twice : (a b : List ℕ) (new : Option (List ℕ)) → prepended a (prepended b new) ≡ prepended (a ++ b) new
+unfolding prepended
+prepended-twice a b None = refl
+prepended-twice a b (Some after) = ap (λ x. Some x) (sym (append_assoc a b after))
+
+-- Nothing in front of the bytes leaves them.
+pub prepended-none : (new : Option (List ℕ)) → prepended [] new ≡ new
+unfolding prepended
+prepended-none None = refl
+prepended-none (Some after) = refl
+
+-- Bytes with a text in front are told where they were.
+pub is_some-prepended : (text : List ℕ) (new : Option (List ℕ)) → is_some (prepended text new) ≡ is_some new
+unfolding prepended
+is_some-prepended text None = refl
+is_some-prepended text (Some after) = refl
+
+-- Where nothing is left behind a text, the text was all.
+pub all_taken : (old new : Option (List ℕ)) (text input : List ℕ) → Consumes old new text → IsAtEnd new → old ≡ Some input → text ≡ input
+unfolding prepended
+all_taken old None text input taken end told = cc
+all_taken old (Some rest) text input taken end told = let e = end rest refl in grind (arith, common_steps)
+
+-- Nothing is left behind all.
+pub none_left : (old new : Option (List ℕ)) (text input : List ℕ) → Consumes old new text → IsAtEnd new → old ≡ Some input → new ≡ Some []
+unfolding prepended
+none_left old None text input taken end told = cc
+none_left old (Some rest) text input taken end told = ap (λ x. Some x) (end rest refl)
+
+-- A text that was taken is a front.
+pub takes_front : (old new : Option (List ℕ)) (text : List ℕ) → Consumes old new text → TakesFront old new
+takes_front old new text taken = record { taken = text; consumes = taken }
+
+-- What was taken is no longer than what was left.
+pub length_taken : (old new : Option (List ℕ)) (text input : List ℕ) → Consumes old new text → old ≡ Some input → length text ≤ length input
+unfolding prepended
+length_taken old None text input taken told = cc
+length_taken old (Some rest) text input taken told = grind (arith, common_steps)
+
+-- Texts that go out one after the other are both together.
+pub appends_two : (old mid new : Option (List ℕ)) (a b : List ℕ) → Appends old mid a → Appends mid new b → Appends old new (a ++ b)
+appends_two old mid new a b first second = second ∙ ap (λ x. appended x b) first ∙ appended-twice old a b
+
+-- Where nothing has gone out, that is a front of any text.
+pub front_none : (old : Option (List ℕ)) (text : List ℕ) → AppendsFront old old text
+front_none old text = record { count = 0; within = omega arith; appends = sym (appended-none old) }
+
+-- A whole text is a front of itself.
+pub front_whole : (old new : Option (List ℕ)) (text : List ℕ) → Appends old new text → AppendsFront old new text
+front_whole old new text whole = record { count = length text; within = omega arith; appends = whole ∙ ap (λ x. appended old x) (sym (take_all (length text) text (omega arith))) }
+
+-- A front of a text is a front of the text with another behind it.
+pub front_one : (old new : Option (List ℕ)) (a b : List ℕ) → AppendsFront old new a → AppendsFront old new (a ++ b)
+front_one old new a b front = record {
+  count = front.count;
+  within = omega (arith, length-append a b, front.within);
+  appends = front.appends ∙ ap (λ x. appended old x) (sym (take-append-le front.count a b front.within));
+}
+
+-- A text and then a front of another are a front of both together.
+pub front_two : (old mid new : Option (List ℕ)) (a b : List ℕ) → Appends old mid a → AppendsFront mid new b → AppendsFront old new (a ++ b)
+front_two old mid new a b whole front = record {
+  count = length a + front.count;
+  within = omega (arith, length-append a b, front.within);
+  appends = appends_two old mid new a (take front.count b) whole front.appends ∙ ap (λ x. appended old x) (sym (take-append-add a b front.count));
+}
+
+pub ruleset taking = (common_steps, prepended-twice, prepended-none, is_some-prepended, takes_front)
+
+pub ruleset writing = (common_steps, appended-none, appends_more)
+
+-- what goes out in several texts
+pub ruleset texts = (common_steps, appends_two, front_one, front_two)

@@ -1,0 +1,29 @@
+//! Where bytes come from and where they go.
+//!
+//! For each crate that reads an input or writes an answer. It stands on the standard library alone.
+//! A `Source` gives bytes and a `Sink` takes them, some at a call. A call may fail, and the count of
+//! faults then says so. Sources and sinks in memory tell their bytes to contracts, so a contract over all
+//! sources and sinks says which bytes come and go wherever they are told. The ports over the standard
+//! library's readers and writers tell none.
+//!
+//! The theorem, in two halves: `read_all` answers all bytes that were left; it says that they are too many
+//! only where they are, and that a call failed only where the count rose. `write_all` writes all of a text;
+//! where the count rose, it may have written a front of it and say so.
+//!
+//! A call: `let input = read_all(alloc, &mut InputPort::new(rt.stdin()), 65536)?;`
+#![tactic(auto)]
+
+mod calls;
+mod memory;
+mod outside;
+mod ports;
+mod reading;
+#[cfg(test)]
+mod tests;
+mod writing;
+
+pub use memory::{MemorySink, MemorySource, SteadySource};
+pub use outside::{Failed, Sink, Source};
+pub use ports::{InputPort, OutputPort};
+pub use reading::{ReadError, read_all};
+pub use writing::{WriteFault, write_all};

@@ -1,0 +1,49 @@
+//! What the outside is to this program: where bytes come from, and where they go.
+ghost use Rattle.std.specs.Prelude.{◌≡◌, ℕ, ◌<◌, ◌≤◌, List, Option, Ok, IfOk, OnErr, length, take};
+ghost use Rattle.port_io.specs.Bytes.{Appends, Consumes, IsAtEnd};
+ghost use Rattle.port_io.specs.Faults.{Rose};
+
+/// A call of a source or sink failed. It took and wrote nothing, where the bytes are told.
+#[derive(Clone, Copy, Debug, PartialEq, Eq)]
+pub struct Failed;
+
+/// Where bytes come from.
+pub trait Source {
+    /// The bytes that are left, in their order, where the source tells them. Whether it tells them never
+    /// changes.
+    ghost left: { Self → Option (List ℕ) };
+
+    /// How many calls have failed, up to the last value of a u64.
+    ghost faults: { Self → ℕ };
+
+    /// Takes the next bytes into the front of `buf`, and answers how many. What the rest of `buf` holds
+    /// then is open. An answer of 0 for a `buf` with room means that the input has ended.
+    fn read(&mut self, buf: &mut [u8]) -> Result<usize, Failed>
+        ensures within { IfOk result (λ count. count ≤ length buf.new) }
+        ensures taken { IfOk result
+            (λ count. Consumes (left self.old) (left self.new) (take count buf.new)) }
+        ensures end { result ≡ Ok 0 → 0 < length buf.new → IsAtEnd (left self.new) }
+        ensures none_taken { OnErr result (left self.new ≡ left self.old) }
+        ensures only_if_rose { OnErr result (Rose (faults self.old) (faults self.new)) }
+        ensures never_falls { faults self.old ≤ faults self.new };
+}
+
+/// Where bytes go.
+pub trait Sink {
+    /// The bytes that were written, in their order, where the sink tells them. Whether it tells them never
+    /// changes.
+    ghost written: { Self → Option (List ℕ) };
+
+    /// How many calls have failed, up to the last value of a u64.
+    ghost faults: { Self → ℕ };
+
+    /// Writes bytes from the front of `piece`, and answers how many.
+    fn write(&mut self, piece: &[u8]) -> Result<usize, Failed>
+        ensures within { IfOk result (λ count. count ≤ length piece.now) }
+        ensures some { IfOk result (λ count. 0 < length piece.now → 0 < count) }
+        ensures gone { IfOk result
+            (λ count. Appends (written self.old) (written self.new) (take count piece.now)) }
+        ensures none_gone { OnErr result (written self.new ≡ written self.old) }
+        ensures only_if_rose { OnErr result (Rose (faults self.old) (faults self.new)) }
+        ensures never_falls { faults self.old ≤ faults self.new };
+}

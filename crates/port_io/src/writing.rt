@@ -1,0 +1,33 @@
+//! Writing a text whole.
+ghost use Rattle.std.specs.Prelude.{◌≤◌, OnOk, OnErr};
+ghost use Rattle.port_io.specs.Bytes.{Appends, AppendsFront};
+ghost use Rattle.port_io.specs.Faults.{Rose};
+
+use crate::outside::{Failed, Sink};
+
+/// Why `write_all` didn't write all.
+#[derive(Clone, Copy, Debug, PartialEq, Eq)]
+pub enum WriteFault {
+    /// A call of the sink failed.
+    WriteFault,
+}
+
+/// Writes all of `bytes`, in as many calls as the sink needs. After an error a front of them may stand
+/// written.
+#[tactic(auto, using(crate::proofs::Texts::writing))]
+pub fn write_all<O: Sink>(sink: &mut O, bytes: &[u8]) -> Result<(), WriteFault>
+    ensures all { OnOk result (Appends (O.written sink.old) (O.written sink.new) bytes.now) }
+    ensures front { AppendsFront (O.written sink.old) (O.written sink.new) bytes.now }
+    ensures only_if_rose { OnErr result (Rose (O.faults sink.old) (O.faults sink.new)) }
+    ensures never_falls { O.faults sink.old ≤ O.faults sink.new }
+{
+    let mut at = 0;
+    while at < bytes.len() {
+        let (_, rest) = bytes.split_at(at);
+        match sink.write(rest) {
+            Err(Failed) => return Err(WriteFault::WriteFault),
+            Ok(count) => at += count,
+        }
+    }
+    Ok(())
+}
