@@ -1,0 +1,27 @@
+-- The items of a line: what stands between its blanks.
+use Rattle.std.specs.Prelude.{ℕ, ◌+◌, List, [], ◌∷◌, ◌++◌, length, Option, Some, None, ◌==◌, if◌then◌else◌}
+use Rattle.std.specs.Borrow.{Bor}
+
+-- the first item, and the others
+pub record Split : Type 0 where
+  pub first : List ℕ
+  pub more : List (List ℕ)
+
+-- the items of front ++ text, where front has no blank (byte 32)
+unfoldable pub split_from : List ℕ → List ℕ → Split
+split_from front [] = record { first = front; more = [] }
+split_from front (b ∷ bs) = if b == 32 then record { first = front; more = (split_from [] bs).first ∷ (split_from [] bs).more } else split_from (front ++ b ∷ []) bs
+
+-- the items of a text, one more than it has blanks: two blanks in a row have an empty item between them
+abbrev pub items_of : List ℕ → List (List ℕ)
+items_of text = (split_from [] text).first ∷ (split_from [] text).more
+
+-- the items of what is left behind an item, none where the text ended with it
+abbrev pub items_left : Option (Bor (List ℕ)) → List (List ℕ)
+items_left None = []
+items_left (Some text) = items_of text.now
+
+-- how far reading has to go: 0 where the text ended, and each item takes at least one
+abbrev pub size_left : Option (Bor (List ℕ)) → ℕ
+size_left None = 0
+size_left (Some text) = length text.now + 1

@@ -1,0 +1,7 @@
+pub mod Cuts
+pub mod Items
+pub mod Lines
+pub mod Numbers
+pub mod ReadBack
+pub mod Rest
+pub mod Words

@@ -1,0 +1,40 @@
+ghost use Rattle.std.specs.Prelude.{◌≡◌, ◌++◌, OnOk, OnErr, decimal};
+ghost use Rattle.text_core.specs.Numbers as spec;
+
+use itoa::Buffer;
+use std::alloc::AllocError;
+
+/// The number that all of a text spells: decimal digits, with no sign and no needless 0 in front.
+/// None where it spells none, or one above `limit`. With the limit 999999999 a number has at most
+/// nine digits.
+#[tactic(auto, unfolding(crate::specs::Numbers::number_from))]
+pub fn number_up_to(limit: u32, text: &[u8]) -> Option<u32>
+    ensures { result ≡ spec.number_up_to limit text.now }
+{
+    if let [] | [b'0', _, ..] = text {
+        return None;
+    }
+    let mut value = 0u32;
+    let mut left = text;
+    while let Some((byte, rest)) = left.split_first() {
+        if !byte.is_ascii_digit() {
+            return None;
+        }
+        let next = u64::from(value) * 10 + u64::from(*byte - b'0');
+        if next > u64::from(limit) {
+            return None;
+        }
+        value = next as u32;
+        left = rest;
+    }
+    Some(value)
+}
+
+/// Writes a number at the end of a text, in decimal digits.
+pub fn push_number(out: &mut Vec<u8>, n: u32) -> Result<(), AllocError>
+    ensures ok { OnOk result (out.new.items ≡ out.old.items ++ decimal n) }
+    ensures err { OnErr result (out.new.items ≡ out.old.items) }
+{
+    let mut buffer = Buffer::new();
+    out.extend_from_slice(buffer.format(n).as_bytes())
+}
