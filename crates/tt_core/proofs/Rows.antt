@@ -1,0 +1,7 @@
+-- How many rows there are.
+use Rattle.std.proofs.Common.{ℕ, ◌^◌, ◌≤◌, arith}
+use Rattle.std.proofs.Math.Pow.{pow_mono}
+
+-- six inputs have 64 rows
+pub row_below : (n : ℕ) → n ≤ 6 → 2 ^ n ≤ 64
+row_below n few = let wide : 2 ^ n ≤ 2 ^ 6 = pow_mono few in omega arith

@@ -1,0 +1,6 @@
+use Rattle.std.proofs.Common.{rules}
+use Rattle.tt_core.proofs.Fits.{kept_copy}
+use Rattle.tt_core.proofs.live.push_output.Goals as goal
+
+pub returns-clause-spec : goal.returns-clause-spec
+returns-clause-spec c = kept_copy c.args.spec.now c.args.on.now.items c.args.care.now.items c.push.new.self.items c.push-2.new.self.items c.args.h c.requires.whole c.requires.spec c.requires.room (search rules) (search rules)

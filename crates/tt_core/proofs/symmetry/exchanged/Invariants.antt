@@ -1,0 +1,6 @@
+use Rattle.std.proofs.Common.{◌≡◌}
+use Rattle.tt_core.specs.Symmetry.{row_of, exchanged_bit}
+use Rattle.tt_core.proofs.symmetry.exchanged.Given as goal
+
+abbrev pub invariant-loop-before : goal.invariant-loop-before
+invariant-loop-before l = l.exchanged ≡ row_of l.before (exchanged_bit l.n l.p l.q l.t)

@@ -1,0 +1,13 @@
+pub use Rattle.chain_theory.specs.Operator
+pub use Rattle.chain_theory.specs.Agreement
+pub use Rattle.chain_theory.specs.Specification
+pub use Rattle.text_core.specs.Lines
+pub mod Cells
+pub mod Gives
+pub mod Laws
+pub mod Live
+pub mod Spelling
+pub mod Symmetry
+pub mod Tables
+pub mod Used
+pub mod Words

@@ -1,0 +1,31 @@
+-- Inputs that may be exchanged.
+use Rattle.std.specs.Prelude.{◌≡◌, ℕ, zero, suc, ◌+◌, ◌*◌, ◌^◌, ◌≤◌, ◌<◌, Bool, ◌==◌, if◌then◌else◌}
+use Rattle.chain_theory.specs.Specification.{Specification, input}
+
+-- the row of n inputs that gives input j the bit of j
+-- Example: for two inputs with the bits 1 and 0 it is row 2.
+unfoldable pub row_of : ℕ → (ℕ → Bool) → ℕ
+row_of zero bits = 0
+row_of (suc n) bits = 2 * row_of n bits + (if bits (suc n) then 1 else 0)
+
+-- p and q exchange their names
+abbrev pub renamed : ℕ → ℕ → ℕ → ℕ
+renamed p q j = if j == p then q else (if j == q then p else j)
+
+-- the bit of input j of n, where row t has its bits of inputs p and q exchanged
+abbrev pub exchanged_bit : ℕ → ℕ → ℕ → ℕ → ℕ → Bool
+exchanged_bit n p q t j = input n t (renamed p q j)
+
+-- Row t of n inputs with its bits of inputs p and q exchanged.
+-- Example: row 4 of three inputs is 100; with inputs 1 and 3 exchanged it is 001, row 1.
+abbrev pub exchanged : ℕ → ℕ → ℕ → ℕ → ℕ
+exchanged n p q t = row_of n (exchanged_bit n p q t)
+
+-- exchanging inputs p and q leaves each cell of output h the same
+abbrev pub IsSymmetricOutput : Specification → ℕ → ℕ → ℕ → Type 0
+IsSymmetricOutput s p q h = (t : ℕ) → t < 2 ^ s.inputs → s.cell h (exchanged s.inputs p q t) ≡ s.cell h t
+
+-- Exchanging inputs p and q leaves each cell of each output the same.
+-- Example: the two inputs of XOR may be exchanged, and those of the table 0010 may not.
+abbrev pub IsSymmetric : Specification → ℕ → ℕ → Type 0
+IsSymmetric s p q = (h : ℕ) → 1 ≤ h → h ≤ s.outputs → IsSymmetricOutput s p q h

@@ -1,0 +1,53 @@
+-- The grammar of tables: what a list of lines says, and the first fault from the top where it says nothing.
+use Rattle.std.specs.Prelude.{ℕ, ◌+◌, ◌^◌, ◌&&◌, List, [], ◌∷◌, ◌++◌, length, codes, Option, Some, None, Result, Ok, Err, nat_lt, not, ◌==◌, if◌then◌else◌}
+use Rattle.std.specs.List.{list_all}
+use Rattle.std.specs.Option.{option_and_then}
+use Rattle.text_core.specs.Lines.{Line}
+use Rattle.text_core.specs.Numbers.{number_up_to}
+use Rattle.text_core.specs.Words.{after, begins_lower}
+use Rattle.tt_core.specs.declared.error.SpecError.{SpecError}
+use Rattle.tt_core.specs.declared.error.SpecError.TheVariants.{BadHeader, BadRow, WrongLength, TooManyInputs, TooManyOutputs, NoOutput}
+use Rattle.tt_core.specs.Cells.{is_cell, on_bit, care_bit, word_of}
+use Rattle.tt_core.specs.Words.{Words}
+
+-- what was read: the specification's words, and the lines behind the tables
+pub record Read : Type 0 where
+  pub words : Words
+  pub rest : List Line
+
+-- the number of inputs that the first line says
+abbrev pub inputs_of : Line → Option ℕ
+inputs_of l = if l.ended then option_and_then (number_up_to 999999999) (after (codes "inputs ") l.text) else None
+
+-- what is wrong with a table line of n inputs
+abbrev pub row_fault : ℕ → ℕ → Line → Option SpecError
+row_fault n number l = if (l.ended && not (length l.text == 0)) && list_all is_cell l.text then (if length l.text == 2 ^ n then None else Some (WrongLength number)) else Some (BadRow number)
+
+-- the words with the output of one table line more
+abbrev pub with_row : Words → List ℕ → Words
+with_row w text = record { n = w.n; on = w.on ++ word_of on_bit text ∷ []; care = w.care ++ word_of care_bit text ∷ [] }
+
+-- the tables end here
+abbrev pub end_of : Words → List Line → Result Read SpecError
+end_of w rest = if length w.on == 0 then Err NoOutput else Ok (record { words = w; rest = rest })
+
+-- a line that has no fault is read, and reading goes on
+abbrev pub unless_fault : Option SpecError → Result Read SpecError → Result Read SpecError
+unless_fault None read = read
+unless_fault (Some fault) read = Err fault
+
+-- the table lines, of which those of w have been read
+unfoldable pub rows_of : Words → List Line → Result Read SpecError
+rows_of w [] = end_of w []
+rows_of w (l ∷ ls) = if begins_lower l.text then end_of w (l ∷ ls) else (if length w.on == 8 then Err TooManyOutputs else unless_fault (row_fault w.n (2 + length w.on) l) (rows_of (with_row w l.text) ls))
+
+abbrev pub behind_inputs : Option ℕ → List Line → Result Read SpecError
+behind_inputs None ls = Err (BadHeader 1)
+behind_inputs (Some n) ls = if nat_lt 6 n then Err TooManyInputs else rows_of (record { n = n; on = []; care = [] }) ls
+
+-- Lines are judged from the top, and on one line the faults come in the order BadHeader,
+-- TooManyInputs, or TooManyOutputs, BadRow, WrongLength. Lines are numbered from 1.
+-- Example: the lines `inputs 1`, `01`, `012` have the fault BadRow 3.
+abbrev pub tables_of : List Line → Result Read SpecError
+tables_of [] = Err (BadHeader 1)
+tables_of (l ∷ ls) = behind_inputs (inputs_of l) ls

@@ -1,0 +1,40 @@
+//! Specifications by truth tables, and the reader of their texts.
+//!
+//! It stands on `chain_theory` for what a specification, a cell and an out are, and on `text_core` for
+//! lines and numbers of texts.
+//!
+//! A `Spec` holds the tables of up to eight outputs over at most six inputs, with don't-cares; seen
+//! from outside it is the specification that chains are asked to meet, as `row` tells it cell by
+//! cell. `read_tables` reads a text of tables. Its theorem: what it reads is spelled by the text,
+//! character by character; each text that spells a specification is read as it; and it refuses
+//! exactly where the grammar of tables has a fault. `symmetric` tells whether two inputs may be
+//! exchanged, `trivial` gives the first of 0, 1, x1, .., xn that an output may be, and `live_part`
+//! keeps the outputs that are none of these. `laws` says what their definitions come to, without
+//! recursion.
+//!
+//! ```text
+//! let tables = read_tables(alloc, b"inputs 2\n0110\n0-11\n")?; // XOR, and a table that x1 meets
+//! let cell = row(&tables.spec, 1, 3);                          // Cell::Zero
+//! let same = symmetric(&tables.spec, 1, 2);                    // false: the second table's rows 1, 2
+//! let out = trivial(&tables.spec, 2);                          // Some(Out::Place(1))
+//! let live = live_part(alloc, &tables.spec)?;                  // XOR alone
+//! ```
+#![tactic(auto)]
+
+mod cells;
+mod error;
+pub mod laws;
+mod live;
+mod reading;
+mod spec;
+mod symmetry;
+
+pub use chain_theory::{Cell, Out};
+pub use error::SpecError;
+pub use live::{live_part, trivial};
+pub use reading::{Tables, read_tables};
+pub use spec::{Spec, row};
+pub use symmetry::symmetric;
+
+#[cfg(test)]
+mod tests;

@@ -1,0 +1,107 @@
+ghost use Rattle.std.specs.Prelude.{◌≡◌, ℕ, ◌+◌, ◌-◌, ◌<◌, ◌≤◌, List, [], ◌∷◌, ◌++◌, length, slice_index, IfOk, OnOk};
+ghost use Rattle.tt_core.specs.Live.{trivial_value as trivial_value_of, fits as fits_of, trivial_of, is_live as is_live_of, live_outputs, live_words};
+ghost use Rattle.tt_core.specs.Words.{IsSpec, specification};
+
+use crate::{Spec, row};
+use chain_theory::Out;
+use chain_theory::plain::{input, is_met};
+use std::alloc::{AllocError, Global};
+
+/// The value on row `t` of a constant, or of an input among `n`.
+fn trivial_value(n: u32, t: u32, out: Out) -> bool
+    requires { n < 32 }
+    ensures { result ≡ trivial_value_of n t out }
+{
+    match out {
+        Out::Zero => false,
+        Out::One => true,
+        Out::Place(j) => input(n, t, j),
+    }
+}
+
+/// Whether a trivial out meets all cells of output `h`.
+#[tactic(auto, using(crate::proofs::Fits::meeting))]
+fn fits(spec: &Spec, h: u32, out: Out) -> bool
+    requires { (1 ≤ h) × (h ≤ length spec.now.on) }
+    ensures { result ≡ fits_of (specification spec.now) h out }
+{
+    let n = spec.n();
+    for t in 0..1u32 << n {
+        if !is_met(row(spec, h, t), trivial_value(n, t, out)) {
+            return false;
+        }
+    }
+    true
+}
+
+/// The first of the outs 0, 1, x1, .., xn that agrees with output `h` wherever it is specified; no
+/// such out where the output is live. Outputs are numbered from 1.
+#[tactic(auto, unfolding(crate::specs::Live::first_fit), using(crate::proofs::Fits::inputs))]
+pub fn trivial(spec: &Spec, h: u32) -> Option<Out>
+    requires { (1 ≤ h) × (h ≤ length spec.now.on) }
+    ensures { result ≡ trivial_of (specification spec.now) h }
+{
+    if fits(spec, h, Out::Zero) {
+        return Some(Out::Zero);
+    }
+    if fits(spec, h, Out::One) {
+        return Some(Out::One);
+    }
+    for j in 1..spec.n() + 1 {
+        if fits(spec, h, Out::Place(j)) {
+            return Some(Out::Place(j));
+        }
+    }
+    None
+}
+
+/// Whether no trivial out will do for output `h`.
+#[tactic(auto, unfolding(crate::specs::Live::is_live))]
+fn is_live(spec: &Spec, h: u32) -> bool
+    requires { (1 ≤ h) × (h ≤ length spec.now.on) }
+    ensures { result ≡ is_live_of (specification spec.now) h }
+{
+    match trivial(spec, h) {
+        None => true,
+        Some(_) => false,
+    }
+}
+
+/// Adds a copy of output `h`.
+fn push_output(
+    spec: &Spec,
+    h: u32,
+    on: &mut Vec<u64>,
+    care: &mut Vec<u64>,
+) -> Result<(), AllocError>
+    requires output { (1 ≤ h) × (h ≤ length spec.now.on) }
+    requires whole { IsSpec spec.now }
+    requires room { length on.old.items < 8 }
+    requires spec { IsSpec (record { n = spec.now.n; on = on.old.items; care = care.old.items }) }
+    ensures values { OnOk result (on.new.items ≡ on.old.items ++ slice_index spec.now.on (h - 1) ∷ []) }
+    ensures cares { OnOk result (care.new.items ≡ care.old.items ++ slice_index spec.now.care (h - 1) ∷ []) }
+    ensures spec { OnOk result (IsSpec (record { n = spec.now.n; on = on.new.items; care = care.new.items })) }
+{
+    on.push(spec.on()[(h - 1) as usize])?;
+    care.push(spec.care()[(h - 1) as usize])?;
+    Ok(())
+}
+
+/// The specification of the live outputs alone, those that are no trivial out, in their order.
+#[tactic(auto, using(crate::proofs::Fits::living))]
+pub fn live_part(alloc: Global, spec: &Spec) -> Result<Spec, AllocError>
+    ensures words { IfOk result (λ part. part ≡ live_words spec.now) }
+    // Its output number i is that of the i-th live output.
+    ensures outputs { IfOk result (λ part. length part.on ≡ length (live_outputs (specification spec.now))) }
+    ensures cells { IfOk result (λ part. (h t : ℕ) → 1 ≤ h → h ≤ length part.on → (specification part).cell h t ≡ (specification spec.now).cell (slice_index (live_outputs (specification spec.now)) (h - 1)) t) }
+{
+    let n = spec.n();
+    let mut on = Vec::new(alloc);
+    let mut care = Vec::new(alloc);
+    for before in 0..spec.outputs() {
+        if is_live(spec, before + 1) {
+            push_output(spec, before + 1, &mut on, &mut care)?;
+        }
+    }
+    Ok(Spec::new(n, on, care))
+}
