@@ -1,0 +1,4 @@
+pub mod Every
+pub mod Items
+pub mod Lists
+pub mod Members

@@ -1,0 +1,189 @@
+//! What a chain over a basis may be assumed to have depends on how the basis is closed. Each test
+//! goes over all sixteen operators.
+ghost use Rattle.std.specs.Prelude.{◌≡◌};
+ghost use Rattle.op_basis.specs.Basis.{members};
+ghost use Rattle.op_basis.specs.Closed.{swaps as swaps_of, swap_closed as swap_closed_of, has_no_negation_at as has_no_negation_at_of, has_negation as has_negation_of, negates_one as negates_one_of, keeps_constants as keeps_constants_of, const_closed as const_closed_of, has_complements as has_complements_of, polarity_closed as polarity_closed_of, is_allowed as is_allowed_of, reapplies as reapplies_of, reapplies_all as reapplies_all_of, reapply_closed as reapply_closed_of, every};
+
+use crate::values::{
+    complement, first_complemented, left_on_first, left_on_second, right_on_first, right_on_second,
+    second_complemented, swapped,
+};
+use crate::{Basis, Op};
+
+/// With one operand fixed to a constant the operator is the complement of the other.
+#[tactic(auto, unfolding(crate::specs::Closed::negates_one))]
+fn negates_one(op: Op) -> bool
+    ensures { result ≡ negates_one_of op }
+{
+    (op.apply(false, false) && !op.apply(false, true))
+        || (op.apply(true, false) && !op.apply(true, true))
+        || (op.apply(false, false) && !op.apply(true, false))
+        || (op.apply(false, true) && !op.apply(true, true))
+}
+
+impl Basis {
+    /// The operator with its operands exchanged is a member, where the operator is one.
+    #[tactic(auto, unfolding(crate::specs::Closed::swaps))]
+    fn swaps(self, op: Op) -> bool
+        ensures { result ≡ swaps_of (members self) op }
+    {
+        !self.contains(op) || self.contains(swapped(op))
+    }
+
+    /// Whether each member's operator with its operands exchanged is a member.
+    #[tactic(auto, using(crate::proofs::Every::passing))]
+    pub fn swap_closed(self) -> bool
+        ensures { result ≡ swap_closed_of (members self) }
+    {
+        for word in 0..16u8 {
+            if !self.swaps(Op::new(word)) {
+                return false;
+            }
+        }
+        true
+    }
+
+    /// The operator is no member, or it doesn't negate a bit given as both operands.
+    #[tactic(auto, unfolding(crate::specs::Closed::has_no_negation_at, crate::specs::Closed::negates_both))]
+    fn has_no_negation_at(self, op: Op) -> bool
+        ensures { result ≡ has_no_negation_at_of (members self) op }
+    {
+        !self.contains(op) || !(op.apply(false, false) && !op.apply(true, true))
+    }
+
+    /// Whether some member has the value 1 at (0,0) and 0 at (1,1), so that it negates a bit given
+    /// as both operands.
+    #[tactic(auto, using(crate::proofs::Every::passing))]
+    pub fn has_negation(self) -> bool
+        ensures { result ≡ has_negation_of (members self) }
+    {
+        for word in 0..16u8 {
+            if !self.has_no_negation_at(Op::new(word)) {
+                return true;
+            }
+        }
+        false
+    }
+
+    /// The operator is no member, or no operand fixed to a constant makes it the other's complement.
+    #[tactic(auto, unfolding(crate::specs::Closed::keeps_constants))]
+    fn keeps_constants(self, op: Op) -> bool
+        ensures { result ≡ keeps_constants_of (members self) op }
+    {
+        !self.contains(op) || !negates_one(op)
+    }
+
+    /// No member becomes the complement of its other operand when one operand is fixed.
+    #[tactic(auto, using(crate::proofs::Every::passing))]
+    fn all_keep_constants(self) -> bool
+        ensures { result ≡ every (keeps_constants_of (members self)) }
+    {
+        for word in 0..16u8 {
+            if !self.keeps_constants(Op::new(word)) {
+                return false;
+            }
+        }
+        true
+    }
+
+    /// Whether the set has a negation, or no member becomes the complement of its other operand when
+    /// one operand is fixed to a constant.
+    pub fn const_closed(self) -> bool
+        ensures { result ≡ const_closed_of (members self) }
+    {
+        self.has_negation() || self.all_keep_constants()
+    }
+
+    /// The operator's complement, and the operators with one operand complemented, are members, where
+    /// the operator is one.
+    #[tactic(auto, unfolding(crate::specs::Closed::has_complements))]
+    fn has_complements(self, op: Op) -> bool
+        ensures { result ≡ has_complements_of (members self) op }
+    {
+        !self.contains(op)
+            || (self.contains(complement(op))
+                && self.contains(first_complemented(op))
+                && self.contains(second_complemented(op)))
+    }
+
+    /// Whether for each member its complement, and the operators with one operand complemented, are
+    /// members.
+    #[tactic(auto, using(crate::proofs::Every::passing))]
+    pub fn polarity_closed(self) -> bool
+        ensures { result ≡ polarity_closed_of (members self) }
+    {
+        for word in 0..16u8 {
+            if !self.has_complements(Op::new(word)) {
+                return false;
+            }
+        }
+        true
+    }
+
+    /// The operator is a member, with its operands exchanged or not, or no gate at all, where the
+    /// set lets it be.
+    #[tactic(auto, unfolding(crate::specs::Closed::is_allowed))]
+    fn is_allowed(self, op: Op) -> bool
+        ensures { result ≡ is_allowed_of (members self) op }
+    {
+        if self.contains(op) || self.contains(swapped(op)) {
+            return true;
+        }
+        match op.get() {
+            0b0011 | 0b0101 => true,
+            0b0000 | 0b1111 => self.const_closed(),
+            0b1100 | 0b1010 => self.has_negation(),
+            _ => false,
+        }
+    }
+
+    /// The four operators that `q` makes of `p` and one of its operands are allowed, where `q` is a
+    /// member.
+    #[tactic(auto, unfolding(crate::specs::Closed::reapplies))]
+    fn reapplies(self, p: Op, q: Op) -> bool
+        ensures { result ≡ reapplies_of (members self) p q }
+    {
+        !self.contains(q)
+            || (self.is_allowed(left_on_first(p, q))
+                && self.is_allowed(left_on_second(p, q))
+                && self.is_allowed(right_on_first(p, q))
+                && self.is_allowed(right_on_second(p, q)))
+    }
+
+    /// The same with each of the sixteen operators in the place of `q`.
+    #[tactic(auto, using(crate::proofs::Every::passing))]
+    fn reapplies_each(self, p: Op) -> bool
+        ensures { result ≡ every (reapplies_of (members self) p) }
+    {
+        for word in 0..16u8 {
+            if !self.reapplies(p, Op::new(word)) {
+                return false;
+            }
+        }
+        true
+    }
+
+    /// What each member makes of `p` and one of its operands is allowed, where `p` is a member.
+    #[tactic(auto, unfolding(crate::specs::Closed::reapplies_all))]
+    fn reapplies_all(self, p: Op) -> bool
+        ensures { result ≡ reapplies_all_of (members self) p }
+    {
+        !self.contains(p) || self.reapplies_each(p)
+    }
+
+    /// Whether for all members p and q the operators q(p(a,b), a), q(p(a,b), b), q(a, p(a,b)) and
+    /// q(b, p(a,b)) are members with their operands exchanged or not, or an operand, or a constant
+    /// where the set is closed for constants, or the complement of an operand where the set has a
+    /// negation.
+    #[tactic(auto, using(crate::proofs::Every::passing))]
+    pub fn reapply_closed(self) -> bool
+        ensures { result ≡ reapply_closed_of (members self) }
+    {
+        for word in 0..16u8 {
+            if !self.reapplies_all(Op::new(word)) {
+                return false;
+            }
+        }
+        true
+    }
+}

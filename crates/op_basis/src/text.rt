@@ -1,0 +1,201 @@
+ghost use Rattle.std.specs.Prelude.{◌≡◌, ◌+◌, ◌<◌, ℕ, List, ◌∷◌, ◌++◌, length, nat_eq, OnOk, OnErr, IfOk};
+ghost use Rattle.std.specs.Option.{option_map};
+ghost use Rattle.std.specs.Borrow.{Bor};
+ghost use Rattle.op_basis.specs.Left.{items_left, size_left};
+ghost use Rattle.op_basis.specs.Text as spec;
+
+use crate::{Basis, BasisError, Op};
+use std::alloc::AllocError;
+
+const ALL: u16 = 0b1111_1111_1111_1111;
+
+const U2: u16 = 0b0110_1001_1001_0110;
+
+const BENCH: u16 = 0b0100_0011_1100_0010;
+
+const NAND: u16 = 0b0100_0000_0000_0000;
+
+/// Whether two words are the same.
+fn is_word(word: &[u8], name: &[u8]) -> bool
+    ensures { result ≡ spec.same_text word.now name.now }
+{
+    word == name
+}
+
+/// The basis of a name.
+#[tactic(auto, unfolding(crate::specs::Text::named))]
+fn named(word: &[u8]) -> Result<Basis, BasisError>
+    ensures { result ≡ spec.named word.now }
+{
+    if is_word(word, b"all") {
+        return Ok(Basis::new(ALL));
+    }
+    if is_word(word, b"u2") {
+        return Ok(Basis::new(U2));
+    }
+    if is_word(word, b"bench") {
+        return Ok(Basis::new(BENCH));
+    }
+    if is_word(word, b"nand") {
+        return Ok(Basis::new(NAND));
+    }
+    Err(BasisError::UnknownName)
+}
+
+/// The first item of a list, and what stands behind its comma; None where no comma follows.
+#[tactic(auto, using(crate::proofs::Items::cutting))]
+fn next_item(text: &[u8]) -> (&[u8], Option<&[u8]>)
+    ensures items { spec.items_of text.now ≡ result.0.now ∷ items_left result.1 }
+    ensures shorter { size_left result.1 < length text.now + 1 }
+{
+    let mut at = 0;
+    let mut left = text;
+    while let Some((byte, rest)) = left.split_first() {
+        if *byte == b',' {
+            let (item, _) = text.split_at(at);
+            return (item, Some(rest));
+        }
+        at += 1;
+        left = rest;
+    }
+    (text, None)
+}
+
+/// The bit that a character is.
+fn bit_in(character: u8) -> Option<bool>
+    ensures { result ≡ spec.bit_in character }
+{
+    match character {
+        b'0' => Some(false),
+        b'1' => Some(true),
+        _ => None,
+    }
+}
+
+/// The operator of a word of four bits.
+#[tactic(auto, unfolding(crate::specs::Text::operator_in))]
+fn operator_in(item: &[u8]) -> Option<Op>
+    ensures { result ≡ spec.operator_in item.now }
+{
+    let [a, b, c, d] = item else {
+        return None;
+    };
+    Some(Op::with_values(bit_in(*a)?, bit_in(*b)?, bit_in(*c)?, bit_in(*d)?))
+}
+
+/// The set with the operator of one item more.
+#[tactic(auto, unfolding(crate::specs::Text::with_item), using(crate::proofs::Items::shifting))]
+fn with_item(set: Basis, item: &[u8]) -> Result<Basis, BasisError>
+    ensures { result ≡ spec.with_item set item.now }
+{
+    if item.is_empty() {
+        return Err(BasisError::Empty);
+    }
+    let Some(op) = operator_in(item) else {
+        return Err(BasisError::BadOperator);
+    };
+    if set.contains(op) {
+        return Err(BasisError::Repeated);
+    }
+    Ok(Basis::new(set.get() | 1 << op.get()))
+}
+
+/// The set of the operators of a list.
+#[tactic(auto, unfolding(crate::specs::Text::listed))]
+fn listed(word: &[u8]) -> Result<Basis, BasisError>
+    ensures { result ≡ spec.listed 0 (spec.items_of word.now) }
+{
+    let mut set = Basis::new(0);
+    let mut left = Some(word);
+    while let Some(text) = left {
+        let (item, rest) = next_item(text);
+        set = with_item(set, item)?;
+        left = rest;
+    }
+    Ok(set)
+}
+
+/// Reads a basis: one of the names `all`, `u2` (all that depend on both operands but XOR and its
+/// complement), `bench` (AND, OR, XOR and their complements) and `nand`, or a list of operators, each
+/// a word of four bits, with commas between them, in any order.
+///
+/// Where the first character is a letter of either case, the word is a name: one of these four, all
+/// in small letters, or `UnknownName`. Any other word is a list, and so is the empty one. Its items
+/// are judged from the left, and the first fault is the answer; of one item `Empty` comes before
+/// `BadOperator` and this before `Repeated`.
+pub fn read_basis(word: &[u8]) -> Result<Basis, BasisError>
+    ensures exact { result ≡ spec.basis_of word.now }
+    ensures some { IfOk result (λ basis. 0 < basis) }
+{
+    match word.first() {
+        Some(byte) if byte.is_ascii_alphabetic() => named(word),
+        _ => listed(word),
+    }
+}
+
+/// The name of a basis, where it has one.
+#[tactic(auto, unfolding(crate::specs::Text::name_of))]
+fn name_of(set: Basis) -> Option<&'static [u8]>
+    ensures { option_map (λ (x : Bor (List ℕ)). x.now) result ≡ spec.name_of set }
+{
+    match set.get() {
+        ALL => Some(b"all"),
+        U2 => Some(b"u2"),
+        BENCH => Some(b"bench"),
+        NAND => Some(b"nand"),
+        _ => None,
+    }
+}
+
+/// The character that a bit is written as.
+fn character(bit: bool) -> u8
+    ensures { result ≡ spec.character bit }
+{
+    if bit { b'1' } else { b'0' }
+}
+
+/// Appends the word of an operator, with a comma before it where others stand.
+fn push_word(text: &mut Vec<u8>, op: Op) -> Result<(), AllocError>
+    ensures { OnOk result (text.new.items ≡ spec.with_word text.old.items (spec.word_text op)) }
+{
+    if !text.is_empty() {
+        text.push(b',')?;
+    }
+    text.extend_from_slice(&[
+        character(op.apply(false, false)),
+        character(op.apply(false, true)),
+        character(op.apply(true, false)),
+        character(op.apply(true, true)),
+    ])
+}
+
+/// Appends the words of the members, to a text that is empty.
+#[tactic(auto, using(crate::proofs::Items::listing))]
+fn push_words(text: &mut Vec<u8>, set: Basis) -> Result<(), AllocError>
+    requires { length text.old.items ≡ 0 }
+    ensures { OnOk result (text.new.items ≡ spec.list_below set 16) }
+{
+    for word in 0..16u8 {
+        if set.contains(Op::new(word)) {
+            push_word(text, Op::new(word))?;
+        }
+    }
+    Ok(())
+}
+
+/// Appends the one spelling of a basis that isn't empty: its name where it has one, else the words of
+/// its members in rising order with commas between them. An error is want of memory, and then nothing
+/// is written.
+pub fn write_basis(basis: Basis, out: &mut Vec<u8>) -> Result<(), AllocError>
+    requires { 0 < basis }
+    ensures text { OnOk result (out.new.items ≡ out.old.items ++ spec.basis_text basis) }
+    ensures unchanged { OnErr result (out.new.items ≡ out.old.items) }
+{
+    if let Some(name) = name_of(basis) {
+        return out.extend_from_slice(name);
+    }
+    let alloc = *out.allocator();
+    let mut text = Vec::new(alloc);
+    push_words(&mut text, basis)?;
+    out.extend_from_slice(&text)
+}
