@@ -1,0 +1,294 @@
+-- What is written in a line of a block, and what is read of it.
+use Rattle.std.proofs.Common.{◌≡◌, ℕ, ◌+◌, ◌-◌, ◌*◌, ◌≤◌, ◌<◌, Bool, true, false, List, [], ◌∷◌, ◌++◌, Option, Some, None, refl, sym, ap, ◌∙◌, arith, subst}
+use Rattle.std.specs.Prelude.{codes, decimal, option_and_then, ◌&&◌, if◌then◌else◌}
+use Rattle.std.specs.Option.{option_map}
+use Rattle.std.proofs.lemmas.Bool.{eqb-true}
+use Rattle.std.specs.Int.{bit_at}
+use Rattle.std.specs.List.{join_with_byte}
+use Rattle.std.proofs.lemmas.Grind.{common_steps}
+use Rattle.std.proofs.lemmas.Option.{option_and_then_some, cond_some}
+use Rattle.std.proofs.lemmas.Nat.Bits.{bit_at-lt}
+use Rattle.text_core.specs.Items.{items_of}
+use Rattle.text_core.specs.Words.{after, is_free}
+use Rattle.text_core.specs.ReadBack.{item_back, last_item_back, items_spell, word_back, word_spells, number_back, number_spells, free_both, free_decimal}
+use Rattle.chain_theory.specs.declared.data.Out.{Out}
+use Rattle.chain_theory.specs.declared.data.Out.TheVariants as outs
+use Rattle.chain_theory.specs.Operator.{digit}
+use Rattle.chain_theory.specs.Chain.{Step, IsStepAt, NamesPlace}
+use Rattle.chain_core.specs.Block.{number_in, place_in, is_bit, operator_in, step_from, step_in, is_byte, named_in, out_in}
+use Rattle.chain_core.specs.Spelling.{place_text, bit_text, operator_text, step_text, named_text, out_text, count_text}
+
+-- ---- places
+
+-- a place that is written is read
+pub place_back : (p : ℕ) → p < 1000000000 → place_in (place_text p) ≡ Some p
+unfolding place_in
+place_back p fits = rw (word_back (codes "x") (decimal p)) (number_back 999999999 p (omega arith) (omega arith))
+
+-- what reads as a place was written
+pub place_spells : (item : List ℕ) (p : ℕ) → place_in item ≡ Some p → (p < 1000000000) × (item ≡ place_text p)
+unfolding place_in
+place_spells item p e =
+    option_and_then_some number_in (after (codes "x") item) p e (λ digits behind is.
+    let parts = number_spells 999999999 p digits (omega arith) is in
+    (omega (arith, parts.0), word_spells (codes "x") item digits behind ∙ ap (λ (ds : List ℕ). codes "x" ++ ds) parts.1))
+
+-- nothing below the digits stands in the word before a place
+free_x : (byte : ℕ) → byte < 48 → is_free byte (codes "x") ≡ true
+unfolding is_free
+free_x byte low = grind (arith, common_steps)
+
+-- a blank or an LF stands in no place
+pub free_place : (byte p : ℕ) → byte < 48 → p < 1000000000 → is_free byte (place_text p) ≡ true
+free_place byte p low fits = free_both byte (codes "x") (decimal p) (free_x byte low) (free_decimal byte p low (omega arith))
+
+-- ---- operators
+
+-- a bit as a number
+abbrev weight : Bool → ℕ
+weight bit = if bit then 1 else 0
+
+-- a binary digit as a number
+weight_digit : (op k : ℕ) → weight (digit op k) ≡ bit_at op k
+weight_digit op k = grind (arith, common_steps, bit_at-lt op k)
+
+-- four bits that are written are read as the number that they spell
+four_back : (a b c d : Bool) → operator_in (bit_text a ∷ bit_text b ∷ bit_text c ∷ bit_text d ∷ []) ≡ Some (weight a * 8 + weight b * 4 + weight c * 2 + weight d)
+unfolding operator_in
+four_back a b c d = grind (arith, common_steps)
+
+-- an operator that is written is read
+pub operator_back : (op : ℕ) → op < 16 → operator_in (operator_text op) ≡ Some op
+unfolding operator_text
+operator_back op fits =
+    let sum : weight (digit op 3) * 8 + weight (digit op 2) * 4 + weight (digit op 1) * 2 + weight (digit op 0) ≡ op = omega (arith, weight_digit op 3, weight_digit op 2, weight_digit op 1, weight_digit op 0) in
+    four_back (digit op 3) (digit op 2) (digit op 1) (digit op 0) ∙ ap (λ (n : ℕ). Some n) sum
+
+-- a character that is a bit was written from it
+bit_spells : (a op k : ℕ) → is_bit a ≡ true → bit_at op k ≡ a - 48 → a ≡ bit_text (digit op k)
+bit_spells a op k bit e = grind (arith, common_steps)
+
+-- a character that is a bit has the value 0 or 1
+bit_below : (a : ℕ) → is_bit a ≡ true → a - 48 < 2
+bit_below a bit = grind (arith, common_steps)
+
+-- both of two tests that are true together
+pub both_true : (a b : Bool) → a && b ≡ true → (a ≡ true) × (b ≡ true)
+both_true true true e = (refl, refl)
+both_true true false e = absurd cc
+both_true false b e = absurd cc
+
+-- four characters that are bits were written from the number that they spell
+four_spell : (a b c d op : ℕ) → is_bit a ≡ true → is_bit b ≡ true → is_bit c ≡ true → is_bit d ≡ true → (a - 48) * 8 + (b - 48) * 4 + (c - 48) * 2 + (d - 48) ≡ op → (op < 16) × (a ∷ b ∷ c ∷ d ∷ [] ≡ operator_text op)
+unfolding operator_text
+four_spell a b c d op ba bb bc bd sum =
+    let wa = bit_below a ba in
+    let wb = bit_below b bb in
+    let wc = bit_below c bc in
+    let wd = bit_below d bd in
+    let ea = bit_spells a op 3 ba (omega arith) in
+    let eb = bit_spells b op 2 bb (omega arith) in
+    let ec = bit_spells c op 1 bc (omega arith) in
+    let ed = bit_spells d op 0 bd (omega arith) in
+    (omega arith, cc)
+
+-- what reads as an operator was written
+pub operator_spells : (item : List ℕ) (op : ℕ) → operator_in item ≡ Some op → (op < 16) × (item ≡ operator_text op)
+unfolding operator_in
+operator_spells [] op e = absurd cc
+operator_spells (a ∷ []) op e = absurd cc
+operator_spells (a ∷ b ∷ []) op e = absurd cc
+operator_spells (a ∷ b ∷ c ∷ []) op e = absurd cc
+operator_spells (a ∷ b ∷ c ∷ d ∷ []) op e =
+    let parts = cond_some (is_bit a && is_bit b && is_bit c && is_bit d) ((a - 48) * 8 + (b - 48) * 4 + (c - 48) * 2 + (d - 48)) op e in
+    let front = both_true (is_bit a && is_bit b && is_bit c) (is_bit d) parts.0 in
+    let middle = both_true (is_bit a && is_bit b) (is_bit c) front.0 in
+    let first = both_true (is_bit a) (is_bit b) middle.0 in
+    four_spell a b c d op first.0 first.1 middle.1 front.1 parts.1
+operator_spells (a ∷ b ∷ c ∷ d ∷ f ∷ item) op e = absurd cc
+
+-- a blank or an LF stands in no operator
+pub free_operator : (byte op : ℕ) → byte < 48 → is_free byte (operator_text op) ≡ true
+unfolding is_free operator_text
+free_operator byte op low = grind (arith, common_steps)
+
+-- ---- steps
+
+-- four items with a blank between each two
+four_items : (a b c d : List ℕ) → is_free 32 a ≡ true → is_free 32 b ≡ true → is_free 32 c ≡ true → is_free 32 d ≡ true → items_of (join_with_byte 32 (a ∷ b ∷ c ∷ d ∷ [])) ≡ a ∷ b ∷ c ∷ d ∷ []
+four_items a b c d fa fb fc fd =
+    let one = last_item_back d fd in
+    let two = item_back c d fc ∙ ap (λ (items : List (List ℕ)). c ∷ items) one in
+    let three = item_back b (c ++ 32 ∷ d) fb ∙ ap (λ (items : List (List ℕ)). b ∷ items) two in
+    item_back a (b ++ 32 ∷ (c ++ 32 ∷ d)) fa ∙ ap (λ (items : List (List ℕ)). a ∷ items) three
+
+-- no LF stands in two parts with a blank between them
+free_line : (item rest : List ℕ) → is_free 10 item ≡ true → is_free 10 rest ≡ true → is_free 10 (item ++ 32 ∷ rest) ≡ true
+unfolding is_free
+free_line item rest front behind = free_both 10 item (32 ∷ rest) front behind
+
+-- no LF stands in four items with a blank between each two
+four_free : (a b c d : List ℕ) → is_free 10 a ≡ true → is_free 10 b ≡ true → is_free 10 c ≡ true → is_free 10 d ≡ true → is_free 10 (join_with_byte 32 (a ∷ b ∷ c ∷ d ∷ [])) ≡ true
+four_free a b c d fa fb fc fd = free_line a (b ++ 32 ∷ (c ++ 32 ∷ d)) fa (free_line b (c ++ 32 ∷ d) fb (free_line c d fc fd))
+
+-- four items that are read one by one are read as a step's
+step_in_four : (i j k o : List ℕ) (place : ℕ) (s : Step) → place_in i ≡ Some place → place_in j ≡ Some s.j → place_in k ≡ Some s.k → operator_in o ≡ Some s.op → step_in (i ∷ j ∷ k ∷ o ∷ []) ≡ Some (place, s)
+unfolding step_in
+step_in_four i j k o place s ei ej ek eo = rw (ei, ej, ek, eo) refl
+
+-- a step that is written is read
+pub step_back : (place : ℕ) (s : Step) → place < 1000000000 → IsStepAt place s → step_in (items_of (step_text place s)) ≡ Some (place, s)
+unfolding step_text
+step_back place s fits at =
+    let j : s.j < 1000000000 = omega (arith, at.j_below) in
+    let k : s.k < 1000000000 = omega (arith, at.k_below) in
+    let low : 32 < 48 = omega arith in
+    ap step_in (four_items (place_text place) (place_text s.j) (place_text s.k) (operator_text s.op) (free_place 32 place low fits) (free_place 32 s.j low j) (free_place 32 s.k low k) (free_operator 32 s.op low)) ∙ step_in_four (place_text place) (place_text s.j) (place_text s.k) (operator_text s.op) place s (place_back place fits) (place_back s.j j) (place_back s.k k) (operator_back s.op at.op_below)
+
+-- an LF stands in no step
+pub free_step : (place : ℕ) (s : Step) → place < 1000000000 → IsStepAt place s → is_free 10 (step_text place s) ≡ true
+unfolding step_text
+free_step place s fits at =
+    let j : s.j < 1000000000 = omega (arith, at.j_below) in
+    let k : s.k < 1000000000 = omega (arith, at.k_below) in
+    let low : 10 < 48 = omega arith in
+    four_free (place_text place) (place_text s.j) (place_text s.k) (operator_text s.op) (free_place 10 place low fits) (free_place 10 s.j low j) (free_place 10 s.k low k) (free_operator 10 s.op low)
+
+-- what the items of a step are
+record Names (i j k o : Option ℕ) (place : ℕ) (s : Step) : Type 0 where
+  own : i ≡ Some place
+  first : j ≡ Some s.j
+  second : k ≡ Some s.k
+  operator : o ≡ Some s.op
+
+-- what two equal answers hold is equal
+pub some_is : {A : Type 0} (x y : A) → Some x ≡ Some y → x ≡ y
+some_is x y e = cc
+
+-- where a step was read, each of its items was
+step_from_some : (i j k o : Option ℕ) (place : ℕ) (s : Step) → step_from i j k o ≡ Some (place, s) → Names i j k o place s
+step_from_some (Some i) (Some j) (Some k) (Some o) place s e =
+    let same = some_is _ _ e in
+    record {
+      own = ap (λ (x : ℕ × Step). Some x.0) same;
+      first = ap (λ (x : ℕ × Step). Some x.1.j) same;
+      second = ap (λ (x : ℕ × Step). Some x.1.k) same;
+      operator = ap (λ (x : ℕ × Step). Some x.1.op) same;
+    }
+step_from_some None j k o place s e = absurd cc
+step_from_some (Some i) None k o place s e = absurd cc
+step_from_some (Some i) (Some j) None o place s e = absurd cc
+step_from_some (Some i) (Some j) (Some k) None place s e = absurd cc
+
+-- items that read as a step's were written so
+step_items : (items : List (List ℕ)) (place : ℕ) (s : Step) → step_in items ≡ Some (place, s) → (s.op < 16) × (items ≡ place_text place ∷ place_text s.j ∷ place_text s.k ∷ operator_text s.op ∷ [])
+unfolding step_in
+step_items [] place s e = absurd cc
+step_items (i ∷ []) place s e = absurd cc
+step_items (i ∷ j ∷ []) place s e = absurd cc
+step_items (i ∷ j ∷ k ∷ []) place s e = absurd cc
+step_items (i ∷ j ∷ k ∷ o ∷ []) place s e =
+    let names = step_from_some (place_in i) (place_in j) (place_in k) (operator_in o) place s e in
+    let operator = operator_spells o s.op names.operator in
+    (operator.0, rw ((place_spells i place names.own).1, (place_spells j s.j names.first).1, (place_spells k s.k names.second).1, operator.1) refl)
+step_items (i ∷ j ∷ k ∷ o ∷ other ∷ items) place s e = absurd cc
+
+-- what reads as a step was written
+pub step_spells : (text : List ℕ) (place : ℕ) (s : Step) → step_in (items_of text) ≡ Some (place, s) → (s.op < 16) × (text ≡ step_text place s)
+unfolding step_text
+step_spells text place s e =
+    let parts = step_items (items_of text) place s e in
+    (parts.0, sym (items_spell text) ∙ ap (join_with_byte 32) parts.1)
+
+-- ---- outs
+
+-- an item that begins with x is no constant
+is_byte_x : (byte : ℕ) (text : List ℕ) → byte < 120 → is_byte byte (120 ∷ text) ≡ false
+is_byte_x byte [] low = grind (arith, common_steps)
+is_byte_x byte (b ∷ text) low = refl
+
+-- an item that is one byte is that byte
+is_byte_spells : (byte : ℕ) (item : List ℕ) → is_byte byte item ≡ true → item ≡ byte ∷ []
+is_byte_spells byte [] e = absurd cc
+is_byte_spells byte (b ∷ []) e = ap (λ (c : ℕ). c ∷ []) (eqb-true b byte e)
+is_byte_spells byte (b ∷ c ∷ item) e = absurd cc
+
+-- what an out's line names is read
+named_back : (o : Out) (last : ℕ) → last < 1000000000 → NamesPlace last o → named_in (named_text o) ≡ Some o
+unfolding named_in
+named_back outs.Zero last fits named = refl
+named_back outs.One last fits named = refl
+named_back (outs.Place p) last fits named =
+    let no_constant = is_byte_x 48 (decimal p) (omega arith) in
+    rw (no_constant, place_back p (omega (arith, named.1))) refl
+
+-- an out that is written is read
+pub out_back : (o : Out) (last : ℕ) → last < 1000000000 → NamesPlace last o → out_in (out_text o) ≡ Some o
+unfolding out_in out_text
+out_back o last fits named = rw (word_back (codes "out ") (named_text o)) (named_back o last fits named)
+
+-- where a place was named, one was read
+place_named : (x : Option ℕ) (o : Out) → option_map (λ p. outs.Place p) x ≡ Some o → (p : ℕ) × (x ≡ Some p) × (outs.Place p ≡ o)
+place_named None o e = absurd cc
+place_named (Some p) o e = (p, refl, some_is _ _ e)
+
+-- the same, by the two tests for constants
+named_by : (zero one : Bool) (item : List ℕ) (o : Out) → is_byte 48 item ≡ zero → is_byte 49 item ≡ one → (if zero then Some outs.Zero else (if one then Some outs.One else option_map (λ p. outs.Place p) (place_in item))) ≡ Some o → item ≡ named_text o
+named_by true one item o is_zero is_one e = let same : outs.Zero ≡ o = some_is _ _ e in subst (λ (x : Out). item ≡ named_text x) same (is_byte_spells 48 item is_zero)
+named_by false true item o is_zero is_one e = let same : outs.One ≡ o = some_is _ _ e in subst (λ (x : Out). item ≡ named_text x) same (is_byte_spells 49 item is_one)
+named_by false false item o is_zero is_one e =
+    let found = place_named (place_in item) o e in
+    subst (λ (x : Out). item ≡ named_text x) found.2 (place_spells item found.0 found.1).1
+
+-- what reads as named by an out was written so
+named_spells : (item : List ℕ) (o : Out) → named_in item ≡ Some o → item ≡ named_text o
+unfolding named_in
+named_spells item o e = named_by (is_byte 48 item) (is_byte 49 item) item o refl refl e
+
+-- what reads as an out was written
+pub out_spells : (text : List ℕ) (o : Out) → out_in text ≡ Some o → text ≡ out_text o
+unfolding out_in out_text
+out_spells text o e =
+    option_and_then_some named_in (after (codes "out ") text) o e (λ item behind is.
+    word_spells (codes "out ") text item behind ∙ ap (λ (rest : List ℕ). codes "out " ++ rest) (named_spells item o is))
+
+-- an LF stands in no name of an out
+free_named : (o : Out) (last : ℕ) → last < 1000000000 → NamesPlace last o → is_free 10 (named_text o) ≡ true
+unfolding is_free
+free_named outs.Zero last fits named = refl
+free_named outs.One last fits named = refl
+free_named (outs.Place p) last fits named = free_place 10 p (omega arith) (omega (arith, named.1))
+
+-- nor in the word before it
+free_out_word : is_free 10 (codes "out ") ≡ true
+unfolding is_free
+free_out_word = refl
+
+-- an LF stands in no out
+pub free_out : (o : Out) (last : ℕ) → last < 1000000000 → NamesPlace last o → is_free 10 (out_text o) ≡ true
+unfolding out_text
+free_out o last fits named = free_both 10 (codes "out ") (named_text o) free_out_word (free_named o last fits named)
+
+-- ---- the first line
+
+-- a number of steps that is written is read
+pub count_back : (r : ℕ) → r ≤ 16 → option_and_then number_in (after (codes "chain ") (count_text r)) ≡ Some r
+unfolding count_text
+count_back r few = rw (word_back (codes "chain ") (decimal r)) (number_back 999999999 r (omega arith) (omega arith))
+
+-- what reads as a number of steps was written
+pub count_spells : (text : List ℕ) (r : ℕ) → option_and_then number_in (after (codes "chain ") text) ≡ Some r → text ≡ count_text r
+unfolding count_text
+count_spells text r e =
+    option_and_then_some number_in (after (codes "chain ") text) r e (λ digits behind is.
+    word_spells (codes "chain ") text digits behind ∙ ap (λ (rest : List ℕ). codes "chain " ++ rest) (number_spells 999999999 r digits (omega arith) is).1)
+
+-- an LF stands in no word before a number of steps
+free_chain_word : is_free 10 (codes "chain ") ≡ true
+unfolding is_free
+free_chain_word = refl
+
+-- an LF stands in no number of steps
+pub free_count : (r : ℕ) → r ≤ 16 → is_free 10 (count_text r) ≡ true
+unfolding count_text
+free_count r few = free_both 10 (codes "chain ") (decimal r) free_chain_word (free_decimal 10 r (omega arith) (omega arith))

@@ -1,0 +1,12 @@
+pub use Rattle.chain_theory.specs.Chain
+pub use Rattle.chain_theory.specs.Value
+pub use Rattle.chain_theory.specs.Agreement
+pub use Rattle.chain_theory.specs.Difference
+pub use Rattle.op_basis.specs.Basis
+pub mod Steps
+pub mod Bits
+pub mod Block
+pub mod Reading
+pub mod Rows
+pub mod Spelling
+pub mod Outside

@@ -1,0 +1,67 @@
+-- How a chain block is written. Example: the XOR chain is
+--
+--     chain 1
+--     x3 x1 x2 0110
+--     out x3
+use Rattle.std.specs.Prelude.{◌≡◌, ℕ, ◌+◌, ◌≤◌, Bool, true, false, if◌then◌else◌, List, [], ◌∷◌, ◌++◌, length, map, codes, decimal}
+use Rattle.std.specs.List.{flat_map, join_with_byte}
+use Rattle.text_core.specs.Lines.{Line, line_bytes}
+use Rattle.chain_theory.specs.declared.data.Out.{Out}
+use Rattle.chain_theory.specs.declared.data.Out.TheVariants.{Zero, One, Place}
+use Rattle.chain_theory.specs.Operator.{apply}
+use Rattle.chain_theory.specs.Chain.{Step, Chain, IsChain}
+use Rattle.chain_core.specs.Block.{Read}
+
+-- a line that ends with an LF
+abbrev pub line : List ℕ → Line
+line text = record { text = text; ended = true }
+
+abbrev pub place_text : ℕ → List ℕ
+place_text place = codes "x" ++ decimal place
+
+abbrev pub bit_text : Bool → ℕ
+bit_text bit = if bit then 49 else 48
+
+-- an operator's values at (0,0), (0,1), (1,0) and (1,1)
+unfoldable pub operator_text : ℕ → List ℕ
+operator_text op = bit_text (apply op false false) ∷ bit_text (apply op false true) ∷ bit_text (apply op true false) ∷ bit_text (apply op true true) ∷ []
+
+-- the step at a place, with a blank between each two items
+unfoldable pub step_text : ℕ → Step → List ℕ
+step_text place s = join_with_byte 32 (place_text place ∷ place_text s.j ∷ place_text s.k ∷ operator_text s.op ∷ [])
+
+-- steps from a place on, a line for each
+unfoldable pub step_lines : ℕ → List Step → List Line
+step_lines place [] = []
+step_lines place (s ∷ ss) = line (step_text place s) ∷ step_lines (place + 1) ss
+
+abbrev pub named_text : Out → List ℕ
+named_text Zero = codes "0"
+named_text One = codes "1"
+named_text (Place p) = place_text p
+
+unfoldable pub out_text : Out → List ℕ
+out_text o = codes "out " ++ named_text o
+
+abbrev pub out_line : Out → Line
+out_line o = line (out_text o)
+
+unfoldable pub count_text : ℕ → List ℕ
+count_text r = codes "chain " ++ decimal r
+
+-- the lines of a chain's block
+abbrev pub chain_lines : Chain → List Line
+chain_lines c = line (count_text (length c.steps)) ∷ (step_lines (c.n + 1) c.steps ++ map out_line c.outs)
+
+-- a chain's block
+abbrev pub chain_text : Chain → List ℕ
+chain_text c = flat_map line_bytes (chain_lines c)
+
+-- What was read off the front of the bytes: a chain of these numbers of inputs and outputs and of at
+-- most 16 steps. The bytes are its block and then the lines behind it, each byte of them.
+pub record Spells (n m : ℕ) (bytes : List ℕ) (x : Read) : Type 0 where
+  pub chain : IsChain x.chain
+  pub inputs : x.chain.n ≡ n
+  pub outputs : length x.chain.outs ≡ m
+  pub steps : length x.chain.steps ≤ 16
+  pub text : bytes ≡ chain_text x.chain ++ flat_map line_bytes x.rest

@@ -1,0 +1,49 @@
+//! Boolean chains as the program holds them: at most 6 inputs, 16 steps and 8 outputs. It stands on
+//! `chain_theory` for what a chain means, on `op_basis` for operators, on `tt_core` for
+//! specifications and on `text_core` for lines and items of texts.
+//!
+//! What each call promises:
+//!
+//! - `value` is the value that the chain's definition gives a place on a row, and `out_value` that of
+//!   an output.
+//! - `first_difference` is the least output, and for it the least row, at which a chain misses a
+//!   specification, and None exactly where the chain agrees.
+//! - `first_outside` is the first place whose operator isn't in a basis, and None exactly where the
+//!   chain is over the basis.
+//! - `read_chain` reads a chain block off the front of a text exactly where the grammar of
+//!   `specs/Block.antt` gives a chain, and else tells the first fault with its line.
+//! - `write_chain` appends a chain's one spelling, which `read_chain` takes back (`laws_of_blocks`),
+//!   or leaves what stood there as it was where memory runs out.
+//!
+//! ```text
+//! let (chain, used) = read_chain(alloc, b"chain 1\nx3 x1 x2 0110\nout x3\n", 1, 2, 1)?; // XOR
+//! let difference = first_difference(&chain, &spec); // None: the chain agrees
+//! ```
+#![tactic(auto)]
+
+mod chain;
+mod difference;
+mod error;
+mod frame;
+mod laws;
+mod lines;
+mod outside;
+mod reading;
+mod step;
+mod values;
+mod writing;
+
+pub use chain::Chain;
+pub use chain_theory::Out;
+pub use difference::first_difference;
+pub use error::ChainError;
+pub use laws::laws_of_blocks;
+pub use op_basis::{Basis, Op};
+pub use outside::first_outside;
+pub use reading::read_chain;
+pub use step::Step;
+pub use values::{out_value, value};
+pub use writing::write_chain;
+
+#[cfg(test)]
+mod tests;

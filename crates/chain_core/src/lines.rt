@@ -1,0 +1,157 @@
+//! The lines of a chain block, each by itself.
+
+ghost use Rattle.std.specs.Prelude.{◌≡◌, ◌+◌, ◌-◌, ◌<◌, ◌≤◌, ◌^◌, if◌then◌else◌, IfSome, IfOk};
+ghost use Rattle.std.specs.Option.{option_map};
+ghost use Rattle.text_core.specs.Items.{items_of};
+ghost use Rattle.chain_theory.specs.Chain.{IsStepAt, NamesPlace};
+ghost use Rattle.chain_core.specs.Steps.{step_of};
+ghost use Rattle.chain_core.specs.Block as block;
+ghost use Rattle.chain_core.specs.Reading.{Gives};
+
+use crate::error::ChainError;
+use crate::frame::Frame;
+use crate::step::Step;
+use chain_theory::Out;
+use op_basis::Op;
+use text_core::{after, next_item, number_up_to};
+
+/// The greatest number of nine digits.
+const GREATEST: u32 = 999_999_999;
+
+/// The place that an item names.
+#[tactic(auto, unfolding(crate::specs::Block::place_in))]
+fn place_in(item: &[u8]) -> Option<u32>
+    ensures { result ≡ block.place_in item.now }
+{
+    number_up_to(GREATEST, after(b"x", item)?)
+}
+
+/// A bit that is written as a character.
+fn bit_in(byte: u8) -> Option<u8>
+    ensures { result ≡ (if block.is_bit byte then Some (byte - 48) else None) }
+{
+    match byte {
+        b'0' => Some(0),
+        b'1' => Some(1),
+        _ => None,
+    }
+}
+
+/// The operator of a word of four bits.
+#[tactic(auto, unfolding(crate::specs::Block::operator_in))]
+fn operator_in(item: &[u8]) -> Option<Op>
+    ensures operator { result ≡ block.operator_in item.now }
+    ensures below { IfSome result (λ op. op < 16) }
+{
+    let [a, b, c, d] = item else {
+        return None;
+    };
+    let word = bit_in(*a)? * 8 + bit_in(*b)? * 4 + bit_in(*c)? * 2 + bit_in(*d)?;
+    Some(Op::new(word))
+}
+
+/// The place that a step's line gives the step, and the step.
+#[tactic(auto, unfolding(crate::specs::Block::step_in))]
+fn step_in(text: &[u8]) -> Option<(u32, Step)>
+    ensures line { option_map (λ x. (x.0, step_of x.1)) result ≡ block.step_in (items_of text.now) }
+    ensures below { IfSome result (λ x. x.1.op < 16) }
+{
+    let (place, Some(text)) = next_item(text) else {
+        return None;
+    };
+    let (j, Some(text)) = next_item(text) else {
+        return None;
+    };
+    let (k, Some(text)) = next_item(text) else {
+        return None;
+    };
+    let (op, None) = next_item(text) else {
+        return None;
+    };
+    let place = place_in(place)?;
+    let step = Step {
+        j: place_in(j)?,
+        k: place_in(k)?,
+        op: operator_in(op)?,
+    };
+    Some((place, step))
+}
+
+/// What the line of an output names.
+#[tactic(auto, unfolding(crate::specs::Block::out_in, crate::specs::Block::named_in))]
+fn out_in(text: &[u8]) -> Option<Out>
+    ensures { result ≡ block.out_in text.now }
+{
+    match after(b"out ", text)? {
+        [b'0'] => Some(Out::Zero),
+        [b'1'] => Some(Out::One),
+        item => Some(Out::Place(place_in(item)?)),
+    }
+}
+
+/// The number of steps that the first line of a block tells.
+#[tactic(auto, unfolding(crate::specs::Block::count_at))]
+pub fn count_at(first_line: u32, text: &[u8], ended: bool) -> Result<u32, ChainError>
+    ensures exact { Gives (λ r. r) result (block.count_at first_line (record { text = text.now; ended = ended })) }
+    ensures few { IfOk result (λ r. r ≤ 16) }
+{
+    if !ended {
+        return Err(ChainError::BadCount(first_line));
+    }
+    let Some(digits) = after(b"chain ", text) else {
+        return Err(ChainError::BadCount(first_line));
+    };
+    match number_up_to(GREATEST, digits) {
+        Some(steps) if steps <= 16 => Ok(steps),
+        Some(_) => Err(ChainError::TooManySteps(first_line)),
+        None => Err(ChainError::BadCount(first_line)),
+    }
+}
+
+/// The step of a line, where `done` steps came before it.
+#[tactic(auto, unfolding(crate::specs::Block::step_at))]
+pub fn step_at(frame: &Frame, done: u32, text: &[u8], ended: bool) -> Result<Step, ChainError>
+    requires place { frame.now.n + 1 + done < 2 ^ 32 }
+    requires line { frame.now.first_line + 1 + done < 2 ^ 32 }
+    ensures exact { Gives step_of result (block.step_at frame.now done (record { text = text.now; ended = ended })) }
+    ensures stands { IfOk result (λ s. IsStepAt (frame.now.n + 1 + done) (step_of s)) }
+{
+    let line = frame.first_line + 1 + done;
+    if !ended {
+        return Err(ChainError::BadStep(line));
+    }
+    let Some((place, step)) = step_in(text) else {
+        return Err(ChainError::BadStep(line));
+    };
+    let next = frame.n + 1 + done;
+    if place != next || step.j == 0 || step.k == 0 {
+        return Err(ChainError::BadStep(line));
+    }
+    if step.j >= next || step.k >= next {
+        return Err(ChainError::ForwardPlace(line));
+    }
+    Ok(step)
+}
+
+/// The out of a line, where `done` outs came before it.
+#[tactic(auto, unfolding(crate::specs::Block::out_at))]
+pub fn out_at(frame: &Frame, done: u32, text: &[u8], ended: bool) -> Result<Out, ChainError>
+    requires place { frame.now.n + frame.now.steps < 2 ^ 32 }
+    requires line { frame.now.first_line + 1 + frame.now.steps + done < 2 ^ 32 }
+    ensures exact { Gives (λ o. o) result (block.out_at frame.now done (record { text = text.now; ended = ended })) }
+    ensures named { IfOk result (NamesPlace (frame.now.n + frame.now.steps)) }
+{
+    let line = frame.first_line + 1 + frame.steps + done;
+    if !ended {
+        return Err(ChainError::BadOut(line));
+    }
+    let Some(out) = out_in(text) else {
+        return Err(ChainError::BadOut(line));
+    };
+    if let Out::Place(place) = out {
+        if place == 0 || place > frame.n + frame.steps {
+            return Err(ChainError::BadOut(line));
+        }
+    }
+    Ok(out)
+}

@@ -1,0 +1,145 @@
+//! Chain blocks, line after line.
+
+ghost use Rattle.std.specs.Prelude.{◌≡◌, ◌+◌, ◌^◌, ◌<◌, ◌≤◌, [], ◌∷◌, ◌++◌, length, drop, All, OnOk, IfOk};
+ghost use Rattle.text_core.specs.Lines.{lines_of};
+ghost use Rattle.text_core.specs.Rest.{IsRest};
+ghost use Rattle.chain_theory.specs.Chain.{AreSteps, IsStepAt, NamesPlace};
+ghost use Rattle.chain_core.specs.Steps.{step_of, steps_of, IsSmallChain};
+ghost use Rattle.chain_core.specs.Block.{steps_from, outs_from, body_from, chain_of};
+ghost use Rattle.chain_core.specs.Reading.{Gives};
+
+use crate::chain::Chain;
+use crate::error::ChainError;
+use crate::frame::Frame;
+use crate::lines::{count_at, out_at, step_at};
+use crate::step::Step;
+use chain_theory::Out;
+use std::alloc::{AllocError, Global};
+use text_core::next_line;
+
+/// Adds a step that stands at the next place.
+#[tactic(auto, using(crate::proofs::BlockLoops::more_steps))]
+fn add_step(steps: &mut Vec<Step>, n: u32, step: Step) -> Result<(), AllocError>
+    requires steps { AreSteps n (steps_of steps.old.items) }
+    requires step { IsStepAt (n + 1 + length steps.old.items) (step_of step) }
+    ensures added { OnOk result (steps.new.items ≡ steps.old.items ++ step ∷ []) }
+    ensures steps { OnOk result (AreSteps n (steps_of steps.new.items)) }
+{
+    steps.push(step)?;
+    Ok(())
+}
+
+/// The steps of the lines, and what stands behind them.
+#[tactic(auto, using(crate::proofs::BlockLoops::steps_loop), unfolding(crate::specs::Block::steps_from))]
+fn steps_from<'a>(
+    alloc: Global,
+    frame: &Frame,
+    bytes: &'a [u8],
+) -> Result<(Vec<Step>, &'a [u8]), ChainError>
+    requires first_line { frame.now.first_line < 2 ^ 31 }
+    requires few { frame.now.steps ≤ 16 }
+    requires small { frame.now.n ≤ 6 }
+    ensures exact { Gives (λ x. (steps_of x.0.items, lines_of x.1.now)) result (steps_from frame.now [] (lines_of bytes.now)) }
+    ensures steps { IfOk result (λ x. AreSteps frame.now.n (steps_of x.0.items)) }
+    ensures count { IfOk result (λ x. length x.0.items ≡ frame.now.steps) }
+    ensures rest { IfOk result (λ x. IsRest bytes.now x.1.now) }
+{
+    let mut steps = Vec::new(alloc);
+    let mut left = bytes;
+    while steps.len() < frame.steps as usize {
+        let Some((text, ended, rest)) = next_line(left) else {
+            return Err(ChainError::BadStep(frame.first_line + 1 + steps.len() as u32));
+        };
+        let step = step_at(frame, steps.len() as u32, text, ended)?;
+        add_step(&mut steps, frame.n, step)?;
+        left = rest;
+    }
+    Ok((steps, left))
+}
+
+/// The outs of the lines, and what stands behind them.
+#[tactic(auto, using(crate::proofs::BlockLoops::outs_loop), unfolding(crate::specs::Block::outs_from))]
+fn outs_from<'a>(
+    alloc: Global,
+    frame: &Frame,
+    bytes: &'a [u8],
+) -> Result<(Vec<Out>, &'a [u8]), ChainError>
+    requires first_line { frame.now.first_line < 2 ^ 31 }
+    requires few { frame.now.steps ≤ 16 }
+    requires small { frame.now.n ≤ 6 }
+    requires outputs { frame.now.outputs ≤ 8 }
+    ensures exact { Gives (λ x. (x.0.items, lines_of x.1.now)) result (outs_from frame.now [] (lines_of bytes.now)) }
+    ensures named { IfOk result (λ x. All (NamesPlace (frame.now.n + frame.now.steps)) x.0.items) }
+    ensures count { IfOk result (λ x. length x.0.items ≡ frame.now.outputs) }
+    ensures rest { IfOk result (λ x. IsRest bytes.now x.1.now) }
+{
+    let mut outs = Vec::new(alloc);
+    let mut left = bytes;
+    while outs.len() < frame.outputs as usize {
+        let Some((text, ended, rest)) = next_line(left) else {
+            return Err(ChainError::BadOut(frame.first_line + 1 + frame.steps + outs.len() as u32));
+        };
+        let out = out_at(frame, outs.len() as u32, text, ended)?;
+        outs.push(out)?;
+        left = rest;
+    }
+    Ok((outs, left))
+}
+
+/// The chain of all lines but the first, and what stands behind them.
+#[tactic(auto, using(crate::proofs::BlockLoops::resting), unfolding(crate::specs::Block::body_from))]
+fn body_from<'a>(
+    alloc: Global,
+    frame: &Frame,
+    bytes: &'a [u8],
+) -> Result<(Chain, &'a [u8]), ChainError>
+    requires first_line { frame.now.first_line < 2 ^ 31 }
+    requires few { frame.now.steps ≤ 16 }
+    requires small { frame.now.n ≤ 6 }
+    requires outputs { frame.now.outputs ≤ 8 }
+    ensures exact { Gives (λ x. record { chain = x.0; rest = lines_of x.1.now }) result (body_from frame.now (lines_of bytes.now)) }
+    ensures rest { IfOk result (λ x. IsRest bytes.now x.1.now) }
+    ensures chain { IfOk result (λ x. IsSmallChain x.0) }
+    ensures n { IfOk result (λ x. x.0.n ≡ frame.now.n) }
+    ensures outputs { IfOk result (λ x. length x.0.outs ≡ frame.now.outputs) }
+{
+    let (steps, rest) = steps_from(alloc, frame, bytes)?;
+    let (outs, rest) = outs_from(alloc, frame, rest)?;
+    Ok((Chain::new(frame.n, steps, outs), rest))
+}
+
+/// Reads a chain block off the front of a text: the chain of `n` inputs and this number of outputs,
+/// and how many bytes its lines take. What stands behind them isn't looked at. `first_line` is the
+/// number that the block's first line has in the whole text.
+///
+/// Lines are judged in their order, and the first fault is told with its line.
+#[tactic(auto, using(crate::proofs::BlockLoops::resting), unfolding(crate::specs::Block::chain_of))]
+pub fn read_chain(
+    alloc: Global,
+    bytes: &[u8],
+    first_line: u32,
+    n: u32,
+    outputs: u32,
+) -> Result<(Chain, usize), ChainError>
+    requires length { length bytes.now < 2 ^ 31 }
+    requires first_line { first_line < 2 ^ 31 }
+    requires inputs { n ≤ 6 }
+    requires outputs { outputs ≤ 8 }
+    ensures exact { Gives (λ x. record { chain = x.0; rest = lines_of (drop x.1 bytes.now) }) result (chain_of first_line n outputs (lines_of bytes.now)) }
+    ensures used { IfOk result (λ x. x.1 ≤ length bytes.now) }
+    ensures chain { IfOk result (λ x. IsSmallChain x.0) }
+    ensures inputs { IfOk result (λ x. x.0.n ≡ n) }
+    ensures outputs { IfOk result (λ x. length x.0.outs ≡ outputs) }
+{
+    let Some((text, ended, rest)) = next_line(bytes) else {
+        return Err(ChainError::BadCount(first_line));
+    };
+    let frame = Frame {
+        first_line,
+        n,
+        outputs,
+        steps: count_at(first_line, text, ended)?,
+    };
+    let (chain, rest) = body_from(alloc, &frame, rest)?;
+    Ok((chain, bytes.len() - rest.len()))
+}
