@@ -1,0 +1,30 @@
+//! The program `batsokemi`: it collects the words, makes ports over the standard streams, and calls
+//! `chain_app::run`, which does the rest.
+#![tactic(auto)]
+
+use chain_app::{Status, run};
+use port_io::{InputPort, OutputPort};
+use std::process::ExitCode;
+use std::{env, io};
+
+/// The words behind the program's name. A word that isn't UTF-8 is no word of a command.
+fn words_of(rt: &HostRuntime) -> Result<Vec<String>, Status> {
+    let collected = match env::args(rt) {
+        Ok(words) => words.skip(1).collect(rt.alloc()),
+        Err(error) if error.kind() == io::ErrorKind::OutOfMemory => return Err(Status::Memory),
+        Err(_) => return Err(Status::Usage),
+    };
+    collected.map_err(|_| Status::Memory)
+}
+
+fn main(rt: HostRuntime) -> ExitCode {
+    let words = match words_of(&rt) {
+        Ok(words) => words,
+        Err(status) => return ExitCode::from(status.number()),
+    };
+    let mut source = InputPort::new(rt.stdin());
+    let mut out = OutputPort::new(rt.stdout());
+    let mut note = OutputPort::new(rt.stderr());
+    let status = run(rt.alloc(), &words, &mut source, &mut out, &mut note);
+    ExitCode::from(status.number())
+}

@@ -1,0 +1,7 @@
+pub mod CommandLine
+pub mod Report
+pub mod Agree
+pub mod Outside
+pub mod Run
+pub mod Promise
+pub mod Asked

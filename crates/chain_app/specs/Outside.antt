@@ -1,0 +1,24 @@
+-- What a run leaves outside.
+use Rattle.std.specs.Prelude.{ℕ, List, [], ◌∷◌, ◌++◌, Option}
+use Rattle.std.specs.Borrow.{Bor}
+use Rattle.port_io.specs.Bytes.{Appends, AppendsFront}
+use Rattle.port_io.specs.Faults.{Rose}
+
+-- a source or a sink at a moment: the bytes that it has left or that were written to it, where it
+-- tells them, and its count of faults
+pub record Side : Type 0 where
+  pub bytes : Option (List ℕ)
+  pub faults : ℕ
+
+abbrev pub side : {T : Type 0} → (T → Option (List ℕ)) → (T → ℕ) → T → Side
+side bytes faults x = record { bytes = bytes x; faults = faults x }
+
+-- A text was written: a front of it, and all of it where no call failed.
+pub record Writes (old new : Side) (text : List ℕ) : Type 0 where
+  pub front : AppendsFront old.bytes new.bytes text
+  pub whole : (Rose old.faults new.faults → ⊥) → Appends old.bytes new.bytes text
+
+-- texts, one after the other
+unfoldable pub joined : List (Bor (List ℕ)) → List ℕ
+joined [] = []
+joined (piece ∷ pieces) = piece.now ++ joined pieces
