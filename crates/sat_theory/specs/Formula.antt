@@ -1,0 +1,51 @@
+-- Formulas in conjunctive normal form, and what satisfies them.
+use Rattle.std.specs.Prelude.{◌≡◌, ◌≢◌, ℕ, suc, ◌-◌, ◌<◌, ◌≤◌, ◌==◌, if◌then◌else◌, ℤ, pos, negsuc, neg_ℤ, unsigned_abs, Bool, true, false, not, slice_index_or, List, All, Any, AllPairs}
+
+-- A literal is a variable with a sign, written as a number other than 0 as in DIMACS: 3 says that
+-- variable 3 is true, and -3 that it is false. Variables are numbered from 1.
+abbrev pub variable : ℤ → ℕ
+variable l = unsigned_abs l
+
+-- the same variable with the other sign
+abbrev pub opposite : ℤ → ℤ
+opposite l = neg_ℤ l
+
+-- A clause is a list of literals of different variables, and says that one of them at least is true.
+-- Example: 1, -2 is a clause. 1, -1 is none, and neither is 1, 0.
+pub record IsClause (lits : List ℤ) : Type 0 where
+  pub literals : All (λ l. 0 < variable l) lits
+  pub differ : AllPairs (λ l m. variable l ≢ variable m) lits
+
+-- all variables are 1 to vars
+abbrev pub IsWithin : ℕ → List ℤ → Type 0
+IsWithin vars lits = All (λ l. variable l ≤ vars) lits
+
+-- A formula has the variables 1 to vars, and says that each of its clauses is true.
+-- Example: the variables 1 and 2 with the clauses 1, 2 and -1, 2 and 1, -2 and -1, -2 contradict
+-- themselves, though no three of these clauses do.
+pub record Formula : Type 0 where
+  pub vars : ℕ
+  pub clauses : List (List ℤ)
+
+pub record IsFormula (f : Formula) : Type 0 where
+  pub clauses : All IsClause f.clauses
+  pub variables : All (IsWithin f.vars) f.clauses
+
+-- an assignment gives each variable a bit
+abbrev pub Assignment : Type 0
+Assignment = ℕ → Bool
+
+-- bit v - 1 of a list is that of variable v, and the bits behind the list are 0
+abbrev pub bits_of : List Bool → Assignment
+bits_of bits v = if v == 0 then false else slice_index_or bits (v - 1) false
+
+abbrev pub literal_value : Assignment → ℤ → Bool
+literal_value v (pos n) = v n
+literal_value v (negsuc n) = not (v (suc n))
+
+-- a clause is true where one of its literals is, so the empty clause is never true
+unfoldable pub IsTrueClause : Assignment → List ℤ → Type 0
+IsTrueClause v lits = Any (λ l. literal_value v l ≡ true) lits
+
+abbrev pub Satisfies : Assignment → Formula → Type 0
+Satisfies v f = All (IsTrueClause v) f.clauses

@@ -1,0 +1,9 @@
+pub mod Formula
+pub mod Line
+pub mod State
+pub mod Holding
+pub mod HoldingLaws
+pub mod Log
+pub mod LogLaws
+pub mod Soundness
+pub mod Plain

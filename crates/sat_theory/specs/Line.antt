@@ -1,0 +1,38 @@
+-- The lines of a refutation log (LRAT with additions by unit propagation and deletions).
+use Rattle.std.specs.Prelude.{ℕ, ◌<◌, ◌^◌, ◌-◌, ℤ, List, All}
+use Rattle.sat_theory.specs.Formula.{IsClause, IsWithin}
+
+-- Clauses are named by numbers, their ids. An addition adds the clause of its literals under its id,
+-- and its hints are the ids of the clauses that show it. A deletion names the clauses that go; its
+-- own id says nothing.
+pub data Line : Type 0 where
+  Add : (id : ℕ) (lits : List ℤ) (hints : List ℕ) → Line
+  Delete : (id : ℕ) (ids : List ℕ) → Line
+
+-- the ids that a line may have
+abbrev pub IsId : ℕ → Type 0
+IsId id = (0 < id) × (id < 2 ^ 32)
+
+pub record IsAddition (id : ℕ) (lits : List ℤ) (hints : List ℕ) : Type 0 where
+  pub own_id : IsId id
+  pub clause : IsClause lits
+  pub variables : IsWithin (2 ^ 31 - 1) lits
+  pub hint_ids : All IsId hints
+
+pub record IsDeletion (id : ℕ) (ids : List ℕ) : Type 0 where
+  pub own_id : IsId id
+  pub deleted_ids : All IsId ids
+
+-- a line that can be written
+abbrev pub IsLine : Line → Type 0
+IsLine (Add id lits hints) = IsAddition id lits hints
+IsLine (Delete id ids) = IsDeletion id ids
+
+-- the literals of an addition are of different variables
+abbrev pub HasClause : Line → Type 0
+HasClause (Add id lits hints) = IsClause lits
+HasClause (Delete id ids) = Unit {0}
+
+pub line-HasClause : (l : Line) → IsLine l → HasClause l
+line-HasClause (Add id lits hints) is = is.clause
+line-HasClause (Delete id ids) is = tt

@@ -1,0 +1,66 @@
+-- Whole logs: what they refute, and what they leave open.
+use Rattle.std.specs.Prelude.{◌≡◌, ℕ, ◌*◌, ◌≤◌, ◌⊎◌, ℤ, List, [], ◌∷◌, length, Contains, All, Any, count_by, is_some, Option, Some}
+use Rattle.sat_theory.specs.Formula.{Formula}
+use Rattle.sat_theory.specs.Line.{Line, Add, Delete, IsLine}
+use Rattle.sat_theory.specs.State.{State, start, next}
+use Rattle.sat_theory.specs.Holding.{Holds}
+
+unfoldable pub after : State → List Line → State
+after s [] = s
+after s (l ∷ ls) = after (next s l) ls
+
+-- a fact about each line and the state before it
+unfoldable pub EachLine : (State → Line → Type 0) → State → List Line → Type 0
+EachLine P s [] = Unit {0}
+EachLine P s (l ∷ ls) = P s l × EachLine P (next s l) ls
+
+pub record IsStep (s : State) (line : Line) : Type 0 where
+  pub is_line : IsLine line
+  pub holds : Holds s line
+
+-- Each line is one that can be written, and holds in the state that the lines before it leave.
+abbrev pub LogHolds : Formula → List Line → Type 0
+LogHolds f lines = EachLine IsStep (start f) lines
+
+abbrev pub AddsEmpty : Line → Type 0
+AddsEmpty (Add id lits hints) = lits ≡ []
+AddsEmpty (Delete id ids) = ⊥
+
+-- the empty clause is in the formula, or is added
+abbrev pub HasEmpty : Formula → List Line → Type 0
+HasEmpty f lines = Contains f.clauses [] ⊎ Any AddsEmpty lines
+
+-- A log refutes a formula where it holds and reaches the empty clause.
+-- Example: the lines 5: 2 by 1, 2 and 6: (empty) by 5, 3, 4 refute the clauses 1: 1, 2 and 2: -1, 2 and
+-- 3: 1, -2 and 4: -1, -2.
+pub record Refutes (f : Formula) (lines : List Line) : Type 0 where
+  pub holds : LogHolds f lines
+  pub reaches : HasEmpty f lines
+
+-- A clause is new where no live clause has all its literals in it: nothing live says as much.
+-- Example: with the one live clause 1, 2 the clause 1, 3 is new, and 1, 2, 3 is not.
+abbrev pub IsNew : (ℕ → Option (List ℤ)) → List ℤ → Type 0
+IsNew live lits = (id : ℕ) (clause : List ℤ) → live id ≡ Some clause → All (Contains lits) clause → ⊥
+
+-- an addition is of a new clause
+abbrev pub IsFresh : State → Line → Type 0
+IsFresh s (Add id lits hints) = IsNew s.live lits
+IsFresh s (Delete id ids) = Unit {0}
+
+-- the ids of a log's additions, in order
+unfoldable pub added_ids : List Line → List ℕ
+added_ids [] = []
+added_ids (Add id lits hints ∷ ls) = id ∷ added_ids ls
+added_ids (Delete id ids ∷ ls) = added_ids ls
+
+-- A log has spent a budget on a formula where it holds, doesn't reach the empty clause, and has at
+-- least so many additions, each of a new clause.
+pub record IsSpent (f : Formula) (lines : List Line) (budget : ℕ) : Type 0 where
+  pub holds : LogHolds f lines
+  pub open_yet : HasEmpty f lines → ⊥
+  pub enough : budget ≤ length (added_ids lines)
+  pub fresh : EachLine IsFresh (start f) lines
+
+-- At the end of the log at least half of its additions are live.
+abbrev pub IsKept : Formula → List Line → Type 0
+IsKept f lines = length (added_ids lines) ≤ 2 * count_by (λ id. is_some ((after (start f) lines).live id)) (added_ids lines)
