@@ -1,0 +1,2 @@
+pub mod Bounds
+pub use Rattle.sat_theory.specs.Formula

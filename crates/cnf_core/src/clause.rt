@@ -1,0 +1,49 @@
+ghost use Rattle.std.specs.Prelude.{◌≡◌};
+ghost use Rattle.sat_theory.specs.Formula.{IsClause};
+
+use crate::Lit;
+use std::marker::Model;
+
+/// A clause: literals of different variables, of which one at least is to be true. Contracts see it
+/// as the list of its literals.
+#[derive(Debug, Drop)]
+pub struct Clause {
+    lits: Vec<Lit>,
+}
+
+impl Model for Clause {
+    ghost use Rattle.std.specs.Prelude.{List, ℤ};
+    ghost use Rattle.sat_theory.specs.Formula.{IsClause};
+
+    ghost Value = { List ℤ };
+
+    ghost view = { λ c. c.lits.items };
+
+    ghost invariant = { λ c. IsClause c.lits.items };
+}
+
+impl Clause {
+    /// The clause of these literals, kept in their order.
+    pub fn new(lits: Vec<Lit>) -> Clause
+        requires { IsClause lits.items }
+        ensures { result ≡ lits.items }
+    {
+        Clause { lits }
+    }
+
+    /// Its literals.
+    pub fn lits(&self) -> &[Lit]
+        ensures value { result.now ≡ self.now }
+        ensures whole { IsClause self.now }
+    {
+        &self.lits
+    }
+
+    /// Its literals, given back.
+    pub fn into_lits(self) -> Vec<Lit>
+        ensures value { result.items ≡ self }
+        ensures whole { IsClause self }
+    {
+        self.lits
+    }
+}
