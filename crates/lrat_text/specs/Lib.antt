@@ -1,0 +1,11 @@
+pub mod Numerals
+pub mod Values
+pub mod Reading
+pub mod Seen
+pub mod Spelling
+pub mod Gives
+pub mod ReadBack
+pub mod WholeLines
+pub use Rattle.sat_theory.specs.Formula
+pub use Rattle.sat_theory.specs.Line
+pub use Rattle.cnf_core.specs.Bounds

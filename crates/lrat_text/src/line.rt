@@ -1,0 +1,24 @@
+use cnf_core::Lit;
+
+/// A line of a refutation log.
+#[derive(Debug, PartialEq, Eq, Drop)]
+pub enum Line {
+    /// Adds the clause of these literals under the id; the hints are the ids of the clauses that show
+    /// it, in the order of the unit propagation.
+    Add {
+        id: u32,
+        lits: Vec<Lit>,
+        hints: Vec<u32>,
+    },
+    /// Takes away the clauses of these ids. The line's own id says nothing.
+    Delete {
+        id: u32,
+        ids: Vec<u32>,
+    },
+}
+
+/// A log: its lines in order.
+#[derive(Debug, PartialEq, Eq, Drop)]
+pub struct Log {
+    pub lines: Vec<Line>,
+}

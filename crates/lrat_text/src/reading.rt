@@ -1,0 +1,136 @@
+ghost use Rattle.std.specs.Prelude.{◌≡◌, [], Ok, IfOk};
+ghost use Rattle.text_core.specs.Items.{items_of, items_left};
+ghost use Rattle.sat_theory.specs.Line as theory;
+ghost use Rattle.sat_theory.specs.Line.{IsLine, HasClause};
+ghost use Rattle.lrat_text.specs.Reading as spec;
+ghost use Rattle.lrat_text.specs.Spelling.{line_body};
+ghost use Rattle.lrat_text.specs.Values.{line_value};
+ghost use Rattle.lrat_text.specs.Gives.{Gives};
+
+use crate::numerals::{begins_minus, id_in, is_letter_d, literal_in};
+use crate::repeats::comes_again;
+use crate::{Line, LineError};
+use cnf_core::Lit;
+use std::alloc::Global;
+use std::collections::HashSet;
+use text_core::next_item;
+
+/// The line, where nothing stands behind its last 0.
+fn finish(line: Line, rest: Option<&[u8]>) -> Result<Line, LineError>
+    ensures { Gives result (spec.end_of (line_value line) (items_left rest.entry)) }
+{
+    if rest.is_some() {
+        return Err(LineError::NoEnd);
+    }
+    Ok(line)
+}
+
+/// The hints of an addition, and with them the line.
+#[tactic(auto, unfolding(crate::specs::Reading::hints_of))]
+fn hints_of(alloc: Global, id: u32, lits: Vec<Lit>, text: Option<&[u8]>) -> Result<Line, LineError>
+    ensures { Gives result (spec.hints_of id lits.items [] (items_left text.entry)) }
+{
+    let mut hints = Vec::new(alloc);
+    let mut left = text;
+    while let Some(text) = left {
+        let (item, rest) = next_item(text);
+        if begins_minus(item) {
+            return Err(LineError::RatHint);
+        }
+        let Some(entry) = id_in(item) else {
+            return Err(LineError::BadNumber);
+        };
+        let Some(hint) = entry else {
+            return finish(Line::Add { id, lits, hints }, rest);
+        };
+        hints.push(hint)?;
+        left = rest;
+    }
+    Err(LineError::NoEnd)
+}
+
+/// The literals of an addition, and with its hints the line.
+#[tactic(auto, unfolding(crate::specs::Reading::lits_of))]
+fn lits_of(alloc: Global, id: u32, text: &[u8]) -> Result<Line, LineError>
+    ensures { Gives result (spec.lits_of id [] (items_of text.now)) }
+{
+    let mut lits = Vec::new(alloc);
+    let mut seen = HashSet::new(alloc);
+    let mut left = Some(text);
+    while let Some(text) = left {
+        let (item, rest) = next_item(text);
+        let Some(entry) = literal_in(item) else {
+            return Err(LineError::BadNumber);
+        };
+        let Some(lit) = entry else {
+            return hints_of(alloc, id, lits, rest);
+        };
+        if comes_again(&mut seen, &lits, lit)? {
+            return Err(LineError::RepeatedVariable);
+        }
+        lits.push(lit)?;
+        left = rest;
+    }
+    Err(LineError::NoEnd)
+}
+
+/// The ids of a deletion, and with them the line.
+#[tactic(auto, unfolding(crate::specs::Reading::ids_of))]
+fn ids_of(alloc: Global, id: u32, text: Option<&[u8]>) -> Result<Line, LineError>
+    ensures { Gives result (spec.ids_of id [] (items_left text.entry)) }
+{
+    let mut ids = Vec::new(alloc);
+    let mut left = text;
+    while let Some(text) = left {
+        let (item, rest) = next_item(text);
+        let Some(entry) = id_in(item) else {
+            return Err(LineError::BadNumber);
+        };
+        let Some(deleted) = entry else {
+            return finish(Line::Delete { id, ids }, rest);
+        };
+        ids.push(deleted)?;
+        left = rest;
+    }
+    Err(LineError::NoEnd)
+}
+
+/// What stands behind a line's own id.
+fn behind_id(alloc: Global, id: u32, left: Option<&[u8]>) -> Result<Line, LineError>
+    ensures { Gives result (spec.behind_id id (items_left left.entry)) }
+{
+    let Some(text) = left else {
+        return Err(LineError::NoEnd);
+    };
+    let (item, rest) = next_item(text);
+    if is_letter_d(item) {
+        return ids_of(alloc, id, rest);
+    }
+    lits_of(alloc, id, text)
+}
+
+/// Reads as the grammar says.
+fn read(alloc: Global, text: &[u8]) -> Result<Line, LineError>
+    ensures { Gives result (spec.line_in text.now) }
+{
+    let (item, rest) = next_item(text);
+    let Some(Some(id)) = id_in(item) else {
+        return Err(LineError::BadNumber);
+    };
+    behind_id(alloc, id, rest)
+}
+
+/// Reads one line, without its LF. An addition is `ID literals 0 hints 0`, a deletion is `ID d ids 0`;
+/// items are parted by one blank.
+pub fn read_line(alloc: Global, line: &[u8]) -> Result<Line, LineError>
+    // What is read is a line that can be written, and is spelled so.
+    ensures is_line { IfOk result (λ l. IsLine (line_value l)) }
+    ensures clause { IfOk result (λ l. HasClause (line_value l)) }
+    ensures spelled { IfOk result (λ l. line.now ≡ line_body (line_value l)) }
+    // What is spelled so is read.
+    ensures read { (l : theory.Line) → IsLine l → line.now ≡ line_body l → Gives result (Ok l) }
+    // It is refused exactly where the grammar has a fault, with the first fault from the left.
+    ensures exact { Gives result (spec.line_in line.now) }
+{
+    read(alloc, line)
+}
