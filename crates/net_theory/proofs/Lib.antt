@@ -1,0 +1,2 @@
+pub mod PlainValues
+pub mod LawProofs

@@ -1,0 +1,73 @@
+-- Circuits: nets with names.
+use Rattle.std.specs.Prelude.{◌≡◌, ℕ, ◌+◌, ◌-◌, ◌≤◌, ◌<◌, Bool, true, List, [], ◌++◌, length, map, All, Option, Some, None, slice_index_or}
+use Rattle.net_theory.specs.declared.data.Sig.TheVariants.{Zero, Place}
+use Rattle.net_theory.specs.declared.data.Trigger.{Trigger}
+use Rattle.net_theory.specs.Net.{Net, IsNet, sink_values}
+use Rattle.net_theory.specs.Document.{Name, IsName, has, are_distinct, Latch, Document, latches_of, latch_output, sink_names}
+use Rattle.net_theory.specs.Behaviour.{IsMapOf, HasOneMap}
+use Rattle.net_theory.specs.WellFormed.{IsLatch}
+use Rattle.net_theory.specs.NetOf.{net_of}
+use Rattle.net_theory.specs.Cost.{cost}
+
+-- The sources of the net are the inputs and then the latches' outputs. Its sinks are the outputs and
+-- then the latches' inputs.
+pub record Circuit : Type 0 where
+  pub model : Name
+  pub inputs : List Name
+  pub outputs : List Name
+  pub clocks : List Name
+  pub latches : List Latch
+  pub net : Net
+
+-- the names of the sources, the first at place 1
+abbrev pub sources_of : Circuit → List Name
+sources_of c = c.inputs ++ map latch_output c.latches
+
+-- a control is no output, unless that is a source
+abbrev pub IsApart : List Name → List Name → Option (Trigger × Name) → Type 0
+IsApart outputs sources None = Unit {0}
+IsApart outputs sources (Some c) = has outputs c.1 ≡ true → has sources c.1 ≡ true
+
+-- A circuit whose text can be written: sources and sinks have their names, source names differ, and an
+-- output's name tells what it is.
+pub record IsProper (c : Circuit) : Type 0 where
+  pub net : IsNet c.net
+  pub source_count : c.net.sources ≡ length (sources_of c)
+  pub sink_count : length c.net.sinks ≡ length c.outputs + length c.latches
+  pub model : IsName c.model
+  pub inputs : All IsName c.inputs
+  pub outputs : All IsName c.outputs
+  pub clocks : All IsName c.clocks
+  pub latches : All IsLatch c.latches
+  pub distinct : are_distinct (sources_of c) ≡ true
+  pub source_outputs : (i j : ℕ) → i < length c.outputs → j < length (sources_of c) → slice_index_or c.outputs i [] ≡ slice_index_or (sources_of c) j [] → slice_index_or c.net.sinks i Zero ≡ Place (j + 1)
+  pub equal_outputs : (i j : ℕ) → i < length c.outputs → j < length c.outputs → slice_index_or c.outputs i [] ≡ slice_index_or c.outputs j [] → slice_index_or c.net.sinks i Zero ≡ slice_index_or c.net.sinks j Zero
+  pub controls : All (λ (l : Latch). IsApart c.outputs (sources_of c) l.control) c.latches
+  pub gates : length c.net.gates ≤ 100000
+
+-- the bits of the places, by the bits of the sources' names
+abbrev pub by_place : List Name → (Name → Bool) → ℕ → Bool
+by_place names given place = given (slice_index_or names (place - 1) [])
+
+-- the values of a circuit's sinks: the outputs and then the next states
+abbrev pub values_by_name : Circuit → (Name → Bool) → List Bool
+values_by_name c given = sink_values c.net (by_place (sources_of c) given)
+
+-- A document does what a circuit does: it has the circuit's inputs, outputs, clocks and latches, and
+-- under every assignment it has one map, whose bits are the values of the circuit's sinks.
+pub record Describes (d : Document) (c : Circuit) : Type 0 where
+  pub inputs : d.inputs ≡ c.inputs
+  pub outputs : d.outputs ≡ c.outputs
+  pub clocks : d.clocks ≡ c.clocks
+  pub latches : latches_of d ≡ c.latches
+  pub one : (given : Name → Bool) → HasOneMap d given
+  pub sinks : (given v : Name → Bool) → IsMapOf d given v → map v (sink_names d) ≡ values_by_name c given
+
+-- The circuit of a document: it has the document's name and does what the document does, and its net is
+-- the document's, with as many gates as the document costs.
+pub record IsCircuitOf (d : Document) (c : Circuit) : Type 0 where
+  pub model : d.model ≡ c.model
+  pub describes : Describes d c
+  pub net : net_of d ≡ Some c.net
+  pub gates : cost d ≡ length c.net.gates
+  pub proper : IsProper c

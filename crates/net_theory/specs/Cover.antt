@@ -1,0 +1,48 @@
+-- Covers: tables written as cubes (the Berkeley BLIF manual).
+use Rattle.std.specs.Prelude.{◌≡◌, ℕ, Bool, true, false, not, ◌&&◌, ◌||◌, ◌==◌, if◌then◌else◌, List, [], ◌∷◌, length, All}
+use Rattle.std.specs.List.{list_any, list_all}
+
+-- A cube has a byte for each of the inputs, in order: `0`, `1` or `-`. All cubes of a cover say where
+-- the table has the one value: 1 where on is true, else 0.
+-- Example: `1-0 1` is the cube 49 45 48 of a cover with on = true.
+pub record Cover : Type 0 where
+  pub width : ℕ
+  pub cubes : List (List ℕ)
+  pub on : Bool
+
+-- whether a byte is `0`, `1` or `-`
+abbrev pub is_cube_byte : ℕ → Bool
+is_cube_byte b = b == 48 || b == 49 || b == 45
+
+-- whether these bytes are a cube of this many inputs
+abbrev pub is_cube : ℕ → List ℕ → Bool
+is_cube width cube = length cube == width && list_all is_cube_byte cube
+
+pub record IsCover (c : Cover) : Type 0 where
+  pub cubes : All (λ cube. is_cube c.width cube ≡ true) c.cubes
+
+-- `1` asks for the bit 1, `0` for the bit 0, and `-` for nothing
+abbrev pub is_asked : ℕ → Bool → Bool
+is_asked byte bit = if byte == 49 then bit else (if byte == 48 then not bit else true)
+
+-- whether a cube matches the bits of the inputs: each byte gets what it asks for
+-- Example: 1-0 matches 100 and 110 and nothing else.
+unfoldable pub matches : List ℕ → List Bool → Bool
+matches [] bits = true
+matches (c ∷ cube) [] = true
+matches (c ∷ cube) (b ∷ bits) = is_asked c b && matches cube bits
+
+-- whether some cube does
+abbrev pub is_matched : List (List ℕ) → List Bool → Bool
+is_matched cubes bits = list_any (λ cube. matches cube bits) cubes
+
+abbrev pub value_by : Bool → List (List ℕ) → List Bool → Bool
+value_by on [] bits = false
+value_by true (c ∷ cubes) bits = is_matched (c ∷ cubes) bits
+value_by false (c ∷ cubes) bits = not (is_matched (c ∷ cubes) bits)
+
+-- The value of a table. Where its cubes are for the value 1 it is 1 exactly on the rows that some cube
+-- matches; where they are for 0 it is 0 exactly there. A table without cubes is 0.
+-- Example: `00 0` over two inputs is OR.
+unfoldable pub cover_value : Cover → List Bool → Bool
+cover_value c bits = value_by c.on c.cubes bits

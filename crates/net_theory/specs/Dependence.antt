@@ -1,0 +1,31 @@
+-- Tables that read one another.
+use Rattle.std.specs.Prelude.{◌≡◌, ℕ, ◌<◌, slice_get, Some, true}
+use Rattle.net_theory.specs.Document.{Name, Table, Document, has}
+
+-- Table i reads table j: the output of j is among the inputs of i. Tables are numbered from 0, in the
+-- order of the text.
+pub record Reads (d : Document) (i j : ℕ) : Type 0 where
+  pub reader : Table
+  pub is_reader : slice_get d.tables i ≡ Some reader
+  pub driver : Table
+  pub is_driver : slice_get d.tables j ≡ Some driver
+  pub read : has reader.inputs driver.output ≡ true
+
+-- Table i depends on table j where it reads it, or reads a table that depends on it.
+pub data DependsOn (d : Document) : ℕ → ℕ → Type 0 where
+  at_once : (i j : ℕ) → Reads d i j → DependsOn d i j
+  by_way_of : (i j k : ℕ) → Reads d i j → DependsOn d j k → DependsOn d i k
+
+-- no table depends on itself; a loop that goes through a latch is none through tables
+abbrev pub IsAcyclic : Document → Type 0
+IsAcyclic d = (i : ℕ) → DependsOn d i i → ⊥
+
+-- a name is the output of the first table that depends on itself
+-- Example: of `.names a n2 n1` and `.names n1 n2` that is n1.
+pub record IsFirstCyclic (d : Document) (name : Name) : Type 0 where
+  pub place : ℕ
+  pub table : Table
+  pub at : slice_get d.tables place ≡ Some table
+  pub output : table.output ≡ name
+  pub cyclic : DependsOn d place place
+  pub first : (i : ℕ) → i < place → DependsOn d i i → ⊥

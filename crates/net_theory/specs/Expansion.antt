@@ -1,0 +1,150 @@
+-- The gates that a table becomes.
+use Rattle.std.specs.Prelude.{ℕ, ◌+◌, ◌*◌, ◌-◌, Bool, true, false, not, ◌&&◌, ◌||◌, ◌==◌, if◌then◌else◌, List, [], ◌∷◌, ◌++◌, length}
+use Rattle.std.specs.List.{list_any, list_all}
+use Rattle.net_theory.specs.Cover.{Cover, cover_value}
+use Rattle.net_theory.specs.declared.data.Sig.{Sig}
+use Rattle.net_theory.specs.declared.data.Sig.TheVariants.{Zero, One, Place}
+use Rattle.net_theory.specs.declared.data.Gate.{Gate}
+use Rattle.net_theory.specs.declared.data.Signed.{Signed}
+
+-- the gates so far, and the signal of the table
+pub record Built : Type 0 where
+  pub gates : List Gate
+  pub sig : Sig
+
+-- the gates so far, and a signal with a sign
+pub record Joined : Type 0 where
+  pub gates : List Gate
+  pub out : Signed
+
+abbrev pub gate_of : ℕ → Sig → Sig → Gate
+gate_of op a b = record { op = op; a = a; b = b }
+
+-- the gates with one more, and the place of that one
+abbrev pub with_gate : ℕ → List Gate → Gate → Built
+with_gate sources gates g = record { gates = gates ++ g ∷ []; sig = Place (sources + 1 + length gates) }
+
+abbrev pub constant_sig : Bool → Sig
+constant_sig true = One
+constant_sig false = Zero
+
+-- ---- tables of one or two inputs: by the values of the table
+
+abbrev pub digit_of : Bool → ℕ
+digit_of true = 1
+digit_of false = 0
+
+-- the word of the values at 0 and 1
+abbrev pub unary_word : Cover → ℕ
+unary_word c = 2 * digit_of (cover_value c (false ∷ [])) + digit_of (cover_value c (true ∷ []))
+
+-- the word of the values at (0,0), (0,1), (1,0) and (1,1)
+abbrev pub binary_word : Cover → ℕ
+binary_word c = 8 * digit_of (cover_value c (false ∷ false ∷ [])) + 4 * digit_of (cover_value c (false ∷ true ∷ [])) + 2 * digit_of (cover_value c (true ∷ false ∷ [])) + digit_of (cover_value c (true ∷ true ∷ []))
+
+-- NOT of a signal is the operator NAND (1110) on it twice.
+abbrev pub with_not : ℕ → List Gate → Sig → Built
+with_not sources gates a = with_gate sources gates (gate_of 14 a a)
+
+-- A constant and a copy take no gate.
+unfoldable pub unary_built : ℕ → List Gate → ℕ → Sig → Built
+unary_built sources gates word a = if word == 0 then record { gates = gates; sig = Zero } else (if word == 3 then record { gates = gates; sig = One } else (if word == 1 then record { gates = gates; sig = a } else with_not sources gates a))
+
+-- So it is with two inputs; NOT of one of them is made of that one alone. Every other function is one
+-- gate with its operator, its operands in the order of the table.
+unfoldable pub binary_built : ℕ → List Gate → ℕ → Sig → Sig → Built
+binary_built sources gates word a b = if word == 0 then record { gates = gates; sig = Zero } else (if word == 15 then record { gates = gates; sig = One } else (if word == 3 then record { gates = gates; sig = a } else (if word == 5 then record { gates = gates; sig = b } else (if word == 12 then with_not sources gates a else (if word == 10 then with_not sources gates b else with_gate sources gates (gate_of word a b))))))
+
+-- ---- wider tables: by their cubes
+
+-- the word of AND on two signals whose signs are turned or not
+abbrev pub and_word : Bool → Bool → ℕ
+and_word false false = 1
+and_word false true = 2
+and_word true false = 4
+and_word true true = 8
+
+-- the word of OR
+abbrev pub or_word : Bool → Bool → ℕ
+or_word false false = 7
+or_word false true = 11
+or_word true false = 13
+or_word true true = 14
+
+-- one gate joins a signal to what was joined before; the signs go into its operator
+abbrev pub joined : (Bool → Bool → ℕ) → ℕ → Joined → Signed → Joined
+joined word sources j s = record { gates = j.gates ++ gate_of (word j.out.turned s.turned) j.out.sig s.sig ∷ []; out = record { sig = Place (sources + 1 + length j.gates); turned = false } }
+
+-- from the left
+unfoldable pub join_from : (Bool → Bool → ℕ) → ℕ → Joined → List Signed → Joined
+join_from word sources j [] = j
+join_from word sources j (s ∷ ss) = join_from word sources (joined word sources j s) ss
+
+abbrev pub signed : Sig → Bool → Signed
+signed sig turned = record { sig = sig; turned = turned }
+
+-- one signal is itself, and more are joined; none doesn't occur
+unfoldable pub join_all : (Bool → Bool → ℕ) → ℕ → List Gate → List Signed → Joined
+join_all word sources gates [] = record { gates = gates; out = signed Zero false }
+join_all word sources gates (s ∷ ss) = join_from word sources (record { gates = gates; out = s }) ss
+
+-- the literals of a cube from the left: the inputs that it asks for, turned where it asks for 0
+unfoldable pub literals : List ℕ → List Sig → List Signed
+literals [] inputs = []
+literals (c ∷ cube) [] = []
+literals (c ∷ cube) (a ∷ inputs) = if c == 49 then signed a false ∷ literals cube inputs else (if c == 48 then signed a true ∷ literals cube inputs else literals cube inputs)
+
+-- the gates so far, and what the cubes come to
+pub record Terms : Type 0 where
+  pub gates : List Gate
+  pub outs : List Signed
+
+-- each cube is the AND of its literals
+unfoldable pub terms_from : ℕ → List Sig → Terms → List (List ℕ) → Terms
+terms_from sources inputs t [] = t
+terms_from sources inputs t (c ∷ cubes) = terms_from sources inputs (record { gates = (join_all and_word sources t.gates (literals c inputs)).gates; outs = t.outs ++ (join_all and_word sources t.gates (literals c inputs)).out ∷ [] }) cubes
+
+-- all cubes, and then their OR
+abbrev pub or_built : ℕ → Terms → Joined
+or_built sources t = join_all or_word sources t.gates t.outs
+
+-- the complement of an operator
+abbrev pub complemented : Gate → Gate
+complemented g = gate_of (15 - g.op) g.a g.b
+
+unfoldable pub last_complemented : List Gate → List Gate
+last_complemented [] = []
+last_complemented (g ∷ []) = complemented g ∷ []
+last_complemented (g ∷ h ∷ gs) = g ∷ last_complemented (h ∷ gs)
+
+-- A turned sign goes into the last gate of the table, or, where the table has no gate, into NOT.
+unfoldable pub finished : ℕ → ℕ → List Gate → Sig → Bool → Built
+finished sources before gates a turned = if turned then (if length gates == before then with_not sources gates a else record { gates = last_complemented gates; sig = a }) else record { gates = gates; sig = a }
+
+-- a cube that asks for nothing matches each row
+unfoldable pub asks_nothing : List ℕ → Bool
+asks_nothing cube = list_all (λ b. not (b == 48 || b == 49)) cube
+
+abbrev pub is_none : List (List ℕ) → Bool
+is_none [] = true
+is_none (c ∷ cubes) = false
+
+-- whether a wide table is constant by its form
+abbrev pub is_plain : List (List ℕ) → Bool
+is_plain cubes = is_none cubes || list_any asks_nothing cubes
+
+-- the result with the sign of a cover for 0 turned
+abbrev pub finished_by : ℕ → ℕ → Bool → Joined → Built
+finished_by sources before on j = finished sources before j.gates j.out.sig (if on then j.out.turned else not j.out.turned)
+
+unfoldable pub wide_built : ℕ → List Gate → Cover → List Sig → Built
+wide_built sources gates c inputs = if is_plain c.cubes then record { gates = gates; sig = constant_sig (c.on && not (is_none c.cubes)) } else finished_by sources (length gates) c.on (or_built sources (terms_from sources inputs (record { gates = gates; outs = [] }) c.cubes))
+
+-- The gates so far and those of the table, and the table's signal, where the inputs are these signals.
+-- The inputs count as different ones, also where two of the signals are equal or one is constant.
+-- Example: `1-0 1` and `-11 1` over a, b, c become AND of a and not c, AND of b and c, and OR of these.
+abbrev pub expanded : ℕ → List Gate → Cover → List Sig → Built
+expanded sources gates c [] = record { gates = gates; sig = constant_sig (cover_value c []) }
+expanded sources gates c (a ∷ []) = unary_built sources gates (unary_word c) a
+expanded sources gates c (a ∷ b ∷ []) = binary_built sources gates (binary_word c) a b
+expanded sources gates c (a ∷ b ∷ d ∷ inputs) = wide_built sources gates c (a ∷ b ∷ d ∷ inputs)

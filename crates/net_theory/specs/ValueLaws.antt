@@ -1,0 +1,155 @@
+-- What values of places are, without the recursion, and what more gates leave of them.
+use Rattle.std.specs.Prelude.{◌≡◌, ℕ, zero, suc, ◌+◌, ◌≤◌, ◌<◌, Bool, List, [], ◌∷◌, ◌++◌, length, slice_get, Some, ◌⊎◌, refl}
+use Rattle.std.proofs.Common.{add-zero, arith, sym, ◌∙◌, ap, subst, ◌≢◌, inl, inr, ⊎_elim, length-append}
+use Rattle.std.proofs.lemmas.Bool.{cases_eq}
+use Rattle.chain_theory.specs.Value.{extended}
+use Rattle.chain_theory.specs.ValueLaws.{extended-same, extended-other}
+use Rattle.net_theory.specs.declared.data.Sig.{Sig}
+use Rattle.net_theory.specs.declared.data.Sig.TheVariants.{Zero, One, Place}
+use Rattle.net_theory.specs.declared.data.Gate.{Gate}
+use Rattle.net_theory.specs.Net.{IsSigBelow, IsGateAt, AreGates, sig_value, gate_value, values_after, values_of}
+
+-- ---- signals
+
+-- A signal that is below a place is below a later one.
+pub below_later : (s : Sig) (p q : ℕ) → p ≤ q → IsSigBelow p s → IsSigBelow q s
+below_later Zero p q low b = tt
+below_later One p q low b = tt
+below_later (Place x) p q low b = (b.0, omega (arith, b.1))
+
+-- Bits that agree below a place give a signal below it one value.
+pub sig_value-same : (f g : ℕ → Bool) (s : Sig) (place : ℕ) → IsSigBelow place s → ((p : ℕ) → p < place → f p ≡ g p) → sig_value f s ≡ sig_value g s
+sig_value-same f g Zero place b same = refl
+sig_value-same f g One place b same = refl
+sig_value-same f g (Place p) place b same = same p b.1
+
+-- and a gate whose operands are below it
+pub gate_value-same : (f g : ℕ → Bool) (place : ℕ) (gate : Gate) → IsGateAt place gate → ((p : ℕ) → p < place → f p ≡ g p) → gate_value f gate ≡ gate_value g gate
+gate_value-same f g place gate is same =
+    rw (sig_value-same f g gate.a place is.first same, sig_value-same f g gate.b place is.second same) refl
+
+-- ---- values
+
+-- One more gate at the end sets the bit of its own place, from the bits that the others left.
+pub values_after-push : (bits : ℕ → Bool) (place : ℕ) (gs : List Gate) (g : Gate) → values_after bits place (gs ++ g ∷ []) ≡ extended (values_after bits place gs) (place + length gs) (gate_value (values_after bits place gs) g)
+unfolding values_after
+values_after-push bits place [] g = rw add-zero refl
+values_after-push bits place (h ∷ gs) g =
+    let e : (place + 1) + length gs ≡ place + suc (length gs) = omega arith in
+    rw (← e) (values_after-push (extended bits place (gate_value bits h)) (place + 1) gs g)
+
+-- Gates leave the bits of the places below them.
+pub values_after-below : (bits : ℕ → Bool) (place p : ℕ) (gs : List Gate) → p < place → values_after bits place gs p ≡ bits p
+unfolding values_after
+values_after-below bits place p [] low = refl
+values_after-below bits place p (g ∷ gs) low =
+    let next : p < place + 1 = omega arith in
+    let other : p ≢ place = omega arith in
+    values_after-below (extended bits place (gate_value bits g)) (place + 1) p gs next ∙ extended-other bits place p (gate_value bits g) other
+
+-- a source has the bit that is given to it
+pub value-source : (given : ℕ → Bool) (sources p : ℕ) (gs : List Gate) → p ≤ sources → values_of given sources gs p ≡ given p
+value-source given sources p gs low = values_after-below given (sources + 1) p gs (omega arith)
+
+-- the place of the gate that is put last
+pub value-last : (given : ℕ → Bool) (sources : ℕ) (gs : List Gate) (g : Gate) → values_of given sources (gs ++ g ∷ []) (sources + 1 + length gs) ≡ gate_value (values_of given sources gs) g
+value-last given sources gs g =
+    ap (λ (f : ℕ → Bool). f (sources + 1 + length gs)) (values_after-push given (sources + 1) gs g)
+    ∙ extended-same (values_of given sources gs) (sources + 1 + length gs) (sources + 1 + length gs) (gate_value (values_of given sources gs) g) refl
+
+-- any other place
+pub value-before : (given : ℕ → Bool) (sources p : ℕ) (gs : List Gate) (g : Gate) → p ≢ sources + 1 + length gs → values_of given sources (gs ++ g ∷ []) p ≡ values_of given sources gs p
+value-before given sources p gs g other =
+    ap (λ (f : ℕ → Bool). f p) (values_after-push given (sources + 1) gs g)
+    ∙ extended-other (values_of given sources gs) (sources + 1 + length gs) p (gate_value (values_of given sources gs) g) other
+
+-- The value at a gate's place is its operator on the values of its operands.
+pub values_after-gate : (bits : ℕ → Bool) (place i : ℕ) (gs : List Gate) (g : Gate) → slice_get gs i ≡ Some g → IsGateAt (place + i) g → values_after bits place gs (place + i) ≡ gate_value (values_after bits place gs) g
+unfolding values_after
+values_after-gate bits place i [] g at is = cc
+values_after-gate bits place zero (h ∷ gs) g at is =
+    let same : h ≡ g = cc in
+    let own : place + 0 ≡ place = add-zero place in
+    let first : ℕ → Bool = extended bits place (gate_value bits h) in
+    let after : ℕ → Bool = values_after first (place + 1) gs in
+    let here : IsGateAt place g = subst (λ (q : ℕ). IsGateAt q g) own is in
+    ap after own
+    ∙ values_after-below first (place + 1) place gs (omega arith)
+    ∙ extended-same bits place place (gate_value bits h) refl
+    ∙ ap (λ (x : Gate). gate_value bits x) same
+    ∙ gate_value-same bits after place g here
+    (λ p low. sym (values_after-below first (place + 1) p gs (omega arith) ∙ extended-other bits place p (gate_value bits h) (omega arith)))
+values_after-gate bits place (suc i) (h ∷ gs) g at is =
+    let e : (place + 1) + i ≡ place + suc i = omega arith in
+    let first : ℕ → Bool = extended bits place (gate_value bits h) in
+    let here : IsGateAt ((place + 1) + i) g = subst (λ (q : ℕ). IsGateAt q g) (sym e) is in
+    subst (λ (q : ℕ). values_after first (place + 1) gs q ≡ gate_value (values_after first (place + 1) gs) g) e (values_after-gate first (place + 1) i gs g at here)
+
+-- Bits that agree below the gates give them the same values.
+pub values_after-same : (f g : ℕ → Bool) (place : ℕ) (gs : List Gate) → ((i : ℕ) (h : Gate) → slice_get gs i ≡ Some h → IsGateAt (place + i) h) → ((p : ℕ) → p < place → f p ≡ g p) → (p : ℕ) → p < place + length gs → values_after f place gs p ≡ values_after g place gs p
+unfolding values_after
+values_after-same f g place [] are same p low = same p (omega arith)
+values_after-same f g place (h ∷ gs) are same p low =
+    let own : IsGateAt place h = subst (λ (q : ℕ). IsGateAt q h) (add-zero place) (are 0 h refl) in
+    let later : (i : ℕ) (x : Gate) → slice_get gs i ≡ Some x → IsGateAt ((place + 1) + i) x = λ i x at. let e : place + suc i ≡ (place + 1) + i = omega arith in subst (λ (q : ℕ). IsGateAt q x) e (are (suc i) x at) in
+    let agree : (q : ℕ) → q < place + 1 → extended f place (gate_value f h) q ≡ extended g place (gate_value g h) q = λ q l. ⊎_elim
+    (λ here. extended-same f place q (gate_value f h) here ∙ gate_value-same f g place h own same ∙ sym (extended-same g place q (gate_value g h) here))
+    (λ other. extended-other f place q (gate_value f h) other ∙ same q (omega (arith, other)) ∙ sym (extended-other g place q (gate_value g h) other))
+    (cases_eq q place) in
+    values_after-same (extended f place (gate_value f h)) (extended g place (gate_value g h)) (place + 1) gs later agree p (omega arith)
+
+-- ---- more gates
+
+-- New gates stand behind the old ones, and the places that were there keep their values.
+pub record IsGrown (sources : ℕ) (old new : List Gate) : Type 0 where
+  pub gates : AreGates sources new
+  pub longer : length old ≤ length new
+  pub same : (given : ℕ → Bool) (p : ℕ) → p < sources + 1 + length old → values_of given sources new p ≡ values_of given sources old p
+
+pub grown_none : (sources : ℕ) (gates : List Gate) → AreGates sources gates → IsGrown sources gates gates
+grown_none sources gates are = record { gates = are; longer = omega arith; same = λ given p low. refl }
+
+pub grown_more : (sources : ℕ) (a b c : List Gate) → IsGrown sources a b → IsGrown sources b c → IsGrown sources a c
+grown_more sources a b c ab bc =
+    record {
+      gates = bc.gates;
+      longer = omega (arith, ab.longer, bc.longer);
+      same = λ given p low. bc.same given p (omega (arith, ab.longer)) ∙ ab.same given p low;
+    }
+
+-- signals keep their values
+pub grown_sig : (sources : ℕ) (old new : List Gate) (s : Sig) (given : ℕ → Bool) → IsGrown sources old new → IsSigBelow (sources + 1 + length old) s → sig_value (values_of given sources new) s ≡ sig_value (values_of given sources old) s
+grown_sig sources old new s given grown below =
+    sig_value-same (values_of given sources new) (values_of given sources old) s (sources + 1 + length old) below (λ p low. grown.same given p low)
+
+pub grown_below : (sources : ℕ) (old new : List Gate) (s : Sig) → IsGrown sources old new → IsSigBelow (sources + 1 + length old) s → IsSigBelow (sources + 1 + length new) s
+grown_below sources old new s grown below = below_later s (sources + 1 + length old) (sources + 1 + length new) (omega (arith, grown.longer)) below
+
+-- what stands at a place of a list with one more
+pub at_push : {A : Type 0} (xs : List A) (x y : A) (i : ℕ) → slice_get (xs ++ x ∷ []) i ≡ Some y → (slice_get xs i ≡ Some y) ⊎ ((i ≡ length xs) × (x ≡ y))
+at_push [] x y zero e = inr (refl, cc)
+at_push [] x y (suc i) e = absurd cc
+at_push (z ∷ xs) x y zero e = inl e
+at_push (z ∷ xs) x y (suc i) e = ⊎_elim (λ l. inl l) (λ r. inr (ap suc r.0, r.1)) (at_push xs x y i e)
+
+pub at_front : {A : Type 0} (xs ys : List A) (i : ℕ) (x : A) → slice_get xs i ≡ Some x → slice_get (xs ++ ys) i ≡ Some x
+at_front [] ys i x e = absurd cc
+at_front (z ∷ xs) ys zero x e = e
+at_front (z ∷ xs) ys (suc i) x e = at_front xs ys i x e
+
+pub at_end : {A : Type 0} (xs : List A) (x : A) → slice_get (xs ++ x ∷ []) (length xs) ≡ Some x
+at_end [] x = refl
+at_end (y ∷ xs) x = at_end xs x
+
+-- one more gate behind others
+pub gates_push : (sources : ℕ) (gates : List Gate) (g : Gate) → AreGates sources gates → IsGateAt (sources + 1 + length gates) g → AreGates sources (gates ++ g ∷ [])
+gates_push sources gates g are is =
+    record { each = λ i h at. ⊎_elim (λ l. are.each i h l) (λ r. rw (r.0, ← r.1) is) (at_push gates g h i at) }
+
+pub grown_push : (sources : ℕ) (gates : List Gate) (g : Gate) → AreGates sources gates → IsGateAt (sources + 1 + length gates) g → IsGrown sources gates (gates ++ g ∷ [])
+grown_push sources gates g are is =
+    record {
+      gates = gates_push sources gates g are is;
+      longer = omega (arith, length-append gates (g ∷ []));
+      same = λ given p low. value-before given sources p gates g (omega arith);
+    }

@@ -1,0 +1,42 @@
+use op_basis::Op;
+
+/// What an operand of a gate or a sink of a net is.
+#[derive(Clone, Copy, Debug, PartialEq, Eq)]
+pub enum Sig {
+    /// The constant 0.
+    Zero,
+    /// The constant 1.
+    One,
+    /// The value of a place: the sources are 1, 2 and so on, and the gates follow them.
+    Place(u32),
+}
+
+/// A gate: an operator on two signals, which may be equal or constant.
+#[derive(Clone, Copy, Debug, PartialEq, Eq)]
+pub struct Gate {
+    pub op: Op,
+    pub a: Sig,
+    pub b: Sig,
+}
+
+/// A signal with a sign: where it is turned its value is the complement of the signal's.
+#[derive(Clone, Copy, Debug, PartialEq, Eq)]
+pub struct Signed {
+    pub sig: Sig,
+    pub turned: bool,
+}
+
+/// How a latch follows its control, by the words of the Berkeley BLIF manual.
+#[derive(Clone, Copy, Debug, PartialEq, Eq)]
+pub enum Trigger {
+    /// `fe`: at the falling edge.
+    Fe,
+    /// `re`: at the rising edge.
+    Re,
+    /// `ah`: while the control is 1.
+    Ah,
+    /// `al`: while the control is 0.
+    Al,
+    /// `as`: in a way of its own, without a clock.
+    As,
+}

@@ -1,0 +1,74 @@
+//! The definitions, computed as they stand: recursion over cubes and gates. It is meant for reading
+//! and for small inputs, and takes exponential time.
+ghost use Rattle.std.specs.Prelude.{◌≡◌, ℕ, ◌+◌, ◌-◌, ◌<◌, ◌^◌, length, false, slice_index_or};
+ghost use Rattle.net_theory.specs.Cover.{is_asked as is_asked_of, matches as matches_of};
+ghost use Rattle.net_theory.specs.Net.{bit_of, values_of, sig_value as sig_value_of};
+
+use crate::data::{Gate, Sig};
+
+/// Whether a cube's byte gets what it asks for.
+pub fn is_asked(byte: u8, bit: bool) -> bool
+    ensures { result ≡ is_asked_of byte bit }
+{
+    match byte {
+        b'1' => bit,
+        b'0' => !bit,
+        _ => true,
+    }
+}
+
+/// Whether a cube matches the bits of the inputs.
+#[tactic(auto, unfolding(crate::specs::Cover::matches))]
+pub fn matches_bits(cube: &[u8], bits: &[bool]) -> bool
+    ensures { result ≡ matches_of cube.now bits.now }
+{
+    let Some((byte, cube)) = cube.split_first() else {
+        return true;
+    };
+    let Some((bit, bits)) = bits.split_first() else {
+        return true;
+    };
+    is_asked(*byte, *bit) && matches_bits(cube, bits)
+}
+
+/// The bit of a place among those of the sources, source 1 first.
+pub fn given_bit(given: &[bool], place: u32) -> bool
+    ensures { result ≡ bit_of given.now place }
+{
+    if place == 0 {
+        return false;
+    }
+    let at = place as usize - 1;
+    if at < given.len() { given[at] } else { false }
+}
+
+/// The value of a place where the sources have the given bits, source 1 first.
+#[cycle(values)]
+pub fn place_value(given: &[bool], gates: &[Gate], place: u32) -> bool
+    requires { length given.now + length gates.now < 2 ^ 31 }
+    ensures { result ≡ values_of (bit_of given.now) (length given.now) gates.now place }
+{
+    let Some((last, before)) = gates.split_last() else {
+        return given_bit(given, place);
+    };
+    if place as usize == given.len() + 1 + before.len() {
+        let a = sig_value(given, before, last.a);
+        let b = sig_value(given, before, last.b);
+        last.op.apply(a, b)
+    } else {
+        place_value(given, before, place)
+    }
+}
+
+/// The value of a signal.
+#[cycle(values)]
+pub fn sig_value(given: &[bool], gates: &[Gate], sig: Sig) -> bool
+    requires { length given.now + length gates.now < 2 ^ 31 }
+    ensures { result ≡ sig_value_of (values_of (bit_of given.now) (length given.now) gates.now) sig }
+{
+    match sig {
+        Sig::Zero => false,
+        Sig::One => true,
+        Sig::Place(place) => place_value(given, gates, place),
+    }
+}

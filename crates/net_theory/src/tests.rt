@@ -1,0 +1,58 @@
+use crate::plain::{matches_bits, place_value};
+use crate::{Gate, Sig};
+use op_basis::Op;
+
+#[test]
+fn cubes_match(rt: HostRuntime) {
+    // as the Berkeley BLIF manual reads `1-0`: the first input 1, the third 0
+    for (a, b, c, wanted) in [
+        (true, false, false, true),
+        (true, true, false, true),
+        (true, false, true, false),
+        (false, true, false, false),
+    ] {
+        assert_eq!(rt; matches_bits(b"1-0", &[a, b, c]), wanted, "{a} {b} {c}");
+    }
+}
+
+/// Sum and carry of three bits: XOR, XOR, AND, AND, OR.
+#[test]
+fn a_full_adder_adds(rt: HostRuntime) {
+    let gates = [
+        Gate {
+            op: Op::new(6),
+            a: Sig::Place(1),
+            b: Sig::Place(2),
+        },
+        Gate {
+            op: Op::new(6),
+            a: Sig::Place(3),
+            b: Sig::Place(4),
+        },
+        Gate {
+            op: Op::new(1),
+            a: Sig::Place(1),
+            b: Sig::Place(2),
+        },
+        Gate {
+            op: Op::new(1),
+            a: Sig::Place(3),
+            b: Sig::Place(4),
+        },
+        Gate {
+            op: Op::new(7),
+            a: Sig::Place(6),
+            b: Sig::Place(7),
+        },
+    ];
+    for row in 0..8u32 {
+        let given = [(row & 1) == 1, (row >> 1) & 1 == 1, (row >> 2) & 1 == 1];
+        let sum = (row & 1) + ((row >> 1) & 1) + (row >> 2);
+        assert_eq!(rt;
+            place_value(&given, &gates, 5),
+            sum & 1 == 1,
+            "sum of {row}"
+        );
+        assert_eq!(rt; place_value(&given, &gates, 8), sum > 1, "carry of {row}");
+    }
+}
