@@ -1,0 +1,149 @@
+-- Marks and places that are written one by one.
+use Rattle.std.proofs.Common.{◌≡◌, ℕ, zero, suc, ◌+◌, ◌<◌, Bool, true, false, List, [], ◌∷◌, ◌++◌, length, set, get_or, map, replicate, leb, add-zero, refl, ◌∙◌, ap, sym, arith, ⊎_elim, ◌==◌}
+use Rattle.std.specs.List.{slice_get, range_with_len}
+use Rattle.std.proofs.lemmas.List.{get_or_past}
+use Rattle.std.proofs.lemmas.List.FromFn.{length-map-range_with_len}
+use Rattle.std.proofs.lemmas.Bool.{cases_eq, cases_lt, lt-leb, cond-true, cond-false, eq-eqb, ne_eqb}
+use Rattle.std.proofs.lemmas.List.{get_or-set_same, get_or-set_other}
+use Rattle.chain_theory.specs.Value.{extended}
+use Rattle.chain_theory.specs.ValueLaws.{extended-same, extended-other}
+use Rattle.net_theory.specs.declared.data.Sig.{Sig}
+use Rattle.net_theory.specs.declared.data.Sig.TheVariants.{Zero, Place}
+use Rattle.net_theory.specs.declared.data.Gate.{Gate}
+use Rattle.net_theory.specs.Net.{Net, IsGateAt}
+use Rattle.net_theory.specs.ValueLaws.{at_front, at_end}
+use Rattle.net_theory.specs.Dead.{live, dropped, nothing_kept, kept_gates, no_marks, sources_stay, with_mark, sink_marks, gate_marked, marked, moved, put_sig, Kept, with_kept, kept_after}
+use Rattle.net_core.specs.Marks.{set_of, places_of, kept, AreAt}
+
+-- ---- marks
+
+set_of-set_at : (marks : List Bool) (q : ℕ) (p : ℕ) → q < length marks → set_of (set marks q true) p ≡ extended (set_of marks) q true p
+unfolding set_of
+set_of-set_at marks q p low =
+    ⊎_elim
+    (λ here. ap (λ (k : ℕ). get_or (set marks q true) k false) here ∙ get_or-set_same marks q true false low ∙ sym (extended-same (λ (k : ℕ). get_or marks k false) q p true here))
+    (λ other. get_or-set_other marks q p true false other ∙ sym (extended-other (λ (k : ℕ). get_or marks k false) q p true other))
+    (cases_eq p q)
+
+pub set_of-set : (marks : List Bool) (q : ℕ) → q < length marks → set_of (set marks q true) ≡ extended (set_of marks) q true
+set_of-set marks q low = λ i p. set_of-set_at marks q p low i
+
+-- a place that is written
+pub set_of-mark : (marks : List Bool) (q : ℕ) (s : Sig) → s ≡ Place q → q < length marks → set_of (set marks q true) ≡ with_mark (set_of marks) s
+set_of-mark marks q s e low = set_of-set marks q low ∙ ap (with_mark (set_of marks)) (sym e)
+
+pub sink_marks-none : (marks : ℕ → Bool) (ss : List Sig) → length ss ≡ 0 → marks ≡ sink_marks marks ss
+unfolding sink_marks
+sink_marks-none marks [] e = refl
+sink_marks-none marks (s ∷ ss) e = absurd (omega arith)
+
+pub sink_marks-next : (marks : ℕ → Bool) (ss rest : List Sig) (s : Sig) → ss ≡ s ∷ rest → sink_marks (with_mark marks s) rest ≡ sink_marks marks ss
+unfolding sink_marks
+sink_marks-next marks ss rest s e = ap (sink_marks marks) (sym e)
+
+pub marked-none : (marks : ℕ → Bool) (place : ℕ) (gs : List Gate) → length gs ≡ 0 → marks ≡ marked marks place gs
+unfolding marked
+marked-none marks place [] e = refl
+marked-none marks place (g ∷ gs) e = absurd (omega arith)
+
+marked-push : (marks : ℕ → Bool) (place : ℕ) (gs : List Gate) (g : Gate) → marked (gate_marked marks (place + length gs) g) place gs ≡ marked marks place (gs ++ g ∷ [])
+unfolding marked
+marked-push marks place [] g = ap (λ (q : ℕ). gate_marked marks q g) (add-zero place)
+marked-push marks place (h ∷ gs) g =
+    let e : place + suc (length gs) ≡ (place + 1) + length gs = omega arith in
+    ap (λ (q : ℕ). gate_marked (marked (gate_marked marks q g) (place + 1) gs) place h) e
+    ∙ ap (λ (m : ℕ → Bool). gate_marked m place h) (marked-push marks (place + 1) gs g)
+
+-- a last gate that is marked, and one that isn't
+pub marked-on : (marks : List Bool) (place q : ℕ) (gs rest : List Gate) (g : Gate) → gs ≡ rest ++ g ∷ [] → q ≡ place + length rest → get_or marks q false ≡ true → marked (with_mark (with_mark (set_of marks) g.a) g.b) place rest ≡ marked (set_of marks) place gs
+unfolding set_of
+marked-on marks place q gs rest g e at on =
+    ap (λ (m : ℕ → Bool). marked m place rest) (sym (cond-true (set_of marks (place + length rest)) _ (set_of marks) (ap (λ (k : ℕ). get_or marks k false) (sym at) ∙ on)))
+    ∙ marked-push (set_of marks) place rest g
+    ∙ ap (marked (set_of marks) place) (sym e)
+
+pub marked-off : (marks : List Bool) (place q : ℕ) (gs rest : List Gate) (g : Gate) → gs ≡ rest ++ g ∷ [] → q ≡ place + length rest → get_or marks q false ≡ false → marked (set_of marks) place rest ≡ marked (set_of marks) place gs
+unfolding set_of
+marked-off marks place q gs rest g e at off =
+    ap (λ (m : ℕ → Bool). marked m place rest) (sym (cond-false (set_of marks (place + length rest)) _ (set_of marks) (ap (λ (k : ℕ). get_or marks k false) (sym at) ∙ off)))
+    ∙ marked-push (set_of marks) place rest g
+    ∙ ap (marked (set_of marks) place) (sym e)
+
+-- the gates but the last stand, and the last does
+pub front_at : (place : ℕ) (gs rest : List Gate) (g : Gate) → gs ≡ rest ++ g ∷ [] → AreAt place gs → AreAt place rest
+front_at place gs rest g e are =
+    record { each = λ i h at. are.each i h (ap (λ (xs : List Gate). slice_get xs i) e ∙ at_front rest (g ∷ []) i h at) }
+
+pub last_at : (place : ℕ) (gs rest : List Gate) (g : Gate) → gs ≡ rest ++ g ∷ [] → AreAt place gs → IsGateAt (place + length rest) g
+last_at place gs rest g e are = are.each (length rest) g (ap (λ (xs : List Gate). slice_get xs (length rest)) e ∙ at_end rest g)
+
+-- ---- places
+
+places_of-set_at : (places : List Sig) (q : ℕ) (s : Sig) (p : ℕ) → q < length places → places_of (set places q s) p ≡ put_sig (places_of places) q s p
+unfolding places_of
+places_of-set_at places q s p low =
+    ⊎_elim
+    (λ here. ap (λ (k : ℕ). get_or (set places q s) k Zero) here ∙ get_or-set_same places q s Zero low ∙ sym (cond-true (p == q) s (get_or places p Zero) (eq-eqb p q here)))
+    (λ other. get_or-set_other places q p s Zero other ∙ sym (cond-false (p == q) s (get_or places p Zero) (ne_eqb p q other)))
+    (cases_eq p q)
+
+pub places_of-set : (places : List Sig) (q : ℕ) (s : Sig) → q < length places → places_of (set places q s) ≡ put_sig (places_of places) q s
+places_of-set places q s low = λ i p. places_of-set_at places q s p low i
+
+pub kept_after-none : (marks : ℕ → Bool) (sources : ℕ) (k : Kept) (place : ℕ) (gs : List Gate) → length gs ≡ 0 → k ≡ kept_after marks sources k place gs
+unfolding kept_after
+kept_after-none marks sources k place [] e = refl
+kept_after-none marks sources k place (g ∷ gs) e = absurd (omega arith)
+
+pub kept_after-on : (marks : List Bool) (sources : ℕ) (k : Kept) (place : ℕ) (gs rest : List Gate) (g : Gate) → gs ≡ g ∷ rest → get_or marks place false ≡ true → kept_after (set_of marks) sources (with_kept sources k place g) (place + 1) rest ≡ kept_after (set_of marks) sources k place gs
+unfolding kept_after set_of
+kept_after-on marks sources k place gs rest g e on =
+    ap (λ (x : Kept). kept_after (set_of marks) sources x (place + 1) rest) (sym (cond-true (get_or marks place false) (with_kept sources k place g) k on))
+    ∙ ap (kept_after (set_of marks) sources k place) (sym e)
+
+pub kept_after-off : (marks : List Bool) (sources : ℕ) (k : Kept) (place : ℕ) (gs rest : List Gate) (g : Gate) → gs ≡ g ∷ rest → get_or marks place false ≡ false → kept_after (set_of marks) sources k (place + 1) rest ≡ kept_after (set_of marks) sources k place gs
+unfolding kept_after set_of
+kept_after-off marks sources k place gs rest g e off =
+    ap (λ (x : Kept). kept_after (set_of marks) sources x (place + 1) rest) (sym (cond-false (get_or marks place false) (with_kept sources k place g) k off))
+    ∙ ap (kept_after (set_of marks) sources k place) (sym e)
+
+-- where the places start
+start_at : (sources n i : ℕ) (p : ℕ) → p < n → get_or (map (sources_stay sources) (range_with_len i n)) p Zero ≡ sources_stay sources (i + p)
+start_at sources zero i p low = absurd (omega arith)
+start_at sources (suc n) i zero low = ap (sources_stay sources) (sym (add-zero i))
+start_at sources (suc n) i (suc p) low = let e : (i + 1) + p ≡ i + suc p = omega arith in start_at sources n (i + 1) p (omega arith) ∙ ap (sources_stay sources) e
+
+start_past : (sources p : ℕ) → sources < p → sources_stay sources p ≡ Zero
+start_past sources p high = cond-false (leb p sources) (Place p) Zero (lt-leb p sources high)
+
+starts_at : (sources n p : ℕ) → sources < n → places_of (map (sources_stay sources) (range_with_len 0 n)) p ≡ sources_stay sources p
+unfolding places_of
+starts_at sources n p low =
+    ⊎_elim
+    (λ in_. start_at sources n 0 p in_ ∙ ap (sources_stay sources) (omega arith))
+    (λ out. get_or_past (map (sources_stay sources) (range_with_len 0 n)) p Zero (omega (arith, length-map-range_with_len (sources_stay sources) 0 n)) ∙ sym (start_past sources p (omega arith)))
+    (cases_lt p n)
+
+pub places_of-start : (sources n : ℕ) → sources < n → places_of (map (sources_stay sources) (range_with_len 0 n)) ≡ sources_stay sources
+places_of-start sources n low = λ i p. starts_at sources n p low i
+
+-- no place is marked
+no_marks_at : (n p : ℕ) → set_of (replicate n false) p ≡ false
+unfolding set_of
+no_marks_at zero p = refl
+no_marks_at (suc n) zero = refl
+no_marks_at (suc n) (suc p) = no_marks_at n p
+
+pub set_of-none : (n : ℕ) → set_of (replicate n false) ≡ no_marks
+set_of-none n = λ i p. no_marks_at n p i
+
+-- what is put together is the net that is left
+pub left_is : (n : Net) (marks : List Bool) (places : List Sig) (sources : ℕ) (gates : List Gate) (sinks : List Sig) → set_of marks ≡ live n → kept places gates ≡ kept_after (set_of marks) n.sources (nothing_kept n.sources) (n.sources + 1) n.gates → sources ≡ n.sources → sinks ≡ map (moved (places_of places)) n.sinks → record { sources = sources; gates = gates; sinks = sinks } ≡ dropped n
+unfolding dropped
+left_is n marks places sources gates sinks is_live is_kept same_sources same_sinks =
+    let all : kept places gates ≡ kept_gates n = is_kept ∙ ap (λ (m : ℕ → Bool). kept_after m n.sources (nothing_kept n.sources) (n.sources + 1) n.gates) is_live in
+    let is_gates : gates ≡ (kept_gates n).gates = ap (λ (k : Kept). k.gates) all in
+    let is_places : places_of places ≡ (kept_gates n).places = ap (λ (k : Kept). k.places) all in
+    let is_sinks : sinks ≡ map (moved (kept_gates n).places) n.sinks = same_sinks ∙ ap (λ (f : ℕ → Sig). map (moved f) n.sinks) is_places in
+    let made : ℕ → List Gate → List Sig → Net = λ s g x. record { sources = s; gates = g; sinks = x } in
+    ap (λ s. made s gates sinks) same_sources ∙ ap (λ g. made n.sources g sinks) is_gates ∙ ap (λ x. made n.sources (kept_gates n).gates x) is_sinks

@@ -1,0 +1,58 @@
+-- Bits of places that are written one by one.
+use Rattle.std.proofs.Common.{◌≡◌, ◌≢◌, ℕ, suc, ◌+◌, ◌-◌, ◌≤◌, ◌<◌, Bool, false, List, [], ◌∷◌, length, set, get_or, add-zero, refl, ◌∙◌, ap, sym, subst, arith, ⊎_elim, ◌==◌}
+use Rattle.std.specs.List.{slice_get}
+use Rattle.std.proofs.lemmas.Bool.{cases_eq, cond-false, ne_eqb}
+use Rattle.std.proofs.lemmas.List.{get_or-set_same, get_or-set_other}
+use Rattle.chain_theory.specs.Value.{extended}
+use Rattle.chain_theory.specs.ValueLaws.{extended-same, extended-other}
+use Rattle.net_theory.specs.declared.data.Gate.{Gate}
+use Rattle.net_core.specs.Marks.{AreAt}
+use Rattle.net_theory.specs.Net.{IsGateAt, bit_of, gate_value, values_after}
+
+bit_some : (bits : List Bool) (p : ℕ) → p ≢ 0 → bit_of bits p ≡ get_or bits (p - 1) false
+bit_some bits p some = cond-false (p == 0) false (get_or bits (p - 1) false) (ne_eqb p 0 some)
+
+bit_of-set_at : (bits : List Bool) (place : ℕ) (v : Bool) (p : ℕ) → place < length bits → bit_of (set bits place v) p ≡ extended (bit_of bits) (place + 1) v p
+bit_of-set_at bits place v p low =
+    ⊎_elim
+    (λ zero_. subst (λ (q : ℕ). bit_of (set bits place v) q ≡ extended (bit_of bits) (place + 1) v q) (sym zero_) (sym (extended-other (bit_of bits) (place + 1) 0 v (omega arith))))
+    (λ some. ⊎_elim
+    (λ here. let at : p - 1 ≡ place = omega arith in bit_some (set bits place v) p some ∙ ap (λ (k : ℕ). get_or (set bits place v) k false) at ∙ get_or-set_same bits place v false low ∙ sym (extended-same (bit_of bits) (place + 1) p v here))
+    (λ other. bit_some (set bits place v) p some ∙ get_or-set_other bits place (p - 1) v false (omega (arith, some, other)) ∙ sym (bit_some bits p some) ∙ sym (extended-other (bit_of bits) (place + 1) p v other))
+    (cases_eq p (place + 1)))
+    (cases_eq p 0)
+
+-- one write sets the bit of one place
+pub bit_of-set : (bits : List Bool) (place : ℕ) (v : Bool) → place < length bits → bit_of (set bits place v) ≡ extended (bit_of bits) (place + 1) v
+bit_of-set bits place v low = λ i p. bit_of-set_at bits place v p low i
+
+-- bits that are the same one by one are the same by place
+pub same_bits : (xs ys : List Bool) (n p : ℕ) → ((k : ℕ) → k < n → get_or ys k false ≡ get_or xs k false) → p ≤ n → bit_of ys p ≡ bit_of xs p
+same_bits xs ys n p same low =
+    ⊎_elim
+    (λ none. subst (λ (q : ℕ). bit_of ys q ≡ bit_of xs q) (sym none) refl)
+    (λ some. bit_some ys p some ∙ same (p - 1) (omega (arith, some)) ∙ sym (bit_some xs p some))
+    (cases_eq p 0)
+
+-- the gate that stands first
+pub first_at : (place : ℕ) (gs rest : List Gate) (g : Gate) → gs ≡ g ∷ rest → AreAt place gs → IsGateAt place g
+first_at place gs rest g e are = subst (λ (q : ℕ). IsGateAt q g) (add-zero place) (are.each 0 g (ap (λ (xs : List Gate). slice_get xs 0) e))
+
+-- and the others
+pub rest_at : (place : ℕ) (gs rest : List Gate) (g : Gate) → gs ≡ g ∷ rest → AreAt place gs → AreAt (place + 1) rest
+rest_at place gs rest g e are =
+    record { each = λ i h at. let shift : place + suc i ≡ (place + 1) + i = omega arith in subst (λ (q : ℕ). IsGateAt q h) shift (are.each (suc i) h (ap (λ (xs : List Gate). slice_get xs (suc i)) e ∙ at)) }
+
+-- no gate sets no bit
+pub values_after-none : (bits : ℕ → Bool) (place : ℕ) (gs : List Gate) → length gs ≡ 0 → values_after bits place gs ≡ bits
+unfolding values_after
+values_after-none bits place [] e = refl
+values_after-none bits place (g ∷ gs) e = absurd (omega arith)
+
+-- the first gate's bit is written
+pub values_after-write : (bits : List Bool) (place : ℕ) (gs rest : List Gate) (g : Gate) (v : Bool) → gs ≡ g ∷ rest → place < length bits → v ≡ gate_value (bit_of bits) g → values_after (bit_of (set bits place v)) (place + 1 + 1) rest ≡ values_after (bit_of bits) (place + 1) gs
+unfolding values_after
+values_after-write bits place gs rest g v e low is =
+    ap (λ (f : ℕ → Bool). values_after f (place + 1 + 1) rest) (bit_of-set bits place v low)
+    ∙ ap (λ (x : Bool). values_after (extended (bit_of bits) (place + 1) x) (place + 1 + 1) rest) is
+    ∙ ap (values_after (bit_of bits) (place + 1)) (sym e)

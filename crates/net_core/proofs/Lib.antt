@@ -1,0 +1,10 @@
+pub mod Evaluations
+pub mod DeadGates
+pub mod Fronts
+pub mod Wide
+pub mod Expansions
+pub mod NamingLemmas
+pub mod Firsts
+pub mod Visits
+pub mod CycleLemmas
+pub mod CostLemmas

@@ -1,0 +1,52 @@
+-- Wide tables, cube by cube.
+use Rattle.std.proofs.Common.{◌≡◌, ℕ, ◌+◌, ◌-◌, ◌<◌, List, [], ◌∷◌, length, set, get_or, ap, ◌∙◌, subst, refl, arith, zero, suc, if◌then◌else◌, false}
+use Rattle.std.proofs.lemmas.Grind.{common_steps}
+use Rattle.std.proofs.lemmas.List.Sums.{sum_by-cons}
+use Rattle.net_theory.specs.declared.data.Gate.{Gate}
+use Rattle.std.proofs.lemmas.Bool.{cond-false}
+use Rattle.net_theory.specs.Cover.{Cover}
+use Rattle.net_theory.specs.Cost.{literal_count, literal_sum, is_not, wide_cost}
+use Rattle.net_theory.specs.Expansion.{is_plain, last_complemented, complemented}
+use Rattle.net_theory.specs.ExpansionLaws.{cover_terms}
+use Rattle.net_theory.specs.WideLaws.{AreTerms, literals_count}
+use Rattle.net_core.proofs.Fronts.{front_itself, front_push, front_more}
+
+-- the first cube is of the width and asks for something, and the others are terms
+pub first_term : (width : ℕ) (cubes rest : List (List ℕ)) (c : List ℕ) → cubes ≡ c ∷ rest → AreTerms width cubes → (length c ≡ width) × (0 < literal_count c) × AreTerms width rest
+first_term width cubes rest c e are = subst (AreTerms width) e are
+
+pub sum_first : (cubes rest : List (List ℕ)) (c : List ℕ) → cubes ≡ c ∷ rest → literal_sum cubes ≡ literal_count c + literal_sum rest
+sum_first cubes rest c e = ap literal_sum e ∙ sum_by-cons literal_count c rest
+
+pub ruleset terms_loop = (common_steps, front_itself, front_push, front_more, sum_first, literals_count)
+
+pub last_complemented-none : (gs : List Gate) → length gs ≡ 0 → gs ≡ last_complemented gs
+unfolding last_complemented
+last_complemented-none [] e = refl
+last_complemented-none (g ∷ gs) e = absurd (omega arith)
+
+last_complemented-cons : (g h : Gate) (gs : List Gate) → last_complemented (g ∷ h ∷ gs) ≡ g ∷ last_complemented (h ∷ gs)
+unfolding last_complemented
+last_complemented-cons g h gs = refl
+
+-- the last gate is written
+pub last_complemented-set : (gs : List Gate) (i : ℕ) (x : Gate) → i + 1 ≡ length gs → x ≡ get_or gs i x → set gs i (complemented x) ≡ last_complemented gs
+unfolding last_complemented
+last_complemented-set [] i x e is = absurd (omega arith)
+last_complemented-set (g ∷ []) zero x e is = ap (λ (y : Gate). complemented y ∷ []) is
+last_complemented-set (g ∷ []) (suc i) x e is = absurd (omega arith)
+last_complemented-set (g ∷ h ∷ gs) zero x e is = absurd (omega arith)
+last_complemented-set (g ∷ h ∷ gs) (suc i) x e is = ap (λ (ys : List Gate). g ∷ ys) (last_complemented-set (h ∷ gs) i x (omega arith) is)
+
+pub ruleset last_gate = (common_steps, last_complemented-none)
+
+-- the cost of a table that isn't constant by its form
+pub wide_cost-some : (c : Cover) → is_plain c.cubes ≡ false → wide_cost c ≡ (literal_sum c.cubes - 1) + (if is_not c.on c.cubes then 1 else 0)
+unfolding wide_cost
+wide_cost-some c e = cond-false (is_plain c.cubes) 0 _ e
+
+pub some_cubes : (cubes : List (List ℕ)) → is_plain cubes ≡ false → 0 < length cubes
+some_cubes [] e = absurd cc
+some_cubes (c ∷ cubes) e = omega arith
+
+pub ruleset wide_table = (common_steps, front_itself, front_push, front_more, cover_terms, wide_cost-some, some_cubes)

@@ -1,0 +1,28 @@
+-- Names that are taken, and outputs that sit on places.
+use Rattle.std.specs.Prelude.{◌≡◌, ℕ, ◌<◌, if◌then◌else◌, List, [], ◌∷◌, ◌++◌, length, slice_get, slice_index_or, slice_set, Option, Some, None, option_and_then}
+use Rattle.std.proofs.Common.{drop}
+use Rattle.net_theory.specs.declared.data.Sig.{Sig}
+use Rattle.net_theory.specs.declared.data.Sig.TheVariants.{Zero, One, Place}
+use Rattle.net_theory.specs.Document.{Name, has}
+use Rattle.net_theory.specs.Naming.{output_on, Naming}
+
+-- names and one more, unless it was there
+abbrev pub with_name : List Name → Name → List Name
+with_name seen n = if has seen n then seen else seen ++ n ∷ []
+
+-- the output that is noted for a place
+unfoldable pub first_name : List (Option ℕ) → List Name → ℕ → Option Name
+first_name firsts outputs p = option_and_then (slice_get outputs) (slice_index_or firsts p None)
+
+-- what is noted is the first output on each place, of those from one on
+pub record AreFirsts (firsts : List (Option ℕ)) (outputs : List Name) (at : ℕ) (sinks : List Sig) : Type 0 where
+  pub each : (p : ℕ) → p < length firsts → first_name firsts outputs p ≡ output_on (drop at outputs) (drop at sinks) p
+
+-- an output is noted
+abbrev pub noted : List (Option ℕ) → Sig → ℕ → List (Option ℕ)
+noted firsts Zero at = firsts
+noted firsts One at = firsts
+noted firsts (Place p) at = slice_set firsts p (Some at)
+
+abbrev pub naming : List Name → List Name → Naming
+naming names free = record { names = names; free = free }

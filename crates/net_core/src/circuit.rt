@@ -1,0 +1,79 @@
+ghost use Rattle.std.specs.Prelude.{◌≡◌, IfOk};
+ghost use Rattle.net_theory.specs.Document.{Document};
+ghost use Rattle.net_theory.specs.Circuit.{IsProper, Describes};
+ghost use Rattle.net_theory.specs.Dead.{dropped, IsPruned};
+
+use crate::dead::drop_dead;
+use crate::name::Name;
+use crate::net::Net;
+use net_theory::Trigger;
+use std::alloc::{AllocError, Global};
+use std::marker::Model;
+
+/// A latch: the name of its output, how it is controlled and by which net, and its first value: 0, 1,
+/// 2 for either, 3 for unknown. Its input is a sink of the circuit's net.
+#[derive(Debug, Drop)]
+pub struct Latch {
+    pub output: Name,
+    pub control: Option<(Trigger, Name)>,
+    pub init: Option<u8>,
+}
+
+impl Model for Latch {
+    ghost use Rattle.net_theory.specs.Document as document;
+
+    ghost Value = { document.Latch };
+
+    ghost view = { λ l. record { output = l.output; control = l.control; init = l.init } };
+}
+
+/// A net with names. The sources of the net are the inputs and then the latches' outputs; its sinks are
+/// the outputs and then the latches' inputs, each in order.
+#[derive(Debug, Drop)]
+pub struct Circuit {
+    pub model: Name,
+    pub inputs: Vec<Name>,
+    pub outputs: Vec<Name>,
+    pub clocks: Vec<Name>,
+    pub latches: Vec<Latch>,
+    pub net: Net,
+}
+
+impl Model for Circuit {
+    ghost use Rattle.net_theory.specs.Circuit as circuit;
+
+    ghost Value = { circuit.Circuit };
+
+    ghost view = { λ c. record { model = c.model; inputs = c.inputs.items; outputs = c.outputs.items; clocks = c.clocks.items; latches = c.latches.items; net = c.net } };
+}
+
+impl Circuit {
+    /// The circuit without its dead gates: those that no sink reads, directly or through gates. A
+    /// document that describes the circuit describes it still.
+    #[tactic(auto, using(net_theory::specs::PrunedLaws::pruned_proper, net_theory::specs::PrunedLaws::pruned_describes))]
+    pub fn without_dead_gates(self, alloc: Global) -> Result<Circuit, AllocError>
+        requires { IsProper self }
+        ensures exact { IfOk result (λ left. left ≡ record self { net = dropped self.net }) }
+        ensures pruned { IfOk result (λ left. IsPruned self.net left.net) }
+        ensures proper { IfOk result (λ left. IsProper left) }
+        ensures same { IfOk result (λ left. (d : Document) → Describes d self → Describes d left) }
+    {
+        let Circuit {
+            model,
+            inputs,
+            outputs,
+            clocks,
+            latches,
+            net,
+        } = self;
+        let net = drop_dead(alloc, &net)?;
+        Ok(Circuit {
+            model,
+            inputs,
+            outputs,
+            clocks,
+            latches,
+            net,
+        })
+    }
+}

@@ -1,0 +1,50 @@
+ghost use Rattle.std.specs.Prelude.{◌≡◌};
+ghost use Rattle.net_core.specs.declared.error.NetError.TheVariants.{Memory};
+
+use crate::name::Name;
+use std::alloc::{AllocError, AllocFailed};
+
+/// Why a netlist isn't read. Lines are numbered from 1; a line that goes on has the number of its first.
+#[derive(Debug, Drop)]
+pub enum NetError {
+    /// The line isn't of a form that the format has.
+    Syntax(u32),
+    /// The line's first word, or a latch's control, asks for what isn't supported.
+    NotSupported(u32, Name),
+    /// The value of the cover line isn't that of its table's first.
+    MixedCover(u32),
+    /// The table or gate has more than 256 inputs.
+    TooWide(u32),
+    /// The netlist costs more than 100,000 gates: so many.
+    TooManyGates(u32),
+    /// The name is driven twice.
+    DrivenTwice(Name),
+    /// The name is used, and nothing drives it.
+    Undriven(Name),
+    /// The name depends on itself through tables.
+    Cycle(Name),
+    /// The line has more than 1,048,576 bytes.
+    LineTooLong(u32),
+    /// The cover line is the table's 4,097th.
+    TooManyRows(u32),
+    /// The line has a word of more than 1,024 bytes.
+    NameTooLong(u32),
+    /// There was no memory left.
+    Memory,
+}
+
+impl From<AllocError> for NetError {
+    ghost from_gives = { λ _ e. e ≡ Memory };
+
+    fn from(_error: AllocError) -> NetError {
+        NetError::Memory
+    }
+}
+
+impl<T: Drop> From<AllocFailed<T>> for NetError {
+    ghost from_gives = { λ _ e. e ≡ Memory };
+
+    fn from(_error: AllocFailed<T>) -> NetError {
+        NetError::Memory
+    }
+}

@@ -1,0 +1,294 @@
+//! A table becomes gates. What the gates are is said in `specs/Expansion.antt` of `net_theory`.
+
+ghost use Rattle.std.specs.Prelude.{◌≡◌, ℕ, ◌+◌, ◌-◌, ◌≤◌, ◌<◌, ◌^◌, ◌&&◌, not, if◌then◌else◌, [], ◌∷◌, length, map, take, vec_len, All, OnOk, OnErr, IfOk};
+ghost use Rattle.std.specs.List.{list_any};
+ghost use Rattle.net_theory.specs.Net.{IsSigBelow, sig_value, values_of, end_of};
+ghost use Rattle.net_theory.specs.Cover.{IsCover, cover_value as cover_value_of};
+ghost use Rattle.net_theory.specs.Cost.{cover_cost, wide_cost, literal_count, literal_sum};
+ghost use Rattle.net_theory.specs.Expansion.{constant_sig, gate_of, with_not, unary_built, binary_built, literals as literals_of, terms_from, or_built, complemented as complemented_of, last_complemented, finished_by, asks_nothing as asks_nothing_of, is_none, is_plain as is_plain_of, wide_built, expanded};
+ghost use Rattle.net_theory.specs.BuiltLaws.{IsBuilt};
+ghost use Rattle.net_theory.specs.WideLaws.{AreTerms};
+ghost use Rattle.net_theory.specs.declared.data.Gate.{Gate};
+ghost use Rattle.net_core.specs.Growing.{built, joint, terms, IsFront};
+
+use crate::cover::{Cover, Cube};
+use crate::joining::{Connective, join_all, push_gate};
+use crate::net::Net;
+use crate::truth::{binary_word, cover_value, unary_word};
+use net_theory::{Gate, Sig, Signed};
+use op_basis::Op;
+use std::alloc::{AllocError, Global};
+
+/// The signal of a constant.
+fn constant(value: bool) -> Sig
+    ensures { result ≡ constant_sig value }
+{
+    if value { Sig::One } else { Sig::Zero }
+}
+
+/// NOT of a signal.
+fn push_not(sources: u32, gates: &mut Vec<Gate>, a: Sig) -> Result<Sig, AllocError>
+    requires { sources + vec_len gates.old ≤ 2 ^ 31 }
+    ensures gate { IfOk result (λ sig. built gates.new.items sig ≡ with_not sources gates.old.items a) }
+    ensures front { IsFront gates.old.items gates.new.items }
+{
+    push_gate(
+        sources,
+        gates,
+        Gate {
+            op: Op::new(14),
+            a,
+            b: a,
+        },
+    )
+}
+
+/// A table of one input, by the word of its values.
+#[tactic(auto, using(crate::proofs::Fronts::fronts), unfolding(net_theory::specs::Expansion::unary_built))]
+fn expand_unary(sources: u32, gates: &mut Vec<Gate>, word: u8, a: Sig) -> Result<Sig, AllocError>
+    requires { sources + vec_len gates.old ≤ 2 ^ 31 }
+    ensures gates { IfOk result (λ sig. built gates.new.items sig ≡ unary_built sources gates.old.items word a) }
+    ensures front { IsFront gates.old.items gates.new.items }
+{
+    match word {
+        0 => Ok(Sig::Zero),
+        3 => Ok(Sig::One),
+        1 => Ok(a),
+        _ => push_not(sources, gates, a),
+    }
+}
+
+/// A table of two inputs, by the word of its values.
+#[tactic(auto, using(crate::proofs::Fronts::fronts), unfolding(net_theory::specs::Expansion::binary_built))]
+fn expand_binary(
+    sources: u32,
+    gates: &mut Vec<Gate>,
+    word: u8,
+    a: Sig,
+    b: Sig,
+) -> Result<Sig, AllocError>
+    requires word { word < 16 }
+    requires room { sources + vec_len gates.old ≤ 2 ^ 31 }
+    ensures gates { IfOk result (λ sig. built gates.new.items sig ≡ binary_built sources gates.old.items word a b) }
+    ensures front { IsFront gates.old.items gates.new.items }
+{
+    match word {
+        0 => Ok(Sig::Zero),
+        15 => Ok(Sig::One),
+        3 => Ok(a),
+        5 => Ok(b),
+        12 => push_not(sources, gates, a),
+        10 => push_not(sources, gates, b),
+        _ => push_gate(
+            sources,
+            gates,
+            Gate {
+                op: Op::new(word),
+                a,
+                b,
+            },
+        ),
+    }
+}
+
+/// Whether a cube asks for nothing.
+#[tactic(auto, unfolding(net_theory::specs::Expansion::asks_nothing))]
+fn asks_nothing(cube: &[u8]) -> bool
+    ensures { result ≡ asks_nothing_of cube.now }
+{
+    cube.iter().all(|byte| !(*byte == b'0' || *byte == b'1'))
+}
+
+/// Whether some cube asks for nothing.
+fn some_asks_nothing(cubes: &[Cube]) -> bool
+    ensures { result ≡ list_any asks_nothing_of cubes.now }
+{
+    cubes.iter().any(|cube| asks_nothing(cube.get()))
+}
+
+/// Whether a wide table is constant by its form.
+pub fn is_plain(cubes: &[Cube]) -> bool
+    ensures { result ≡ is_plain_of cubes.now }
+{
+    cubes.is_empty() || some_asks_nothing(cubes)
+}
+
+/// The literals of a cube from the left.
+#[tactic(auto, unfolding(net_theory::specs::Expansion::literals))]
+fn literals(alloc: Global, cube: &[u8], inputs: &[Sig]) -> Result<Vec<Signed>, AllocError>
+    ensures { IfOk result (λ all. all.items ≡ literals_of cube.now inputs.now) }
+{
+    let mut all = Vec::new(alloc);
+    let mut bytes = cube;
+    let mut left = inputs;
+    while let Some((byte, rest)) = bytes.split_first() {
+        let Some((sig, others)) = left.split_first() else {
+            return Ok(all);
+        };
+        if *byte == b'1' {
+            all.push(Signed {
+                sig: *sig,
+                turned: false,
+            })?;
+        } else if *byte == b'0' {
+            all.push(Signed {
+                sig: *sig,
+                turned: true,
+            })?;
+        }
+        bytes = rest;
+        left = others;
+    }
+    Ok(all)
+}
+
+/// The cubes, each as AND of its literals.
+#[tactic(auto, using(crate::proofs::Wide::terms_loop), unfolding(net_theory::specs::Expansion::terms_from))]
+fn push_terms(
+    alloc: Global,
+    sources: u32,
+    gates: &mut Vec<Gate>,
+    cubes: &[Cube],
+    inputs: &[Sig],
+) -> Result<Vec<Signed>, AllocError>
+    requires cubes { AreTerms (length inputs.now) cubes.now }
+    requires room { sources + vec_len gates.old + literal_sum cubes.now ≤ 2 ^ 31 }
+    ensures terms { IfOk result (λ outs. terms gates.new.items outs.items ≡ terms_from sources inputs.now (terms gates.old.items []) cubes.now) }
+    ensures size { IfOk result (λ outs. vec_len outs ≡ length cubes.now) }
+    ensures count { IfOk result (λ outs. vec_len gates.new + vec_len outs ≡ vec_len gates.old + literal_sum cubes.now) }
+    ensures front { IsFront gates.old.items gates.new.items }
+{
+    let mut outs = Vec::new(alloc);
+    let mut left = cubes;
+    while let Some((cube, rest)) = left.split_first() {
+        let signals = literals(alloc, cube.get(), inputs)?;
+        let out = join_all(Connective::And, sources, gates, &signals)?;
+        outs.push(out)?;
+        left = rest;
+    }
+    Ok(outs)
+}
+
+/// The gate with the complement of its operator.
+fn complemented(gate: Gate) -> Gate
+    ensures { result ≡ complemented_of gate }
+{
+    Gate {
+        op: Op::new(15 - gate.op.get()),
+        a: gate.a,
+        b: gate.b,
+    }
+}
+
+/// Turns the sign of the last gate.
+#[tactic(auto, using(crate::proofs::Wide::last_gate))]
+fn complement_last(gates: &mut [Gate])
+    ensures { gates.new ≡ last_complemented gates.old }
+{
+    if gates.is_empty() {
+        return;
+    }
+    let at = gates.len() - 1;
+    let gate = complemented(gates[at]);
+    gates[at] = gate;
+}
+
+/// Puts the sign of what was joined where the cover is for 1 or for 0, behind the gates that were there
+/// before the table.
+#[tactic(auto, using(crate::proofs::Fronts::fronts), unfolding(net_theory::specs::Expansion::finished))]
+fn finish(
+    sources: u32,
+    gates: &mut Vec<Gate>,
+    before: usize,
+    out: Signed,
+    on: bool,
+) -> Result<Sig, AllocError>
+    requires { sources + vec_len gates.old ≤ 2 ^ 31 }
+    ensures gates { IfOk result (λ sig. built gates.new.items sig ≡ finished_by sources before on (joint gates.old.items out)) }
+    ensures front { OnErr result (IsFront gates.old.items gates.new.items) }
+{
+    let turned = if on { out.turned } else { !out.turned };
+    if !turned {
+        return Ok(out.sig);
+    }
+    if gates.len() == before {
+        return push_not(sources, gates, out.sig);
+    }
+    complement_last(gates);
+    Ok(out.sig)
+}
+
+/// A table of more than two inputs.
+#[tactic(auto, using(crate::proofs::Wide::wide_table), unfolding(net_theory::specs::Expansion::wide_built))]
+fn expand_wide(
+    alloc: Global,
+    sources: u32,
+    gates: &mut Vec<Gate>,
+    cover: &Cover,
+    inputs: &[Sig],
+) -> Result<Sig, AllocError>
+    requires cover { IsCover cover.now }
+    requires width { cover.now.width ≡ length inputs.now }
+    requires room { sources + vec_len gates.old + wide_cost cover.now < 2 ^ 31 }
+    ensures gates { IfOk result (λ sig. built gates.new.items sig ≡ wide_built sources gates.old.items cover.now inputs.now) }
+    ensures front { OnErr result (IsFront gates.old.items gates.new.items) }
+{
+    if is_plain(&cover.cubes) {
+        return Ok(constant(cover.on && !cover.cubes.is_empty()));
+    }
+    let before = gates.len();
+    let outs = push_terms(alloc, sources, gates, &cover.cubes, inputs)?;
+    let out = join_all(Connective::Or, sources, gates, &outs)?;
+    finish(sources, gates, before, out, cover.on)
+}
+
+/// The gates of a table over any inputs.
+#[tactic(auto, using(crate::proofs::Expansions::tables))]
+fn expand_gates(
+    alloc: Global,
+    sources: u32,
+    gates: &mut Vec<Gate>,
+    cover: &Cover,
+    inputs: &[Sig],
+) -> Result<Sig, AllocError>
+    requires cover { IsCover cover.now }
+    requires width { cover.now.width ≡ length inputs.now }
+    requires room { sources + vec_len gates.old + cover_cost cover.now inputs.now < 2 ^ 31 }
+    ensures gates { IfOk result (λ sig. built gates.new.items sig ≡ expanded sources gates.old.items cover.now inputs.now) }
+    ensures front { OnErr result (IsFront gates.old.items gates.new.items) }
+{
+    match inputs {
+        [] => Ok(constant(cover_value(cover, &[]))),
+        [a] => expand_unary(sources, gates, unary_word(cover), *a),
+        [a, b] => expand_binary(sources, gates, binary_word(cover), *a, *b),
+        _ => expand_wide(alloc, sources, gates, cover, inputs),
+    }
+}
+
+/// Puts the gates of a table behind those of the net, and answers the table's signal, where the table's
+/// inputs are these signals. They count as different inputs, also where two are equal or one is
+/// constant.
+pub fn expand(
+    alloc: Global,
+    net: &mut Net,
+    cover: &Cover,
+    inputs: &[Sig],
+) -> Result<Sig, AllocError>
+    requires cover { IsCover cover.now }
+    requires width { cover.now.width ≡ length inputs.now }
+    requires room { net.old.sources + length net.old.gates + cover_cost cover.now inputs.now < 2 ^ 31 }
+    requires inputs { All (IsSigBelow (end_of net.old)) inputs.now }
+    ensures gates { IfOk result (λ sig. built net.new.gates sig ≡ expanded net.old.sources net.old.gates cover.now inputs.now) }
+    ensures others { OnOk result (net.new ≡ record net.old { gates = net.new.gates }) }
+    ensures value { IfOk result (λ sig. IsBuilt net.old.sources net.old.gates (cover_cost cover.now inputs.now) (λ given. cover_value_of cover.now (map (sig_value (values_of given net.old.sources net.old.gates)) inputs.now)) (built net.new.gates sig)) }
+    ensures err { OnErr result (net.new ≡ net.old) }
+{
+    let before = net.gates.len();
+    match expand_gates(alloc, net.sources, &mut net.gates, cover, inputs) {
+        Ok(sig) => Ok(sig),
+        Err(error) => {
+            net.gates.truncate(before);
+            Err(error)
+        }
+    }
+}

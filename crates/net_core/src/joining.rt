@@ -1,0 +1,115 @@
+//! Signals are joined by gates: AND or OR of several, from the left.
+
+ghost use Rattle.std.specs.Prelude.{◌≡◌, ℕ, ◌+◌, ◌≤◌, ◌<◌, ◌^◌, length, vec_len, OnOk, IfOk};
+ghost use Rattle.net_theory.specs.Expansion.{with_gate, joined, join_from, join_all as join_all_of};
+ghost use Rattle.net_core.specs.Growing.{built, joint, word_of, IsFront};
+
+use net_theory::{Gate, Sig, Signed};
+use op_basis::Op;
+use std::alloc::AllocError;
+
+/// How signals are joined.
+#[derive(Clone, Copy, Debug, PartialEq, Eq)]
+pub enum Connective {
+    And,
+    Or,
+}
+
+/// The operator that joins two signals with these signs.
+fn operator(connective: Connective, first: bool, second: bool) -> Op
+    ensures word { result ≡ word_of connective first second }
+    ensures below { result < 16 }
+{
+    let word = match connective {
+        Connective::And => match (first, second) {
+            (false, false) => 1,
+            (false, true) => 2,
+            (true, false) => 4,
+            (true, true) => 8,
+        },
+        Connective::Or => match (first, second) {
+            (false, false) => 7,
+            (false, true) => 11,
+            (true, false) => 13,
+            (true, true) => 14,
+        },
+    };
+    Op::new(word)
+}
+
+/// Puts a gate last, and answers its place.
+pub fn push_gate(sources: u32, gates: &mut Vec<Gate>, gate: Gate) -> Result<Sig, AllocError>
+    requires { sources + vec_len gates.old ≤ 2 ^ 31 }
+    ensures gate { IfOk result (λ sig. built gates.new.items sig ≡ with_gate sources gates.old.items gate) }
+    ensures count { OnOk result (vec_len gates.new ≡ vec_len gates.old + 1) }
+    ensures front { IsFront gates.old.items gates.new.items }
+{
+    let place = sources + 1 + gates.len() as u32;
+    gates.push(gate)?;
+    Ok(Sig::Place(place))
+}
+
+/// Joins a signal to what was joined before.
+fn join(
+    connective: Connective,
+    sources: u32,
+    gates: &mut Vec<Gate>,
+    out: Signed,
+    next: Signed,
+) -> Result<Signed, AllocError>
+    requires { sources + vec_len gates.old ≤ 2 ^ 31 }
+    ensures gate { IfOk result (λ new. joint gates.new.items new ≡ joined (word_of connective) sources (joint gates.old.items out) next) }
+    ensures count { OnOk result (vec_len gates.new ≡ vec_len gates.old + 1) }
+    ensures front { IsFront gates.old.items gates.new.items }
+{
+    let gate = Gate {
+        op: operator(connective, out.turned, next.turned),
+        a: out.sig,
+        b: next.sig,
+    };
+    let sig = push_gate(sources, gates, gate)?;
+    Ok(Signed { sig, turned: false })
+}
+
+/// Joins signals to a first one.
+#[tactic(auto, using(crate::proofs::Fronts::fronts), unfolding(net_theory::specs::Expansion::join_from))]
+fn join_more(
+    connective: Connective,
+    sources: u32,
+    gates: &mut Vec<Gate>,
+    first: Signed,
+    signals: &[Signed],
+) -> Result<Signed, AllocError>
+    requires { sources + vec_len gates.old + length signals.now ≤ 2 ^ 31 }
+    ensures gates { IfOk result (λ out. joint gates.new.items out ≡ join_from (word_of connective) sources (joint gates.old.items first) signals.now) }
+    ensures count { OnOk result (vec_len gates.new ≡ vec_len gates.old + length signals.now) }
+    ensures front { IsFront gates.old.items gates.new.items }
+{
+    let mut out = first;
+    let mut left = signals;
+    while let Some((next, rest)) = left.split_first() {
+        out = join(connective, sources, gates, out, *next)?;
+        left = rest;
+    }
+    Ok(out)
+}
+
+/// Joins signals, at least one.
+#[tactic(auto, using(crate::proofs::Fronts::fronts), unfolding(net_theory::specs::Expansion::join_all))]
+pub fn join_all(
+    connective: Connective,
+    sources: u32,
+    gates: &mut Vec<Gate>,
+    signals: &[Signed],
+) -> Result<Signed, AllocError>
+    requires some { 0 < length signals.now }
+    requires room { sources + vec_len gates.old + length signals.now ≤ 2 ^ 31 }
+    ensures gates { IfOk result (λ out. joint gates.new.items out ≡ join_all_of (word_of connective) sources gates.old.items signals.now) }
+    ensures count { OnOk result (vec_len gates.new + 1 ≡ vec_len gates.old + length signals.now) }
+    ensures front { IsFront gates.old.items gates.new.items }
+{
+    match signals.split_first() {
+        Some((first, rest)) => join_more(connective, sources, gates, *first, rest),
+        None => unreachable!(),
+    }
+}

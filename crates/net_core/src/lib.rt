@@ -1,0 +1,48 @@
+//! Nets of two-input gates and circuits, which are nets with names: values, gates that nothing reads, the
+//! gates that a table becomes, names for gates where a circuit is written, and the order in which tables
+//! are read. What all of it means is said in the definitions of `net_theory`.
+//!
+//! The one theorem: a table that `expand` puts behind a net has a signal whose value is the table's under
+//! every assignment, with as many gates as the table costs, and `drop_dead` keeps exactly the gates that
+//! some sink reads, and all values of the sinks.
+//!
+//! ```text
+//! let mut net = Net::new(2, Vec::new(alloc), Vec::new(alloc));
+//! let xor = expand(alloc, &mut net, &cover, &[Sig::Place(1), Sig::Place(2)])?; // `10 1`, `01 1`
+//! ```
+#![tactic(auto)]
+
+mod circuit;
+mod components;
+mod costs;
+mod cover;
+mod cycles;
+mod dead;
+mod error;
+mod evaluation;
+mod expansion;
+mod joining;
+mod name;
+mod naming;
+mod net;
+mod truth;
+mod visiting;
+
+pub use circuit::{Circuit, Latch};
+pub use costs::cover_cost;
+pub use cover::{Cover, Cube};
+pub use cycles::first_cyclic;
+pub use dead::drop_dead;
+pub use error::NetError;
+pub use evaluation::values;
+pub use expansion::expand;
+pub use name::Name;
+pub use naming::{GateNames, all_names, gate_names};
+pub use net::Net;
+pub use net_theory::{Gate, Sig, Trigger};
+pub use op_basis::Op;
+pub use truth::{binary_word, cover_value, unary_word};
+pub use visiting::{Reads, visit_all};
+
+#[cfg(test)]
+mod tests;

@@ -1,0 +1,80 @@
+ghost use Rattle.std.specs.Prelude.{◌≡◌, All};
+ghost use Rattle.net_theory.specs.Net.{IsNet, IsSigBelow, end_of};
+
+use net_theory::{Gate, Sig};
+use std::marker::Model;
+
+/// A net: the places 1 to `sources` are its sources and the gates follow in order. A gate's operands
+/// are constants or earlier places, and a sink is a constant or a place. It has fewer than 2^31 places.
+#[derive(Debug, Drop)]
+pub struct Net {
+    pub(crate) sources: u32,
+    pub(crate) gates: Vec<Gate>,
+    pub(crate) sinks: Vec<Sig>,
+}
+
+impl Model for Net {
+    ghost use Rattle.net_theory.specs.Net as net;
+    ghost use Rattle.net_theory.specs.Net.{IsNet};
+
+    ghost Value = { net.Net };
+
+    ghost view = { λ n. record { sources = n.sources; gates = n.gates.items; sinks = n.sinks.items } };
+
+    ghost invariant = { λ n. IsNet (record { sources = n.sources; gates = n.gates.items; sinks = n.sinks.items }) };
+}
+
+impl Net {
+    /// The net of so many sources with these gates, the first at the place behind the sources, and these
+    /// sinks.
+    pub fn new(sources: u32, gates: Vec<Gate>, sinks: Vec<Sig>) -> Net
+        requires { IsNet (record { sources = sources; gates = gates.items; sinks = sinks.items }) }
+        ensures { result ≡ record { sources = sources; gates = gates.items; sinks = sinks.items } }
+    {
+        Net {
+            sources,
+            gates,
+            sinks,
+        }
+    }
+
+    /// The number of sources.
+    pub fn sources(&self) -> u32
+        ensures sources { result ≡ self.now.sources }
+        ensures net { IsNet self.now }
+    {
+        self.sources
+    }
+
+    /// The gates in the order of their places.
+    pub fn gates(&self) -> &[Gate]
+        ensures gates { result.now ≡ self.now.gates }
+        ensures net { IsNet self.now }
+    {
+        &self.gates
+    }
+
+    /// What the net answers, in order.
+    pub fn sinks(&self) -> &[Sig]
+        ensures sinks { result.now ≡ self.now.sinks }
+        ensures net { IsNet self.now }
+    {
+        &self.sinks
+    }
+    /// The net with other sinks.
+    pub fn with_sinks(self, sinks: Vec<Sig>) -> Net
+        requires { All (IsSigBelow (end_of self)) sinks.items }
+        ensures { result ≡ record self { sinks = sinks.items } }
+    {
+        let Net {
+            sources,
+            gates,
+            sinks: _,
+        } = self;
+        Net {
+            sources,
+            gates,
+            sinks,
+        }
+    }
+}

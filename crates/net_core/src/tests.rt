@@ -1,0 +1,173 @@
+//! Tables, their gates and the values of these. Names for gates, and tables that lead to themselves, are
+//! tested where circuits are read and written.
+
+ghost use Rattle.std.specs.Prelude.{◌≡◌, IsTrue, IfOk};
+ghost use Rattle.std.specs.List.{list_all};
+ghost use Rattle.net_theory.specs.Cover.{IsCover, is_cube as is_cube_of, is_cube_byte};
+
+use crate::{
+    Cover, Cube, Net, Reads, Sig, cover_cost, cover_value, drop_dead, expand, values, visit_all,
+};
+use std::alloc::{AllocError, Global};
+
+/// Whether these bytes can stand in a cube.
+fn are_cube_bytes(bytes: &[u8]) -> bool
+    ensures { result ≡ list_all is_cube_byte bytes.now }
+{
+    bytes
+        .iter()
+        .all(|byte| *byte == b'0' || *byte == b'1' || *byte == b'-')
+}
+
+/// Whether they are a cube.
+fn is_cube(width: u32, bytes: &[u8]) -> bool
+    ensures { result ≡ is_cube_of width bytes.now }
+{
+    bytes.len() == width as usize && are_cube_bytes(bytes)
+}
+
+/// Whether all cubes are cubes.
+fn is_cover(cover: &Cover) -> bool
+    ensures { IsTrue result → IsCover cover.now }
+{
+    cover
+        .cubes
+        .iter()
+        .all(|cube| is_cube(cover.width, cube.get()))
+}
+
+/// A cover of three inputs.
+fn cover(alloc: Global, cubes: &[&[u8]], on: bool) -> Result<Cover, AllocError>
+    ensures { IfOk result (λ cover. cover.width ≡ 3) }
+{
+    let mut all = Vec::new(alloc);
+    for cube in cubes {
+        all.push(Cube::new(Vec::from_slice(alloc, cube)?))?;
+    }
+    Ok(Cover {
+        width: 3,
+        cubes: all,
+        on,
+    })
+}
+
+/// The value of a signal, as it is written.
+fn digit(sig: Sig, places: &[bool]) -> u8 {
+    let value = match sig {
+        Sig::Zero => false,
+        Sig::One => true,
+        Sig::Place(place) => places
+            .get((place as usize).wrapping_sub(1))
+            .copied()
+            .unwrap_or(false),
+    };
+    if value { b'1' } else { b'0' }
+}
+
+/// The values of a signal of a net of three sources on the rows 000, 001, 010 and so on.
+fn rows(alloc: Global, net: &Net, sig: Sig) -> Result<Vec<u8>, AllocError>
+    requires { net.now.sources ≡ 3 }
+{
+    let mut digits = Vec::new(alloc);
+    for row in 0..8u32 {
+        let mut places = vec![in alloc; false; 3 + net.gates().len()]?;
+        values(
+            net,
+            &[row & 4 == 4, row & 2 == 2, row & 1 == 1],
+            &mut places,
+        );
+        digits.push(digit(sig, &places))?;
+    }
+    Ok(digits)
+}
+
+/// The rows of a table by its gates, and how many they are; nothing where it is no cover.
+fn built(alloc: Global, cubes: &[&[u8]], on: bool) -> Result<(Vec<u8>, usize), AllocError> {
+    let cover = cover(alloc, cubes, on)?;
+    let inputs = [Sig::Place(1), Sig::Place(2), Sig::Place(3)];
+    if !is_cover(&cover) || cover.cubes.len() > 4096 || cover_cost(&cover, &inputs) > 1000 {
+        return Ok((Vec::new(alloc), 0));
+    }
+    let mut net = Net::new(3, Vec::new(alloc), Vec::new(alloc));
+    let sig = expand(alloc, &mut net, &cover, &inputs)?;
+    let count = net.gates().len();
+    Ok((rows(alloc, &net, sig)?, count))
+}
+
+#[test]
+fn tables_become_gates(rt: HostRuntime) {
+    for (cubes, on, digits, gates) in [
+        (
+            &[b"1-0" as &[u8], b"-11"] as &[&[u8]],
+            true,
+            b"00011011",
+            3usize,
+        ),
+        (&[b"000"], false, b"01111111", 2),
+        (&[b"1--"], true, b"00001111", 0),
+        (&[b"0--"], true, b"11110000", 1),
+        (&[b"1--"], false, b"11110000", 1),
+        (&[b"0--"], false, b"00001111", 0),
+        (&[b"01-", b"10-"], true, b"00111100", 3),
+        (&[b"01-", b"10-"], false, b"11000011", 3),
+        (&[b"111", b"---"], true, b"11111111", 0),
+        (&[b"---"], false, b"00000000", 0),
+        (&[], true, b"00000000", 0),
+        (&[], false, b"00000000", 0),
+    ] {
+        let (rows, count) = built(rt.alloc(), cubes, on).expect(&rt, "memory");
+        assert!(rt; rows.as_slice() == digits.as_slice());
+        assert_eq!(rt; count, gates);
+    }
+}
+
+#[test]
+fn dead_gates_go(rt: HostRuntime) {
+    let alloc = rt.alloc();
+    let xor = cover(alloc, &[b"01-", b"10-"], true).expect(&rt, "memory");
+    let and = cover(alloc, &[b"11-"], true).expect(&rt, "memory");
+    assert!(rt; is_cover(&xor) && is_cover(&and));
+    assert!(rt; xor.cubes.len() < 9 && and.cubes.len() < 9);
+    let inputs = [Sig::Place(1), Sig::Place(2), Sig::Place(3)];
+    assert!(rt; cover_cost(&xor, &inputs) == 3 && cover_cost(&and, &inputs) == 1);
+    assert!(rt;
+        cover_value(&xor, &[false, true, true]) && !cover_value(&and, &[false, true, true])
+    );
+    let mut net = Net::new(3, Vec::new(alloc), Vec::new(alloc));
+    let first = expand(alloc, &mut net, &xor, &inputs).expect(&rt, "memory");
+    let second = expand(alloc, &mut net, &and, &inputs).expect(&rt, "memory");
+    assert!(rt; first == Sig::Place(6) && second == Sig::Place(7));
+    let net = net.with_sinks(Vec::from_slice(
+        alloc,
+        &[Sig::Place(7), Sig::Place(2), Sig::One],
+    ).expect(&rt, "memory"));
+    let left = drop_dead(alloc, &net).expect(&rt, "memory");
+    assert!(rt;
+        left.gates().len() == 1
+            && left.sinks() == [Sig::Place(4), Sig::Place(2), Sig::One].as_slice()
+    );
+}
+
+#[test]
+fn tables_are_ordered(rt: HostRuntime) {
+    let alloc = rt.alloc();
+    for (graph, order) in [
+        (
+            &[&[1u32] as &[u32], &[2], &[]] as &[&[u32]],
+            Some(&[2u32, 1, 0] as &[u32]),
+        ),
+        (&[&[2, 1], &[], &[1]], Some(&[1, 2, 0])),
+        (&[&[1], &[0]], None),
+        (&[], Some(&[])),
+    ] {
+        let mut reads = Vec::new(alloc);
+        for tables in graph {
+            reads
+                .push(Reads::new(Vec::from_slice(alloc, tables).expect(&rt, "memory")))
+                .expect(&rt, "memory");
+        }
+        assert!(rt; reads.len() < 9);
+        let found = visit_all(alloc, &reads).expect(&rt, "memory");
+        assert!(rt; found.as_ref().map(|tables| tables.as_slice()) == order);
+    }
+}
