@@ -1,0 +1,12 @@
+pub mod Accepting
+pub mod Above
+pub mod Entries
+pub mod Found
+pub mod Inside
+pub mod Kept
+pub mod Loaded
+pub mod Marking
+pub mod Scanning
+pub mod SeenIds
+pub mod Stamps
+pub mod Starting

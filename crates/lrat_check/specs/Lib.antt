@@ -1,0 +1,14 @@
+pub mod Marks
+pub mod Seen
+pub mod Hints
+pub mod Index
+pub mod Checked
+pub mod FaultLaws
+pub mod Judging
+pub mod Keeps
+pub mod Live
+pub use Rattle.sat_theory.specs.Formula
+pub use Rattle.sat_theory.specs.Line
+pub use Rattle.sat_theory.specs.State
+pub use Rattle.sat_theory.specs.Holding
+pub use Rattle.sat_theory.specs.Log

@@ -1,0 +1,24 @@
+-- A set of literals, kept as a stamp for each literal: a literal is in the set where its stamp is the
+-- one of now.
+use Rattle.std.specs.Prelude.{◌≡◌, ℕ, suc, ◌+◌, ◌*◌, ◌≤◌, ◌<◌, ◌==◌, ℤ, pos, negsuc, Bool, List, length, slice_index_or, All}
+
+pub record Stamped : Type 0 where
+  pub stamps : List ℕ
+  pub time : ℕ
+
+-- where the stamp of a literal stands
+abbrev pub code_of : ℤ → ℕ
+code_of (pos n) = 2 * n
+code_of (negsuc n) = 2 * suc n + 1
+
+-- no stamp is of a later time, and none is of now by default
+pub record AreStamps (m : Stamped) : Type 0 where
+  pub past : All (λ s. s ≤ m.time) m.stamps
+  pub begun : 0 < m.time
+
+unfoldable pub marked : Stamped → ℤ → Bool
+marked m l = slice_index_or m.stamps (code_of l) 0 == m.time
+
+-- there are stamps for the literals of the variables 1 to vars
+abbrev pub HasRoom : Stamped → ℕ → Type 0
+HasRoom m vars = length m.stamps ≡ 2 * vars + 2

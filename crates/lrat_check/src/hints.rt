@@ -1,0 +1,76 @@
+ghost use Rattle.std.specs.Prelude.{◌≡◌, ◌≤◌, length};
+ghost use Rattle.sat_theory.specs.Formula.{variable, IsWithin};
+ghost use Rattle.sat_theory.specs.Holding.{among};
+ghost use Rattle.lrat_check.specs.Live.{live_at, AreWithin};
+ghost use Rattle.lrat_check.specs.Marks.{marked, HasRoom};
+ghost use Rattle.lrat_check.specs.Hints.{outside, scan_of, IsThere, hints_fault, told};
+
+use crate::CheckError;
+use crate::clauses::Clauses;
+use crate::marks::Marks;
+use cnf_core::Lit;
+
+/// How many literals of a clause are outside the falsified set.
+#[derive(Clone, Copy, Debug, PartialEq, Eq)]
+pub(crate) enum Scan {
+    /// None.
+    Conflict,
+    /// This one alone.
+    Unit(Lit),
+    /// Two or more.
+    Many,
+}
+
+/// Counts the literals of a clause that aren't marked.
+fn scan_clause(marks: &Marks, clause: &[Lit]) -> Scan
+    ensures count { result ≡ scan_of (outside (marked marks.now) clause.now) }
+    ensures there { IsThere clause.now result }
+{
+    let mut found: Option<Lit> = None;
+    for lit in clause {
+        if marks.has(*lit) {
+            continue;
+        }
+        if found.is_some() {
+            return Scan::Many;
+        }
+        found = Some(*lit);
+    }
+    match found {
+        None => Scan::Conflict,
+        Some(lit) => Scan::Unit(lit),
+    }
+}
+
+/// Goes through hints from the set of the marked literals, and marks what joins it.
+#[tactic(auto, unfolding(crate::specs::Hints::hints_fault))]
+pub(crate) fn check_hints(
+    clauses: &Clauses,
+    marks: &mut Marks,
+    vars: u32,
+    hints: &[u32],
+) -> Result<(), CheckError>
+    requires room { HasRoom marks.old vars }
+    requires within { AreWithin vars (live_at clauses.now) }
+    ensures exact { told result ≡ hints_fault (live_at clauses.now) (marked marks.old) hints.now }
+    ensures room { HasRoom marks.new vars }
+{
+    let mut left = hints;
+    while let Some((hint, after)) = left.split_first() {
+        let Some(clause) = clauses.get(*hint) else {
+            return Err(CheckError::UnknownId(*hint));
+        };
+        match scan_clause(marks, clause.lits()) {
+            Scan::Many => return Err(CheckError::NotUnit(*hint)),
+            Scan::Conflict => {
+                if after.is_empty() {
+                    return Ok(());
+                }
+                return Err(CheckError::NotUnit(*hint));
+            }
+            Scan::Unit(lit) => marks.add(lit.opposite()),
+        }
+        left = after;
+    }
+    Err(CheckError::NoConflict)
+}

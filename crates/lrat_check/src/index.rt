@@ -1,0 +1,144 @@
+ghost use Rattle.std.specs.Prelude.{◌≡◌, ◌+◌, ◌*◌, ◌<◌, ℤ, [], ◌∷◌, ◌++◌, length, OnOk, OnErr, IfOk, IfSome, Any};
+ghost use Rattle.lrat_check.specs.Marks.{code_of};
+ghost use Rattle.lrat_check.specs.Index.{ids_of as ids_of_lit, with_id, IsFound, KeepsFound};
+
+use crate::marks::code;
+use cnf_core::Lit;
+use std::alloc::{AllocError, Global};
+use std::marker::Model;
+
+/// A list of ids.
+#[derive(Debug, Drop)]
+pub(crate) struct Ids {
+    ids: Vec<u32>,
+}
+
+impl Model for Ids {
+    ghost use Rattle.std.specs.Prelude.{List, ℕ};
+
+    ghost Value = { List ℕ };
+
+    ghost view = { λ i. i.ids.items };
+}
+
+impl Ids {
+    fn new(alloc: Global) -> Ids
+        ensures { result ≡ [] }
+    {
+        Ids {
+            ids: Vec::new(alloc),
+        }
+    }
+
+    fn push(&mut self, id: u32) -> Result<(), AllocError>
+        ensures ok { OnOk result (self.new ≡ self.old ++ id ∷ []) }
+        ensures err { OnErr result (self.new ≡ self.old) }
+    {
+        self.ids.push(id)?;
+        Ok(())
+    }
+
+    fn len(&self) -> usize
+        ensures { result ≡ length self.now }
+    {
+        self.ids.len()
+    }
+
+    pub(crate) fn get(&self) -> &[u32]
+        ensures { result.now ≡ self.now }
+    {
+        &self.ids
+    }
+}
+
+/// Where clauses are looked for by their literals: each clause has its id in the list of one of its
+/// literals, the one whose list was the shortest.
+#[derive(Debug, Drop)]
+pub(crate) struct Index {
+    heads: Vec<Ids>,
+    others: Ids,
+}
+
+impl Model for Index {
+    ghost use Rattle.lrat_check.specs.Index.{Lists};
+
+    ghost Value = { Lists };
+
+    ghost view = { λ i. record { heads = i.heads.items; others = i.others } };
+}
+
+impl Index {
+    /// No ids, and lists for the literals of the variables 1 to `vars`.
+    pub(crate) fn new(alloc: Global, vars: u32) -> Result<Index, AllocError> {
+        let codes = 2 * vars as usize + 2;
+        let mut heads = Vec::with_capacity(alloc, codes)?;
+        for _ in 0..codes {
+            heads.push(Ids::new(alloc))?;
+        }
+        Ok(Index {
+            heads,
+            others: Ids::new(alloc),
+        })
+    }
+
+    /// The ids in the list of a literal.
+    pub(crate) fn ids_of(&self, lit: Lit) -> &[u32]
+        ensures { result.now ≡ ids_of_lit self.now lit }
+    {
+        match self.heads.get(code(lit)) {
+            Some(ids) => ids.get(),
+            None => &[],
+        }
+    }
+
+    /// The ids in no literal's list.
+    pub(crate) fn others(&self) -> &[u32]
+        ensures { result.now ≡ self.now.others }
+    {
+        self.others.get()
+    }
+
+    /// Puts a clause's id into a list. It takes a step for each of its literals.
+    #[tactic(auto, using(crate::proofs::Found::finding))]
+    pub(crate) fn add(&mut self, id: u32, lits: &[Lit]) -> Result<(), AllocError>
+        ensures found { OnOk result (IsFound self.new id lits.now) }
+        ensures kept { OnOk result (KeepsFound self.old self.new) }
+        ensures err { OnErr result (self.new ≡ self.old) }
+    {
+        let Some(place) = self.shortest(lits) else {
+            return self.others.push(id);
+        };
+        push_at(&mut self.heads, place, id)
+    }
+
+    /// The place of the shortest list of a literal.
+    fn shortest(&self, lits: &[Lit]) -> Option<usize>
+        ensures head { IfSome result (λ place. Any (λ (l : ℤ). code_of l ≡ place) lits.now) }
+        ensures within { IfSome result (λ place. place < length self.now.heads) }
+    {
+        let mut best: Option<(usize, usize)> = None;
+        for lit in lits {
+            let place = code(*lit);
+            let Some(ids) = self.heads.get(place) else {
+                continue;
+            };
+            if let Some((_, least)) = best {
+                if least <= ids.len() {
+                    continue;
+                }
+            }
+            best = Some((place, ids.len()));
+        }
+        best.map(|(place, _)| place)
+    }
+}
+
+/// Puts an id into the list at a place.
+fn push_at(heads: &mut Vec<Ids>, place: usize, id: u32) -> Result<(), AllocError>
+    requires { place < length heads.old.items }
+    ensures ok { OnOk result (heads.new.items ≡ with_id heads.old.items place id) }
+    ensures err { OnErr result (heads.new.items ≡ heads.old.items) }
+{
+    let ids = &mut heads[place];
+    ids.push(id)
+}

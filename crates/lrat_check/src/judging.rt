@@ -1,0 +1,94 @@
+ghost use Rattle.std.specs.Prelude.{◌≡◌, ℤ, false, OnOk, IfOk};
+ghost use Rattle.sat_theory.specs.Formula.{IsWithin};
+ghost use Rattle.sat_theory.specs.Holding.{among};
+ghost use Rattle.lrat_check.specs.Live.{live_at, AreWithin};
+ghost use Rattle.lrat_check.specs.Marks.{marked, HasRoom};
+ghost use Rattle.lrat_check.specs.Hints.{told};
+ghost use Rattle.lrat_check.specs.Judging as spec;
+ghost use Rattle.lrat_check.specs.Seen.{seen_in, Judges};
+
+use crate::CheckError;
+use crate::clauses::Clauses;
+use crate::hints::check_hints;
+use crate::marks::Marks;
+use cnf_core::Lit;
+use std::alloc::{AllocError, Global};
+use std::collections::HashSet;
+
+/// Whether an addition holds. The marks are cleared first, so what they were says nothing.
+#[tactic(auto, using(crate::proofs::Above::above))]
+pub(crate) fn judge_addition(
+    clauses: &Clauses,
+    marks: &mut Marks,
+    vars: u32,
+    greatest: u32,
+    id: u32,
+    lits: &[Lit],
+    hints: &[u32],
+) -> Result<(), CheckError>
+    requires room { HasRoom marks.old vars }
+    requires within { AreWithin vars (live_at clauses.now) }
+    ensures exact { told result ≡ spec.addition_fault (record { live = live_at clauses.now; vars = vars; greatest = greatest }) id lits.now hints.now }
+    ensures room { HasRoom marks.new vars }
+{
+    if id <= greatest {
+        return Err(CheckError::IdNotGreater(id));
+    }
+    if let Some(variable) = first_above(vars, lits) {
+        return Err(CheckError::UnknownVariable(variable));
+    }
+    marks.clear();
+    mark_all(marks, vars, lits);
+    check_hints(clauses, marks, vars, hints)
+}
+
+/// The first variable above a number.
+fn first_above(vars: u32, lits: &[Lit]) -> Option<u32>
+    ensures { result ≡ spec.first_above vars lits.now }
+{
+    lits.iter()
+        .map(|lit| lit.variable())
+        .find(|variable| *variable > vars)
+}
+
+/// Puts literals into the empty set.
+#[tactic(auto, using(crate::proofs::Marking::marking))]
+fn mark_all(marks: &mut Marks, vars: u32, lits: &[Lit])
+    requires empty { (l : ℤ) → marked marks.old l ≡ false }
+    requires room { HasRoom marks.old vars }
+    requires within { IsWithin vars lits.now }
+    ensures set { marked marks.new ≡ among lits.now }
+    ensures room { HasRoom marks.new vars }
+{
+    for lit in lits {
+        marks.add(*lit);
+    }
+}
+
+/// Whether a deletion holds.
+#[tactic(auto, unfolding(crate::specs::Judging::deletion_fault), using(crate::proofs::SeenIds::seeing))]
+pub(crate) fn judge_deletion(
+    alloc: Global,
+    clauses: &Clauses,
+    ids: &[u32],
+) -> Result<(), CheckError>
+    ensures { Judges result (spec.deletion_fault (live_at clauses.now) spec.no_ids ids.now) }
+{
+    let mut seen = HashSet::new(alloc);
+    let mut left = ids;
+    while let Some((id, after)) = left.split_first() {
+        if clauses.get(*id).is_none() || comes_again(&mut seen, *id)? {
+            return Err(CheckError::UnknownDelete(*id));
+        }
+        left = after;
+    }
+    Ok(())
+}
+
+/// Whether an id was seen; from now on it is.
+fn comes_again(seen: &mut HashSet<u32>, id: u32) -> Result<bool, AllocError>
+    ensures again { IfOk result (λ yes. yes ≡ seen_in seen.old id) }
+    ensures seen { OnOk result (seen_in seen.new ≡ spec.with_id (seen_in seen.old) id) }
+{
+    Ok(!seen.insert(id)?)
+}

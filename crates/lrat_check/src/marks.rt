@@ -1,0 +1,78 @@
+ghost use Rattle.std.specs.Prelude.{◌≡◌, ◌+◌, ◌*◌, ◌<◌, ◌≤◌, ◌^◌, ℤ, false, length, IfOk};
+ghost use Rattle.sat_theory.specs.Formula.{variable};
+ghost use Rattle.sat_theory.specs.Holding.{with_literal};
+ghost use Rattle.lrat_check.specs.Marks.{code_of, marked, HasRoom};
+
+use cnf_core::Lit;
+use std::alloc::{AllocError, Global};
+use std::marker::Model;
+
+/// A set of literals that is emptied at once: each literal has a stamp, and is in the set where the
+/// stamp is the one of now.
+#[derive(Debug, Drop)]
+pub(crate) struct Marks {
+    stamps: Vec<u32>,
+    time: u32,
+}
+
+impl Model for Marks {
+    ghost use Rattle.lrat_check.specs.Marks.{Stamped, AreStamps};
+
+    ghost Value = { Stamped };
+
+    ghost view = { λ m. record { stamps = m.stamps.items; time = m.time } };
+
+    ghost invariant = { λ m. AreStamps (record { stamps = m.stamps.items; time = m.time }) };
+}
+
+/// Where the stamp of a literal stands.
+pub(crate) fn code(lit: Lit) -> usize
+    ensures value { result ≡ code_of lit }
+    ensures small { result < 2 ^ 33 }
+{
+    2 * lit.variable() as usize + usize::from(!lit.is_positive())
+}
+
+#[tactic(auto, using(crate::proofs::Stamps::stamping))]
+impl Marks {
+    /// The empty set, with room for the literals of the variables 1 to `vars`.
+    pub(crate) fn new(alloc: Global, vars: u32) -> Result<Marks, AllocError>
+        ensures { IfOk result (λ m. HasRoom m vars) }
+    {
+        let stamps = vec![in alloc; 0u32; 2 * vars as usize + 2]?;
+        Ok(Marks { stamps, time: 1 })
+    }
+
+    /// Empties the set. Once in four billion times it takes a step for each literal.
+    pub(crate) fn clear(&mut self)
+        ensures none { (l : ℤ) → marked self.new l ≡ false }
+        ensures room { length self.new.stamps ≡ length self.old.stamps }
+    {
+        if self.time < u32::MAX {
+            self.time += 1;
+            return;
+        }
+        self.stamps.fill(0);
+        self.time = 1;
+    }
+
+    /// Puts a literal into the set.
+    pub(crate) fn add(&mut self, lit: Lit)
+        requires { code_of lit < length self.old.stamps }
+        ensures set { marked self.new ≡ with_literal (marked self.old) lit }
+        ensures room { length self.new.stamps ≡ length self.old.stamps }
+    {
+        self.stamps[code(lit)] = self.time;
+    }
+
+    /// Whether a literal is in the set.
+    #[tactic(auto, unfolding(crate::specs::Marks::marked))]
+    pub(crate) fn has(&self, lit: Lit) -> bool
+        ensures { result ≡ marked self.now lit }
+    {
+        match self.stamps.get(code(lit)) {
+            Some(stamp) => *stamp == self.time,
+            None => false,
+        }
+    }
+}
