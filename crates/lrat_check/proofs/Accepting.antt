@@ -78,6 +78,7 @@ or_right false b is = is
 -- So a checker goes on with the log.
 pub accepted_more : (f : Formula) (lines : List Line) (line : Line) (old new : Checked) → HasAccepted f lines old → IsLine line → Holds (state_of old) line → state_of new ≡ next (state_of old) line → new.refuted ≡ (old.refuted || adds_empty line) → HasAccepted f (lines ++ line ∷ []) new
 accepted_more f lines line old new before is_line holds next_is refuted_is = record {
+  formula = before.formula;
   holds = EachLine-push IsStep (start f) lines line before.holds (record { is_line = is_line; holds = subst (λ (s : State). Holds s line) before.state holds });
   state = next_is ∙ ap (λ (s : State). next s line) before.state ∙ sym (after-push (start f) lines line);
   refuted = (λ reached. forth (or_cases old.refuted (adds_empty line) (sym refuted_is ∙ reached)), λ has. refuted_is ∙ back has);

@@ -10,3 +10,4 @@ pub mod Scanning
 pub mod SeenIds
 pub mod Stamps
 pub mod Starting
+pub mod Swept

@@ -4,12 +4,12 @@ use Rattle.std.specs.Option.{option_to_list}
 use Rattle.std.proofs.lemmas.List.{take-append-drop}
 use Rattle.std.proofs.lemmas.List.Elements.{filter-append}
 use Rattle.sat_theory.specs.Formula.{variable, opposite}
-use Rattle.lrat_check.specs.declared.hints.Scan.TheVariants.{Many}
 use Rattle.lrat_check.specs.Marks.{Stamped, code_of, HasRoom}
-use Rattle.lrat_check.specs.Hints.{outside, scan_of}
+use Rattle.lrat_check.specs.Hints.{outside}
+use Rattle.lrat_check.specs.Scan.{AreMany}
 
 -- a second literal outside
-two_outside : (set : ℤ → Bool) (clause : List ℤ) (i : ℕ) (l m : ℤ) → outside set (take i clause) ≡ l ∷ [] → i < length clause → m ≡ get_or clause i m → set m ≡ false → Many ≡ scan_of (outside set clause)
+two_outside : (set : ℤ → Bool) (clause : List ℤ) (i : ℕ) (l m : ℤ) → outside set (take i clause) ≡ l ∷ [] → i < length clause → m ≡ get_or clause i m → set m ≡ false → AreMany (outside set clause)
 two_outside set clause i l m front within at out =
     let rest : List ℤ = drop (suc i) clause in
     let split : take i clause ++ drop i clause ≡ clause = take-append-drop i clause in
@@ -17,9 +17,9 @@ two_outside set clause i l m front within at out =
     let whole : clause ≡ take i clause ++ m ∷ rest = sym split ∙ ap (λ (xs : List ℤ). take i clause ++ xs) next in
     let last : outside set (m ∷ rest) ≡ m ∷ outside set rest = rw out refl in
     let all : outside set clause ≡ l ∷ m ∷ outside set rest = ap (outside set) whole ∙ filter-append (λ x. not (set x)) (take i clause) (m ∷ rest) ∙ ap (λ (xs : List ℤ). xs ++ outside set (m ∷ rest)) front ∙ ap (λ (xs : List ℤ). l ∷ xs) last in
-    sym (ap scan_of all)
+    record { first = l; second = m; others = outside set rest; is = all }
 
-pub many_outside : (set : ℤ → Bool) (clause : List ℤ) (i : ℕ) (found : Option ℤ) (m : ℤ) → is_some found ≡ true → outside set (take i clause) ≡ option_to_list found → i < length clause → m ≡ get_or clause i m → set m ≡ false → Many ≡ scan_of (outside set clause)
+pub many_outside : (set : ℤ → Bool) (clause : List ℤ) (i : ℕ) (found : Option ℤ) (m : ℤ) → is_some found ≡ true → outside set (take i clause) ≡ option_to_list found → i < length clause → m ≡ get_or clause i m → set m ≡ false → AreMany (outside set clause)
 many_outside set clause i None m some front within at out = absurd (cc)
 many_outside set clause i (Some l) m some front within at out = two_outside set clause i l m front within at out
 

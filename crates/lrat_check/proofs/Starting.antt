@@ -39,9 +39,9 @@ has_empty f b told = (λ yes_. inl (contained (told.0 yes_)), λ has. told.1 (fo
     found has = ⊎_elim (λ (there : Contains f.clauses []). (there.0, [], there.1, there.2, refl)) (λ (none : Any AddsEmpty []). absurd (let within : none.0 < 0 = none.2 in omega arith)) has
 
 -- A checker of a formula has accepted no line.
-pub accepted_none : (f : Formula) (c : Checked) → state_of c ≡ start f → (c.refuted ≡ true) ↔ HasEmpty f [] → HasAccepted f [] c
+pub accepted_none : (f : Formula) (c : Checked) → IsFormula f → state_of c ≡ start f → (c.refuted ≡ true) ↔ HasEmpty f [] → HasAccepted f [] c
 unfolding after EachLine
-accepted_none f c state refuted = record { holds = tt; state = state; refuted = refuted }
+accepted_none f c formula state refuted = record { formula = formula; holds = tt; state = state; refuted = refuted }
 
 pub same_state : (f g : ℕ → Option (List ℤ)) (m n j k : ℕ) → f ≡ g → m ≡ n → j ≡ k → (let s : State = record { live = f; vars = m; greatest = j } in s) ≡ record { live = g; vars = n; greatest = k }
 same_state f g m n j k p q r = λ i. record { live = p i; vars = q i; greatest = r i }

@@ -1,7 +1,7 @@
 -- What a checker shows.
 use Rattle.std.specs.Prelude.{◌≡◌, ℕ, ℤ, Bool, true, false, ◌==◌, ◌↔◌, length, refl, List}
 use Rattle.std.specs.Coded.{Coded, code_by, coded×, coded_ℕ, coded_bool}
-use Rattle.sat_theory.specs.Formula.{Formula}
+use Rattle.sat_theory.specs.Formula.{Formula, IsFormula}
 use Rattle.sat_theory.specs.Line.{Line, Add, Delete}
 use Rattle.sat_theory.specs.State.{State, start}
 use Rattle.sat_theory.specs.Log.{after, LogHolds, HasEmpty}
@@ -35,6 +35,7 @@ adds_empty (Delete id ids) = false
 
 -- A checker of a formula has accepted these lines, and no others.
 pub record HasAccepted (f : Formula) (lines : List Line) (c : Checked) : Type 0 where
+  pub formula : IsFormula f
   pub holds : LogHolds f lines
   pub state : state_of c ≡ after (start f) lines
   pub refuted : (c.refuted ≡ true) ↔ HasEmpty f lines

@@ -11,7 +11,7 @@ use Rattle.sat_theory.specs.State.{State}
 use Rattle.sat_theory.specs.Holding.{among, with_literal, IsUnitOutside, HintsHold, AdditionHolds, DeletionHolds, Holds}
 use Rattle.lrat_check.specs.declared.error.CheckError.{CheckError}
 use Rattle.lrat_check.specs.declared.error.CheckError.TheVariants.{UnknownDelete, IdNotGreater}
-use Rattle.lrat_check.specs.Hints.{outside, scan_of, fault_at, fault_in, hints_fault}
+use Rattle.lrat_check.specs.Hints.{outside, fault_at, fault_in, hints_fault}
 use Rattle.lrat_check.specs.Live.{AreClauses}
 use Rattle.lrat_check.specs.Judging.{first_above, variables_then, addition_fault, no_ids, with_id, deletion_fault, line_fault}
 
@@ -100,7 +100,7 @@ Next = (ℤ → Bool) → Option CheckError
 record NoFault (set : ℤ → Bool) (hint : ℕ) (hs : List ℕ) (next : Next) (clause : List ℤ) : Type 0 where
   cases : ((hs ≡ []) × All (λ m. set m ≡ true) clause) ⊎ ((l : ℤ) × IsUnitOutside set clause l × (next (with_literal set (opposite l)) ≡ None))
 
-no_fault : (set : ℤ → Bool) (hint : ℕ) (hs : List ℕ) (next : Next) (clause : List ℤ) (out : List ℤ) → outside set clause ≡ out → fault_at hint hs set next (scan_of out) ≡ None → NoFault set hint hs next clause
+no_fault : (set : ℤ → Bool) (hint : ℕ) (hs : List ℕ) (next : Next) (clause : List ℤ) (out : List ℤ) → outside set clause ≡ out → fault_at hint hs set next out ≡ None → NoFault set hint hs next clause
 no_fault set hint [] next clause [] is none = record { cases = inl (refl, none_outside set clause is) }
 no_fault set hint (h ∷ hs) next clause [] is none = absurd cc
 no_fault set hint hs next clause (l ∷ []) is none = record { cases = inr (l, unit_outside set clause l is, none) }
@@ -138,10 +138,10 @@ pub hints_without_fault : (live : ℕ → Option (List ℤ)) (hints : List ℕ) 
 unfolding hints_fault HintsHold
 hints_without_fault live [] set clauses holds = absurd holds
 hints_without_fault live (hint ∷ []) set clauses (clause, is, all) =
-    ap (fault_in hint [] set (λ s. hints_fault live s [])) is ∙ ap (λ (xs : List ℤ). fault_at hint [] set (λ s. hints_fault live s []) (scan_of xs)) (all_inside set clause all)
+    ap (fault_in hint [] set (λ s. hints_fault live s [])) is ∙ ap (fault_at hint [] set (λ s. hints_fault live s [])) (all_inside set clause all)
 hints_without_fault live (hint ∷ h ∷ hs) set clauses (clause, l, is, unit, holds) =
     ap (fault_in hint (h ∷ hs) set (λ s. hints_fault live s (h ∷ hs))) is
-    ∙ ap (λ (xs : List ℤ). fault_at hint (h ∷ hs) set (λ s. hints_fault live s (h ∷ hs)) (scan_of xs)) (one_outside set clause l (clauses.each hint clause is).differ unit)
+    ∙ ap (fault_at hint (h ∷ hs) set (λ s. hints_fault live s (h ∷ hs))) (one_outside set clause l (clauses.each hint clause is).differ unit)
     ∙ hints_without_fault live (h ∷ hs) (with_literal set (opposite l)) clauses holds
 
 -- ---- additions

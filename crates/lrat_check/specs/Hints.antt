@@ -1,9 +1,7 @@
 -- What is wrong with hints: the first fault, judged one by one.
-use Rattle.std.specs.Prelude.{ℕ, ℤ, Bool, not, List, [], ◌∷◌, filter, Contains, Option, Some, None, Result, Ok, Err}
+use Rattle.std.specs.Prelude.{ℕ, ℤ, Bool, not, List, [], ◌∷◌, filter, Option, Some, None, Result, Ok, Err}
 use Rattle.sat_theory.specs.Formula.{opposite}
 use Rattle.sat_theory.specs.Holding.{with_literal}
-use Rattle.lrat_check.specs.declared.hints.Scan.{Scan}
-use Rattle.lrat_check.specs.declared.hints.Scan.TheVariants as scans
 use Rattle.lrat_check.specs.declared.error.CheckError.{CheckError}
 use Rattle.lrat_check.specs.declared.error.CheckError.TheVariants.{UnknownId, NotUnit, NoConflict}
 
@@ -11,31 +9,20 @@ use Rattle.lrat_check.specs.declared.error.CheckError.TheVariants.{UnknownId, No
 abbrev pub outside : (ℤ → Bool) → List ℤ → List ℤ
 outside set clause = filter (λ l. not (set l)) clause
 
--- none, one, or more
-abbrev pub scan_of : List ℤ → Scan
-scan_of [] = scans.Conflict
-scan_of (l ∷ []) = scans.Unit l
-scan_of (l ∷ m ∷ ls) = scans.Many
-
--- a literal that is outside alone stands in the clause
-abbrev pub IsThere : List ℤ → Scan → Type 0
-IsThere clause scans.Conflict = Unit {0}
-IsThere clause (scans.Unit l) = Contains clause l
-IsThere clause scans.Many = Unit {0}
-
--- a clause with nothing outside is to be the last
+-- a clause with nothing outside is that of the last hint
 abbrev pub fault_at_conflict : ℕ → List ℕ → Option CheckError
 fault_at_conflict hint [] = None
 fault_at_conflict hint (h ∷ hs) = Some (NotUnit hint)
 
-abbrev pub fault_at : ℕ → List ℕ → (ℤ → Bool) → ((ℤ → Bool) → Option CheckError) → Scan → Option CheckError
-fault_at hint hints set next scans.Conflict = fault_at_conflict hint hints
-fault_at hint hints set next (scans.Unit l) = next (with_literal set (opposite l))
-fault_at hint hints set next scans.Many = Some (NotUnit hint)
+-- by the literals outside: the opposite of one alone joins the set, and two are a fault
+abbrev pub fault_at : ℕ → List ℕ → (ℤ → Bool) → ((ℤ → Bool) → Option CheckError) → List ℤ → Option CheckError
+fault_at hint hints set next [] = fault_at_conflict hint hints
+fault_at hint hints set next (l ∷ []) = next (with_literal set (opposite l))
+fault_at hint hints set next (l ∷ m ∷ ls) = Some (NotUnit hint)
 
 abbrev pub fault_in : ℕ → List ℕ → (ℤ → Bool) → ((ℤ → Bool) → Option CheckError) → Option (List ℤ) → Option CheckError
 fault_in hint hints set next None = Some (UnknownId hint)
-fault_in hint hints set next (Some clause) = fault_at hint hints set next (scan_of (outside set clause))
+fault_in hint hints set next (Some clause) = fault_at hint hints set next (outside set clause)
 
 -- A hint names no live clause, or not one literal of its clause is outside the set, or the last one
 -- leaves no conflict.

@@ -1,7 +1,11 @@
 -- Where a clause is looked for by its literals.
-use Rattle.std.specs.Prelude.{◌≡◌, ℕ, ◌⊎◌, ℤ, true, List, [], ◌∷◌, ◌++◌, slice_set, Any, All, Contains, slice_index_or, Option, Some}
+use Rattle.std.specs.Prelude.{◌≡◌, ℕ, ◌⊎◌, ℤ, Bool, true, is_some, List, [], ◌∷◌, ◌++◌, slice_set, Any, All, Contains, slice_index_or, Option, Some}
 use Rattle.sat_theory.specs.State.{is_listed}
 use Rattle.lrat_check.specs.Marks.{code_of}
+
+-- whether a clause has the id
+abbrev pub is_live : (ℕ → Option (List ℤ)) → ℕ → Bool
+is_live live id = is_some (live id)
 
 -- lists of ids by the codes of literals, and a list for what stands in none of them
 pub record Lists : Type 0 where
@@ -22,6 +26,14 @@ IsFound index id clause = Any (λ l. is_listed (ids_of index l) id ≡ true) cla
 -- what could be found is found
 pub record KeepsFound (old new : Lists) : Type 0 where
   pub each : (id : ℕ) (clause : List ℤ) → IsFound old id clause → IsFound new id clause
+
+-- what could be found is found, where it is live
+pub record KeepsLive (live : ℕ → Option (List ℤ)) (old new : Lists) : Type 0 where
+  pub each : (id : ℕ) (clause : List ℤ) → is_live live id ≡ true → IsFound old id clause → IsFound new id clause
+
+-- no list loses an id that is live
+pub record SweepsLists (live : ℕ → Option (List ℤ)) (old new : List (List ℕ)) : Type 0 where
+  pub each : (place id : ℕ) → is_live live id ≡ true → is_listed (slice_index_or old place []) id ≡ true → is_listed (slice_index_or new place []) id ≡ true
 
 -- all clauses are found
 pub record IsIndexed (live : ℕ → Option (List ℤ)) (index : Lists) : Type 0 where

@@ -1,6 +1,7 @@
 pub mod Marks
 pub mod Seen
 pub mod Hints
+pub mod Scan
 pub mod Index
 pub mod Checked
 pub mod FaultLaws

@@ -13,6 +13,7 @@ ghost use Rattle.lrat_check.specs.Seen.{Judges};
 
 use crate::CheckError;
 use crate::clauses::Clauses;
+use crate::index::Index;
 use crate::judging::{judge_addition, judge_deletion};
 use crate::marks::Marks;
 use cnf_core::{Clause, Cnf, Lit};
@@ -45,15 +46,33 @@ impl Model for Checker {
 }
 
 impl Checker {
-    /// A checker of a formula, whose clauses are live under the ids 1, 2 and so on.
+    /// A checker of a formula, whose clauses are live under the ids 1, 2 and so on. It finds clauses by
+    /// hashing their ids with a fixed seed.
     pub fn new(alloc: Global, cnf: Cnf) -> Result<Checker, AllocError>
+        ensures state { IfOk result (λ c. state_of c ≡ start cnf) }
+        ensures accepted { IfOk result (HasAccepted cnf []) }
+    {
+        Checker::over(alloc, cnf, Index::new(alloc))
+    }
+
+    /// The same, with lists of clauses by their literals, so that `is_new` is fast. They take memory for
+    /// each literal, and each line takes a step more for each of its literals.
+    pub fn indexed(alloc: Global, cnf: Cnf) -> Result<Checker, AllocError>
+        ensures state { IfOk result (λ c. state_of c ≡ start cnf) }
+        ensures accepted { IfOk result (HasAccepted cnf []) }
+    {
+        let index = Index::by_literals(alloc, cnf.vars())?;
+        Checker::over(alloc, cnf, index)
+    }
+
+    fn over(alloc: Global, cnf: Cnf, index: Index) -> Result<Checker, AllocError>
         ensures state { IfOk result (λ c. state_of c ≡ start cnf) }
         ensures accepted { IfOk result (HasAccepted cnf []) }
     {
         let vars = cnf.vars();
         let greatest = cnf.clauses().len() as u32;
         let refuted = has_empty(cnf.clauses());
-        let clauses = Clauses::of(alloc, vars, cnf.into_clauses())?;
+        let clauses = Clauses::of(alloc, index, cnf.into_clauses())?;
         let marks = Marks::new(alloc, vars)?;
         Ok(Checker {
             clauses,
@@ -94,9 +113,10 @@ impl Checker {
         self.refuted
     }
 
-    /// Whether a clause is new: no live clause has all its literals among these. Each live clause stands
-    /// in a list of one of its literals, which is kept short, and only the lists of these literals are
-    /// gone through, each candidate against all of them.
+    /// Whether a clause is new: no live clause has all its literals among these. It goes through the live
+    /// clauses, and holds each against these literals; an `indexed` checker goes through those clauses
+    /// alone that stand in the list of one of these literals, and each stands in one list, the shortest
+    /// of its literals' when it came.
     pub fn is_new(&self, lits: &[Lit]) -> bool
         ensures { IsTrue result ↔ IsNew (live_at self.now.live) lits.now }
     {

@@ -12,7 +12,7 @@ use std::alloc::{AllocError, Global};
 use std::collections::HashMap;
 use std::marker::Model;
 
-/// Clauses by their ids.
+/// Clauses by their ids. Ids are hashed with a fixed seed: who chooses them can make look-ups slow.
 #[derive(Debug, Drop)]
 pub(crate) struct Clauses {
     live: HashMap<u32, Clause>,
@@ -36,23 +36,23 @@ impl Model for Clauses {
 }
 
 impl Clauses {
-    /// No clauses, and room for so many of the variables 1 to `vars`.
-    pub(crate) fn new(alloc: Global, vars: u32, count: usize) -> Result<Clauses, AllocError>
+    /// No clauses, and room for so many.
+    pub(crate) fn new(alloc: Global, index: Index, count: usize) -> Result<Clauses, AllocError>
         ensures { IfOk result (λ s. s ≡ map.empty) }
     {
         Ok(Clauses {
             live: HashMap::with_capacity(alloc, count)?,
-            index: Index::new(alloc, vars)?,
+            index,
         })
     }
 
     /// The clauses of a list under the ids 1, 2 and so on.
     #[tactic(auto, using(crate::proofs::Loaded::loaded))]
-    pub(crate) fn of(alloc: Global, vars: u32, list: Vec<Clause>) -> Result<Clauses, AllocError>
+    pub(crate) fn of(alloc: Global, index: Index, list: Vec<Clause>) -> Result<Clauses, AllocError>
         requires { length list.items < 2 ^ 32 - 1 }
         ensures { IfOk result (λ s. live_at s ≡ by_id list.items) }
     {
-        let mut clauses = Clauses::new(alloc, vars, list.len())?;
+        let mut clauses = Clauses::new(alloc, index, list.len())?;
         let mut left = list;
         while let Some(clause) = left.pop() {
             clauses.insert(left.len() as u32 + 1, clause)?;
@@ -82,10 +82,12 @@ impl Clauses {
         ensures { live_at self.new ≡ without (live_at self.old) (id ∷ []) }
     {
         let _gone = self.live.remove(&id);
+        self.index.forget_one(&self.live);
     }
 
-    /// Whether no live clause has all its literals among these. It looks at the clauses in the lists of
-    /// these literals alone; each live clause stands in the list of one of its own.
+    /// Whether no live clause has all its literals among these. Where there are lists by literals it
+    /// looks at the clauses in those of these literals alone, since each live clause stands in the list
+    /// of one of its own; else it looks at all.
     pub(crate) fn is_new(&self, lits: &[Lit]) -> bool
         ensures new { result ≡ true → IsNew (live_at self.now) lits.now }
         ensures old { result ≡ false → IsNew (live_at self.now) lits.now → ⊥ }

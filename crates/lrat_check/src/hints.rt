@@ -3,7 +3,8 @@ ghost use Rattle.sat_theory.specs.Formula.{variable, IsWithin};
 ghost use Rattle.sat_theory.specs.Holding.{among};
 ghost use Rattle.lrat_check.specs.Live.{live_at, AreWithin};
 ghost use Rattle.lrat_check.specs.Marks.{marked, HasRoom};
-ghost use Rattle.lrat_check.specs.Hints.{outside, scan_of, IsThere, hints_fault, told};
+ghost use Rattle.lrat_check.specs.Hints.{outside, hints_fault, told};
+ghost use Rattle.lrat_check.specs.Scan.{Finds};
 
 use crate::CheckError;
 use crate::clauses::Clauses;
@@ -23,8 +24,7 @@ pub(crate) enum Scan {
 
 /// Counts the literals of a clause that aren't marked.
 fn scan_clause(marks: &Marks, clause: &[Lit]) -> Scan
-    ensures count { result ≡ scan_of (outside (marked marks.now) clause.now) }
-    ensures there { IsThere clause.now result }
+    ensures { Finds clause.now (outside (marked marks.now) clause.now) result }
 {
     let mut found: Option<Lit> = None;
     for lit in clause {

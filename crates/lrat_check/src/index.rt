@@ -1,10 +1,12 @@
-ghost use Rattle.std.specs.Prelude.{◌≡◌, ◌+◌, ◌*◌, ◌<◌, ℤ, [], ◌∷◌, ◌++◌, length, OnOk, OnErr, IfOk, IfSome, Any};
+ghost use Rattle.std.specs.Prelude.{◌≡◌, ◌+◌, ◌*◌, ◌<◌, ℤ, [], ◌∷◌, ◌++◌, length, filter, slice_set, slice_index_or, nat_eq, OnOk, OnErr, IfOk, IfSome, Any};
+ghost use Rattle.std.specs.HashMap.{get};
 ghost use Rattle.lrat_check.specs.Marks.{code_of};
-ghost use Rattle.lrat_check.specs.Index.{ids_of as ids_of_lit, with_id, IsFound, KeepsFound};
+ghost use Rattle.lrat_check.specs.Index.{ids_of as ids_of_lit, is_live, with_id, IsFound, KeepsFound, KeepsLive, SweepsLists};
 
 use crate::marks::code;
-use cnf_core::Lit;
+use cnf_core::{Clause, Lit};
 use std::alloc::{AllocError, Global};
+use std::collections::HashMap;
 use std::marker::Model;
 
 /// A list of ids.
@@ -49,14 +51,22 @@ impl Ids {
     {
         &self.ids
     }
+
+    /// Takes the ids out that aren't live.
+    fn sweep(&mut self, live: &HashMap<u32, Clause>)
+        ensures { self.new ≡ filter (is_live (get nat_eq live.now)) self.old }
+    {
+        self.ids.retain(|id| live.contains_key(id));
+    }
 }
 
 /// Where clauses are looked for by their literals: each clause has its id in the list of one of its
-/// literals, the one whose list was the shortest.
+/// literals, the one whose list was the shortest. Without lists for literals each has it in `others`.
 #[derive(Debug, Drop)]
 pub(crate) struct Index {
     heads: Vec<Ids>,
     others: Ids,
+    dead: usize,
 }
 
 impl Model for Index {
@@ -68,17 +78,24 @@ impl Model for Index {
 }
 
 impl Index {
-    /// No ids, and lists for the literals of the variables 1 to `vars`.
-    pub(crate) fn new(alloc: Global, vars: u32) -> Result<Index, AllocError> {
-        let codes = 2 * vars as usize + 2;
-        let mut heads = Vec::with_capacity(alloc, codes)?;
-        for _ in 0..codes {
-            heads.push(Ids::new(alloc))?;
-        }
-        Ok(Index {
-            heads,
+    /// No ids, and no lists for literals.
+    pub(crate) fn new(alloc: Global) -> Index {
+        Index {
+            heads: Vec::new(alloc),
             others: Ids::new(alloc),
-        })
+            dead: 0,
+        }
+    }
+
+    /// No ids, and lists for the literals of the variables 1 to `vars`.
+    pub(crate) fn by_literals(alloc: Global, vars: u32) -> Result<Index, AllocError> {
+        let codes = 2 * vars as usize + 2;
+        let mut index = Index::new(alloc);
+        index.heads.reserve(codes)?;
+        for _ in 0..codes {
+            index.heads.push(Ids::new(alloc))?;
+        }
+        Ok(index)
     }
 
     /// The ids in the list of a literal.
@@ -111,6 +128,21 @@ impl Index {
         push_at(&mut self.heads, place, id)
     }
 
+    /// One more clause has gone. Where more have gone than are live and than there are lists, their ids
+    /// are taken out, so that this takes a step for each of them.
+    #[tactic(auto, using(crate::proofs::Swept::sweeping))]
+    pub(crate) fn forget_one(&mut self, live: &HashMap<u32, Clause>)
+        ensures { KeepsLive (get nat_eq live.now) self.old self.new }
+    {
+        self.dead = self.dead.saturating_add(1);
+        if self.dead / 2 <= live.len().max(self.heads.len()) {
+            return;
+        }
+        self.dead = 0;
+        sweep_lists(&mut self.heads, live);
+        self.others.sweep(live);
+    }
+
     /// The place of the shortest list of a literal.
     fn shortest(&self, lits: &[Lit]) -> Option<usize>
         ensures head { IfSome result (λ place. Any (λ (l : ℤ). code_of l ≡ place) lits.now) }
@@ -131,6 +163,26 @@ impl Index {
         }
         best.map(|(place, _)| place)
     }
+}
+
+/// Takes the ids that aren't live out of lists.
+#[tactic(auto, using(crate::proofs::Swept::sweeping))]
+fn sweep_lists(lists: &mut Vec<Ids>, live: &HashMap<u32, Clause>)
+    ensures { SweepsLists (get nat_eq live.now) lists.old.items lists.new.items }
+{
+    for place in 0..lists.len() {
+        sweep_at(lists, place, live);
+    }
+}
+
+/// Takes them out of the list at a place.
+fn sweep_at(lists: &mut Vec<Ids>, place: usize, live: &HashMap<u32, Clause>)
+    requires { place < length lists.old.items }
+    ensures set { lists.new.items ≡ slice_set lists.old.items place (filter (is_live (get nat_eq live.now)) (slice_index_or lists.old.items place [])) }
+    ensures length { length lists.new.items ≡ length lists.old.items }
+{
+    let ids = &mut lists[place];
+    ids.sweep(live);
 }
 
 /// Puts an id into the list at a place.

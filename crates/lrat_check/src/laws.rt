@@ -1,6 +1,6 @@
 //! What the definitions come to. Each law is the contract of a function that does nothing.
 ghost use Rattle.std.specs.Prelude.{◌≡◌, ◌↔◌, true, List, None};
-ghost use Rattle.sat_theory.specs.Formula.{Formula, IsFormula, Assignment, Satisfies};
+ghost use Rattle.sat_theory.specs.Formula.{Formula, Assignment, Satisfies};
 ghost use Rattle.sat_theory.specs.Line.{Line};
 ghost use Rattle.sat_theory.specs.State.{State};
 ghost use Rattle.sat_theory.specs.Holding.{Holds};
@@ -13,7 +13,7 @@ ghost use Rattle.lrat_check.specs.Checked.{Checked, HasAccepted};
 /// formula, and no assignment satisfies it.
 pub fn refuted_is_unsatisfiable()
     ensures refutes { (f : Formula) (lines : List Line) (c : Checked) → HasAccepted f lines c → c.refuted ≡ true → Refutes f lines }
-    ensures none { (f : Formula) (lines : List Line) (c : Checked) (v : Assignment) → IsFormula f → HasAccepted f lines c → c.refuted ≡ true → Satisfies v f → ⊥ }
+    ensures none { (f : Formula) (lines : List Line) (c : Checked) (v : Assignment) → HasAccepted f lines c → c.refuted ≡ true → Satisfies v f → ⊥ }
 {}
 
 /// A line has no fault exactly where it holds.

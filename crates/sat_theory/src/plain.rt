@@ -144,21 +144,21 @@ fn hints_hold(
 ) -> Result<bool, AllocError>
     ensures { IfOk result (λ yes. IsTrue yes ↔ HintsHold (live_in clauses.now) (among set.old.items) hints.now) }
 {
-    let Some((hint, more)) = hints.split_first() else {
-        return Ok(false);
-    };
-    let Some(clause) = find(clauses, *hint) else {
-        return Ok(false);
-    };
-    if more.is_empty() {
-        return Ok(clause.lits().iter().all(|lit| is_among(set, *lit)));
+    let mut left = hints;
+    while let Some((hint, more)) = left.split_first() {
+        let Some(clause) = find(clauses, *hint) else {
+            return Ok(false);
+        };
+        if more.is_empty() {
+            return Ok(clause.lits().iter().all(|lit| is_among(set, *lit)));
+        }
+        let Some(lit) = unit_outside(set, clause.lits()) else {
+            return Ok(false);
+        };
+        set.push(opposite(lit))?;
+        left = more;
     }
-    let Some(lit) = unit_outside(set, clause.lits()) else {
-        return Ok(false);
-    };
-    let other = opposite(lit);
-    set.push(other)?;
-    hints_hold(clauses, set, more)
+    Ok(false)
 }
 
 /// Whether an id is in a list.
@@ -252,14 +252,15 @@ impl PlainState {
 fn are_live(clauses: &[PlainClause], ids: &[u32]) -> bool
     ensures { IsTrue result ↔ DeletionHolds (live_in clauses.now) ids.now }
 {
-    let Some((id, more)) = ids.split_first() else {
-        return true;
-    };
-    if find(clauses, *id).is_none() {
-        return false;
+    let mut left = ids;
+    while let Some((id, more)) = left.split_first() {
+        if find(clauses, *id).is_none() {
+            return false;
+        }
+        if is_listed(more, *id) {
+            return false;
+        }
+        left = more;
     }
-    if is_listed(more, *id) {
-        return false;
-    }
-    are_live(clauses, more)
+    true
 }

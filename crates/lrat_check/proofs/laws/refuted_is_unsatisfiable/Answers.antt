@@ -5,4 +5,4 @@ pub returns-clause-refutes : goal.returns-clause-refutes
 returns-clause-refutes c = λ f lines checked accepted reached. record { holds = accepted.holds; reaches = accepted.refuted.0 reached }
 
 pub returns-clause-none : goal.returns-clause-none
-returns-clause-none c = λ f lines checked v is_formula accepted reached satisfies. no_assignment f lines v is_formula (record { holds = accepted.holds; reaches = accepted.refuted.0 reached }) satisfies
+returns-clause-none c = λ f lines checked v accepted reached satisfies. no_assignment f lines v accepted.formula (record { holds = accepted.holds; reaches = accepted.refuted.0 reached }) satisfies

@@ -6,7 +6,7 @@ use Rattle.lrat_check.specs.Live.{live_at}
 use Rattle.lrat_check.specs.Marks.{HasRoom}
 use Rattle.lrat_check.specs.Keeps.{IsChecker}
 use Rattle.lrat_check.proofs.Starting.{checker_of, has_empty, accepted_none, same_state}
-use Rattle.lrat_check.proofs.checker.Checker.new.Goals as goal
+use Rattle.lrat_check.proofs.checker.Checker.over.Goals as goal
 
 pub invariant_of-result : goal.invariant_of-result
 invariant_of-result c =
@@ -21,4 +21,4 @@ returns-clause-accepted c =
     let told : (c.has_empty-refuted.result ≡ true) ↔ HasEmpty c.args.cnf [] = has_empty c.args.cnf c.has_empty-refuted.result (subst (λ (cs : List (List ℤ)). (c.has_empty-refuted.result ≡ true) ↔ Any (λ (x : List ℤ). is_empty x ≡ true) cs) all c.has_empty-refuted.ensures) in
     let checked : Checked = record { live = c.in_ok-clauses.clauses; vars = c.vars-vars.result; greatest = length c.clauses.result.now; refuted = c.has_empty-refuted.result } in
     let state : state_of checked ≡ start c.args.cnf = same_state (live_at c.in_ok-clauses.clauses) (by_id c.args.cnf.clauses) c.vars-vars.result c.args.cnf.vars (length c.clauses.result.now) (length c.args.cnf.clauses) (c.in_ok-clauses.ensures ∙ ap by_id c.into_clauses.ensures.value) c.vars-vars.ensures.value (ap length c.clauses.ensures.value) in
-    accepted_none c.args.cnf checked state told
+    accepted_none c.args.cnf checked c.vars-vars.ensures.whole.formula state told
