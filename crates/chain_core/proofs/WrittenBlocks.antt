@@ -21,7 +21,7 @@ use Rattle.chain_core.proofs.WrittenLists.{ok_is, test_ok, bind_ok, line_is, ste
 -- ---- the first line
 
 -- the first line is read
-count_at_back : (first r : ℕ) → r ≤ 16 → count_at first (line (count_text r)) ≡ Ok r
+pub count_at_back : (first r : ℕ) → r ≤ 16 → count_at first (line (count_text r)) ≡ Ok r
 unfolding count_at
 count_at_back first r few = rw (count_back r few) (grind (arith, common_steps))
 
@@ -101,12 +101,12 @@ lines_spelled first n m (l ∷ ls) x e =
 -- ---- the bytes
 
 -- a line that an LF ends, and that has no other
-record IsWritten (l : Line) : Type 0 where
-  ended : l.ended ≡ true
-  free : is_free 10 l.text ≡ true
+pub record IsWritten (l : Line) : Type 0 where
+  pub ended : l.ended ≡ true
+  pub free : is_free 10 l.text ≡ true
 
 -- written lines are the lines of their bytes
-lines_back : (ls : List Line) (rest : List ℕ) → AllByRecursion IsWritten ls → lines_of (flat_map line_bytes ls ++ rest) ≡ ls ++ lines_of rest
+pub lines_back : (ls : List Line) (rest : List ℕ) → AllByRecursion IsWritten ls → lines_of (flat_map line_bytes ls ++ rest) ≡ ls ++ lines_of rest
 lines_back [] rest written = refl
 lines_back (l ∷ ls) rest written =
     let behind = flat_map line_bytes ls ++ rest in
@@ -115,7 +115,7 @@ lines_back (l ∷ ls) rest written =
     ap lines_of bytes ∙ line_back l.text behind written.0.free ∙ (λ i. whole i ∷ lines_back ls rest written.1 i)
 
 -- lines that are written, one list after the other
-both_written : (ls more : List Line) → AllByRecursion IsWritten ls → AllByRecursion IsWritten more → AllByRecursion IsWritten (ls ++ more)
+pub both_written : (ls more : List Line) → AllByRecursion IsWritten ls → AllByRecursion IsWritten more → AllByRecursion IsWritten (ls ++ more)
 both_written [] more one two = two
 both_written (l ∷ ls) more one two = (one.0, both_written ls more one.1 two)
 
@@ -131,7 +131,7 @@ outs_written last [] named fits = tt
 outs_written last (o ∷ os) named fits = (record { ended = refl; free = free_out o last fits named.0 }, outs_written last os named.1 fits)
 
 -- the lines of a block are written lines
-block_written : (c : Chain) → IsSmallChain c → AllByRecursion IsWritten (chain_lines c)
+pub block_written : (c : Chain) → IsSmallChain c → AllByRecursion IsWritten (chain_lines c)
 block_written c small =
     let inputs = small.inputs in
     let few = small.steps in

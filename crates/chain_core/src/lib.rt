@@ -11,7 +11,8 @@
 //! - `first_outside` is the first place whose operator isn't in a basis, and None exactly where the
 //!   chain is over the basis.
 //! - `read_chain` reads a chain block off the front of a text exactly where the grammar of
-//!   `specs/Block.antt` gives a chain, and else tells the first fault with its line.
+//!   `specs/Block.antt` gives a chain, and else tells the first fault with its line. `count_at`,
+//!   `step_at`, `add_step` and `out_at` are its lines, for texts that are read a line at a time.
 //! - `write_chain` appends a chain's one spelling, which `read_chain` takes back (`laws_of_blocks`),
 //!   or leaves what stood there as it was where memory runs out.
 //!
@@ -37,10 +38,12 @@ pub use chain::Chain;
 pub use chain_theory::Out;
 pub use difference::first_difference;
 pub use error::ChainError;
+pub use frame::Frame;
 pub use laws::laws_of_blocks;
+pub use lines::{count_at, out_at, step_at};
 pub use op_basis::{Basis, Op};
 pub use outside::first_outside;
-pub use reading::read_chain;
+pub use reading::{add_step, read_chain};
 pub use step::Step;
 pub use values::{out_value, value};
 pub use writing::write_chain;

@@ -17,9 +17,9 @@ use chain_theory::Out;
 use std::alloc::{AllocError, Global};
 use text_core::next_line;
 
-/// Adds a step that stands at the next place.
+/// Adds a step that stands at the next place to the steps before it.
 #[tactic(auto, using(crate::proofs::BlockLoops::more_steps))]
-fn add_step(steps: &mut Vec<Step>, n: u32, step: Step) -> Result<(), AllocError>
+pub fn add_step(steps: &mut Vec<Step>, n: u32, step: Step) -> Result<(), AllocError>
     requires steps { AreSteps n (steps_of steps.old.items) }
     requires step { IsStepAt (n + 1 + length steps.old.items) (step_of step) }
     ensures added { OnOk result (steps.new.items ≡ steps.old.items ++ step ∷ []) }

@@ -3,7 +3,7 @@ ghost use Rattle.std.specs.List.{list_all};
 ghost use Rattle.tt_core.specs.Cells.{is_cell, on_bit, care_bit, word_of};
 
 /// Whether each character is `0`, `1` or `-`.
-pub(crate) fn are_cells(text: &[u8]) -> bool
+pub fn are_cells(text: &[u8]) -> bool
     ensures { result ≡ list_all is_cell text.now }
 {
     text.iter().all(|character| *character == b'0' || *character == b'1' || *character == b'-')

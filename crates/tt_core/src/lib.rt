@@ -7,7 +7,8 @@
 //! from outside it is the specification that chains are asked to meet, as `row` tells it cell by
 //! cell. `read_tables` reads a text of tables. Its theorem: what it reads is spelled by the text,
 //! character by character; each text that spells a specification is read as it; and it refuses
-//! exactly where the grammar of tables has a fault. `symmetric` tells whether two inputs may be
+//! exactly where the grammar of tables has a fault. `inputs`, `are_cells` and `push_row` read single
+//! lines, for texts that are read a line at a time. `symmetric` tells whether two inputs may be
 //! exchanged, `trivial` gives the first of 0, 1, x1, .., xn that an output may be, and `live_part`
 //! keeps the outputs that are none of these. `laws` says what their definitions come to, without
 //! recursion.
@@ -29,10 +30,11 @@ mod reading;
 mod spec;
 mod symmetry;
 
+pub use cells::are_cells;
 pub use chain_theory::{Cell, Out};
 pub use error::SpecError;
 pub use live::{live_part, trivial};
-pub use reading::{Tables, read_tables};
+pub use reading::{Tables, inputs, push_row, read_tables};
 pub use spec::{Spec, row};
 pub use symmetry::symmetric;
 

@@ -24,8 +24,9 @@ pub struct Tables {
     pub lines: u32,
 }
 
-/// The number of inputs that a header says.
-fn inputs(text: &[u8], ended: bool) -> Option<u32>
+/// The number of inputs that the first line says; None where it isn't `inputs ` and a number of at most
+/// nine digits, or has no LF.
+pub fn inputs(text: &[u8], ended: bool) -> Option<u32>
     ensures { result ≡ inputs_of (record { text = text.now; ended = ended }) }
 {
     if !ended {
@@ -34,9 +35,14 @@ fn inputs(text: &[u8], ended: bool) -> Option<u32>
     number_up_to(999_999_999, after(b"inputs ", text)?)
 }
 
-/// Adds the output that a table line spells.
+/// Adds the output that a table line of `0`, `1` and `-` spells to the words of the outputs before it.
 #[tactic(auto, using(crate::proofs::Rows::row_below))]
-fn push_row(n: u32, on: &mut Vec<u64>, care: &mut Vec<u64>, text: &[u8]) -> Result<(), AllocError>
+pub fn push_row(
+    n: u32,
+    on: &mut Vec<u64>,
+    care: &mut Vec<u64>,
+    text: &[u8],
+) -> Result<(), AllocError>
     requires spec { IsSpec (record { n = n; on = on.old.items; care = care.old.items }) }
     requires room { length on.old.items < 8 }
     requires rows { length text.now ≡ 2 ^ n }
