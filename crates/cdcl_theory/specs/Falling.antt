@@ -1,0 +1,52 @@
+-- A solver makes literals true one after another. A literal falls where its opposite is made true:
+-- the first one that falls has the place 1, the next one 2, and what hasn't fallen has the place 0.
+use Rattle.std.specs.Prelude.{◌≡◌, ℕ, ◌<◌, ◌≤◌, ◌⊎◌, ℤ, List, Contains, All, Option, Some}
+use Rattle.sat_theory.specs.Formula.{opposite}
+
+-- l is among the first p that fell
+abbrev pub IsFallen : (ℤ → ℕ) → ℕ → ℤ → Type 0
+IsFallen fell p l = (0 < fell l) × (fell l ≤ p)
+
+-- after the first p, the variable of l has no value
+pub record HasNoValue (fell : ℤ → ℕ) (p : ℕ) (l : ℤ) : Type 0 where
+  pub not_false : IsFallen fell p l → ⊥
+  pub not_true : IsFallen fell p (opposite l) → ⊥
+
+-- A state of values is closed where no live clause is falsified, and none is unit: all its literals
+-- but one falsified, and that one without a value.
+-- Example: with the one live clause 1, 2 it is closed while nothing has fallen. When 2 falls it isn't,
+-- since 1 follows.
+pub record IsClosed (live : ℕ → Option (List ℤ)) (fell : ℤ → ℕ) (p : ℕ) : Type 0 where
+  pub excludes : (u : ℤ) → HasNoValue fell p u → (id : ℕ) (clause : List ℤ) → live id ≡ Some clause → All (λ l. (l ≡ u) ⊎ IsFallen fell p l) clause → ⊥
+
+-- a clause whose literals fell among the first p, but for u
+pub record IsUnitUnder (fell : ℤ → ℕ) (p : ℕ) (lits : List ℤ) (u : ℤ) : Type 0 where
+  pub free : HasNoValue fell p u
+  pub others : All (λ l. (l ≡ u) ⊎ IsFallen fell p l) lits
+
+-- The clause of an id is the reason of l: its other literals are among the first p that fell.
+pub record Implies (live : ℕ → Option (List ℤ)) (fell : ℤ → ℕ) (p : ℕ) (l : ℤ) (id : ℕ) : Type 0 where
+  pub clause : List ℤ
+  pub is_live : live id ≡ Some clause
+  pub there : Contains clause l
+  pub others : All (λ m. (m ≡ l) ⊎ IsFallen fell p m) clause
+
+-- the first n fall alike
+pub record SameFallen (n : ℕ) (f g : ℤ → ℕ) : Type 0 where
+  pub there : (p : ℕ) (l : ℤ) → p ≤ n → IsFallen f p l → IsFallen g p l
+  pub back : (p : ℕ) (l : ℤ) → p ≤ n → IsFallen g p l → IsFallen f p l
+
+-- A clause is settled where it is neither falsified nor unit.
+pub record IsSettled (fell : ℤ → ℕ) (clause : List ℤ) : Type 0 where
+  pub not_false : All (λ l. 0 < fell l) clause → ⊥
+  pub not_unit : (u : ℤ) → fell u ≡ 0 → fell (opposite u) ≡ 0 → All (λ l. (l ≡ u) ⊎ (0 < fell l)) clause → ⊥
+
+-- all live clauses are settled
+pub record AllSettled (live : ℕ → Option (List ℤ)) (fell : ℤ → ℕ) : Type 0 where
+  pub each : (id : ℕ) (clause : List ℤ) → live id ≡ Some clause → IsSettled fell clause
+
+-- the clause of an id is live and falsified
+pub record IsFalsified (live : ℕ → Option (List ℤ)) (fell : ℤ → ℕ) (id : ℕ) : Type 0 where
+  pub clause : List ℤ
+  pub is_live : live id ≡ Some clause
+  pub fallen : All (λ l. 0 < fell l) clause

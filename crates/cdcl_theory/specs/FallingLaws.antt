@@ -1,0 +1,103 @@
+-- What closed states of values say of new clauses, and how they last.
+use Rattle.std.specs.Prelude.{◌≡◌, ℕ, ◌<◌, ◌≤◌, ◌⊎◌, ℤ, List, Contains, All, Option, Some, ◌==◌, Bool, true, false, if◌then◌else◌}
+use Rattle.std.proofs.Common.{sym, ◌∙◌, subst, arith, inl, inr}
+use Rattle.std.proofs.Math.Logic.{⊎_elim}
+use Rattle.std.proofs.lemmas.List.Elements.{All-contains, All-weaker}
+use Rattle.sat_theory.specs.Formula.{opposite}
+use Rattle.sat_theory.specs.Log.{IsNew}
+use Rattle.sat_theory.specs.State.{with_clause}
+use Rattle.cdcl_theory.specs.Falling.{IsFallen, HasNoValue, IsClosed, IsUnitUnder, Implies, SameFallen, AllSettled}
+
+-- A clause that is unit in a closed state is new, however it was found: a live clause inside it would
+-- be unit or falsified there too.
+pub unit_is_new : (live : ℕ → Option (List ℤ)) (fell : ℤ → ℕ) (p : ℕ) (lits : List ℤ) (u : ℤ) → IsClosed live fell p → IsUnitUnder fell p lits u → IsNew live lits
+unit_is_new live fell p lits u closed unit id clause is inside =
+    closed.excludes u unit.free id clause is (λ k d within. All-contains (λ l. (l ≡ u) ⊎ IsFallen fell p l) lits _ unit.others (inside k d within))
+
+pub same_trans : (n : ℕ) (f g h : ℤ → ℕ) → SameFallen n f g → SameFallen n g h → SameFallen n f h
+same_trans n f g h a b = record {
+  there = λ p l low is. b.there p l low (a.there p l low is);
+  back = λ p l low is. a.back p l low (b.back p l low is);
+}
+
+pub same_less : (m n : ℕ) (f g : ℤ → ℕ) → m ≤ n → SameFallen n f g → SameFallen m f g
+same_less m n f g less same = record {
+  there = λ p l low is. same.there p l (omega arith) is;
+  back = λ p l low is. same.back p l (omega arith) is;
+}
+
+pub same_self : (n : ℕ) (f : ℤ → ℕ) → SameFallen n f f
+same_self n f = record { there = λ p l low is. is; back = λ p l low is. is }
+
+pub free_kept : (n p : ℕ) (f g : ℤ → ℕ) (u : ℤ) → SameFallen n f g → p ≤ n → HasNoValue f p u → HasNoValue g p u
+free_kept n p f g u same low free = record {
+  not_false = λ is. free.not_false (same.back p u low is);
+  not_true = λ is. free.not_true (same.back p (opposite u) low is);
+}
+
+pub free_back : (n p : ℕ) (f g : ℤ → ℕ) (u : ℤ) → SameFallen n f g → p ≤ n → HasNoValue g p u → HasNoValue f p u
+free_back n p f g u same low free = record {
+  not_false = λ is. free.not_false (same.there p u low is);
+  not_true = λ is. free.not_true (same.there p (opposite u) low is);
+}
+
+all_moved : (clause : List ℤ) (u : ℤ) (P Q : ℤ → Type 0) → ((l : ℤ) → P l → Q l) → All (λ l. (l ≡ u) ⊎ P l) clause → All (λ l. (l ≡ u) ⊎ Q l) clause
+all_moved clause u P Q move all = All-weaker (λ l. (l ≡ u) ⊎ P l) (λ l. (l ≡ u) ⊎ Q l) (λ l. ⊎_elim (λ (same : l ≡ u). inl same) (λ (is : P l). inr (move l is))) clause all
+
+-- what was closed stays closed, what was a reason stays a reason
+pub closed_kept : (live : ℕ → Option (List ℤ)) (n p : ℕ) (f g : ℤ → ℕ) → SameFallen n f g → p ≤ n → IsClosed live f p → IsClosed live g p
+closed_kept live n p f g same low closed = record {
+  excludes = λ u free id clause is all. closed.excludes u (free_back n p f g u same low free) id clause is (all_moved clause u (IsFallen g p) (IsFallen f p) (λ l h. same.back p l low h) all);
+}
+
+pub implies_kept : (live : ℕ → Option (List ℤ)) (n p : ℕ) (f g : ℤ → ℕ) (l : ℤ) (id : ℕ) → SameFallen n f g → p ≤ n → Implies live f p l id → Implies live g p l id
+implies_kept live n p f g l id same low implies = record {
+  clause = implies.clause;
+  is_live = implies.is_live;
+  there = implies.there;
+  others = all_moved implies.clause l (IsFallen f p) (IsFallen g p) (λ m h. same.there p m low h) implies.others;
+}
+
+-- fewer live clauses, and more
+pub closed_less : (live less : ℕ → Option (List ℤ)) (fell : ℤ → ℕ) (p : ℕ) → ((id : ℕ) (clause : List ℤ) → less id ≡ Some clause → live id ≡ Some clause) → IsClosed live fell p → IsClosed less fell p
+closed_less live less fell p inside closed = record { excludes = λ u free id clause is all. closed.excludes u free id clause (inside id clause is) all }
+
+chosen : {A : Type 0} (b : Bool) (x y z : A) → (if b then x else y) ≡ z → (x ≡ z) ⊎ (y ≡ z)
+chosen true x y z is = inl is
+chosen false x y z is = inr is
+
+-- A clause with two literals that haven't fallen keeps a state closed.
+pub closed_added : (live : ℕ → Option (List ℤ)) (fell : ℤ → ℕ) (p id : ℕ) (lits : List ℤ) (a b : ℤ) → Contains lits a → Contains lits b → (a ≡ b → ⊥) → (IsFallen fell p a → ⊥) → (IsFallen fell p b → ⊥) → IsClosed live fell p → IsClosed (with_clause live id lits) fell p
+closed_added live fell p id lits a b a_in b_in differ a_up b_up closed = record {
+  excludes = λ u free k clause is all.
+      ⊎_elim
+      (λ (new : Some lits ≡ Some clause). let same : lits ≡ clause = cc in both_out u (subst (λ (c : List ℤ). All (λ l. (l ≡ u) ⊎ IsFallen fell p l) c) (sym same) all))
+      (λ (old : live k ≡ Some clause). closed.excludes u free k clause old all)
+      (chosen (k == id) (Some lits) (live k) (Some clause) is);
+}
+  where
+    both_out : (u : ℤ) → All (λ l. (l ≡ u) ⊎ IsFallen fell p l) lits → ⊥
+    both_out u all =
+        ⊎_elim
+        (λ (at_a : a ≡ u). ⊎_elim (λ (at_b : b ≡ u). differ (at_a ∙ sym at_b)) (λ (down : IsFallen fell p b). b_up down) (All-contains (λ l. (l ≡ u) ⊎ IsFallen fell p l) lits b all b_in))
+        (λ (down : IsFallen fell p a). a_up down)
+        (All-contains (λ l. (l ≡ u) ⊎ IsFallen fell p l) lits a all a_in)
+
+-- a reason is among more live clauses too
+pub implies_more : (live more : ℕ → Option (List ℤ)) (fell : ℤ → ℕ) (p : ℕ) (l : ℤ) (id : ℕ) → ((k : ℕ) (clause : List ℤ) → live k ≡ Some clause → more k ≡ Some clause) → Implies live fell p l id → Implies more fell p l id
+implies_more live more fell p l id inside implies = record {
+  clause = implies.clause;
+  is_live = inside id implies.clause implies.is_live;
+  there = implies.there;
+  others = implies.others;
+}
+
+-- Where all clauses are settled, the state of all values is closed.
+pub settled_closed : (live : ℕ → Option (List ℤ)) (fell : ℤ → ℕ) (n : ℕ) → ((l : ℤ) → fell l ≤ n) → AllSettled live fell → IsClosed live fell n
+settled_closed live fell n within settled = record {
+  excludes = λ u free id clause is all.
+      (settled.each id clause is).not_unit u (none u free.not_false) (none (opposite u) free.not_true) (all_moved clause u (IsFallen fell n) (λ l. 0 < fell l) (λ l h. h.0) all);
+}
+  where
+    none : (l : ℤ) → (IsFallen fell n l → ⊥) → fell l ≡ 0
+    none l up = ⊎_elim (λ (zero_ : fell l ≡ 0). zero_) (λ (some : 0 < fell l). absurd (up (some, within l))) (let c : (fell l ≡ 0) ⊎ (0 < fell l) = grind arith in c)

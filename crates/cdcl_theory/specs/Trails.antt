@@ -1,0 +1,73 @@
+-- The trail: the literals that are true, in the order in which they came.
+use Rattle.std.specs.Prelude.{◌≡◌, ℕ, ◌+◌, ◌-◌, ◌*◌, ◌<◌, ◌≤◌, ◌==◌, ◌⊎◌, ℤ, List, [], ◌∷◌, ◌++◌, length, count_by, slice_index_or, slice_set, Contains, All, AllPairs, Option}
+use Rattle.sat_theory.specs.Formula.{variable, opposite}
+use Rattle.cdcl_theory.specs.Codes.{code_of, place_in}
+use Rattle.cdcl_theory.specs.Falling.{Implies, SameFallen, IsClosed}
+
+-- the variables are 1 to vars; a table has for each literal where it fell, and a list has for each
+-- variable the id of the clause that made it true
+pub record Trailed : Type 0 where
+  pub vars : ℕ
+  pub lits : List ℤ
+  pub table : List ℕ
+  pub reasons : List ℕ
+
+abbrev pub fell : Trailed → ℤ → ℕ
+fell t = place_in t.table
+
+abbrev pub reason_of : Trailed → ℤ → ℕ
+reason_of t l = slice_index_or t.reasons (variable l) 0
+
+-- The places are those of the row: the opposite of the literal at index p fell at p + 1, and no other did.
+pub record ArePlaces (lits : List ℤ) (places : ℤ → ℕ) : Type 0 where
+  pub placed : (p : ℕ) (d : ℤ) → p < length lits → places (opposite (slice_index_or lits p d)) ≡ p + 1
+  pub within : (l : ℤ) → places l ≤ length lits
+  pub found : (l d : ℤ) → 0 < places l → slice_index_or lits (places l - 1) d ≡ opposite l
+  pub one_side : (l : ℤ) → 0 < places l → places (opposite l) ≡ 0
+
+pub record IsTrail (t : Trailed) : Type 0 where
+  pub places : ArePlaces t.lits (fell t)
+  pub variables : All (λ l. (0 < variable l) × (variable l ≤ t.vars)) t.lits
+  pub table_room : length t.table ≡ 2 * t.vars + 2
+  pub reasons_room : length t.reasons ≡ t.vars + 1
+  pub room : length t.lits + count_by (λ x. x == 0) t.table ≡ length t.table
+  pub few : t.vars < 1000000000
+
+-- one more true literal, with its reason
+abbrev pub pushed : Trailed → ℤ → ℕ → Trailed
+pushed t l reason = record {
+  vars = t.vars;
+  lits = t.lits ++ l ∷ [];
+  table = slice_set t.table (code_of (opposite l)) (length t.lits + 1);
+  reasons = slice_set t.reasons (variable l) reason;
+}
+
+-- the clause of the literal at index p is its reason
+pub record HasReason (live : ℕ → Option (List ℤ)) (t : Trailed) (p : ℕ) : Type 0 where
+  pub implied : (d : ℤ) → Implies live (fell t) p (slice_index_or t.lits p d) (reason_of t (slice_index_or t.lits p d))
+
+-- The trail went on: what stood there stands there, and each new literal has its reason.
+pub record IsGrown (live : ℕ → Option (List ℤ)) (old new : Trailed) : Type 0 where
+  pub vars : new.vars ≡ old.vars
+  pub longer : length old.lits ≤ length new.lits
+  pub lits : (p : ℕ) (d : ℤ) → p < length old.lits → slice_index_or new.lits p d ≡ slice_index_or old.lits p d
+  pub same : SameFallen (length old.lits) (fell old) (fell new)
+  pub old_reasons : (p : ℕ) (d : ℤ) → p < length old.lits → reason_of new (slice_index_or old.lits p d) ≡ reason_of old (slice_index_or old.lits p d)
+  pub new_reasons : (p : ℕ) → length old.lits ≤ p → p < length new.lits → HasReason live new p
+
+-- The trail went back to its first n literals.
+pub record IsBack (n : ℕ) (old new : Trailed) : Type 0 where
+  pub vars : new.vars ≡ old.vars
+  pub reasons : new.reasons ≡ old.reasons
+  pub short : length new.lits ≡ n
+  pub lits : (p : ℕ) (d : ℤ) → p < n → slice_index_or new.lits p d ≡ slice_index_or old.lits p d
+  pub same : SameFallen n (fell old) (fell new)
+
+-- The levels of a trail begin at its decisions, whose indices are the starts. Each state before a
+-- decision is closed, and whatever is no decision has a reason.
+pub record IsLayered (live : ℕ → Option (List ℤ)) (t : Trailed) (starts : List ℕ) : Type 0 where
+  pub whole : IsTrail t
+  pub inside : All (λ s. s < length t.lits) starts
+  pub rising : AllPairs (λ a b. a < b) starts
+  pub closed : All (λ s. IsClosed live (fell t) s) starts
+  pub reasons : (p : ℕ) → p < length t.lits → Contains starts p ⊎ HasReason live t p
