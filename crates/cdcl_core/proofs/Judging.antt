@@ -1,0 +1,128 @@
+-- What a clause says under the values of a trail.
+use Rattle.std.proofs.Common.{◌≡◌, ℕ, ◌+◌, ◌<◌, ◌≤◌, ◌⊎◌, ℤ, Bool, true, false, List, length, slice_index_or, Contains, All, Option, Some, None, IsSome, ◌↔◌, subst, sym, ap, ◌∙◌, arith, inl, inr, refl}
+use Rattle.std.proofs.Math.Logic.{⊎_elim}
+use Rattle.std.proofs.lemmas.Bool.{cases_eq}
+use Rattle.std.proofs.lemmas.Grind.{common_steps}
+use Rattle.std.proofs.lemmas.List.Elements.{All-contains}
+use Rattle.sat_theory.specs.Formula.{variable, opposite, IsClause}
+use Rattle.cdcl_theory.specs.Falling.{Implies, IsSettled, AllSettled, IsFalsified}
+use Rattle.cdcl_theory.specs.Trails.{Trailed, fell, IsTrail}
+use Rattle.clause_db.specs.Stored.{Stored, live_in}
+use Rattle.clause_db.specs.StoredLaws.{live_inside}
+use Rattle.cdcl_core.specs.Propagating.{IsLeft}
+
+-- the literal at one of the first i indices has no value, and all others there have fallen
+pub record IsOneLeft (places : ℤ → ℕ) (lits : List ℤ) (i : ℕ) (l : ℤ) : Type 0 where
+  pub index : ℕ
+  pub early : index < i
+  pub inside : index < length lits
+  pub here : (d : ℤ) → slice_index_or lits index d ≡ l
+  pub up : places l ≡ 0
+  pub free : places (opposite l) ≡ 0
+  pub others : (k : ℕ) (d : ℤ) → k < i → (slice_index_or lits k d ≡ l) ⊎ (0 < places (slice_index_or lits k d))
+
+pub record AllDown (places : ℤ → ℕ) (lits : List ℤ) (i : ℕ) : Type 0 where
+  pub each : (k : ℕ) (d : ℤ) → k < i → 0 < places (slice_index_or lits k d)
+
+-- the first i literals have fallen, but for the one that was found
+abbrev pub HasSeen : (ℤ → ℕ) → List ℤ → ℕ → Option ℤ → Type 0
+HasSeen places lits i None = AllDown places lits i
+HasSeen places lits i (Some l) = IsOneLeft places lits i l
+
+pub seen_none : (places : ℤ → ℕ) (lits : List ℤ) → HasSeen places lits 0 None
+seen_none places lits = record { each = λ k d (low : k < 0). absurd (omega arith) }
+
+at_index : (lits : List ℤ) (i k : ℕ) (d l : ℤ) → k ≡ i → i < length lits → slice_index_or lits i l ≡ l → slice_index_or lits k d ≡ l
+at_index lits i k d l e within at = grind (arith, common_steps)
+
+-- one more literal that has fallen
+pub seen_down : (places : ℤ → ℕ) (lits : List ℤ) (i : ℕ) (l : ℤ) (found : Option ℤ) → i < length lits → slice_index_or lits i l ≡ l → 0 < places l → HasSeen places lits i found → HasSeen places lits (i + 1) found
+seen_down places lits i l None within at down seen = record { each = λ k d low. ⊎_elim (λ (e : k ≡ i). subst (λ (x : ℤ). 0 < places x) (sym (at_index lits i k d l e within at)) down) (λ (apart : k ≡ i → ⊥). seen.each k d (omega arith)) (cases_eq k i) }
+seen_down places lits i l (Some m) within at down seen = record {
+  index = seen.index;
+  early = (let h : seen.index < i = seen.early in omega arith);
+  inside = seen.inside;
+  here = seen.here;
+  up = seen.up;
+  free = seen.free;
+  others = λ k d low. ⊎_elim (λ (e : k ≡ i). inr (subst (λ (x : ℤ). 0 < places x) (sym (at_index lits i k d l e within at)) down)) (λ (apart : k ≡ i → ⊥). seen.others k d (omega arith)) (cases_eq k i);
+}
+
+-- the first that has no value
+pub seen_left : (places : ℤ → ℕ) (lits : List ℤ) (i : ℕ) (l : ℤ) → i < length lits → slice_index_or lits i l ≡ l → places l ≡ 0 → places (opposite l) ≡ 0 → HasSeen places lits i None → HasSeen places lits (i + 1) (Some l)
+seen_left places lits i l within at up free seen = record {
+  index = i;
+  early = omega arith;
+  inside = within;
+  here = λ d. at_index lits i i d l refl within at;
+  up = up;
+  free = free;
+  others = λ k d low. ⊎_elim (λ (e : k ≡ i). inl (at_index lits i k d l e within at)) (λ (apart : k ≡ i → ⊥). inr (seen.each k d (omega arith))) (cases_eq k i);
+}
+
+-- at the end
+pub seen_all : (places : ℤ → ℕ) (lits : List ℤ) (i : ℕ) → length lits ≤ i → HasSeen places lits i None → All (λ m. 0 < places m) lits
+seen_all places lits i done seen = λ k d low. seen.each k d (omega arith)
+
+pub seen_one : (places : ℤ → ℕ) (lits : List ℤ) (i : ℕ) (l : ℤ) → length lits ≤ i → HasSeen places lits i (Some l) → IsLeft places lits l
+seen_one places lits i l done seen = record {
+  there = (seen.index, seen.inside, seen.here l);
+  up = seen.up;
+  down = seen.free;
+  others = λ k d low. seen.others k d (omega arith);
+}
+
+-- a true literal settles a clause, since it is neither fallen nor free
+pub settled_by_true : (places : ℤ → ℕ) (lits : List ℤ) (l : ℤ) → Contains lits l → places l ≡ 0 → 0 < places (opposite l) → IsSettled places lits
+settled_by_true places lits l there up true_now = record {
+  not_false = λ all. (let down : 0 < places l = All-contains (λ m. 0 < places m) lits l all there in omega arith);
+  not_unit = λ u none free all. ⊎_elim (λ (e : l ≡ u). (let h : places (opposite l) ≡ places (opposite u) = ap (λ (x : ℤ). places (opposite x)) e in omega arith)) (λ (down : 0 < places l). omega arith) (All-contains (λ m. (m ≡ u) ⊎ (0 < places m)) lits l all there);
+}
+
+-- and so do two that haven't fallen
+pub settled_by_two : (places : ℤ → ℕ) (lits : List ℤ) (i : ℕ) (l m : ℤ) → IsClause lits → i < length lits → slice_index_or lits i l ≡ l → places l ≡ 0 → HasSeen places lits i (Some m) → IsSettled places lits
+settled_by_two places lits i l m clause within at up seen = record {
+  not_false = λ all_down. (let down : 0 < places l = subst (λ (x : ℤ). 0 < places x) at (all_down i l within) in omega arith);
+  not_unit = λ u none free_u units.
+      ⊎_elim
+      (λ (l_is : l ≡ u). ⊎_elim (λ (m_is : m ≡ u). apart (m_is ∙ sym l_is)) (λ (down : 0 < places m). (let e : places m ≡ 0 = seen.up in omega arith)) (subst (λ (x : ℤ). (x ≡ u) ⊎ (0 < places x)) (seen.here m) (units seen.index m seen.inside)))
+      (λ (down : 0 < places l). omega arith)
+      (subst (λ (x : ℤ). (x ≡ u) ⊎ (0 < places x)) at (units i l within));
+}
+  where
+    apart : m ≡ l → ⊥
+    apart same = clause.differ seen.index i l seen.early within (ap variable (seen.here l ∙ same ∙ sym at))
+
+pub ruleset judging = (common_steps, seen_none, seen_down, seen_left, seen_all, seen_one, settled_by_true, settled_by_two)
+
+-- The unit clause is the reason of its literal.
+pub left_implies : (live : ℕ → Option (List ℤ)) (t : Trailed) (id : ℕ) (lits : List ℤ) (l : ℤ) → IsTrail t → live id ≡ Some lits → IsLeft (fell t) lits l → Implies live (fell t) (length t.lits) l id
+left_implies live t id lits l trail is left = record {
+  clause = lits;
+  is_live = is;
+  there = left.there;
+  others = λ k d low. ⊎_elim (λ (e : slice_index_or lits k d ≡ l). inl e) (λ (down : 0 < fell t (slice_index_or lits k d)). inr (down, trail.places.within (slice_index_or lits k d))) (left.others k d low);
+}
+
+pub falsified_is : (live : ℕ → Option (List ℤ)) (places : ℤ → ℕ) (id : ℕ) (lits : List ℤ) → live id ≡ Some lits → All (λ m. 0 < places m) lits → IsFalsified live places id
+falsified_is live places id lits is all = record { clause = lits; is_live = is; fallen = all }
+
+-- one more id whose clause is settled, or isn't live
+pub settled_more : (live : ℕ → Option (List ℤ)) (places : ℤ → ℕ) (i : ℕ) → ((id : ℕ) (clause : List ℤ) → id ≤ i → live id ≡ Some clause → IsSettled places clause) → ((clause : List ℤ) → live (i + 1) ≡ Some clause → IsSettled places clause) → (id : ℕ) (clause : List ℤ) → id ≤ i + 1 → live id ≡ Some clause → IsSettled places clause
+settled_more live places i before new id clause low is =
+    ⊎_elim
+    (λ (e : id ≡ i + 1). new clause (subst (λ (k : ℕ). live k ≡ Some clause) e is))
+    (λ (apart : id ≡ i + 1 → ⊥). before id clause (omega arith) is)
+    (cases_eq id (i + 1))
+
+pub settled_dead : (live : ℕ → Option (List ℤ)) (places : ℤ → ℕ) (id : ℕ) (b : Bool) → ((b ≡ true) ↔ IsSome (live id)) → b ≡ false → (clause : List ℤ) → live id ≡ Some clause → IsSettled places clause
+settled_dead live places id b says dead clause is = absurd (let some : IsSome (live id) = rw is refl in let alive : b ≡ true = says.1 some in cc)
+
+pub settled_that : (live : ℕ → Option (List ℤ)) (places : ℤ → ℕ) (id : ℕ) (lits : List ℤ) → live id ≡ Some lits → IsSettled places lits → (clause : List ℤ) → live id ≡ Some clause → IsSettled places clause
+settled_that live places id lits at settled clause is = let same : lits ≡ clause = cc in subst (IsSettled places) same settled
+
+-- with all ids gone through, all live clauses are settled
+pub settled_all : (s : Stored) (places : ℤ → ℕ) (n : ℕ) → length s.clauses ≤ n → ((id : ℕ) (clause : List ℤ) → id ≤ n → live_in s id ≡ Some clause → IsSettled places clause) → AllSettled (live_in s) places
+settled_all s places n all each = record {
+  each = λ id clause is. each id clause (let low : (0 < id) × (id ≤ length s.clauses) = live_inside s id clause is in let under : id ≤ length s.clauses = low.1 in omega arith) is;
+}

@@ -1,0 +1,9 @@
+pub mod Growing
+pub mod Judging
+pub mod Dropping
+pub mod Layers
+pub mod Logging
+pub mod Counting
+pub mod Settling
+pub mod Showing
+pub mod Ternary

@@ -1,0 +1,108 @@
+-- What the endings of a search show of the formula.
+use Rattle.std.proofs.Common.{◌≡◌, ℕ, zero, suc, ◌+◌, ◌-◌, ◌*◌, ◌<◌, ◌≤◌, ◌==◌, ℤ, Bool, true, false, List, [], ◌∷◌, length, slice_index_or, Contains, All, Any, Some, slice_get, is_some, count_by, subst, sym, ap, arith, inl, refl, cond}
+use Rattle.std.proofs.Math.Logic.{⊎_elim}
+use Rattle.std.proofs.lemmas.Bool.{cases_lt, ne_eqb}
+use Rattle.std.proofs.lemmas.List.{length-map}
+use Rattle.std.proofs.lemmas.List.Elements.{All-contains, All-cons, All-head, All-tail}
+use Rattle.std.proofs.lemmas.List.Sums.{sum_by-cons}
+use Rattle.sat_theory.specs.Formula.{variable, opposite, Formula, IsFormula, IsClause, IsWithin, bits_of, IsTrueClause, Satisfies}
+use Rattle.sat_theory.specs.Line.{Line, Add, Delete}
+use Rattle.sat_theory.specs.State.{State, by_id, start}
+use Rattle.sat_theory.specs.Log.{EachLine, IsStep, AddsEmpty, added_ids, Refutes, IsSpent, IsKept}
+use Rattle.lrat_text.specs.declared.line.Line as rust
+use Rattle.lrat_text.specs.Values.{line_value, line_values}
+use Rattle.cdcl_theory.specs.Falling.{AllSettled, IsSettled}
+use Rattle.cdcl_theory.specs.Trails.{Trailed, fell}
+use Rattle.clause_db.specs.Stored.{Stored, live_in}
+use Rattle.trail_core.specs.Values.{Follows, HaveValues}
+use Rattle.cdcl_core.specs.Searching.{AddsSome, IsLog}
+
+no_lines : (s : State) → EachLine IsStep s []
+unfolding EachLine
+no_lines s = tt
+
+-- the empty clause is in the formula
+pub refuted_at_once : (f : Formula) (lines : List Line) → lines ≡ [] → Contains f.clauses [] → Refutes f lines
+refuted_at_once f lines none there = rw none (record { holds = no_lines (start f); reaches = inl there })
+
+-- a list has a literal that hasn't fallen, if not all have
+left_over : (places : ℤ → ℕ) (lits : List ℤ) → (All (λ l. 0 < places l) lits → ⊥) → (k : ℕ) × (m : ℤ) × (k < length lits) × (slice_index_or lits k m ≡ m) × (places m ≡ 0)
+left_over places [] none = absurd (none (λ k d (low : k < 0). absurd (omega arith)))
+left_over places (l ∷ lits) none =
+    ⊎_elim
+    (λ (down : 0 < places l).
+    let x = left_over places lits (λ all. none (All-cons (λ m. 0 < places m) l lits down all)) in
+    (suc x.0, x.1, (let h : suc x.0 < suc (length lits) = omega (arith, x.2) in h), x.3, x.4))
+    (λ (up : places l ≤ 0). (0, l, (let h : 0 < suc (length lits) = omega arith in h), refl, omega arith))
+    (cases_lt 0 (places l))
+
+-- a settled clause is true under the values of the trail, where all variables have one
+settled_true : (t : Trailed) (bits : List Bool) (lits : List ℤ) → Follows t bits → HaveValues t (1 + t.vars) → IsClause lits → IsWithin t.vars lits → IsSettled (fell t) lits → IsTrueClause (bits_of bits) lits
+unfolding IsTrueClause
+settled_true t bits lits follows values clause within settled =
+    let x = left_over (fell t) lits settled.not_false in
+    let there : Contains lits x.1 = (x.0, x.2, x.3) in
+    let some : 0 < variable x.1 = All-contains (λ l. 0 < variable l) lits x.1 clause.literals there in
+    let small : variable x.1 ≤ t.vars = All-contains (λ l. variable l ≤ t.vars) lits x.1 within there in
+    let up : fell t x.1 ≡ 0 = x.4 in
+    ⊎_elim
+    (λ (down : 0 < fell t x.1). absurd (omega arith))
+    (λ (true_now : 0 < fell t (opposite x.1)). (x.0, x.1, x.2, x.3, follows.values x.1 (some, small) true_now))
+    (values x.1 some (omega arith))
+
+get_there : (xs : List (List ℤ)) (k : ℕ) (d : List ℤ) → k < length xs → slice_get xs k ≡ Some (slice_index_or xs k d)
+get_there [] k d low = absurd (let h : k < 0 = low in omega arith)
+get_there (x ∷ xs) zero d low = refl
+get_there (x ∷ xs) (suc k) d low = get_there xs k d (let h : suc k < suc (length xs) = low in omega arith)
+
+-- With a value for each variable and all clauses settled, the values satisfy the formula.
+pub values_satisfy : (f : Formula) (s : Stored) (t : Trailed) (lines : List Line) (bits : List Bool) → IsFormula f → IsLog f s lines → t.vars ≡ f.vars → HaveValues t (1 + t.vars) → AllSettled (live_in s) (fell t) → Follows t bits → Satisfies (bits_of bits) f
+values_satisfy f s t lines bits formula log vars values settled follows = λ k d low.
+    let clause : List ℤ = slice_index_or f.clauses k d in
+    let live : live_in s (suc k) ≡ Some clause = log.formula (suc k) clause (named k d low) in
+    let within : IsWithin t.vars clause = subst (λ (n : ℕ). IsWithin n clause) (sym vars) (formula.variables k d low) in
+    settled_true t bits clause follows values (formula.clauses k d low) within (settled.each (suc k) clause live)
+  where
+    named : (k : ℕ) (d : List ℤ) → k < length f.clauses → by_id f.clauses (suc k) ≡ Some (slice_index_or f.clauses k d)
+    named k d low =
+        let some : (suc k == 0) ≡ false = ne_eqb (suc k) 0 (λ e. omega arith) in
+        let index : suc k - 1 ≡ k = omega arith in
+        rw (some, index) (get_there f.clauses k d low)
+
+not_both : (line : Line) → AddsSome line → AddsEmpty line → ⊥
+not_both (Add id lits hints) some empty = (let e : length lits ≡ 0 = ap length empty in let h : 0 < length lits = some in omega arith)
+not_both (Delete id ids) some empty = some
+
+added_all : (lines : List Line) → All AddsSome lines → length (added_ids lines) ≡ length lines
+unfolding added_ids
+added_all [] all = refl
+added_all (Add id lits hints ∷ lines) all = ap (λ (n : ℕ). suc n) (added_all lines (All-tail AddsSome (Add id lits hints) lines all))
+added_all (Delete id ids ∷ lines) all = absurd (All-head AddsSome (Delete id ids) lines all)
+
+-- A log of so many additions has spent the budget.
+pub log_spent : (f : Formula) (s : Stored) (lines : List Line) (budget : ℕ) → IsLog f s lines → (Contains f.clauses [] → ⊥) → budget ≤ length lines → IsSpent f lines budget
+log_spent f s lines budget log none enough = record {
+  holds = log.holds;
+  open_yet = λ has. ⊎_elim (λ (there : Contains f.clauses []). none there) (λ (added : Any AddsEmpty lines). not_both added.1 (All-contains AddsSome lines added.1 log.some (added.0, added.2, added.3)) added.4) has;
+  enough = rw (added_all lines log.some) enough;
+  fresh = log.fresh;
+}
+
+count_all : (p : ℕ → Bool) (xs : List ℕ) → All (λ x. p x ≡ true) xs → count_by p xs ≡ length xs
+count_all p [] all = refl
+count_all p (x ∷ xs) all =
+    let first : p x ≡ true = All-head (λ y. p y ≡ true) x xs all in
+    let one : cond {A = ℕ} (p x) 1 0 ≡ 1 = rw first refl in
+    let more : count_by p (x ∷ xs) ≡ cond {A = ℕ} (p x) 1 0 + count_by p xs = sum_by-cons (λ (y : ℕ). cond {A = ℕ} (p y) 1 0) x xs in
+    let ih : count_by p xs ≡ length xs = count_all p xs (All-tail (λ y. p y ≡ true) x xs all) in
+    omega arith
+
+-- All that was added is live.
+pub log_kept : (f : Formula) (s : Stored) (lines : List Line) → IsLog f s lines → IsKept f lines
+log_kept f s lines log =
+    let all : count_by (λ id. is_some (live_in s id)) (added_ids lines) ≡ length (added_ids lines) = count_all (λ id. is_some (live_in s id)) (added_ids lines) log.added in
+    let kept : length (added_ids lines) ≤ 2 * count_by (λ id. is_some (live_in s id)) (added_ids lines) = omega arith in
+    subst (λ (st : State). length (added_ids lines) ≤ 2 * count_by (λ id. is_some (st.live id)) (added_ids lines)) (sym log.state) kept
+
+pub lines_many : (items : List rust.Line) (budget : ℕ) → budget ≤ length items → budget ≤ length (line_values items)
+lines_many items budget enough = rw (length-map items line_value) enough

@@ -1,0 +1,17 @@
+use Rattle.std.proofs.Common.{◌≡◌, ◌∙◌, ◌++◌, ◌∷◌, [], ℕ, length, sym, ap}
+use Rattle.cdcl_theory.specs.Trails.{Trailed, pushed}
+use Rattle.clause_db.specs.Stored.{live_in}
+use Rattle.cdcl_core.proofs.Layers.{layered_decided}
+use Rattle.cdcl_core.proofs.search.Search.decide.Goals as goal
+
+pub returns-clause-searching : goal.returns-clause-searching
+returns-clause-searching c =
+    let old : Trailed = c.args.self.now.trail in
+    let is : c.push-2.new.self ≡ pushed old c.args.lit 0 = c.in_ok-push-2.ensures.ok in
+    let starts : c.push.new.self.items ≡ c.args.self.now.starts.items ++ length old.lits ∷ [] = c.in_ok-push.ensures.items ∙ ap (λ (n : ℕ). c.args.self.now.starts.items ++ n ∷ []) c.len.ensures.value in
+    record {
+      stored = c.requires.searching.stored;
+      vars = c.requires.searching.vars ∙ sym (ap (λ (t : Trailed). t.vars) is);
+      layered = rw is (layered_decided (live_in c.args.self.now.clauses) old c.args.self.now.starts.items c.push.new.self.items c.args.lit 0 c.requires.searching.layered c.requires.settled c.requires.over c.requires.free starts);
+      ready = rw is c.requires.searching.ready;
+    }

@@ -1,0 +1,30 @@
+-- How a search ends, and what it has then shown.
+use Rattle.std.specs.Prelude.{◌≡◌, ℕ, ◌+◌, ◌≤◌, length}
+use Rattle.sat_theory.specs.Formula.{Formula}
+use Rattle.sat_theory.specs.Log.{Refutes}
+use Rattle.lrat_text.specs.Values.{line_values}
+use Rattle.cdcl_theory.specs.Falling.{AllSettled}
+use Rattle.cdcl_theory.specs.Trails.{fell}
+use Rattle.clause_db.specs.Stored.{live_in}
+use Rattle.trail_core.specs.Values.{HaveValues}
+use Rattle.cdcl_core.specs.declared.search.Search.{Search}
+use Rattle.cdcl_core.specs.declared.search.Ending.{Ending}
+use Rattle.cdcl_core.specs.declared.search.Ending.TheVariants.{Valued, Refuted, Spent}
+use Rattle.cdcl_core.specs.Searching.{IsLogged}
+
+-- all variables have values, and all clauses of the formula are settled
+pub record IsValued (f : Formula) (s : Search) : Type 0 where
+  pub vars : s.trail.vars ≡ f.vars
+  pub logged : IsLogged f s
+  pub values : HaveValues s.trail (1 + s.trail.vars)
+  pub settled : AllSettled (live_in s.clauses) (fell s.trail)
+
+-- the log holds, and adds so many clauses
+pub record HasSpent (f : Formula) (budget : ℕ) (s : Search) : Type 0 where
+  pub logged : IsLogged f s
+  pub enough : budget ≤ length s.lines.items
+
+abbrev pub Ends : Formula → ℕ → Search → Ending → Type 0
+Ends f budget s Valued = IsValued f s
+Ends f budget s Refuted = Refutes f (line_values s.lines.items)
+Ends f budget s Spent = HasSpent f budget s

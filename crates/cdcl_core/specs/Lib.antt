@@ -1,0 +1,5 @@
+pub mod Propagating
+pub mod Levels
+pub mod Searching
+pub mod Endings
+pub mod Answering

@@ -1,0 +1,61 @@
+-- What holds all through a search.
+use Rattle.std.specs.Prelude.{◌≡◌, ℕ, ◌+◌, ◌<◌, ◌≤◌, ℤ, true, List, length, All, Some, is_some}
+use Rattle.sat_theory.specs.Formula.{Formula}
+use Rattle.sat_theory.specs.Line as theory
+use Rattle.sat_theory.specs.Line.{Add, Delete}
+use Rattle.sat_theory.specs.State.{by_id, start}
+use Rattle.sat_theory.specs.Log.{after, EachLine, IsStep, IsFresh, added_ids}
+use Rattle.lrat_text.specs.Values.{line_values}
+use Rattle.cdcl_theory.specs.Trails.{IsLayered}
+use Rattle.clause_db.specs.Stored.{Stored, live_in, IsStored}
+use Rattle.conflict_core.specs.Learning.{IsReady}
+use Rattle.cdcl_core.specs.declared.search.Search.{Search}
+
+-- the parts of the search fit together
+pub record IsSearching (s : Search) : Type 0 where
+  pub stored : IsStored s.clauses
+  pub vars : s.clauses.vars ≡ s.trail.vars
+  pub layered : IsLayered (live_in s.clauses) s.trail s.starts.items
+  pub ready : IsReady s.trail.vars s.analysis
+
+-- the line adds a clause, and not the empty one
+abbrev pub AddsSome : theory.Line → Type 0
+AddsSome (Add id lits hints) = 0 < length lits
+AddsSome (Delete id ids) = ⊥
+
+-- The lines are a log over the formula that has come to these clauses: each line holds and adds a new
+-- clause with a literal, and all of the formula's clauses and of those that were added are live.
+pub record IsLog (f : Formula) (clauses : Stored) (lines : List theory.Line) : Type 0 where
+  pub vars : clauses.vars ≡ f.vars
+  pub holds : EachLine IsStep (start f) lines
+  pub fresh : EachLine IsFresh (start f) lines
+  pub some : All AddsSome lines
+  pub state : after (start f) lines ≡ record { live = live_in clauses; vars = f.vars; greatest = length clauses.clauses }
+  pub formula : (id : ℕ) (clause : List ℤ) → by_id f.clauses id ≡ Some clause → live_in clauses id ≡ Some clause
+  pub added : All (λ id. is_some (live_in clauses id) ≡ true) (added_ids lines)
+
+abbrev pub IsLogged : Formula → Search → Type 0
+IsLogged f s = IsLog f s.clauses (line_values s.lines.items)
+
+-- One clause was learnt, for which a level at least was taken off.
+pub record HasJumped (old new : Search) : Type 0 where
+  pub vars : new.trail.vars ≡ old.trail.vars
+  pub lines : length new.lines.items ≡ length old.lines.items + 1
+  pub clauses : length new.clauses.clauses ≡ length old.clauses.clauses + 1
+  pub starts : length new.starts.items < length old.starts.items
+
+-- For each clause that was learnt a level at least was taken off, and where none was learnt the trail is no shorter.
+pub record HasSettled (old new : Search) : Type 0 where
+  pub vars : new.trail.vars ≡ old.trail.vars
+  pub more : length old.lines.items ≤ length new.lines.items
+  pub starts : length new.lines.items + length new.starts.items ≤ length old.lines.items + length old.starts.items
+  pub clauses : length new.clauses.clauses + length old.lines.items ≡ length old.clauses.clauses + length new.lines.items
+  pub longer : length new.lines.items ≡ length old.lines.items → length old.trail.lits ≤ length new.trail.lits
+
+-- A level was begun.
+pub record HasDecided (old new : Search) : Type 0 where
+  pub vars : new.trail.vars ≡ old.trail.vars
+  pub lines : new.lines ≡ old.lines
+  pub clauses : new.clauses ≡ old.clauses
+  pub starts : length new.starts.items ≡ length old.starts.items + 1
+  pub lits : length new.trail.lits ≡ length old.trail.lits + 1

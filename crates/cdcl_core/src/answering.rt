@@ -1,0 +1,57 @@
+ghost use Rattle.std.specs.Prelude.{◌≡◌, ◌^◌, ◌<◌, ◌≤◌, [], length, Contains, IsTrue, ◌↔◌, IfOk};
+ghost use Rattle.sat_theory.specs.Formula.{bits_of, Satisfies};
+ghost use Rattle.sat_theory.specs.Log.{Refutes, IsSpent, IsKept};
+ghost use Rattle.cdcl_core.specs.Answering.{IfSat, IfUnsat, IfOpen, IsDecided};
+
+use crate::search::{Ending, Search};
+use cnf_core::{Assign, Clause, Cnf};
+use lrat_text::Log;
+use std::alloc::{AllocError, Global};
+
+/// What is known of a formula.
+#[derive(Debug, Drop)]
+pub enum Solved {
+    /// The assignment satisfies it.
+    Sat(Assign),
+    /// The log refutes it.
+    Unsat(Log),
+    /// The log holds and has spent the budget.
+    Open(Log),
+}
+
+/// Decides a formula, unless it takes more than `budget` learnt clauses, from 1 to 10,000,000: the answer
+/// is Open at the first decision that is due after so many.
+pub fn solve(alloc: Global, cnf: &Cnf, budget: u32) -> Result<Solved, AllocError>
+    requires some { 0 < budget }
+    requires most { budget ≤ 10000000 }
+    ensures bits { IfOk result (λ s. IfSat s (λ bits. length bits ≡ cnf.now.vars)) }
+    ensures sat { IfOk result (λ s. IfSat s (λ bits. Satisfies (bits_of bits) cnf.now)) }
+    ensures unsat { IfOk result (λ s. IfUnsat s (Refutes cnf.now)) }
+    ensures open { IfOk result (λ s. IfOpen s (λ lines. IsSpent cnf.now lines budget)) }
+    ensures kept { IfOk result (λ s. IfOpen s (IsKept cnf.now)) }
+    // A budget of 3 to the number of variables decides every formula.
+    ensures decides { 3 ^ cnf.now.vars ≤ budget → IfOk result IsDecided }
+{
+    if has_empty(cnf.clauses()) {
+        return Ok(Solved::Unsat(Log {
+            lines: Vec::new(alloc),
+        }));
+    }
+    let mut search = Search::new(alloc, cnf)?;
+    match search.run(budget)? {
+        Ending::Valued => Ok(Solved::Sat(search.trail.assignment(alloc)?)),
+        Ending::Refuted => Ok(Solved::Unsat(Log {
+            lines: search.lines,
+        })),
+        Ending::Spent => Ok(Solved::Open(Log {
+            lines: search.lines,
+        })),
+    }
+}
+
+/// Whether the empty clause is among some.
+fn has_empty(clauses: &[Clause]) -> bool
+    ensures { IsTrue result ↔ Contains clauses.now [] }
+{
+    clauses.iter().any(|clause| clause.lits().is_empty())
+}

@@ -1,0 +1,166 @@
+ghost use Rattle.std.specs.Prelude.{◌≡◌, ◌+◌, ◌*◌, ◌<◌, ◌≤◌, [], length, IfOk, OnOk, IfSome, IfNone};
+ghost use Rattle.sat_theory.specs.Formula.{Formula};
+ghost use Rattle.sat_theory.specs.Log.{Refutes};
+ghost use Rattle.lrat_text.specs.Values.{line_values};
+ghost use Rattle.cdcl_theory.specs.Falling.{AllSettled, IsFalsified};
+ghost use Rattle.cdcl_theory.specs.Trails.{fell as fell_of};
+ghost use Rattle.clause_db.specs.Stored.{live_in};
+ghost use Rattle.trail_core.specs.Values.{IsOver, IsFree};
+ghost use Rattle.cdcl_core.specs.Levels.{IsLastStart};
+
+use crate::levels::drop_levels;
+use crate::propagation::propagate;
+use clause_db::ClauseDb;
+use cnf_core::{Cnf, Lit};
+use conflict_core::Analysis;
+use lrat_text::Line;
+use std::alloc::{AllocError, Global};
+use trail_core::Trail;
+
+/// The state of a search: the clauses of the formula and those that were learnt, the literals that are
+/// true, where the levels of decisions begin, and the log so far.
+#[derive(Debug, Drop)]
+pub(crate) struct Search {
+    pub(crate) clauses: ClauseDb,
+    pub(crate) trail: Trail,
+    pub(crate) starts: Vec<usize>,
+    pub(crate) analysis: Analysis,
+    pub(crate) lines: Vec<Line>,
+}
+
+/// How a search ends.
+pub(crate) enum Ending {
+    /// All variables have values, and no clause is falsified.
+    Valued,
+    /// The log ends with the empty clause.
+    Refuted,
+    /// The budget is spent, and a decision is due.
+    Spent,
+}
+
+impl Search {
+    ghost use Rattle.cdcl_core.specs.Searching.{IsSearching, IsLogged, HasJumped, HasSettled, HasDecided};
+    ghost use Rattle.cdcl_core.specs.Endings.{Ends};
+
+    /// A search over a formula, before its first step.
+    pub(crate) fn new(alloc: Global, cnf: &Cnf) -> Result<Search, AllocError>
+        ensures searching { IfOk result IsSearching }
+        ensures logged { IfOk result (IsLogged cnf.now) }
+        ensures clauses { IfOk result (λ s. length s.clauses.clauses ≡ length cnf.now.clauses) }
+        ensures lines { IfOk result (λ s. s.lines.items ≡ []) }
+        ensures starts { IfOk result (λ s. s.starts.items ≡ []) }
+    {
+        Ok(Search {
+            clauses: ClauseDb::new(alloc, cnf)?,
+            trail: Trail::new(alloc, cnf.vars())?,
+            starts: Vec::new(alloc),
+            analysis: Analysis::new(alloc, cnf.vars())?,
+            lines: Vec::new(alloc),
+        })
+    }
+
+    /// Learns a clause from a conflict in the last level, which begins at index `start`, goes back to
+    /// where the clause is unit, and makes its literal true.
+    fn jump(&mut self, conflict: u32, start: usize) -> Result<(), AllocError>
+        requires searching { IsSearching self.old }
+        requires level { IsLastStart self.old.starts.items start }
+        requires few { length self.old.clauses.clauses < 4000000000 }
+        requires conflict { IsFalsified (live_in self.old.clauses) (fell_of self.old.trail) conflict }
+        ensures searching { OnOk result (IsSearching self.new) }
+        ensures logged { (f : Formula) → IsLogged f self.old → OnOk result (IsLogged f self.new) }
+        ensures jumped { OnOk result (HasJumped self.old self.new) }
+    {
+        let alloc = *self.starts.allocator();
+        let learnt = self
+            .analysis
+            .learn(alloc, &self.trail, &self.clauses, conflict, start)?;
+        let id = self.clauses.add(&learnt.lits)?;
+        let end = drop_levels(&mut self.starts, learnt.back as usize);
+        self.trail.back_to(end);
+        self.trail.push(learnt.lits[0], id)?;
+        self.lines.push(Line::Add {
+            id,
+            lits: learnt.lits,
+            hints: learnt.hints,
+        })?;
+        Ok(())
+    }
+
+    /// Propagates, and learns from each conflict, until none is left, or one with no decision standing.
+    fn settle(&mut self) -> Result<Option<u32>, AllocError>
+        requires searching { IsSearching self.old }
+        requires few { length self.old.clauses.clauses + length self.old.starts.items < 4000000000 }
+        ensures searching { IfOk result (λ _. IsSearching self.new) }
+        ensures logged { (f : Formula) → IsLogged f self.old → IfOk result (λ _. IsLogged f self.new) }
+        ensures settled { IfOk result (λ _. HasSettled self.old self.new) }
+        ensures none { IfOk result (λ found. IfNone found (AllSettled (live_in self.new.clauses) (fell_of self.new.trail))) }
+        ensures conflict { IfOk result (λ found. IfSome found (IsFalsified (live_in self.new.clauses) (fell_of self.new.trail))) }
+        ensures last { IfOk result (λ found. IfSome found (λ _. self.new.starts.items ≡ [])) }
+    {
+        while let Some(conflict) = propagate(&mut self.trail, &self.clauses)? {
+            let Some(start) = self.starts.last() else {
+                return Ok(Some(conflict));
+            };
+            let start = *start;
+            self.jump(conflict, start)?;
+        }
+        Ok(None)
+    }
+
+    /// Begins a level with a literal.
+    fn decide(&mut self, lit: Lit) -> Result<(), AllocError>
+        requires searching { IsSearching self.old }
+        requires settled { AllSettled (live_in self.old.clauses) (fell_of self.old.trail) }
+        requires over { IsOver self.old.trail.vars lit }
+        requires free { IsFree self.old.trail lit }
+        ensures searching { OnOk result (IsSearching self.new) }
+        ensures decided { OnOk result (HasDecided self.old self.new) }
+    {
+        self.starts.push(self.trail.len())?;
+        self.trail.push(lit, 0)?;
+        Ok(())
+    }
+
+    /// Writes the line of the empty clause.
+    fn refute(&mut self, conflict: u32) -> Result<(), AllocError>
+        requires searching { IsSearching self.old }
+        requires bottom { self.old.starts.items ≡ [] }
+        requires conflict { IsFalsified (live_in self.old.clauses) (fell_of self.old.trail) conflict }
+        ensures { (f : Formula) → IsLogged f self.old → OnOk result (Refutes f (line_values self.new.lines.items)) }
+    {
+        let alloc = *self.starts.allocator();
+        let hints = self
+            .analysis
+            .refute(alloc, &self.trail, &self.clauses, conflict)?;
+        self.lines.push(Line::Add {
+            id: self.clauses.last() + 1,
+            lits: Vec::new(alloc),
+            hints,
+        })?;
+        Ok(())
+    }
+
+    /// Searches until the formula is decided, or a decision is due after `budget` additions.
+    pub(crate) fn run(&mut self, budget: u32) -> Result<Ending, AllocError>
+        requires searching { IsSearching self.old }
+        requires budget { budget ≤ 10000000 }
+        requires few { length self.old.clauses.clauses < 2000000000 }
+        requires lines { self.old.lines.items ≡ [] }
+        requires starts { self.old.starts.items ≡ [] }
+        ensures { (f : Formula) → IsLogged f self.old → IfOk result (Ends f budget self.new) }
+    {
+        loop {
+            if let Some(conflict) = self.settle()? {
+                self.refute(conflict)?;
+                return Ok(Ending::Refuted);
+            }
+            let Some(lit) = self.trail.free_literal() else {
+                return Ok(Ending::Valued);
+            };
+            if self.lines.len() >= budget as usize {
+                return Ok(Ending::Spent);
+            }
+            self.decide(lit)?;
+        }
+    }
+}

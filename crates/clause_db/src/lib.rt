@@ -1,0 +1,20 @@
+//! The clauses of a solver by their ids: those of a formula, and those that are added. It stands on
+//! `cnf_core` for formulas and literals and on `sat_theory` for what a clause is.
+//!
+//! Contracts see a list with an entry for each id that was given, the clause where it is live; `add`
+//! appends one entry, and `lits` and `live` read.
+//!
+//! ```text
+//! let mut clauses = ClauseDb::new(alloc, &cnf)?;     // the clauses 1 to 4
+//! let id = clauses.add(&[Lit::new(2)])?;             // 5
+//! clauses.lits(id)                                   // 2
+//! ```
+#![tactic(auto)]
+
+mod clause_db;
+mod windows;
+
+pub use clause_db::ClauseDb;
+
+#[cfg(test)]
+mod tests;

@@ -1,0 +1,7 @@
+/// Where the literals of a clause stand in the row of all literals, and whether the clause is live.
+#[derive(Clone, Copy, Debug)]
+pub(crate) struct Window {
+    pub(crate) start: usize,
+    pub(crate) end: usize,
+    pub(crate) live: bool,
+}

@@ -1,0 +1,152 @@
+-- Where the walk begins, and what it ends with.
+use Rattle.std.proofs.Common.{◌≡◌, ◌≢◌, ℕ, suc, ◌+◌, ◌-◌, ◌<◌, ◌≤◌, ◌⊎◌, ℤ, pos, Bool, true, List, [], ◌∷◌, ◌++◌, length, take, reverse, slice_index_or, Contains, All, Option, Some, subst, sym, ap, ◌∙◌, arith, inl, inr, refl}
+use Rattle.std.proofs.Math.Logic.{⊎_elim}
+use Rattle.std.proofs.lemmas.Bool.{both_ways, cases_lt, cases_eq, false_from_ne_true}
+use Rattle.std.proofs.lemmas.Grind.{common_steps}
+use Rattle.std.proofs.lemmas.List.{take_more}
+use Rattle.std.proofs.lemmas.List.Elements.{All-contains, All-cons, All-weaker, All-push, Contains-push, Contains-append_left}
+use Rattle.std.proofs.lemmas.List.Kept.{AllPairs-cons}
+use Rattle.std.proofs.lemmas.Bool.Decides.{nat_tests}
+use Rattle.std.specs.Ordering.{ord_max, nat_cmp}
+use Rattle.sat_theory.specs.Formula.{variable, opposite}
+use Rattle.sat_theory.specs.Holding.{among, HintsHold}
+use Rattle.cdcl_theory.specs.Codes.{marked_in}
+use Rattle.cdcl_theory.specs.CodeLaws.{opposite-opposite, same_variable}
+use Rattle.cdcl_theory.specs.Falling.{IsFallen, IsClosed, IsFalsified}
+use Rattle.cdcl_theory.specs.Trails.{Trailed, fell, IsTrail}
+use Rattle.cdcl_theory.specs.TrailLaws.{place_at, true_not_fallen, fallen_at}
+use Rattle.cdcl_theory.specs.ResolvingLaws.{derived_conflict, resolvent_holds}
+use Rattle.trail_core.specs.Values.{IsOver}
+use Rattle.conflict_core.specs.Walking.{AreMarked, AreUnmarked, IsMarkedClause, HasFallenAt, IsGathered, NoneMarked, IsWalk, HasRoom, IsClear}
+use Rattle.conflict_core.specs.Learning.{IsLearnt}
+
+-- The walk begins at the falsified clause.
+pub walk_begun : (live : ℕ → Option (List ℤ)) (t : Trailed) (start id : ℕ) (lits : List ℤ) (clear marks : List Bool) (lower : List ℤ) (none ids : List ℕ) → IsTrail t → IsClear t.vars clear → IsFalsified live (fell t) id → live id ≡ Some lits → AreMarked (fell t) lits clear marks → IsGathered t start marks lower → HasRoom t.vars marks → none ≡ [] → ids ≡ none ++ id ∷ [] → IsWalk live t start (length t.lits) marks lower ids
+walk_begun live t start id lits clear marks lower none ids trail is_clear falsified is marked gathered room empty ids_are = record {
+  resolvent = record {
+    below = λ m mark. ⊎_elim (λ (was : marked_in clear m ≡ true). absurd (both_ways (marked_in clear m) (is_clear.none m) was)) (λ (new : Contains lits m × (0 < fell t m)). (new.1, trail.places.within m)) (marked.only m mark);
+    derived = rw (ids_are, empty) (derived_conflict live (fell t) (marked_in marks) id lits is (λ k d low. marked.there k d low (fallen k d low)));
+  };
+  gathered = gathered;
+  room = room;
+}
+  where
+    fallen : All (λ l. 0 < fell t l) lits
+    fallen = let here : live id ≡ Some falsified.clause = falsified.is_live in let same : falsified.clause ≡ lits = cc in subst (λ (c : List ℤ). All (λ l. 0 < fell t l) c) same falsified.fallen
+
+pub clause_marked : (live : ℕ → Option (List ℤ)) (places : ℤ → ℕ) (id : ℕ) (lits : List ℤ) (old marks : List Bool) → IsFalsified live places id → live id ≡ Some lits → AreMarked places lits old marks → IsMarkedClause live marks id
+clause_marked live places id lits old marks falsified is marked clause there =
+    let here : live id ≡ Some falsified.clause = falsified.is_live in
+    let first : falsified.clause ≡ clause = cc in
+    let second : lits ≡ clause = cc in
+    let fallen : All (λ l. 0 < places l) clause = subst (λ (c : List ℤ). All (λ l. 0 < places l) c) first falsified.fallen in
+    let marks_all : All (λ m. 0 < places m → marked_in marks m ≡ true) clause = subst (λ (c : List ℤ). All (λ m. 0 < places m → marked_in marks m ≡ true) c) second marked.there in
+    λ k d low. marks_all k d low (fallen k d low)
+
+-- where nothing is marked from an index on, what is marked fell up to it
+pub marked_low : (t : Trailed) (marks : List Bool) (start high : ℕ) (m : ℤ) → IsTrail t → NoneMarked t marks start high → 0 < fell t m → fell t m ≤ high → marked_in marks m ≡ true → fell t m ≤ start
+marked_low t marks start high m trail none some under is =
+    ⊎_elim
+    (λ (late : start < fell t m).
+    let found : slice_index_or t.lits (fell t m - 1) m ≡ opposite m = trail.places.found m m some in
+    absurd (none (fell t m - 1) m (omega arith) (omega arith) (rw (found, opposite-opposite) is)))
+    (λ (early : fell t m ≤ start). early)
+    (cases_lt start (fell t m))
+
+-- A literal of the falsified clause fell in the level, since the state before it was closed.
+pub conflict_in_level : (live : ℕ → Option (List ℤ)) (t : Trailed) (start id : ℕ) (marks : List Bool) → IsTrail t → start < length t.lits → IsClosed live (fell t) start → IsFalsified live (fell t) id → IsMarkedClause live marks id → NoneMarked t marks start (length t.lits) → ⊥
+conflict_in_level live t start id marks trail level closed falsified marked none =
+    closed.excludes u (record {
+      not_false = λ down. (let up : fell t u ≡ 0 = true_not_fallen t.lits (fell t) start u u trail.places level at in let some : 0 < fell t u = down.0 in omega arith);
+      not_true = λ down. (let late : fell t (opposite u) ≡ start + 1 = place_at t.lits (fell t) start u u trail.places level at in let low : fell t (opposite u) ≤ start = down.1 in omega arith);
+    }) id falsified.clause falsified.is_live
+    (λ k d low. inr (falsified.fallen k d low, marked_low t marks start (length t.lits) (slice_index_or falsified.clause k d) trail none (falsified.fallen k d low) (trail.places.within (slice_index_or falsified.clause k d)) (marked falsified.clause falsified.is_live k d low)))
+  where
+    u : ℤ
+    u = slice_index_or t.lits start (pos 0)
+
+    at : slice_index_or t.lits start u ≡ u
+    at = grind (arith, common_steps)
+
+-- what the marks come to at the end of the walk
+pub walk_all : (live : ℕ → Option (List ℤ)) (t : Trailed) (start top : ℕ) (first m : ℤ) (marks : List Bool) (lower : List ℤ) (ids : List ℕ) → IsTrail t → start ≤ top → top < length t.lits → opposite (slice_index_or t.lits top first) ≡ first → IsWalk live t start (top + 1) marks lower ids → NoneMarked t marks start top → marked_in marks m ≡ true → Contains (first ∷ lower) m
+walk_all live t start top first m marks lower ids trail after within at walk none is =
+    ⊎_elim
+    (λ (last : fell t m ≡ top + 1). first_of (fallen_at t.lits (fell t) top first m trail.places last ∙ at))
+    (λ (not_last : fell t m ≡ top + 1 → ⊥). behind (walk.gathered.all m is (marked_low t marks start top m trail none was.0 (let low : fell t m ≤ top + 1 = was.1 in omega arith) is)))
+    (cases_eq (fell t m) (top + 1))
+  where
+    was : IsFallen (fell t) (top + 1) m
+    was = walk.resolvent.below m is
+
+    first_of : m ≡ first → Contains (first ∷ lower) m
+    first_of same = (0, (let some : 0 < suc (length lower) = omega arith in some), sym same)
+
+    behind : Contains lower m → Contains (first ∷ lower) m
+    behind (k, low, here) = (suc k, (let less : suc k < suc (length lower) = omega arith in less), here)
+
+-- The clause at the end of the walk is what is learnt.
+pub walk_learnt : (live : ℕ → Option (List ℤ)) (t : Trailed) (start top back : ℕ) (first : ℤ) (marks : List Bool) (lower lits : List ℤ) (ids hints : List ℕ) → IsTrail t → start ≤ top → top < length t.lits → opposite (slice_index_or t.lits top first) ≡ first → IsOver t.vars first → IsWalk live t start (top + 1) marks lower ids → NoneMarked t marks start top → All (λ m. fell t m ≤ back) lower → (0 < back → HasFallenAt (fell t) lower back) → lits ≡ first ∷ lower → hints ≡ reverse ids → IsLearnt live t start lits back hints
+walk_learnt live t start top back first marks lower lits ids hints trail after within at over walk none low there lits_are hints_are = rw (lits_are, hints_are) (record {
+  some = omega arith;
+  after = omega (arith, place);
+  low = back_low (cases_lt 0 back);
+  unit = record {
+    free = record {
+      not_false = λ down. (let early : fell t first ≤ start = down.1 in omega (arith, place));
+      not_true = λ down. (let up : fell t (opposite first) ≡ 0 = trail.places.one_side first (omega (arith, place)) in let some : 0 < fell t (opposite first) = down.0 in omega arith);
+    };
+    others = All-cons (λ l. (l ≡ first) ⊎ IsFallen (fell t) start l) first lower (inl refl) (λ k d less. inr (down k d less, (walk.gathered.inside k d less).1));
+  };
+  others = All-cons (λ l. (l ≡ first) ⊎ IsFallen (fell t) back l) first lower (inl refl) (λ k d less. inr (down k d less, low k d less));
+  second = λ some. (let w = there some in (w.0, behind w.0 w.1, w.2));
+  clause = record {
+    literals = All-cons (λ l. 0 < variable l) first lower over.0 (All-weaker (IsOver t.vars) (λ l. 0 < variable l) (λ l h. h.0) lower walk.gathered.over);
+    differ = AllPairs-cons (λ l m. variable l ≢ variable m) first lower
+        (λ k d less same. apart first (slice_index_or lower k d) (omega (arith, place)) (down k d less) (λ e. (let h : fell t first ≡ fell t (slice_index_or lower k d) = ap (fell t) e in let early : fell t (slice_index_or lower k d) ≤ start = (walk.gathered.inside k d less).1 in omega (arith, place))) same)
+        (λ i j d less inside same. apart (slice_index_or lower i d) (slice_index_or lower j d) (down i d (omega arith)) (down j d inside) (walk.gathered.differ i j d less inside) same);
+  };
+  variables = All-cons (λ l. variable l ≤ t.vars) first lower over.1 (All-weaker (IsOver t.vars) (λ l. variable l ≤ t.vars) (λ l h. h.1) lower walk.gathered.over);
+  hold = resolvent_holds live (fell t) (top + 1) (marked_in marks) ids (first ∷ lower) walk.resolvent (λ m is. walk_all live t start top first m marks lower ids trail after within at walk none is) (All-cons (λ m. 0 < fell t m) first lower (omega (arith, place)) down);
+})
+  where
+    place : fell t first ≡ top + 1
+    place = subst (λ (x : ℤ). fell t x ≡ top + 1) at (place_at t.lits (fell t) top first (slice_index_or t.lits top first) trail.places within refl)
+
+    down : All (λ m. 0 < fell t m) lower
+    down = λ k d less. (walk.resolvent.below (slice_index_or lower k d) (walk.gathered.inside k d less).0).0
+
+    back_low : (0 < back) ⊎ (back ≤ 0) → back ≤ start
+    back_low (inl some) = (let w = there some in let e : fell t w.0 ≡ back = w.2 in let early : fell t w.0 ≤ start = (All-contains (λ m. (marked_in marks m ≡ true) × (fell t m ≤ start)) lower w.0 walk.gathered.inside w.1).1 in omega arith)
+    back_low (inr zero_) = omega arith
+
+    behind : (w : ℤ) → Contains lower w → Contains (first ∷ lower) w
+    behind w (k, less, here) = (suc k, (let more : suc k < suc (length lower) = omega arith in more), here)
+
+    apart : (a b : ℤ) → 0 < fell t a → 0 < fell t b → (a ≡ b → ⊥) → variable a ≡ variable b → ⊥
+    apart a b down_a down_b differ same = ⊎_elim (λ (e : a ≡ b). differ e) (λ (e : a ≡ opposite b). (let up : fell t (opposite b) ≡ 0 = trail.places.one_side b down_b in let h : fell t a ≡ fell t (opposite b) = ap (fell t) e in omega arith)) (same_variable a b same)
+
+-- With the marks taken off nothing is marked.
+pub walk_cleared : (live : ℕ → Option (List ℤ)) (t : Trailed) (start top : ℕ) (first : ℤ) (marks new : List Bool) (lower : List ℤ) (ids : List ℕ) → IsTrail t → start ≤ top → top < length t.lits → opposite (slice_index_or t.lits top first) ≡ first → IsWalk live t start (top + 1) marks lower ids → NoneMarked t marks start top → AreUnmarked (first ∷ lower) marks new → length new ≡ length marks → IsClear t.vars new
+walk_cleared live t start top first marks new lower ids trail after within at walk none unmarked same = record {
+  none = λ m. false_from_ne_true (marked_in new m) (λ is. unmarked.gone m is (walk_all live t start top first m marks lower ids trail after within at walk none (unmarked.was m is)));
+  room = same ∙ walk.room;
+}
+
+-- With no decision the walk goes down to nothing.
+pub walk_refuted : (live : ℕ → Option (List ℤ)) (t : Trailed) (marks : List Bool) (lower : List ℤ) (ids hints : List ℕ) → IsWalk live t 0 0 marks lower ids → hints ≡ reverse ids → HintsHold live (among []) hints
+walk_refuted live t marks lower ids hints walk are = rw are (resolvent_holds live (fell t) 0 (marked_in marks) ids [] walk.resolvent (λ m is. absurd (let some : 0 < fell t m = (walk.resolvent.below m is).0 in let low : fell t m ≤ 0 = (walk.resolvent.below m is).1 in omega arith)) (λ k d (less : k < 0). absurd (omega arith)))
+
+-- the greatest place so far
+pub fallen_more : (places : ℤ → ℕ) (lits : List ℤ) (i back more : ℕ) (d l : ℤ) → i < length lits → slice_index_or lits i d ≡ l → All (λ m. places m ≤ back) (take i lits) → back ≤ more → places l ≤ more → All (λ m. places m ≤ more) (take (i + 1) lits)
+fallen_more places lits i back more d l within at low grown new = rw (take_more lits i d within, at) (All-push (λ m. places m ≤ more) (take i lits) l (All-weaker (λ m. places m ≤ back) (λ m. places m ≤ more) (λ m h. omega (arith, h, grown)) (take i lits) low) new)
+
+pub fallen_there : (places : ℤ → ℕ) (lits : List ℤ) (i back more : ℕ) (d l : ℤ) → i < length lits → slice_index_or lits i d ≡ l → (0 < back → HasFallenAt places (take i lits) back) → (more ≡ back) ⊎ (more ≡ places l) → 0 < more → HasFallenAt places (take (i + 1) lits) more
+fallen_there places lits i back more d l within at there (inl same) some =
+    let w : HasFallenAt places (take i lits) back = there (omega arith) in
+    rw (take_more lits i d within, at) ((w.0, Contains-append_left (take i lits) (l ∷ []) w.0 w.1, w.2 ∙ sym same))
+fallen_there places lits i back more d l within at there (inr new) some = rw (take_more lits i d within, at) ((l, Contains-push (take i lits) l, sym new))
+
+-- the greater of two numbers
+pub greater_is : (a b m : ℕ) → m ≡ ord_max nat_cmp a b → (a ≤ m) × (b ≤ m) × ((m ≡ a) ⊎ (m ≡ b))
+greater_is a b m is = ⊎_elim (λ (less : a < b). (let e : m ≡ b = grind (arith, nat_tests, common_steps) in (omega arith, omega arith, inr e))) (λ (not_less : b ≤ a). ⊎_elim (λ (same : a ≡ b). (let e : m ≡ b = grind (arith, nat_tests, common_steps) in (omega arith, omega arith, inr e))) (λ (apart : a ≡ b → ⊥). (let e : m ≡ a = grind (arith, nat_tests, common_steps) in (omega arith, omega arith, inl e))) (cases_eq a b)) (cases_lt a b)

@@ -1,0 +1,4 @@
+pub mod Marking
+pub mod Gathering
+pub mod Walks
+pub mod Conflicts

@@ -1,0 +1,13 @@
+use Rattle.std.proofs.Common.{◌+◌, length}
+use Rattle.clause_db.specs.Stored.{live_in}
+use Rattle.conflict_core.specs.Walking.{IsWalk, IsLastMarked}
+use Rattle.conflict_core.proofs.analysis.Analysis.reduce.Given as goal
+
+abbrev pub invariant-loop-other : goal.invariant-loop-other
+invariant-loop-other l = record {
+  walk : IsWalk (live_in l.clauses) l.trail l.start (l.top + 1) l.self.marks l.self.lower.items l.self.hints.items;
+  last : IsLastMarked l.trail l.self.marks l.start (length l.trail.lits) l.top;
+}
+
+abbrev pub decreases-loop-other : goal.decreases-loop-other
+decreases-loop-other l = l.top

@@ -1,0 +1,40 @@
+-- What is learnt from a conflict.
+use Rattle.std.specs.Prelude.{◌≡◌, ℕ, ◌<◌, ◌≤◌, ◌⊎◌, ℤ, pos, List, [], length, slice_index_or, Contains, All, Option}
+use Rattle.sat_theory.specs.Formula.{IsClause, IsWithin}
+use Rattle.sat_theory.specs.Holding.{among, HintsHold}
+use Rattle.cdcl_theory.specs.Falling.{IsFallen, IsUnitUnder}
+use Rattle.cdcl_theory.specs.Trails.{Trailed, fell, HasReason}
+use Rattle.conflict_core.specs.declared.analysis.Analysis.{Analysis}
+use Rattle.conflict_core.specs.Walking.{IsClear, IsWalk}
+
+-- no mark and no list is left over from an earlier conflict
+pub record IsReady (vars : ℕ) (a : Analysis) : Type 0 where
+  pub clear : IsClear vars a.marks
+  pub no_lower : a.lower.items ≡ []
+  pub no_hints : a.hints.items ≡ []
+
+-- the walk has come down to place p, with the marks and lists of the analysis
+abbrev pub IsWalkOf : (ℕ → Option (List ℤ)) → Trailed → ℕ → ℕ → Analysis → Type 0
+IsWalkOf live t start p a = IsWalk live t start p a.marks a.lower.items a.hints.items
+
+-- each literal from an index on has its reason
+abbrev pub HaveReasons : (ℕ → Option (List ℤ)) → Trailed → ℕ → Type 0
+HaveReasons live t from = (p : ℕ) → from ≤ p → p < length t.lits → HasReason live t p
+
+-- the literal of a learnt clause that fell last
+abbrev pub asserting : List ℤ → ℤ
+asserting lits = slice_index_or lits 0 (pos 0)
+
+-- The clause that is learnt from a conflict in the level that begins at index `start`: its first literal
+-- fell in the level, and all others up to `back`, where one of them fell; back is 0 where there is no
+-- other. Going back to a place from `back` to `start` makes the clause unit.
+pub record IsLearnt (live : ℕ → Option (List ℤ)) (t : Trailed) (start : ℕ) (lits : List ℤ) (back : ℕ) (hints : List ℕ) : Type 0 where
+  pub some : 0 < length lits
+  pub after : start < fell t (asserting lits)
+  pub low : back ≤ start
+  pub unit : IsUnitUnder (fell t) start lits (asserting lits)
+  pub others : All (λ l. (l ≡ asserting lits) ⊎ IsFallen (fell t) back l) lits
+  pub second : 0 < back → (w : ℤ) × Contains lits w × (fell t w ≡ back)
+  pub clause : IsClause lits
+  pub variables : IsWithin t.vars lits
+  pub hold : HintsHold live (among lits) hints

@@ -1,0 +1,63 @@
+-- The walk back over the trail from a conflict: the marked literals are the clause that is left.
+use Rattle.std.specs.Prelude.{◌≡◌, ◌≢◌, ℕ, ◌+◌, ◌*◌, ◌<◌, ◌≤◌, ◌⊎◌, ℤ, Bool, true, false, List, length, slice_index_or, Contains, All, AllPairs, Option, Some}
+use Rattle.sat_theory.specs.Formula.{opposite}
+use Rattle.cdcl_theory.specs.Codes.{marked_in}
+use Rattle.cdcl_theory.specs.Trails.{Trailed, fell}
+use Rattle.cdcl_theory.specs.Resolving.{IsResolvent}
+use Rattle.trail_core.specs.Values.{IsOver}
+
+-- the fallen literals of a list were marked, and no others
+pub record AreMarked (places : ℤ → ℕ) (lits : List ℤ) (old new : List Bool) : Type 0 where
+  pub stay : (m : ℤ) → marked_in old m ≡ true → marked_in new m ≡ true
+  pub there : All (λ m. 0 < places m → marked_in new m ≡ true) lits
+  pub only : (m : ℤ) → marked_in new m ≡ true → (marked_in old m ≡ true) ⊎ (Contains lits m × (0 < places m))
+
+-- the list has the marked literals that fell up to `start`, each once
+pub record IsGathered (t : Trailed) (start : ℕ) (marks : List Bool) (lower : List ℤ) : Type 0 where
+  pub over : All (IsOver t.vars) lower
+  pub inside : All (λ m. (marked_in marks m ≡ true) × (fell t m ≤ start)) lower
+  pub all : (m : ℤ) → marked_in marks m ≡ true → fell t m ≤ start → Contains lower m
+  pub differ : AllPairs (λ a b. a ≢ b) lower
+
+-- no literal that fell at an index from low to high is marked
+abbrev pub NoneMarked : Trailed → List Bool → ℕ → ℕ → Type 0
+NoneMarked t marks low high = (p : ℕ) (d : ℤ) → low ≤ p → p < high → marked_in marks (opposite (slice_index_or t.lits p d)) ≡ true → ⊥
+
+abbrev pub HasRoom : ℕ → List Bool → Type 0
+HasRoom vars marks = length marks ≡ 2 * vars + 2
+
+-- The walk has come down to place p. The clause of the marked literals, all among the first p that
+-- fell, follows by the ids so far.
+pub record IsWalk (live : ℕ → Option (List ℤ)) (t : Trailed) (start p : ℕ) (marks : List Bool) (lower : List ℤ) (ids : List ℕ) : Type 0 where
+  pub resolvent : IsResolvent live (fell t) p (marked_in marks) ids
+  pub gathered : IsGathered t start marks lower
+  pub room : HasRoom t.vars marks
+
+-- nothing is marked
+pub record IsClear (vars : ℕ) (marks : List Bool) : Type 0 where
+  pub none : (m : ℤ) → marked_in marks m ≡ false
+  pub room : HasRoom vars marks
+
+-- the literals of a list were unmarked, and no others were marked
+pub record AreUnmarked (lits : List ℤ) (old new : List Bool) : Type 0 where
+  pub was : (m : ℤ) → marked_in new m ≡ true → marked_in old m ≡ true
+  pub gone : (m : ℤ) → marked_in new m ≡ true → Contains lits m → ⊥
+
+-- p is the last index from low to high whose literal fell and is marked
+pub record IsLastMarked (t : Trailed) (marks : List Bool) (low high p : ℕ) : Type 0 where
+  pub after : low ≤ p
+  pub before : p < high
+  pub there : (d : ℤ) → marked_in marks (opposite (slice_index_or t.lits p d)) ≡ true
+  pub last : NoneMarked t marks (p + 1) high
+
+-- the marked literals among the first p that fell stay marked
+abbrev pub StayBelow : Trailed → ℕ → List Bool → List Bool → Type 0
+StayBelow t p old new = (m : ℤ) → fell t m ≤ p → marked_in old m ≡ true → marked_in new m ≡ true
+
+-- all literals of the clause of an id are marked
+abbrev pub IsMarkedClause : (ℕ → Option (List ℤ)) → List Bool → ℕ → Type 0
+IsMarkedClause live marks id = (clause : List ℤ) → live id ≡ Some clause → All (λ m. marked_in marks m ≡ true) clause
+
+-- one of the literals fell at p
+abbrev pub HasFallenAt : (ℤ → ℕ) → List ℤ → ℕ → Type 0
+HasFallenAt places lits p = (w : ℤ) × Contains lits w × (places w ≡ p)

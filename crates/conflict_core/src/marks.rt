@@ -1,0 +1,75 @@
+ghost use Rattle.std.specs.Prelude.{◌≡◌, ℤ, true, ◌<◌, length, IfOk, Contains};
+ghost use Rattle.sat_theory.specs.Formula.{IsWithin};
+ghost use Rattle.sat_theory.specs.Holding.{with_literal};
+ghost use Rattle.cdcl_theory.specs.Codes.{code_of, marked_in, without_literal};
+ghost use Rattle.conflict_core.specs.Walking.{HasRoom, IsClear, AreUnmarked};
+
+use cdcl_theory::code;
+use cnf_core::Lit;
+use std::alloc::{AllocError, Global};
+use std::marker::Model;
+
+/// A set of literals, as a mark for each. Contracts see the list of marks.
+#[derive(Debug, Drop)]
+pub(crate) struct Marks {
+    marks: Vec<bool>,
+}
+
+impl Model for Marks {
+    ghost use Rattle.std.specs.Prelude.{List, Bool};
+
+    ghost Value = { List Bool };
+
+    ghost view = { λ m. m.marks.items };
+}
+
+#[tactic(auto, using(crate::proofs::Marking::marking))]
+impl Marks {
+    /// The empty set, with room for the literals of the variables 1 to `vars`.
+    pub(crate) fn new(alloc: Global, vars: u32) -> Result<Marks, AllocError>
+        ensures { IfOk result (IsClear vars) }
+    {
+        Ok(Marks {
+            marks: vec![in alloc; false; 2 * vars as usize + 2]?,
+        })
+    }
+
+    /// Whether a literal is in the set.
+    #[tactic(auto, unfolding(cdcl_theory::specs::Codes::marked_in))]
+    pub(crate) fn has(&self, lit: Lit) -> bool
+        requires { code_of lit < length self.now }
+        ensures { result ≡ marked_in self.now lit }
+    {
+        self.marks[code(lit)]
+    }
+
+    /// Puts a literal into the set.
+    pub(crate) fn set(&mut self, lit: Lit)
+        requires { code_of lit < length self.old }
+        ensures set { marked_in self.new ≡ with_literal (marked_in self.old) lit }
+        ensures room { length self.new ≡ length self.old }
+    {
+        self.marks[code(lit)] = true;
+    }
+
+    /// Takes a literal out of the set.
+    pub(crate) fn unset(&mut self, lit: Lit)
+        requires { code_of lit < length self.old }
+        ensures set { marked_in self.new ≡ without_literal (marked_in self.old) lit }
+        ensures room { length self.new ≡ length self.old }
+    {
+        self.marks[code(lit)] = false;
+    }
+
+    /// Takes the literals of a list out of the set.
+    pub(crate) fn unset_all(&mut self, vars: u32, lits: &[Lit])
+        requires room { HasRoom vars self.old }
+        requires within { IsWithin vars lits.now }
+        ensures set { AreUnmarked lits.now self.old self.new }
+        ensures room { length self.new ≡ length self.old }
+    {
+        for lit in lits {
+            self.unset(*lit);
+        }
+    }
+}

@@ -1,0 +1,262 @@
+ghost use Rattle.std.specs.Prelude.{◌↔◌, IsTrue};
+ghost use Rattle.sat_theory.specs.Formula.{IsWithin};
+
+use cdcl_core::{Solved, solve};
+use cnf_core::{Assign, Clause, Cnf, satisfied};
+use lrat_check::Checker;
+use lrat_text::{Line, Log, read_line, write_line};
+use std::alloc::{AllocError, Global};
+use std::test::Fail;
+
+/// The clause of an addition that a text spells; the empty one where it spells none.
+fn clause(alloc: Global, text: &[u8]) -> Clause {
+    match read_line(alloc, text) {
+        Ok(Line::Add { lits, .. }) => Clause::new(lits),
+        _ => Clause::new(Vec::new(alloc)),
+    }
+}
+
+fn is_within(vars: u32, clause: &Clause) -> bool
+    ensures { IsTrue result ↔ IsWithin vars clause.now }
+{
+    clause.lits().iter().all(|lit| lit.variable() <= vars)
+}
+
+/// Adds a clause whose variables are the formula's.
+fn push_within(cnf: &mut Cnf, clause: Clause) -> Result<(), AllocError> {
+    if is_within(cnf.vars(), &clause) && cnf.clauses().len() < 9999 {
+        cnf.push(clause)?;
+    }
+    Ok(())
+}
+
+/// The formula of some clauses over the variables 1 to `vars`.
+fn formula(alloc: Global, vars: u32, clauses: &[&[u8]]) -> Result<Cnf, AllocError> {
+    let mut cnf = Cnf::new(alloc, vars.min(99));
+    for text in clauses {
+        push_within(&mut cnf, clause(alloc, text))?;
+    }
+    Ok(cnf)
+}
+
+/// Whether the checker takes each line of a log, as it is written and read again; and if so, whether it
+/// has then reached the empty clause.
+fn judged(alloc: Global, cnf: Cnf, log: &Log) -> Result<Option<bool>, Fail> {
+    let mut checker = Checker::new(alloc, cnf)?;
+    for line in &log.lines {
+        let mut text = Vec::new(alloc);
+        write_line(line, &mut text)?;
+        let Some((_, body)) = text.split_last() else {
+            return Ok(None);
+        };
+        if checker.feed(read_line(alloc, body)?).is_err() {
+            return Ok(None);
+        }
+    }
+    Ok(Some(checker.refuted()))
+}
+
+/// The variables 1 and 2, and all four clauses over both.
+const CONTRADICTION: [&[u8]; 4] = [b"1 1 2 0 0", b"2 -1 2 0 0", b"3 1 -2 0 0", b"4 -1 -2 0 0"];
+
+/// A step that negates its input by conjunction alone.
+const NEGATION: [&[u8]; 23] = [
+    b"1 3 0 0",
+    b"1 -3 1 0 0",
+    b"1 -3 -2 0 0",
+    b"1 8 0 0",
+    b"1 -8 1 -4 0 0",
+    b"1 -8 -1 4 0 0",
+    b"1 -8 2 -7 0 0",
+    b"1 -8 -2 7 0 0",
+    b"1 4 5 6 7 0 0",
+    b"1 4 5 -6 7 0 0",
+    b"1 4 5 -6 -7 0 0",
+    b"1 4 -5 6 7 0 0",
+    b"1 4 -5 6 -7 0 0",
+    b"1 4 -5 -6 7 0 0",
+    b"1 4 -5 -6 -7 0 0",
+    b"1 -4 5 6 7 0 0",
+    b"1 -4 5 6 -7 0 0",
+    b"1 -4 5 -6 7 0 0",
+    b"1 -4 5 -6 -7 0 0",
+    b"1 -4 -5 6 7 0 0",
+    b"1 -4 -5 6 -7 0 0",
+    b"1 -4 -5 -6 7 0 0",
+    b"1 -4 -5 -6 -7 0 0",
+];
+
+#[test]
+fn formulas_are_satisfied(rt: HostRuntime) -> Result<(), Fail> {
+    let alloc = rt.alloc();
+    for (vars, clauses, bits) in [
+        (
+            2,
+            [b"1 1 2 0 0" as &[u8], b"2 -1 0 0"].as_slice(),
+            [false, true].as_slice(),
+        ),
+        // no clause, no variable, a variable in no clause
+        (0, [].as_slice(), [].as_slice()),
+        (2, [].as_slice(), [false, false].as_slice()),
+        (
+            3,
+            [b"1 1 0 0" as &[u8], b"2 3 0 0"].as_slice(),
+            [true, false, true].as_slice(),
+        ),
+    ] {
+        match solve(alloc, &formula(alloc, vars, clauses)?, 1)? {
+            Solved::Sat(assign) => assert_eq!(rt; assign.bits(), bits),
+            _ => assert!(rt; false, "not satisfied"),
+        }
+    }
+    Ok(())
+}
+
+#[test]
+fn formulas_are_refuted(rt: HostRuntime) -> Result<(), Fail> {
+    let alloc = rt.alloc();
+    for (vars, clauses, lines) in [
+        (2, CONTRADICTION.as_slice(), Some(2)),
+        (8, NEGATION.as_slice(), None),
+        // units that conflict, and the empty clause
+        (1, [b"1 1 0 0" as &[u8], b"2 -1 0 0"].as_slice(), Some(1)),
+        (2, [b"1 1 2 0 0" as &[u8], b"2 0 0"].as_slice(), Some(0)),
+        (0, [b"1 0 0" as &[u8]].as_slice(), Some(0)),
+    ] {
+        match solve(alloc, &formula(alloc, vars, clauses)?, 1)? {
+            Solved::Unsat(log) => {
+                assert_eq!(rt; log.lines.len(), lines.unwrap_or(log.lines.len()));
+                assert!(rt; judged(alloc, formula(alloc, vars, clauses)?, &log)? == Some(true));
+            }
+            _ => assert!(rt; false, "not refuted"),
+        }
+    }
+    Ok(())
+}
+
+/// More pigeons by one than holes, of which each is to have a hole of its own.
+fn pigeons(alloc: Global, holes: u32) -> Result<Cnf, AllocError> {
+    let holes = holes.min(9);
+    let mut cnf = Cnf::new(alloc, holes * (holes + 1));
+    for pigeon in 0..holes + 1 {
+        let mut text = String::from_str(alloc, "1")?;
+        for hole in 1..holes + 1 {
+            text.push_str(format!(in alloc;
+                " {}",
+                u64::from(holes) * u64::from(pigeon) + u64::from(hole)
+            )?
+            .as_str())?;
+        }
+        text.push_str(" 0 0")?;
+        push_within(&mut cnf, clause(alloc, text.as_bytes()))?;
+    }
+    for hole in 1..holes + 1 {
+        for pigeon in 0..holes + 1 {
+            for other in 0..pigeon {
+                let first = u64::from(holes) * u64::from(pigeon) + u64::from(hole);
+                let second = u64::from(holes) * u64::from(other) + u64::from(hole);
+                let text = format!(in alloc; "1 -{first} -{second} 0 0")?;
+                push_within(&mut cnf, clause(alloc, text.as_bytes()))?;
+            }
+        }
+    }
+    Ok(cnf)
+}
+
+#[test]
+fn pigeons_have_no_holes(rt: HostRuntime) -> Result<(), Fail> {
+    let alloc = rt.alloc();
+    for (holes, budget, refuted) in [
+        (3, 1, false),
+        (3, 1000000, true),
+        (4, 3, false),
+        (5, 1000000, true),
+    ] {
+        let cnf = pigeons(alloc, holes)?;
+        match solve(alloc, &cnf, budget)? {
+            Solved::Sat(_) => assert!(rt; false, "satisfied"),
+            Solved::Unsat(log) => {
+                assert!(rt; refuted && judged(alloc, cnf, &log)? == Some(true));
+            }
+            Solved::Open(log) => {
+                assert!(rt; !refuted && log.lines.len() >= budget as usize);
+                assert!(rt; judged(alloc, cnf, &log)? == Some(false));
+            }
+        }
+    }
+    Ok(())
+}
+
+/// The next of a row of numbers that look random.
+fn next_random(seed: u64) -> u64 {
+    seed.wrapping_mul(6364136223846793005)
+        .wrapping_add(1442695040888963407)
+}
+
+/// A formula of random clauses over four variables.
+fn random_formula(alloc: Global, seed: u64) -> Result<Cnf, AllocError> {
+    let mut cnf = Cnf::new(alloc, 4);
+    let mut seed = next_random(seed);
+    for _ in 0..8 + (seed >> 33) % 16 {
+        let mut text = String::from_str(alloc, "1")?;
+        for variable in 1..=4u32 {
+            seed = next_random(seed);
+            match (seed >> 33) % 4 {
+                0 => text.push_str(format!(in alloc; " {variable}")?.as_str())?,
+                1 => text.push_str(format!(in alloc; " -{variable}")?.as_str())?,
+                _ => {}
+            }
+        }
+        text.push_str(" 0 0")?;
+        let clause = clause(alloc, text.as_bytes());
+        if !clause.lits().is_empty() {
+            push_within(&mut cnf, clause)?;
+        }
+    }
+    Ok(cnf)
+}
+
+/// Whether one of the sixteen assignments satisfies a formula over four variables.
+fn is_satisfiable(alloc: Global, cnf: &Cnf) -> Result<bool, AllocError> {
+    if cnf.vars() != 4 {
+        return Ok(false);
+    }
+    for number in 0..16u32 {
+        let bits = [
+            number & 1 == 1,
+            number & 2 == 2,
+            number & 4 == 4,
+            number & 8 == 8,
+        ];
+        if satisfied(cnf, &Assign::new(Vec::from_slice(alloc, &bits)?)) {
+            return Ok(true);
+        }
+    }
+    Ok(false)
+}
+
+#[test]
+fn all_assignments_agree(rt: HostRuntime) -> Result<(), Fail> {
+    let alloc = rt.alloc();
+    let mut satisfiable = 0u32;
+    for round in 0..200u64 {
+        let cnf = random_formula(alloc, round)?;
+        let expected = is_satisfiable(alloc, &cnf)?;
+        // 3 to the fourth decides all
+        match solve(alloc, &cnf, 81)? {
+            Solved::Sat(assign) => {
+                assert!(rt; expected && satisfied(&cnf, &assign), "{round}");
+                satisfiable = satisfiable.saturating_add(1);
+            }
+            Solved::Unsat(log) => {
+                assert!(rt;
+                    !expected && judged(alloc, cnf, &log)? == Some(true),
+                    "{round}"
+                );
+            }
+            Solved::Open(_) => assert!(rt; false, "{round}"),
+        }
+    }
+    assert!(rt; satisfiable > 20 && satisfiable < 180, "{satisfiable}");
+    Ok(())
+}

@@ -1,0 +1,77 @@
+-- Where the entries of a trail's tables stand, and what they say of assignments.
+use Rattle.std.proofs.Common.{◌≡◌, ℕ, zero, suc, ◌+◌, ◌-◌, ◌<◌, ◌≤◌, ◌⊎◌, ◌==◌, ℤ, pos, negsuc, Bool, true, false, nat_lt, List, [], ◌∷◌, ◌++◌, length, slice_set, slice_index_or, subst, sym, ap, ◌∙◌, arith, inl, inr, refl}
+use Rattle.std.proofs.Math.Logic.{⊎_elim}
+use Rattle.std.proofs.lemmas.Bool.{cases_lt, ne_eqb, lt-ltb, le-ltb}
+use Rattle.std.proofs.lemmas.Grind.{common_steps}
+use Rattle.sat_theory.specs.Formula.{variable, opposite, bits_of, literal_value}
+use Rattle.cdcl_theory.specs.Codes.{code_of}
+use Rattle.cdcl_theory.specs.CodeLaws.{code_of-room, same_variable, opposite-opposite, variable-opposite}
+use Rattle.cdcl_theory.specs.Trails.{Trailed, fell, IsTrail, IsBack}
+use Rattle.cdcl_theory.specs.TrailLaws.{trail_push, trail_pop, back_pop, back_self, back_trans, trail_none}
+use Rattle.trail_core.specs.Values.{IsFree, HaveValues, Follows}
+
+-- the tables as the code writes them
+pub trail_pushed : (t now : Trailed) (l : ℤ) (lits : List ℤ) (reason code place v : ℕ) → t ≡ now → IsTrail t → lits ≡ t.lits ++ l ∷ [] → code ≡ code_of (opposite l) → place ≡ length lits → v ≡ variable l → 0 < v → variable l ≤ now.vars → IsFree now l → IsTrail (record { vars = t.vars; lits = lits; table = slice_set t.table code place; reasons = slice_set t.reasons v reason })
+trail_pushed t now l lits reason code place v view trail is at long var some small free =
+    let same : place ≡ length t.lits + 1 = long ∙ grind (arith, common_steps) in
+    let here : IsFree t l = subst (λ (x : Trailed). IsFree x l) (sym view) free in
+    let low : variable l ≤ t.vars = subst (λ (x : Trailed). variable l ≤ x.vars) (sym view) small in
+    rw (is, at, same, var) (trail_push t l reason trail (omega arith) low here.0 here.1)
+
+pub trail_popped : (t : Trailed) (l : ℤ) (lits : List ℤ) (code : ℕ) → IsTrail t → t.lits ≡ lits ++ l ∷ [] → code ≡ code_of (opposite l) → IsTrail (record { vars = t.vars; lits = lits; table = slice_set t.table code 0; reasons = t.reasons })
+trail_popped t l lits code trail is at = rw at (trail_pop t lits l trail is)
+
+pub back_popped : (t now : Trailed) (l : ℤ) (lits : List ℤ) (code : ℕ) → t ≡ now → IsTrail t → t.lits ≡ lits ++ l ∷ [] → code ≡ code_of (opposite l) → IsBack (length now.lits - 1) now (record { vars = t.vars; lits = lits; table = slice_set t.table code 0; reasons = t.reasons })
+back_popped t now l lits code view trail is at =
+    let long : length t.lits ≡ length lits + 1 = ap length is ∙ grind (arith, common_steps) in
+    let same : length t.lits - 1 ≡ length lits = omega arith in
+    rw (at, ← view, same) (back_pop t lits l trail is)
+
+pub back_more : (n : ℕ) (a b c : Trailed) → IsBack n a b → 0 < n → IsBack (length b.lits - 1) b c → IsBack (length c.lits) a c
+back_more n a b c first some second =
+    let low : length b.lits ≡ n = first.short in
+    let short : length c.lits ≡ length b.lits - 1 = second.short in
+    rw short (back_trans n (length b.lits - 1) a b c (omega arith) first second)
+
+pub back_all : (n : ℕ) (a b : Trailed) → length b.lits ≡ n → IsBack (length b.lits) a b → IsBack n a b
+back_all n a b e back = subst (λ (m : ℕ). IsBack m a b) e back
+
+-- the next variable has a value too
+pub values_more : (t : Trailed) (i : ℕ) → HaveValues t (1 + i) → (IsFree t (negsuc i) → ⊥) → HaveValues t (1 + (i + 1))
+values_more t i have taken l some low =
+    ⊎_elim
+    (λ (less : variable l < 1 + i). have l some less)
+    (λ (high : 1 + i ≤ variable l).
+    let is : variable l ≡ suc i = omega arith in
+    ⊎_elim
+    (λ (same : l ≡ negsuc i). rw same (one_of (fell t (negsuc i)) (fell t (opposite (negsuc i))) (λ a b. taken (a, b))))
+    (λ (other : l ≡ opposite (negsuc i)). rw other (one_of (fell t (opposite (negsuc i))) (fell t (opposite (opposite (negsuc i)))) (λ a b. taken (b, a))))
+    (same_variable l (negsuc i) is))
+    (cases_lt (variable l) (1 + i))
+  where
+    one_of : (a b : ℕ) → (a ≡ 0 → b ≡ 0 → ⊥) → (0 < a) ⊎ (0 < b)
+    one_of a b no_both =
+        ⊎_elim
+        (λ (some_a : 0 < a). inl some_a)
+        (λ (none_a : a ≤ 0). ⊎_elim (λ (some_b : 0 < b). inr some_b) (λ (none_b : b ≤ 0). absurd (no_both (omega arith) (omega arith))) (cases_lt 0 b))
+        (cases_lt 0 a)
+
+-- bits that tell which negative literals have fallen
+pub follows : (t : Trailed) (bits : List Bool) → IsTrail t → length bits ≡ t.vars → ((k : ℕ) (d : Bool) → k < t.vars → slice_index_or bits k d ≡ nat_lt 0 (fell t (negsuc k))) → Follows t bits
+follows t bits trail long told = record { long = long; values = λ l over fallen. value l over.0 over.1 fallen }
+  where
+    bit : (n : ℕ) → suc n ≤ t.vars → bits_of bits (suc n) ≡ nat_lt 0 (fell t (negsuc n))
+    bit n low =
+        let some : (suc n == 0) ≡ false = ne_eqb (suc n) 0 (λ e. omega arith) in
+        let index : suc n - 1 ≡ n = omega arith in
+        rw (some, index) (told n false (omega arith))
+
+    value : (l : ℤ) → 0 < variable l → variable l ≤ t.vars → 0 < fell t (opposite l) → literal_value (bits_of bits) l ≡ true
+    value (pos zero) some low fallen = absurd (let h : 0 < 0 = some in omega arith)
+    value (pos (suc n)) some low fallen = bit n low ∙ lt-ltb 0 (fell t (negsuc n)) fallen
+    value (negsuc n) some low fallen =
+        let none : fell t (negsuc n) ≡ 0 = trail.places.one_side (pos (suc n)) fallen in
+        let off : bits_of bits (suc n) ≡ false = bit n low ∙ le-ltb 0 (fell t (negsuc n)) (omega arith) in
+        rw off refl
+
+pub ruleset reading = (common_steps, code_of-room, trail_none, values_more, follows, back_more)

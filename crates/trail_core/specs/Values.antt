@@ -1,0 +1,21 @@
+-- Which variables have a value on a trail, and the assignment of these values.
+use Rattle.std.specs.Prelude.{◌≡◌, ℕ, ◌<◌, ◌≤◌, ◌⊎◌, ℤ, Bool, true, List, length}
+use Rattle.sat_theory.specs.Formula.{variable, opposite, bits_of, literal_value}
+use Rattle.cdcl_theory.specs.Trails.{Trailed, fell}
+
+-- l is a literal of the variables 1 to vars
+abbrev pub IsOver : ℕ → ℤ → Type 0
+IsOver vars l = (0 < variable l) × (variable l ≤ vars)
+
+-- neither l nor its opposite has fallen
+abbrev pub IsFree : Trailed → ℤ → Type 0
+IsFree t l = (fell t l ≡ 0) × (fell t (opposite l) ≡ 0)
+
+-- each variable below v has a value
+abbrev pub HaveValues : Trailed → ℕ → Type 0
+HaveValues t v = (l : ℤ) → 0 < variable l → variable l < v → (0 < fell t l) ⊎ (0 < fell t (opposite l))
+
+-- each literal whose opposite has fallen is true
+pub record Follows (t : Trailed) (bits : List Bool) : Type 0 where
+  pub long : length bits ≡ t.vars
+  pub values : (l : ℤ) → IsOver t.vars l → 0 < fell t (opposite l) → literal_value (bits_of bits) l ≡ true

@@ -1,0 +1,173 @@
+ghost use Rattle.std.specs.Prelude.{◌≡◌, ℕ, ℤ, negsuc, ◌+◌, ◌-◌, ◌<◌, ◌≤◌, ◌↔◌, [], length, slice_index_or, IsTrue, IfOk, OnOk, OnErr, IfSome, IfNone};
+ghost use Rattle.sat_theory.specs.Formula.{variable as variable_of, opposite as opposite_of};
+ghost use Rattle.cdcl_theory.specs.Trails.{IsTrail, IsBack, pushed, fell as fell_of, reason_of};
+ghost use Rattle.trail_core.specs.Values.{IsOver, IsFree, HaveValues, Follows};
+
+use cdcl_theory::code;
+use cnf_core::{Assign, Lit};
+use std::alloc::{AllocError, Global};
+use std::marker::Model;
+
+/// The literals that are true, in the order in which they came, with their reasons. Contracts see the
+/// row of literals, and the tables that tell where each literal fell and which clause is the reason.
+#[derive(Debug, Drop)]
+pub struct Trail {
+    vars: u32,
+    lits: Vec<Lit>,
+    table: Vec<u32>,
+    reasons: Vec<u32>,
+}
+
+impl Model for Trail {
+    ghost use Rattle.cdcl_theory.specs.Trails.{Trailed, IsTrail};
+
+    ghost Value = { Trailed };
+
+    ghost view = { λ t. record { vars = t.vars; lits = t.lits.items; table = t.table.items; reasons = t.reasons.items } };
+
+    ghost invariant = { λ t. IsTrail (record { vars = t.vars; lits = t.lits.items; table = t.table.items; reasons = t.reasons.items }) };
+}
+
+#[tactic(auto, using(crate::proofs::Reading::reading))]
+impl Trail {
+    /// The empty trail for the variables 1 to `vars`, fewer than 1,000,000,000. It makes the room that
+    /// every later `push` needs.
+    pub fn new(alloc: Global, vars: u32) -> Result<Trail, AllocError>
+        requires { vars < 1000000000 }
+        ensures vars { IfOk result (λ t. t.vars ≡ vars) }
+        ensures empty { IfOk result (λ t. t.lits ≡ []) }
+        ensures whole { IfOk result IsTrail }
+    {
+        let table = vec![in alloc; 0u32; 2 * vars as usize + 2]?;
+        let reasons = vec![in alloc; 0u32; vars as usize + 1]?;
+        Ok(Trail {
+            vars,
+            lits: Vec::with_capacity(alloc, vars as usize)?,
+            table,
+            reasons,
+        })
+    }
+
+    /// How many variables there are.
+    pub fn vars(&self) -> u32
+        ensures value { result ≡ self.now.vars }
+        ensures whole { IsTrail self.now }
+    {
+        self.vars
+    }
+
+    /// How many literals are true.
+    pub fn len(&self) -> usize
+        ensures value { result ≡ length self.now.lits }
+        ensures whole { IsTrail self.now }
+    {
+        self.lits.len()
+    }
+
+    /// The literal at an index.
+    pub fn at(&self, index: usize) -> Lit
+        requires { index < length self.now.lits }
+        ensures value { (d : ℤ) → result ≡ slice_index_or self.now.lits index d }
+        ensures over { IsOver self.now.vars result }
+        ensures whole { IsTrail self.now }
+    {
+        self.lits[index]
+    }
+
+    /// Where a literal fell: 1 + the index of its opposite, or 0.
+    #[tactic(auto, using(crate::proofs::Reading::reading), unfolding(cdcl_theory::specs::Codes::place_in))]
+    pub fn fell(&self, lit: Lit) -> u32
+        requires { variable_of lit ≤ self.now.vars }
+        ensures value { result ≡ fell_of self.now lit }
+        ensures whole { IsTrail self.now }
+    {
+        self.table[code(lit)]
+    }
+
+    /// The id that the literal was pushed with.
+    pub fn reason(&self, lit: Lit) -> u32
+        requires { variable_of lit ≤ self.now.vars }
+        ensures value { result ≡ reason_of self.now lit }
+    {
+        self.reasons[lit.variable() as usize]
+    }
+
+    /// Makes a literal true whose variable has no value.
+    pub fn push(&mut self, lit: Lit, reason: u32) -> Result<(), AllocError>
+        requires over { variable_of lit ≤ self.old.vars }
+        requires free { IsFree self.old lit }
+        ensures ok { OnOk result (self.new ≡ pushed self.old lit reason) }
+        ensures err { OnErr result (self.new ≡ self.old) }
+        ensures whole { IsTrail self.new }
+    {
+        self.lits.push(lit)?;
+        self.table[code(lit.opposite())] = self.lits.len() as u32;
+        self.reasons[lit.variable() as usize] = reason;
+        Ok(())
+    }
+
+    /// Goes back to the first `len` literals.
+    pub fn back_to(&mut self, len: usize)
+        requires { len ≤ length self.old.lits }
+        ensures back { IsBack len self.old self.new }
+        ensures whole { IsTrail self.new }
+    {
+        for _taken in len..self.len() {
+            self.pop();
+        }
+    }
+
+    fn pop(&mut self)
+        requires { 0 < length self.old.lits }
+        ensures back { IsBack (length self.old.lits - 1) self.old self.new }
+        ensures whole { IsTrail self.new }
+    {
+        let Some(lit) = self.lits.pop() else {
+            return;
+        };
+        self.table[code(lit.opposite())] = 0;
+    }
+
+    /// Whether neither the literal nor its opposite is true.
+    pub fn is_free(&self, lit: Lit) -> bool
+        requires { variable_of lit ≤ self.now.vars }
+        ensures { IsTrue result ↔ IsFree self.now lit }
+    {
+        self.fell(lit) == 0 && self.fell(lit.opposite()) == 0
+    }
+
+    /// The negative literal of the least variable without a value; None where all have one.
+    pub fn free_literal(&self) -> Option<Lit>
+        ensures over { IfSome result (IsOver self.now.vars) }
+        ensures free { IfSome result (IsFree self.now) }
+        ensures least { IfSome result (λ l. HaveValues self.now (variable_of l)) }
+        ensures none { IfNone result (HaveValues self.now (1 + self.now.vars)) }
+    {
+        for index in 0..self.vars {
+            let lit = negative(index);
+            if self.is_free(lit) {
+                return Some(lit);
+            }
+        }
+        None
+    }
+
+    /// The assignment in which the literals of the trail are true; a variable without a value is false.
+    pub fn assignment(&self, alloc: Global) -> Result<Assign, AllocError>
+        ensures { IfOk result (Follows self.now) }
+    {
+        let mut bits = Vec::with_capacity(alloc, self.vars as usize)?;
+        for index in 0..self.vars {
+            bits.push(self.fell(negative(index)) > 0)?;
+        }
+        Ok(Assign::new(bits))
+    }
+}
+
+/// The negative literal of the variable behind so many others.
+fn negative(index: u32) -> Lit
+    requires { index < 1000000000 }
+    ensures { result ≡ negsuc index }
+{
+    Lit::new(-(index as i32) - 1)
+}
