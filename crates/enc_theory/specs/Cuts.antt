@@ -1,0 +1,206 @@
+-- Cuts: further clauses, which some least chain meets. They are those of Kojevnikov,
+-- Kulikov and Yaroslavtsev ("Finding Efficient Circuits Using SAT-solvers", 2009), Knuth (TAOCP
+-- 7.2.2.2, exercise 477) and Haaswijk, Soeken, Mishchenko and De Micheli ("SAT-Based Exact Synthesis",
+-- 2020), each under a test of the basis that it needs. Loops run in rising order, the first named
+-- outermost.
+use Rattle.std.specs.Prelude.{ℕ, suc, ℤ, Bool, true, false, ◌&&◌, ◌||◌, not, List, [], ◌∷◌, ◌++◌, length, map, min, max, nat_lt, ◌==◌, ◌-◌, ◌^◌, if◌then◌else◌}
+use Rattle.std.specs.List.{range_with_len, flat_map, filter, list_all}
+use Rattle.chain_theory.specs.declared.data.Cell.{Cell}
+use Rattle.chain_theory.specs.declared.data.Cell.TheVariants.{Zero, One, Free}
+use Rattle.op_basis.specs.Basis.{members}
+use Rattle.op_basis.specs.Closed.{const_closed, polarity_closed, reapply_closed}
+use Rattle.tt_core.specs.Symmetry.{exchanged}
+use Rattle.tt_core.specs.Words.{Words, cell_of}
+use Rattle.enc_theory.specs.declared.data.Raw.{Raw}
+use Rattle.enc_theory.specs.declared.data.Raw.TheVariants.{Var}
+use Rattle.enc_theory.specs.declared.data.Sizes.{Sizes}
+use Rattle.enc_theory.specs.declared.data.Slot.{Slot}
+use Rattle.enc_theory.specs.Clauses.{written}
+use Rattle.enc_theory.specs.Numbering.{places, outputs, f_var, x_is}
+use Rattle.enc_theory.specs.Pairs.{StepSlots}
+use Rattle.enc_theory.specs.Families.{bearer, chosen, operator_raw}
+
+-- ---- Each step is an output or is read: for step i, one clause "some output is i, or some later step
+-- has a pair with i".
+
+-- output h is step i
+unfoldable pub bears : Sizes → ℕ → ℕ → Raw
+bears z i h = bearer z h i
+
+-- the pair has the place
+abbrev pub reads : Slot → ℕ → Bool
+reads u p = u.j == p || u.k == p
+
+unfoldable pub reader : ℕ → Slot → List Raw
+reader p u = if reads u p then chosen u ∷ [] else []
+
+unfoldable pub readers : ℕ → StepSlots → List Raw
+readers p s = flat_map (reader p) s.slots
+
+unfoldable pub used_by : Sizes → StepSlots → List StepSlots → List (List ℤ)
+used_by z s later = written (map (bears z s.place) (outputs z) ++ flat_map (readers s.place) later)
+
+unfoldable pub used : Sizes → List StepSlots → List (List ℤ)
+used z [] = []
+used z (s ∷ later) = used_by z s later ++ used z later
+
+-- ---- No step is trivial.
+
+-- "the step's operator isn't this one", where it is a member
+unfoldable pub other_operator : ℕ → Sizes → ℕ → ℕ → List (List ℤ)
+other_operator basis z i op = if members basis op then written (operator_raw z i op) else []
+
+-- the copies 0011 and 0101 of an operand, and with them the constants 0000 and 1111
+abbrev pub idle_operators : Bool → List ℕ
+idle_operators constants = if constants then 0 ∷ 3 ∷ 5 ∷ 15 ∷ [] else 3 ∷ 5 ∷ []
+
+unfoldable pub not_idle : Bool → ℕ → Sizes → ℕ → List (List ℤ)
+not_idle constants basis z i = flat_map (other_operator basis z i) (idle_operators constants)
+
+-- On equal operands the operator is a negation, where constants can be left out: "the step hasn't
+-- this pair, or the operator is 1 at 00", and the same with 0 at 11. Else it is at least no copy.
+unfoldable pub equal_raw : Bool → Sizes → ℕ → Slot → List (List ℤ)
+equal_raw constants z i u =
+    if constants then written (Var u.var false ∷ Var (f_var z i false false) true ∷ []) ++ written (Var u.var false ∷ Var (f_var z i true true) false ∷ [])
+    else written (Var u.var false ∷ Var (f_var z i false false) true ∷ Var (f_var z i true true) false ∷ [])
+
+unfoldable pub equal_slot : Bool → Sizes → ℕ → Slot → List (List ℤ)
+equal_slot constants z i u = if u.j == u.k then equal_raw constants z i u else []
+
+unfoldable pub equal_pair : Slot → List Raw
+equal_pair u = if u.j == u.k then chosen u ∷ [] else []
+
+-- A negation of an operand, 1010 or 1100, has that operand twice: "the operator isn't this one, or
+-- the step has some pair of equal operands".
+unfoldable pub negation_raw : ℕ → Sizes → StepSlots → ℕ → List (List ℤ)
+negation_raw basis z s op = if members basis op then written (operator_raw z s.place op ++ flat_map equal_pair s.slots) else []
+
+unfoldable pub negations : ℕ → Sizes → StepSlots → List (List ℤ)
+negations basis z s = flat_map (negation_raw basis z s) (10 ∷ 12 ∷ [])
+
+unfoldable pub not_trivial_at : Bool → ℕ → Sizes → StepSlots → List (List ℤ)
+not_trivial_at constants basis z s = not_idle constants basis z s.place ++ flat_map (equal_slot constants z s.place) s.slots ++ negations basis z s
+
+unfoldable pub not_trivial : ℕ → Sizes → List StepSlots → List (List ℤ)
+not_trivial basis z steps = flat_map (not_trivial_at (const_closed (members basis)) basis z) steps
+
+-- ---- Pairs never fall: for step i, a pair of it, and a pair of step i + 1 that comes before that one,
+-- "not both".
+
+abbrev pub larger : Slot → ℕ
+larger u = max u.j u.k
+
+abbrev pub smaller : Slot → ℕ
+smaller u = if u.j == u.k then 0 else min u.j u.k
+
+-- by the larger operand; then equal operands before others; then by the smaller operand
+unfoldable pub comes_before : Slot → Slot → Bool
+comes_before u v = nat_lt (larger u) (larger v) || (larger u == larger v && nat_lt (smaller u) (smaller v))
+
+unfoldable pub not_both : Slot → Slot → List (List ℤ)
+not_both u v = written (Var u.var false ∷ Var v.var false ∷ [])
+
+unfoldable pub order_pair : Slot → Slot → List (List ℤ)
+order_pair u v = if comes_before v u then not_both u v else []
+
+unfoldable pub order_slot : List Slot → Slot → List (List ℤ)
+order_slot next u = flat_map (order_pair u) next
+
+unfoldable pub order_with : StepSlots → List StepSlots → List (List ℤ)
+order_with s [] = []
+order_with s (next ∷ later) = flat_map (order_slot next.slots) s.slots
+
+unfoldable pub order : List StepSlots → List (List ℤ)
+order [] = []
+order (s ∷ later) = order_with s later ++ order later
+
+-- ---- No step is applied again to one of its operands, where the basis is closed under that: for step
+-- i, a later step, a pair of i, and a pair of the later step with i and one of the places of that,
+-- "not both".
+
+unfoldable pub applies_again : ℕ → Slot → Slot → Bool
+applies_again p u v = (v.j == p && reads u v.k) || (v.k == p && reads u v.j)
+
+unfoldable pub again_pair : ℕ → Slot → Slot → List (List ℤ)
+again_pair p u v = if applies_again p u v then not_both u v else []
+
+unfoldable pub again_slot : ℕ → List Slot → Slot → List (List ℤ)
+again_slot p reading u = flat_map (again_pair p u) reading
+
+-- the pairs with the place
+unfoldable pub has_place : ℕ → Slot → Bool
+has_place p u = reads u p
+
+abbrev pub reading : ℕ → List Slot → List Slot
+reading p slots = filter (has_place p) slots
+
+unfoldable pub again_later : StepSlots → StepSlots → List (List ℤ)
+again_later s later = flat_map (again_slot s.place (reading s.place later.slots)) s.slots
+
+unfoldable pub again_all : List StepSlots → List (List ℤ)
+again_all [] = []
+again_all (s ∷ later) = flat_map (again_later s) later ++ again_all later
+
+unfoldable pub again : ℕ → List StepSlots → List (List ℤ)
+again basis steps = if reapply_closed (members basis) then again_all steps else []
+
+-- ---- Of two inputs p < q that the tables let exchange, q is read without p only after p was read
+-- without q: for p, q, step i and a pair of it with q and not p, "the step hasn't this pair, or some
+-- step before has a pair with p and not q".
+
+-- the cells are the same
+abbrev pub same_cell : Cell → Cell → Bool
+same_cell Zero Zero = true
+same_cell One One = true
+same_cell Free Free = true
+same_cell _ _ = false
+
+unfoldable pub same_at : Words → ℕ → ℕ → ℕ → ℕ → Bool
+same_at w p q h t = same_cell (cell_of w h (exchanged w.n p q t)) (cell_of w h t)
+
+unfoldable pub same_output : Words → ℕ → ℕ → ℕ → Bool
+same_output w p q h = list_all (same_at w p q h) (range_with_len 0 (2 ^ w.n))
+
+-- exchanging inputs p and q leaves each cell of each output the same
+unfoldable pub may_exchange : Words → ℕ → ℕ → Bool
+may_exchange w p q = list_all (same_output w p q) (range_with_len 1 (length w.on))
+
+-- the pair has p and not q
+abbrev pub reads_without : ℕ → ℕ → Slot → Bool
+reads_without p q u = reads u p && not (reads u q)
+
+unfoldable pub reader_without : ℕ → ℕ → Slot → List Raw
+reader_without p q u = if reads_without p q u then chosen u ∷ [] else []
+
+unfoldable pub readers_without : ℕ → ℕ → StepSlots → List Raw
+readers_without p q s = flat_map (reader_without p q) s.slots
+
+-- `before` are the pairs with p and not q of the steps before
+unfoldable pub exchange_slot : ℕ → ℕ → List Raw → Slot → List (List ℤ)
+exchange_slot p q before u = if reads_without q p u then written (Var u.var false ∷ before) else []
+
+unfoldable pub exchange_steps : ℕ → ℕ → List Raw → List StepSlots → List (List ℤ)
+exchange_steps p q before [] = []
+exchange_steps p q before (s ∷ later) = flat_map (exchange_slot p q before) s.slots ++ exchange_steps p q (before ++ readers_without p q s) later
+
+unfoldable pub exchange_pair : Words → List StepSlots → ℕ → ℕ → List (List ℤ)
+exchange_pair w steps p q = if may_exchange w p q then exchange_steps p q [] steps else []
+
+unfoldable pub exchange_with : Words → List StepSlots → ℕ → List (List ℤ)
+exchange_with w steps p = flat_map (exchange_pair w steps p) (range_with_len (suc p) (w.n - p))
+
+unfoldable pub exchange : Words → List StepSlots → List (List ℤ)
+exchange w steps = flat_map (exchange_with w steps) (range_with_len 1 w.n)
+
+-- ---- A step that is no output is 0 on row 0, where the basis is closed under complements: for step i
+-- "i is 0 on row 0, or some output is i".
+
+unfoldable pub row_0_at : Sizes → ℕ → List (List ℤ)
+row_0_at z i = written (x_is z i 0 false ∷ map (bears z i) (outputs z))
+
+unfoldable pub row_0 : ℕ → Sizes → List (List ℤ)
+row_0 basis z = if polarity_closed (members basis) then flat_map (row_0_at z) (places z) else []
+
+-- ---- All cuts, the six families in their order.
+unfoldable pub cuts : Words → ℕ → Sizes → List StepSlots → List (List ℤ)
+cuts w basis z steps = used z steps ++ not_trivial basis z steps ++ order steps ++ again basis steps ++ exchange w steps ++ row_0 basis z

@@ -1,0 +1,105 @@
+-- The clauses that say what a chain is (TAOCP 7.2.2.2), in five families. Each is a comprehension:
+-- its loops run in rising order, the first named outermost.
+use Rattle.std.specs.Prelude.{ℕ, ℤ, Bool, true, false, not, List, [], ◌∷◌, ◌++◌, map, if◌then◌else◌}
+use Rattle.std.specs.List.{range_with_len, flat_map}
+use Rattle.chain_theory.specs.Operator.{apply}
+use Rattle.chain_theory.specs.declared.data.Cell.{Cell}
+use Rattle.chain_theory.specs.declared.data.Cell.TheVariants.{Zero, One, Free}
+use Rattle.op_basis.specs.Basis.{members}
+use Rattle.tt_core.specs.Words.{Words, cell_of}
+use Rattle.enc_theory.specs.declared.data.Raw.{Raw}
+use Rattle.enc_theory.specs.declared.data.Raw.TheVariants.{Var}
+use Rattle.enc_theory.specs.declared.data.Sizes.{Sizes}
+use Rattle.enc_theory.specs.declared.data.Slot.{Slot}
+use Rattle.enc_theory.specs.Clauses.{written}
+use Rattle.enc_theory.specs.Numbering.{places, rows, outputs, g_var, f_var, x_is}
+use Rattle.enc_theory.specs.Pairs.{StepSlots}
+
+-- ---- Each output h is some step: one clause "h is i" over all steps i.
+
+unfoldable pub bearer : Sizes → ℕ → ℕ → Raw
+bearer z h i = Var (g_var z h i) true
+
+unfoldable pub out_exists_at : Sizes → ℕ → List (List ℤ)
+out_exists_at z h = written (map (bearer z h) (places z))
+
+unfoldable pub out_exists : Sizes → List (List ℤ)
+out_exists z = flat_map (out_exists_at z) (outputs z)
+
+-- ---- A step that is output h has the values of its cells: for h, step i and row t with a cell that
+-- isn't free, "h isn't i, or i has the cell's bit on t".
+
+unfoldable pub out_value_is : Sizes → ℕ → ℕ → ℕ → Bool → List (List ℤ)
+out_value_is z h i t bit = written (Var (g_var z h i) false ∷ x_is z i t bit ∷ [])
+
+unfoldable pub out_value_at : Sizes → ℕ → ℕ → ℕ → Cell → List (List ℤ)
+out_value_at z h i t Zero = out_value_is z h i t false
+out_value_at z h i t One = out_value_is z h i t true
+out_value_at z h i t Free = []
+
+unfoldable pub out_value : Words → Sizes → ℕ → ℕ → ℕ → List (List ℤ)
+out_value w z h i t = out_value_at z h i t (cell_of w h t)
+
+unfoldable pub out_values_of : Words → Sizes → ℕ → ℕ → List (List ℤ)
+out_values_of w z h i = flat_map (out_value w z h i) (rows z)
+
+unfoldable pub out_values_at : Words → Sizes → ℕ → List (List ℤ)
+out_values_at w z h = flat_map (out_values_of w z h) (places z)
+
+unfoldable pub out_values : Words → Sizes → List (List ℤ)
+out_values w z = flat_map (out_values_at w z) (outputs z)
+
+-- ---- Each step has some pair: one clause over all its pairs.
+
+unfoldable pub chosen : Slot → Raw
+chosen u = Var u.var true
+
+unfoldable pub pair_exists_at : StepSlots → List (List ℤ)
+pair_exists_at s = written (map chosen s.slots)
+
+unfoldable pub pair_exists : List StepSlots → List (List ℤ)
+pair_exists steps = flat_map pair_exists_at steps
+
+-- ---- A step has its operator's value of its pair: for step i, pair (j, k), row t and bits a, b, c,
+-- "i hasn't this pair, or i isn't a on t, or j isn't b, or k isn't c, or the operator is a at (b, c)".
+
+unfoldable pub value_raw : Sizes → ℕ → Slot → ℕ → Bool → Bool → Bool → List Raw
+value_raw z i u t a b c = Var u.var false ∷ x_is z i t (not a) ∷ x_is z u.j t (not b) ∷ x_is z u.k t (not c) ∷ Var (f_var z i b c) a ∷ []
+
+unfoldable pub value_clause : Sizes → ℕ → Slot → ℕ → Bool → Bool → Bool → List (List ℤ)
+value_clause z i u t a b c = written (value_raw z i u t a b c)
+
+-- the four clauses of a, and the eight of a row
+unfoldable pub value_bit : Sizes → ℕ → Slot → ℕ → Bool → List (List ℤ)
+value_bit z i u t a = value_clause z i u t a false false ++ value_clause z i u t a false true ++ value_clause z i u t a true false ++ value_clause z i u t a true true
+
+unfoldable pub value_row : Sizes → ℕ → Slot → ℕ → List (List ℤ)
+value_row z i u t = value_bit z i u t false ++ value_bit z i u t true
+
+unfoldable pub value_slot : Sizes → ℕ → Slot → List (List ℤ)
+value_slot z i u = flat_map (value_row z i u) (rows z)
+
+unfoldable pub value_step : Sizes → StepSlots → List (List ℤ)
+value_step z s = flat_map (value_slot z s.place) s.slots
+
+unfoldable pub values : Sizes → List StepSlots → List (List ℤ)
+values z steps = flat_map (value_step z) steps
+
+-- ---- Each step's operator is a member: for step i and each operator that isn't, one clause "i has
+-- another value at 00, or at 01, or at 10, or at 11".
+
+unfoldable pub operator_raw : Sizes → ℕ → ℕ → List Raw
+operator_raw z i op = Var (f_var z i false false) (not (apply op false false)) ∷ Var (f_var z i false true) (not (apply op false true)) ∷ Var (f_var z i true false) (not (apply op true false)) ∷ Var (f_var z i true true) (not (apply op true true)) ∷ []
+
+unfoldable pub operator_clause : ℕ → Sizes → ℕ → ℕ → List (List ℤ)
+operator_clause basis z i op = if members basis op then [] else written (operator_raw z i op)
+
+unfoldable pub operators_at : ℕ → Sizes → ℕ → List (List ℤ)
+operators_at basis z i = flat_map (operator_clause basis z i) (range_with_len 0 16)
+
+unfoldable pub operators : ℕ → Sizes → List (List ℤ)
+operators basis z = flat_map (operators_at basis z) (places z)
+
+-- ---- What a chain is: the five families in their order.
+unfoldable pub common : Words → ℕ → Sizes → List StepSlots → List (List ℤ)
+common w basis z steps = out_exists z ++ out_values w z ++ pair_exists steps ++ values z steps ++ operators basis z

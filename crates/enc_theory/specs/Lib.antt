@@ -1,0 +1,13 @@
+pub mod Clauses
+pub mod Numbering
+pub mod Pairs
+pub mod Families
+pub mod Plain
+pub mod Decode
+pub mod Vectors
+pub mod PlainVectors
+pub mod Cuts
+pub mod Ssv
+pub mod SsvVectors
+pub mod Fence
+pub mod FenceVectors

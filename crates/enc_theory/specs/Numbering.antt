@@ -1,0 +1,54 @@
+-- The variables of a formula. Inputs have the places 1 to n, and the steps n + 1 to n + r.
+use Rattle.std.specs.Prelude.{ℕ, ◌+◌, ◌-◌, ◌*◌, ◌^◌, leb, Bool, not, List, length, if◌then◌else◌}
+use Rattle.std.specs.List.{range_with_len}
+use Rattle.chain_theory.specs.Specification.{input}
+use Rattle.tt_core.specs.Words.{Words}
+use Rattle.enc_theory.specs.declared.data.Raw.{Raw}
+use Rattle.enc_theory.specs.declared.data.Raw.TheVariants.{Fixed, Var}
+use Rattle.enc_theory.specs.declared.data.Sizes.{Sizes}
+
+-- a formula for these tables with r steps
+abbrev pub sizes_of : Words → ℕ → Sizes
+sizes_of w r = record { n = w.n; r = r; m = length w.on }
+
+-- the places of the steps, the rows, and the numbers of the outputs
+abbrev pub places : Sizes → List ℕ
+places z = range_with_len (z.n + 1) z.r
+
+abbrev pub rows : Sizes → List ℕ
+rows z = range_with_len 0 (2 ^ z.n)
+
+abbrev pub outputs : Sizes → List ℕ
+outputs z = range_with_len 1 z.m
+
+-- Step i has the value 1 on row t: first all rows of the first step, then those of the next.
+-- Example: with 2 inputs it is variable 1 for step 3 on row 0, and variable 5 for step 4 on row 0.
+unfoldable pub x_var : Sizes → ℕ → ℕ → ℕ
+x_var z i t = (i - (z.n + 1)) * 2 ^ z.n + t + 1
+
+-- Output h is step i: behind these, all steps for the first output, then for the next.
+unfoldable pub g_var : Sizes → ℕ → ℕ → ℕ
+g_var z h i = z.r * 2 ^ z.n + (h - 1) * z.r + (i - z.n)
+
+-- the variables before those of operators
+abbrev pub f_first : Sizes → ℕ
+f_first z = z.r * 2 ^ z.n + z.m * z.r + 1
+
+-- bits as the word that they spell
+abbrev pub bits_word : Bool → Bool → ℕ
+bits_word b c = 2 * (if b then 1 else 0) + (if c then 1 else 0)
+
+-- The operator of step i has the value 1 at (b, c): behind these, four for each step, at 00, 01, 10
+-- and 11.
+unfoldable pub f_var : Sizes → ℕ → Bool → Bool → ℕ
+f_var z i b c = f_first z + 4 * (i - (z.n + 1)) + bits_word b c
+
+-- the first variable behind these; from it on come those of the pairs
+unfoldable pub s_first : Sizes → ℕ
+s_first z = f_first z + 4 * z.r
+
+-- Place j has this bit on row t. For an input that is true or false; for a step it is a literal.
+-- Example: with 2 inputs, "place 1 has the bit 1 on row 2" is true, and so is left out of no clause
+-- but leaves out the clause.
+unfoldable pub x_is : Sizes → ℕ → ℕ → Bool → Raw
+x_is z j t bit = if leb j z.n then Fixed (if input z.n t j then bit else not bit) else Var (x_var z j t) bit

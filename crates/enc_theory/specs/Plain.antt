@@ -1,0 +1,29 @@
+-- The plain encoding: what a chain is, over all pairs, and nothing else.
+use Rattle.std.specs.Prelude.{ℕ, false, List}
+use Rattle.chain_theory.specs.Chain.{Chain}
+use Rattle.sat_theory.specs.Formula.{Formula, Assignment}
+use Rattle.tt_core.specs.Words.{Words}
+use Rattle.tt_core.specs.Live.{live_words}
+use Rattle.enc_theory.specs.declared.data.Sizes.{Sizes}
+use Rattle.enc_theory.specs.Numbering.{sizes_of}
+use Rattle.enc_theory.specs.Pairs.{StepSlots, pairs_below, layout, vars_of}
+use Rattle.enc_theory.specs.Families.{common}
+use Rattle.enc_theory.specs.Decode.{decoded}
+
+-- each step with all pairs of places below it
+abbrev pub plain_layout : Sizes → List StepSlots
+plain_layout z = layout (pairs_below false) z
+
+-- the formula of tables whose outputs are all live
+unfoldable pub plain_live : Words → ℕ → ℕ → Formula
+plain_live w basis r =
+    let z = sizes_of w r in
+    record { vars = vars_of z (plain_layout z); clauses = common w basis z (plain_layout z) }
+
+-- The formula of tables, over the set of operators that a number is: that of their live outputs alone.
+unfoldable pub plain_formula : Words → ℕ → ℕ → Formula
+plain_formula w basis r = plain_live (live_words w) basis r
+
+-- the chain of r steps that an assignment of the formula's variables spells
+unfoldable pub plain_decoded : Words → ℕ → Assignment → Chain
+plain_decoded w r v = let z = sizes_of (live_words w) r in decoded w z (plain_layout z) v

@@ -1,0 +1,44 @@
+/// How a size is encoded.
+#[derive(Clone, Copy, Debug, PartialEq, Eq)]
+pub enum Method {
+    /// What a chain is, and nothing else.
+    Plain,
+    /// A variable for each pair of operands, with cuts that leave a least chain.
+    Ssv,
+    /// A variable for each operand, with the same cuts.
+    Select,
+    /// As `Ssv`, one formula for each way in which steps may stand in levels.
+    Fence,
+}
+
+/// A literal as it is listed, before its clause is written.
+#[derive(Clone, Copy, Debug, PartialEq, Eq)]
+pub enum Raw {
+    /// What is true or false whatever the variables are.
+    Fixed(bool),
+    /// That a variable, numbered from 1, has this bit.
+    Var(u32, bool),
+}
+
+/// What a formula is made for: `n` inputs, `r` steps and `m` outputs.
+#[derive(Clone, Copy, Debug, PartialEq, Eq)]
+pub struct Sizes {
+    pub n: u32,
+    pub r: u32,
+    pub m: u32,
+}
+
+/// The operands of a step, both places below it.
+#[derive(Clone, Copy, Debug, PartialEq, Eq)]
+pub struct Pair {
+    pub j: u32,
+    pub k: u32,
+}
+
+/// A pair that a step may have, with the variable that says that it has it.
+#[derive(Clone, Copy, Debug, PartialEq, Eq)]
+pub struct Slot {
+    pub j: u32,
+    pub k: u32,
+    pub var: u32,
+}

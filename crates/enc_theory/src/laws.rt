@@ -1,0 +1,25 @@
+//! What the definitions come to, as contracts of functions that do nothing: an independent program,
+//! written from the same description, makes formulas of the same numbers of variables, clauses and
+//! literals and of the same checksums, over the tables, sets of operators and sizes of the vectors.
+ghost use Rattle.std.specs.Prelude.{◌≡◌, map};
+ghost use Rattle.enc_theory.specs.Vectors.{outline_by, expected};
+ghost use Rattle.enc_theory.specs.Plain.{plain_formula};
+ghost use Rattle.enc_theory.specs.PlainVectors.{plain_vectors};
+ghost use Rattle.enc_theory.specs.Ssv.{ssv_formula};
+ghost use Rattle.enc_theory.specs.SsvVectors.{ssv_vectors};
+ghost use Rattle.enc_theory.specs.FenceVectors.{fence_vectors, outline_of, expected_of};
+
+/// The plain encoding.
+pub fn plain_is_that_of_another_program()
+    ensures { map (outline_by plain_formula) plain_vectors ≡ map expected plain_vectors }
+{}
+
+/// The encoding by pairs with cuts.
+pub fn ssv_is_that_of_another_program()
+    ensures { map (outline_by ssv_formula) ssv_vectors ≡ map expected ssv_vectors }
+{}
+
+/// The encoding by fences.
+pub fn fence_is_that_of_another_program()
+    ensures { map outline_of fence_vectors ≡ map expected_of fence_vectors }
+{}
