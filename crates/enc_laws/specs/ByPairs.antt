@@ -1,0 +1,85 @@
+-- What the encodings by pairs with cuts have in common, whatever pairs the steps may have.
+use Rattle.std.proofs.Common.{ℕ, ◌++◌, List}
+use Rattle.chain_theory.specs.Chain.{Chain}
+use Rattle.chain_theory.specs.Agreement.{HasChain, IsMinimum}
+use Rattle.op_basis.specs.Basis.{members}
+use Rattle.chain_laws.specs.Reduced.{IsReduced}
+use Rattle.sat_theory.specs.Formula.{Formula, IsFormula, Assignment, Satisfies}
+use Rattle.tt_core.specs.Words.{Words, specification}
+use Rattle.tt_core.specs.Live.{live_words}
+use Rattle.enc_theory.specs.declared.data.Sizes.{Sizes}
+use Rattle.enc_theory.specs.declared.data.Pair.{Pair}
+use Rattle.enc_theory.specs.Clauses.{IsSatisfiable}
+use Rattle.enc_theory.specs.Numbering.{sizes_of}
+use Rattle.enc_theory.specs.Pairs.{layout, vars_of}
+use Rattle.enc_theory.specs.Families.{common}
+use Rattle.enc_theory.specs.Cuts.{cuts}
+use Rattle.enc_theory.specs.Decode.{decoded}
+use Rattle.enc_laws.specs.Holds.{holds_both, both_hold, holds_satisfied, satisfied_holds}
+use Rattle.enc_laws.specs.Layouts.{AreBelow, layout_is_laid}
+use Rattle.enc_laws.specs.Live.{whole_chain, restored_is_chain, restored_agrees, picked}
+use Rattle.enc_laws.specs.Formulas.{are_formula, clauses_both, common_clauses, layout_has_room}
+use Rattle.enc_laws.specs.CutClauses.{cuts_clauses}
+use Rattle.enc_laws.specs.Decoded.{IsFor, for_is_there, decoded_is_for}
+use Rattle.enc_laws.specs.Complete.{assignment_of}
+use Rattle.enc_laws.specs.Laws.{IsAllowed, allowed_pairs, chain_satisfies, part_is_all_live, picked_is_for}
+use Rattle.enc_laws.specs.Rests.{IsPlaced}
+use Rattle.enc_laws.specs.Cuts.{cuts_hold}
+
+-- ---- the fewest steps, of the whole tables and of their live part
+
+-- a chain for the live part gives one for the whole
+pub whole_has : (w : Words) (basis r : ℕ) → HasChain (specification (live_words w)) (members basis) r → HasChain (specification w) (members basis) r
+whole_has w basis r has = record {
+  chain = whole_chain w has.chain;
+  is_chain = restored_is_chain w has.chain has.is_chain has.agrees.inputs has.agrees.outputs;
+  size = has.size;
+  is_over = has.is_over;
+  agrees = restored_agrees w has.chain has.agrees;
+}
+
+pub is_for : (w : Words) (basis r : ℕ) (has : HasChain (specification w) (members basis) r) → IsFor w basis r has.chain
+is_for w basis r has = record { is_chain = has.is_chain; size = has.size; is_over = has.is_over; agrees = has.agrees }
+
+pub part_minimum : (w : Words) (basis r : ℕ) → IsMinimum (specification w) (members basis) r → IsMinimum (specification (live_words w)) (members basis) r
+part_minimum w basis r minimum = record {
+  reached = for_is_there (live_words w) basis r (picked w minimum.reached.chain) (picked_is_for w basis r minimum.reached.chain (is_for w basis r minimum.reached));
+  none_fewer = λ q less has. minimum.none_fewer q less (whole_has w basis q has);
+}
+
+-- ---- formulas by pairs
+
+-- the formula of live tables in which each step may have these pairs
+abbrev pub formula_by : (ℕ → List Pair) → Words → ℕ → ℕ → Formula
+formula_by pairs w basis r =
+    let z = sizes_of w r in
+    record { vars = vars_of z (layout pairs z); clauses = common w basis z (layout pairs z) ++ cuts w basis z (layout pairs z) }
+
+module _ (pairs : ℕ → List Pair) (w : Words) (basis r : ℕ) (below : AreBelow w.n pairs) where
+  pub by_pairs_decodes : (v : Assignment) → Satisfies v (formula_by pairs (live_words w) basis r) → IsFor w basis r (decoded w (sizes_of (live_words w) r) (layout pairs (sizes_of (live_words w) r)) v)
+  by_pairs_decodes v satisfies =
+      let z : Sizes = sizes_of (live_words w) r in
+      let (chain, cut) = holds_both v (common (live_words w) basis z (layout pairs z)) (cuts (live_words w) basis z (layout pairs z)) (holds_satisfied v (formula_by pairs (live_words w) basis r) satisfies) in
+      decoded_is_for w basis r (layout pairs z) v (layout_is_laid pairs z below) chain
+
+  -- What a reduced chain makes of the variables satisfies the formula.
+  pub reduced_satisfies : (c : Chain) → IsFor (live_words w) basis r c → IsReduced (members basis) (specification (live_words w)) c → IsAllowed pairs (live_words w) r c → IsSatisfiable (formula_by pairs (live_words w) basis r)
+  reduced_satisfies c is reduced allowed =
+      let z : Sizes = sizes_of (live_words w) r in
+      let v : Assignment = assignment_of z (layout pairs z) c in
+      let placed : IsPlaced (live_words w) basis r (layout pairs z) c = record { is = is; laid = layout_is_laid pairs z below; pairs = allowed_pairs pairs (live_words w) r c below allowed } in (
+        assignment_of z (layout pairs z) c,
+        satisfied_holds v (formula_by pairs (live_words w) basis r)
+            (both_hold v (common (live_words w) basis z (layout pairs z)) (cuts (live_words w) basis z (layout pairs z))
+            (chain_satisfies pairs (live_words w) basis r c below (part_is_all_live w) is allowed)
+            (cuts_hold (live_words w) basis r (layout pairs z) c placed reduced)),
+      )
+
+  pub by_pairs_is_formula : IsFormula (formula_by pairs (live_words w) basis r)
+  by_pairs_is_formula =
+      let z : Sizes = sizes_of (live_words w) r in
+      let laid = layout_is_laid pairs z below in
+      let room = layout_has_room pairs z below in
+      are_formula (formula_by pairs (live_words w) basis r) (clauses_both (vars_of z (layout pairs z)) (common (live_words w) basis z (layout pairs z)) (cuts (live_words w) basis z (layout pairs z))
+      (common_clauses (vars_of z (layout pairs z)) (live_words w) basis z (layout pairs z) room laid)
+      (cuts_clauses (vars_of z (layout pairs z)) basis (live_words w) z (layout pairs z) room laid))

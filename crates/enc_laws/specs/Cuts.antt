@@ -1,0 +1,430 @@
+-- A reduced chain satisfies the cuts.
+use Rattle.std.proofs.Common.{◌≡◌, ℕ, suc, ◌+◌, ◌-◌, ◌<◌, ◌≤◌, ◌==◌, Bool, true, false, not, List, [], ◌∷◌, ◌++◌, length, map, get_or, Contains, refl, sym, ap, ◌∙◌, subst, arith, inl, inr, ⊎_elim}
+use Rattle.std.specs.Prelude.{ℤ, if◌then◌else◌}
+use Rattle.std.specs.List.{flat_map, range_with_len}
+use Rattle.std.proofs.lemmas.Bool.{cases_eq, or_left, or_right, eqb-true, eq-eqb, cases_lt}
+use Rattle.std.proofs.lemmas.Nat.{pow_pos}
+use Rattle.std.proofs.lemmas.Option.{slice_get-get_or, slice_get_within, get_or_from_slice_get}
+use Rattle.std.proofs.lemmas.List.{get_or_default}
+use Rattle.std.proofs.lemmas.List.Elements.{Contains-get_or}
+use Rattle.chain_theory.specs.Chain.{Step, Chain}
+use Rattle.chain_theory.specs.Value.{value}
+use Rattle.chain_theory.specs.declared.data.Out.TheVariants.{Zero, Place}
+use Rattle.op_basis.specs.Basis.{members}
+use Rattle.op_basis.specs.Closed.{const_closed, polarity_closed, reapply_closed}
+use Rattle.chain_laws.specs.Reduced.{IsStep, IsOut, IsRead, Reads, AppliesAgain, IsReduced, NegatesBoth, IsNegation}
+use Rattle.sat_theory.specs.Formula.{Assignment}
+use Rattle.tt_core.specs.Symmetry.{IsSymmetric}
+use Rattle.tt_core.specs.Words.{Words, specification}
+use Rattle.enc_theory.specs.declared.data.Raw.{Raw}
+use Rattle.enc_theory.specs.declared.data.Raw.TheVariants.{Var}
+use Rattle.enc_theory.specs.declared.data.Sizes.{Sizes}
+use Rattle.enc_theory.specs.declared.data.Slot.{Slot}
+use Rattle.enc_theory.specs.Clauses.{written}
+use Rattle.enc_theory.specs.Numbering.{sizes_of, places, outputs, g_var, f_var, x_is}
+use Rattle.enc_theory.specs.Pairs.{StepSlots}
+use Rattle.enc_theory.specs.Families.{bearer, chosen, operator_raw}
+use Rattle.enc_theory.specs.Cuts.{bears, reads, reader, readers, used_by, used, other_operator, idle_operators, not_idle, equal_raw, equal_slot, equal_pair, negation_raw, negations, not_trivial_at, not_trivial, comes_before, not_both, order_pair, order_slot, order_with, order, applies_again, again_pair, again_slot, has_place, reading, again_later, again_all, again, may_exchange, reads_without, reader_without, readers_without, exchange_slot, exchange_steps, exchange_pair, exchange_with, exchange, row_0_at, row_0, cuts}
+use Rattle.enc_laws.specs.Bounds.{g_positive, f_positive, slot_positive}
+use Rattle.enc_laws.specs.Holds.{holds, both_hold, each_holds, same, raw_value, raws_bit, raws_bit-append, raws_make, raws_bit-map, any_make, holds-written, ArePositive, positive-map, positive-append, positive-flat_map, contains_head, contains_cases, filter_get, flat_map_make, range_contains, range_inside}
+use Rattle.enc_laws.specs.Layouts.{IsStepPlace, IsSlotOf, laid_is_place}
+use Rattle.enc_laws.specs.Live.{out_at}
+use Rattle.enc_laws.specs.Solves.{x_bit, x_is_value, x_is_positive, there_place, differs_from, has_own}
+use Rattle.enc_laws.specs.Complete.{step_at, assignment_of, pair_test, test_pair, slot_true, true_slot, test_place, v_g, v_f, v_s, step_there, bits_are_values, operator_is}
+use Rattle.enc_laws.specs.Rests.{IsRest, rest_all, rest_head, rest_tail, rest_place, IsPlaced}
+use Rattle.enc_laws.specs.PairTests.{never_both, if_holds, one_implies, no_copy_bits, operator_positive, steps_before, reads_test, steps_again, exchange_symmetric, without_from, without_test, HasBefore, implies_bit}
+
+module _ (w : Words) (basis r : ℕ) (steps : List StepSlots) (c : Chain) (placed : IsPlaced w basis r steps c) where
+  -- a step of the layout is a step of the chain
+  pub is_step : (i : ℕ) → IsStepPlace (sizes_of w r) i → IsStep c (i - (c.n + 1)) (step_at c i)
+  is_step i place = step_there w basis r steps c placed.is i place
+
+  pub index_place : (i : ℕ) → IsStepPlace (sizes_of w r) i → c.n + 1 + (i - (c.n + 1)) ≡ i
+  index_place i place = let from = place.from in let inputs = placed.is.agrees.inputs in omega arith
+
+  -- and each step of the chain is one of the layout
+  pub step_slots : (k : ℕ) (a : Step) → IsStep c k a → (s : StepSlots) × Contains steps s × (s.place ≡ c.n + 1 + k) × (step_at c s.place ≡ a)
+  step_slots k a at =
+      let low = slice_get_within c.steps k a at in
+      let size = placed.is.size in
+      let count = placed.laid.count in
+      let inputs = placed.is.agrees.inputs in
+      let none : StepSlots = record { place = 0; slots = [] } in
+      let within : k < length steps = omega arith in
+      let place = placed.laid.places k (get_or steps k (record { place = 0; slots = [] })) (slice_get-get_or steps k (record { place = 0; slots = [] }) within) in
+      let index : (get_or steps k (record { place = 0; slots = [] })).place - (c.n + 1) ≡ k = omega arith in (
+        get_or steps k (record { place = 0; slots = [] }),
+        Contains-get_or steps k (record { place = 0; slots = [] }) within,
+        omega arith,
+        ap (λ (i : ℕ). get_or c.steps i (record { j = 1; k = 1; op = 0 })) index ∙ get_or_from_slice_get c.steps k a (record { j = 1; k = 1; op = 0 }) at,
+      )
+
+  -- a slot's variable is true exactly where the slot has its step's pair
+  pub has_pair : (s : StepSlots) (u : Slot) → IsSlotOf steps s u → assignment_of (sizes_of w r) steps c u.var ≡ true → (u.j ≡ (step_at c s.place).j) × (u.k ≡ (step_at c s.place).k)
+  has_pair s u slot true_ = pair_test (step_at c s.place) u (true_slot steps c s u placed.pairs slot (sym (v_s w basis r steps c u.var (placed.laid.behind s u slot)) ∙ true_))
+
+  pub pair_slot : (s : StepSlots) → Contains steps s → (u : Slot) × Contains s.slots u × (u.j ≡ (step_at c s.place).j) × (u.k ≡ (step_at c s.place).k) × (assignment_of (sizes_of w r) steps c u.var ≡ true)
+  pair_slot s in_steps =
+      let has = placed.pairs.has s in_steps in
+      let slot : IsSlotOf steps s has.slot = record { step = in_steps; slot = has.inside } in
+      (has.slot, has.inside, has.is_j, has.is_k, v_s w basis r steps c has.slot.var (placed.laid.behind s has.slot slot) ∙ slot_true steps c s has.slot slot (test_pair (step_at c s.place) has.slot has.is_j has.is_k))
+
+  -- a step that is an out has an output
+  pub out_bit : (i : ℕ) → IsStepPlace (sizes_of w r) i → IsOut c i → (h : ℕ) × (1 ≤ h) × (h ≤ length w.on) × (assignment_of (sizes_of w r) steps c (g_var (sizes_of w r) h i) ≡ true)
+  out_bit i place (k, low, at) =
+      let outputs = placed.is.agrees.outputs in
+      let index : k + 1 - 1 ≡ k = omega arith in
+      let within : k < length c.outs = low in (
+        k + 1,
+        omega arith,
+        omega arith,
+        v_g w basis r steps c (k + 1) i (omega arith) (omega arith) place
+            ∙ test_place i (out_at c.outs (k + 1)) (ap (λ (x : ℕ). get_or c.outs x Zero) index ∙ get_or_default c.outs k Zero (Place i) low ∙ at),
+      )
+
+  -- ---- each step is an output or is read
+
+  reader_there : (p : ℕ) (u : Slot) → reads u p ≡ true → Contains (reader p u) (chosen u)
+  unfolding reader
+  reader_there p u e = rw e (contains_head (chosen u) [])
+
+  readers_there : (p : ℕ) (later : List StepSlots) (s : StepSlots) (u : Slot) → Contains later s → Contains s.slots u → reads u p ≡ true → Contains (flat_map (readers p) later) (chosen u)
+  unfolding readers
+  readers_there p later s u in_later in_slots e = flat_map_make (readers p) later s (chosen u) in_later (flat_map_make (reader p) s.slots u (chosen u) in_slots (reader_there p u e))
+
+  bears_positive : (i : ℕ) → IsStepPlace (sizes_of w r) i → ArePositive (map (bears (sizes_of w r) i) (outputs (sizes_of w r)))
+  unfolding bears bearer
+  bears_positive i place = positive-map (bears (sizes_of w r) i) (outputs (sizes_of w r)) (λ h c. g_positive (sizes_of w r) h i place)
+
+  reader_positive : (p : ℕ) (s : StepSlots) (u : Slot) → IsSlotOf steps s u → ArePositive (reader p u)
+  unfolding reader chosen
+  reader_positive p s u slot = elim (reads u p) as (λ b. ArePositive (if b then Var u.var true ∷ [] else [])) [
+    | true ↦ (slot_positive (sizes_of w r) steps s u placed.laid slot, tt)
+    | false ↦ tt
+  ]
+
+  readers_positive : (p : ℕ) (later : List StepSlots) → ((s : StepSlots) → Contains later s → Contains steps s) → ArePositive (flat_map (readers p) later)
+  unfolding readers
+  readers_positive p later inside = positive-flat_map (readers p) later (λ s in_later. positive-flat_map (reader p) s.slots (λ u in_slots. reader_positive p s u record { step = inside s in_later; slot = in_slots }))
+
+  bears_bit : (i : ℕ) → IsStepPlace (sizes_of w r) i → IsOut c i → raws_bit (assignment_of (sizes_of w r) steps c) (map (bears (sizes_of w r) i) (outputs (sizes_of w r))) ≡ true
+  unfolding bears bearer raw_value same
+  bears_bit i place out =
+      let (h, some, low, true_) = out_bit i place out in
+      raws_bit-map (assignment_of (sizes_of w r) steps c) (bears (sizes_of w r) i) (outputs (sizes_of w r))
+      ∙ any_make (λ (x : ℕ). assignment_of (sizes_of w r) steps c (g_var (sizes_of w r) x i)) (outputs (sizes_of w r)) h (range_contains 1 (length w.on) h some (omega arith)) true_
+
+  -- a step reads places below it alone
+  reads_below : (k : ℕ) (a : Step) (p : ℕ) → IsStep c k a → Reads a p → p < c.n + 1 + k
+  reads_below k a p at (inl e) = let below = placed.is.is_chain.steps.each k a at in let j = below.j_below in omega arith
+  reads_below k a p at (inr e) = let below = placed.is.is_chain.steps.each k a at in let k' = below.k_below in omega arith
+
+  read_bit : (i : ℕ) (later : List StepSlots) → IsRest steps later (i + 1) → IsRead c i → raws_bit (assignment_of (sizes_of w r) steps c) (flat_map (readers i) later) ≡ true
+  unfolding chosen raw_value same
+  read_bit i later rest (k, a, at, reads_it) =
+      let (s, in_steps, place, step) = step_slots k a at in
+      let (u, in_slots, j, k', true_) = pair_slot s in_steps in
+      let below = reads_below k a i at reads_it in
+      raws_make (assignment_of (sizes_of w r) steps c) (flat_map (readers i) later) (chosen u)
+      (readers_there i later s u (rest.has s in_steps (omega arith)) in_slots (reads_test u a i (j ∙ ap (λ (x : Step). x.j) step) (k' ∙ ap (λ (x : Step). x.k) step) reads_it))
+      true_
+
+  used_each : (reduced : IsReduced (members basis) (specification w) c) (later : List StepSlots) (place : ℕ) → IsRest steps later place → holds (assignment_of (sizes_of w r) steps c) (used (sizes_of w r) later) ≡ true
+  unfolding used used_by holds
+  used_each reduced [] place rest = refl
+  used_each reduced (s ∷ later) place rest =
+      let v : Assignment = assignment_of (sizes_of w r) steps c in
+      let at : IsStepPlace (sizes_of w r) s.place = laid_is_place (sizes_of w r) steps s placed.laid (rest.inside s (contains_head s later)) in
+      let tail : IsRest steps later (s.place + 1) = subst (λ (x : ℕ). IsRest steps later (x + 1)) (sym (rest_head steps s later place rest)) (rest_tail steps s later place rest) in
+      let outs : List Raw = map (bears (sizes_of w r) s.place) (outputs (sizes_of w r)) in
+      let reads : List Raw = flat_map (readers s.place) later in
+      both_hold v (written (outs ++ reads)) (used (sizes_of w r) later)
+      (holds-written v (outs ++ reads) (positive-append outs reads (bears_positive s.place at) (readers_positive s.place later tail.inside))
+      ∙ raws_bit-append v outs reads
+      ∙ ⊎_elim (λ (out : IsOut c (c.n + 1 + (s.place - (c.n + 1)))). or_left (raws_bit v outs) (raws_bit v reads) (bears_bit s.place at (subst (IsOut c) (index_place s.place at) out)))
+      (λ (read : IsRead c (c.n + 1 + (s.place - (c.n + 1)))). or_right (raws_bit v outs) (raws_bit v reads) (read_bit s.place later tail (subst (IsRead c) (index_place s.place at) read)))
+      (reduced.used (s.place - (c.n + 1)) (step_at c s.place) (is_step s.place at)))
+      (used_each reduced later (place + 1) (rest_tail steps s later place rest))
+
+  pub used_holds : IsReduced (members basis) (specification w) c → holds (assignment_of (sizes_of w r) steps c) (used (sizes_of w r) steps) ≡ true
+  used_holds reduced = used_each reduced steps (w.n + 1) (rest_all (sizes_of w r) steps placed.laid)
+
+  -- ---- pairs never fall
+
+  not_both_holds : (s s' : StepSlots) (u u' : Slot) → IsSlotOf steps s u → IsSlotOf steps s' u'
+      → (assignment_of (sizes_of w r) steps c u.var ≡ true → assignment_of (sizes_of w r) steps c u'.var ≡ true → ⊥) → holds (assignment_of (sizes_of w r) steps c) (not_both u u') ≡ true
+  unfolding not_both raws_bit raw_value same
+  not_both_holds s s' u u' slot slot' never =
+      let v : Assignment = assignment_of (sizes_of w r) steps c in
+      holds-written v (Var u.var false ∷ Var u'.var false ∷ []) (slot_positive (sizes_of w r) steps s u placed.laid slot, (slot_positive (sizes_of w r) steps s' u' placed.laid slot', tt))
+      ∙ never_both (v u.var) (v u'.var) never
+
+  order_pair_holds : (reduced : IsReduced (members basis) (specification w) c) (s s' : StepSlots) (u u' : Slot) → s'.place ≡ s.place + 1 → IsSlotOf steps s u → IsSlotOf steps s' u' → holds (assignment_of (sizes_of w r) steps c) (order_pair u u') ≡ true
+  unfolding order_pair holds
+  order_pair_holds reduced s s' u u' next slot slot' = if_holds (assignment_of (sizes_of w r) steps c) (comes_before u' u) (not_both u u') (λ before. not_both_holds s s' u u' slot slot' (λ true_ true'.
+      let at : IsStepPlace (sizes_of w r) s.place = laid_is_place (sizes_of w r) steps s placed.laid slot.step in
+      let at' : IsStepPlace (sizes_of w r) s'.place = laid_is_place (sizes_of w r) steps s' placed.laid slot'.step in
+      let (j, k) = has_pair s u slot true_ in
+      let (j', k') = has_pair s' u' slot' true' in
+      let from = at.from in
+      let inputs = placed.is.agrees.inputs in
+      let index : s'.place - (c.n + 1) ≡ s.place - (c.n + 1) + 1 = omega arith in
+      reduced.in_order (s.place - (c.n + 1)) (step_at c s.place) (step_at c s'.place) (is_step s.place at)
+      (subst (λ (i : ℕ). IsStep c i (step_at c s'.place)) index (is_step s'.place at'))
+      (steps_before u' u (step_at c s'.place) (step_at c s.place) j' k' j k before)))
+
+  order_each : (reduced : IsReduced (members basis) (specification w) c) (later : List StepSlots) (place : ℕ) → IsRest steps later place → holds (assignment_of (sizes_of w r) steps c) (order later) ≡ true
+  unfolding order order_with order_slot holds
+  order_each reduced [] place rest = refl
+  order_each reduced (s ∷ []) place rest = refl
+  order_each reduced (s ∷ (s' ∷ later)) place rest =
+      let v : Assignment = assignment_of (sizes_of w r) steps c in
+      let tail = rest_tail steps s (s' ∷ later) place rest in
+      let here = rest_head steps s (s' ∷ later) place rest in
+      let there = rest_head steps s' later (place + 1) tail in
+      both_hold v (order_with s (s' ∷ later)) (order (s' ∷ later))
+      (each_holds v (order_slot s'.slots) s.slots (λ u in_slots. each_holds v (order_pair u) s'.slots (λ u' in_slots'.
+      order_pair_holds reduced s s' u u' (omega arith) (record { step = rest.inside s (contains_head s (s' ∷ later)); slot = in_slots }) (record { step = tail.inside s' (contains_head s' later); slot = in_slots' }))))
+      (order_each reduced (s' ∷ later) (place + 1) tail)
+
+  pub order_holds : IsReduced (members basis) (specification w) c → holds (assignment_of (sizes_of w r) steps c) (order steps) ≡ true
+  order_holds reduced = order_each reduced steps (w.n + 1) (rest_all (sizes_of w r) steps placed.laid)
+
+  -- ---- no step is applied again
+
+  again_pair_holds : (reduced : IsReduced (members basis) (specification w) c) (s s' : StepSlots) (u u' : Slot) → reapply_closed (members basis) ≡ true → s.place < s'.place → IsSlotOf steps s u → IsSlotOf steps s' u' → holds (assignment_of (sizes_of w r) steps c) (again_pair s.place u u') ≡ true
+  unfolding again_pair holds
+  again_pair_holds reduced s s' u u' closed next slot slot' = if_holds (assignment_of (sizes_of w r) steps c) (applies_again s.place u u') (not_both u u') (λ again. not_both_holds s s' u u' slot slot' (λ true_ true'.
+      let at : IsStepPlace (sizes_of w r) s.place = laid_is_place (sizes_of w r) steps s placed.laid slot.step in
+      let at' : IsStepPlace (sizes_of w r) s'.place = laid_is_place (sizes_of w r) steps s' placed.laid slot'.step in
+      let (j, k) = has_pair s u slot true_ in
+      let (j', k') = has_pair s' u' slot' true' in
+      let from = at.from in
+      let inputs = placed.is.agrees.inputs in
+      reduced.not_again closed (s.place - (c.n + 1)) (s'.place - (c.n + 1)) (step_at c s.place) (step_at c s'.place) (omega arith) (is_step s.place at) (is_step s'.place at')
+      (subst (λ (p : ℕ). AppliesAgain p (step_at c s.place) (step_at c s'.place)) (sym (index_place s.place at)) (steps_again s.place u u' (step_at c s.place) (step_at c s'.place) j k j' k' again))))
+
+  again_each : (reduced : IsReduced (members basis) (specification w) c) (later : List StepSlots) (place : ℕ) → reapply_closed (members basis) ≡ true → IsRest steps later place → holds (assignment_of (sizes_of w r) steps c) (again_all later) ≡ true
+  unfolding again_all again_later again_slot holds
+  again_each reduced [] place closed rest = refl
+  again_each reduced (s ∷ later) place closed rest =
+      let v : Assignment = assignment_of (sizes_of w r) steps c in
+      let tail = rest_tail steps s later place rest in
+      let here = rest_head steps s later place rest in
+      both_hold v (flat_map (again_later s) later) (again_all later)
+      (each_holds v (again_later s) later (λ s' in_later. each_holds v (again_slot s.place (reading s.place s'.slots)) s.slots (λ u in_slots. each_holds v (again_pair s.place u) (reading s.place s'.slots) (λ u' in_reading.
+      let behind = rest_place steps later (place + 1) s' tail in_later in
+      again_pair_holds reduced s s' u u' closed (omega arith) (record { step = rest.inside s (contains_head s later); slot = in_slots }) (record { step = tail.inside s' in_later; slot = filter_get (has_place s.place) s'.slots u' in_reading })))))
+      (again_each reduced later (place + 1) closed tail)
+
+  pub again_holds : IsReduced (members basis) (specification w) c → holds (assignment_of (sizes_of w r) steps c) (again basis steps) ≡ true
+  unfolding again
+  again_holds reduced = if_holds (assignment_of (sizes_of w r) steps c) (reapply_closed (members basis)) (again_all steps) (λ closed. again_each reduced steps (w.n + 1) closed (rest_all (sizes_of w r) steps placed.laid))
+
+  -- ---- no step is trivial
+
+  equal_pair_there : (u : Slot) → u.j ≡ u.k → Contains (equal_pair u) (chosen u)
+  unfolding equal_pair
+  equal_pair_there u e = rw (eq-eqb u.j u.k e) (contains_head (chosen u) [])
+
+  equal_there : (s : StepSlots) → Contains steps s → (step_at c s.place).j ≡ (step_at c s.place).k → raws_bit (assignment_of (sizes_of w r) steps c) (flat_map equal_pair s.slots) ≡ true
+  unfolding chosen raw_value same
+  equal_there s in_steps equal =
+      let (u, in_slots, j, k, true_) = pair_slot s in_steps in
+      raws_make (assignment_of (sizes_of w r) steps c) (flat_map equal_pair s.slots) (chosen u) (flat_map_make equal_pair s.slots u (chosen u) in_slots (equal_pair_there u (j ∙ equal ∙ sym k))) true_
+
+  equal_positive : (s : StepSlots) → Contains steps s → ArePositive (flat_map equal_pair s.slots)
+  unfolding equal_pair chosen
+  equal_positive s in_steps = positive-flat_map equal_pair s.slots (λ u in_slots. elim (u.j == u.k) as (λ b. ArePositive (if b then Var u.var true ∷ [] else [])) [
+    | true ↦ (slot_positive (sizes_of w r) steps s u placed.laid (record { step = in_steps; slot = in_slots }), tt)
+    | false ↦ tt
+  ])
+
+  other_holds : (i op : ℕ) → IsStepPlace (sizes_of w r) i → op < 16 → ((step_at c i).op ≡ op → ⊥) → holds (assignment_of (sizes_of w r) steps c) (other_operator basis (sizes_of w r) i op) ≡ true
+  unfolding other_operator
+  other_holds i op place low other =
+      let v : Assignment = assignment_of (sizes_of w r) steps c in
+      if_holds v (members basis op) (written (operator_raw (sizes_of w r) i op))
+      (λ member. differs_from (sizes_of w r) v i op low (λ e. other (operator_is w basis r steps c placed.is i place ∙ sym e)))
+
+  idle_holds : (reduced : IsReduced (members basis) (specification w) c) (i : ℕ) (constants : Bool) → IsStepPlace (sizes_of w r) i → const_closed (members basis) ≡ constants
+      → holds (assignment_of (sizes_of w r) steps c) (flat_map (other_operator basis (sizes_of w r) i) (idle_operators constants)) ≡ true
+  unfolding holds
+  idle_holds reduced i true place closed =
+      let v : Assignment = assignment_of (sizes_of w r) steps c in
+      let f : ℕ → List (List ℤ) = other_operator basis (sizes_of w r) i in
+      let k : ℕ = i - (c.n + 1) in
+      both_hold v (f 0) (f 3 ++ (f 5 ++ (f 15 ++ []))) (other_holds i 0 place (omega arith) (λ e. reduced.no_constant closed k (step_at c i) (is_step i place) (inl e)))
+      (both_hold v (f 3) (f 5 ++ (f 15 ++ [])) (other_holds i 3 place (omega arith) (λ e. reduced.no_copy k (step_at c i) (is_step i place) (inl e)))
+      (both_hold v (f 5) (f 15 ++ []) (other_holds i 5 place (omega arith) (λ e. reduced.no_copy k (step_at c i) (is_step i place) (inr e)))
+      (both_hold v (f 15) [] (other_holds i 15 place (omega arith) (λ e. reduced.no_constant closed k (step_at c i) (is_step i place) (inr e))) refl)))
+  idle_holds reduced i false place closed =
+      let v : Assignment = assignment_of (sizes_of w r) steps c in
+      let f : ℕ → List (List ℤ) = other_operator basis (sizes_of w r) i in
+      let k : ℕ = i - (c.n + 1) in
+      both_hold v (f 3) (f 5 ++ []) (other_holds i 3 place (omega arith) (λ e. reduced.no_copy k (step_at c i) (is_step i place) (inl e)))
+      (both_hold v (f 5) [] (other_holds i 5 place (omega arith) (λ e. reduced.no_copy k (step_at c i) (is_step i place) (inr e))) refl)
+
+  equal_raw_holds : (reduced : IsReduced (members basis) (specification w) c) (s : StepSlots) (u : Slot) (constants : Bool) → IsSlotOf steps s u → const_closed (members basis) ≡ constants → u.j ≡ u.k
+      → holds (assignment_of (sizes_of w r) steps c) (equal_raw constants (sizes_of w r) s.place u) ≡ true
+  unfolding equal_raw raws_bit raw_value same
+  equal_raw_holds reduced s u true slot closed equal =
+      let v : Assignment = assignment_of (sizes_of w r) steps c in
+      let at : IsStepPlace (sizes_of w r) s.place = laid_is_place (sizes_of w r) steps s placed.laid slot.step in
+      let some = slot_positive (sizes_of w r) steps s u placed.laid slot in
+      let negates : v u.var ≡ true → NegatesBoth (step_at c s.place).op = λ true_.
+      let (j, k) = has_pair s u slot true_ in
+      reduced.equal_negate closed (s.place - (c.n + 1)) (step_at c s.place) (is_step s.place at) (sym j ∙ equal ∙ k) in
+      both_hold v (written (Var u.var false ∷ Var (f_var (sizes_of w r) s.place false false) true ∷ [])) (written (Var u.var false ∷ Var (f_var (sizes_of w r) s.place true true) false ∷ []))
+      (holds-written v (Var u.var false ∷ Var (f_var (sizes_of w r) s.place false false) true ∷ []) (some, (f_positive (sizes_of w r) s.place false false, tt))
+      ∙ one_implies (v u.var) (v (f_var (sizes_of w r) s.place false false)) (λ e. v_f w basis r steps c s.place false false at ∙ (negates e).0))
+      (holds-written v (Var u.var false ∷ Var (f_var (sizes_of w r) s.place true true) false ∷ []) (some, (f_positive (sizes_of w r) s.place true true, tt))
+      ∙ one_implies (v u.var) (not (v (f_var (sizes_of w r) s.place true true))) (λ e. ap not (v_f w basis r steps c s.place true true at ∙ (negates e).1)))
+  equal_raw_holds reduced s u false slot closed equal =
+      let v : Assignment = assignment_of (sizes_of w r) steps c in
+      let at : IsStepPlace (sizes_of w r) s.place = laid_is_place (sizes_of w r) steps s placed.laid slot.step in
+      let some = slot_positive (sizes_of w r) steps s u placed.laid slot in
+      holds-written v (Var u.var false ∷ Var (f_var (sizes_of w r) s.place false false) true ∷ Var (f_var (sizes_of w r) s.place true true) false ∷ []) (some, (f_positive (sizes_of w r) s.place false false, (f_positive (sizes_of w r) s.place true true, tt)))
+      ∙ no_copy_bits (v u.var) (v (f_var (sizes_of w r) s.place false false)) (v (f_var (sizes_of w r) s.place true true)) (λ true_ low high.
+      let (j, k) = has_pair s u slot true_ in
+      reduced.equal_no_copy (s.place - (c.n + 1)) (step_at c s.place) (is_step s.place at) (sym j ∙ equal ∙ k)
+      (sym (v_f w basis r steps c s.place false false at) ∙ low, sym (v_f w basis r steps c s.place true true at) ∙ high))
+
+  negation_holds : (reduced : IsReduced (members basis) (specification w) c) (s : StepSlots) (op : ℕ) → Contains steps s → op < 16 → IsNegation op → holds (assignment_of (sizes_of w r) steps c) (negation_raw basis (sizes_of w r) s op) ≡ true
+  unfolding negation_raw
+  negation_holds reduced s op in_steps low negation =
+      let v : Assignment = assignment_of (sizes_of w r) steps c in
+      let z : Sizes = sizes_of w r in
+      let at : IsStepPlace (sizes_of w r) s.place = laid_is_place (sizes_of w r) steps s placed.laid in_steps in
+      if_holds v (members basis op) (written (operator_raw z s.place op ++ flat_map equal_pair s.slots)) (λ member.
+      holds-written v (operator_raw z s.place op ++ flat_map equal_pair s.slots) (positive-append (operator_raw z s.place op) (flat_map equal_pair s.slots) (operator_positive z s.place op) (equal_positive s in_steps))
+      ∙ raws_bit-append v (operator_raw z s.place op) (flat_map equal_pair s.slots)
+      ∙ ⊎_elim
+      (λ (is_op : (step_at c s.place).op ≡ op). or_right (raws_bit v (operator_raw z s.place op)) (raws_bit v (flat_map equal_pair s.slots))
+      (equal_there s in_steps (reduced.negation_of_equal (s.place - (c.n + 1)) (step_at c s.place) (is_step s.place at) (subst IsNegation (sym is_op) negation))))
+      (λ (other : (step_at c s.place).op ≡ op → ⊥). or_left (raws_bit v (operator_raw z s.place op)) (raws_bit v (flat_map equal_pair s.slots))
+      (sym (holds-written v (operator_raw z s.place op) (operator_positive z s.place op)) ∙ differs_from z v s.place op low (λ e. other (operator_is w basis r steps c placed.is s.place at ∙ sym e))))
+      (cases_eq (step_at c s.place).op op))
+
+  pub not_trivial_holds : IsReduced (members basis) (specification w) c → holds (assignment_of (sizes_of w r) steps c) (not_trivial basis (sizes_of w r) steps) ≡ true
+  unfolding not_trivial not_trivial_at not_idle equal_slot negations holds
+  not_trivial_holds reduced =
+      let v : Assignment = assignment_of (sizes_of w r) steps c in
+      let z : Sizes = sizes_of w r in
+      each_holds v (not_trivial_at (const_closed (members basis)) basis z) steps (λ s in_steps.
+      let at : IsStepPlace (sizes_of w r) s.place = laid_is_place (sizes_of w r) steps s placed.laid in_steps in
+      both_hold v (not_idle (const_closed (members basis)) basis z s.place ++ flat_map (equal_slot (const_closed (members basis)) z s.place) s.slots) (negations basis z s)
+      (both_hold v (not_idle (const_closed (members basis)) basis z s.place) (flat_map (equal_slot (const_closed (members basis)) z s.place) s.slots)
+      (idle_holds reduced s.place (const_closed (members basis)) at refl)
+      (each_holds v (equal_slot (const_closed (members basis)) z s.place) s.slots (λ u in_slots. if_holds v (u.j == u.k) (equal_raw (const_closed (members basis)) z s.place u) (λ e.
+      equal_raw_holds reduced s u (const_closed (members basis)) (record { step = in_steps; slot = in_slots }) refl (eqb-true u.j u.k e)))))
+      (both_hold v (negation_raw basis z s 10) (negation_raw basis z s 12 ++ []) (negation_holds reduced s 10 in_steps (omega arith) (inr refl))
+      (both_hold v (negation_raw basis z s 12) [] (negation_holds reduced s 12 in_steps (omega arith) (inl refl)) refl)))
+
+  -- ---- inputs that may be exchanged
+
+  without_positive : (p q : ℕ) (s : StepSlots) → Contains steps s → ArePositive (readers_without p q s)
+  unfolding readers_without reader_without chosen
+  without_positive p q s in_steps = positive-flat_map (reader_without p q) s.slots (λ u in_slots. elim (reads_without p q u) as (λ b. ArePositive (if b then Var u.var true ∷ [] else [])) [
+    | true ↦ (slot_positive (sizes_of w r) steps s u placed.laid (record { step = in_steps; slot = in_slots }), tt)
+    | false ↦ tt
+  ])
+
+  without_there : (p q : ℕ) (s : StepSlots) (u : Slot) → Contains s.slots u → reads_without p q u ≡ true → assignment_of (sizes_of w r) steps c u.var ≡ true → raws_bit (assignment_of (sizes_of w r) steps c) (readers_without p q s) ≡ true
+  unfolding readers_without reader_without chosen raw_value same
+  without_there p q s u in_slots e true_ =
+      raws_make (assignment_of (sizes_of w r) steps c) (flat_map (reader_without p q) s.slots) (Var u.var true)
+      (flat_map_make (reader_without p q) s.slots u (Var u.var true) in_slots (rw e (contains_head (Var u.var true) []))) true_
+
+  exchange_slot_holds : (reduced : IsReduced (members basis) (specification w) c) (p q : ℕ) (before : List Raw) (s : StepSlots) (u : Slot)
+      → 1 ≤ p → p < q → q ≤ w.n → IsSymmetric (specification w) p q → ArePositive before → HasBefore steps (assignment_of (sizes_of w r) steps c) p q s.place before → IsSlotOf steps s u
+      → holds (assignment_of (sizes_of w r) steps c) (exchange_slot p q before u) ≡ true
+  unfolding exchange_slot raws_bit raw_value same
+  exchange_slot_holds reduced p q before s u some less low symmetric positive has slot =
+      let v : Assignment = assignment_of (sizes_of w r) steps c in
+      let at : IsStepPlace (sizes_of w r) s.place = laid_is_place (sizes_of w r) steps s placed.laid slot.step in
+      let inputs = placed.is.agrees.inputs in
+      let from = at.from in
+      if_holds v (reads_without q p u) (written (Var u.var false ∷ before)) (λ test.
+      holds-written v (Var u.var false ∷ before) (slot_positive (sizes_of w r) steps s u placed.laid slot, positive)
+      ∙ implies_bit (v u.var) (raws_bit v before) (λ true_.
+      let (j, k) = has_pair s u slot true_ in
+      let (i, a, earlier, at_i, without) = reduced.earlier_first p q some less (omega arith) symmetric (s.place - (c.n + 1)) (step_at c s.place) (is_step s.place at) (without_from u (step_at c s.place) q p j k test) in
+      let (s', in_steps, place, step) = step_slots i a at_i in
+      let (u', in_slots, j', k', true') = pair_slot s' in_steps in
+      has.each s' u' (record { step = in_steps; slot = in_slots }) (omega arith) (without_test u' a p q (j' ∙ ap (λ (x : Step). x.j) step) (k' ∙ ap (λ (x : Step). x.k) step) without) true'))
+
+  before_more : (p q place : ℕ) (before : List Raw) (s : StepSlots) (later : List StepSlots) → IsRest steps (s ∷ later) place → HasBefore steps (assignment_of (sizes_of w r) steps c) p q place before
+      → HasBefore steps (assignment_of (sizes_of w r) steps c) p q (place + 1) (before ++ readers_without p q s)
+  before_more p q place before s later rest has = record {
+    each = λ s' u' slot' low test true_.
+        let v : Assignment = assignment_of (sizes_of w r) steps c in
+        raws_bit-append v before (readers_without p q s) ∙ ⊎_elim
+        (λ (earlier : s'.place < place). or_left (raws_bit v before) (raws_bit v (readers_without p q s)) (has.each s' u' slot' earlier test true_))
+        (λ (past : place ≤ s'.place). or_right (raws_bit v before) (raws_bit v (readers_without p q s)) (⊎_elim
+        (λ (here : s ≡ s'). without_there p q s u' (subst (λ (x : StepSlots). Contains x.slots u') (sym here) slot'.slot) test true_)
+        (λ (behind : Contains later s'). absurd (let far = rest_place steps later (place + 1) s' (rest_tail steps s later place rest) behind in omega arith))
+        (contains_cases s s' later (rest.has s' slot'.step past))))
+        (cases_lt s'.place place);
+  }
+
+  exchange_each : (reduced : IsReduced (members basis) (specification w) c) (p q : ℕ) (before : List Raw) (later : List StepSlots) (place : ℕ)
+      → 1 ≤ p → p < q → q ≤ w.n → IsSymmetric (specification w) p q → ArePositive before → HasBefore steps (assignment_of (sizes_of w r) steps c) p q place before → IsRest steps later place
+      → holds (assignment_of (sizes_of w r) steps c) (exchange_steps p q before later) ≡ true
+  unfolding exchange_steps holds
+  exchange_each reduced p q before [] place some less low symmetric positive has rest = refl
+  exchange_each reduced p q before (s ∷ later) place some less low symmetric positive has rest =
+      let v : Assignment = assignment_of (sizes_of w r) steps c in
+      let in_steps = rest.inside s (contains_head s later) in
+      let here = rest_head steps s later place rest in
+      both_hold v (flat_map (exchange_slot p q before) s.slots) (exchange_steps p q (before ++ readers_without p q s) later)
+      (each_holds v (exchange_slot p q before) s.slots (λ u in_slots.
+      exchange_slot_holds reduced p q before s u some less low symmetric positive (subst (λ (x : ℕ). HasBefore steps v p q x before) (sym here) has) (record { step = in_steps; slot = in_slots })))
+      (exchange_each reduced p q (before ++ readers_without p q s) later (place + 1) some less low symmetric (positive-append before (readers_without p q s) positive (without_positive p q s in_steps)) (before_more p q place before s later rest has) (rest_tail steps s later place rest))
+
+  pub exchange_holds : IsReduced (members basis) (specification w) c → holds (assignment_of (sizes_of w r) steps c) (exchange w steps) ≡ true
+  unfolding exchange exchange_with exchange_pair
+  exchange_holds reduced =
+      let v : Assignment = assignment_of (sizes_of w r) steps c in
+      each_holds v (exchange_with w steps) (range_with_len 1 w.n) (λ p in_inputs. each_holds v (exchange_pair w steps p) (range_with_len (suc p) (w.n - p)) (λ q in_later.
+      let (some, p_low) = range_inside 1 w.n p in_inputs in
+      let (less, q_low) = range_inside (suc p) (w.n - p) q in_later in
+      if_holds v (may_exchange w p q) (exchange_steps p q [] steps) (λ may.
+      exchange_each reduced p q [] steps (w.n + 1) some (omega arith) (omega arith) (exchange_symmetric w p q may) tt
+      (record { each = λ s u slot low test true_. absurd (let at = laid_is_place (sizes_of w r) steps s placed.laid slot.step in let from = at.from in omega arith) })
+      (rest_all (sizes_of w r) steps placed.laid))))
+
+  -- ---- a step that is no output is 0 on row 0
+
+  pub row_0_holds : IsReduced (members basis) (specification w) c → holds (assignment_of (sizes_of w r) steps c) (row_0 basis (sizes_of w r)) ≡ true
+  unfolding row_0 row_0_at raws_bit
+  row_0_holds reduced =
+      let v : Assignment = assignment_of (sizes_of w r) steps c in
+      let z : Sizes = sizes_of w r in
+      if_holds v (polarity_closed (members basis)) (flat_map (row_0_at z) (places z)) (λ closed. each_holds v (row_0_at z) (places z) (λ i in_places.
+      let at : IsStepPlace (sizes_of w r) i = there_place z i in_places in
+      let outs : List Raw = map (bears z i) (outputs z) in
+      holds-written v (x_is z i 0 false ∷ outs) (x_is_positive z i 0 false, bears_positive i at)
+      ∙ ⊎_elim
+      (λ (zero_ : value c 0 (c.n + 1 + (i - (c.n + 1))) ≡ false). or_left (raw_value v (x_is z i 0 false)) (raws_bit v outs)
+      (x_is_value z v i 0 false ∙ has_own (x_bit z v i 0) false (bits_are_values w basis r steps c placed.is i 0 at.to (pow_pos w.n) ∙ ap (value c 0) (sym (index_place i at)) ∙ zero_)))
+      (λ (out : IsOut c (c.n + 1 + (i - (c.n + 1)))). or_right (raw_value v (x_is z i 0 false)) (raws_bit v outs) (bears_bit i at (subst (IsOut c) (index_place i at) out)))
+      (reduced.zero_on_row_0 closed (i - (c.n + 1)) (step_at c i) (is_step i at))))
+
+  -- ---- all cuts
+
+  -- What a reduced chain makes of the variables satisfies all cuts.
+  pub cuts_hold : IsReduced (members basis) (specification w) c → holds (assignment_of (sizes_of w r) steps c) (cuts w basis (sizes_of w r) steps) ≡ true
+  unfolding cuts
+  cuts_hold reduced =
+      let v : Assignment = assignment_of (sizes_of w r) steps c in
+      let z : Sizes = sizes_of w r in
+      both_hold v _ (row_0 basis z)
+      (both_hold v _ (exchange w steps)
+      (both_hold v _ (again basis steps)
+      (both_hold v _ (order steps)
+      (both_hold v (used z steps) (not_trivial basis z steps) (used_holds reduced) (not_trivial_holds reduced))
+      (order_holds reduced))
+      (again_holds reduced))
+      (exchange_holds reduced))
+      (row_0_holds reduced)

@@ -1,0 +1,217 @@
+-- The laws of the encoding by fences.
+use Rattle.std.proofs.Common.{◌≡◌, ℕ, ◌+◌, ◌-◌, ◌<◌, ◌≤◌, Bool, List, [], ◌∷◌, length, All, Contains, sym, ap, ◌∙◌, subst, arith, ⊎_elim}
+use Rattle.std.specs.Prelude.{sum, max, nat_lt, if◌then◌else◌}
+use Rattle.std.specs.List.{range_with_len}
+use Rattle.std.proofs.lemmas.Bool.{cases_lt, lt-ltb, le-ltb, cond-true, cond-false}
+use Rattle.std.proofs.lemmas.List.Sums.{sum_by-cons}
+use Rattle.chain_theory.specs.Chain.{Step, Chain}
+use Rattle.chain_theory.specs.Agreement.{HasChain, IsMinimum}
+use Rattle.op_basis.specs.Basis.{members}
+use Rattle.op_basis.specs.Closed.{swap_closed}
+use Rattle.chain_laws.specs.Follow.{place_cases}
+use Rattle.chain_laws.specs.Levels.{level, input_level, HasLevels}
+use Rattle.chain_laws.specs.LevelOrder.{level_of_larger}
+use Rattle.chain_laws.specs.Reduced.{IsReduced, HasChainOfLevels}
+use Rattle.chain_laws.specs.Least.{levels_at_most_steps}
+use Rattle.chain_laws.specs.Fences.{IsListed, level_by, StandsIn, HasFencedChain, least_in_fence}
+use Rattle.sat_theory.specs.Formula.{IsFormula, Assignment, Satisfies}
+use Rattle.tt_core.specs.Words.{Words, specification}
+use Rattle.tt_core.specs.Live.{live_words}
+use Rattle.enc_theory.specs.Clauses.{IsSatisfiable}
+use Rattle.enc_theory.specs.Numbering.{sizes_of}
+use Rattle.enc_theory.specs.Pairs.{pair, pairs_with, StepSlots}
+use Rattle.enc_theory.specs.Fence.{places_under, fence_pairs, fence_layout, fence_live, fence_formula, fence_decoded}
+use Rattle.enc_laws.specs.Holds.{flat_map_get, flat_map_make, range_contains, range_inside}
+use Rattle.enc_laws.specs.Layouts.{AreBelow, pairs_with_below, pair_with_larger}
+use Rattle.enc_laws.specs.Live.{picked}
+use Rattle.enc_laws.specs.Decoded.{IsFor, for_is_there}
+use Rattle.enc_laws.specs.Complete.{step_at, step_below, step_there}
+use Rattle.enc_laws.specs.Laws.{IsAllowed, picked_is_for}
+use Rattle.enc_laws.specs.ByPairs.{whole_has, by_pairs_decodes, reduced_satisfies, by_pairs_is_formula}
+
+-- ---- the places of the level below
+
+-- they are places below
+under_low : (first count : ℕ) (fence : List ℕ) (k p : ℕ) → Contains (places_under first count fence k) p → (first ≤ p) × (p < first + count + k)
+unfolding places_under
+under_low first count [] k p c = absurd (omega (arith, c.1))
+under_low first count (q ∷ qs) k p c = ⊎_elim
+    (λ (here : k < q).
+    let is : places_under first count (q ∷ qs) k ≡ range_with_len first count = cond-true (nat_lt k q) (range_with_len first count) (places_under (first + count) q qs (k - q)) (lt-ltb k q here) in
+    let (from, to) = range_inside first count p (subst (λ (x : List ℕ). Contains x p) is c) in
+    (from, omega arith))
+    (λ (past : q ≤ k).
+    let is : places_under first count (q ∷ qs) k ≡ places_under (first + count) q qs (k - q) = cond-false (nat_lt k q) (range_with_len first count) (places_under (first + count) q qs (k - q)) (le-ltb k q past) in
+    let (from, to) = under_low (first + count) q qs (k - q) p (subst (λ (x : List ℕ). Contains x p) is c) in
+    (omega arith, omega arith))
+    (cases_lt k q)
+
+pub fence_pairs_are_below : (ordered : Bool) (n : ℕ) (fence : List ℕ) → AreBelow n (fence_pairs ordered n fence)
+unfolding fence_pairs
+fence_pairs_are_below ordered n fence = record {
+  each = λ place p from_n c.
+      let from = flat_map_get (pairs_with ordered) (places_under 1 n fence (place - (n + 1))) p c in
+      let (low, high) = under_low 1 n fence (place - (n + 1)) from.source from.inside in
+      let is = pairs_with_below ordered from.source p low from.gives in
+      let j = is.j_below in
+      let k = is.k_below in
+      record { j_from = is.j_from; j_below = omega arith; k_from = is.k_from; k_below = omega arith };
+}
+
+-- the level of a place, where the level below the fence's first has so many places from `first` on
+abbrev level_from : ℕ → ℕ → List ℕ → ℕ → ℕ
+level_from first count fence p = if nat_lt p (first + count) then 0 else level_by fence (p - (first + count))
+
+level_from_low : (first count : ℕ) (fence : List ℕ) (p : ℕ) → p < first + count → level_from first count fence p ≡ 0
+level_from_low first count fence p low = cond-true (nat_lt p (first + count)) 0 (level_by fence (p - (first + count))) (lt-ltb p (first + count) low)
+
+level_from_high : (first count : ℕ) (fence : List ℕ) (p : ℕ) → first + count ≤ p → level_from first count fence p ≡ level_by fence (p - (first + count))
+level_from_high first count fence p high = cond-false (nat_lt p (first + count)) 0 (level_by fence (p - (first + count))) (le-ltb p (first + count) high)
+
+level_here : (q : ℕ) (qs : List ℕ) (k : ℕ) → k < q → level_by (q ∷ qs) k ≡ 1
+unfolding level_by
+level_here q qs k low = cond-true (nat_lt k q) 1 (1 + level_by qs (k - q)) (lt-ltb k q low)
+
+level_past : (q : ℕ) (qs : List ℕ) (k : ℕ) → q ≤ k → level_by (q ∷ qs) k ≡ 1 + level_by qs (k - q)
+unfolding level_by
+level_past q qs k past = cond-false (nat_lt k q) 1 (1 + level_by qs (k - q)) (le-ltb k q past)
+
+sum-cons : (q : ℕ) (qs : List ℕ) → sum (q ∷ qs) ≡ q + sum qs
+sum-cons q qs = sum_by-cons (λ (x : ℕ). x) q qs
+
+level_positive : (fence : List ℕ) (k : ℕ) → k < sum fence → 1 ≤ level_by fence k
+level_positive [] k low = absurd (omega arith)
+level_positive (q ∷ qs) k low = ⊎_elim
+    (λ (here : k < q). omega (arith, level_here q qs k here))
+    (λ (past : q ≤ k). omega (arith, level_past q qs k past))
+    (cases_lt k q)
+
+-- A place whose level is one below that of a step is among them.
+under_has : (first count : ℕ) (fence : List ℕ) (k p : ℕ) → k < sum fence → first ≤ p → p < first + count + k → level_from first count fence p + 1 ≡ level_by fence k → Contains (places_under first count fence k) p
+unfolding places_under
+under_has first count [] k p low from to e = absurd (omega arith)
+under_has first count (q ∷ qs) k p low from to e =
+    let total = sum-cons q qs in
+    ⊎_elim
+    (λ (here : k < q).
+    let is : places_under first count (q ∷ qs) k ≡ range_with_len first count = cond-true (nat_lt k q) (range_with_len first count) (places_under (first + count) q qs (k - q)) (lt-ltb k q here) in
+    let own = level_here q qs k here in
+    subst (λ (x : List ℕ). Contains x p) (sym is) (⊎_elim
+    (λ (inside : p < first + count). range_contains first count p from inside)
+    (λ (above : first + count ≤ p). absurd (let there = level_from_high first count (q ∷ qs) p above in
+    omega (arith, level_positive (q ∷ qs) (p - (first + count)) (omega arith))))
+    (cases_lt p (first + count))))
+    (λ (past : q ≤ k).
+    let is : places_under first count (q ∷ qs) k ≡ places_under (first + count) q qs (k - q) = cond-false (nat_lt k q) (range_with_len first count) (places_under (first + count) q qs (k - q)) (le-ltb k q past) in
+    let own = level_past q qs k past in
+    let positive = level_positive qs (k - q) (omega arith) in
+    subst (λ (x : List ℕ). Contains x p) (sym is) (⊎_elim
+    (λ (inside : p < first + count). absurd (omega (arith, level_from_low first count (q ∷ qs) p inside)))
+    (λ (above : first + count ≤ p).
+    let there = level_from_high first count (q ∷ qs) p above in
+    let offset : p - (first + count) - q ≡ p - (first + count + q) = omega arith in
+    under_has (first + count) q qs (k - q) p (omega arith) above (omega arith) (⊎_elim
+    (λ (in_level : p < first + count + q). omega (arith, level_here q qs (p - (first + count)) (omega arith), level_from_low (first + count) q qs p in_level))
+    (λ (over_level : first + count + q ≤ p). omega (arith, level_past q qs (p - (first + count)) (omega arith), ap (level_by qs) offset, level_from_high (first + count) q qs p over_level))
+    (cases_lt p (first + count + q))))
+    (cases_lt p (first + count))))
+    (cases_lt k q)
+
+-- ---- a chain in its fence
+
+-- the level of a place of a chain that stands in the fence
+level_is : (c : Chain) (fence : List ℕ) → StandsIn c fence → (p : ℕ) → 1 ≤ p → p < c.n + 1 + length c.steps → level c p ≡ level_from 1 c.n fence p
+level_is c fence stands p from low = ⊎_elim
+    (λ (is_input : p ≤ c.n). input_level c.n p c.steps is_input ∙ sym (level_from_low 1 c.n fence p (omega arith)))
+    (λ (is_step : (i : ℕ) × (i < length c.steps) × (p ≡ c.n + 1 + i)).
+    let here : p ≡ c.n + 1 + is_step.0 = is_step.2 in
+    let offset : is_step.0 ≡ p - (1 + c.n) = omega arith in
+    ap (level c) here ∙ stands.levels is_step.0 is_step.1 ∙ ap (level_by fence) offset ∙ sym (level_from_high 1 c.n fence p (omega arith)))
+    (place_cases c.n (length c.steps) p low)
+
+-- The pairs of a reduced chain that stands in the fence are there.
+stands_allowed : (w : Words) (basis r : ℕ) (c : Chain) (fence : List ℕ) → IsFor w basis r c → IsReduced (members basis) (specification w) c → StandsIn c fence → IsAllowed (fence_pairs (swap_closed (members basis)) w.n fence) w r c
+unfolding fence_pairs
+stands_allowed w basis r c fence is reduced stands = record {
+  each = λ i place.
+      let steps : List StepSlots = fence_layout basis fence (sizes_of w r) in
+      let a : Step = step_at c i in
+      let below = step_below w basis r steps c is i place in
+      let at = step_there w basis r steps c is i place in
+      let inputs = is.agrees.inputs in
+      let size = is.size in
+      let from = place.from in
+      let to = place.to in
+      let j = below.j_below in
+      let k = below.k_below in
+      let j_from = below.j_from in
+      let whole = stands.whole in
+      let index : c.n + 1 + (i - (c.n + 1)) ≡ i = omega arith in
+      let own : level c i ≡ 1 + level c (max a.j a.k) = ap (level c) (sym index) ∙ level_of_larger c is.is_chain reduced.in_order (i - (c.n + 1)) a at in
+      let mine : level c i ≡ level_by fence (i - (w.n + 1)) = level_is c fence stands i (omega arith) (omega arith) ∙ level_from_high 1 c.n fence i (omega arith) ∙ ap (level_by fence) (let e : i - (1 + c.n) ≡ i - (w.n + 1) = omega arith in e) in
+      let theirs : level c (max a.j a.k) ≡ level_from 1 w.n fence (max a.j a.k) = level_is c fence stands (max a.j a.k) (omega arith) (omega arith) ∙ ap (λ (n : ℕ). level_from 1 n fence (max a.j a.k)) inputs in
+      flat_map_make (pairs_with (swap_closed (members basis))) (places_under 1 w.n fence (i - (w.n + 1))) (max a.j a.k) (pair a.j a.k)
+      (under_has 1 w.n fence (i - (w.n + 1)) (max a.j a.k) (omega arith) (omega arith) (omega arith) (omega arith))
+      (pair_with_larger (swap_closed (members basis)) a.j a.k below.j_from below.k_from (λ closed. reduced.operands_rise closed (i - (c.n + 1)) a at));
+}
+
+-- ---- the laws
+
+-- What a satisfying assignment spells is a chain of r steps over the basis that agrees.
+pub fence_decodes : (w : Words) (basis r : ℕ) (fence : List ℕ) (v : Assignment) → Satisfies v (fence_formula w basis r fence) → IsFor w basis r (fence_decoded w basis r fence v)
+unfolding fence_formula fence_live fence_decoded
+fence_decodes w basis r fence v satisfies = by_pairs_decodes (fence_pairs (swap_closed (members basis)) w.n fence) w basis r (fence_pairs_are_below (swap_closed (members basis)) w.n fence) v satisfies
+
+-- Where the formula of some fence is satisfiable, a chain of r steps over the basis agrees with the
+-- tables.
+pub fence_sound : (w : Words) (basis r : ℕ) (fence : List ℕ) → IsSatisfiable (fence_formula w basis r fence) → HasChain (specification w) (members basis) r
+fence_sound w basis r fence (v, satisfies) = for_is_there w basis r (fence_decoded w basis r fence v) (fence_decodes w basis r fence v satisfies)
+
+-- A fence of r steps that is listed for the live outputs, with a satisfiable formula.
+pub record HasFence (w : Words) (basis r d : ℕ) : Type 0 where
+  pub fence : List ℕ
+  pub whole : sum fence ≡ r
+  pub filled : All (λ q. 1 ≤ q) fence
+  pub listed : IsListed (length (live_words w).on) fence
+  pub low : length fence ≤ d
+  pub satisfiable : IsSatisfiable (fence_formula w basis r fence)
+
+-- Where a chain of r steps and at most d levels over the basis agrees and none of fewer steps does, a
+-- listed fence of at most d levels has a satisfiable formula.
+pub fence_complete_at : (w : Words) (basis r d : ℕ) → HasChainOfLevels (specification w) (members basis) r d → ((q : ℕ) → q < r → HasChain (specification w) (members basis) q → ⊥) → HasFence w basis r d
+unfolding fence_formula fence_live
+fence_complete_at w basis r d has none_fewer =
+    let whole : IsFor w basis r has.chain = record { is_chain = has.is_chain; size = has.size; is_over = has.is_over; agrees = has.agrees } in
+    let part : IsFor (live_words w) basis r (picked w has.chain) = picked_is_for w basis r has.chain whole in
+    let least : HasFencedChain (specification (live_words w)) (members basis) r d = least_in_fence (specification (live_words w)) (members basis) r d
+    (record { chain = picked w has.chain; is_chain = part.is_chain; size = part.size; is_over = part.is_over; agrees = part.agrees; levels = has.levels })
+    (λ q less has_q. none_fewer q less (whole_has w basis q has_q)) in
+    let is : IsFor (live_words w) basis r least.reduced.has.chain = record { is_chain = least.reduced.has.is_chain; size = least.reduced.has.size; is_over = least.reduced.has.is_over; agrees = least.reduced.has.agrees } in
+    record {
+      fence = least.fence;
+      whole = least.stands.whole ∙ least.reduced.has.size;
+      filled = least.stands.filled;
+      listed = least.listed;
+      low = least.low;
+      satisfiable = reduced_satisfies (fence_pairs (swap_closed (members basis)) w.n least.fence) w basis r (fence_pairs_are_below (swap_closed (members basis)) w.n least.fence) least.reduced.has.chain is least.reduced.reduced
+          (stands_allowed (live_words w) basis r least.reduced.has.chain least.fence is least.reduced.reduced least.stands);
+    }
+
+-- Where a chain of r steps over the basis agrees and none of fewer steps does, a listed fence has a
+-- satisfiable formula.
+pub fence_complete : (w : Words) (basis r : ℕ) → IsMinimum (specification w) (members basis) r → HasFence w basis r r
+fence_complete w basis r minimum =
+    let has = minimum.reached in
+    fence_complete_at w basis r r (record {
+      chain = has.chain;
+      is_chain = has.is_chain;
+      size = has.size;
+      is_over = has.is_over;
+      agrees = has.agrees;
+      levels = subst (λ (d : ℕ). HasLevels d has.chain) has.size (levels_at_most_steps has.chain has.is_chain);
+    }) minimum.none_fewer
+
+-- Its clauses are clauses, over the variables that it counts.
+pub fence_is_formula : (w : Words) (basis r : ℕ) (fence : List ℕ) → IsFormula (fence_formula w basis r fence)
+unfolding fence_formula fence_live
+fence_is_formula w basis r fence = by_pairs_is_formula (fence_pairs (swap_closed (members basis)) w.n fence) w basis r (fence_pairs_are_below (swap_closed (members basis)) w.n fence)
