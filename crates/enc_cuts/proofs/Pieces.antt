@@ -1,0 +1,44 @@
+-- Lists of a few pieces, filters, and the test of inputs.
+use Rattle.std.proofs.Common.{◌≡◌, ℕ, suc, ◌+◌, ◌-◌, ◌≤◌, Bool, true, false, List, [], ◌∷◌, ◌++◌, refl, sym, arith, append_assoc, append-nil}
+use Rattle.std.specs.List.{flat_map, range_with_len}
+use Rattle.std.proofs.lemmas.Grind.{common_steps}
+use Rattle.std.proofs.lemmas.Bool.{false_from_ne_true}
+use Rattle.std.proofs.lemmas.List.Elements.{filter_more}
+use Rattle.tt_core.specs.Symmetry.{IsSymmetric}
+use Rattle.tt_core.specs.Words.{Words, specification}
+use Rattle.enc_theory.specs.Cuts.{may_exchange}
+use Rattle.enc_laws.specs.PairTests.{exchange_symmetric, symmetric_exchange}
+use Rattle.enc_frame.proofs.Ranges.{loops, flat_map-turn_from}
+use Rattle.enc_cuts.specs.Vars.{steps_have_vars}
+use Rattle.enc_cuts.specs.Counts.{cuts-few}
+
+-- one piece behind another
+pub two_pieces : {A : Type 0} (f : ℕ → List A) (xs : List A) (a b : ℕ) → (xs ++ f a) ++ f b ≡ xs ++ flat_map f (a ∷ b ∷ [])
+two_pieces {A} f xs a b = simp (append_assoc, append-nil)
+
+pub four_pieces : {A : Type 0} (f : ℕ → List A) (xs : List A) (a b c d : ℕ) → (((xs ++ f a) ++ f b) ++ f c) ++ f d ≡ xs ++ flat_map f (a ∷ b ∷ c ∷ d ∷ [])
+four_pieces {A} f xs a b c d = simp (append_assoc, append-nil)
+
+pub ruleset pieces = (common_steps, two_pieces, four_pieces)
+
+-- a filter, an element at a time
+pub ruleset keeping = (common_steps, filter_more)
+
+-- what the steps of a formula have
+pub ruleset families = (common_steps, steps_have_vars)
+
+-- the test of inputs
+pub may_is : (w : Words) (p q : ℕ) (b : Bool) → (b ≡ true → IsSymmetric (specification w) p q) → (b ≡ false → IsSymmetric (specification w) p q → ⊥) → b ≡ may_exchange w p q
+may_is w p q true yes_ no_ = sym (symmetric_exchange w p q (yes_ refl))
+may_is w p q false yes_ no_ = sym (false_from_ne_true (may_exchange w p q) (λ e. no_ refl (exchange_symmetric w p q e)))
+
+pub ruleset exchanging = (common_steps, may_is)
+
+-- a loop over the inputs behind one
+pub all_inputs : {A : Type 0} (f : ℕ → List A) (p n : ℕ) → p ≤ n → flat_map f (range_with_len (suc p) (n - p)) ≡ flat_map f (range_with_len (p + 1) (n + 1 - (p + 1)))
+all_inputs {A} f p n low = let e : suc p ≡ p + 1 = omega arith in let l : n - p ≡ n + 1 - (p + 1) = omega arith in rw (e, l) refl
+
+pub ruleset inputs = (loops, all_inputs)
+
+-- how many clauses there are
+pub ruleset limits = (common_steps, cuts-few)

@@ -1,0 +1,22 @@
+use Rattle.std.proofs.Common.{ℕ, All, sym, ap, subst, ◌∙◌}
+use Rattle.sat_theory.specs.Formula.{Formula}
+use Rattle.enc_cuts.specs.Vars.{HaveVars}
+use Rattle.enc_theory.specs.Cuts.{again_all, again_later}
+use Rattle.std.specs.List.{flat_map}
+use Rattle.enc_frame.proofs.Lists.{all_rest}
+use Rattle.enc_cuts.proofs.Walks.{walked, again-step}
+use Rattle.enc_cuts.proofs.again.push_again_all.Goals as goal
+
+pub loop-step-preserved : goal.loop-step-preserved
+loop-step-preserved c =
+    let old = c.loop-step.list in
+    let left = c.loop-step.left.now in
+    let step = c.in-Some.step.now in
+    let later = c.in-Some.later.now in
+    let is = c.in_ok-push_again_by.ensures in
+    let split = c.in-Some.ensures.cases.0 in
+    record {
+      vars = ap (λ (f : Formula). f.vars) is ∙ c.loop-step.invariant.vars;
+      clauses = walked again_all (flat_map (again_later step) later) old.clauses c.push_again_by.new.list.clauses _ left later step (ap (λ (f : Formula). f.clauses) is) split (again-step step later) c.loop-step.invariant.clauses;
+      slots = subst (λ (v : ℕ). All (HaveVars v) later) (sym (ap (λ (f : Formula). f.vars) is)) (all_rest (HaveVars old.vars) left later step split c.loop-step.invariant.slots);
+    }

@@ -1,0 +1,15 @@
+use Rattle.std.proofs.Common.{◌≡◌, ◌∷◌, false, arith}
+use Rattle.std.proofs.lemmas.Grind.{common_steps}
+use Rattle.std.proofs.lemmas.List.Elements.{All-same, All-cons}
+use Rattle.enc_theory.specs.declared.data.Raw.TheVariants.{Var}
+use Rattle.enc_frame.specs.Room.{IsWithin}
+use Rattle.enc_frame.proofs.Within.{within_var}
+use Rattle.enc_cuts.proofs.exchange.push_exchange_slot.Goals as goal
+
+pub push-requires : goal.push-requires
+push-requires c =
+    let vars = c.args.list.now.vars in
+    let has = c.requires.slot in
+    let is : c.deref.result.now ≡ Var c.args.slot.var false ∷ c.args.before.now = grind (arith, common_steps) in
+    All-same (IsWithin vars) c.deref.result.now (Var c.args.slot.var false ∷ c.args.before.now) is
+    (All-cons (IsWithin vars) (Var c.args.slot.var false) c.args.before.now (within_var vars c.args.slot.var false has.from has.within) c.requires.before)

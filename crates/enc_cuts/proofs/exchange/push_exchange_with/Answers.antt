@@ -1,0 +1,7 @@
+use Rattle.std.proofs.Common.{ℕ, All, sym, ap, subst}
+use Rattle.sat_theory.specs.Formula.{Formula}
+use Rattle.enc_cuts.specs.Vars.{HaveVars}
+use Rattle.enc_cuts.proofs.exchange.push_exchange_with.Goals as goal
+
+pub push_exchange_pair-requires-clause-slots : goal.push_exchange_pair-requires-clause-slots
+push_exchange_pair-requires-clause-slots c = subst (λ (v : ℕ). All (HaveVars v) c.args.steps.now) (sym (ap (λ (f : Formula). f.vars) c.loop-q.invariant)) c.requires.slots

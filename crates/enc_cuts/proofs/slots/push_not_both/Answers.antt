@@ -1,0 +1,13 @@
+use Rattle.enc_theory.specs.declared.data.Raw.TheVariants.{Var}
+use Rattle.enc_frame.specs.Room.{IsWithin}
+use Rattle.enc_frame.proofs.Within.{within_var, two}
+use Rattle.enc_cuts.proofs.slots.push_not_both.Goals as goal
+
+pub push-requires : goal.push-requires
+push-requires c =
+    let vars = c.args.list.now.vars in
+    let u = c.requires.first in
+    let v = c.requires.second in
+    two (IsWithin vars) (Var c.args.u.var _) (Var c.args.v.var _)
+    (within_var vars c.args.u.var _ u.from u.within)
+    (within_var vars c.args.v.var _ v.from v.within)

@@ -1,0 +1,36 @@
+use Rattle.enc_theory.specs.declared.data.Raw.TheVariants.{Var}
+use Rattle.enc_frame.specs.Room.{IsWithin}
+use Rattle.std.proofs.Common.{◌≡◌, ap}
+use Rattle.sat_theory.specs.Formula.{Formula}
+use Rattle.enc_frame.proofs.Within.{within_var, within_first, two}
+use Rattle.enc_cuts.proofs.Literals.{three}
+use Rattle.enc_cuts.proofs.trivial.push_equal.Goals as goal
+
+pub push-requires : goal.push-requires
+push-requires c =
+    let vars = c.args.list.now.vars in
+    let slot = c.requires.slot in
+    let room = c.requires.room in
+    three (IsWithin vars) (Var c.args.slot.var _) (Var c.f_var.result _) (Var c.f_var-2.result _)
+    (within_var vars c.args.slot.var _ slot.var_from slot.var_within)
+    (within_first c.args.z vars c.f_var.result _ room c.f_var.ensures.within)
+    (within_first c.args.z vars c.f_var-2.result _ room c.f_var-2.ensures.within)
+
+pub push-requires-2 : goal.push-requires-2
+push-requires-2 c =
+    let vars = c.args.list.now.vars in
+    let slot = c.requires.slot in
+    let room = c.requires.room in
+    two (IsWithin vars) (Var c.args.slot.var _) (Var c.f_var.result _)
+    (within_var vars c.args.slot.var _ slot.var_from slot.var_within)
+    (within_first c.args.z vars c.f_var.result _ room c.f_var.ensures.within)
+
+pub push-requires-3 : goal.push-requires-3
+push-requires-3 c =
+    let vars = c.args.list.now.vars in
+    let slot = c.requires.slot in
+    let room = c.requires.room in
+    let same : c.push-2.new.self.vars ≡ c.args.list.now.vars = ap (λ (f : Formula). f.vars) c.in_ok-push.ensures in
+    rw same (two (IsWithin vars) (Var c.args.slot.var _) (Var c.f_var-2.result _)
+    (within_var vars c.args.slot.var _ slot.var_from slot.var_within)
+    (within_first c.args.z vars c.f_var-2.result _ room c.f_var-2.ensures.within))

@@ -1,0 +1,13 @@
+use Rattle.std.proofs.Common.{◌≡◌, arith}
+use Rattle.std.proofs.lemmas.Grind.{common_steps}
+use Rattle.std.proofs.lemmas.List.Elements.{All-same}
+use Rattle.enc_frame.specs.Room.{IsWithin}
+use Rattle.enc_theory.specs.Families.{operator_raw}
+use Rattle.enc_cuts.proofs.Literals.{operator_within}
+use Rattle.enc_cuts.proofs.trivial.push_other_operator.Goals as goal
+
+pub push-requires : goal.push-requires
+push-requires c =
+    let vars = c.args.list.now.vars in
+    let is : c.deref.result.now ≡ operator_raw c.args.z c.args.i c.args.op = grind (arith, common_steps) in
+    All-same (IsWithin vars) c.deref.result.now (operator_raw c.args.z c.args.i c.args.op) is (operator_within c.args.z vars c.args.i c.args.op c.requires.room c.requires.place)

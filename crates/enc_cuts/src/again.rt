@@ -1,0 +1,170 @@
+//! No step is applied again to one of its operands.
+ghost use Rattle.std.specs.Prelude.{◌≡◌, ◌++◌, [], ◌∷◌, All, IfOk, OnOk, if◌then◌else◌};
+ghost use Rattle.std.specs.List.{flat_map};
+ghost use Rattle.enc_theory.specs.Cuts.{applies_again as applies_again_of, again_pair, again_slot, has_place, reading as reading_of, again_later, again_all, again};
+ghost use Rattle.enc_cuts.specs.Vars.{HasVar, HaveVars};
+
+use crate::slots::{push_not_both, reads};
+use enc_frame::{ClauseList, StepSlots};
+use enc_theory::Slot;
+use op_basis::Basis;
+use std::alloc::{AllocError, Global};
+
+/// Whether a step with the second pair applies the step at the place, which has the first pair, again
+/// to one of its operands.
+#[tactic(auto, unfolding(enc_theory::specs::Cuts::applies_again))]
+fn applies_again(place: u32, u: Slot, v: Slot) -> bool
+    ensures { result ≡ applies_again_of place u v }
+{
+    v.j == place && reads(u, v.k) || v.k == place && reads(u, v.j)
+}
+
+/// The clause that not both pairs are there, where the second applies the step again.
+#[tactic(auto, unfolding(enc_theory::specs::Cuts::again_pair))]
+fn push_again_pair(
+    alloc: Global,
+    list: &mut ClauseList,
+    place: u32,
+    u: Slot,
+    v: Slot,
+) -> Result<(), AllocError>
+    requires first { HasVar list.old.vars u }
+    requires second { HasVar list.old.vars v }
+    ensures { OnOk result (list.new ≡ record list.old { clauses = list.old.clauses ++ again_pair place u v }) }
+{
+    if applies_again(place, u, v) {
+        return push_not_both(alloc, list, u, v);
+    }
+    Ok(())
+}
+
+/// The clauses of a pair and of those of a later step that have the place.
+#[tactic(auto, using(enc_frame::proofs::Ranges::loops), unfolding(enc_theory::specs::Cuts::again_slot))]
+fn push_again_slot(
+    alloc: Global,
+    list: &mut ClauseList,
+    place: u32,
+    u: Slot,
+    reading: &[Slot],
+) -> Result<(), AllocError>
+    requires first { HasVar list.old.vars u }
+    requires reading { All (HasVar list.old.vars) reading.now }
+    ensures { OnOk result (list.new ≡ record list.old { clauses = list.old.clauses ++ again_slot place reading.now u }) }
+{
+    for v in reading {
+        push_again_pair(alloc, list, place, u, *v)?;
+    }
+    Ok(())
+}
+
+/// The clauses of all pairs of a step.
+#[tactic(auto, using(enc_frame::proofs::Ranges::loops))]
+fn push_again_slots(
+    alloc: Global,
+    list: &mut ClauseList,
+    place: u32,
+    slots: &[Slot],
+    reading: &[Slot],
+) -> Result<(), AllocError>
+    requires slots { All (HasVar list.old.vars) slots.now }
+    requires reading { All (HasVar list.old.vars) reading.now }
+    ensures { OnOk result (list.new ≡ record list.old { clauses = list.old.clauses ++ flat_map (again_slot place reading.now) slots.now }) }
+{
+    for u in slots {
+        push_again_slot(alloc, list, place, *u, reading)?;
+    }
+    Ok(())
+}
+
+/// Keeps the pair, if it has the place.
+#[tactic(auto, unfolding(enc_theory::specs::Cuts::has_place))]
+fn keep_reading(kept: &mut Vec<Slot>, place: u32, slot: Slot) -> Result<(), AllocError>
+    ensures { OnOk result (kept.new.items ≡ kept.old.items ++ (if has_place place slot then slot ∷ [] else [])) }
+{
+    if !reads(slot, place) {
+        return Ok(());
+    }
+    kept.push(slot)?;
+    Ok(())
+}
+
+/// The pairs that have the place.
+#[tactic(auto, using(crate::proofs::Pieces::keeping))]
+fn reading(alloc: Global, place: u32, slots: &[Slot]) -> Result<Vec<Slot>, AllocError>
+    ensures { IfOk result (λ kept. kept.items ≡ reading_of place slots.now) }
+{
+    let mut kept = Vec::new(alloc);
+    for slot in slots {
+        keep_reading(&mut kept, place, *slot)?;
+    }
+    Ok(kept)
+}
+
+/// The clauses of a step and a later one.
+#[tactic(auto, using(crate::proofs::Pieces::keeping), unfolding(enc_theory::specs::Cuts::again_later))]
+fn push_again_later(
+    alloc: Global,
+    list: &mut ClauseList,
+    step: &StepSlots,
+    later: &StepSlots,
+) -> Result<(), AllocError>
+    requires step { HaveVars list.old.vars step.now }
+    requires later { HaveVars list.old.vars later.now }
+    ensures { OnOk result (list.new ≡ record list.old { clauses = list.old.clauses ++ again_later step.now later.now }) }
+{
+    let reading = reading(alloc, step.place(), later.slots())?;
+    push_again_slots(alloc, list, step.place(), step.slots(), &reading)
+}
+
+/// The clauses of a step and all later ones.
+#[tactic(auto, using(enc_frame::proofs::Ranges::loops))]
+fn push_again_by(
+    alloc: Global,
+    list: &mut ClauseList,
+    step: &StepSlots,
+    later: &[StepSlots],
+) -> Result<(), AllocError>
+    requires step { HaveVars list.old.vars step.now }
+    requires later { All (HaveVars list.old.vars) later.now }
+    ensures { OnOk result (list.new ≡ record list.old { clauses = list.old.clauses ++ flat_map (again_later step.now) later.now }) }
+{
+    for other in later {
+        push_again_later(alloc, list, step, other)?;
+    }
+    Ok(())
+}
+
+/// The clauses of all steps.
+#[tactic(auto, using(crate::proofs::Walks::again_walk))]
+fn push_again_all(
+    alloc: Global,
+    list: &mut ClauseList,
+    steps: &[StepSlots],
+) -> Result<(), AllocError>
+    requires slots { All (HaveVars list.old.vars) steps.now }
+    ensures { OnOk result (list.new ≡ record list.old { clauses = list.old.clauses ++ again_all steps.now }) }
+{
+    let mut left = steps;
+    while let Some((step, later)) = left.split_first() {
+        push_again_by(alloc, list, step, later)?;
+        left = later;
+    }
+    Ok(())
+}
+
+/// That no step is applied again to one of its operands, where the basis is closed under that.
+#[tactic(auto, unfolding(enc_theory::specs::Cuts::again))]
+pub(crate) fn push_again(
+    alloc: Global,
+    list: &mut ClauseList,
+    basis: Basis,
+    steps: &[StepSlots],
+) -> Result<(), AllocError>
+    requires slots { All (HaveVars list.old.vars) steps.now }
+    ensures { OnOk result (list.new ≡ record list.old { clauses = list.old.clauses ++ again basis steps.now }) }
+{
+    if basis.reapply_closed() {
+        return push_again_all(alloc, list, steps);
+    }
+    Ok(())
+}

@@ -1,0 +1,63 @@
+//! Cuts of encodings by pairs: further clauses, which leave the formula of a least size satisfiable.
+//! They rule out steps that nothing reads, trivial steps, steps out of order, operators that are
+//! applied again, and what comes of exchanging inputs or of complementing steps, each under a test of
+//! the basis that it needs (Kojevnikov, Kulikov and Yaroslavtsev 2009; Knuth, TAOCP 7.2.2.2, exercise
+//! 477; Haaswijk, Soeken, Mishchenko and De Micheli 2020).
+//!
+//! ```text
+//! push_common(alloc, &mut list, &live, basis, z, &layout.steps)?; // what a chain is
+//! push_cuts(alloc, &mut list, &live, basis, z, &layout.steps)?;   // and no needless one
+//! ```
+#![tactic(auto)]
+
+ghost use Rattle.std.specs.Prelude.{◌≡◌, ◌++◌, All, OnOk};
+ghost use Rattle.enc_theory.specs.Cuts.{cuts as cuts_of};
+ghost use Rattle.enc_frame.specs.Room.{HasRoom, HasSlots, AreFor};
+
+mod again;
+mod exchange;
+mod order;
+mod row_zero;
+mod slots;
+mod trivial;
+mod used;
+
+use crate::again::push_again;
+use crate::exchange::push_exchange;
+use crate::order::push_order;
+use crate::row_zero::push_row_0;
+use crate::trivial::push_not_trivial;
+use crate::used::push_used;
+use enc_frame::{ClauseList, StepSlots};
+use enc_theory::Sizes;
+use op_basis::Basis;
+use std::alloc::{AllocError, Global};
+use tt_core::Spec;
+
+/// Writes the cuts for tables whose outputs are all live: each step is an output or is read; none is
+/// trivial; pairs never fall; none is applied again to one of its operands; inputs that may be
+/// exchanged are read in their order; and a step that is no output is 0 on row 0.
+#[tactic(auto, using(crate::proofs::Pieces::families), unfolding(enc_theory::specs::Cuts::cuts))]
+pub fn push_cuts(
+    alloc: Global,
+    list: &mut ClauseList,
+    spec: &Spec,
+    basis: Basis,
+    z: Sizes,
+    steps: &[StepSlots],
+) -> Result<(), AllocError>
+    requires room { HasRoom z list.old.vars }
+    requires tables { AreFor z spec.now }
+    requires slots { All (HasSlots z list.old.vars) steps.now }
+    ensures { OnOk result (list.new ≡ record list.old { clauses = list.old.clauses ++ cuts_of spec.now basis z steps.now }) }
+{
+    push_used(alloc, list, z, steps)?;
+    push_not_trivial(alloc, list, basis, z, steps)?;
+    push_order(alloc, list, steps)?;
+    push_again(alloc, list, basis, steps)?;
+    push_exchange(alloc, list, spec, steps)?;
+    push_row_0(alloc, list, basis, z)
+}
+
+#[cfg(test)]
+mod tests;

@@ -1,0 +1,53 @@
+//! A step that is no output is 0 on row 0.
+ghost use Rattle.std.specs.Prelude.{◌≡◌, ◌++◌, OnOk};
+ghost use Rattle.std.specs.List.{flat_map};
+ghost use Rattle.enc_theory.specs.Numbering.{places};
+ghost use Rattle.enc_theory.specs.Cuts.{row_0_at, row_0};
+ghost use Rattle.enc_frame.specs.Room.{HasRoom, IsPlace};
+
+use crate::slots::push_bearers;
+use enc_frame::{ClauseList, x_is};
+use enc_theory::Sizes;
+use op_basis::Basis;
+use std::alloc::{AllocError, Global};
+
+/// The clause that step `i` is 0 on row 0 or is an output.
+#[tactic(auto, unfolding(enc_theory::specs::Cuts::row_0_at))]
+fn push_row_0_at(alloc: Global, list: &mut ClauseList, z: Sizes, i: u32) -> Result<(), AllocError>
+    requires room { HasRoom z list.old.vars }
+    requires place { IsPlace z i }
+    ensures { OnOk result (list.new ≡ record list.old { clauses = list.old.clauses ++ row_0_at z i }) }
+{
+    let mut raws = vec![in alloc; x_is(z, i, 0, false)]?;
+    push_bearers(&mut raws, z, i)?;
+    list.push(alloc, &raws)
+}
+
+/// The clauses of all steps.
+#[tactic(auto, using(enc_frame::proofs::Ranges::loops))]
+fn push_rows_0(alloc: Global, list: &mut ClauseList, z: Sizes) -> Result<(), AllocError>
+    requires room { HasRoom z list.old.vars }
+    ensures { OnOk result (list.new ≡ record list.old { clauses = list.old.clauses ++ flat_map (row_0_at z) (places z) }) }
+{
+    for i in z.n + 1..z.n + 1 + z.r {
+        push_row_0_at(alloc, list, z, i)?;
+    }
+    Ok(())
+}
+
+/// That each step is 0 on row 0 or is an output, where the basis is closed under complements.
+#[tactic(auto, unfolding(enc_theory::specs::Cuts::row_0))]
+pub(crate) fn push_row_0(
+    alloc: Global,
+    list: &mut ClauseList,
+    basis: Basis,
+    z: Sizes,
+) -> Result<(), AllocError>
+    requires { HasRoom z list.old.vars }
+    ensures { OnOk result (list.new ≡ record list.old { clauses = list.old.clauses ++ row_0 basis z }) }
+{
+    if basis.polarity_closed() {
+        return push_rows_0(alloc, list, z);
+    }
+    Ok(())
+}

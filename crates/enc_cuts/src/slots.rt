@@ -1,0 +1,52 @@
+//! What the cuts ask of pairs, and the literals that are made of them.
+ghost use Rattle.std.specs.Prelude.{◌≡◌, ℕ, ◌≤◌, ◌++◌, [], ◌∷◌, map, All, OnOk};
+ghost use Rattle.enc_theory.specs.Numbering.{outputs};
+ghost use Rattle.enc_theory.specs.Cuts.{bears, reads as reads_of, reads_without as reads_without_of, not_both};
+ghost use Rattle.enc_cuts.specs.Vars.{HasVar};
+ghost use Rattle.enc_frame.specs.Room.{IsSmall, IsPlace};
+
+use enc_frame::{ClauseList, g_var};
+use enc_theory::{Raw, Sizes, Slot};
+use std::alloc::{AllocError, Global};
+
+/// Whether the pair has the place.
+pub(crate) fn reads(slot: Slot, place: u32) -> bool
+    ensures { result ≡ reads_of slot place }
+{
+    slot.j == place || slot.k == place
+}
+
+/// Whether the pair has the place `p` and not `q`.
+pub(crate) fn reads_without(p: u32, q: u32, slot: Slot) -> bool
+    ensures { result ≡ reads_without_of p q slot }
+{
+    reads(slot, p) && !reads(slot, q)
+}
+
+/// Adds for each output that it is the step.
+#[tactic(auto, using(enc_frame::proofs::Ranges::loops), unfolding(enc_theory::specs::Cuts::bears, enc_theory::specs::Families::bearer))]
+pub(crate) fn push_bearers(raws: &mut Vec<Raw>, z: Sizes, place: u32) -> Result<(), AllocError>
+    requires small { IsSmall z }
+    requires place { IsPlace z place }
+    ensures { OnOk result (raws.new.items ≡ raws.old.items ++ map (bears z place) (outputs z)) }
+{
+    for h in 1..z.m + 1 {
+        raws.push(Raw::Var(g_var(z, h, place), true))?;
+    }
+    Ok(())
+}
+
+/// The clause that of two pairs not both are there.
+#[tactic(auto, unfolding(enc_theory::specs::Cuts::not_both))]
+pub(crate) fn push_not_both(
+    alloc: Global,
+    list: &mut ClauseList,
+    u: Slot,
+    v: Slot,
+) -> Result<(), AllocError>
+    requires first { HasVar list.old.vars u }
+    requires second { HasVar list.old.vars v }
+    ensures { OnOk result (list.new ≡ record list.old { clauses = list.old.clauses ++ not_both u v }) }
+{
+    list.push(alloc, &[Raw::Var(u.var, false), Raw::Var(v.var, false)])
+}

@@ -1,0 +1,241 @@
+//! No step is trivial.
+ghost use Rattle.std.specs.Prelude.{◌≡◌, ℕ, ◌<◌, ◌++◌, All, OnOk};
+ghost use Rattle.op_basis.specs.Basis.{members};
+ghost use Rattle.op_basis.specs.Closed.{const_closed};
+ghost use Rattle.std.specs.List.{flat_map};
+ghost use Rattle.enc_theory.specs.Families.{operator_raw};
+ghost use Rattle.enc_theory.specs.Cuts.{other_operator, not_idle, equal_raw, equal_slot, equal_pair, negation_raw, negations, not_trivial_at, not_trivial};
+ghost use Rattle.enc_frame.specs.Room.{IsSmall, HasRoom, IsPlace, IsSlot, HasSlots};
+
+use enc_frame::{ClauseList, StepSlots, f_var};
+use enc_theory::{Raw, Sizes, Slot};
+use op_basis::{Basis, Op};
+use std::alloc::{AllocError, Global};
+
+/// Adds that the operator of step `i` is another one.
+#[tactic(auto, unfolding(enc_theory::specs::Families::operator_raw))]
+fn push_operator(raws: &mut Vec<Raw>, z: Sizes, i: u32, op: Op) -> Result<(), AllocError>
+    requires small { IsSmall z }
+    requires place { IsPlace z i }
+    ensures { OnOk result (raws.new.items ≡ raws.old.items ++ operator_raw z i op) }
+{
+    raws.push(Raw::Var(f_var(z, i, false, false), !op.apply(false, false)))?;
+    raws.push(Raw::Var(f_var(z, i, false, true), !op.apply(false, true)))?;
+    raws.push(Raw::Var(f_var(z, i, true, false), !op.apply(true, false)))?;
+    raws.push(Raw::Var(f_var(z, i, true, true), !op.apply(true, true)))?;
+    Ok(())
+}
+
+/// The clause that step `i` has another operator, where this one is a member.
+#[tactic(auto, unfolding(enc_theory::specs::Cuts::other_operator))]
+fn push_other_operator(
+    alloc: Global,
+    list: &mut ClauseList,
+    basis: Basis,
+    z: Sizes,
+    i: u32,
+    op: Op,
+) -> Result<(), AllocError>
+    requires room { HasRoom z list.old.vars }
+    requires place { IsPlace z i }
+    ensures { OnOk result (list.new ≡ record list.old { clauses = list.old.clauses ++ other_operator basis z i op }) }
+{
+    if !basis.contains(op) {
+        return Ok(());
+    }
+    let mut raws = Vec::new(alloc);
+    push_operator(&mut raws, z, i, op)?;
+    list.push(alloc, &raws)
+}
+
+/// That step `i` copies no operand, and is no constant, where constants can be left out.
+#[tactic(auto, using(crate::proofs::Pieces::pieces), unfolding(enc_theory::specs::Cuts::not_idle))]
+fn push_not_idle(
+    alloc: Global,
+    list: &mut ClauseList,
+    constants: bool,
+    basis: Basis,
+    z: Sizes,
+    i: u32,
+) -> Result<(), AllocError>
+    requires room { HasRoom z list.old.vars }
+    requires place { IsPlace z i }
+    ensures { OnOk result (list.new ≡ record list.old { clauses = list.old.clauses ++ not_idle constants basis z i }) }
+{
+    if !constants {
+        push_other_operator(alloc, list, basis, z, i, Op::new(3))?;
+        return push_other_operator(alloc, list, basis, z, i, Op::new(5));
+    }
+    push_other_operator(alloc, list, basis, z, i, Op::new(0))?;
+    push_other_operator(alloc, list, basis, z, i, Op::new(3))?;
+    push_other_operator(alloc, list, basis, z, i, Op::new(5))?;
+    push_other_operator(alloc, list, basis, z, i, Op::new(15))
+}
+
+/// What a pair of equal operands asks of the operator.
+#[tactic(auto, unfolding(enc_theory::specs::Cuts::equal_raw))]
+fn push_equal(
+    alloc: Global,
+    list: &mut ClauseList,
+    constants: bool,
+    z: Sizes,
+    i: u32,
+    slot: Slot,
+) -> Result<(), AllocError>
+    requires room { HasRoom z list.old.vars }
+    requires place { IsPlace z i }
+    requires slot { IsSlot list.old.vars i slot }
+    ensures { OnOk result (list.new ≡ record list.old { clauses = list.old.clauses ++ equal_raw constants z i slot }) }
+{
+    let no_pair = Raw::Var(slot.var, false);
+    let low = Raw::Var(f_var(z, i, false, false), true);
+    let high = Raw::Var(f_var(z, i, true, true), false);
+    if !constants {
+        return list.push(alloc, &[no_pair, low, high]);
+    }
+    list.push(alloc, &[no_pair, low])?;
+    list.push(alloc, &[no_pair, high])
+}
+
+/// The same, for any pair.
+#[tactic(auto, unfolding(enc_theory::specs::Cuts::equal_slot))]
+fn push_equal_slot(
+    alloc: Global,
+    list: &mut ClauseList,
+    constants: bool,
+    z: Sizes,
+    i: u32,
+    slot: Slot,
+) -> Result<(), AllocError>
+    requires room { HasRoom z list.old.vars }
+    requires place { IsPlace z i }
+    requires slot { IsSlot list.old.vars i slot }
+    ensures { OnOk result (list.new ≡ record list.old { clauses = list.old.clauses ++ equal_slot constants z i slot }) }
+{
+    if slot.j == slot.k {
+        return push_equal(alloc, list, constants, z, i, slot);
+    }
+    Ok(())
+}
+
+/// Adds that the step has this pair, if its operands are equal.
+#[tactic(auto, unfolding(enc_theory::specs::Cuts::equal_pair, enc_theory::specs::Families::chosen))]
+fn push_equal_pair(raws: &mut Vec<Raw>, slot: Slot) -> Result<(), AllocError>
+    ensures { OnOk result (raws.new.items ≡ raws.old.items ++ equal_pair slot) }
+{
+    if slot.j != slot.k {
+        return Ok(());
+    }
+    raws.push(Raw::Var(slot.var, true))?;
+    Ok(())
+}
+
+/// Adds for each pair of equal operands that the step has it.
+#[tactic(auto, using(enc_frame::proofs::Ranges::loops))]
+fn push_equal_pairs(raws: &mut Vec<Raw>, slots: &[Slot]) -> Result<(), AllocError>
+    ensures { OnOk result (raws.new.items ≡ raws.old.items ++ flat_map equal_pair slots.now) }
+{
+    for slot in slots {
+        push_equal_pair(raws, *slot)?;
+    }
+    Ok(())
+}
+
+/// The clause that a step has another operator than this one, a negation of an operand, or a pair of
+/// equal operands, where it is a member.
+#[tactic(auto, unfolding(enc_theory::specs::Cuts::negation_raw))]
+fn push_negation(
+    alloc: Global,
+    list: &mut ClauseList,
+    basis: Basis,
+    z: Sizes,
+    step: &StepSlots,
+    op: Op,
+) -> Result<(), AllocError>
+    requires room { HasRoom z list.old.vars }
+    requires step { HasSlots z list.old.vars step.now }
+    ensures { OnOk result (list.new ≡ record list.old { clauses = list.old.clauses ++ negation_raw basis z step.now op }) }
+{
+    if !basis.contains(op) {
+        return Ok(());
+    }
+    let mut raws = Vec::new(alloc);
+    push_operator(&mut raws, z, step.place(), op)?;
+    push_equal_pairs(&mut raws, step.slots())?;
+    list.push(alloc, &raws)
+}
+
+/// That negations have equal operands.
+#[tactic(auto, using(crate::proofs::Pieces::pieces), unfolding(enc_theory::specs::Cuts::negations))]
+fn push_negations(
+    alloc: Global,
+    list: &mut ClauseList,
+    basis: Basis,
+    z: Sizes,
+    step: &StepSlots,
+) -> Result<(), AllocError>
+    requires room { HasRoom z list.old.vars }
+    requires step { HasSlots z list.old.vars step.now }
+    ensures { OnOk result (list.new ≡ record list.old { clauses = list.old.clauses ++ negations basis z step.now }) }
+{
+    push_negation(alloc, list, basis, z, step, Op::new(10))?;
+    push_negation(alloc, list, basis, z, step, Op::new(12))
+}
+
+/// What pairs of equal operands ask of the operator.
+#[tactic(auto, using(enc_frame::proofs::Ranges::loops))]
+fn push_equal_slots(
+    alloc: Global,
+    list: &mut ClauseList,
+    constants: bool,
+    z: Sizes,
+    step: &StepSlots,
+) -> Result<(), AllocError>
+    requires room { HasRoom z list.old.vars }
+    requires step { HasSlots z list.old.vars step.now }
+    ensures { OnOk result (list.new ≡ record list.old { clauses = list.old.clauses ++ flat_map (equal_slot constants z step.now.place) step.now.slots }) }
+{
+    for slot in step.slots() {
+        push_equal_slot(alloc, list, constants, z, step.place(), *slot)?;
+    }
+    Ok(())
+}
+
+/// That a step isn't trivial.
+#[tactic(auto, unfolding(enc_theory::specs::Cuts::not_trivial_at))]
+fn push_not_trivial_at(
+    alloc: Global,
+    list: &mut ClauseList,
+    constants: bool,
+    basis: Basis,
+    z: Sizes,
+    step: &StepSlots,
+) -> Result<(), AllocError>
+    requires room { HasRoom z list.old.vars }
+    requires step { HasSlots z list.old.vars step.now }
+    ensures { OnOk result (list.new ≡ record list.old { clauses = list.old.clauses ++ not_trivial_at constants basis z step.now }) }
+{
+    push_not_idle(alloc, list, constants, basis, z, step.place())?;
+    push_equal_slots(alloc, list, constants, z, step)?;
+    push_negations(alloc, list, basis, z, step)
+}
+
+/// That no step is trivial.
+#[tactic(auto, using(enc_frame::proofs::Ranges::loops), unfolding(enc_theory::specs::Cuts::not_trivial))]
+pub(crate) fn push_not_trivial(
+    alloc: Global,
+    list: &mut ClauseList,
+    basis: Basis,
+    z: Sizes,
+    steps: &[StepSlots],
+) -> Result<(), AllocError>
+    requires room { HasRoom z list.old.vars }
+    requires slots { All (HasSlots z list.old.vars) steps.now }
+    ensures { OnOk result (list.new ≡ record list.old { clauses = list.old.clauses ++ not_trivial basis z steps.now }) }
+{
+    let constants = basis.const_closed();
+    for step in steps {
+        push_not_trivial_at(alloc, list, constants, basis, z, step)?;
+    }
+    Ok(())
+}

@@ -1,0 +1,84 @@
+//! Each step is an output or is read.
+ghost use Rattle.std.specs.Prelude.{◌≡◌, ◌++◌, All, OnOk};
+ghost use Rattle.std.specs.List.{flat_map};
+ghost use Rattle.enc_theory.specs.Cuts.{reader, readers, used_by, used};
+ghost use Rattle.enc_frame.specs.Room.{HasRoom, HasSlots};
+
+use crate::slots::{push_bearers, reads};
+use enc_frame::{ClauseList, StepSlots};
+use enc_theory::{Raw, Sizes, Slot};
+use std::alloc::{AllocError, Global};
+
+/// Adds that the step has this pair, if it has the place.
+#[tactic(auto, unfolding(enc_theory::specs::Cuts::reader, enc_theory::specs::Families::chosen))]
+fn push_reader(raws: &mut Vec<Raw>, place: u32, slot: Slot) -> Result<(), AllocError>
+    ensures { OnOk result (raws.new.items ≡ raws.old.items ++ reader place slot) }
+{
+    if !reads(slot, place) {
+        return Ok(());
+    }
+    raws.push(Raw::Var(slot.var, true))?;
+    Ok(())
+}
+
+/// Adds for each pair of a step with the place that the step has it.
+#[tactic(auto, using(enc_frame::proofs::Ranges::loops), unfolding(enc_theory::specs::Cuts::readers))]
+fn push_readers(raws: &mut Vec<Raw>, place: u32, step: &StepSlots) -> Result<(), AllocError>
+    ensures { OnOk result (raws.new.items ≡ raws.old.items ++ readers place step.now) }
+{
+    for slot in step.slots() {
+        push_reader(raws, place, *slot)?;
+    }
+    Ok(())
+}
+
+/// Adds for each pair of some steps with the place that the step has it.
+#[tactic(auto, using(enc_frame::proofs::Ranges::loops))]
+fn push_all_readers(raws: &mut Vec<Raw>, place: u32, steps: &[StepSlots]) -> Result<(), AllocError>
+    ensures { OnOk result (raws.new.items ≡ raws.old.items ++ flat_map (readers place) steps.now) }
+{
+    for step in steps {
+        push_readers(raws, place, step)?;
+    }
+    Ok(())
+}
+
+/// The clause that a step is an output or that one of the later steps reads it.
+#[tactic(auto, unfolding(enc_theory::specs::Cuts::used_by))]
+fn push_used_by(
+    alloc: Global,
+    list: &mut ClauseList,
+    z: Sizes,
+    step: &StepSlots,
+    later: &[StepSlots],
+) -> Result<(), AllocError>
+    requires room { HasRoom z list.old.vars }
+    requires step { HasSlots z list.old.vars step.now }
+    requires later { All (HasSlots z list.old.vars) later.now }
+    ensures { OnOk result (list.new ≡ record list.old { clauses = list.old.clauses ++ used_by z step.now later.now }) }
+{
+    let mut raws = Vec::new(alloc);
+    push_bearers(&mut raws, z, step.place())?;
+    push_all_readers(&mut raws, step.place(), later)?;
+    list.push(alloc, &raws)
+}
+
+/// That each step is an output or is read.
+#[tactic(auto, using(crate::proofs::Walks::used_walk))]
+pub(crate) fn push_used(
+    alloc: Global,
+    list: &mut ClauseList,
+    z: Sizes,
+    steps: &[StepSlots],
+) -> Result<(), AllocError>
+    requires room { HasRoom z list.old.vars }
+    requires slots { All (HasSlots z list.old.vars) steps.now }
+    ensures { OnOk result (list.new ≡ record list.old { clauses = list.old.clauses ++ used z steps.now }) }
+{
+    let mut left = steps;
+    while let Some((step, later)) = left.split_first() {
+        push_used_by(alloc, list, z, step, later)?;
+        left = later;
+    }
+    Ok(())
+}

@@ -1,0 +1,14 @@
+use Rattle.enc_theory.specs.declared.data.Raw.TheVariants.{Var}
+use Rattle.enc_frame.specs.Room.{IsWithin}
+use Rattle.enc_frame.proofs.Within.{within_first, four}
+use Rattle.enc_frame.proofs.families.push_operator_clause.Goals as goal
+
+pub push-requires : goal.push-requires
+push-requires c =
+    let vars = c.args.list.now.vars in
+    let room = c.requires.room in
+    four (IsWithin vars) (Var c.f_var.result _) (Var c.f_var-2.result _) (Var c.f_var-3.result _) (Var c.f_var-4.result _)
+    (within_first c.args.z vars c.f_var.result _ room c.f_var.ensures.within)
+    (within_first c.args.z vars c.f_var-2.result _ room c.f_var-2.ensures.within)
+    (within_first c.args.z vars c.f_var-3.result _ room c.f_var-3.ensures.within)
+    (within_first c.args.z vars c.f_var-4.result _ room c.f_var-4.ensures.within)

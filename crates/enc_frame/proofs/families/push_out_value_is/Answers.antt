@@ -1,0 +1,12 @@
+use Rattle.enc_theory.specs.declared.data.Raw.TheVariants.{Var}
+use Rattle.enc_frame.specs.Room.{IsWithin}
+use Rattle.enc_frame.proofs.Within.{within_first, two}
+use Rattle.enc_frame.proofs.families.push_out_value_is.Goals as goal
+
+pub push-requires : goal.push-requires
+push-requires c =
+    let vars = c.args.list.now.vars in
+    let room = c.requires.room in
+    two (IsWithin vars) (Var c.g_var.result _) c.x_is.result
+    (within_first c.args.z vars c.g_var.result _ room c.g_var.ensures.within)
+    (c.x_is.ensures.within vars room)

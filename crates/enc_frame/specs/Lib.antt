@@ -1,0 +1,9 @@
+pub use Rattle.chain_theory.specs.Agreement
+pub use Rattle.enc_theory.specs.Numbering
+pub use Rattle.enc_theory.specs.Pairs
+pub use Rattle.enc_theory.specs.Families
+pub use Rattle.enc_theory.specs.Decode
+pub mod Room
+pub mod Seen
+pub mod PairLaws
+pub mod Counts

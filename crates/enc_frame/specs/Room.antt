@@ -1,0 +1,61 @@
+-- How large formulas may be, and what their parts are made of.
+use Rattle.std.specs.Prelude.{◌≡◌, length, ℕ, ◌+◌, ◌≤◌, ◌<◌, All}
+use Rattle.enc_theory.specs.declared.data.Raw.{Raw}
+use Rattle.enc_theory.specs.declared.data.Raw.TheVariants.{Fixed, Var}
+use Rattle.enc_theory.specs.declared.data.Sizes.{Sizes}
+use Rattle.tt_core.specs.Words.{Words}
+use Rattle.enc_theory.specs.declared.data.Pair.{Pair}
+use Rattle.enc_theory.specs.declared.data.Slot.{Slot}
+use Rattle.enc_theory.specs.Numbering.{s_first}
+use Rattle.enc_theory.specs.Pairs.{StepSlots}
+
+-- the limits of the program: at most six inputs, sixteen steps and eight outputs
+pub record IsSmall (z : Sizes) : Type 0 where
+  pub inputs : z.n ≤ 6
+  pub steps : z.r ≤ 16
+  pub outputs : z.m ≤ 8
+
+-- among the variables 1 to vars are all those of values, outputs and operators
+pub record HasRoom (z : Sizes) (vars : ℕ) : Type 0 where
+  pub small : IsSmall z
+  pub first : s_first z ≤ vars + 1
+  pub few : vars < 1000000000
+
+-- the place of a step
+pub record IsPlace (z : Sizes) (i : ℕ) : Type 0 where
+  pub from : z.n + 1 ≤ i
+  pub below : i < z.n + 1 + z.r
+
+-- a listed literal's variable is one of 1 to vars
+unfoldable pub IsWithin : ℕ → Raw → Type 0
+IsWithin vars (Fixed bit) = Unit {0}
+IsWithin vars (Var v bit) = (1 ≤ v) × (v ≤ vars)
+
+-- both operands are places below the step's
+pub record IsPair (place : ℕ) (p : Pair) : Type 0 where
+  pub j_from : 1 ≤ p.j
+  pub j_below : p.j < place
+  pub k_from : 1 ≤ p.k
+  pub k_below : p.k < place
+
+pub record IsSlot (vars place : ℕ) (u : Slot) : Type 0 where
+  pub j_from : 1 ≤ u.j
+  pub j_below : u.j < place
+  pub k_from : 1 ≤ u.k
+  pub k_below : u.k < place
+  pub var_from : 1 ≤ u.var
+  pub var_within : u.var ≤ vars
+
+-- the place is that of a step
+pub record HasPlace (z : Sizes) (s : StepSlots) : Type 0 where
+  pub place : IsPlace z s.place
+
+-- the place of a step, with pairs that it may have
+pub record HasSlots (z : Sizes) (vars : ℕ) (s : StepSlots) : Type 0 where
+  pub place : IsPlace z s.place
+  pub slots : All (IsSlot vars s.place) s.slots
+
+-- the sizes are those of these tables
+pub record AreFor (z : Sizes) (w : Words) : Type 0 where
+  pub inputs : z.n ≡ w.n
+  pub outputs : z.m ≡ length w.on

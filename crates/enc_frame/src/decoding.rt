@@ -1,0 +1,194 @@
+//! The chain that an assignment of a formula's variables spells.
+ghost use Rattle.std.specs.Prelude.{◌≡◌, ◌+◌, ◌-◌, ◌≤◌, ◌<◌, length, map, All, IfOk};
+ghost use Rattle.chain_core.specs.Steps.{step_of, steps_of, IsSmallChain};
+ghost use Rattle.sat_theory.specs.Formula.{bits_of};
+ghost use Rattle.tt_core.specs.Live.{live_among};
+ghost use Rattle.tt_core.specs.Words.{specification};
+ghost use Rattle.enc_theory.specs.Numbering.{places, outputs};
+ghost use Rattle.enc_theory.specs.Decode.{first_pair as first_pair_of, operator_in, decoded_step as decoded_step_of, first_bearer as first_bearer_of, decoded_out, restored_at, restored as restored_of, decoded};
+ghost use Rattle.enc_frame.specs.Room.{IsSmall, IsPlace, HasPlace};
+
+use crate::layout::StepSlots;
+use crate::vars::{f_var, g_var};
+use chain_core::{Chain, Out, Step};
+use cnf_core::Assign;
+use enc_theory::{Pair, Sizes, Slot};
+use op_basis::Op;
+use std::alloc::{AllocError, Global};
+use tt_core::{Spec, trivial};
+
+/// The bit of a variable; those behind the list are 0.
+fn bit(bits: &[bool], variable: u32) -> bool
+    ensures { result ≡ bits_of bits.now variable }
+{
+    if variable == 0 {
+        return false;
+    }
+    match bits.get(variable as usize - 1) {
+        Some(bit) => *bit,
+        None => false,
+    }
+}
+
+/// The first of a step's pairs whose variable is true.
+#[tactic(auto, using(crate::proofs::Spelled::pairs))]
+fn first_pair(bits: &[bool], slots: &[Slot]) -> Pair
+    ensures { result ≡ first_pair_of (bits_of bits.now) slots.now }
+{
+    let mut left = slots;
+    while let Some((slot, rest)) = left.split_first() {
+        if bit(bits, slot.var) {
+            return Pair {
+                j: slot.j,
+                k: slot.k,
+            };
+        }
+        left = rest;
+    }
+    Pair { j: 1, k: 1 }
+}
+
+/// The operator of the step at a place.
+fn operator(bits: &[bool], z: Sizes, place: u32) -> Op
+    requires small { IsSmall z }
+    requires place { IsPlace z place }
+    ensures { result ≡ operator_in z (bits_of bits.now) place }
+{
+    Op::with_values(
+        bit(bits, f_var(z, place, false, false)),
+        bit(bits, f_var(z, place, false, true)),
+        bit(bits, f_var(z, place, true, false)),
+        bit(bits, f_var(z, place, true, true)),
+    )
+}
+
+/// The step with its pair and its operator.
+#[tactic(auto, unfolding(enc_theory::specs::Decode::decoded_step))]
+fn decoded_step(bits: &[bool], z: Sizes, step: &StepSlots) -> Step
+    requires small { IsSmall z }
+    requires place { IsPlace z step.now.place }
+    ensures { step_of result ≡ decoded_step_of z (bits_of bits.now) step.now }
+{
+    let pair = first_pair(bits, step.slots());
+    Step {
+        j: pair.j,
+        k: pair.k,
+        op: operator(bits, z, step.place()),
+    }
+}
+
+/// All steps.
+fn decoded_steps(
+    alloc: Global,
+    bits: &[bool],
+    z: Sizes,
+    steps: &[StepSlots],
+) -> Result<Vec<Step>, AllocError>
+    requires small { IsSmall z }
+    requires places { All (HasPlace z) steps.now }
+    ensures { IfOk result (λ chain. steps_of chain.items ≡ map (decoded_step_of z (bits_of bits.now)) steps.now) }
+{
+    let mut chain = Vec::new(alloc);
+    for step in steps {
+        chain.push(decoded_step(bits, z, step))?;
+    }
+    Ok(chain)
+}
+
+/// The first step whose variable for output `h` is true.
+#[tactic(auto, using(crate::proofs::Spelled::bearers))]
+fn first_bearer(bits: &[bool], z: Sizes, h: u32) -> u32
+    requires small { IsSmall z }
+    requires output { (1 ≤ h) × (h ≤ z.m) }
+    ensures { result ≡ first_bearer_of z (bits_of bits.now) h (places z) }
+{
+    for place in z.n + 1..z.n + 1 + z.r {
+        if bit(bits, g_var(z, h, place)) {
+            return place;
+        }
+    }
+    z.n + 1
+}
+
+/// What the live outputs are.
+#[tactic(auto, using(crate::proofs::Ranges::loops), unfolding(enc_theory::specs::Decode::decoded_out))]
+fn live_outs(alloc: Global, bits: &[bool], z: Sizes) -> Result<Vec<Out>, AllocError>
+    requires { IsSmall z }
+    ensures { IfOk result (λ outs. outs.items ≡ map (decoded_out z (bits_of bits.now)) (outputs z)) }
+{
+    let mut outs = Vec::new(alloc);
+    for h in 1..z.m + 1 {
+        outs.push(Out::Place(first_bearer(bits, z, h)))?;
+    }
+    Ok(outs)
+}
+
+/// What output `h` is: the out that costs nothing, or else the next of the live ones.
+#[tactic(auto, unfolding(enc_theory::specs::Decode::restored_at))]
+fn restored_out(spec: &Spec, live: &[Out], h: u32, next: usize) -> Out
+    requires output { (1 ≤ h) × (h ≤ length spec.now.on) }
+    requires next { next ≡ length (live_among (specification spec.now) (h - 1)) }
+    ensures { result ≡ restored_at (specification spec.now) live.now h }
+{
+    match trivial(spec, h) {
+        Some(out) => out,
+        None => match live.get(next) {
+            Some(out) => *out,
+            None => Out::Zero,
+        },
+    }
+}
+
+/// How many of the outputs up to `h` are live, given the number of those below it.
+#[tactic(auto, using(crate::proofs::Spelled::living))]
+fn live_up_to(spec: &Spec, h: u32, below: usize) -> usize
+    requires output { (1 ≤ h) × (h ≤ length spec.now.on) }
+    requires below { below ≡ length (live_among (specification spec.now) (h - 1)) }
+    requires few { below < h }
+    ensures count { result ≡ length (live_among (specification spec.now) h) }
+    ensures few { result ≤ h }
+{
+    match trivial(spec, h) {
+        Some(_) => below,
+        None => below + 1,
+    }
+}
+
+/// The live outs, with the trivial ones put back in their places.
+#[tactic(auto, using(crate::proofs::Spelled::restoring), unfolding(enc_theory::specs::Decode::restored))]
+fn restored(alloc: Global, spec: &Spec, live: &[Out]) -> Result<Vec<Out>, AllocError>
+    ensures { IfOk result (λ outs. outs.items ≡ restored_of (specification spec.now) live.now) }
+{
+    // brings that there are few outputs
+    let _n = spec.n();
+    let mut outs = Vec::new(alloc);
+    let mut next = 0;
+    for h in 1..spec.outputs() + 1 {
+        outs.push(restored_out(spec, live, h, next))?;
+        next = live_up_to(spec, h, next);
+    }
+    Ok(outs)
+}
+
+/// The chain for the tables: each step with the first of its pairs whose variable is true and the
+/// operator that its four variables spell, each live output the first step whose variable for it is
+/// true, and the trivial outputs put back in their places. `z` counts the live outputs.
+#[tactic(auto, unfolding(enc_theory::specs::Decode::decoded))]
+pub fn decode(
+    alloc: Global,
+    spec: &Spec,
+    z: Sizes,
+    steps: &[StepSlots],
+    assign: &Assign,
+) -> Result<Chain, AllocError>
+    requires small { IsSmall z }
+    requires places { All (HasPlace z) steps.now }
+    requires chain { IsSmallChain (decoded spec.now z steps.now (bits_of assign.now)) }
+    ensures { IfOk result (λ chain. chain ≡ decoded spec.now z steps.now (bits_of assign.now)) }
+{
+    let bits = assign.bits();
+    let chain = decoded_steps(alloc, bits, z, steps)?;
+    let live = live_outs(alloc, bits, z)?;
+    let outs = restored(alloc, spec, &live)?;
+    Ok(Chain::new(spec.n(), chain, outs))
+}

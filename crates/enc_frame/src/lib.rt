@@ -1,0 +1,42 @@
+//! What all encodings of chains share: the trait that an encoding implements, with its two laws; the
+//! code that writes the clauses which say what a chain is; and the code that takes a chain back out of
+//! an assignment. The clause lists are the definitions of `enc_theory`, and what is written here equals
+//! them literal by literal.
+//!
+//! - `Encoding` promises that a formula is exactly its definition, that a chain which is decoded has
+//!   the size, is over the basis and agrees, and two laws: where some assignment satisfies a formula of
+//!   size r, a chain of r steps over the basis agrees (`sound`); and where r is the least size of such
+//!   a chain, some formula of size r is satisfiable (`complete`).
+//! - `ClauseList` writes listed clauses, each with what is false or repeated left out.
+//! - `Layout::new` gives each step its pairs with their variables, in their order.
+//! - `push_common` writes the clauses of any encoding whose steps choose among pairs.
+//! - `decode` takes the chain out of an assignment.
+//! - `cuts` tells which cuts a basis allows, and `laws` why they lose nothing: some least chain meets
+//!   them all.
+#![tactic(auto)]
+
+mod cut_set;
+mod decoding;
+mod encoding;
+mod families;
+pub mod laws;
+mod layout;
+mod list;
+mod pairs;
+mod part;
+mod values;
+mod vars;
+
+pub use cut_set::{CutSet, cuts};
+pub use decoding::decode;
+pub use enc_theory::{Method, Pair, Raw, Sizes, Slot};
+pub use encoding::Encoding;
+pub use families::push_common;
+pub use layout::{Layout, StepSlots};
+pub use list::ClauseList;
+pub use pairs::{AllPairs, Pairs};
+pub use part::Part;
+pub use vars::{f_var, g_var, sizes, x_is};
+
+#[cfg(test)]
+mod tests;

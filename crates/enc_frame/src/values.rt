@@ -1,0 +1,137 @@
+//! The clauses that give each step its operator's value of its pair.
+ghost use Rattle.std.specs.Prelude.{◌≡◌, ◌+◌, ◌^◌, ◌<◌, ◌≤◌, ◌++◌, All, OnOk};
+ghost use Rattle.enc_theory.specs.Families.{value_clause, value_bit, value_row, value_slot, value_step, values};
+ghost use Rattle.enc_frame.specs.Room.{HasRoom, IsPlace, IsSlot, HasSlots};
+
+use crate::ClauseList;
+use crate::layout::StepSlots;
+use crate::vars::{f_var, rows, x_is};
+use enc_theory::{Raw, Sizes, Slot};
+use std::alloc::{AllocError, Global};
+
+/// A pair that a step may have, on a row.
+#[derive(Clone, Copy, Debug)]
+struct At {
+    step: u32,
+    slot: Slot,
+    row: u32,
+}
+
+/// One clause, for bits a, b, c of the step and of its two operands.
+#[tactic(auto, unfolding(enc_theory::specs::Families::value_clause, enc_theory::specs::Families::value_raw))]
+fn push_value_clause(
+    alloc: Global,
+    list: &mut ClauseList,
+    z: Sizes,
+    at: At,
+    a: bool,
+    b: bool,
+    c: bool,
+) -> Result<(), AllocError>
+    requires room { HasRoom z list.old.vars }
+    requires place { IsPlace z at.step }
+    requires slot { IsSlot list.old.vars at.step at.slot }
+    requires row { at.row < 2 ^ z.n }
+    ensures { OnOk result (list.new ≡ record list.old { clauses = list.old.clauses ++ value_clause z at.step at.slot at.row a b c }) }
+{
+    list.push(
+        alloc,
+        &[
+            Raw::Var(at.slot.var, false),
+            x_is(z, at.step, at.row, !a),
+            x_is(z, at.slot.j, at.row, !b),
+            x_is(z, at.slot.k, at.row, !c),
+            Raw::Var(f_var(z, at.step, b, c), a),
+        ],
+    )
+}
+
+/// The four clauses of a bit of the step.
+#[tactic(auto, unfolding(enc_theory::specs::Families::value_bit))]
+fn push_value_bit(
+    alloc: Global,
+    list: &mut ClauseList,
+    z: Sizes,
+    at: At,
+    a: bool,
+) -> Result<(), AllocError>
+    requires room { HasRoom z list.old.vars }
+    requires place { IsPlace z at.step }
+    requires slot { IsSlot list.old.vars at.step at.slot }
+    requires row { at.row < 2 ^ z.n }
+    ensures { OnOk result (list.new ≡ record list.old { clauses = list.old.clauses ++ value_bit z at.step at.slot at.row a }) }
+{
+    push_value_clause(alloc, list, z, at, a, false, false)?;
+    push_value_clause(alloc, list, z, at, a, false, true)?;
+    push_value_clause(alloc, list, z, at, a, true, false)?;
+    push_value_clause(alloc, list, z, at, a, true, true)
+}
+
+/// The eight clauses of a row.
+#[tactic(auto, unfolding(enc_theory::specs::Families::value_row))]
+fn push_value_row(alloc: Global, list: &mut ClauseList, z: Sizes, at: At) -> Result<(), AllocError>
+    requires room { HasRoom z list.old.vars }
+    requires place { IsPlace z at.step }
+    requires slot { IsSlot list.old.vars at.step at.slot }
+    requires row { at.row < 2 ^ z.n }
+    ensures { OnOk result (list.new ≡ record list.old { clauses = list.old.clauses ++ value_row z at.step at.slot at.row }) }
+{
+    push_value_bit(alloc, list, z, at, false)?;
+    push_value_bit(alloc, list, z, at, true)
+}
+
+/// The clauses of a pair.
+#[tactic(auto, using(crate::proofs::Ranges::loops), unfolding(enc_theory::specs::Families::value_slot))]
+fn push_value_slot(
+    alloc: Global,
+    list: &mut ClauseList,
+    z: Sizes,
+    step: u32,
+    slot: Slot,
+) -> Result<(), AllocError>
+    requires room { HasRoom z list.old.vars }
+    requires place { IsPlace z step }
+    requires slot { IsSlot list.old.vars step slot }
+    ensures { OnOk result (list.new ≡ record list.old { clauses = list.old.clauses ++ value_slot z step slot }) }
+{
+    for row in 0..rows(z) {
+        push_value_row(alloc, list, z, At { step, slot, row })?;
+    }
+    Ok(())
+}
+
+/// The clauses of a step.
+#[tactic(auto, using(crate::proofs::Ranges::loops), unfolding(enc_theory::specs::Families::value_step))]
+fn push_value_step(
+    alloc: Global,
+    list: &mut ClauseList,
+    z: Sizes,
+    step: &StepSlots,
+) -> Result<(), AllocError>
+    requires room { HasRoom z list.old.vars }
+    requires slots { HasSlots z list.old.vars step.now }
+    ensures { OnOk result (list.new ≡ record list.old { clauses = list.old.clauses ++ value_step z step.now }) }
+{
+    for slot in step.slots() {
+        push_value_slot(alloc, list, z, step.place(), *slot)?;
+    }
+    Ok(())
+}
+
+/// The clauses of all steps.
+#[tactic(auto, using(crate::proofs::Ranges::loops), unfolding(enc_theory::specs::Families::values))]
+pub(crate) fn push_values(
+    alloc: Global,
+    list: &mut ClauseList,
+    z: Sizes,
+    steps: &[StepSlots],
+) -> Result<(), AllocError>
+    requires room { HasRoom z list.old.vars }
+    requires slots { All (HasSlots z list.old.vars) steps.now }
+    ensures { OnOk result (list.new ≡ record list.old { clauses = list.old.clauses ++ values z steps.now }) }
+{
+    for step in steps {
+        push_value_step(alloc, list, z, step)?;
+    }
+    Ok(())
+}

@@ -1,0 +1,102 @@
+//! The variables of a formula, computed from places.
+ghost use Rattle.std.specs.Prelude.{◌≡◌, ℕ, ◌+◌, ◌^◌, ◌<◌, ◌≤◌, length};
+ghost use Rattle.enc_theory.specs.Numbering.{sizes_of, x_var as x_var_of, g_var as g_var_of, f_first as f_first_of, f_var as f_var_of, s_first as s_first_of, x_is as x_is_of};
+ghost use Rattle.enc_frame.specs.Room.{IsSmall, HasRoom, IsPlace, IsWithin};
+
+use chain_theory::plain::input;
+use enc_theory::{Raw, Sizes};
+use tt_core::Spec;
+
+/// The sizes of a formula for these tables with `r` steps.
+pub fn sizes(spec: &Spec, r: u32) -> Sizes
+    requires { r ≤ 16 }
+    ensures value { result ≡ sizes_of spec.now r }
+    ensures small { IsSmall result }
+{
+    Sizes {
+        n: spec.n(),
+        r,
+        m: spec.outputs(),
+    }
+}
+
+/// How many rows there are.
+#[tactic(auto, using(crate::proofs::Bounds::row_count))]
+pub(crate) fn rows(z: Sizes) -> u32
+    requires { IsSmall z }
+    ensures value { result ≡ 2 ^ z.n }
+    ensures few { result ≤ 64 }
+{
+    1 << z.n
+}
+
+/// The variable of step `i` on row `t`.
+#[tactic(auto, using(crate::proofs::Bounds::products), unfolding(enc_theory::specs::Numbering::x_var, enc_theory::specs::Numbering::s_first))]
+pub(crate) fn x_var(z: Sizes, i: u32, t: u32) -> u32
+    requires small { IsSmall z }
+    requires place { IsPlace z i }
+    requires row { t < 2 ^ z.n }
+    ensures value { result ≡ x_var_of z i t }
+    ensures within { (1 ≤ result) × (result < s_first_of z) }
+{
+    (i - (z.n + 1)) * rows(z) + t + 1
+}
+
+/// The variable of output `h` and step `i`.
+#[tactic(auto, using(crate::proofs::Bounds::products), unfolding(enc_theory::specs::Numbering::g_var, enc_theory::specs::Numbering::s_first))]
+pub fn g_var(z: Sizes, h: u32, i: u32) -> u32
+    requires small { IsSmall z }
+    requires output { (1 ≤ h) × (h ≤ z.m) }
+    requires place { IsPlace z i }
+    ensures value { result ≡ g_var_of z h i }
+    ensures within { (1 ≤ result) × (result < s_first_of z) }
+{
+    z.r * rows(z) + (h - 1) * z.r + (i - z.n)
+}
+
+/// The first variable of operators.
+#[tactic(auto, using(crate::proofs::Bounds::products))]
+pub(crate) fn f_first(z: Sizes) -> u32
+    requires { IsSmall z }
+    ensures value { result ≡ f_first_of z }
+    ensures few { result ≤ 1153 }
+{
+    z.r * rows(z) + z.m * z.r + 1
+}
+
+/// The variable of step `i`'s operator at `b` and `c`.
+#[tactic(auto, unfolding(enc_theory::specs::Numbering::f_var, enc_theory::specs::Numbering::s_first))]
+pub fn f_var(z: Sizes, i: u32, b: bool, c: bool) -> u32
+    requires small { IsSmall z }
+    requires place { IsPlace z i }
+    ensures value { result ≡ f_var_of z i b c }
+    ensures within { (1 ≤ result) × (result < s_first_of z) }
+{
+    f_first(z) + 4 * (i - (z.n + 1)) + (2 * u32::from(b) + u32::from(c))
+}
+
+/// The first variable of pairs.
+#[tactic(auto, unfolding(enc_theory::specs::Numbering::s_first))]
+pub(crate) fn s_first(z: Sizes) -> u32
+    requires { IsSmall z }
+    ensures value { result ≡ s_first_of z }
+    ensures few { (1 ≤ result) × (result ≤ 1217) }
+{
+    f_first(z) + 4 * z.r
+}
+
+/// That place `j` has the bit on row `t`.
+#[tactic(auto, unfolding(enc_theory::specs::Numbering::x_is, crate::specs::Room::IsWithin))]
+pub fn x_is(z: Sizes, j: u32, t: u32, bit: bool) -> Raw
+    requires small { IsSmall z }
+    requires place { (1 ≤ j) × (j < z.n + 1 + z.r) }
+    requires row { t < 2 ^ z.n }
+    ensures value { result ≡ x_is_of z j t bit }
+    ensures within { (vars : ℕ) → HasRoom z vars → IsWithin vars result }
+{
+    if j <= z.n {
+        Raw::Fixed(if input(z.n, t, j) { bit } else { !bit })
+    } else {
+        Raw::Var(x_var(z, j, t), bit)
+    }
+}

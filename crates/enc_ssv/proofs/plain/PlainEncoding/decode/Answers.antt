@@ -1,0 +1,28 @@
+use Rattle.std.proofs.Common.{false, ◌≡◌, sym, subst, length}
+use Rattle.chain_theory.specs.Chain.{Chain}
+use Rattle.chain_theory.specs.Agreement.{IsOver, Agrees}
+use Rattle.op_basis.specs.Basis.{members}
+use Rattle.sat_theory.specs.Formula.{bits_of}
+use Rattle.tt_core.specs.Words.{specification}
+use Rattle.enc_laws.specs.Decoded.{IsFor}
+use Rattle.enc_ssv.specs.Spelled.{spelled}
+use Rattle.enc_ssv.proofs.Chains.{if_ok, plain_is_for, plain_is_small}
+use Rattle.enc_ssv.proofs.plain.PlainEncoding.decode.Goals as goal
+
+pub decode_pairs-requires-clause-chain : goal.decode_pairs-requires-clause-chain
+decode_pairs-requires-clause-chain c = plain_is_small c.args.spec.now c.args._basis c.args.r (bits_of c.args.assign.now) c.n-n.ensures.whole c.requires.size c.requires.satisfied
+
+pub returns-clause-size : goal.returns-clause-size
+returns-clause-size c =
+    let is = plain_is_for c.args.spec.now c.args._basis c.args.r (bits_of c.args.assign.now) c.n-n.ensures.whole c.requires.size c.requires.satisfied in
+    if_ok (λ (chain : Chain). chain ≡ spelled false c.args.spec.now c.args.r (bits_of c.args.assign.now)) (λ (chain : Chain). length chain.steps ≡ c.args.r) c.decode_pairs.result (λ chain e. rw e is.size) c.decode_pairs.ensures
+
+pub returns-clause-over : goal.returns-clause-over
+returns-clause-over c =
+    let is = plain_is_for c.args.spec.now c.args._basis c.args.r (bits_of c.args.assign.now) c.n-n.ensures.whole c.requires.size c.requires.satisfied in
+    if_ok (λ (chain : Chain). chain ≡ spelled false c.args.spec.now c.args.r (bits_of c.args.assign.now)) (λ (chain : Chain). IsOver (members c.args._basis) chain) c.decode_pairs.result (λ chain e. subst (λ (d : Chain). IsOver (members c.args._basis) d) (sym e) is.is_over) c.decode_pairs.ensures
+
+pub returns-clause-agrees : goal.returns-clause-agrees
+returns-clause-agrees c =
+    let is = plain_is_for c.args.spec.now c.args._basis c.args.r (bits_of c.args.assign.now) c.n-n.ensures.whole c.requires.size c.requires.satisfied in
+    if_ok (λ (chain : Chain). chain ≡ spelled false c.args.spec.now c.args.r (bits_of c.args.assign.now)) (λ (chain : Chain). Agrees chain (specification c.args.spec.now)) c.decode_pairs.result (λ chain e. subst (λ (d : Chain). Agrees d (specification c.args.spec.now)) (sym e) is.agrees) c.decode_pairs.ensures

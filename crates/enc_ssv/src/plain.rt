@@ -1,0 +1,63 @@
+use crate::pairs::decode_pairs;
+use chain_core::Chain;
+use cnf_core::{Assign, Cnf};
+use enc_frame::{AllPairs, ClauseList, Encoding, Layout, Part, push_common, sizes};
+use op_basis::Basis;
+use std::alloc::{AllocError, Global};
+use tt_core::{Spec, live_part};
+
+/// The plain encoding: the clauses that say what a chain is, over all pairs of operands. A size has
+/// one part, the whole.
+#[derive(Clone, Copy, Debug, PartialEq, Eq)]
+pub struct Plain;
+
+impl Encoding for Plain {
+    ghost use Rattle.std.specs.Prelude.{[], ◌∷◌};
+    ghost use Rattle.enc_frame.specs.declared.part.Part.TheVariants.{Whole};
+    ghost use Rattle.enc_theory.specs.Plain.{plain_formula};
+    ghost use Rattle.enc_ssv.specs.PlainLaws.{is_sound, is_complete};
+
+    ghost parts_of = { λ plain w r. Whole ∷ [] };
+
+    ghost formula_of = { λ plain w basis r part. plain_formula w basis r };
+
+    ghost sound = { λ plain w basis r part. is_sound w basis r part };
+
+    ghost complete = { λ plain w basis r. is_complete w basis r };
+
+    fn parts(&self, alloc: Global, _spec: &Spec, _r: u32) -> Result<Vec<Part>, AllocError> {
+        Ok(vec![in alloc; Part::Whole]?)
+    }
+
+    #[tactic(auto, using(crate::proofs::Formulas::plain), unfolding(enc_theory::specs::Plain::plain_formula, enc_theory::specs::Plain::plain_live))]
+    fn formula(
+        &self,
+        alloc: Global,
+        spec: &Spec,
+        basis: Basis,
+        r: u32,
+        _part: &Part,
+    ) -> Result<Cnf, AllocError> {
+        let live = live_part(alloc, spec)?;
+        let z = sizes(&live, r);
+        let layout = Layout::new(alloc, &AllPairs { ordered: false }, z)?;
+        let mut list = ClauseList::new(alloc, layout.vars)?;
+        push_common(alloc, &mut list, &live, basis, z, &layout.steps)?;
+        list.into_cnf(alloc)
+    }
+
+    #[tactic(auto, using(crate::proofs::Chains::within))]
+    fn decode(
+        &self,
+        alloc: Global,
+        spec: &Spec,
+        _basis: Basis,
+        r: u32,
+        _part: &Part,
+        assign: &Assign,
+    ) -> Result<Chain, AllocError> {
+        // brings that the tables are within the limits
+        let _n = spec.n();
+        decode_pairs(alloc, spec, false, r, assign)
+    }
+}

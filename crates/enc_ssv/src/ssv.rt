@@ -1,0 +1,71 @@
+use crate::pairs::decode_pairs;
+use chain_core::Chain;
+use cnf_core::{Assign, Cnf};
+use enc_cuts::push_cuts;
+use enc_frame::{AllPairs, ClauseList, Encoding, Layout, Part, push_common, sizes};
+use op_basis::Basis;
+use std::alloc::{AllocError, Global};
+use tt_core::{Spec, live_part};
+
+/// The encoding by pairs with cuts: the clauses that say what a chain is, over the ordered pairs alone
+/// where the basis has each operator with its operands exchanged, and the cuts that leave a least
+/// chain. A size has one part, the whole.
+#[derive(Clone, Copy, Debug, PartialEq, Eq)]
+pub struct Ssv;
+
+impl Encoding for Ssv {
+    ghost use Rattle.std.specs.Prelude.{[], ◌∷◌};
+    ghost use Rattle.enc_frame.specs.declared.part.Part.TheVariants.{Whole};
+    ghost use Rattle.enc_theory.specs.Ssv.{ssv_formula};
+    ghost use Rattle.enc_ssv.specs.SsvLaws.{is_sound, is_complete};
+
+    ghost parts_of = { λ ssv w r. Whole ∷ [] };
+
+    ghost formula_of = { λ ssv w basis r part. ssv_formula w basis r };
+
+    ghost sound = { λ ssv w basis r part. is_sound w basis r part };
+
+    ghost complete = { λ ssv w basis r. is_complete w basis r };
+
+    fn parts(&self, alloc: Global, _spec: &Spec, _r: u32) -> Result<Vec<Part>, AllocError> {
+        Ok(vec![in alloc; Part::Whole]?)
+    }
+
+    #[tactic(auto, using(crate::proofs::Formulas::ssv), unfolding(enc_theory::specs::Ssv::ssv_formula, enc_theory::specs::Ssv::ssv_live))]
+    fn formula(
+        &self,
+        alloc: Global,
+        spec: &Spec,
+        basis: Basis,
+        r: u32,
+        _part: &Part,
+    ) -> Result<Cnf, AllocError> {
+        let live = live_part(alloc, spec)?;
+        // brings that the live part is within the limits
+        let _n = live.n();
+        let z = sizes(&live, r);
+        let pairs = AllPairs {
+            ordered: basis.swap_closed(),
+        };
+        let layout = Layout::new(alloc, &pairs, z)?;
+        let mut list = ClauseList::new(alloc, layout.vars)?;
+        push_common(alloc, &mut list, &live, basis, z, &layout.steps)?;
+        push_cuts(alloc, &mut list, &live, basis, z, &layout.steps)?;
+        list.into_cnf(alloc)
+    }
+
+    #[tactic(auto, using(crate::proofs::Chains::within))]
+    fn decode(
+        &self,
+        alloc: Global,
+        spec: &Spec,
+        basis: Basis,
+        r: u32,
+        _part: &Part,
+        assign: &Assign,
+    ) -> Result<Chain, AllocError> {
+        // brings that the tables are within the limits
+        let _n = spec.n();
+        decode_pairs(alloc, spec, basis.swap_closed(), r, assign)
+    }
+}

@@ -1,0 +1,40 @@
+ghost use Rattle.std.specs.Prelude.{◌≡◌};
+ghost use Rattle.fence_core.specs.Fence.{IsFence};
+
+use std::marker::Model;
+
+/// How many steps stand on each level, the first level first, and one at least on each. Contracts see
+/// it as the list of these numbers.
+#[derive(Debug, Drop)]
+pub struct Fence {
+    levels: Vec<u32>,
+}
+
+impl Model for Fence {
+    ghost use Rattle.std.specs.Prelude.{ℕ, List};
+    ghost use Rattle.fence_core.specs.Fence.{IsFence};
+
+    ghost Value = { List ℕ };
+
+    ghost view = { λ fence. fence.levels.items };
+
+    ghost invariant = { λ fence. IsFence fence.levels.items };
+}
+
+impl Fence {
+    /// The fence with so many steps on each level, the first level first.
+    pub fn new(levels: Vec<u32>) -> Fence
+        requires { IsFence levels.items }
+        ensures { result ≡ levels.items }
+    {
+        Fence { levels }
+    }
+
+    /// How many steps stand on each level.
+    pub fn levels(&self) -> &[u32]
+        ensures value { result.now ≡ self.now }
+        ensures whole { IsFence self.now }
+    {
+        &self.levels
+    }
+}
