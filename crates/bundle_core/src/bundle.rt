@@ -1,0 +1,22 @@
+use crate::Section;
+use cert_theory::{Heading, Verdict};
+use chain_core::Chain;
+use std::marker::Model;
+
+/// A certificate: what is searched, the logs of the sizes without a chain, the chain where one was
+/// found, and what it comes to.
+#[derive(Debug, Drop)]
+pub struct Bundle {
+    pub heading: Heading,
+    pub sections: Vec<Section>,
+    pub chain: Option<Chain>,
+    pub verdict: Verdict,
+}
+
+impl Model for Bundle {
+    ghost use Rattle.cert_theory.specs.Bundle as theory;
+
+    ghost Value = { theory.Bundle };
+
+    ghost view = { λ b. record { heading = b.heading; sections = b.sections.items; chain = b.chain; verdict = b.verdict } };
+}

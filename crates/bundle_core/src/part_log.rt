@@ -1,0 +1,21 @@
+use cert_theory::Ended;
+use enc_frame::Part;
+use lrat_text::Log;
+use std::marker::Model;
+
+/// A log over the formula of a part, and how it ends.
+#[derive(Debug, Drop)]
+pub struct PartLog {
+    pub part: Part,
+    pub ended: Ended,
+    pub log: Log,
+}
+
+impl Model for PartLog {
+    ghost use Rattle.lrat_text.specs.Values.{line_values};
+    ghost use Rattle.cert_theory.specs.Bundle as theory;
+
+    ghost Value = { theory.PartLog };
+
+    ghost view = { λ p. record { part = p.part; ended = p.ended; log = line_values p.log.lines.items } };
+}

@@ -1,0 +1,17 @@
+pub mod Binds
+pub mod ChainFaults
+pub mod EmptyClauses
+pub mod FreshLines
+pub mod Meanings
+pub mod LineSpellings
+pub mod BlockReads
+pub mod TableSpellings
+pub mod SectionSpellings
+pub mod BundleSpellings
+pub mod WholeTexts
+pub mod ClauseStates
+pub mod LinesAgain
+pub mod SectionsAgain
+pub mod SectionLists
+pub mod BundlesAgain
+pub mod EndingSpellings

@@ -1,0 +1,35 @@
+-- The formulas that a method gives a size.
+use Rattle.std.specs.Prelude.{ℕ, Bool, true, false, List, [], ◌∷◌, codes}
+use Rattle.sat_theory.specs.Formula.{Formula}
+use Rattle.tt_core.specs.Words.{Words}
+use Rattle.enc_theory.specs.Plain.{plain_formula}
+use Rattle.enc_frame.specs.declared.part.Part.{Part}
+use Rattle.enc_frame.specs.declared.part.Part.TheVariants.{Whole}
+use Rattle.enc_theory.specs.declared.data.Method.{Method}
+use Rattle.enc_theory.specs.declared.data.Method.TheVariants.{Plain, Ssv, Select, Fence}
+
+-- The parts in which a size is searched, in their order, and the formula of a part: of tables, over
+-- the set of operators that a number is, of so many steps.
+pub record Coding : Type 0 where
+  pub parts : Words → ℕ → List Part
+  pub formula : Words → ℕ → ℕ → Part → Formula
+
+abbrev pub plain_coding : Coding
+plain_coding = record { parts = λ w r. Whole ∷ []; formula = λ w basis r part. plain_formula w basis r }
+
+-- the methods whose bundles are known so far
+abbrev pub is_built : Method → Bool
+is_built Plain = true
+is_built Ssv = false
+is_built Select = false
+is_built Fence = false
+
+-- the coding of a method that is built
+unfoldable pub coding_of : Method → Coding
+coding_of method = plain_coding
+
+abbrev pub method_text : Method → List ℕ
+method_text Plain = codes "plain"
+method_text Ssv = codes "ssv"
+method_text Select = codes "select"
+method_text Fence = codes "fence"

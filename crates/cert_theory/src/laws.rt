@@ -1,0 +1,24 @@
+//! What the definitions come to. Each law is the contract of a function that does nothing.
+ghost use Rattle.tt_core.specs.Words.{specification};
+ghost use Rattle.op_basis.specs.Basis.{members};
+ghost use Rattle.enc_theory.specs.declared.data.Method.{Method};
+ghost use Rattle.cert_theory.specs.Coding.{coding_of};
+ghost use Rattle.cert_theory.specs.CodingLaws.{IsCoding};
+ghost use Rattle.cert_theory.specs.Bundle.{Bundle, IsValid};
+ghost use Rattle.cert_theory.specs.Meaning.{Means};
+ghost use Rattle.cert_theory.specs.Spelling.{IsBundle, HasVerdict};
+ghost use Rattle.cert_theory.specs.Judging.{bundle_of};
+ghost use Rattle.cert_theory.specs.declared.data.Verdict.{Verdict};
+ghost use Rattle.text_core.specs.Lines.{lines_of};
+ghost use Rattle.std.specs.Prelude.{◌≡◌, ℕ, List, Ok};
+
+/// The verdict of a valid bundle is true, whoever made it.
+pub fn verdicts_are_true()
+    ensures { (b : Bundle) → IsValid b → Means (specification b.heading.spec) (members b.heading.basis) b.verdict }
+{}
+
+/// Bytes are judged as a verdict exactly where they are the text of a valid bundle that has it.
+pub fn verdicts_are_spelled()
+    ensures only { (bytes : List ℕ) (v : Verdict) → bundle_of (lines_of bytes) ≡ Ok v → HasVerdict bytes v }
+    ensures each { (bytes : List ℕ) (b : Bundle) → IsBundle bytes b → bundle_of (lines_of bytes) ≡ Ok b.verdict }
+{}
