@@ -1,0 +1,105 @@
+//! Sections as they are written.
+ghost use Rattle.std.specs.Prelude.{◌≡◌, ◌∷◌, ◌++◌, decimal, OnOk, OnErr};
+ghost use Rattle.std.specs.List.{flat_map};
+ghost use Rattle.text_core.specs.Lines.{line_bytes};
+ghost use Rattle.lrat_text.specs.Values.{line_values};
+ghost use Rattle.chain_core.specs.Spelling.{line};
+ghost use Rattle.cert_theory.specs.Spelling as spelling;
+ghost use Rattle.bundle_text.specs.Texts.{log_text, parts_text};
+
+use crate::tables::push_numbered;
+use bundle_core::{Ended, PartLog, Section};
+use enc_frame::Part;
+use lrat_text::{Line, write_line};
+use std::alloc::AllocError;
+use text_core::push_number;
+
+/// Appends the sizes of levels, each with a blank before it.
+fn push_levels(text: &mut Vec<u8>, levels: &[u32]) -> Result<(), AllocError>
+    ensures { OnOk result (text.new.items ≡ text.old.items ++ flat_map (λ size. 32 ∷ decimal size) levels.now) }
+{
+    for size in levels {
+        text.push(b' ')?;
+        push_number(text, *size)?;
+    }
+    Ok(())
+}
+
+/// Appends the title of a part: the sizes of the levels of a fence, and nothing for the whole.
+#[tactic(auto, unfolding(cert_theory::specs::Spelling::title_lines))]
+fn push_title(text: &mut Vec<u8>, part: &Part) -> Result<(), AllocError>
+    ensures { OnOk result (text.new.items ≡ text.old.items ++ spelling.text_of (spelling.title_lines part.now)) }
+{
+    let Part::Levels(fence) = part else {
+        return Ok(());
+    };
+    text.extend_from_slice(b"fence")?;
+    push_levels(text, fence.levels())?;
+    text.extend_from_slice(b"\n")
+}
+
+/// Appends the line that begins a log.
+fn push_ended(text: &mut Vec<u8>, ended: Ended) -> Result<(), AllocError>
+    ensures { OnOk result (text.new.items ≡ text.old.items ++ line_bytes (line (spelling.ended_text ended))) }
+{
+    match ended {
+        Ended::Refuted => text.extend_from_slice(b"refuted\n"),
+        Ended::Open => text.extend_from_slice(b"open\n"),
+    }
+}
+
+/// Appends the lines of a log.
+#[tactic(auto, using(crate::proofs::Written::logs))]
+fn push_log(text: &mut Vec<u8>, lines: &[Line]) -> Result<(), AllocError>
+    ensures { OnOk result (text.new.items ≡ text.old.items ++ log_text (line_values lines.now)) }
+{
+    let mut left = lines;
+    while let Some((line, rest)) = left.split_first() {
+        write_line(line, text)?;
+        left = rest;
+    }
+    Ok(())
+}
+
+/// Appends the lines of a part.
+#[tactic(auto, using(crate::proofs::Written::part_pieces))]
+fn push_part(text: &mut Vec<u8>, part: &PartLog) -> Result<(), AllocError>
+    ensures { OnOk result (text.new.items ≡ text.old.items ++ spelling.text_of (spelling.part_lines part.now)) }
+{
+    push_title(text, &part.part)?;
+    push_ended(text, part.ended)?;
+    push_log(text, &part.log.lines)?;
+    text.extend_from_slice(b"done\n")
+}
+
+/// Appends the lines of parts.
+#[tactic(auto, using(crate::proofs::Written::parts))]
+fn push_parts(text: &mut Vec<u8>, parts: &[PartLog]) -> Result<(), AllocError>
+    ensures { OnOk result (text.new.items ≡ text.old.items ++ parts_text parts.now) }
+{
+    let mut left = parts;
+    while let Some((part, rest)) = left.split_first() {
+        push_part(text, part)?;
+        left = rest;
+    }
+    Ok(())
+}
+
+/// Appends the lines of a section.
+#[tactic(auto, using(crate::proofs::Written::section_pieces), unfolding(cert_theory::specs::Spelling::size_line))]
+pub fn push_section(text: &mut Vec<u8>, section: &Section) -> Result<(), AllocError>
+    ensures { OnOk result (text.new.items ≡ text.old.items ++ spelling.text_of (spelling.section_lines section.now)) }
+{
+    push_numbered(text, b"size ", section.size)?;
+    push_parts(text, &section.parts)
+}
+
+/// Appends the lines of a section. On an error nothing was written.
+pub fn write_section(section: &Section, out: &mut Vec<u8>) -> Result<(), AllocError>
+    ensures ok { OnOk result (out.new.items ≡ out.old.items ++ spelling.text_of (spelling.section_lines section.now)) }
+    ensures err { OnErr result (out.new.items ≡ out.old.items) }
+{
+    let mut text = Vec::new(*out.allocator());
+    push_section(&mut text, section)?;
+    out.extend_from_slice(&text)
+}

@@ -1,0 +1,67 @@
+-- Lines of a chain block.
+use Rattle.std.proofs.Common.{◌≡◌, ℕ, ◌<◌, ◌==◌, Bool, false, cond, List, [], ◌∷◌, ◌++◌, length, Option, Result, Ok, refl, sym, ap, ◌∙◌, arith}
+use Rattle.std.proofs.lemmas.Bool.Decides.{nat_tests}
+use Rattle.text_core.specs.Lines.{Line}
+use Rattle.chain_theory.specs.Chain.{Step}
+use Rattle.chain_theory.specs.declared.data.Out.{Out}
+use Rattle.chain_core.specs.declared.frame.Frame.{Frame}
+use Rattle.chain_core.specs.declared.error.ChainError.{ChainError}
+use Rattle.chain_core.specs.Block.{◌>>=◌, steps_from, step_at, outs_from, out_at, body_from}
+use Rattle.chain_core.specs.Reading as reading
+use Rattle.chain_core.proofs.BlockLoops.{steps_done}
+use Rattle.cert_theory.specs.declared.data.Heading.{Heading}
+use Rattle.cert_theory.specs.declared.data.BundleError.{BundleError}
+use Rattle.cert_theory.specs.Judging.{with_block, frame_of}
+use Rattle.cert_theory.specs.Gives.{Fails}
+use Rattle.cert_file.specs.Stages.{outs_then, steps_then}
+use Rattle.cert_file.specs.Refusals.{IsRefusal}
+use Rattle.cert_file.proofs.Refusing.{block_fails, fails_on}
+
+not_yet : (m n : ℕ) → m < n → (m == n) ≡ false
+not_yet m n less = grind (arith, nat_tests)
+
+-- ---- the first line
+
+pub body_is : (f : Frame) (ls : List Line) → body_from f ls ≡ steps_then f (steps_from f [] ls)
+unfolding body_from
+body_is f ls = refl
+
+-- the frame that a block is judged by
+pub frame_is : (h : Heading) (number steps n outputs : ℕ) → n ≡ h.spec.n → outputs ≡ length h.spec.on → frame_of h number steps ≡ record { first_line = number; n = n; outputs = outputs; steps = steps }
+frame_is h number steps n outputs inputs_is outputs_is = λ i. record { first_line = number; n = sym inputs_is i; outputs = sym outputs_is i; steps = steps }
+
+-- ---- steps
+
+step_is : (f : Frame) (steps : List Step) (l : Line) (ls : List Line) → length steps < f.steps → steps_from f steps (l ∷ ls) ≡ (step_at f (length steps) l >>= λ s. steps_from f (steps ++ s ∷ []) ls)
+unfolding steps_from
+step_is f steps l ls due = ap (λ (b : Bool). cond b (Ok (steps, l ∷ ls)) (step_at f (length steps) l >>= λ s. steps_from f (steps ++ s ∷ []) ls)) (not_yet (length steps) f.steps due)
+
+pub step_fails : (h : Heading) (f : Frame) (low : Option ℕ) (steps : List Step) (done : ℕ) (l : Line) (ls : List Line) (error : ChainError) (e : BundleError) → done ≡ length steps → length steps < f.steps → reading.Fails error (step_at f done l) → IsRefusal error e → Fails e (with_block h f low (steps_then f (steps_from f steps (l ∷ ls))))
+step_fails h f low steps done l ls error e same due fails is =
+    block_fails h f low (steps_then f (steps_from f steps (l ∷ ls))) error e
+    (fails_on error (step_at f done l) (steps_then f (steps_from f steps (l ∷ ls)))
+    (λ d told. ap (steps_then f) (step_is f steps l ls due ∙ ap (λ (r : Result Step ChainError). r >>= λ s. steps_from f (steps ++ s ∷ []) ls) (ap (λ (n : ℕ). step_at f n l) (sym same) ∙ told))) fails) is
+
+pub step_goes : (h : Heading) (f : Frame) (low : Option ℕ) (steps : List Step) (done : ℕ) (l : Line) (ls : List Line) (s : Step) → done ≡ length steps → length steps < f.steps → step_at f done l ≡ Ok s → with_block h f low (steps_then f (steps_from f steps (l ∷ ls))) ≡ with_block h f low (steps_then f (steps_from f (steps ++ s ∷ []) ls))
+step_goes h f low steps done l ls s same due read =
+    ap (λ (r : Result (List Step × List Line) ChainError). with_block h f low (steps_then f r)) (step_is f steps l ls due ∙ ap (λ (r : Result Step ChainError). r >>= λ s. steps_from f (steps ++ s ∷ []) ls) (ap (λ (n : ℕ). step_at f n l) (sym same) ∙ read))
+
+-- all steps were read
+pub steps_end : (h : Heading) (f : Frame) (low : Option ℕ) (steps : List Step) (ls : List Line) → length steps ≡ f.steps → with_block h f low (steps_then f (steps_from f steps ls)) ≡ with_block h f low (outs_then f steps (outs_from f [] ls))
+steps_end h f low steps ls all = ap (λ (r : Result (List Step × List Line) ChainError). with_block h f low (steps_then f r)) (steps_done f steps ls all)
+
+-- ---- outs
+
+out_is : (f : Frame) (os : List Out) (l : Line) (ls : List Line) → length os < f.outputs → outs_from f os (l ∷ ls) ≡ (out_at f (length os) l >>= λ o. outs_from f (os ++ o ∷ []) ls)
+unfolding outs_from
+out_is f os l ls due = ap (λ (b : Bool). cond b (Ok (os, l ∷ ls)) (out_at f (length os) l >>= λ o. outs_from f (os ++ o ∷ []) ls)) (not_yet (length os) f.outputs due)
+
+pub out_fails : (h : Heading) (f : Frame) (low : Option ℕ) (steps : List Step) (os : List Out) (done : ℕ) (l : Line) (ls : List Line) (error : ChainError) (e : BundleError) → done ≡ length os → length os < f.outputs → reading.Fails error (out_at f done l) → IsRefusal error e → Fails e (with_block h f low (outs_then f steps (outs_from f os (l ∷ ls))))
+out_fails h f low steps os done l ls error e same due fails is =
+    block_fails h f low (outs_then f steps (outs_from f os (l ∷ ls))) error e
+    (fails_on error (out_at f done l) (outs_then f steps (outs_from f os (l ∷ ls)))
+    (λ d told. ap (outs_then f steps) (out_is f os l ls due ∙ ap (λ (r : Result Out ChainError). r >>= λ o. outs_from f (os ++ o ∷ []) ls) (ap (λ (n : ℕ). out_at f n l) (sym same) ∙ told))) fails) is
+
+pub out_goes : (h : Heading) (f : Frame) (low : Option ℕ) (steps : List Step) (os : List Out) (done : ℕ) (l : Line) (ls : List Line) (o : Out) → done ≡ length os → length os < f.outputs → out_at f done l ≡ Ok o → with_block h f low (outs_then f steps (outs_from f os (l ∷ ls))) ≡ with_block h f low (outs_then f steps (outs_from f (os ++ o ∷ []) ls))
+out_goes h f low steps os done l ls o same due read =
+    ap (λ (r : Result (List Out × List Line) ChainError). with_block h f low (outs_then f steps r)) (out_is f os l ls due ∙ ap (λ (r : Result Out ChainError). r >>= λ o. outs_from f (os ++ o ∷ []) ls) (ap (λ (n : ℕ). out_at f n l) (sym same) ∙ read))

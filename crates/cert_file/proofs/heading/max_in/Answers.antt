@@ -1,0 +1,13 @@
+-- A number that was read is within its limit.
+use Rattle.std.proofs.Common.{◌≡◌, ◌≤◌, ℕ, Option, Some, None, List, sym, arith}
+use Rattle.std.specs.Prelude.{IfSome}
+use Rattle.text_core.specs.Numbers.{number_up_to}
+use Rattle.text_core.specs.ReadBack.{number_spells}
+use Rattle.cert_file.proofs.heading.max_in.Goals as goal
+
+within : (o : Option ℕ) (text : List ℕ) → o ≡ number_up_to 16 text → IfSome o (λ n. n ≤ 16)
+within None text e = tt
+within (Some n) text e = (number_spells 16 n text (omega arith) (sym e)).0
+
+pub returns-clause-small : goal.returns-clause-small
+returns-clause-small c = within c.number_up_to.result c.in_ok-word.word.now c.number_up_to.ensures

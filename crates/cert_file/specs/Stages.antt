@@ -1,0 +1,115 @@
+-- What a stage says of the lines that were read: which answer a text has with the lines that come next.
+use Rattle.std.specs.Prelude.{◌≡◌, ℕ, ◌+◌, ◌≤◌, ◌<◌, List, [], length, All, Option, Some, None, Result, Ok, Err}
+use Rattle.text_core.specs.Lines.{Line}
+use Rattle.sat_theory.specs.Line as theory
+use Rattle.sat_theory.specs.Log.{added_ids}
+use Rattle.lrat_check.specs.Checked.{Checked, HasAccepted}
+use Rattle.chain_theory.specs.Chain as chain
+use Rattle.chain_theory.specs.declared.data.Out.{Out}
+use Rattle.tt_core.specs.Words.{IsSpec}
+use Rattle.tt_core.specs.Tables.{tables_of, rows_of}
+use Rattle.chain_core.specs.Block as block
+use Rattle.chain_core.specs.Block.{◌>>=◌}
+use Rattle.chain_core.specs.Steps.{steps_of}
+use Rattle.chain_core.specs.declared.frame.Frame.{Frame}
+use Rattle.chain_core.specs.declared.step.Step.{Step}
+use Rattle.chain_core.specs.declared.error.ChainError.{ChainError}
+use Rattle.cert_theory.specs.declared.data.Heading.{Heading}
+use Rattle.cert_theory.specs.declared.data.Ended.{Ended}
+use Rattle.cert_theory.specs.declared.data.Verdict.{Verdict}
+use Rattle.cert_theory.specs.declared.data.BundleError.{BundleError}
+use Rattle.cert_theory.specs.Gives.{Fails}
+use Rattle.cert_theory.specs.Judging.{with_block, whole_of, Between, Begun, Within, with_tables, behind_basis, behind_method, behind_conflicts, sections_of, behind_chain, end_of, nothing_behind, bundle_of}
+use Rattle.cert_file.specs.declared.stage.Stage.{Stage}
+use Rattle.cert_file.specs.declared.stage.Stage.TheVariants as stages
+
+abbrev pub Answer : Type 0
+Answer = Result Verdict BundleError
+
+-- what is known of a heading that was read
+pub record IsKnown (h : Heading) : Type 0 where
+  pub output : 0 < length h.spec.on
+  pub basis : 0 < h.basis
+  pub max : h.max ≤ 16
+
+-- behind the first line of a chain block
+pub record IsFrame (h : Heading) (f : Frame) : Type 0 where
+  pub known : IsKnown h
+  pub n : f.n ≡ h.spec.n
+  pub outputs : f.outputs ≡ length h.spec.on
+  pub steps : f.steps ≤ 16
+
+-- these steps of the block were read, and there is one more
+pub record AreRead (h : Heading) (f : Frame) (steps : List Step) (number : ℕ) : Type 0 where
+  pub frame : IsFrame h f
+  pub due : length steps < f.steps
+  pub steps_are : chain.AreSteps f.n (steps_of steps)
+  pub number_is : number ≡ f.first_line + 1 + length steps
+
+-- all steps and these outs were read, and there is one more out
+pub record AreNamed (h : Heading) (f : Frame) (steps : List Step) (os : List Out) (number : ℕ) : Type 0 where
+  pub frame : IsFrame h f
+  pub due : length os < f.outputs
+  pub count : length steps ≡ f.steps
+  pub steps_are : chain.AreSteps f.n (steps_of steps)
+  pub named : All (chain.NamesPlace (f.n + f.steps)) os
+  pub number_is : number ≡ f.first_line + 1 + f.steps + length os
+
+-- what a stage keeps, where the next line has this number
+abbrev pub IsStage : Stage → ℕ → Type 0
+IsStage stages.Start number = number ≡ 1
+IsStage stages.Inputs number = number ≡ 2
+IsStage (stages.Tables n on care) number = (number ≡ 3 + length on.items) × IsSpec (record { n = n; on = on.items; care = care.items })
+IsStage (stages.Methods spec basis) number = (0 < basis) × (0 < length spec.on)
+IsStage (stages.Conflicts spec basis method) number = (0 < basis) × (0 < length spec.on)
+IsStage (stages.Sizes spec basis method conflicts) number = (0 < basis) × (0 < length spec.on)
+IsStage (stages.Between h size low) number = IsKnown h
+IsStage (stages.Begun h size low) number = IsKnown h × (size ≤ h.max)
+IsStage (stages.Within h size low ended checker additions) number = IsKnown h × (size ≤ h.max) × (additions ≤ number)
+IsStage (stages.Steps h low f steps) number = AreRead h f steps.items number
+IsStage (stages.Outs h low f steps os) number = AreNamed h f steps.items os.items number
+IsStage (stages.Found size low) number = Unit {0}
+IsStage (stages.End verdict) number = Unit {0}
+IsStage (stages.Done verdict) number = Unit {0}
+
+-- the verdict, where nothing is due
+abbrev pub verdict_in : Stage → Option Verdict
+verdict_in (stages.Done verdict) = Some verdict
+verdict_in stage = None
+
+-- In a log: a checker has accepted the lines before.
+pub record IsLogging (h : Heading) (size : ℕ) (low : Option ℕ) (ended : Ended) (checker : Checked) (additions number : ℕ) (lines : List Line) (answer : Answer) : Type 0 where
+  pub log : List theory.Line
+  pub accepted : HasAccepted (whole_of h size) log checker
+  pub count : additions ≡ length (added_ids log)
+  pub answer_is : answer ≡ sections_of h number (record { size = size; low = low; place = Within ended log }) lines
+
+-- the block whose outs were read
+abbrev pub outs_then : Frame → List chain.Step → Result (List Out × List Line) ChainError → Result block.Read ChainError
+outs_then f steps read = read >>= λ os. Ok (record { chain = record { n = f.n; steps = steps; outs = os.0 }; rest = os.1 })
+
+-- the block whose steps were read
+abbrev pub steps_then : Frame → Result (List chain.Step × List Line) ChainError → Result block.Read ChainError
+steps_then f read = read >>= λ s. outs_then f s.0 (block.outs_from f [] s.1)
+
+-- The answer of a text, where these lines come next.
+abbrev pub Stands : Stage → ℕ → List Line → Answer → Type 0
+Stands stages.Start number lines answer = answer ≡ bundle_of lines
+Stands stages.Inputs number lines answer = answer ≡ with_tables (tables_of lines)
+Stands (stages.Tables n on care) number lines answer = answer ≡ with_tables (rows_of (record { n = n; on = on.items; care = care.items }) lines)
+Stands (stages.Methods spec basis) number lines answer = answer ≡ behind_basis spec basis number lines
+Stands (stages.Conflicts spec basis method) number lines answer = answer ≡ behind_method spec basis method number lines
+Stands (stages.Sizes spec basis method conflicts) number lines answer = answer ≡ behind_conflicts spec basis method conflicts number lines
+Stands (stages.Between h size low) number lines answer = answer ≡ sections_of h number (record { size = size; low = low; place = Between }) lines
+Stands (stages.Begun h size low) number lines answer = answer ≡ sections_of h number (record { size = size; low = low; place = Begun }) lines
+Stands (stages.Within h size low ended checker additions) number lines answer = IsLogging h size low ended checker additions number lines answer
+Stands (stages.Steps h low f steps) number lines answer = answer ≡ with_block h f low (steps_then f (block.steps_from f (steps_of steps.items) lines))
+Stands (stages.Outs h low f steps os) number lines answer = answer ≡ with_block h f low (outs_then f (steps_of steps.items) (block.outs_from f os.items lines))
+Stands (stages.Found size low) number lines answer = answer ≡ behind_chain number size low lines
+Stands (stages.End verdict) number lines answer = answer ≡ end_of number verdict lines
+Stands (stages.Done verdict) number lines answer = answer ≡ nothing_behind number verdict lines
+
+-- after one more line: a stage stands for what comes next, or the line is at fault, whatever comes next
+abbrev pub Judged : Result Stage BundleError → ℕ → List Line → Answer → Type 0
+Judged (Ok stage) number lines answer = Stands stage number lines answer
+Judged (Err e) number lines answer = Fails e answer

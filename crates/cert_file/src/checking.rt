@@ -1,0 +1,139 @@
+//! Bundles, line after line.
+ghost use Rattle.std.specs.Prelude.{◌≡◌, ◌+◌, ◌^◌, ◌<◌, List, [], ◌∷◌, length, IfOk, Ok};
+ghost use Rattle.text_core.specs.Lines.{Line, lines_of};
+ghost use Rattle.cert_theory.specs.Gives.{Gives};
+ghost use Rattle.tt_core.specs.Words.{specification};
+ghost use Rattle.op_basis.specs.Basis.{members};
+ghost use Rattle.cert_theory.specs.Bundle.{Bundle};
+ghost use Rattle.cert_theory.specs.Meaning.{Means};
+ghost use Rattle.cert_theory.specs.Spelling.{IsBundle, HasVerdict};
+ghost use Rattle.cert_theory.specs.Judging.{bundle_of};
+ghost use Rattle.cert_file.specs.Stages as stages;
+ghost use Rattle.cert_file.specs.Stages.{Answer, IsStage, Stands, Judged};
+
+use crate::ending::{at_end, at_found, at_outs, at_steps};
+use crate::heading::{at_conflicts, at_inputs, at_max, at_method, at_start, at_tables};
+use crate::logs::{at_begun, at_within};
+use crate::sections::at_between;
+use crate::stage::Stage;
+use cert_theory::{BundleError, Verdict};
+use std::alloc::Global;
+use text_core::next_line;
+
+/// Takes the next line.
+fn take(
+    alloc: Global,
+    stage: Stage,
+    text: &[u8],
+    ended: bool,
+    number: u32,
+) -> Result<Stage, BundleError>
+    requires stage { IsStage stage number }
+    requires number { number < 2 ^ 31 }
+    ensures keeps { IfOk result (λ s. IsStage s (number + 1)) }
+    ensures answer { (lines ls : List Line) (answer : Answer) → Stands stage number lines answer → lines ≡ record { text = text.now; ended = ended } ∷ ls → Judged result (number + 1) ls answer }
+{
+    match stage {
+        Stage::Start => at_start(text, ended),
+        Stage::Inputs => at_inputs(alloc, text, ended),
+        Stage::Tables { n, on, care } => at_tables(alloc, n, on, care, text, ended),
+        Stage::Methods { spec, basis } => at_method(spec, basis, text, ended, number),
+        Stage::Conflicts {
+            spec,
+            basis,
+            method,
+        } => at_conflicts(spec, basis, method, text, ended, number),
+        Stage::Sizes {
+            spec,
+            basis,
+            method,
+            conflicts,
+        } => at_max(spec, basis, method, conflicts, text, ended, number),
+        Stage::Between { heading, size, low } => {
+            at_between(alloc, heading, size, low, text, ended, number)
+        }
+        Stage::Begun { heading, size, low } => {
+            at_begun(alloc, heading, size, low, text, ended, number)
+        }
+        Stage::Within {
+            heading,
+            size,
+            low,
+            ended: end,
+            checker,
+            additions,
+        } => at_within(
+            alloc, heading, size, low, end, checker, additions, text, ended, number,
+        ),
+        Stage::Steps {
+            heading,
+            low,
+            frame,
+            steps,
+        } => at_steps(alloc, heading, low, frame, steps, text, ended, number),
+        Stage::Outs {
+            heading,
+            low,
+            frame,
+            steps,
+            outs,
+        } => at_outs(heading, low, frame, steps, outs, text, ended, number),
+        Stage::Found { size, low } => at_found(size, low, text, ended, number),
+        Stage::End { verdict } => at_end(verdict, text, ended, number),
+        Stage::Done { .. } => Err(BundleError::Syntax(number)),
+    }
+}
+
+/// The verdict, where nothing is due.
+fn verdict_in(stage: Stage) -> Option<Verdict>
+    ensures { result ≡ stages.verdict_in stage }
+{
+    match stage {
+        Stage::Done { verdict } => Some(verdict),
+        _ => None,
+    }
+}
+
+/// What the lines come to, where none is left.
+fn finish(stage: Stage, number: u32) -> Result<Verdict, BundleError>
+    requires { IsStage stage number }
+    ensures { (answer : Answer) → Stands stage number [] answer → Gives (λ v. v) result answer }
+{
+    let Some(verdict) = verdict_in(stage) else {
+        return Err(BundleError::Syntax(number));
+    };
+    Ok(verdict)
+}
+
+/// Judges as the definition says.
+fn judge(alloc: Global, bytes: &[u8]) -> Result<Verdict, BundleError>
+    requires { length bytes.now < 2 ^ 31 }
+    ensures { Gives (λ v. v) result (bundle_of (lines_of bytes.now)) }
+{
+    let mut stage = Stage::Start;
+    let mut number = 1u32;
+    let mut left = bytes;
+    while let Some((text, ended, rest)) = next_line(left) {
+        stage = take(alloc, stage, text, ended, number)?;
+        number += 1;
+        left = rest;
+    }
+    finish(stage, number)
+}
+
+/// Judges a text as a bundle: its verdict where it is the text of a valid one, else its first fault.
+/// It costs time in the text and in the formulas of its sizes, in open parts also in the clauses that
+/// newness is asked of; and memory in the live clauses of one part and in one line.
+pub fn check_bundle(alloc: Global, bytes: &[u8]) -> Result<Verdict, BundleError>
+    requires { length bytes.now < 2 ^ 31 }
+    // What has a verdict is the text of a valid bundle that has it, and each such text has one.
+    ensures verdict { IfOk result (λ v. HasVerdict bytes.now v) }
+    ensures accepted { (b : Bundle) → IsBundle bytes.now b → Gives (λ v. v) result (Ok b.verdict) }
+    // The verdict is true of the tables and the basis that the text tells.
+    ensures means { IfOk result (λ v. (b : Bundle) → IsBundle bytes.now b →
+        Means (specification b.heading.spec) (members b.heading.basis) v) }
+    // It is refused exactly where the definition has a fault, with the first from the top.
+    ensures exact { Gives (λ v. v) result (bundle_of (lines_of bytes.now)) }
+{
+    judge(alloc, bytes)
+}

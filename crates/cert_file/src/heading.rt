@@ -1,0 +1,238 @@
+//! The lines of the heading.
+ghost use Rattle.std.specs.Prelude.{◌≡◌, ◌+◌, ◌<◌, ◌≤◌, List, ◌∷◌, length, IfOk, IfSome};
+ghost use Rattle.text_core.specs.Lines.{Line};
+ghost use Rattle.tt_core.specs.Words.{IsSpec};
+ghost use Rattle.tt_core.specs.Tables as tables;
+ghost use Rattle.cert_theory.specs.Judging as judging;
+ghost use Rattle.cert_file.specs.Stages.{Answer, Judged, IsStage};
+
+use crate::lines::{is_line, value_of};
+use crate::stage::Stage;
+use cert_theory::{BundleError, Heading};
+use enc_frame::Method;
+use op_basis::{Basis, read_basis, write_basis};
+use std::alloc::{AllocError, Global};
+use text_core::{begins_lower, number_up_to};
+use tt_core::{Spec, are_cells, inputs, push_row};
+
+/// The first line.
+#[tactic(auto, unfolding(cert_theory::specs::Judging::bundle_of))]
+pub(crate) fn at_start(text: &[u8], ended: bool) -> Result<Stage, BundleError>
+    ensures keeps { IfOk result (λ s. IsStage s 2) }
+    ensures answer { (ls : List Line) (answer : Answer) → answer ≡ judging.bundle_of (record { text = text.now; ended = ended } ∷ ls) → Judged result 2 ls answer }
+{
+    if !is_line(b"chains 1", text, ended) {
+        return Err(BundleError::Syntax(1));
+    }
+    Ok(Stage::Inputs)
+}
+
+/// The number of inputs.
+#[tactic(auto, unfolding(cert_theory::specs::Judging::with_tables))]
+pub(crate) fn at_inputs(alloc: Global, text: &[u8], ended: bool) -> Result<Stage, BundleError>
+    ensures keeps { IfOk result (λ s. IsStage s 3) }
+    ensures answer { (ls : List Line) (answer : Answer) → answer ≡ judging.with_tables (tables.tables_of (record { text = text.now; ended = ended } ∷ ls)) → Judged result 3 ls answer }
+{
+    let Some(n) = inputs(text, ended) else {
+        return Err(BundleError::Syntax(2));
+    };
+    if n > 6 {
+        return Err(BundleError::Syntax(2));
+    }
+    Ok(Stage::Tables {
+        n,
+        on: Vec::new(alloc),
+        care: Vec::new(alloc),
+    })
+}
+
+/// The basis of a line, where it is spelled as it is written.
+#[tactic(auto, unfolding(cert_theory::specs::Judging::basis_in))]
+fn basis_in(alloc: Global, text: &[u8], ended: bool) -> Result<Option<Basis>, AllocError>
+    ensures exact { IfOk result (λ basis. basis ≡ judging.basis_in (record { text = text.now; ended = ended })) }
+    ensures some { IfOk result (λ basis. IfSome basis (λ b. 0 < b)) }
+{
+    let Some(word) = value_of(b"basis ", text, ended) else {
+        return Ok(None);
+    };
+    let Ok(basis) = read_basis(word) else {
+        return Ok(None);
+    };
+    let mut spelling = Vec::new(alloc);
+    write_basis(basis, &mut spelling)?;
+    if word != spelling.as_slice() {
+        return Ok(None);
+    }
+    Ok(Some(basis))
+}
+
+/// The line behind the tables, which is that of the basis.
+#[tactic(auto, unfolding(cert_theory::specs::Judging::with_tables, cert_theory::specs::Judging::behind_tables))]
+fn at_basis(
+    alloc: Global,
+    n: u32,
+    on: Vec<u64>,
+    care: Vec<u64>,
+    text: &[u8],
+    ended: bool,
+) -> Result<Stage, BundleError>
+    requires { IsSpec (record { n = n; on = on.items; care = care.items }) }
+    ensures keeps { IfOk result (λ s. IsStage s (4 + length on.items)) }
+    ensures answer { (ls : List Line) (answer : Answer) → answer ≡ judging.with_tables (tables.end_of (record { n = n; on = on.items; care = care.items }) (record { text = text.now; ended = ended } ∷ ls)) → Judged result (4 + length on.items) ls answer }
+{
+    let number = 3 + on.len() as u32;
+    if on.is_empty() {
+        return Err(BundleError::Syntax(number));
+    }
+    let Some(basis) = basis_in(alloc, text, ended)? else {
+        return Err(BundleError::Syntax(number));
+    };
+    Ok(Stage::Methods {
+        spec: Spec::new(n, on, care),
+        basis,
+    })
+}
+
+/// A table, or the line behind the tables.
+#[tactic(auto, unfolding(cert_theory::specs::Judging::with_tables, tt_core::specs::Tables::rows_of))]
+pub(crate) fn at_tables(
+    alloc: Global,
+    n: u32,
+    on: Vec<u64>,
+    care: Vec<u64>,
+    text: &[u8],
+    ended: bool,
+) -> Result<Stage, BundleError>
+    requires { IsSpec (record { n = n; on = on.items; care = care.items }) }
+    ensures keeps { IfOk result (λ s. IsStage s (4 + length on.items)) }
+    ensures answer { (ls : List Line) (answer : Answer) → answer ≡ judging.with_tables (tables.rows_of (record { n = n; on = on.items; care = care.items }) (record { text = text.now; ended = ended } ∷ ls)) → Judged result (4 + length on.items) ls answer }
+{
+    if begins_lower(text) {
+        return at_basis(alloc, n, on, care, text, ended);
+    }
+    let number = 3 + on.len() as u32;
+    if on.len() == 8 || !ended || text.is_empty() || !are_cells(text) || text.len() != 1 << n {
+        return Err(BundleError::Syntax(number));
+    }
+    let mut on = on;
+    let mut care = care;
+    push_row(n, &mut on, &mut care, text)?;
+    Ok(Stage::Tables { n, on, care })
+}
+
+/// The method of a line, where it is built.
+#[tactic(auto, unfolding(cert_theory::specs::Judging::method_in))]
+fn method_in(text: &[u8], ended: bool) -> Option<Method>
+    ensures { result ≡ judging.method_in (record { text = text.now; ended = ended }) }
+{
+    let word = value_of(b"method ", text, ended)?;
+    if word != b"plain".as_slice() {
+        return None;
+    }
+    Some(Method::Plain)
+}
+
+/// The method.
+#[tactic(auto, unfolding(cert_theory::specs::Judging::behind_basis))]
+pub(crate) fn at_method(
+    spec: Spec,
+    basis: Basis,
+    text: &[u8],
+    ended: bool,
+    number: u32,
+) -> Result<Stage, BundleError>
+    requires basis { 0 < basis }
+    requires output { 0 < length spec.on }
+    ensures keeps { IfOk result (λ s. IsStage s (number + 1)) }
+    ensures answer { (ls : List Line) (answer : Answer) → answer ≡ judging.behind_basis spec basis number (record { text = text.now; ended = ended } ∷ ls) → Judged result (number + 1) ls answer }
+{
+    let Some(method) = method_in(text, ended) else {
+        return Err(BundleError::Syntax(number));
+    };
+    Ok(Stage::Conflicts {
+        spec,
+        basis,
+        method,
+    })
+}
+
+/// The number of conflicts of a line, from 1 to 10,000,000.
+#[tactic(auto, unfolding(cert_theory::specs::Judging::conflicts_in))]
+fn conflicts_in(text: &[u8], ended: bool) -> Option<u32>
+    ensures { result ≡ judging.conflicts_in (record { text = text.now; ended = ended }) }
+{
+    let conflicts = number_up_to(10_000_000, value_of(b"conflicts ", text, ended)?)?;
+    if conflicts == 0 {
+        return None;
+    }
+    Some(conflicts)
+}
+
+/// The number of conflicts.
+#[tactic(auto, unfolding(cert_theory::specs::Judging::behind_method))]
+pub(crate) fn at_conflicts(
+    spec: Spec,
+    basis: Basis,
+    method: Method,
+    text: &[u8],
+    ended: bool,
+    number: u32,
+) -> Result<Stage, BundleError>
+    requires basis { 0 < basis }
+    requires output { 0 < length spec.on }
+    ensures keeps { IfOk result (λ s. IsStage s (number + 1)) }
+    ensures answer { (ls : List Line) (answer : Answer) → answer ≡ judging.behind_method spec basis method number (record { text = text.now; ended = ended } ∷ ls) → Judged result (number + 1) ls answer }
+{
+    let Some(conflicts) = conflicts_in(text, ended) else {
+        return Err(BundleError::Syntax(number));
+    };
+    Ok(Stage::Sizes {
+        spec,
+        basis,
+        method,
+        conflicts,
+    })
+}
+
+/// The greatest size of a line, at most 16.
+#[tactic(auto, unfolding(cert_theory::specs::Judging::max_in))]
+fn max_in(text: &[u8], ended: bool) -> Option<u32>
+    ensures exact { result ≡ judging.max_in (record { text = text.now; ended = ended }) }
+    ensures small { IfSome result (λ max. max ≤ 16) }
+{
+    let word = value_of(b"max ", text, ended)?;
+    number_up_to(16, word)
+}
+
+/// The greatest size.
+#[tactic(auto, unfolding(cert_theory::specs::Judging::behind_conflicts))]
+pub(crate) fn at_max(
+    spec: Spec,
+    basis: Basis,
+    method: Method,
+    conflicts: u32,
+    text: &[u8],
+    ended: bool,
+    number: u32,
+) -> Result<Stage, BundleError>
+    requires basis { 0 < basis }
+    requires output { 0 < length spec.on }
+    ensures keeps { IfOk result (λ s. IsStage s (number + 1)) }
+    ensures answer { (ls : List Line) (answer : Answer) → answer ≡ judging.behind_conflicts spec basis method conflicts number (record { text = text.now; ended = ended } ∷ ls) → Judged result (number + 1) ls answer }
+{
+    let Some(max) = max_in(text, ended) else {
+        return Err(BundleError::Syntax(number));
+    };
+    let heading = Heading {
+        spec,
+        basis,
+        method,
+        conflicts,
+        max,
+    };
+    Ok(Stage::Between {
+        heading,
+        size: 0,
+        low: None,
+    })
+}

@@ -1,0 +1,27 @@
+//! Certificates of the fewest steps as texts, judged line by line. It stands on
+//! `cert_theory` for what a valid bundle is, how it is spelled and what its verdict means, on
+//! `lrat_check` for logs, and on the encodings for the formulas that logs refute.
+//!
+//! The theorem is that of `check_bundle`: bytes get a verdict exactly where they are the text of a
+//! valid bundle that has it, and the verdict is true; else the first fault is told. A text is judged
+//! a line at a time, and of the logs no more is kept than one part's checker.
+//!
+//! ```text
+//! let verdict = check_bundle(alloc, &bytes)?; // Verdict::Minimum(1) for XOR
+//! ```
+#![tactic(auto)]
+
+mod checking;
+mod ending;
+mod formulas;
+mod heading;
+mod lines;
+mod logs;
+mod sections;
+mod stage;
+
+pub use cert_theory::{BundleError, Ended, Heading, Verdict};
+pub use checking::check_bundle;
+
+#[cfg(test)]
+mod tests;

@@ -1,0 +1,236 @@
+//! The lines of a log, and its end.
+ghost use Rattle.std.specs.Prelude.{◌≡◌, ◌+◌, ◌<◌, ◌≤◌, ◌^◌, List, [], ◌∷◌, length, IfOk};
+ghost use Rattle.text_core.specs.Lines as lines;
+ghost use Rattle.sat_theory.specs.Line as theory;
+ghost use Rattle.sat_theory.specs.Line.{IsLine, HasClause};
+ghost use Rattle.sat_theory.specs.Formula.{Formula};
+ghost use Rattle.sat_theory.specs.Log.{added_ids};
+ghost use Rattle.lrat_text.specs.Values.{line_value};
+ghost use Rattle.lrat_check.specs.Checked.{HasAccepted};
+ghost use Rattle.cert_theory.specs.Gives.{Gives};
+ghost use Rattle.cert_theory.specs.Judging as judging;
+ghost use Rattle.cert_file.specs.Logged.{IsLogged, IsRefusal, MayAdd, added_by, is_new_to};
+ghost use Rattle.cert_file.specs.Stages.{Answer, Judged, IsStage, IsKnown, IsLogging};
+
+use crate::formulas::formula_of;
+use crate::lines::is_line;
+use crate::stage::Stage;
+use cert_theory::{BundleError, Ended, Heading};
+use cnf_core::Cnf;
+use lrat_check::{CheckError, Checker};
+use lrat_text::{Line, LineError, read_line};
+use std::alloc::{AllocError, Global};
+
+/// How a log ends, by its first line.
+#[tactic(auto, unfolding(cert_theory::specs::Judging::ended_at))]
+fn ended_at(text: &[u8], ended: bool, number: u32) -> Result<Ended, BundleError>
+    ensures { Gives (λ x. x) result (judging.ended_at number (record { text = text.now; ended = ended })) }
+{
+    if is_line(b"refuted", text, ended) {
+        return Ok(Ended::Refuted);
+    }
+    if is_line(b"open", text, ended) {
+        return Ok(Ended::Open);
+    }
+    Err(BundleError::Syntax(number))
+}
+
+/// A checker of a formula. Only an open part asks of each clause whether it is new.
+fn checker_of(alloc: Global, cnf: Cnf, end: Ended) -> Result<Checker, AllocError>
+    ensures { IfOk result (HasAccepted cnf []) }
+{
+    match end {
+        Ended::Refuted => Checker::new(alloc, cnf),
+        Ended::Open => Checker::indexed(alloc, cnf),
+    }
+}
+
+/// The line that begins the log of a size.
+pub(crate) fn at_begun(
+    alloc: Global,
+    heading: Heading,
+    size: u32,
+    low: Option<u32>,
+    text: &[u8],
+    ended: bool,
+    number: u32,
+) -> Result<Stage, BundleError>
+    requires known { IsKnown heading }
+    requires size { size ≤ heading.max }
+    ensures keeps { IfOk result (λ s. IsStage s (number + 1)) }
+    ensures answer { (ls : List lines.Line) (answer : Answer) → answer ≡ judging.sections_of heading number (record { size = size; low = low; place = judging.Begun }) (record { text = text.now; ended = ended } ∷ ls) → Judged result (number + 1) ls answer }
+{
+    let end = ended_at(text, ended, number)?;
+    let cnf = formula_of(alloc, &heading, size)?;
+    let checker = checker_of(alloc, cnf, end)?;
+    Ok(Stage::Within {
+        heading,
+        size,
+        low,
+        ended: end,
+        checker,
+        additions: 0,
+    })
+}
+
+/// The line of a log that a text spells.
+#[tactic(auto, unfolding(cert_theory::specs::Judging::spelled_at))]
+fn spelled_at(alloc: Global, text: &[u8], ended: bool, number: u32) -> Result<Line, BundleError>
+    ensures exact { Gives line_value result (judging.spelled_at number (record { text = text.now; ended = ended })) }
+    ensures is_line { IfOk result (λ l. IsLine (line_value l)) }
+    ensures clause { IfOk result (λ l. HasClause (line_value l)) }
+{
+    if !ended {
+        return Err(BundleError::Syntax(number));
+    }
+    match read_line(alloc, text) {
+        Ok(line) => Ok(line),
+        Err(LineError::Memory) => Err(BundleError::Memory),
+        Err(_) => Err(BundleError::Syntax(number)),
+    }
+}
+
+/// Whether a line of a log that leaves its part open adds what is known already.
+fn is_new(checker: &Checker, line: &Line) -> bool
+    ensures { is_new_to checker.now (line_value line.now) result }
+{
+    match line {
+        Line::Add { lits, .. } => checker.is_new(lits),
+        Line::Delete { .. } => true,
+    }
+}
+
+/// How many clauses a line adds.
+fn added_by(line: &Line) -> u32
+    ensures count { result ≡ added_by (line_value line.now) }
+    ensures one { result ≤ 1 }
+{
+    match line {
+        Line::Add { .. } => 1,
+        Line::Delete { .. } => 0,
+    }
+}
+
+/// Whether a log that ends so may add what a line adds.
+fn may_add(checker: &Checker, end: Ended, line: &Line) -> bool
+    ensures { MayAdd checker.now end (line_value line.now) result }
+{
+    match end {
+        Ended::Refuted => true,
+        Ended::Open => is_new(checker, line),
+    }
+}
+
+/// A refusal of a line that can be read.
+fn refusal(fault: CheckError, number: u32) -> BundleError
+    ensures { IsRefusal number fault result }
+{
+    match fault {
+        CheckError::Memory => BundleError::Memory,
+        fault => BundleError::StepRefused(number, fault),
+    }
+}
+
+/// Takes a line of a log, and tells how many clauses it adds.
+fn logged_at(
+    alloc: Global,
+    checker: &mut Checker,
+    end: Ended,
+    text: &[u8],
+    ended: bool,
+    number: u32,
+) -> Result<u32, BundleError>
+    ensures one { IfOk result (λ added. added ≤ 1) }
+    ensures log { (f : Formula) (log : List theory.Line) → HasAccepted f log checker.old → IsLogged f number end log (record { text = text.now; ended = ended }) checker.new result }
+{
+    let line = spelled_at(alloc, text, ended, number)?;
+    let allowed = may_add(checker, end, &line);
+    let added = added_by(&line);
+    match checker.feed(line) {
+        Ok(()) => {}
+        Err(fault) => return Err(refusal(fault, number)),
+    }
+    if !allowed {
+        return Err(BundleError::NotNew(number));
+    }
+    Ok(added)
+}
+
+/// The end of a log with so many additions, where the empty clause stands or doesn't.
+fn closed(
+    empty: bool,
+    additions: u32,
+    conflicts: u32,
+    end: Ended,
+    number: u32,
+) -> Result<(), BundleError>
+    ensures { Gives (λ x. x) result (judging.closed empty additions conflicts number end) }
+{
+    match end {
+        Ended::Refuted => {
+            if !empty {
+                return Err(BundleError::NotRefuted(number));
+            }
+        }
+        Ended::Open => {
+            if empty {
+                return Err(BundleError::WrongVerdict(number));
+            }
+            if additions < conflicts {
+                return Err(BundleError::OpenTooShort(number));
+            }
+        }
+    }
+    Ok(())
+}
+
+/// The first open size, with one size more.
+fn low_with(low: Option<u32>, end: Ended, size: u32) -> Option<u32>
+    ensures { result ≡ judging.low_with low end size }
+{
+    match (low, end) {
+        (None, Ended::Open) => Some(size),
+        _ => low,
+    }
+}
+
+/// A line of a log, or its end.
+pub(crate) fn at_within(
+    alloc: Global,
+    heading: Heading,
+    size: u32,
+    low: Option<u32>,
+    end: Ended,
+    checker: Checker,
+    additions: u32,
+    text: &[u8],
+    ended: bool,
+    number: u32,
+) -> Result<Stage, BundleError>
+    requires known { IsKnown heading }
+    requires size { size ≤ heading.max }
+    requires few { additions ≤ number }
+    requires number { number < 2 ^ 31 }
+    ensures keeps { IfOk result (λ s. IsStage s (number + 1)) }
+    ensures answer { (lines ls : List lines.Line) (answer : Answer) → IsLogging heading size low end checker additions number lines answer → lines ≡ record { text = text.now; ended = ended } ∷ ls → Judged result (number + 1) ls answer }
+{
+    if is_line(b"done", text, ended) {
+        closed(checker.refuted(), additions, heading.conflicts, end, number)?;
+        let low = low_with(low, end, size);
+        return Ok(Stage::Between {
+            heading,
+            size: size + 1,
+            low,
+        });
+    }
+    let mut checker = checker;
+    let added = logged_at(alloc, &mut checker, end, text, ended, number)?;
+    Ok(Stage::Within {
+        heading,
+        size,
+        low,
+        ended: end,
+        checker,
+        additions: additions + added,
+    })
+}

@@ -1,0 +1,60 @@
+//! The lines between the logs.
+ghost use Rattle.std.specs.Prelude.{◌≡◌, ◌+◌, ◌<◌, ◌≤◌, ◌^◌, List, ◌∷◌, IfOk, OnOk};
+ghost use Rattle.text_core.specs.Lines.{Line};
+ghost use Rattle.cert_theory.specs.Gives.{Gives};
+ghost use Rattle.cert_theory.specs.Judging as judging;
+ghost use Rattle.cert_file.specs.Stages.{Answer, Judged, IsStage, IsKnown};
+
+use crate::ending::at_ending;
+use crate::lines::{begins, value_of};
+use crate::stage::Stage;
+use cert_theory::{BundleError, Heading};
+use std::alloc::Global;
+use text_core::number_up_to;
+
+/// The line of a size, which is to be the next one.
+#[tactic(auto, unfolding(cert_theory::specs::Judging::size_at))]
+fn size_at(
+    heading: &Heading,
+    size: u32,
+    text: &[u8],
+    ended: bool,
+    number: u32,
+) -> Result<(), BundleError>
+    ensures within { OnOk result (size ≤ heading.now.max) }
+    ensures exact { Gives (λ x. x) result (judging.size_at heading.now number size (record { text = text.now; ended = ended })) }
+{
+    let Some(digits) = value_of(b"size ", text, ended) else {
+        return Err(BundleError::Syntax(number));
+    };
+    let Some(stated) = number_up_to(999_999_999, digits) else {
+        return Err(BundleError::Syntax(number));
+    };
+    if stated != size || stated > heading.max {
+        return Err(BundleError::SizeOutOfOrder(number));
+    }
+    Ok(())
+}
+
+/// The line of the next size, or the first line of the ending.
+#[tactic(auto, unfolding(cert_theory::specs::Judging::sections_of))]
+pub(crate) fn at_between(
+    alloc: Global,
+    heading: Heading,
+    size: u32,
+    low: Option<u32>,
+    text: &[u8],
+    ended: bool,
+    number: u32,
+) -> Result<Stage, BundleError>
+    requires known { IsKnown heading }
+    requires number { number < 2 ^ 31 }
+    ensures keeps { IfOk result (λ s. IsStage s (number + 1)) }
+    ensures answer { (ls : List Line) (answer : Answer) → answer ≡ judging.sections_of heading number (record { size = size; low = low; place = judging.Between }) (record { text = text.now; ended = ended } ∷ ls) → Judged result (number + 1) ls answer }
+{
+    if !begins(b"size ", text, ended) {
+        return at_ending(alloc, heading, size, low, text, ended, number);
+    }
+    size_at(&heading, size, text, ended, number)?;
+    Ok(Stage::Begun { heading, size, low })
+}

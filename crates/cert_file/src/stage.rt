@@ -1,0 +1,87 @@
+use cert_theory::{Ended, Heading, Verdict};
+use chain_core::{Basis, Frame, Out, Step};
+use enc_frame::Method;
+use lrat_check::Checker;
+use tt_core::Spec;
+
+/// What is due next of a bundle whose lines were good so far, and what is kept of them.
+#[derive(Debug, Drop)]
+pub(crate) enum Stage {
+    /// The first line.
+    Start,
+    /// The number of inputs.
+    Inputs,
+    /// A table, or the basis behind the tables.
+    Tables {
+        n: u32,
+        on: Vec<u64>,
+        care: Vec<u64>,
+    },
+    /// The method.
+    Methods {
+        spec: Spec,
+        basis: Basis,
+    },
+    /// The number of conflicts.
+    Conflicts {
+        spec: Spec,
+        basis: Basis,
+        method: Method,
+    },
+    /// The greatest size.
+    Sizes {
+        spec: Spec,
+        basis: Basis,
+        method: Method,
+        conflicts: u32,
+    },
+    /// The section of the next size, or the ending.
+    Between {
+        heading: Heading,
+        size: u32,
+        low: Option<u32>,
+    },
+    /// How the log of this size ends.
+    Begun {
+        heading: Heading,
+        size: u32,
+        low: Option<u32>,
+    },
+    /// A line of the log.
+    Within {
+        heading: Heading,
+        size: u32,
+        low: Option<u32>,
+        ended: Ended,
+        checker: Checker,
+        additions: u32,
+    },
+    /// A step of the chain.
+    Steps {
+        heading: Heading,
+        low: Option<u32>,
+        frame: Frame,
+        steps: Vec<Step>,
+    },
+    /// An out of the chain.
+    Outs {
+        heading: Heading,
+        low: Option<u32>,
+        frame: Frame,
+        steps: Vec<Step>,
+        outs: Vec<Out>,
+    },
+    /// The verdict behind a chain of so many steps.
+    Found {
+        size: u32,
+        low: Option<u32>,
+    },
+    /// The last line.
+    End {
+        verdict: Verdict,
+    },
+    /// Nothing.
+    Done {
+        verdict: Verdict,
+    },
+}
