@@ -1,0 +1,53 @@
+-- One more section.
+use Rattle.std.proofs.Common.{◌≡◌, ℕ, suc, ◌+◌, ◌≤◌, List, [], ◌∷◌, ◌++◌, length, Option, None, refl, subst, sym, arith, zero-add, ◌∙◌}
+use Rattle.std.proofs.lemmas.Grind.{common_steps}
+use Rattle.std.proofs.lemmas.List.Elements.{All-push}
+use Rattle.std.specs.List.{find}
+use Rattle.std.specs.Option.{option_map}
+use Rattle.chain_theory.specs.Chain.{Chain}
+use Rattle.cert_theory.specs.declared.data.Heading.{Heading}
+use Rattle.cert_theory.specs.declared.data.Verdict.{Verdict}
+use Rattle.cert_theory.specs.Bundle.{Section, Bundle, IsHeading, IsSection, AreSections, first_open, is_open, size_of, IsEnding, IsValid}
+use Rattle.size_loop.specs.Kept.{IsKeptSection, AreKept}
+use Rattle.size_loop.specs.State.{State}
+use Rattle.size_loop.specs.Searched.{HasSearched}
+use Rattle.size_loop.specs.Advancing.{open_with, behind}
+
+AreSections-push : (h : Heading) (size : ℕ) (ss : List Section) (s : Section) → AreSections h size ss → IsSection h (size + length ss) s → AreSections h size (ss ++ s ∷ [])
+unfolding AreSections
+AreSections-push h size [] s each last = (let e : size + 0 ≡ size = omega arith in subst (λ (k : ℕ). IsSection h k s) e last, tt)
+AreSections-push h size (x ∷ xs) s each last =
+    let e : size + suc (length xs) ≡ (size + 1) + length xs = omega arith in
+    (each.0, AreSections-push h (size + 1) xs s each.1 (subst (λ (k : ℕ). IsSection h k s) e last))
+
+first_open-push : (ss : List Section) (s : Section) → first_open (ss ++ s ∷ []) ≡ open_with (first_open ss) s
+first_open-push [] s = grind (arith, common_steps)
+first_open-push (x ∷ xs) s = grind (arith, common_steps, first_open-push xs s)
+
+-- before the first size nothing is left behind
+pub searched_none : (h : Heading) → HasSearched (record { heading = h; next = 0; low = None }) []
+unfolding AreSections
+searched_none h = record { are_sections = tt; next_is = refl; next_to = omega arith; low_is = refl; kept = λ k d inside. absurd (omega (arith, inside)) }
+
+-- a section of the next size joins
+pub searched_more : (s : State) (ss : List Section) (section : Section) → HasSearched s ss → s.next ≤ s.heading.max → IsSection s.heading s.next section → IsKeptSection s.heading section → HasSearched (behind s section) (ss ++ section ∷ [])
+searched_more s ss section searched within is_section is_kept =
+    record {
+      are_sections = AreSections-push s.heading 0 ss section searched.are_sections (let e : s.next ≡ 0 + length ss = searched.next_is ∙ sym (zero-add (length ss)) in subst (λ (k : ℕ). IsSection s.heading k section) e is_section);
+      next_is = grind (arith, common_steps, searched.next_is);
+      next_to = omega (arith, within);
+      low_is = rw searched.low_is (sym (first_open-push ss section));
+      kept = All-push (IsKeptSection s.heading) ss section searched.kept is_kept;
+    }
+
+-- and with an ending they are a bundle
+pub searched_valid : (s : State) (ss : List Section) (chain : Option Chain) (verdict : Verdict) → IsHeading s.heading → HasSearched s ss → IsEnding s.heading s.next s.low chain verdict → IsValid (record { heading = s.heading; sections = ss; chain = chain; verdict = verdict })
+searched_valid s ss chain verdict is_heading searched ending =
+    record {
+      heading = is_heading;
+      sections = searched.are_sections;
+      sizes_to = subst (λ (k : ℕ). k ≤ s.heading.max + 1) searched.next_is searched.next_to;
+      ending = subst (λ (low : Option ℕ). IsEnding s.heading (length ss) low chain verdict) searched.low_is (subst (λ (k : ℕ). IsEnding s.heading k s.low chain verdict) searched.next_is ending);
+    }
+
+pub ruleset steps = (common_steps, searched_none, searched_more, searched_valid)

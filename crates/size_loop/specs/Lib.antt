@@ -1,0 +1,6 @@
+pub mod Kept
+pub mod Coded
+pub mod State
+pub mod Searched
+pub mod Outcomes
+pub mod Advancing

@@ -1,0 +1,113 @@
+ghost use Rattle.std.specs.Prelude.{◌≡◌, ◌≤◌, ◌<◌, true, None, IfOk};
+ghost use Rattle.cert_theory.specs.Bundle.{IsSection, IsEnding};
+ghost use Rattle.cert_theory.specs.Coding.{is_built};
+ghost use Rattle.size_loop.specs.Advancing.{IfSection, IfEnded, behind};
+ghost use Rattle.size_loop.specs.Kept.{IsKeptSection};
+ghost use Rattle.size_loop.specs.State.{IsState};
+
+use crate::sizes::{SizeOutcome, search_size};
+use crate::verdicts::{first_open, found, not_found};
+use bundle_core::{Heading, Section, Verdict};
+use chain_core::Chain;
+use enc_frame::Method;
+use op_basis::Basis;
+use std::alloc::{AllocError, Global};
+use std::marker::Model;
+use tt_core::Spec;
+
+/// A search that has come to some size.
+#[derive(Debug, Drop)]
+pub struct Search {
+    heading: Heading,
+    next: u32,
+    low: Option<u32>,
+}
+
+impl Model for Search {
+    ghost use Rattle.size_loop.specs.State.{State, IsState};
+
+    ghost Value = { State };
+
+    ghost view = { λ s. record { heading = s.heading; next = s.next; low = s.low } };
+
+    ghost invariant = { λ s. IsState (record { heading = s.heading; next = s.next; low = s.low }) };
+}
+
+/// What the next size comes to.
+#[derive(Debug, Drop)]
+pub enum Advance {
+    /// It has no chain: the logs of its parts, and the search that goes on behind it.
+    Section {
+        rest: Search,
+        section: Section,
+    },
+    /// The search ends, with a chain of that size or, behind the greatest size, without one.
+    Ended {
+        chain: Option<Chain>,
+        verdict: Verdict,
+    },
+}
+
+impl Search {
+    /// A search for a chain over the basis that agrees with the tables, from size 0 on. The basis
+    /// isn't empty, the method is one that is built, `max` is the greatest size, at most 16, and the
+    /// budget, from 1 to 10,000,000, is how many clauses the solver adds to a formula before it leaves
+    /// it open.
+    pub fn new(spec: Spec, basis: Basis, method: Method, max: u32, budget: u32) -> Search
+        requires basis { 0 < basis }
+        requires method { is_built method ≡ true }
+        requires max { max ≤ 16 }
+        requires budget_from { 1 ≤ budget }
+        requires budget_to { budget ≤ 10000000 }
+        ensures heading { result.heading ≡ record { spec = spec; basis = basis; method = method; conflicts = budget; max = max } }
+        ensures next { result.next ≡ 0 }
+        ensures low { result.low ≡ None }
+        ensures whole { IsState result }
+    {
+        // bring what the types of tables and bases say
+        let _inputs = spec.n();
+        let _operators = basis.get();
+        Search {
+            heading: Heading {
+                spec,
+                basis,
+                method,
+                conflicts: budget,
+                max,
+            },
+            next: 0,
+            low: None,
+        }
+    }
+
+    /// Searches the next size.
+    pub fn advance(self, alloc: Global) -> Result<Advance, AllocError>
+        ensures within { IfOk result (λ step. IfSection step (λ rest section. self.next ≤ self.heading.max)) }
+        ensures section { IfOk result (λ step. IfSection step (λ rest section. IsSection self.heading self.next section)) }
+        ensures kept { IfOk result (λ step. IfSection step (λ rest section. IsKeptSection self.heading section)) }
+        ensures rest { IfOk result (λ step. IfSection step (λ rest section. rest ≡ behind self section)) }
+        ensures ending { IfOk result (λ step. IfEnded step (λ chain verdict. IsEnding self.heading self.next self.low chain verdict)) }
+    {
+        let Search { heading, next, low } = self;
+        if next > heading.max {
+            return Ok(Advance::Ended {
+                chain: None,
+                verdict: not_found(heading.max, low),
+            });
+        }
+        match search_size(alloc, &heading, next)? {
+            SizeOutcome::Found(chain) => Ok(Advance::Ended {
+                chain: Some(chain),
+                verdict: found(next, low),
+            }),
+            SizeOutcome::Logged(section) => {
+                let rest = Search {
+                    heading,
+                    next: next + 1,
+                    low: first_open(low, &section),
+                };
+                Ok(Advance::Section { rest, section })
+            }
+        }
+    }
+}

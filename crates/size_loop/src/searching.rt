@@ -1,0 +1,68 @@
+ghost use Rattle.std.specs.Prelude.{◌≡◌, ◌≤◌, ◌<◌, true, IfOk};
+ghost use Rattle.cert_theory.specs.Bundle.{IsValid};
+ghost use Rattle.cert_theory.specs.Coding.{is_built};
+ghost use Rattle.size_loop.specs.Kept.{AreKept};
+
+use crate::advancing::{Advance, Search};
+use bundle_core::{Bundle, Heading};
+use enc_frame::Method;
+use op_basis::Basis;
+use std::alloc::{AllocError, Global};
+use tt_core::Spec;
+
+/// Searches the sizes from 0 to `max` for a chain of the fewest steps over the basis that agrees with
+/// the tables, and answers the certificate of what it found. A part of a size is left open where the
+/// solver has added `budget` clauses to its formula. The basis isn't empty, the method is one that is
+/// built, `max` is at most 16, and the budget is from 1 to 10,000,000.
+#[tactic(auto, using(crate::proofs::Sections::steps))]
+pub fn search(
+    alloc: Global,
+    spec: &Spec,
+    basis: Basis,
+    method: Method,
+    max: u32,
+    budget: u32,
+) -> Result<Bundle, AllocError>
+    requires basis { 0 < basis }
+    requires method { is_built method ≡ true }
+    requires max { max ≤ 16 }
+    requires budget_from { 1 ≤ budget }
+    requires budget_to { budget ≤ 10000000 }
+    ensures heading { IfOk result (λ b. b.heading ≡ record { spec = spec.now; basis = basis; method = method; conflicts = budget; max = max }) }
+    ensures valid { IfOk result (λ b. IsValid b) }
+    ensures kept { IfOk result (λ b. AreKept b.heading b.sections) }
+{
+    let mut search = Search::new(copied(alloc, spec)?, basis, method, max, budget);
+    let mut sections = Vec::new(alloc);
+    loop {
+        match search.advance(alloc)? {
+            Advance::Section { rest, section } => {
+                sections.push(section)?;
+                search = rest;
+            }
+            Advance::Ended { chain, verdict } => {
+                let heading = Heading {
+                    spec: copied(alloc, spec)?,
+                    basis,
+                    method,
+                    conflicts: budget,
+                    max,
+                };
+                return Ok(Bundle {
+                    heading,
+                    sections,
+                    chain,
+                    verdict,
+                });
+            }
+        }
+    }
+}
+
+fn copied(alloc: Global, spec: &Spec) -> Result<Spec, AllocError>
+    ensures { IfOk result (λ copy. copy ≡ spec.now) }
+{
+    let on = Vec::from_slice(alloc, spec.on())?;
+    let care = Vec::from_slice(alloc, spec.care())?;
+    Ok(Spec::new(spec.n(), on, care))
+}

@@ -1,0 +1,57 @@
+ghost use Rattle.std.specs.Prelude.{◌≤◌, IfOk};
+ghost use Rattle.cert_theory.specs.Bundle.{IsHeading};
+ghost use Rattle.cert_theory.specs.Coding.{coding_of};
+ghost use Rattle.size_loop.specs.Outcomes.{IsSized};
+ghost use Rattle.size_loop.specs.Coded.{IsCodedBy};
+
+use crate::trying::{PartOutcome, try_part};
+use bundle_core::{Heading, Section};
+use chain_core::Chain;
+use enc_frame::{Encoding, Method};
+use enc_ssv::Plain;
+use std::alloc::{AllocError, Global};
+
+/// What a size comes to.
+#[derive(Debug, Drop)]
+pub enum SizeOutcome {
+    /// A chain of so many steps.
+    Found(Chain),
+    /// The logs of its parts, in which no chain was found.
+    Logged(Section),
+}
+
+/// Searches the parts of a size in their order, by the encoding of the heading's method.
+#[tactic(auto, unfolding(cert_theory::specs::Coding::coding_of))]
+pub fn search_size(alloc: Global, heading: &Heading, size: u32) -> Result<SizeOutcome, AllocError>
+    requires heading { IsHeading heading.now }
+    requires size { size ≤ heading.now.max }
+    ensures { IfOk result (λ outcome. IsSized heading.now size outcome) }
+{
+    match heading.method {
+        Method::Plain => search_parts(alloc, &Plain, heading, size),
+        // the methods that are not built, which no heading has
+        Method::Ssv | Method::Select | Method::Fence => unreachable!(),
+    }
+}
+
+/// Searches them by any encoding that writes the formulas of that method.
+fn search_parts<E: Encoding>(
+    alloc: Global,
+    encoding: &E,
+    heading: &Heading,
+    size: u32,
+) -> Result<SizeOutcome, AllocError>
+    requires heading { IsHeading heading.now }
+    requires coding { IsCodedBy (coding_of heading.now.method) (E.parts_of encoding.now) (E.formula_of encoding.now) }
+    requires size { size ≤ heading.now.max }
+    ensures { IfOk result (λ outcome. IsSized heading.now size outcome) }
+{
+    let mut parts = Vec::new(alloc);
+    for part in encoding.parts(alloc, &heading.spec, size)? {
+        match try_part(alloc, encoding, heading, size, part)? {
+            PartOutcome::Found(chain) => return Ok(SizeOutcome::Found(chain)),
+            PartOutcome::Logged(log) => parts.push(log)?,
+        }
+    }
+    Ok(SizeOutcome::Logged(Section { size, parts }))
+}

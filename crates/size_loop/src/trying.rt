@@ -1,0 +1,55 @@
+ghost use Rattle.std.specs.Prelude.{◌≤◌, IfOk, Contains};
+ghost use Rattle.cert_theory.specs.Bundle.{IsHeading};
+ghost use Rattle.cert_theory.specs.Coding.{coding_of};
+ghost use Rattle.size_loop.specs.Outcomes.{IsTried};
+ghost use Rattle.size_loop.specs.Coded.{IsCodedBy};
+
+use bundle_core::{Ended, Heading, PartLog};
+use cdcl_core::{Solved, solve};
+use chain_core::Chain;
+use enc_frame::{Encoding, Part};
+use std::alloc::{AllocError, Global};
+
+/// What a part of a size comes to.
+#[derive(Debug, Drop)]
+pub enum PartOutcome {
+    /// A chain of the size.
+    Found(Chain),
+    /// A log that refutes the part, or has spent the budget on it.
+    Logged(PartLog),
+}
+
+/// Searches a part of a size.
+pub fn try_part<E: Encoding>(
+    alloc: Global,
+    encoding: &E,
+    heading: &Heading,
+    size: u32,
+    part: Part,
+) -> Result<PartOutcome, AllocError>
+    requires heading { IsHeading heading.now }
+    requires coding { IsCodedBy (coding_of heading.now.method) (E.parts_of encoding.now) (E.formula_of encoding.now) }
+    requires size { size ≤ heading.now.max }
+    requires part { Contains (E.parts_of encoding.now heading.now.spec size) part }
+    ensures { IfOk result (λ outcome. IsTried heading.now size part outcome) }
+{
+    let cnf = encoding.formula(alloc, &heading.spec, heading.basis, size, &part)?;
+    match solve(alloc, &cnf, heading.conflicts)? {
+        Solved::Sat(assign) => {
+            let chain = encoding.decode(alloc, &heading.spec, heading.basis, size, &part, &assign)?;
+            // brings what the type of a chain says of its steps
+            let _steps = chain.steps();
+            Ok(PartOutcome::Found(chain))
+        }
+        Solved::Unsat(log) => Ok(PartOutcome::Logged(PartLog {
+            part,
+            ended: Ended::Refuted,
+            log,
+        })),
+        Solved::Open(log) => Ok(PartOutcome::Logged(PartLog {
+            part,
+            ended: Ended::Open,
+            log,
+        })),
+    }
+}

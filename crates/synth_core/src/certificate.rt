@@ -1,0 +1,60 @@
+ghost use Rattle.std.specs.Prelude.{◌≡◌, ◌^◌, ◌<◌, length, [], IfOk, IfErr};
+ghost use Rattle.text_core.specs.Lines.{lines_of};
+ghost use Rattle.tt_core.specs.Gives.{Gives, Fails};
+ghost use Rattle.tt_core.specs.Spelling.{SpellsTables};
+ghost use Rattle.tt_core.specs.Words.{specification};
+ghost use Rattle.synth_core.specs.Asking.{IsAsked};
+ghost use Rattle.synth_core.specs.Certifying.{IsCertificate};
+ghost use Rattle.synth_core.specs.Tables.{tables_alone};
+
+use crate::Asked;
+use bundle_core::Verdict;
+use bundle_text::write_bundle;
+use size_loop::search;
+use std::alloc::Global;
+use text_core::next_line;
+use tt_core::{Spec, SpecError, read_tables};
+
+/// A certificate as it is written, and what it comes to.
+#[derive(Debug, Drop)]
+pub struct Certificate {
+    pub text: Vec<u8>,
+    pub verdict: Verdict,
+}
+
+/// The tables that the bytes are, with nothing behind them.
+fn tables(alloc: Global, bytes: &[u8]) -> Result<Spec, SpecError>
+    requires { length bytes.now < 2 ^ 31 }
+    ensures exact { Gives (λ spec. spec) result (tables_alone (lines_of bytes.now)) }
+    ensures spelled { IfOk result (λ spec. SpellsTables (specification spec) (lines_of bytes.now) []) }
+{
+    let tables = read_tables(alloc, bytes)?;
+    let (_, rest) = bytes.split_at(tables.used);
+    match next_line(rest) {
+        None => Ok(tables.spec),
+        Some(_) => Err(SpecError::BadRow(1 + tables.lines)),
+    }
+}
+
+/// Searches for a chain of the fewest steps that agrees with the tables in the bytes, and writes the
+/// certificate. A line behind the tables is refused as `BadRow`.
+pub fn synthesise(alloc: Global, bytes: &[u8], asked: &Asked) -> Result<Certificate, SpecError>
+    requires length { length bytes.now < 2 ^ 31 }
+    requires asked { IsAsked asked.now }
+    ensures certificate { IfOk result (λ c. IsCertificate bytes.now asked.now c.text.items c.verdict) }
+    ensures refusal { IfErr result (λ e. Fails e (tables_alone (lines_of bytes.now))) }
+{
+    let spec = tables(alloc, bytes)?;
+    let bundle = search(
+        alloc,
+        &spec,
+        asked.basis,
+        asked.method,
+        asked.max,
+        asked.conflicts,
+    )?;
+    let mut text = Vec::new(alloc);
+    write_bundle(&bundle, &mut text)?;
+    let verdict = bundle.verdict;
+    Ok(Certificate { text, verdict })
+}
