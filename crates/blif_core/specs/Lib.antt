@@ -1,0 +1,11 @@
+pub use Rattle.net_theory.specs.Document
+pub use Rattle.net_theory.specs.WellFormed
+pub use Rattle.net_theory.specs.Circuit
+pub use Rattle.net_theory.specs.Naming
+pub use Rattle.net_document.specs.Listed
+pub use Rattle.net_document.specs.Refusals
+pub use Rattle.blif_text.specs.Statements
+pub mod Texts
+pub mod Written
+pub mod Spelling
+pub mod Tidied

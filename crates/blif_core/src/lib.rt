@@ -1,0 +1,28 @@
+//! BLIF netlists (the Berkeley BLIF manual) read and written. `read_blif` answers the circuit of a text
+//! exactly where the text lists a well-formed document, and else the first fault; `write_blif` appends
+//! the text of a circuit. What a text means is said in `net_theory` and `blif_text`.
+//!
+//! The one theorem: the circuit that is read does what its text's document does, under every assignment
+//! of inputs and latches, with as many gates as the document costs.
+//!
+//! ```text
+//! let circuit = read_blif(alloc, b".model m\n.inputs a b\n.outputs y\n.names a b y\n11 1\n.end\n")?;
+//! write_blif(&circuit, &mut out)?;
+//! ```
+#![tactic(auto)]
+
+mod places;
+mod reading;
+mod spelling;
+mod tables;
+mod tidying;
+mod writing;
+mod written;
+
+pub use net_core::{Circuit, NetError};
+pub use reading::read_blif;
+pub use tidying::{Tidied, tidy_blif};
+pub use writing::write_blif;
+
+#[cfg(test)]
+mod tests;

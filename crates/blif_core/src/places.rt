@@ -1,0 +1,52 @@
+//! The names of places.
+
+ghost use Rattle.std.specs.Prelude.{◌≡◌, length};
+ghost use Rattle.net_theory.specs.Net.{Net};
+ghost use Rattle.net_theory.specs.Circuit.{IsProper, sources_of};
+ghost use Rattle.net_theory.specs.Naming.{gate_names, place_name as place_name_of};
+ghost use Rattle.std.specs.Prelude.{[], slice_index_or};
+
+use net_core::{Circuit, Name};
+
+/// The name at an index; nothing where there is none.
+fn name_at(names: &[Name], at: usize) -> &[u8]
+    ensures { result.now ≡ slice_index_or names.now at [] }
+{
+    if at < names.len() {
+        names[at].get()
+    } else {
+        &[]
+    }
+}
+
+/// The name of a source, the first at 0.
+#[tactic(auto, using(crate::proofs::Sources::sources))]
+fn source_name(circuit: &Circuit, at: usize) -> &[u8]
+    ensures { result.now ≡ slice_index_or (sources_of circuit.now) at [] }
+{
+    let inputs = &circuit.inputs;
+    let latches = &circuit.latches;
+    if at < inputs.len() {
+        return name_at(inputs, at);
+    }
+    let at = at - inputs.len();
+    if at < latches.len() {
+        latches[at].output.get()
+    } else {
+        &[]
+    }
+}
+
+/// The name of a place, where the gates have these names.
+#[tactic(auto, unfolding(net_theory::specs::Naming::place_name))]
+pub fn place_name<'a>(circuit: &'a Circuit, names: &'a [Name], place: u32) -> &'a [u8]
+    requires { names.now ≡ gate_names circuit.now }
+    ensures { result.now ≡ place_name_of circuit.now place }
+{
+    let sources = circuit.net.sources();
+    if place <= sources {
+        source_name(circuit, place.saturating_sub(1) as usize)
+    } else {
+        name_at(names, (place - sources - 1) as usize)
+    }
+}

@@ -1,0 +1,24 @@
+ghost use Rattle.std.specs.Prelude.{◌≡◌, ◌++◌, OnOk, OnErr};
+ghost use Rattle.net_theory.specs.Circuit.{IsProper};
+ghost use Rattle.blif_core.specs.Spelling.{circuit_text};
+
+use crate::spelling::push_document;
+use crate::written::document_of;
+use net_core::Circuit;
+use std::alloc::AllocError;
+
+/// Appends the BLIF text of a circuit: the model, the inputs, outputs and clocks, the latches, the gates
+/// in the order of their places under the names that `gate_names` tells, the constants that latches
+/// need, and the outputs whose names weren't written.
+#[tactic(auto, using(crate::proofs::Constants::inits))]
+pub fn write_blif(circuit: &Circuit, out: &mut Vec<u8>) -> Result<(), AllocError>
+    requires { IsProper circuit.now }
+    ensures ok { OnOk result (out.new.items ≡ out.old.items ++ circuit_text circuit.now) }
+    ensures err { OnErr result (out.new.items ≡ out.old.items) }
+{
+    let alloc = *out.allocator();
+    let document = document_of(alloc, circuit)?;
+    let mut text = Vec::new(alloc);
+    push_document(&mut text, &document)?;
+    out.extend_from_slice(&text)
+}

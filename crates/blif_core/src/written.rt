@@ -1,0 +1,387 @@
+//! The document that stands for a circuit where it is written.
+
+ghost use Rattle.std.specs.Prelude.{◌≡◌, ◌++◌, [], map, if◌then◌else◌, OnOk, IfOk};
+ghost use Rattle.std.specs.List.{list_any};
+ghost use Rattle.net_theory.specs.Document.{has, latch_output};
+ghost use Rattle.net_theory.specs.Circuit.{IsProper, sources_of};
+ghost use Rattle.net_theory.specs.Naming.{each_once, gate_names, first_spare, second_spare, place_name as place_name_of};
+ghost use Rattle.blif_core.specs.Written as written;
+ghost use Rattle.blif_core.specs.Written.{output_tables as output_tables_of, is_zero as is_zero_of, is_one as is_one_of, next_states, one_name as one_name_of, sig_name as sig_name_of, table_if};
+
+use crate::places::place_name;
+use crate::tables::{constant_table, gate_table, unary_table};
+use indexmap::IndexSet;
+use net_core::{Circuit, Gate, GateNames, Latch, Name, Sig, Trigger, all_names};
+use net_document::{Document, LatchLine, Table};
+use std::alloc::{AllocError, Global};
+
+/// Whether a signal is the constant 0.
+fn is_zero(sig: Sig) -> bool
+    ensures { result ≡ is_zero_of sig }
+{
+    match sig {
+        Sig::Zero => true,
+        _ => false,
+    }
+}
+
+/// Whether a signal is the constant 1.
+fn is_one(sig: Sig) -> bool
+    ensures { result ≡ is_one_of sig }
+{
+    match sig {
+        Sig::One => true,
+        _ => false,
+    }
+}
+
+/// Whether some signal is the constant 0.
+fn has_zero(sinks: &[Sig]) -> bool
+    ensures { result ≡ list_any is_zero_of sinks.now }
+{
+    sinks.iter().any(|sink| is_zero(*sink))
+}
+
+/// Whether some signal is the constant 1.
+fn has_one(sinks: &[Sig]) -> bool
+    ensures { result ≡ list_any is_one_of sinks.now }
+{
+    sinks.iter().any(|sink| is_one(*sink))
+}
+
+/// Adds copies of names.
+fn copies(alloc: Global, names: &[Name]) -> Result<Vec<Name>, AllocError>
+    ensures { IfOk result (λ c. c.items ≡ names.now) }
+{
+    let mut copies = Vec::new(alloc);
+    let mut left = names;
+    while let Some((name, rest)) = left.split_first() {
+        copies.push(name.copied()?)?;
+        left = rest;
+    }
+    Ok(copies)
+}
+
+/// Adds the tables of gates.
+#[tactic(auto, unfolding(crate::specs::Written::gate_tables))]
+fn push_gates(
+    alloc: Global,
+    circuit: &Circuit,
+    names: &[Name],
+    gates: &[Gate],
+    outputs: &[Name],
+    tables: &mut Vec<Table>,
+) -> Result<(), AllocError>
+    requires { names.now ≡ gate_names circuit.now }
+    ensures { OnOk result (tables.new.items ≡ tables.old.items ++ written.gate_tables (place_name_of circuit.now) gates.now outputs.now) }
+{
+    let mut left = gates;
+    let mut left_names = outputs;
+    while let Some((gate, rest)) = left.split_first() {
+        let Some((output, rest_names)) = left_names.split_first() else {
+            return Ok(());
+        };
+        tables.push(gate_table(alloc, circuit, names, output.get(), gate)?)?;
+        left = rest;
+        left_names = rest_names;
+    }
+    Ok(())
+}
+
+/// The sinks of the latches.
+fn latch_sinks(circuit: &Circuit) -> &[Sig]
+    requires { IsProper circuit.now }
+    ensures { result.now ≡ next_states circuit.now }
+{
+    let outputs = circuit.outputs.len();
+    &circuit.net.sinks()[outputs..]
+}
+
+/// The name of a signal: a place's own, or that of a constant.
+#[tactic(auto, using(crate::proofs::Constants::names))]
+fn sig_name<'a>(
+    circuit: &'a Circuit,
+    names: &'a GateNames,
+    is_zero_needed: bool,
+    sig: Sig,
+) -> &'a [u8]
+    requires gates { names.now.names.items ≡ gate_names circuit.now }
+    requires first { names.now.first_spare ≡ first_spare circuit.now }
+    requires second { names.now.second_spare ≡ second_spare circuit.now }
+    requires zero { is_zero_needed ≡ list_any is_zero_of (next_states circuit.now) }
+    ensures { result.now ≡ sig_name_of circuit.now sig }
+{
+    match sig {
+        Sig::Zero => names.first_spare.get(),
+        Sig::One => one_name(names, is_zero_needed),
+        Sig::Place(place) => place_name(circuit, &names.names, place),
+    }
+}
+
+/// The name of the constant 1.
+fn one_name(names: &GateNames, is_zero_needed: bool) -> &[u8]
+    ensures { result.now ≡ (if is_zero_needed then names.now.second_spare else names.now.first_spare) }
+{
+    if is_zero_needed {
+        names.second_spare.get()
+    } else {
+        names.first_spare.get()
+    }
+}
+
+/// A copy of a control.
+fn copied_control(control: &Option<(Trigger, Name)>) -> Result<Option<(Trigger, Name)>, AllocError>
+    ensures { IfOk result (λ c. c ≡ control.now) }
+{
+    match control {
+        Some((trigger, name)) => Ok(Some((*trigger, name.copied()?))),
+        None => Ok(None),
+    }
+}
+
+/// A copy of a latch.
+fn copied_latch(latch: &Latch) -> Result<Latch, AllocError>
+    ensures { IfOk result (λ l. l ≡ latch.now) }
+{
+    Ok(Latch {
+        output: latch.output.copied()?,
+        control: copied_control(&latch.control)?,
+        init: latch.init,
+    })
+}
+
+/// The latches, each with the name of its input.
+#[tactic(auto, unfolding(crate::specs::Written::latch_lines))]
+fn latch_lines(
+    alloc: Global,
+    circuit: &Circuit,
+    names: &GateNames,
+    is_zero_needed: bool,
+    latches: &[Latch],
+    sinks: &[Sig],
+) -> Result<Vec<LatchLine>, AllocError>
+    requires gates { names.now.names.items ≡ gate_names circuit.now }
+    requires first { names.now.first_spare ≡ first_spare circuit.now }
+    requires second { names.now.second_spare ≡ second_spare circuit.now }
+    requires zero { is_zero_needed ≡ list_any is_zero_of (next_states circuit.now) }
+    ensures { IfOk result (λ lines. lines.items ≡ written.latch_lines (sig_name_of circuit.now) latches.now sinks.now) }
+{
+    let mut lines = Vec::new(alloc);
+    let mut left = latches;
+    let mut left_sinks = sinks;
+    while let Some((latch, rest)) = left.split_first() {
+        let Some((sink, rest_sinks)) = left_sinks.split_first() else {
+            return Ok(lines);
+        };
+        let name = sig_name(circuit, names, is_zero_needed, *sink);
+        lines.push(LatchLine {
+            input: Name::of(alloc, name)?,
+            latch: copied_latch(latch)?,
+        })?;
+        left = rest;
+        left_sinks = rest_sinks;
+    }
+    Ok(lines)
+}
+
+/// Adds a constant, where it is needed.
+fn push_constant(
+    alloc: Global,
+    is_needed: bool,
+    bit: bool,
+    name: &[u8],
+    tables: &mut Vec<Table>,
+) -> Result<(), AllocError>
+    ensures { OnOk result (tables.new.items ≡ tables.old.items ++ table_if is_needed (written.constant_table bit name.now)) }
+{
+    if is_needed {
+        tables.push(constant_table(alloc, bit, name)?)?;
+    }
+    Ok(())
+}
+
+/// Adds the constants that latches need.
+#[tactic(auto, unfolding(crate::specs::Written::constant_tables))]
+fn push_constants(
+    alloc: Global,
+    circuit: &Circuit,
+    names: &GateNames,
+    tables: &mut Vec<Table>,
+) -> Result<(), AllocError>
+    requires proper { IsProper circuit.now }
+    requires first { names.now.first_spare ≡ first_spare circuit.now }
+    requires second { names.now.second_spare ≡ second_spare circuit.now }
+    ensures { OnOk result (tables.new.items ≡ tables.old.items ++ written.constant_tables circuit.now) }
+{
+    let sinks = latch_sinks(circuit);
+    let is_zero_needed = has_zero(sinks);
+    push_constant(
+        alloc,
+        is_zero_needed,
+        false,
+        names.first_spare.get(),
+        tables,
+    )?;
+    let one = one_name(names, is_zero_needed);
+    push_constant(alloc, has_one(sinks), true, one, tables)
+}
+
+/// An output as a constant or a copy of a place.
+fn output_table(
+    alloc: Global,
+    circuit: &Circuit,
+    names: &[Name],
+    output: &[u8],
+    sink: Sig,
+) -> Result<Table, AllocError>
+    requires { names.now ≡ gate_names circuit.now }
+    ensures { IfOk result (λ t. t ≡ written.output_table (place_name_of circuit.now) output.now sink) }
+{
+    match sink {
+        Sig::Zero => constant_table(alloc, false, output),
+        Sig::One => constant_table(alloc, true, output),
+        Sig::Place(place) => {
+            unary_table(
+                alloc,
+                false,
+                true,
+                place_name(circuit, names, place),
+                output,
+            )
+        }
+    }
+}
+
+/// Adds the outputs whose names weren't written.
+#[tactic(auto, unfolding(crate::specs::Written::output_tables, net_theory::specs::Document::has))]
+fn push_outputs(
+    alloc: Global,
+    circuit: &Circuit,
+    names: &[Name],
+    done: &mut IndexSet<Name>,
+    outputs: &[Name],
+    sinks: &[Sig],
+    tables: &mut Vec<Table>,
+) -> Result<(), AllocError>
+    requires { names.now ≡ gate_names circuit.now }
+    ensures { OnOk result (tables.new.items ≡ tables.old.items ++ output_tables_of (place_name_of circuit.now) done.old.keys outputs.now sinks.now) }
+{
+    let mut left = outputs;
+    let mut left_sinks = sinks;
+    while let Some((output, rest)) = left.split_first() {
+        let Some((sink, rest_sinks)) = left_sinks.split_first() else {
+            return Ok(());
+        };
+        left = rest;
+        left_sinks = rest_sinks;
+        if done.contains(output) {
+            continue;
+        }
+        tables.push(output_table(alloc, circuit, names, output.get(), *sink)?)?;
+        done.insert(output.copied()?)?;
+    }
+    Ok(())
+}
+
+/// Adds names to those that are written.
+#[tactic(auto, unfolding(net_theory::specs::Naming::each_once, net_theory::specs::Document::has))]
+fn note_names(written: &mut IndexSet<Name>, names: &[Name]) -> Result<(), AllocError>
+    ensures { OnOk result (written.new.keys ≡ each_once written.old.keys names.now) }
+{
+    let mut left = names;
+    while let Some((name, rest)) = left.split_first() {
+        written.insert(name.copied()?)?;
+        left = rest;
+    }
+    Ok(())
+}
+
+/// Adds the names of the latches' outputs.
+#[tactic(auto, unfolding(net_theory::specs::Naming::each_once, net_theory::specs::Document::has))]
+fn note_latches(written: &mut IndexSet<Name>, latches: &[Latch]) -> Result<(), AllocError>
+    ensures { OnOk result (written.new.keys ≡ each_once written.old.keys (map latch_output latches.now)) }
+{
+    let mut left = latches;
+    while let Some((latch, rest)) = left.split_first() {
+        written.insert(latch.output.copied()?)?;
+        left = rest;
+    }
+    Ok(())
+}
+
+/// The names of the sources and of the gates.
+#[tactic(auto, using(crate::proofs::Constants::sets))]
+fn written_names(
+    alloc: Global,
+    circuit: &Circuit,
+    names: &[Name],
+) -> Result<IndexSet<Name>, AllocError>
+    requires { names.now ≡ gate_names circuit.now }
+    ensures { IfOk result (λ set. set.keys ≡ each_once [] (sources_of circuit.now ++ gate_names circuit.now)) }
+{
+    let mut written = IndexSet::new(alloc);
+    note_names(&mut written, &circuit.inputs)?;
+    note_latches(&mut written, &circuit.latches)?;
+    note_names(&mut written, names)?;
+    Ok(written)
+}
+
+/// The tables of a circuit: gates, constants that latches need, and outputs whose names weren't written.
+fn tables_of(alloc: Global, circuit: &Circuit, names: &GateNames) -> Result<Vec<Table>, AllocError>
+    requires proper { IsProper circuit.now }
+    requires gates { names.now.names.items ≡ gate_names circuit.now }
+    requires first { names.now.first_spare ≡ first_spare circuit.now }
+    requires second { names.now.second_spare ≡ second_spare circuit.now }
+    ensures { IfOk result (λ tables. tables.items ≡ written.gate_tables (place_name_of circuit.now) circuit.now.net.gates (gate_names circuit.now) ++ written.constant_tables circuit.now ++ output_tables_of (place_name_of circuit.now) (each_once [] (sources_of circuit.now ++ gate_names circuit.now)) circuit.now.outputs circuit.now.net.sinks) }
+{
+    let gates = &names.names;
+    let mut tables = Vec::new(alloc);
+    push_gates(
+        alloc,
+        circuit,
+        gates,
+        circuit.net.gates(),
+        gates,
+        &mut tables,
+    )?;
+    push_constants(alloc, circuit, names, &mut tables)?;
+    let mut written = written_names(alloc, circuit, gates)?;
+    let sinks = circuit.net.sinks();
+    push_outputs(
+        alloc,
+        circuit,
+        gates,
+        &mut written,
+        &circuit.outputs,
+        sinks,
+        &mut tables,
+    )?;
+    Ok(tables)
+}
+
+/// The document of a circuit.
+#[tactic(auto, unfolding(crate::specs::Written::written))]
+pub fn document_of(alloc: Global, circuit: &Circuit) -> Result<Document, AllocError>
+    requires { IsProper circuit.now }
+    ensures { IfOk result (λ d. d ≡ written.written circuit.now) }
+{
+    let names = all_names(alloc, circuit)?;
+    let tables = tables_of(alloc, circuit, &names)?;
+    let sinks = latch_sinks(circuit);
+    let latches = latch_lines(
+        alloc,
+        circuit,
+        &names,
+        has_zero(sinks),
+        &circuit.latches,
+        sinks,
+    )?;
+    Ok(Document {
+        model: circuit.model.copied()?,
+        inputs: copies(alloc, &circuit.inputs)?,
+        outputs: copies(alloc, &circuit.outputs)?,
+        clocks: copies(alloc, &circuit.clocks)?,
+        latches,
+        tables,
+    })
+}

@@ -1,0 +1,13 @@
+pub use Rattle.text_core.specs.Lines
+pub use Rattle.text_core.specs.Cuts
+pub use Rattle.net_theory.specs.Document
+pub use Rattle.net_theory.specs.Cover
+pub use Rattle.net_document.specs.Listed
+pub mod Logical
+pub mod Words
+pub mod Walks
+pub mod Reading
+pub mod Rows
+pub mod Latches
+pub mod Found
+pub mod Statements

@@ -1,0 +1,150 @@
+-- The statements of a BLIF text, in the order of its logical lines, and the first fault where they are
+-- none. Lines are judged in their order; on one line the order is that of the tests. A line without
+-- words is passed over.
+use Rattle.std.specs.Prelude.{ℕ, Bool, true, false, not, ◌&&◌, ◌==◌, nat_lt, if◌then◌else◌, List, [], ◌∷◌, ◌++◌, length, map, Option, Some, None, Result, Ok, Err, codes, option_to_list}
+use Rattle.std.specs.List.{list_all}
+use Rattle.net_theory.specs.declared.data.Trigger.{Trigger}
+use Rattle.net_theory.specs.Document.{Name, is_name, is_same, has, Table, LatchLine, table_output}
+use Rattle.net_core.specs.declared.error.NetError.{NetError}
+use Rattle.net_core.specs.declared.error.NetError.TheVariants.{Syntax, NotSupported, TooWide, LineTooLong, NameTooLong}
+use Rattle.net_document.specs.Listed.{Listed}
+use Rattle.blif_text.specs.declared.keywords.Keyword.{Keyword}
+use Rattle.blif_text.specs.declared.keywords.Keyword.TheVariants.{Model, Inputs, Outputs, Clock, Names, Latch, End, Unknown}
+use Rattle.blif_text.specs.Logical.{Logical, logical_of}
+use Rattle.blif_text.specs.Words.{words_of, has_long}
+use Rattle.blif_text.specs.Rows.{row_of}
+use Rattle.blif_text.specs.Latches.{latch_of}
+use Rattle.blif_text.specs.Reading.{◌>>=◌}
+
+-- the control of a latch, with the latch's line
+pub record Control : Type 0 where
+  pub line : ℕ
+  pub name : Name
+
+-- What was said so far. The last table is kept apart as long as cover lines of it may follow.
+pub record Said : Type 0 where
+  pub model : Name
+  pub inputs : List Name
+  pub outputs : List Name
+  pub clocks : List Name
+  pub latches : List LatchLine
+  pub tables : List Table
+  pub current : Option Table
+  pub driven : List Name
+  pub used : List Name
+  pub controls : List Control
+  pub has_model : Bool
+  pub is_begun : Bool
+  pub is_ended : Bool
+
+-- The model's name is `top` where no name is said.
+abbrev pub nothing : Said
+nothing = record { model = codes "top"; inputs = []; outputs = []; clocks = []; latches = []; tables = []; current = None; driven = []; used = []; controls = []; has_model = false; is_begun = false; is_ended = false }
+
+-- a statement begins, and so the cover of the last table is whole
+abbrev pub closed : Said → Said
+closed s = record s { tables = s.tables ++ option_to_list s.current; current = None; is_begun = true }
+
+-- ---- statements
+
+unfoldable pub keyword_of : List ℕ → Keyword
+keyword_of word = if is_same word (codes ".model") then Model else (if is_same word (codes ".inputs") then Inputs else (if is_same word (codes ".outputs") then Outputs else (if is_same word (codes ".clock") then Clock else (if is_same word (codes ".names") then Names else (if is_same word (codes ".latch") then Latch else (if is_same word (codes ".end") then End else Unknown))))))
+
+abbrev pub begins_dot : List ℕ → Bool
+begins_dot [] = false
+begins_dot (b ∷ bs) = b == 46
+
+unfoldable pub are_names : List (List ℕ) → Bool
+are_names words = list_all is_name words
+
+-- `.model NAME`; the name may be missing
+unfoldable pub with_model : ℕ → Said → List (List ℕ) → Result Said NetError
+with_model line s [] = Ok (record s { has_model = true })
+with_model line s (w ∷ []) = if is_name w then Ok (record s { model = w; has_model = true }) else Err (Syntax line)
+with_model line s (w ∷ v ∷ ws) = Err (Syntax line)
+
+-- the words before the last one, where w is the first
+unfoldable pub front_of : List ℕ → List (List ℕ) → List (List ℕ)
+front_of w [] = []
+front_of w (v ∷ ws) = w ∷ front_of v ws
+
+unfoldable pub last_of : List ℕ → List (List ℕ) → List ℕ
+last_of w [] = w
+last_of w (v ∷ ws) = last_of v ws
+
+abbrev pub empty_table : List Name → Name → Table
+empty_table inputs output = record { inputs = inputs; output = output; cover = record { width = length inputs; cubes = []; on = true } }
+
+-- `.names INPUTS OUTPUT`
+unfoldable pub table_of : ℕ → List (List ℕ) → Result Table NetError
+table_of line [] = Err (Syntax line)
+table_of line (w ∷ ws) = if nat_lt 256 (length ws) then Err (TooWide line) else (if are_names (w ∷ ws) then Ok (empty_table (front_of w ws) (last_of w ws)) else Err (Syntax line))
+
+abbrev pub with_table : Said → Table → Said
+with_table s t = record s { current = Some t; driven = s.driven ++ t.output ∷ []; used = s.used ++ t.inputs }
+
+abbrev pub control_at : ℕ → Option (Trigger × Name) → List Control
+control_at line None = []
+control_at line (Some c) = record { line = line; name = c.1 } ∷ []
+
+abbrev pub with_latch : ℕ → Said → LatchLine → Said
+with_latch line s l = record s { latches = s.latches ++ l ∷ []; driven = s.driven ++ l.latch.output ∷ []; used = s.used ++ l.input ∷ []; controls = s.controls ++ control_at line l.latch.control }
+
+abbrev pub is_none : List (List ℕ) → Bool
+is_none [] = true
+is_none (w ∷ ws) = false
+
+-- a line that begins with a dot; first tells whether nothing was said before it
+unfoldable pub directed : ℕ → Said → Bool → List ℕ → List (List ℕ) → Keyword → Result Said NetError
+directed line s first word ws Model = if s.has_model then Err (NotSupported line word) else (if first then with_model line s ws else Err (Syntax line))
+directed line s first word ws Inputs = if are_names ws then Ok (record s { inputs = s.inputs ++ ws; driven = s.driven ++ ws }) else Err (Syntax line)
+directed line s first word ws Outputs = if are_names ws then Ok (record s { outputs = s.outputs ++ ws }) else Err (Syntax line)
+directed line s first word ws Clock = if are_names ws then Ok (record s { clocks = s.clocks ++ ws }) else Err (Syntax line)
+directed line s first word ws Names = table_of line ws >>= λ t. Ok (with_table s t)
+directed line s first word ws Latch = latch_of line ws >>= λ l. Ok (with_latch line s l)
+directed line s first word ws End = if is_none ws then Ok (record s { is_ended = true }) else Err (Syntax line)
+directed line s first word ws Unknown = Err (NotSupported line word)
+
+-- a cover line: the last statement has to be a table
+abbrev pub covered : ℕ → Said → Option Table → List (List ℕ) → Result Said NetError
+covered line s None words = Err (Syntax line)
+covered line s (Some t) words = row_of line t words >>= λ u. Ok (record s { current = Some u })
+
+-- behind `.end` nothing follows; a second model is told as such
+abbrev pub behind_end : ℕ → Said → List ℕ → Result Said NetError
+behind_end line s word = if is_same word (codes ".model") && s.has_model then Err (NotSupported line word) else Err (Syntax line)
+
+abbrev pub stated : ℕ → Said → List (List ℕ) → Result Said NetError
+stated line s [] = Ok s
+stated line s (w ∷ ws) = if s.is_ended then behind_end line s w else (if begins_dot w then directed line (closed s) (not s.is_begun) w ws (keyword_of w) else covered line s s.current (w ∷ ws))
+
+-- a logical line
+unfoldable pub step : Said → Logical → Result Said NetError
+step s l = if nat_lt 1048576 l.size then Err (LineTooLong l.first) else (if has_long (words_of l.text) then Err (NameTooLong l.first) else stated l.first s (words_of l.text))
+
+unfoldable pub steps : Said → List Logical → Result Said NetError
+steps s [] = Ok (closed s)
+steps s (l ∷ ls) = step s l >>= λ t. steps t ls
+
+-- what a text says
+unfoldable pub said_of : List ℕ → Result Said NetError
+said_of bytes = steps nothing (logical_of 1 bytes)
+
+-- ---- the document
+
+abbrev pub listed_by : Said → Listed
+listed_by s = record { document = record { model = s.model; inputs = s.inputs; outputs = s.outputs; clocks = s.clocks; latches = s.latches; tables = s.tables }; driven = s.driven; used = s.used }
+
+-- the first control among these names, which tables drive
+unfoldable pub control_fault : List Name → List Control → Option NetError
+control_fault driven [] = None
+control_fault driven (c ∷ cs) = if has driven c.name then Some (NotSupported c.line c.name) else control_fault driven cs
+
+abbrev pub unless : {A : Type 0} → Option NetError → A → Result A NetError
+unless None x = Ok x
+unless (Some e) x = Err e
+
+-- The document of a text, or the first fault of its lines. A control that a table drives is told
+-- behind them. That the document is well formed isn't said here.
+unfoldable pub listed_of : List ℕ → Result Listed NetError
+listed_of bytes = said_of bytes >>= λ s. unless (control_fault (map table_output s.tables) s.controls) (listed_by s)

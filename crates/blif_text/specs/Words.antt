@@ -1,0 +1,21 @@
+-- The words of a logical line.
+use Rattle.std.specs.Prelude.{ℕ, Bool, if◌then◌else◌, nat_lt, List, [], ◌∷◌, ◌++◌, length}
+use Rattle.std.specs.List.{list_any}
+use Rattle.blif_text.specs.Logical.{is_blank}
+
+abbrev pub word_then : List ℕ → List (List ℕ) → List (List ℕ)
+word_then [] ws = ws
+word_then (b ∷ bs) ws = (b ∷ bs) ∷ ws
+
+-- the words of front ++ text, where front has no blank
+unfoldable pub words_from : List ℕ → List ℕ → List (List ℕ)
+words_from front [] = word_then front []
+words_from front (b ∷ bs) = if is_blank b then word_then front (words_from [] bs) else words_from (front ++ b ∷ []) bs
+
+-- the words of a text: what stands between blanks, and isn't empty
+abbrev pub words_of : List ℕ → List (List ℕ)
+words_of text = words_from [] text
+
+-- whether some word has more than 1,024 bytes
+unfoldable pub has_long : List (List ℕ) → Bool
+has_long words = list_any (λ (w : List ℕ). nat_lt 1024 (length w)) words

@@ -1,0 +1,28 @@
+//! The text of BLIF netlists (the Berkeley BLIF manual): logical lines, words and statements, and the
+//! document that they list. Every fault of a line is told with the number of its line, in an order that
+//! the definitions in `specs/` fix; whether the document is well formed is asked by whoever makes a
+//! circuit of it.
+//!
+//! ```text
+//! let listed = read_listed(alloc, b".model m\n.inputs a\n.outputs y\n.names a y\n0 1\n.end\n")?;
+//! ```
+#![tactic(auto)]
+
+mod keywords;
+mod latches;
+mod logical;
+mod reading;
+mod rows;
+mod statements;
+mod walking;
+mod words;
+
+pub use keywords::Keyword;
+pub use logical::{LogicalLine, next_logical};
+pub use net_document::{Listed, NetError};
+pub use reading::{Control, Reading};
+pub use walking::read_listed;
+pub use words::next_word;
+
+#[cfg(test)]
+mod tests;

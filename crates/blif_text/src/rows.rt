@@ -1,0 +1,88 @@
+//! Cover lines.
+
+ghost use Rattle.std.specs.Prelude.{◌≡◌};
+ghost use Rattle.std.specs.List.{list_all};
+ghost use Rattle.net_theory.specs.Cover.{is_cube as is_cube_of, is_cube_byte};
+ghost use Rattle.blif_text.specs.Reading.{Gives};
+ghost use Rattle.blif_text.specs.Words.{words_of};
+ghost use Rattle.blif_text.specs.Rows.{bit_in as bit_in_of, row_in as row_in_of, agrees as agrees_of, row_of};
+ghost use Rattle.blif_text.specs.Found.{row_found};
+
+use crate::words::next_word;
+use net_document::{Cube, NetError, Table};
+use std::alloc::Global;
+
+/// The byte 0 or 1 alone.
+#[tactic(auto, unfolding(crate::specs::Rows::bit_in))]
+fn bit_in(word: &[u8]) -> Option<bool>
+    ensures { result ≡ bit_in_of word.now }
+{
+    match word {
+        [b'1'] => Some(true),
+        [b'0'] => Some(false),
+        _ => None,
+    }
+}
+
+/// Whether all bytes can stand in a cube.
+fn are_cube_bytes(bytes: &[u8]) -> bool
+    ensures { result ≡ list_all is_cube_byte bytes.now }
+{
+    bytes
+        .iter()
+        .all(|byte| *byte == b'0' || *byte == b'1' || *byte == b'-')
+}
+
+/// Whether these bytes are a cube of so many inputs.
+fn is_cube(width: u32, bytes: &[u8]) -> bool
+    ensures { result ≡ is_cube_of width bytes.now }
+{
+    bytes.len() == width as usize && are_cube_bytes(bytes)
+}
+
+/// The cube and the value of a cover line in a table of so many inputs.
+#[tactic(auto, unfolding(crate::specs::Rows::row_in))]
+fn row_in(width: u32, text: &[u8]) -> Option<(&[u8], bool)>
+    ensures { row_found result ≡ row_in_of width (words_of text.now) }
+{
+    let (first, rest) = next_word(text)?;
+    let Some((value, rest)) = next_word(rest) else {
+        if width != 0 {
+            return None;
+        }
+        return Some((&[], bit_in(first)?));
+    };
+    if next_word(rest).is_some() || !is_cube(width, first) {
+        return None;
+    }
+    Some((first, bit_in(value)?))
+}
+
+/// Whether two values are one.
+fn agrees(one: bool, other: bool) -> bool
+    ensures { result ≡ agrees_of one other }
+{
+    if one { other } else { !other }
+}
+
+/// Adds a cover line to a table.
+#[tactic(auto, unfolding(crate::specs::Rows::row_of))]
+pub fn take_row(alloc: Global, line: u32, table: &mut Table, text: &[u8]) -> Result<(), NetError>
+    ensures { Gives (λ _. table.new) result (row_of line table.old (words_of text.now)) }
+{
+    let Some((cube, on)) = row_in(table.cover.width, text) else {
+        return Err(NetError::Syntax(line));
+    };
+    if table.cover.cubes.len() >= 4096 {
+        return Err(NetError::TooManyRows(line));
+    }
+    if !table.cover.cubes.is_empty() && !agrees(on, table.cover.on) {
+        return Err(NetError::MixedCover(line));
+    }
+    table
+        .cover
+        .cubes
+        .push(Cube::new(Vec::from_slice(alloc, cube)?))?;
+    table.cover.on = on;
+    Ok(())
+}

@@ -1,0 +1,319 @@
+//! Statements, one function each.
+
+ghost use Rattle.std.specs.Prelude.{◌≡◌, ◌++◌, true, not, length, map, OnOk, IfOk};
+ghost use Rattle.blif_text.specs.Reading.{Gives};
+ghost use Rattle.blif_text.specs.Words.{words_of};
+ghost use Rattle.blif_text.specs.Statements as say;
+ghost use Rattle.blif_text.specs.Statements.{with_model, table_of as table_of_words, front_of, last_of, directed, covered, behind_end as behind_end_of, begins_dot as begins_dot_of, control_at, stated, step};
+ghost use Rattle.blif_text.specs.declared.keywords.Keyword.TheVariants.{Model, Inputs, Outputs, Clock, Names, Latch, End, Unknown};
+
+use crate::keywords::{Keyword, keyword_of};
+use crate::latches::latch_of;
+use crate::logical::LogicalLine;
+use crate::reading::{Control, Reading};
+use crate::rows::take_row;
+use crate::words::{add_copies, add_words, are_names, count_words, has_long, is_name, next_word};
+use net_document::{Cover, LatchLine, Name, NetError, Table, Trigger};
+use std::alloc::{AllocError, Global};
+
+/// The name of the model, which may be missing.
+#[tactic(auto, unfolding(crate::specs::Statements::with_model))]
+fn name_model(alloc: Global, line: u32, reading: &mut Reading, text: &[u8]) -> Result<(), NetError>
+    ensures { Gives (λ _. reading.new) result (with_model line reading.old (words_of text.now)) }
+{
+    let Some((word, rest)) = next_word(text) else {
+        reading.has_model = true;
+        return Ok(());
+    };
+    if next_word(rest).is_some() || !is_name(word) {
+        return Err(NetError::Syntax(line));
+    }
+    reading.model = Name::of(alloc, word)?;
+    reading.has_model = true;
+    Ok(())
+}
+
+/// `.model`
+#[tactic(auto, unfolding(crate::specs::Statements::directed))]
+fn take_model(
+    alloc: Global,
+    line: u32,
+    reading: &mut Reading,
+    is_first: bool,
+    word: &[u8],
+    text: &[u8],
+) -> Result<(), NetError>
+    ensures { Gives (λ _. reading.new) result (directed line reading.old is_first word.now (words_of text.now) Model) }
+{
+    if reading.has_model {
+        return Err(NetError::NotSupported(line, Name::of(alloc, word)?));
+    }
+    if !is_first {
+        return Err(NetError::Syntax(line));
+    }
+    name_model(alloc, line, reading, text)
+}
+
+/// `.inputs`
+#[tactic(auto, unfolding(crate::specs::Statements::directed))]
+fn take_inputs(
+    line: u32,
+    reading: &mut Reading,
+    is_first: bool,
+    word: &[u8],
+    text: &[u8],
+) -> Result<(), NetError>
+    ensures { Gives (λ _. reading.new) result (directed line reading.old is_first word.now (words_of text.now) Inputs) }
+{
+    if !are_names(text) {
+        return Err(NetError::Syntax(line));
+    }
+    add_words(&mut reading.inputs, text)?;
+    add_words(&mut reading.driven, text)?;
+    Ok(())
+}
+
+/// `.outputs`
+#[tactic(auto, unfolding(crate::specs::Statements::directed))]
+fn take_outputs(
+    line: u32,
+    reading: &mut Reading,
+    is_first: bool,
+    word: &[u8],
+    text: &[u8],
+) -> Result<(), NetError>
+    ensures { Gives (λ _. reading.new) result (directed line reading.old is_first word.now (words_of text.now) Outputs) }
+{
+    if !are_names(text) {
+        return Err(NetError::Syntax(line));
+    }
+    add_words(&mut reading.outputs, text)?;
+    Ok(())
+}
+
+/// `.clock`
+#[tactic(auto, unfolding(crate::specs::Statements::directed))]
+fn take_clocks(
+    line: u32,
+    reading: &mut Reading,
+    is_first: bool,
+    word: &[u8],
+    text: &[u8],
+) -> Result<(), NetError>
+    ensures { Gives (λ _. reading.new) result (directed line reading.old is_first word.now (words_of text.now) Clock) }
+{
+    if !are_names(text) {
+        return Err(NetError::Syntax(line));
+    }
+    add_words(&mut reading.clocks, text)?;
+    Ok(())
+}
+
+/// All words but the last one, and that one.
+#[tactic(auto, unfolding(crate::specs::Statements::front_of, crate::specs::Statements::last_of))]
+fn split_last_word(
+    alloc: Global,
+    first: &[u8],
+    text: &[u8],
+) -> Result<(Vec<Name>, Name), AllocError>
+    ensures front { IfOk result (λ x. x.0.items ≡ front_of first.now (words_of text.now)) }
+    ensures last { IfOk result (λ x. x.1 ≡ last_of first.now (words_of text.now)) }
+    ensures count { IfOk result (λ x. length x.0.items ≡ length (words_of text.now)) }
+{
+    let mut inputs = Vec::new(alloc);
+    let mut word = first;
+    let mut left = text;
+    while let Some((next, rest)) = next_word(left) {
+        inputs.push(Name::of(alloc, word)?)?;
+        word = next;
+        left = rest;
+    }
+    Ok((inputs, Name::of(alloc, word)?))
+}
+
+/// A table without cover lines.
+#[tactic(auto, unfolding(crate::specs::Statements::table_of))]
+fn table_of(alloc: Global, line: u32, text: &[u8]) -> Result<Table, NetError>
+    ensures { Gives (λ t. t) result (table_of_words line (words_of text.now)) }
+{
+    let Some((first, rest)) = next_word(text) else {
+        return Err(NetError::Syntax(line));
+    };
+    if count_words(rest) > 256 {
+        return Err(NetError::TooWide(line));
+    }
+    if !are_names(text) {
+        return Err(NetError::Syntax(line));
+    }
+    let (inputs, output) = split_last_word(alloc, first, rest)?;
+    let cover = Cover {
+        width: inputs.len() as u32,
+        cubes: Vec::new(alloc),
+        on: true,
+    };
+    Ok(Table {
+        inputs,
+        output,
+        cover,
+    })
+}
+
+/// `.names`
+#[tactic(auto, unfolding(crate::specs::Statements::directed))]
+fn take_table(
+    alloc: Global,
+    line: u32,
+    reading: &mut Reading,
+    is_first: bool,
+    word: &[u8],
+    text: &[u8],
+) -> Result<(), NetError>
+    ensures { Gives (λ _. reading.new) result (directed line reading.old is_first word.now (words_of text.now) Names) }
+{
+    let table = table_of(alloc, line, text)?;
+    reading.driven.push(table.output.copied()?)?;
+    add_copies(&mut reading.used, &table.inputs)?;
+    reading.current = Some(table);
+    Ok(())
+}
+
+/// Notes the control of a latch.
+fn note_control(
+    controls: &mut Vec<Control>,
+    line: u32,
+    control: &Option<(Trigger, Name)>,
+) -> Result<(), AllocError>
+    ensures { OnOk result (controls.new.items ≡ controls.old.items ++ control_at line control.now) }
+{
+    if let Some((_, name)) = control {
+        controls.push(Control {
+            line,
+            name: name.copied()?,
+        })?;
+    }
+    Ok(())
+}
+
+/// `.latch`
+#[tactic(auto, unfolding(crate::specs::Statements::directed))]
+fn take_latch(
+    alloc: Global,
+    line: u32,
+    reading: &mut Reading,
+    is_first: bool,
+    word: &[u8],
+    text: &[u8],
+) -> Result<(), NetError>
+    ensures { Gives (λ _. reading.new) result (directed line reading.old is_first word.now (words_of text.now) Latch) }
+{
+    let LatchLine { input, latch } = latch_of(alloc, line, text)?;
+    reading.driven.push(latch.output.copied()?)?;
+    reading.used.push(input.copied()?)?;
+    note_control(&mut reading.controls, line, &latch.control)?;
+    reading.latches.push(LatchLine { input, latch })?;
+    Ok(())
+}
+
+/// `.end`
+#[tactic(auto, unfolding(crate::specs::Statements::directed))]
+fn take_end(
+    line: u32,
+    reading: &mut Reading,
+    is_first: bool,
+    word: &[u8],
+    text: &[u8],
+) -> Result<(), NetError>
+    ensures { Gives (λ _. reading.new) result (directed line reading.old is_first word.now (words_of text.now) End) }
+{
+    if next_word(text).is_some() {
+        return Err(NetError::Syntax(line));
+    }
+    reading.is_ended = true;
+    Ok(())
+}
+
+/// A line that begins with a dot.
+#[tactic(auto, unfolding(crate::specs::Statements::directed))]
+fn direct(
+    alloc: Global,
+    line: u32,
+    reading: &mut Reading,
+    is_first: bool,
+    word: &[u8],
+    text: &[u8],
+) -> Result<(), NetError>
+    ensures { Gives (λ _. reading.new) result (directed line reading.old is_first word.now (words_of text.now) (say.keyword_of word.now)) }
+{
+    match keyword_of(word) {
+        Keyword::Model => take_model(alloc, line, reading, is_first, word, text),
+        Keyword::Inputs => take_inputs(line, reading, is_first, word, text),
+        Keyword::Outputs => take_outputs(line, reading, is_first, word, text),
+        Keyword::Clock => take_clocks(line, reading, is_first, word, text),
+        Keyword::Names => take_table(alloc, line, reading, is_first, word, text),
+        Keyword::Latch => take_latch(alloc, line, reading, is_first, word, text),
+        Keyword::End => take_end(line, reading, is_first, word, text),
+        Keyword::Unknown => Err(NetError::NotSupported(line, Name::of(alloc, word)?)),
+    }
+}
+
+/// A cover line.
+fn cover(alloc: Global, line: u32, reading: &mut Reading, text: &[u8]) -> Result<(), NetError>
+    ensures { Gives (λ _. reading.new) result (covered line reading.old reading.old.current (words_of text.now)) }
+{
+    match &mut reading.current {
+        Some(table) => take_row(alloc, line, table, text),
+        None => Err(NetError::Syntax(line)),
+    }
+}
+
+/// Whether a word begins with a dot.
+fn begins_dot(word: &[u8]) -> bool
+    ensures { result ≡ begins_dot_of word.now }
+{
+    match word.first() {
+        Some(byte) => *byte == b'.',
+        None => false,
+    }
+}
+
+/// The fault of a line behind `.end`.
+fn behind_end(alloc: Global, line: u32, reading: &Reading, word: &[u8]) -> Result<(), NetError>
+    ensures { Gives (λ _. reading.now) result (behind_end_of line reading.now word.now) }
+{
+    if word == b".model".as_slice() && reading.has_model {
+        return Err(NetError::NotSupported(line, Name::of(alloc, word)?));
+    }
+    Err(NetError::Syntax(line))
+}
+
+/// A statement or a cover line, by its words.
+fn state(alloc: Global, line: u32, reading: &mut Reading, text: &[u8]) -> Result<(), NetError>
+    ensures { Gives (λ _. reading.new) result (stated line reading.old (words_of text.now)) }
+{
+    let Some((word, rest)) = next_word(text) else {
+        return Ok(());
+    };
+    if reading.is_ended {
+        return behind_end(alloc, line, reading, word);
+    }
+    if !begins_dot(word) {
+        return cover(alloc, line, reading, text);
+    }
+    let is_first = !reading.is_begun;
+    reading.close()?;
+    direct(alloc, line, reading, is_first, word, rest)
+}
+
+/// A logical line.
+#[tactic(auto, unfolding(crate::specs::Statements::step))]
+pub fn take_line(alloc: Global, reading: &mut Reading, line: &LogicalLine) -> Result<(), NetError>
+    ensures { Gives (λ _. reading.new) result (step reading.old line.now) }
+{
+    if line.size > 1_048_576 {
+        return Err(NetError::LineTooLong(line.first));
+    }
+    if has_long(&line.text) {
+        return Err(NetError::NameTooLong(line.first));
+    }
+    state(alloc, line.first, reading, &line.text)
+}

@@ -1,0 +1,127 @@
+//! Logical lines, one after the other.
+
+ghost use Rattle.std.specs.Prelude.{◌≡◌, ◌+◌, ◌*◌, ◌≤◌, ◌<◌, ◌^◌, [], length, map, None, IfOk, IfErr};
+ghost use Rattle.net_theory.specs.Document.{table_output};
+ghost use Rattle.net_theory.specs.Naming.{each_once};
+ghost use Rattle.blif_text.specs.Reading.{Gives};
+ghost use Rattle.net_document.specs.Refusals.{Tells};
+ghost use Rattle.net_document.specs.Listed.{IsListed, AreFree};
+ghost use Rattle.net_theory.specs.Cost.{cost};
+ghost use Rattle.net_theory.specs.NetOf.{source_count};
+ghost use Rattle.blif_text.specs.Statements.{said_of, control_fault as control_fault_of, listed_by as listed_by_said, listed_of};
+
+use crate::logical::next_logical;
+use crate::reading::{Control, Reading};
+use crate::statements::take_line;
+use indexmap::IndexSet;
+use net_document::{Document, Listed, Name, NetError, Table};
+use std::alloc::{AllocError, Global};
+
+/// What a text says.
+#[tactic(auto, unfolding(crate::specs::Statements::said_of, crate::specs::Statements::steps))]
+pub fn read_said(alloc: Global, bytes: &[u8]) -> Result<Reading, NetError>
+    requires { length bytes.now < 2 ^ 31 }
+    ensures { Gives (λ r. r) result (said_of bytes.now) }
+{
+    let mut reading = Reading::new(alloc)?;
+    let mut number = 1;
+    let mut left = bytes;
+    while let Some((line, next, rest)) = next_logical(alloc, number, left)? {
+        take_line(alloc, &mut reading, &line)?;
+        number = next;
+        left = rest;
+    }
+    reading.close()?;
+    Ok(reading)
+}
+
+/// What tables drive.
+#[tactic(auto, unfolding(net_theory::specs::Naming::each_once, net_theory::specs::Document::has))]
+fn table_outputs(alloc: Global, tables: &[Table]) -> Result<IndexSet<Name>, AllocError>
+    ensures { IfOk result (λ set. set.keys ≡ each_once [] (map table_output tables.now)) }
+{
+    let mut set = IndexSet::new(alloc);
+    let mut left = tables;
+    while let Some((table, rest)) = left.split_first() {
+        set.insert(table.output.copied()?)?;
+        left = rest;
+    }
+    Ok(set)
+}
+
+/// Refuses the first control among these names.
+#[tactic(auto, unfolding(crate::specs::Statements::control_fault, net_theory::specs::Document::has))]
+fn refuse_driven(driven: &IndexSet<Name>, controls: &[Control]) -> Result<(), NetError>
+    ensures good { IfOk result (λ _. control_fault_of driven.now.keys controls.now ≡ None) }
+    ensures refused { IfErr result (λ e. Tells e (control_fault_of driven.now.keys controls.now)) }
+{
+    let mut left = controls;
+    while let Some((control, rest)) = left.split_first() {
+        if driven.contains(&control.name) {
+            return Err(NetError::NotSupported(control.line, control.name.copied()?));
+        }
+        left = rest;
+    }
+    Ok(())
+}
+
+/// Refuses the first control that a table drives.
+#[tactic(auto, using(crate::proofs::Controls::controls))]
+fn check_controls(alloc: Global, reading: &Reading) -> Result<(), NetError>
+    ensures good { IfOk result (λ _. control_fault_of (map table_output reading.now.tables) reading.now.controls ≡ None) }
+    ensures refused { IfErr result (λ e. Tells e (control_fault_of (map table_output reading.now.tables) reading.now.controls)) }
+{
+    let driven = table_outputs(alloc, &reading.tables)?;
+    refuse_driven(&driven, &reading.controls)
+}
+
+/// The document of what was said.
+fn listed_by(reading: Reading) -> Listed
+    ensures { result ≡ listed_by_said reading }
+{
+    let Reading {
+        model,
+        inputs,
+        outputs,
+        clocks,
+        latches,
+        tables,
+        current: _,
+        driven,
+        used,
+        controls: _,
+        has_model: _,
+        is_begun: _,
+        is_ended: _,
+    } = reading;
+    Listed {
+        document: Document {
+            model,
+            inputs,
+            outputs,
+            clocks,
+            latches,
+            tables,
+        },
+        driven,
+        used,
+    }
+}
+
+/// The document of a text, with the names that the text drives and uses in its order.
+///
+/// Lines are judged in their order, and the first fault is told with its line. That the document is well
+/// formed isn't asked here, but for controls, which no table may drive.
+#[tactic(auto, unfolding(crate::specs::Statements::listed_of))]
+pub fn read_listed(alloc: Global, bytes: &[u8]) -> Result<Listed, NetError>
+    requires { length bytes.now < 2 ^ 31 }
+    ensures exact { Gives (λ l. l) result (listed_of bytes.now) }
+    ensures listed { IfOk result IsListed }
+    ensures free { IfOk result (λ l. AreFree l.document) }
+    ensures few { IfOk result (λ l. length l.document.tables ≤ length bytes.now) }
+    ensures small { IfOk result (λ l. 2 * source_count l.document + cost l.document ≤ length bytes.now) }
+{
+    let reading = read_said(alloc, bytes)?;
+    check_controls(alloc, &reading)?;
+    Ok(listed_by(reading))
+}

@@ -1,0 +1,60 @@
+-- What the parts of the program answer on the way to a circuit.
+use Rattle.std.specs.Prelude.{◌≡◌, ℕ, ◌+◌, ◌<◌, ◌^◌, if◌then◌else◌, List, [], ◌∷◌, length, Option, Some, None, take}
+use Rattle.std.specs.List.{filter_map}
+use Rattle.net_theory.specs.declared.data.Sig.{Sig}
+use Rattle.net_theory.specs.declared.data.Gate.{Gate}
+use Rattle.net_theory.specs.Net.{Net, IsSigBelow, end_of}
+use Rattle.net_theory.specs.Cover.{Cover, IsCover}
+use Rattle.net_theory.specs.Cost.{cover_cost, merged_table}
+use Rattle.net_theory.specs.Document.{Name, is_same, Table, Document}
+use Rattle.net_theory.specs.NetOf.{Signals, Growth, graph_of, source_count}
+use Rattle.net_theory.specs.NetLaws.{IsGrowth}
+use Rattle.net_theory.specs.Dependence.{IsFirstCyclic}
+use Rattle.net_core.specs.declared.error.NetError.{NetError}
+use Rattle.net_core.specs.declared.error.NetError.TheVariants.{Memory, Cycle}
+use Rattle.net_theory.specs.Visit.{Graph}
+use Rattle.net_theory.specs.VisitLaws.{IsRun}
+
+-- a table with another cover of its first input alone, where there is one
+abbrev pub merged_by : Table → Option Cover → Table
+merged_by t None = t
+merged_by t (Some c) = record { inputs = take 1 t.inputs; output = t.output; cover = c }
+
+abbrev pub growth : List Gate → Signals → Growth
+growth gates signals = record { gates = gates; signals = signals }
+
+-- for each table those that drive its inputs, by who drives a name
+unfoldable pub graph_by : (Name → Option ℕ) → List Table → Graph
+graph_by driver [] = []
+graph_by driver (t ∷ ts) = filter_map driver t.inputs ∷ graph_by driver ts
+
+-- each signal is one of the net's
+pub record AreBelow (n : Net) (signals : Signals) : Type 0 where
+  pub each : (name : Name) (s : Sig) → signals name ≡ Some s → IsSigBelow (end_of n) s
+
+-- a cover over these inputs can be put behind a net
+pub record Fits (n : Net) (c : Cover) (inputs : List Name) : Type 0 where
+  pub cover : IsCover c
+  pub width : c.width ≡ length inputs
+  pub room : n.sources + length n.gates + cover_cost c inputs < 2 ^ 31
+
+abbrev pub FitsTable : Net → Table → Type 0
+FitsTable n t = Fits n (merged_table t).cover (merged_table t).inputs
+
+-- The gates so far are those of the tables that are done, and the others may come in their order.
+pub record IsBegun (d : Document) (n : Net) (signals : Signals) (left : List ℕ) : Type 0 where
+  pub sources : n.sources ≡ source_count d
+  pub sinks : n.sinks ≡ []
+  pub done : List ℕ
+  pub grown : IsGrowth d (growth n.gates signals) done
+  pub run : IsRun (graph_of d.tables) (length (graph_of d.tables)) done left
+
+-- who drives names, where one more table does
+abbrev pub with_driver : (Name → Option ℕ) → Name → ℕ → Name → Option ℕ
+with_driver driver name table n = if is_same name n then Some table else driver n
+
+-- why a document without other faults has no net
+abbrev pub IsCyclicError : Document → NetError → Type 0
+IsCyclicError d Memory = Unit {0}
+IsCyclicError d (Cycle name) = IsFirstCyclic d name
+IsCyclicError d e = ⊥

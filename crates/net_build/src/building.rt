@@ -1,0 +1,130 @@
+//! The gates of tables, put behind one another.
+
+ghost use Rattle.std.specs.Prelude.{◌≡◌, ℕ, ◌+◌, ◌<◌, ◌^◌, [], length, slice_get, None, OnOk, IfOk};
+ghost use Rattle.indexmap.specs.IndexMap.{get};
+ghost use Rattle.net_theory.specs.Net.{IsNet};
+ghost use Rattle.net_theory.specs.Document.{is_same};
+ghost use Rattle.net_theory.specs.WellFormed.{IsWellFormed};
+ghost use Rattle.net_theory.specs.VisitLaws.{IsOrder};
+ghost use Rattle.net_theory.specs.NetOf.{grown_by, table_built, with_table, with_tables, graph_of, with_sources, source_count, net_in_order};
+ghost use Rattle.net_theory.specs.Document.{source_names};
+ghost use Rattle.net_build.specs.Parts.{growth, AreBelow, Fits, FitsTable, IsBegun};
+
+use crate::merging::{first_alone, merged_cover};
+use crate::signals::{place_latches, place_names, push_signals, set_signal, sinks_of};
+use indexmap::IndexMap;
+use net_core::{Cover, Name, Net, Sig, expand};
+use net_document::{Document, Table};
+use std::alloc::{AllocError, Global};
+
+/// Puts the gates of a cover over these names behind a net, and gives the output their signal.
+#[tactic(auto, using(crate::proofs::Growths::covers))]
+fn add_cover(
+    alloc: Global,
+    net: &mut Net,
+    signals: &mut IndexMap<Name, Sig>,
+    cover: &Cover,
+    names: &[Name],
+    output: &Name,
+) -> Result<(), AllocError>
+    requires fits { Fits net.old cover.now names.now }
+    requires below { AreBelow net.old (get is_same signals.old) }
+    ensures grown { OnOk result (growth net.new.gates (get is_same signals.new) ≡ grown_by (growth net.old.gates (get is_same signals.old)) output.now (table_built net.old.sources (growth net.old.gates (get is_same signals.old)) (record { inputs = names.now; output = output.now; cover = cover.now }))) }
+    ensures sources { OnOk result (net.new.sources ≡ net.old.sources) }
+    ensures sinks { OnOk result (net.new.sinks ≡ net.old.sinks) }
+{
+    let mut inputs = Vec::new(alloc);
+    push_signals(signals, names, &mut inputs)?;
+    let sig = expand(alloc, net, cover, &inputs)?;
+    set_signal(signals, output, sig)
+}
+
+/// Puts the gates of a table behind a net.
+#[tactic(auto, using(crate::proofs::Growths::tables), unfolding(net_theory::specs::NetOf::with_table))]
+fn add_table(
+    alloc: Global,
+    net: &mut Net,
+    signals: &mut IndexMap<Name, Sig>,
+    table: &Table,
+) -> Result<(), AllocError>
+    requires fits { FitsTable net.old table.now }
+    requires below { AreBelow net.old (get is_same signals.old) }
+    ensures grown { OnOk result (growth net.new.gates (get is_same signals.new) ≡ with_table net.old.sources (growth net.old.gates (get is_same signals.old)) table.now) }
+    ensures sources { OnOk result (net.new.sources ≡ net.old.sources) }
+    ensures sinks { OnOk result (net.new.sinks ≡ net.old.sinks) }
+{
+    match merged_cover(alloc, table)? {
+        Some(cover) => {
+            let names = first_alone(&table.inputs);
+            add_cover(alloc, net, signals, &cover, names, &table.output)
+        }
+        None => add_cover(
+            alloc,
+            net,
+            signals,
+            &table.cover,
+            &table.inputs,
+            &table.output,
+        ),
+    }
+}
+
+/// A table of a document, numbered from 0.
+pub fn table_at(document: &Document, table: u32) -> &Table
+    requires { table < length document.now.tables }
+    ensures { slice_get document.now.tables table ≡ Some result.now }
+{
+    &document.tables[table as usize]
+}
+
+/// Puts the gates of tables behind a net, in an order.
+#[tactic(auto, using(crate::proofs::Growths::runs), unfolding(net_theory::specs::NetOf::with_tables))]
+fn add_tables(
+    alloc: Global,
+    net: &mut Net,
+    signals: &mut IndexMap<Name, Sig>,
+    document: &Document,
+    order: &[u32],
+) -> Result<(), AllocError>
+    requires well { IsWellFormed document.now }
+    requires small { source_count document.now + 100000 < 2 ^ 31 }
+    requires begun { IsBegun document.now net.old (get is_same signals.old) order.now }
+    ensures grown { OnOk result (growth net.new.gates (get is_same signals.new) ≡ with_tables (source_count document.now) document.now.tables (growth net.old.gates (get is_same signals.old)) order.now) }
+    ensures begun { OnOk result (IsBegun document.now net.new (get is_same signals.new) []) }
+{
+    let mut left = order;
+    while let Some((table, rest)) = left.split_first() {
+        add_table(alloc, net, signals, table_at(document, *table))?;
+        left = rest;
+    }
+    Ok(())
+}
+
+/// The signals of the sources: the places from 1 on.
+#[tactic(auto, using(crate::proofs::Growths::sources))]
+fn source_signals(alloc: Global, document: &Document) -> Result<IndexMap<Name, Sig>, AllocError>
+    requires { source_count document.now + 100000 < 2 ^ 31 }
+    ensures { IfOk result (λ m. get is_same m ≡ with_sources (λ n. None) 1 (source_names document.now)) }
+{
+    let mut signals = IndexMap::new(alloc);
+    place_names(&mut signals, 1, &document.inputs)?;
+    let next = 1 + document.inputs.len() as u32;
+    place_latches(&mut signals, next, &document.latches)?;
+    Ok(signals)
+}
+
+/// The net of a document whose tables are ordered.
+#[tactic(auto, using(crate::proofs::Growths::nets), unfolding(net_theory::specs::NetOf::net_in_order))]
+pub fn grow(alloc: Global, document: &Document, order: &[u32]) -> Result<Net, AllocError>
+    requires well { IsWellFormed document.now }
+    requires small { source_count document.now + 100000 < 2 ^ 31 }
+    requires order { IsOrder (graph_of document.now.tables) order.now }
+    ensures { IfOk result (λ net. net ≡ net_in_order document.now order.now) }
+{
+    let mut signals = source_signals(alloc, document)?;
+    let sources = document.inputs.len() + document.latches.len();
+    let mut net = Net::new(sources as u32, Vec::new(alloc), Vec::new(alloc));
+    add_tables(alloc, &mut net, &mut signals, document, order)?;
+    let sinks = sinks_of(alloc, &signals, document)?;
+    Ok(net.with_sinks(sinks))
+}

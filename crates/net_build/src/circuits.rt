@@ -1,0 +1,127 @@
+//! The circuit of a document.
+
+ghost use Rattle.std.specs.Prelude.{◌≡◌, ℕ, ◌+◌, ◌*◌, ◌<◌, ◌^◌, List, map, length, true, Some, None, IfOk, IfErr, OnOk};
+ghost use Rattle.net_theory.specs.Document.{latch_of, are_distinct, table_output};
+ghost use Rattle.net_theory.specs.Visit.{order_of};
+ghost use Rattle.net_theory.specs.Cost.{cost};
+ghost use Rattle.net_theory.specs.Dependence.{IsFirstCyclic};
+ghost use Rattle.net_theory.specs.WellFormed.{IsWellFormed};
+ghost use Rattle.net_theory.specs.Circuit.{IsCircuitOf};
+ghost use Rattle.net_theory.specs.CircuitLaws.{circuit_of as circuit_with};
+ghost use Rattle.net_theory.specs.NetOf.{source_count, graph_of as graph_of_tables};
+ghost use Rattle.net_document.specs.Listed.{IsListed, AreFree};
+ghost use Rattle.net_document.specs.Refusals.{fault_of, IsRefused};
+ghost use Rattle.net_build.specs.Parts.{IsCyclicError};
+
+use crate::building::{grow, table_at};
+use crate::checks::check;
+use crate::signals::graph_of;
+use net_core::{Circuit, Latch, Name, Net, NetError, Reads, first_cyclic, visit_all};
+use net_document::{Document, LatchLine, Listed};
+use std::alloc::{AllocError, Global};
+
+/// The output of the first table that depends on itself, where no order is.
+fn cyclic_name(alloc: Global, document: &Document, graph: &[Reads]) -> Result<Name, AllocError>
+    requires few { length document.now.tables < 2 ^ 31 }
+    requires distinct { are_distinct (map table_output document.now.tables) ≡ true }
+    requires graph { graph.now ≡ graph_of_tables document.now.tables }
+    requires none { order_of graph.now ≡ None }
+    ensures { IfOk result (IsFirstCyclic document.now) }
+{
+    let first = first_cyclic(alloc, graph)?;
+    let Some(table) = first else {
+        unreachable!();
+    };
+    let name = table_at(document, table).output.copied()?;
+    Ok(name)
+}
+
+/// The latches without the names of their inputs.
+fn latches_of(alloc: Global, lines: Vec<LatchLine>) -> Result<Vec<Latch>, AllocError>
+    ensures { IfOk result (λ latches. latches.items ≡ map latch_of lines.items) }
+{
+    let mut latches = Vec::new(alloc);
+    for line in lines {
+        let LatchLine { input: _, latch } = line;
+        latches.push(latch)?;
+    }
+    Ok(latches)
+}
+
+/// The circuit with a document's names and a net.
+fn with_net(alloc: Global, document: Document, net: Net) -> Result<Circuit, AllocError>
+    ensures { IfOk result (λ c. c ≡ circuit_with document net) }
+{
+    let Document {
+        model,
+        inputs,
+        outputs,
+        clocks,
+        latches,
+        tables: _,
+    } = document;
+    Ok(Circuit {
+        model,
+        inputs,
+        outputs,
+        clocks,
+        latches: latches_of(alloc, latches)?,
+        net,
+    })
+}
+
+/// For each table of a document those that drive its inputs.
+#[tactic(auto, using(crate::proofs::Wholes::circuits))]
+fn document_graph(alloc: Global, document: &Document) -> Result<Vec<Reads>, AllocError>
+    requires { length document.now.tables < 2 ^ 31 }
+    ensures graph { IfOk result (λ graph. graph.items ≡ graph_of_tables document.now.tables) }
+    ensures count { IfOk result (λ graph. length graph.items ≡ length document.now.tables) }
+{
+    let graph = graph_of(alloc, &document.tables)?;
+    Ok(graph)
+}
+
+/// The net of a document whose tables have an order, or the first table that depends on itself.
+fn ordered_net(alloc: Global, document: &Document) -> Result<Net, NetError>
+    requires small { source_count document.now + 100000 < 2 ^ 31 }
+    requires few { length document.now.tables < 2 ^ 31 }
+    requires distinct { are_distinct (map table_output document.now.tables) ≡ true }
+    requires ready { (order : List ℕ) → order_of (graph_of_tables document.now.tables) ≡ Some order → IsWellFormed document.now }
+    ensures well { IfOk result (λ _. IsWellFormed document.now) }
+    ensures circuit { IfOk result (λ net. IsCircuitOf document.now (circuit_with document.now net)) }
+    ensures cyclic { IfErr result (IsCyclicError document.now) }
+{
+    let graph = document_graph(alloc, document)?;
+    let found = visit_all(alloc, &graph)?;
+    let Some(order) = found else {
+        return Err(NetError::Cycle(cyclic_name(alloc, document, &graph)?));
+    };
+    let net = grow(alloc, document, &order)?;
+    Ok(net)
+}
+
+/// The circuit of a document, or why the document isn't well formed: more than 100,000 gates, then a
+/// name that is driven twice, then one that is used and not driven, and then a table that depends on
+/// itself.
+///
+/// The lists of driven and used names tell which name is first.
+#[tactic(auto, using(crate::proofs::Wholes::circuits))]
+pub fn circuit_of(alloc: Global, listed: Listed) -> Result<Circuit, NetError>
+    requires listed { IsListed listed }
+    requires free { AreFree listed.document }
+    requires small { 2 * source_count listed.document + cost listed.document < 2 ^ 31 }
+    requires few { length listed.document.tables < 2 ^ 31 }
+    ensures well_formed { IfOk result (λ _. IsWellFormed listed.document) }
+    ensures circuit { IfOk result (IsCircuitOf listed.document) }
+    ensures good { IfOk result (λ _. fault_of listed ≡ None) }
+    ensures refused { IfErr result (IsRefused listed) }
+{
+    check(alloc, &listed)?;
+    let Listed {
+        document,
+        driven: _,
+        used: _,
+    } = listed;
+    let net = ordered_net(alloc, &document)?;
+    Ok(with_net(alloc, document, net)?)
+}

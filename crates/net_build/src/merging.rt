@@ -1,0 +1,92 @@
+//! Tables whose two inputs have one name, and costs.
+
+ghost use Rattle.std.specs.Prelude.{◌≡◌, ◌<◌, ◌^◌, ◌++◌, ◌∷◌, [], false, true, All, IfOk, OnOk, sum_by, take};
+ghost use Rattle.net_theory.specs.Cost.{byte_if, unary_cover as unary_cover_of, merged_table, table_cost as table_cost_of};
+ghost use Rattle.net_theory.specs.WellFormed.{IsTable};
+ghost use Rattle.net_build.specs.Parts.{merged_by};
+
+use net_core::{Cover, Cube, Name, cover_cost, cover_value};
+use net_document::Table;
+use std::alloc::{AllocError, Global};
+
+/// Adds a cube of one byte, where it is wanted.
+fn push_if(
+    alloc: Global,
+    cubes: &mut Vec<Cube>,
+    is_wanted: bool,
+    byte: u8,
+) -> Result<(), AllocError>
+    ensures { OnOk result (cubes.new.items ≡ cubes.old.items ++ byte_if is_wanted byte) }
+{
+    if is_wanted {
+        cubes.push(Cube::new(Vec::from_slice(alloc, &[byte])?))?;
+    }
+    Ok(())
+}
+
+/// The cover of one input with these values at 0 and 1.
+fn unary_cover(alloc: Global, at_zero: bool, at_one: bool) -> Result<Cover, AllocError>
+    ensures { IfOk result (λ cover. cover ≡ unary_cover_of at_zero at_one) }
+{
+    let mut cubes = Vec::new(alloc);
+    push_if(alloc, &mut cubes, at_zero, b'0')?;
+    push_if(alloc, &mut cubes, at_one, b'1')?;
+    Ok(Cover {
+        width: 1,
+        cubes,
+        on: true,
+    })
+}
+
+/// The cover by which a table is read whose two inputs have one name.
+#[tactic(auto, using(crate::proofs::Merged::merges), unfolding(net_theory::specs::Cost::merged_table))]
+pub fn merged_cover(alloc: Global, table: &Table) -> Result<Option<Cover>, AllocError>
+    ensures { IfOk result (λ cover. merged_by table.now cover ≡ merged_table table.now) }
+{
+    let [first, second] = table.inputs.as_slice() else {
+        return Ok(None);
+    };
+    if first != second {
+        return Ok(None);
+    }
+    let at_zero = cover_value(&table.cover, &[false, false]);
+    let at_one = cover_value(&table.cover, &[true, true]);
+    Ok(Some(unary_cover(alloc, at_zero, at_one)?))
+}
+
+/// The first of a list of names, or none.
+pub fn first_alone(names: &[Name]) -> &[Name]
+    ensures { result.now ≡ take 1 names.now }
+{
+    match names.split_first() {
+        Some(_) => &names[..1],
+        None => names,
+    }
+}
+
+/// The number of gates that a table becomes.
+#[tactic(auto, using(crate::proofs::Merged::costs), unfolding(net_theory::specs::Cost::table_cost))]
+fn table_cost(alloc: Global, table: &Table) -> Result<u32, AllocError>
+    requires { IsTable table.now }
+    ensures { IfOk result (λ cost. cost ≡ table_cost_of table.now) }
+{
+    match merged_cover(alloc, table)? {
+        Some(cover) => Ok(cover_cost(&cover, first_alone(&table.inputs))),
+        None => Ok(cover_cost(&table.cover, &table.inputs)),
+    }
+}
+
+/// The number of gates that tables become.
+pub fn total_cost(alloc: Global, tables: &[Table]) -> Result<u32, AllocError>
+    requires tables { All IsTable tables.now }
+    requires small { sum_by table_cost_of tables.now < 2 ^ 32 }
+    ensures { IfOk result (λ cost. cost ≡ sum_by table_cost_of tables.now) }
+{
+    let mut total: u32 = 0;
+    let mut left = tables;
+    while let Some((table, rest)) = left.split_first() {
+        total += table_cost(alloc, table)?;
+        left = rest;
+    }
+    Ok(total)
+}

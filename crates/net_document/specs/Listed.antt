@@ -1,0 +1,32 @@
+-- A document as a text lists it.
+use Rattle.std.specs.Prelude.{◌≡◌, ℕ, ◌++◌, List, All, map, count_by}
+use Rattle.net_theory.specs.Document.{Name, IsName, is_same, Document, LatchLine, table_output, driven_names, used_names}
+use Rattle.net_theory.specs.WellFormed.{IsLatchLine, IsTable, IsFreeOf}
+
+-- A document, the names that it drives in the order in which the text drives them, and the names that
+-- its tables and latches use, in the order of the text. A document has its lists by kind, and this
+-- order isn't in them.
+pub record Listed : Type 0 where
+  pub document : Document
+  pub driven : List Name
+  pub used : List Name
+
+-- how often a name stands in a list
+unfoldable pub times : Name → List Name → ℕ
+times n names = count_by (is_same n) names
+
+-- Each name, latch and table is one, and each name is driven and used as often as the document drives
+-- and uses it.
+pub record IsListed (l : Listed) : Type 0 where
+  pub model : IsName l.document.model
+  pub inputs : All IsName l.document.inputs
+  pub outputs : All IsName l.document.outputs
+  pub clocks : All IsName l.document.clocks
+  pub latches : All IsLatchLine l.document.latches
+  pub tables : All IsTable l.document.tables
+  pub driven : (n : Name) → times n l.driven ≡ times n (driven_names l.document)
+  pub used : (n : Name) → times n (l.used ++ l.document.outputs) ≡ times n (used_names l.document)
+
+-- no table drives the control of a latch
+abbrev pub AreFree : Document → Type 0
+AreFree d = All (λ (l : LatchLine). IsFreeOf (map table_output d.tables) l.latch.control) d.latches

@@ -1,0 +1,69 @@
+use net_core::{Cover, Latch, Name};
+use std::marker::Model;
+
+/// A table: its output is the cover's value at the inputs.
+#[derive(Debug, Drop)]
+pub struct Table {
+    pub inputs: Vec<Name>,
+    pub output: Name,
+    pub cover: Cover,
+}
+
+impl Model for Table {
+    ghost use Rattle.net_theory.specs.Document as document;
+
+    ghost Value = { document.Table };
+
+    ghost view = { λ t. record { inputs = t.inputs.items; output = t.output; cover = t.cover } };
+}
+
+/// A latch and the name of its input.
+#[derive(Debug, Drop)]
+pub struct LatchLine {
+    pub input: Name,
+    pub latch: Latch,
+}
+
+impl Model for LatchLine {
+    ghost use Rattle.net_theory.specs.Document as document;
+
+    ghost Value = { document.LatchLine };
+
+    ghost view = { λ l. record { input = l.input; latch = l.latch } };
+}
+
+/// A netlist as its text names it, each list in the order of the text.
+#[derive(Debug, Drop)]
+pub struct Document {
+    pub model: Name,
+    pub inputs: Vec<Name>,
+    pub outputs: Vec<Name>,
+    pub clocks: Vec<Name>,
+    pub latches: Vec<LatchLine>,
+    pub tables: Vec<Table>,
+}
+
+impl Model for Document {
+    ghost use Rattle.net_theory.specs.Document as document;
+
+    ghost Value = { document.Document };
+
+    ghost view = { λ d. record { model = d.model; inputs = d.inputs.items; outputs = d.outputs.items; clocks = d.clocks.items; latches = d.latches.items; tables = d.tables.items } };
+}
+
+/// A document, the names that it drives in the order in which the text drives them, and the names that
+/// its tables and latches use, in the order of the text.
+#[derive(Debug, Drop)]
+pub struct Listed {
+    pub document: Document,
+    pub driven: Vec<Name>,
+    pub used: Vec<Name>,
+}
+
+impl Model for Listed {
+    ghost use Rattle.net_document.specs.Listed as listed;
+
+    ghost Value = { listed.Listed };
+
+    ghost view = { λ l. record { document = l.document; driven = l.driven.items; used = l.used.items } };
+}
