@@ -16,8 +16,8 @@ use Rattle.chain_core.specs.Spelling.{chain_lines}
 use Rattle.chain_core.specs.declared.error.ChainError.{ChainError}
 use Rattle.chain_core.proofs.WrittenBlocks.{lines_read, lines_spelled}
 use Rattle.chain_core.proofs.WrittenLines.{both_true}
-use Rattle.chain_app.specs.declared.answer.AgreeError.{AgreeError}
-use Rattle.chain_app.specs.declared.answer.AgreeError.TheVariants.{BadEnd}
+use Rattle.chain_app.specs.declared.agree.AgreeError.{AgreeError}
+use Rattle.chain_app.specs.declared.agree.AgreeError.TheVariants.{BadEnd}
 use Rattle.chain_app.specs.Agree.{Question, ◌>>=◌, tables_in, chain_in, nothing_in, end_in, chain_behind, question_in, question_of}
 use Rattle.chain_app.specs.Asked.{end_line, AsksQuestion}
 

@@ -1,4 +1,10 @@
-pub mod Pieces
-pub mod Runs
-pub mod Causes
+pub mod AgreeKeeping
+pub mod Agreeing
 pub mod Asking
+pub mod Ends
+pub mod Faults
+pub mod Keeping
+pub mod Pieces
+pub mod Rechecking
+pub mod SynthWords
+pub mod Synthesising

@@ -11,10 +11,10 @@ use Rattle.tt_core.specs.declared.error.SpecError.{SpecError}
 use Rattle.chain_core.specs.declared.error.ChainError.{ChainError}
 use Rattle.tt_core.specs.Tables as tables
 use Rattle.chain_core.specs.Block as block
-use Rattle.chain_app.specs.declared.answer.Answer.{Answer}
-use Rattle.chain_app.specs.declared.answer.Answer.TheVariants.{Agrees, Differs}
-use Rattle.chain_app.specs.declared.answer.AgreeError.{AgreeError}
-use Rattle.chain_app.specs.declared.answer.AgreeError.TheVariants.{TooLong, Tables, Chained, BadEnd, Memory}
+use Rattle.chain_app.specs.declared.agree.Answer.{Answer}
+use Rattle.chain_app.specs.declared.agree.Answer.TheVariants.{Agrees, Differs}
+use Rattle.chain_app.specs.declared.agree.AgreeError.{AgreeError}
+use Rattle.chain_app.specs.declared.agree.AgreeError.TheVariants.{TooLong, Tables, Chained, BadEnd, Memory}
 
 -- whether a chain agrees with tables
 pub record Question : Type 0 where

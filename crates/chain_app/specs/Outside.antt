@@ -22,3 +22,8 @@ pub record Writes (old new : Side) (text : List ℕ) : Type 0 where
 unfoldable pub joined : List (Bor (List ℕ)) → List ℕ
 joined [] = []
 joined (piece ∷ pieces) = piece.now ++ joined pieces
+
+-- the blank in front of a field, nothing in front of no field
+abbrev pub blank_of : List ℕ → List ℕ
+blank_of [] = []
+blank_of (b ∷ bs) = 32 ∷ []

@@ -1,75 +1,131 @@
--- What a run of `agree` comes to.
-use Rattle.std.specs.Prelude.{◌≡◌, ◌≢◌, ℕ, List, [], Option, Some, None, codes, Vec, String}
+-- What a run comes to, for every command.
+use Rattle.std.specs.Prelude.{◌≡◌, ℕ, ◌<◌, List, [], length, Option, Some, None, Vec, String}
 use Rattle.std.specs.Global.{Global}
 use Rattle.port_io.specs.Bytes.{Appends, AppendsFront}
 use Rattle.port_io.specs.Faults.{Rose}
-use Rattle.chain_app.specs.declared.answer.Answer.{Answer}
-use Rattle.chain_app.specs.declared.answer.Answer.TheVariants.{Differs}
-use Rattle.chain_app.specs.declared.answer.AgreeError.{AgreeError}
-use Rattle.chain_app.specs.declared.answer.AgreeError.TheVariants as errors
-use Rattle.chain_app.specs.declared.answer.Outcome.{Outcome}
-use Rattle.chain_app.specs.declared.answer.Outcome.TheVariants.{Usage, ReadFault, Answered, CutShort, Refused}
 use Rattle.chain_app.specs.declared.status.Status.{Status}
-use Rattle.chain_app.specs.declared.status.Status.TheVariants.{Memory}
 use Rattle.chain_app.specs.declared.status.Status.TheVariants as statuses
-use Rattle.chain_app.specs.declared.words.Command.{Command}
-use Rattle.chain_app.specs.declared.words.Command.TheVariants.{Agree}
-use Rattle.chain_app.specs.CommandLine.{IsLine, spelled}
-use Rattle.chain_app.specs.Agree.{Question, IsAnswer, HasAnswer, IsCause}
+use Rattle.command_line.specs.CommandLine.{spelled}
 use Rattle.chain_app.specs.Outside.{Side, side, Writes}
-use Rattle.chain_app.specs.Report.{status_of, answer_status, error_status, answer_text, Named, named_outcome, named_error, error_line}
+use Rattle.chain_app.specs.Told.{Reply, Named, Refusal, error_line, read_fault, write_fault, too_long, memory}
 
--- Sending an answer ends with it, whole or cut short, or in want of memory.
-abbrev pub IsSent : Answer → Outcome → Type 0
-IsSent answer Usage = ⊥
-IsSent answer ReadFault = ⊥
-IsSent answer (Answered sent) = sent ≡ answer
-IsSent answer (CutShort sent) = sent ≡ answer
-IsSent answer (Refused error) = error ≡ errors.Memory
+-- What a command is: the most bytes that it reads, what it may tell of bytes that have an answer, and
+-- of bytes that have none.
+pub record Task : Type 1 where
+  pub most : ℕ
+  pub Tells : List ℕ → Reply → Type 0
+  pub Refuses : List ℕ → Refusal → Type 0
 
--- An answer stands on the output whole, or a front of its text where the output failed. With every
--- other outcome it is as before.
-abbrev pub OutAfter : Side → Side → Outcome → Type 0
-OutAfter old new Usage = new ≡ old
-OutAfter old new ReadFault = new ≡ old
-OutAfter old new (Answered answer) = Appends old.bytes new.bytes (answer_text answer)
-OutAfter old new (CutShort answer) = AppendsFront old.bytes new.bytes (answer_text answer) × Rose old.faults new.faults
-OutAfter old new (Refused error) = new ≡ old
+-- How the run of a command ends: the source failed; it had more bytes than are read; want of memory;
+-- the reply stands outside, whole; the output failed; the notes failed in the report; there is no answer.
+pub data Outcome : Type 0 where
+  ReadFault : Outcome
+  TooLong : Outcome
+  Memory : Outcome
+  Answered : (reply : Reply) → Outcome
+  CutShort : (reply : Reply) → Outcome
+  ReportCut : (reply : Reply) → Outcome
+  Refused : (refusal : Refusal) → Outcome
 
--- The error line that names this was written on the notes, or they are as before where there is no error.
-abbrev pub NoteAfter : Side → Side → Option Named → Type 0
-NoteAfter old new None = new ≡ old
-NoteAfter old new (Some named) = Writes old new (error_line named)
+abbrev pub status_of : Outcome → Status
+status_of ReadFault = statuses.ReadFault
+status_of TooLong = statuses.Limit
+status_of Memory = statuses.Memory
+status_of (Answered reply) = reply.status
+status_of (CutShort reply) = statuses.WriteFault
+status_of (ReportCut reply) = statuses.WriteFault
+status_of (Refused refusal) = refusal.status
 
--- The outcome is that of the bytes which the source held, unless nothing was read.
-abbrev pub IsOutcome : List ℕ → Outcome → Type 0
-IsOutcome input Usage = Unit {0}
-IsOutcome input ReadFault = Unit {0}
-IsOutcome input (Answered answer) = HasAnswer input answer
-IsOutcome input (CutShort answer) = HasAnswer input answer
-IsOutcome input (Refused error) = IsCause input error
+-- what the error line names, nothing where the reply stands
+abbrev pub line_of : Outcome → Option Named
+line_of ReadFault = Some read_fault
+line_of TooLong = Some too_long
+line_of Memory = Some memory
+line_of (Answered reply) = None
+line_of (CutShort reply) = Some write_fault
+line_of (ReportCut reply) = Some write_fault
+line_of (Refused refusal) = Some refusal.named
 
--- Usage comes exactly where the words are no command line.
-abbrev pub WordsGive : List (List ℕ) → Outcome → Type 0
-WordsGive words Usage = (command : Command) → IsLine words command → ⊥
-WordsGive words ReadFault = IsLine words Agree
-WordsGive words (Answered answer) = IsLine words Agree
-WordsGive words (CutShort answer) = IsLine words Agree
-WordsGive words (Refused error) = IsLine words Agree
+-- where the source told its bytes, these are all of them
+abbrev pub IsWhole : Option (List ℕ) → List ℕ → Type 0
+IsWhole left bytes = (input : List ℕ) → left ≡ Some input → bytes ≡ input
+
+abbrev pub IsBeyond : ℕ → Option (List ℕ) → Type 0
+IsBeyond most left = (input : List ℕ) → left ≡ Some input → most < length input
+
+-- The outcome is that of the bytes which were read.
+abbrev pub IsOutcome : Task → Option (List ℕ) → List ℕ → Outcome → Type 0
+IsOutcome task left bytes ReadFault = Unit {0}
+IsOutcome task left bytes TooLong = IsBeyond task.most left
+IsOutcome task left bytes Memory = Unit {0}
+IsOutcome task left bytes (Answered reply) = IsWhole left bytes × task.Tells bytes reply
+IsOutcome task left bytes (CutShort reply) = IsWhole left bytes × task.Tells bytes reply
+IsOutcome task left bytes (ReportCut reply) = IsWhole left bytes × task.Tells bytes reply
+IsOutcome task left bytes (Refused refusal) = IsWhole left bytes × task.Refuses bytes refusal
 
 -- what was told to be left was read to its end
 abbrev pub IsReadToEnd : Side → Side → Type 0
 IsReadToEnd old new = (input : List ℕ) → old.bytes ≡ Some input → new.bytes ≡ Some []
 
--- Without a command nothing is read. Bytes that are judged were read to their end.
+-- Bytes that are judged were read to their end.
 abbrev pub SourceAfter : Side → Side → Outcome → Type 0
-SourceAfter old new Usage = new ≡ old
 SourceAfter old new ReadFault = Rose old.faults new.faults
-SourceAfter old new (Answered answer) = IsReadToEnd old new
-SourceAfter old new (CutShort answer) = IsReadToEnd old new
-SourceAfter old new (Refused errors.TooLong) = Unit {0}
-SourceAfter old new (Refused errors.Memory) = Unit {0}
-SourceAfter old new (Refused error) = IsReadToEnd old new
+SourceAfter old new TooLong = Unit {0}
+SourceAfter old new Memory = Unit {0}
+SourceAfter old new (Answered reply) = IsReadToEnd old new
+SourceAfter old new (CutShort reply) = IsReadToEnd old new
+SourceAfter old new (ReportCut reply) = IsReadToEnd old new
+SourceAfter old new (Refused refusal) = IsReadToEnd old new
+
+-- The reply's text stands on the output whole, or a front of it where the output failed. With every
+-- other outcome the output is as before.
+abbrev pub OutAfter : Side → Side → Outcome → Type 0
+OutAfter old new ReadFault = new ≡ old
+OutAfter old new TooLong = new ≡ old
+OutAfter old new Memory = new ≡ old
+OutAfter old new (Answered reply) = Appends old.bytes new.bytes reply.text
+OutAfter old new (CutShort reply) = AppendsFront old.bytes new.bytes reply.text × Rose old.faults new.faults
+OutAfter old new (ReportCut reply) = Appends old.bytes new.bytes reply.text
+OutAfter old new (Refused refusal) = new ≡ old
+
+-- A report went to the notes whole, or a front of it. Without one they are as before.
+abbrev pub Reports : Side → Side → Option (List ℕ) → Type 0
+Reports old new None = new ≡ old
+Reports old new (Some text) = Appends old.bytes new.bytes text
+
+abbrev pub ReportsFront : Side → Side → Option (List ℕ) → Type 0
+ReportsFront old new None = ⊥
+ReportsFront old new (Some text) = AppendsFront old.bytes new.bytes text × Rose old.faults new.faults
+
+abbrev pub ReportAfter : Side → Side → Outcome → Type 0
+ReportAfter old new ReadFault = new ≡ old
+ReportAfter old new TooLong = new ≡ old
+ReportAfter old new Memory = new ≡ old
+ReportAfter old new (Answered reply) = Reports old new reply.report
+ReportAfter old new (CutShort reply) = new ≡ old
+ReportAfter old new (ReportCut reply) = ReportsFront old new reply.report
+ReportAfter old new (Refused refusal) = new ≡ old
+
+-- Sending a reply ends with it, whole or cut.
+abbrev pub IsSent : Reply → Outcome → Type 0
+IsSent reply ReadFault = ⊥
+IsSent reply TooLong = ⊥
+IsSent reply Memory = ⊥
+IsSent reply (Answered sent) = sent ≡ reply
+IsSent reply (CutShort sent) = sent ≡ reply
+IsSent reply (ReportCut sent) = sent ≡ reply
+IsSent reply (Refused refusal) = ⊥
+
+-- the error line behind it, where there is one
+abbrev pub LineAfter : Side → Side → Option Named → Type 0
+LineAfter old new None = new ≡ old
+LineAfter old new (Some named) = Writes old new (error_line named)
+
+-- the report, and then the error line
+pub record NoteAfter (old new : Side) (outcome : Outcome) : Type 0 where
+  pub between : Side
+  pub report : ReportAfter old between outcome
+  pub line : LineAfter between new (line_of outcome)
 
 -- what a caller sees of a run: the words, and each side before and after it
 pub record Run : Type 0 where
@@ -90,71 +146,11 @@ before_after bytes faults old new = (side bytes faults old, side bytes faults ne
 abbrev pub run_of : Vec (String Global) Global → Side × Side → Side × Side → Side × Side → Status → Run
 run_of words source out note status = record { words = spelled words; source = source.0; source' = source.1; out = out.0; out' = out.1; note = note.0; note' = note.1; status = status }
 
--- A run had an outcome, and what its caller sees follows from it.
-pub record IsRun (r : Run) (outcome : Outcome) : Type 0 where
+-- A run of a command had an outcome, and what its caller sees follows from it.
+pub record IsRun (task : Task) (r : Run) (outcome : Outcome) : Type 0 where
+  pub bytes : List ℕ
+  pub judged : IsOutcome task r.source.bytes bytes outcome
   pub status_is : r.status ≡ status_of outcome
-  pub words : WordsGive r.words outcome
-  pub bytes : (input : List ℕ) → r.source.bytes ≡ Some input → IsOutcome input outcome
   pub on_source : SourceAfter r.source r.source' outcome
   pub on_out : OutAfter r.out r.out' outcome
-  pub on_note : NoteAfter r.note r.note' (named_outcome outcome)
-
--- No call on the source failed, and memory sufficed.
-pub record IsHeard (r : Run) : Type 0 where
-  pub source_steady : Rose r.source.faults r.source'.faults → ⊥
-  pub memory : r.status ≢ Memory
-
--- Nor did a call on the output.
-pub record NothingFailed (r : Run) : Type 0 where
-  pub heard : IsHeard r
-  pub out_steady : Rose r.out.faults r.out'.faults → ⊥
-
--- The text stands on the output, whole and alone, and the notes are as before.
-pub record Says (r : Run) (text : List ℕ) : Type 0 where
-  pub on_out : Appends r.out.bytes r.out'.bytes text
-  pub on_note : r.note' ≡ r.note
-
--- `agree` was asked, of a source that told these bytes.
-pub record IsAsked (r : Run) (input : List ℕ) : Type 0 where
-  pub asked : IsLine r.words Agree
-  pub told : r.source.bytes ≡ Some input
-
--- The question is answered, and the answer stands on the output.
-pub record GetsAnswer (r : Run) (question : Question) : Type 0 where
-  pub answer : Answer
-  pub is_answer : IsAnswer question answer
-  pub status_is : r.status ≡ answer_status answer
-  pub says : Says r (answer_text answer)
-
--- There is no answer: the output is as before, and the error is told.
-pub record IsRefused (r : Run) (error : AgreeError) : Type 0 where
-  pub status_is : r.status ≡ error_status error
-  pub on_out : r.out' ≡ r.out
-  pub on_note : Writes r.note r.note' (error_line (named_error error))
-
--- A status that tells of an error has its cause in the bytes.
-pub record HasCause (bytes : List ℕ) (status : Status) : Type 0 where
-  pub error : AgreeError
-  pub cause : IsCause bytes error
-  pub tells : error_status error ≡ status
-
--- The first difference stands on the output.
-pub record TellsDifference (r : Run) (bytes : List ℕ) : Type 0 where
-  pub output : ℕ
-  pub row : ℕ
-  pub has : HasAnswer bytes (Differs output row)
-  pub says : Says r (answer_text (Differs output row))
-
--- A front of the answer stands on the output, and the fault is told.
-pub record IsCut (r : Run) (bytes : List ℕ) : Type 0 where
-  pub answer : Answer
-  pub has : HasAnswer bytes answer
-  pub front : AppendsFront r.out.bytes r.out'.bytes (answer_text answer)
-
--- what the error line names where the status alone tells it
-abbrev pub line_of : Status → Option Named
-line_of statuses.Usage = Some (codes "Usage", None)
-line_of statuses.ReadFault = Some (codes "ReadFault", None)
-line_of statuses.WriteFault = Some (codes "WriteFault", None)
-line_of statuses.Memory = Some (codes "Memory", None)
-line_of other = None
+  pub on_note : NoteAfter r.note r.note' outcome

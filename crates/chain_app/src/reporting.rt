@@ -1,110 +1,31 @@
-//! The texts of a run: the answer on the output, the error line on the notes.
-ghost use Rattle.std.specs.Prelude.{◌≡◌, ◌≤◌, OnOk, OnErr, IfOk, option_map};
+//! The texts of a run: a reply on the output and on the notes, the error line on the notes.
+ghost use Rattle.std.specs.Prelude.{◌≡◌, ◌≤◌, OnOk, OnErr};
 ghost use Rattle.port_io.specs.Bytes.{Appends, AppendsFront};
 ghost use Rattle.port_io.specs.Faults.{Rose};
-ghost use Rattle.chain_app.specs.Report.{answer_text, named_spec, named_chain, named_error, named_outcome, error_line};
-ghost use Rattle.chain_app.specs.Outside.{side, Writes, joined};
-ghost use Rattle.chain_app.specs.Run.{IsSent, OutAfter, NoteAfter};
+ghost use Rattle.chain_app.specs.Told.{digits_of as digits_of_number, line_text, error_line};
+ghost use Rattle.chain_app.specs.Outside.{side, Writes, joined, blank_of};
+ghost use Rattle.chain_app.specs.Run.{IsSent, OutAfter, ReportAfter, LineAfter, line_of};
+ghost use Rattle.chain_app.specs.Views.{line_value, reply_value, outcome_of};
 
-use crate::answer::{AgreeError, Answer, Outcome};
-use chain_core::ChainError;
+use crate::replies::{Ended, ErrorLine, Reply};
+use itoa::Buffer;
 use port_io::{Sink, WriteFault, write_all};
-use std::alloc::{AllocError, Global};
-use text_core::push_number;
-use tt_core::SpecError;
 
-/// The text of an answer.
-#[tactic(auto, unfolding(crate::specs::Report::answer_text))]
-fn text_of(alloc: Global, answer: Answer) -> Result<Vec<u8>, AllocError>
-    ensures { IfOk result (λ text. text.items ≡ answer_text answer) }
+/// Sends a reply out: its text, and then its report where it has one.
+pub(crate) fn send<O: Sink, N: Sink>(out: &mut O, note: &mut N, reply: Reply) -> Ended
+    ensures sent { IsSent (reply_value reply) (outcome_of result) }
+    ensures out { OutAfter (side O.written O.faults out.old) (side O.written O.faults out.new) (outcome_of result) }
+    ensures report { ReportAfter (side N.written N.faults note.old) (side N.written N.faults note.new) (outcome_of result) }
 {
-    let mut text = Vec::new(alloc);
-    match answer {
-        Answer::Agrees => text.extend_from_slice(b"agrees\n")?,
-        Answer::Differs { output, row } => {
-            text.extend_from_slice(b"differs ")?;
-            push_number(&mut text, output)?;
-            text.extend_from_slice(b" ")?;
-            push_number(&mut text, row)?;
-            text.extend_from_slice(b"\n")?;
-        }
+    if let Err(WriteFault::WriteFault) = write_all(out, &reply.text) {
+        return Ended::CutShort(reply);
     }
-    Ok(text)
-}
-
-/// Sends an answer out, once its text stands whole in memory.
-pub fn send<O: Sink>(alloc: Global, out: &mut O, answer: Answer) -> Outcome
-    ensures sent { IsSent answer result }
-    ensures out { OutAfter (side O.written O.faults out.old) (side O.written O.faults out.new) result }
-{
-    let Ok(text) = text_of(alloc, answer) else {
-        return Outcome::Refused(AgreeError::Memory);
+    let Some(report) = &reply.report else {
+        return Ended::Answered(reply);
     };
-    match write_all(out, &text) {
-        Ok(()) => Outcome::Answered(answer),
-        Err(WriteFault::WriteFault) => Outcome::CutShort(answer),
-    }
-}
-
-/// What an error line names: a variant, and its line or count where it has one.
-type Named = (&'static [u8], Option<u32>);
-
-/// What the error line of tables names.
-#[tactic(auto, unfolding(crate::specs::Report::named_spec))]
-fn name_spec(error: SpecError) -> Named
-    ensures { (result.0.now, result.1) ≡ named_spec error }
-{
-    match error {
-        SpecError::BadHeader(line) => (b"BadHeader", Some(line)),
-        SpecError::BadRow(line) => (b"BadRow", Some(line)),
-        SpecError::WrongLength(line) => (b"WrongLength", Some(line)),
-        SpecError::TooManyInputs => (b"TooManyInputs", None),
-        SpecError::TooManyOutputs => (b"TooManyOutputs", None),
-        SpecError::NoOutput => (b"NoOutput", None),
-        SpecError::Memory => (b"Memory", None),
-    }
-}
-
-/// What the error line of a chain block names.
-#[tactic(auto, unfolding(crate::specs::Report::named_chain))]
-fn name_chain(error: ChainError) -> Named
-    ensures { (result.0.now, result.1) ≡ named_chain error }
-{
-    match error {
-        ChainError::BadStep(line) => (b"BadStep", Some(line)),
-        ChainError::ForwardPlace(line) => (b"ForwardPlace", Some(line)),
-        ChainError::BadOut(line) => (b"BadOut", Some(line)),
-        ChainError::TooManySteps(line) => (b"TooManySteps", Some(line)),
-        ChainError::BadCount(line) => (b"BadCount", Some(line)),
-        ChainError::Memory => (b"Memory", None),
-    }
-}
-
-/// What an error's line names.
-#[tactic(auto, unfolding(crate::specs::Report::named_error))]
-fn name_error(error: AgreeError) -> Named
-    ensures { (result.0.now, result.1) ≡ named_error error }
-{
-    match error {
-        AgreeError::TooLong => (b"TooLong", None),
-        AgreeError::Tables(error) => name_spec(error),
-        AgreeError::Chained(error) => name_chain(error),
-        AgreeError::BadEnd(line) => (b"BadEnd", Some(line)),
-        AgreeError::Memory => (b"Memory", None),
-    }
-}
-
-/// What an outcome's error line names, None where it has an answer.
-#[tactic(auto, unfolding(crate::specs::Report::named_outcome))]
-fn name_outcome(outcome: Outcome) -> Option<Named>
-    ensures { option_map (λ named. (named.0.now, named.1)) result ≡ named_outcome outcome }
-{
-    match outcome {
-        Outcome::Usage => Some((b"Usage", None)),
-        Outcome::ReadFault => Some((b"ReadFault", None)),
-        Outcome::Answered(_) => None,
-        Outcome::CutShort(_) => Some((b"WriteFault", None)),
-        Outcome::Refused(error) => Some(name_error(error)),
+    match write_all(note, report) {
+        Ok(()) => Ended::Answered(reply),
+        Err(WriteFault::WriteFault) => Ended::ReportCut(reply),
     }
 }
 
@@ -123,35 +44,80 @@ fn write_pieces<O: Sink>(sink: &mut O, pieces: &[&[u8]]) -> Result<(), WriteFaul
     write_pieces(sink, rest)
 }
 
-/// Writes the error line that names this. It takes no memory, so that it also tells of its want, and
-/// a fault in writing it is let pass: the run's status has been decided.
-#[tactic(auto, unfolding(crate::specs::Report::error_line, crate::specs::Outside::joined), using(crate::proofs::Pieces::written))]
-fn tell_error<N: Sink>(note: &mut N, name: &[u8], number: Option<u32>)
-    ensures { Writes (side N.written N.faults note.old) (side N.written N.faults note.new) (error_line (name.now, number)) }
+/// The digits of a number, none where there is no number.
+#[tactic(auto, unfolding(crate::specs::Told::digits_of))]
+fn digits_of(buffer: &mut Buffer, number: Option<u32>) -> &[u8]
+    ensures { result.now ≡ digits_of_number number }
 {
-    let Some(number) = number else {
-        let _ = write_pieces(note, &[b"error: ".as_slice(), name, b"\n".as_slice()]);
-        return;
-    };
-    let mut buffer = itoa::Buffer::new();
-    let digits = buffer.format(number).as_bytes();
-    let _ = write_pieces(
+    match number {
+        None => &[],
+        Some(number) => buffer.format(number).as_bytes(),
+    }
+}
+
+/// The blank in front of a field, none where there is no field.
+fn blank(text: &[u8]) -> &'static [u8]
+    ensures { result.now ≡ blank_of text.now }
+{
+    if text.is_empty() { b"" } else { b" " }
+}
+
+/// Writes the parts of an error line behind its first word. A fault in writing it is let pass: the
+/// run's status has been decided.
+fn tell_parts<'a, N: Sink>(
+    note: &mut N,
+    name: &'a [u8],
+    number: &'a [u8],
+    word: &'a [u8],
+    last: &'a [u8],
+)
+    ensures { Writes (side N.written N.faults note.old) (side N.written N.faults note.new) (line_text name.now number.now word.now last.now) }
+{
+    let number_blank: &'a [u8] = blank(number);
+    let word_blank: &'a [u8] = blank(word);
+    let last_blank: &'a [u8] = blank(last);
+    let pieces: [&'a [u8]; 9] = [
+        b"error: ",
+        name,
+        number_blank,
+        number,
+        word_blank,
+        word,
+        last_blank,
+        last,
+        b"\n",
+    ];
+    let _ = write_pieces(note, &pieces);
+}
+
+/// Writes an error line. It takes no memory, so that it also tells of its want.
+#[tactic(auto, unfolding(crate::specs::Told::error_line))]
+pub(crate) fn tell_error<N: Sink>(note: &mut N, line: &ErrorLine)
+    ensures { Writes (side N.written N.faults note.old) (side N.written N.faults note.new) (error_line (line_value line.now)) }
+{
+    let mut first = Buffer::new();
+    let mut last = Buffer::new();
+    tell_parts(
         note,
-        &[
-            b"error: ".as_slice(),
-            name,
-            b" ".as_slice(),
-            digits,
-            b"\n".as_slice(),
-        ],
+        line.name,
+        digits_of(&mut first, line.number),
+        line.word.bytes(),
+        digits_of(&mut last, line.last),
     );
 }
 
-/// Writes the error line of an outcome that has one.
-pub fn tell<N: Sink>(note: &mut N, outcome: Outcome)
-    ensures { NoteAfter (side N.written N.faults note.old) (side N.written N.faults note.new) (named_outcome outcome) }
+/// Writes the error line of a run that has one.
+#[tactic(auto, unfolding(crate::specs::Told::too_long, crate::specs::Told::memory))]
+pub(crate) fn tell<N: Sink>(note: &mut N, ended: &Ended)
+    ensures { LineAfter (side N.written N.faults note.old) (side N.written N.faults note.new) (line_of (outcome_of ended.now)) }
 {
-    if let Some((name, number)) = name_outcome(outcome) {
-        tell_error(note, name, number);
+    match ended {
+        Ended::ReadFault => tell_error(note, &ErrorLine::plain(b"ReadFault")),
+        Ended::TooLong => tell_error(note, &ErrorLine::plain(b"TooLong")),
+        Ended::Memory => tell_error(note, &ErrorLine::plain(b"Memory")),
+        Ended::Answered(_) => {}
+        Ended::CutShort(_) => tell_error(note, &ErrorLine::plain(b"WriteFault")),
+        Ended::ReportCut(_) => tell_error(note, &ErrorLine::plain(b"WriteFault")),
+        Ended::Refused(refusal) => tell_error(note, &refusal.line),
     }
 }

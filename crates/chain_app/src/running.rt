@@ -1,62 +1,77 @@
 //! The top call.
-ghost use Rattle.std.specs.Prelude.{◌≡◌, ℕ, List, Some};
-ghost use Rattle.chain_app.specs.CommandLine.{spelled, IsLine};
-ghost use Rattle.chain_app.specs.declared.answer.Outcome.{Outcome};
-ghost use Rattle.chain_app.specs.declared.words.Command.TheVariants.{Agree};
+ghost use Rattle.std.specs.Prelude.{◌≡◌, ◌≤◌, ℕ, List, length};
 ghost use Rattle.chain_app.specs.Outside.{side};
-ghost use Rattle.chain_app.specs.Run.{IsOutcome, WordsGive, SourceAfter, OutAfter, IsRun, run_of, before_after};
-ghost use Rattle.chain_app.specs.Promise.{AgreePromise};
+ghost use Rattle.chain_app.specs.Run.{IsOutcome, SourceAfter, OutAfter, ReportAfter, run_of, before_after};
+ghost use Rattle.chain_app.specs.Ending.{Ending, IsEnding};
+ghost use Rattle.chain_app.specs.Jobs.{IsJob};
+ghost use Rattle.chain_app.specs.Tasks.{task_of};
+ghost use Rattle.chain_app.specs.Views.{outcome_of, Judges};
+ghost use Rattle.chain_app.specs.JobPromise.{JobPromise};
+ghost use Rattle.chain_app.specs.AgreePromise.{AgreePromise};
+ghost use Rattle.chain_app.specs.RecheckPromise.{RecheckPromise};
+ghost use Rattle.chain_app.specs.SynthPromise.{SynthPromise};
 
-use crate::answer::{AgreeError, Outcome};
-use crate::judging::judge;
-use crate::reporting::{send, tell};
+use crate::jobs::{Job, read_job};
+use crate::replies::{Ended, ErrorLine, Reply, Stop};
+use crate::reporting::{send, tell, tell_error};
 use crate::status::Status;
-use crate::words::{Command, WordsError, read_words};
+use crate::{agree, recheck, synth};
 use port_io::{ReadError, Sink, Source, read_all};
 use std::alloc::Global;
 
-/// The most bytes that `agree` reads.
-const MOST_BYTES: usize = 65_536;
-
-/// Answers the question that the source holds.
-fn agree<S: Source, O: Sink>(alloc: Global, source: &mut S, out: &mut O) -> Outcome
-    ensures words { (words : List (List ℕ)) → IsLine words Agree → WordsGive words result }
-    ensures bytes { (input : List ℕ) → S.left source.old ≡ Some input → IsOutcome input result }
-    ensures source { SourceAfter (side S.left S.faults source.old) (side S.left S.faults source.new) result }
-    ensures out { OutAfter (side O.written O.faults out.old) (side O.written O.faults out.new) result }
+/// The most bytes that a job reads.
+fn most_bytes(job: &Job) -> usize
+    ensures { result ≡ (task_of job.now).most }
 {
-    let bytes = match read_all(alloc, source, MOST_BYTES) {
-        Ok(bytes) => bytes,
-        Err(ReadError::ReadFault) => return Outcome::ReadFault,
-        Err(ReadError::TooLong) => return Outcome::Refused(AgreeError::TooLong),
-        Err(ReadError::Memory) => return Outcome::Refused(AgreeError::Memory),
-    };
-    match judge(alloc, &bytes) {
-        Ok(answer) => send(alloc, out, answer),
-        Err(error) => Outcome::Refused(error),
+    match job {
+        Job::Agree => agree::MOST_BYTES,
+        Job::Recheck => recheck::MOST_BYTES,
+        Job::Synth(_) => synth::MOST_BYTES,
     }
 }
 
-/// Does what the words ask, up to the error line.
-fn perform<S: Source, O: Sink>(
+/// What a job tells of bytes.
+fn judge(alloc: Global, job: &Job, bytes: &[u8]) -> Result<Reply, Stop>
+    requires length { length bytes.now ≤ (task_of job.now).most }
+    requires asked { IsJob job.now }
+    ensures { Judges (task_of job.now) bytes.now result }
+{
+    match job {
+        Job::Agree => agree::agree(alloc, bytes),
+        Job::Recheck => recheck::recheck(alloc, bytes),
+        Job::Synth(asked) => synth::synth(alloc, bytes, asked),
+    }
+}
+
+/// Does a job, up to the error line.
+fn perform<S: Source, O: Sink, N: Sink>(
     alloc: Global,
-    words: &Vec<String>,
+    job: &Job,
     source: &mut S,
     out: &mut O,
-) -> Outcome
-    ensures words { WordsGive (spelled words.now) result }
-    ensures bytes { (input : List ℕ) → S.left source.old ≡ Some input → IsOutcome input result }
-    ensures source { SourceAfter (side S.left S.faults source.old) (side S.left S.faults source.new) result }
-    ensures out { OutAfter (side O.written O.faults out.old) (side O.written O.faults out.new) result }
+    note: &mut N,
+) -> Ended
+    requires { IsJob job.now }
+    ensures bytes { (bytes : List ℕ) × IsOutcome (task_of job.now) (S.left source.old) bytes (outcome_of result) }
+    ensures source { SourceAfter (side S.left S.faults source.old) (side S.left S.faults source.new) (outcome_of result) }
+    ensures out { OutAfter (side O.written O.faults out.old) (side O.written O.faults out.new) (outcome_of result) }
+    ensures report { ReportAfter (side N.written N.faults note.old) (side N.written N.faults note.new) (outcome_of result) }
 {
-    match read_words(words) {
-        Ok(Command::Agree) => agree(alloc, source, out),
-        Err(WordsError::Usage) => Outcome::Usage,
+    let bytes = match read_all(alloc, source, most_bytes(job)) {
+        Ok(bytes) => bytes,
+        Err(ReadError::ReadFault) => return Ended::ReadFault,
+        Err(ReadError::TooLong) => return Ended::TooLong,
+        Err(ReadError::Memory) => return Ended::Memory,
+    };
+    match judge(alloc, job, &bytes) {
+        Ok(reply) => send(out, note, reply),
+        Err(Stop::NoMemory) => Ended::Memory,
+        Err(Stop::NoAnswer(refusal)) => Ended::Refused(refusal),
     }
 }
 
-/// Does what the words ask: reads `source`, writes the answer on `out`, and on `note` one error line
-/// where there is no answer.
+/// Does what the words ask: reads `source`, writes the answer on `out`, and on `note` a report where the
+/// command has one, and one error line where there is no answer.
 pub fn run<S: Source, O: Sink, N: Sink>(
     alloc: Global,
     words: &Vec<String>,
@@ -64,12 +79,22 @@ pub fn run<S: Source, O: Sink, N: Sink>(
     out: &mut O,
     note: &mut N,
 ) -> Status
-    // There is an outcome, and all that can be seen follows from it.
-    ensures outcome { (outcome : Outcome) × IsRun (run_of words.now (before_after S.left S.faults source.old source.new) (before_after O.written O.faults out.old out.new) (before_after N.written N.faults note.old note.new) result) outcome }
+    // The run has an ending, and all that can be seen follows from it.
+    ensures ending { (ending : Ending) × IsEnding (run_of words.now (before_after S.left S.faults source.old source.new) (before_after O.written O.faults out.old out.new) (before_after N.written N.faults note.old note.new) result) ending }
+    // What every job promises.
+    ensures jobs { JobPromise (run_of words.now (before_after S.left S.faults source.old source.new) (before_after O.written O.faults out.old out.new) (before_after N.written N.faults note.old note.new) result) }
     // What `agree` promises.
     ensures agree { AgreePromise (run_of words.now (before_after S.left S.faults source.old source.new) (before_after O.written O.faults out.old out.new) (before_after N.written N.faults note.old note.new) result) }
+    // What `recheck` promises.
+    ensures recheck { RecheckPromise (run_of words.now (before_after S.left S.faults source.old source.new) (before_after O.written O.faults out.old out.new) (before_after N.written N.faults note.old note.new) result) }
+    // What `synth` promises.
+    ensures synth { SynthPromise (run_of words.now (before_after S.left S.faults source.old source.new) (before_after O.written O.faults out.old out.new) (before_after N.written N.faults note.old note.new) result) }
 {
-    let outcome = perform(alloc, words, source, out);
-    tell(note, outcome);
-    outcome.status()
+    let Some(asked) = read_job(words) else {
+        tell_error(note, &ErrorLine::plain(b"Usage"));
+        return Status::Usage;
+    };
+    let ended = perform(alloc, &asked, source, out, note);
+    tell(note, &ended);
+    ended.status()
 }

@@ -105,11 +105,93 @@ fn agree_refuses(rt: HostRuntime) -> Result<(), Fail> {
     Ok(())
 }
 
+/// A certificate that NOT has no chain of at most one step over AND; its last lines stand apart.
+const NONE: &str =
+    "chains 1\ninputs 1\n10\nbasis 0001\nmethod plain\nconflicts 100000\nmax 1\nsize 0\nrefuted\ndone\nsize 1\nrefuted\n";
+
+const LOG: &str = "24 -5 0 1 2 3 4 6 7 22 20 0\n25 0 1 2 3 4 6 7 24 18 16 0\n";
+
+/// One that XOR takes one step.
+const ONE: &str =
+    "chains 1\ninputs 2\n0110\nbasis all\nmethod plain\nconflicts 100000\nmax 16\nsize 0\nrefuted\ndone\nchain 1\nx3 x1 x2 0110\nout x3\nminimum 1\nend\n";
+
+#[test]
+fn recheck_answers(rt: HostRuntime) -> Result<(), Fail> {
+    let alloc = rt.alloc();
+    for (log, behind, status, out, note) in [
+        (LOG, "done\nnone 1\nend\n", 0, "none 1\n", ""),
+        (
+            LOG,
+            "done\nnone 0\nend\n",
+            8,
+            "",
+            "error: WrongVerdict 16\n",
+        ),
+        (LOG, "done\n", 2, "", "error: Syntax 16\n"),
+        (
+            "24 -5 0 1 2 3 4 6 7 20 0\n",
+            "done\nnone 1\nend\n",
+            8,
+            "",
+            "error: StepRefused 13 NoConflict\n",
+        ),
+        (
+            "24 -5 0 1 2 3 4 6 22 20 0\n",
+            "done\nnone 1\nend\n",
+            8,
+            "",
+            "error: StepRefused 13 NotUnit 22\n",
+        ),
+    ] {
+        let input = format!(in alloc; "{NONE}{log}{behind}")?;
+        let (got, written, told) = answer(
+            alloc,
+            &["recheck"],
+            input.as_str(),
+            (false, false, false),
+        )?;
+        assert_eq!(rt; got, status, "{input}");
+        assert_eq!(rt; written.written(), out.as_bytes(), "{input}");
+        assert_eq!(rt; told.written(), note.as_bytes(), "{input}");
+    }
+    let (got, written, _) = answer(alloc, &["recheck"], ONE, (false, false, false))?;
+    assert_eq!(rt; got, 0);
+    assert_eq!(rt; written.written(), b"minimum 1\n".as_slice());
+    Ok(())
+}
+
+#[test]
+fn synth_answers(rt: HostRuntime) -> Result<(), Fail> {
+    for (input, status, out, note) in [
+        (
+            "inputs 2\n0--1\n",
+            0,
+            "chains 1\ninputs 2\n0--1\nbasis all\nmethod plain\nconflicts 100000\nmax 16\nchain 0\nout x1\nminimum 0\nend\n",
+            "",
+        ),
+        ("", 2, "", "error: BadHeader 1\n"),
+        ("inputs 2\n01a0\n", 2, "", "error: BadRow 2\n"),
+        ("inputs 1\n01\nend\n", 2, "", "error: BadRow 3\n"),
+        ("inputs 7\n0\n", 3, "", "error: TooManyInputs\n"),
+    ] {
+        let words = ["synth", "--method", "plain"];
+        let (got, written, told) = answer(rt.alloc(), &words, input, (false, false, false))?;
+        assert_eq!(rt; got, status, "{input}");
+        assert_eq!(rt; written.written(), out.as_bytes(), "{input}");
+        assert_eq!(rt; told.written(), note.as_bytes(), "{input}");
+    }
+    Ok(())
+}
+
 #[test]
 fn other_words_are_no_command(rt: HostRuntime) -> Result<(), Fail> {
     for words in [
         &[][..],
         &["agree", "agree"][..],
+        &["recheck", "--max", "3"][..],
+        &["synth"][..],
+        &["synth", "--method", "plain", "--max", "17"][..],
+        &["improve", "--cap", "0"][..],
         &["Agree"][..],
         &["agree "][..],
         &[""][..],

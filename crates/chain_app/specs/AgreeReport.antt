@@ -1,0 +1,96 @@
+-- What `agree` tells.
+use Rattle.std.specs.Prelude.{◌≡◌, ℕ, List, ◌++◌, None, codes, decimal}
+use Rattle.tt_core.specs.declared.error.SpecError.{SpecError}
+use Rattle.tt_core.specs.declared.error.SpecError.TheVariants as tables
+use Rattle.chain_core.specs.declared.error.ChainError.{ChainError}
+use Rattle.chain_core.specs.declared.error.ChainError.TheVariants as chains
+use Rattle.chain_app.specs.declared.agree.Answer.{Answer}
+use Rattle.chain_app.specs.declared.agree.Answer.TheVariants.{Agrees, Differs}
+use Rattle.chain_app.specs.declared.agree.AgreeError.{AgreeError}
+use Rattle.chain_app.specs.declared.agree.AgreeError.TheVariants as errors
+use Rattle.chain_app.specs.declared.status.Status.{Status}
+use Rattle.chain_app.specs.declared.status.Status.TheVariants.{Done, Malformed, Limit, Memory, Refused}
+use Rattle.chain_app.specs.Agree.{HasAnswer, HasFault, most_bytes}
+use Rattle.chain_app.specs.Told.{Reply, Named, Refusal, plain, at, too_long, memory}
+use Rattle.chain_app.specs.Run.{Task}
+
+-- An answer that the chain differs is a refusal.
+abbrev pub answer_status : Answer → Status
+answer_status Agrees = Done
+answer_status (Differs output row) = Refused
+
+-- Faults of form are malformed, and what is beyond a limit is told as that.
+abbrev pub spec_status : SpecError → Status
+spec_status (tables.BadHeader line) = Malformed
+spec_status (tables.BadRow line) = Malformed
+spec_status (tables.WrongLength line) = Malformed
+spec_status tables.TooManyInputs = Limit
+spec_status tables.TooManyOutputs = Limit
+spec_status tables.NoOutput = Malformed
+spec_status tables.Memory = Memory
+
+abbrev pub chain_status : ChainError → Status
+chain_status (chains.BadStep line) = Malformed
+chain_status (chains.ForwardPlace line) = Malformed
+chain_status (chains.BadOut line) = Malformed
+chain_status (chains.TooManySteps line) = Limit
+chain_status (chains.BadCount line) = Malformed
+chain_status chains.Memory = Memory
+
+abbrev pub error_status : AgreeError → Status
+error_status errors.TooLong = Limit
+error_status (errors.Tables error) = spec_status error
+error_status (errors.Chained error) = chain_status error
+error_status (errors.BadEnd line) = Malformed
+error_status errors.Memory = Memory
+
+-- what goes out: `agrees`, or `differs H T`
+unfoldable pub answer_text : Answer → List ℕ
+answer_text Agrees = codes "agrees\n"
+answer_text (Differs output row) = codes "differs " ++ decimal output ++ codes " " ++ decimal row ++ codes "\n"
+
+-- the name of an error, and its line where it has one
+unfoldable pub named_spec : SpecError → Named
+named_spec (tables.BadHeader line) = at (codes "BadHeader") line
+named_spec (tables.BadRow line) = at (codes "BadRow") line
+named_spec (tables.WrongLength line) = at (codes "WrongLength") line
+named_spec tables.TooManyInputs = plain (codes "TooManyInputs")
+named_spec tables.TooManyOutputs = plain (codes "TooManyOutputs")
+named_spec tables.NoOutput = plain (codes "NoOutput")
+named_spec tables.Memory = memory
+
+unfoldable pub named_chain : ChainError → Named
+named_chain (chains.BadStep line) = at (codes "BadStep") line
+named_chain (chains.ForwardPlace line) = at (codes "ForwardPlace") line
+named_chain (chains.BadOut line) = at (codes "BadOut") line
+named_chain (chains.TooManySteps line) = at (codes "TooManySteps") line
+named_chain (chains.BadCount line) = at (codes "BadCount") line
+named_chain chains.Memory = memory
+
+unfoldable pub named_error : AgreeError → Named
+named_error errors.TooLong = too_long
+named_error (errors.Tables error) = named_spec error
+named_error (errors.Chained error) = named_chain error
+named_error (errors.BadEnd line) = at (codes "BadEnd") line
+named_error errors.Memory = memory
+
+-- an answer as a reply, and an error as a refusal
+abbrev pub agree_reply : Answer → Reply
+agree_reply answer = record { text = answer_text answer; report = None; status = answer_status answer }
+
+abbrev pub agree_refusal : AgreeError → Refusal
+agree_refusal error = record { status = error_status error; named = named_error error }
+
+pub record AgreeTells (bytes : List ℕ) (reply : Reply) : Type 0 where
+  pub answer : Answer
+  pub has : HasAnswer bytes answer
+  pub is : reply ≡ agree_reply answer
+
+-- want of memory is no fault of the bytes
+pub record AgreeRefuses (bytes : List ℕ) (refusal : Refusal) : Type 0 where
+  pub error : AgreeError
+  pub fault : HasFault bytes error
+  pub is : refusal ≡ agree_refusal error
+
+abbrev pub agree_task : Task
+agree_task = record { most = most_bytes; Tells = AgreeTells; Refuses = AgreeRefuses }

@@ -1,0 +1,102 @@
+-- What `recheck` tells.
+use Rattle.std.specs.Prelude.{◌≡◌, ℕ, ◌≤◌, List, [], ◌++◌, length, Option, Some, None, codes, Result, Ok, Err}
+use Rattle.text_core.specs.Lines.{lines_of}
+use Rattle.lrat_check.specs.declared.error.CheckError.{CheckError}
+use Rattle.lrat_check.specs.declared.error.CheckError.TheVariants as steps
+use Rattle.cert_theory.specs.declared.data.Verdict.{Verdict}
+use Rattle.cert_theory.specs.declared.data.BundleError.{BundleError}
+use Rattle.cert_theory.specs.declared.data.BundleError.TheVariants as bundles
+use Rattle.tt_core.specs.Words.{specification}
+use Rattle.op_basis.specs.Basis.{members}
+use Rattle.cert_theory.specs.Bundle.{Bundle}
+use Rattle.cert_theory.specs.Meaning.{Means}
+use Rattle.cert_theory.specs.Spelling.{verdict_line, IsBundle, HasVerdict}
+use Rattle.cert_theory.specs.Judging.{bundle_of}
+use Rattle.chain_app.specs.declared.status.Status.{Status}
+use Rattle.chain_app.specs.declared.status.Status.TheVariants.{Done, Malformed, Memory, Refused}
+use Rattle.chain_app.specs.Told.{Reply, Named, Refusal, at, memory}
+use Rattle.chain_app.specs.Run.{Task}
+
+-- the most bytes of a bundle that are read
+abbrev pub most_of_bundle : ℕ
+most_of_bundle = 67108864
+
+-- what goes out: the verdict line
+unfoldable pub verdict_text : Verdict → List ℕ
+verdict_text verdict = verdict_line verdict ++ codes "\n"
+
+-- What isn't of the form of a bundle is malformed, and what is and isn't valid is refused.
+abbrev pub bundle_status : BundleError → Status
+bundle_status (bundles.Syntax line) = Malformed
+bundle_status (bundles.SizeOutOfOrder line) = Refused
+bundle_status (bundles.StepRefused line e) = Refused
+bundle_status (bundles.NotRefuted line) = Refused
+bundle_status (bundles.ChainDiffers output row) = Refused
+bundle_status (bundles.OperatorNotInBasis place) = Refused
+bundle_status (bundles.OpenTooShort line) = Refused
+bundle_status (bundles.NotNew line) = Refused
+bundle_status (bundles.WrongVerdict line) = Refused
+bundle_status bundles.Memory = Memory
+
+-- a refused step: its line, the name of its fault, and what the fault speaks of
+abbrev pub refused_step : ℕ → List ℕ → Option ℕ → Named
+refused_step line word last = record { name = codes "StepRefused"; number = Some line; word = word; last = last }
+
+-- a variant with two numbers
+abbrev pub two_of : List ℕ → ℕ → ℕ → Named
+two_of name number last = record { name = name; number = Some number; word = []; last = Some last }
+
+unfoldable pub named_step : ℕ → CheckError → Named
+named_step line (steps.UnknownId id) = refused_step line (codes "UnknownId") (Some id)
+named_step line (steps.NotUnit id) = refused_step line (codes "NotUnit") (Some id)
+named_step line steps.NoConflict = refused_step line (codes "NoConflict") None
+named_step line (steps.UnknownDelete id) = refused_step line (codes "UnknownDelete") (Some id)
+named_step line (steps.IdNotGreater id) = refused_step line (codes "IdNotGreater") (Some id)
+named_step line (steps.UnknownVariable variable) = refused_step line (codes "UnknownVariable") (Some variable)
+named_step line steps.Memory = refused_step line (codes "Memory") None
+
+unfoldable pub named_bundle : BundleError → Named
+named_bundle (bundles.Syntax line) = at (codes "Syntax") line
+named_bundle (bundles.SizeOutOfOrder line) = at (codes "SizeOutOfOrder") line
+named_bundle (bundles.StepRefused line e) = named_step line e
+named_bundle (bundles.NotRefuted line) = at (codes "NotRefuted") line
+named_bundle (bundles.ChainDiffers output row) = two_of (codes "ChainDiffers") output row
+named_bundle (bundles.OperatorNotInBasis place) = at (codes "OperatorNotInBasis") place
+named_bundle (bundles.OpenTooShort line) = at (codes "OpenTooShort") line
+named_bundle (bundles.NotNew line) = at (codes "NotNew") line
+named_bundle (bundles.WrongVerdict line) = at (codes "WrongVerdict") line
+named_bundle bundles.Memory = memory
+
+-- a verdict as a reply, and an error as a refusal
+abbrev pub recheck_reply : Verdict → Reply
+recheck_reply verdict = record { text = verdict_text verdict; report = None; status = Done }
+
+abbrev pub recheck_refusal : BundleError → Refusal
+recheck_refusal error = record { status = bundle_status error; named = named_bundle error }
+
+-- The bytes are the spelling of a valid bundle of this verdict, which is true, and of no other verdict.
+pub record IsVerdict (bytes : List ℕ) (verdict : Verdict) : Type 0 where
+  pub has : HasVerdict bytes verdict
+  pub only : (b : Bundle) → IsBundle bytes b → b.verdict ≡ verdict
+  pub means : (b : Bundle) → IsBundle bytes b → Means (specification b.heading.spec) (members b.heading.basis) verdict
+
+-- The bytes aren't the spelling of a valid bundle, and this is their first fault.
+pub record HasBundleFault (bytes : List ℕ) (error : BundleError) : Type 0 where
+  pub within : length bytes ≤ most_of_bundle
+  pub none : (b : Bundle) → IsBundle bytes b → ⊥
+  pub fault : bundle_of (lines_of bytes) ≡ Err error
+
+pub record RecheckTells (bytes : List ℕ) (reply : Reply) : Type 0 where
+  pub within : length bytes ≤ most_of_bundle
+  pub verdict : Verdict
+  pub read : bundle_of (lines_of bytes) ≡ Ok verdict
+  pub is_verdict : IsVerdict bytes verdict
+  pub is : reply ≡ recheck_reply verdict
+
+pub record RecheckRefuses (bytes : List ℕ) (refusal : Refusal) : Type 0 where
+  pub error : BundleError
+  pub fault : HasBundleFault bytes error
+  pub is : refusal ≡ recheck_refusal error
+
+abbrev pub recheck_task : Task
+recheck_task = record { most = most_of_bundle; Tells = RecheckTells; Refuses = RecheckRefuses }

@@ -1,0 +1,43 @@
+-- What the program's values mean.
+use Rattle.std.specs.Prelude.{ℕ, List, [], Result, Ok, Err}
+use Rattle.std.specs.Option.{option_map}
+use Rattle.chain_app.specs.declared.replies.Reply.{Reply}
+use Rattle.chain_app.specs.declared.replies.ErrorLine.{ErrorLine}
+use Rattle.chain_app.specs.declared.replies.Word.{Word}
+use Rattle.chain_app.specs.declared.replies.Word.TheVariants.{Nothing, Known, Name}
+use Rattle.chain_app.specs.declared.replies.Refusal.{Refusal}
+use Rattle.chain_app.specs.declared.replies.Stop.{Stop}
+use Rattle.chain_app.specs.declared.replies.Stop.TheVariants.{NoMemory, NoAnswer}
+use Rattle.chain_app.specs.declared.replies.Ended.{Ended}
+use Rattle.chain_app.specs.declared.replies.Ended.TheVariants as ended
+use Rattle.chain_app.specs.Told as told
+use Rattle.chain_app.specs.Run.{Task, Outcome, ReadFault, TooLong, Memory, Answered, CutShort, ReportCut, Refused}
+
+abbrev pub word_bytes : Word → List ℕ
+word_bytes Nothing = []
+word_bytes (Known word) = word.now
+word_bytes (Name word) = word.items
+
+abbrev pub line_value : ErrorLine → told.Named
+line_value line = record { name = line.name.now; number = line.number; word = word_bytes line.word; last = line.last }
+
+abbrev pub reply_value : Reply → told.Reply
+reply_value reply = record { text = reply.text.items; report = option_map (λ text. text.items) reply.report; status = reply.status }
+
+abbrev pub refusal_value : Refusal → told.Refusal
+refusal_value refusal = record { status = refusal.status; named = line_value refusal.line }
+
+abbrev pub outcome_of : Ended → Outcome
+outcome_of ended.ReadFault = ReadFault
+outcome_of ended.TooLong = TooLong
+outcome_of ended.Memory = Memory
+outcome_of (ended.Answered reply) = Answered (reply_value reply)
+outcome_of (ended.CutShort reply) = CutShort (reply_value reply)
+outcome_of (ended.ReportCut reply) = ReportCut (reply_value reply)
+outcome_of (ended.Refused refusal) = Refused (refusal_value refusal)
+
+-- What a command answers of bytes is right; want of memory may come anywhere.
+abbrev pub Judges : Task → List ℕ → Result Reply Stop → Type 0
+Judges task bytes (Ok reply) = task.Tells bytes (reply_value reply)
+Judges task bytes (Err NoMemory) = Unit {0}
+Judges task bytes (Err (NoAnswer refusal)) = task.Refuses bytes (refusal_value refusal)

@@ -1,0 +1,158 @@
+//! The command `recheck`: what it tells of bytes.
+ghost use Rattle.std.specs.Prelude.{◌≡◌, ◌≤◌, IfOk, length};
+ghost use Rattle.chain_app.specs.RecheckReport.{most_of_bundle, verdict_text, bundle_status as bundle_status_of, refused_step, two_of, named_step, named_bundle, recheck_reply, recheck_refusal, recheck_task};
+ghost use Rattle.chain_app.specs.Views.{line_value, reply_value, refusal_value, Judges};
+
+use crate::replies::{ErrorLine, Refusal, Reply, Stop, Word};
+use crate::status::Status;
+use cert_file::{BundleError, Verdict, check_bundle};
+use lrat_check::CheckError;
+use std::alloc::{AllocError, Global};
+use text_core::push_number;
+
+/// The most bytes that `recheck` reads.
+pub(crate) const MOST_BYTES: usize = 67_108_864;
+
+/// The status that tells of a fault.
+fn bundle_status(error: BundleError) -> Status
+    ensures { result ≡ bundle_status_of error }
+{
+    match error {
+        BundleError::Syntax(_) => Status::Malformed,
+        BundleError::Memory => Status::Memory,
+        BundleError::SizeOutOfOrder(_)
+        | BundleError::StepRefused(_, _)
+        | BundleError::NotRefuted(_)
+        | BundleError::ChainDiffers(_, _)
+        | BundleError::OperatorNotInBasis(_)
+        | BundleError::OpenTooShort(_)
+        | BundleError::NotNew(_)
+        | BundleError::WrongVerdict(_) => Status::Refused,
+    }
+}
+
+/// A refused step: its line, the name of its fault, and what that speaks of.
+fn step(line: u32, word: &'static [u8], last: Option<u32>) -> ErrorLine
+    ensures { line_value result ≡ refused_step line word.now last }
+{
+    ErrorLine {
+        name: b"StepRefused",
+        number: Some(line),
+        word: Word::Known(word),
+        last,
+    }
+}
+
+/// What the error line of a refused step names.
+#[tactic(auto, unfolding(crate::specs::RecheckReport::named_step))]
+fn name_step(line: u32, error: CheckError) -> ErrorLine
+    ensures { line_value result ≡ named_step line error }
+{
+    match error {
+        CheckError::UnknownId(id) => step(line, b"UnknownId", Some(id)),
+        CheckError::NotUnit(id) => step(line, b"NotUnit", Some(id)),
+        CheckError::NoConflict => step(line, b"NoConflict", None),
+        CheckError::UnknownDelete(id) => step(line, b"UnknownDelete", Some(id)),
+        CheckError::IdNotGreater(id) => step(line, b"IdNotGreater", Some(id)),
+        CheckError::UnknownVariable(variable) => step(line, b"UnknownVariable", Some(variable)),
+        CheckError::Memory => step(line, b"Memory", None),
+    }
+}
+
+/// A variant with two numbers.
+fn two(name: &'static [u8], number: u32, last: u32) -> ErrorLine
+    ensures { line_value result ≡ two_of name.now number last }
+{
+    ErrorLine {
+        name,
+        number: Some(number),
+        word: Word::Nothing,
+        last: Some(last),
+    }
+}
+
+/// What a fault's error line names.
+#[tactic(auto, unfolding(crate::specs::RecheckReport::named_bundle, crate::specs::Told::memory))]
+fn name_bundle(error: BundleError) -> ErrorLine
+    ensures { line_value result ≡ named_bundle error }
+{
+    match error {
+        BundleError::Syntax(line) => ErrorLine::at(b"Syntax", line),
+        BundleError::SizeOutOfOrder(line) => ErrorLine::at(b"SizeOutOfOrder", line),
+        BundleError::StepRefused(line, error) => name_step(line, error),
+        BundleError::NotRefuted(line) => ErrorLine::at(b"NotRefuted", line),
+        BundleError::ChainDiffers(output, row) => two(b"ChainDiffers", output, row),
+        BundleError::OperatorNotInBasis(place) => ErrorLine::at(b"OperatorNotInBasis", place),
+        BundleError::OpenTooShort(line) => ErrorLine::at(b"OpenTooShort", line),
+        BundleError::NotNew(line) => ErrorLine::at(b"NotNew", line),
+        BundleError::WrongVerdict(line) => ErrorLine::at(b"WrongVerdict", line),
+        BundleError::Memory => ErrorLine::plain(b"Memory"),
+    }
+}
+
+/// A fault as a refusal.
+fn refusal_of(error: BundleError) -> Refusal
+    ensures { refusal_value result ≡ recheck_refusal error }
+{
+    Refusal {
+        status: bundle_status(error),
+        line: name_bundle(error),
+    }
+}
+
+/// The text of a verdict.
+#[tactic(auto, unfolding(crate::specs::RecheckReport::verdict_text, cert_theory::specs::Spelling::verdict_line))]
+fn text_of(alloc: Global, verdict: Verdict) -> Result<Vec<u8>, AllocError>
+    ensures { IfOk result (λ text. text.items ≡ verdict_text verdict) }
+{
+    let mut text = Vec::new(alloc);
+    match verdict {
+        Verdict::Minimum(r) => {
+            text.extend_from_slice(b"minimum ")?;
+            push_number(&mut text, r)?;
+        }
+        Verdict::NoChain(x) => {
+            text.extend_from_slice(b"none ")?;
+            push_number(&mut text, x)?;
+        }
+        Verdict::Bounded { low, r } => {
+            text.extend_from_slice(b"bounded ")?;
+            push_number(&mut text, low)?;
+            text.extend_from_slice(b" ")?;
+            push_number(&mut text, r)?;
+        }
+        Verdict::Open { low } => {
+            text.extend_from_slice(b"open ")?;
+            push_number(&mut text, low)?;
+        }
+    }
+    text.extend_from_slice(b"\n")?;
+    Ok(text)
+}
+
+/// A verdict as a reply.
+fn reply_of(alloc: Global, verdict: Verdict) -> Result<Reply, AllocError>
+    ensures { IfOk result (λ reply. reply_value reply ≡ recheck_reply verdict) }
+{
+    Ok(Reply {
+        text: text_of(alloc, verdict)?,
+        report: None,
+        status: Status::Done,
+    })
+}
+
+/// What `recheck` tells of bytes.
+#[tactic(auto, using(crate::proofs::Rechecking::telling))]
+pub(crate) fn recheck(alloc: Global, bytes: &[u8]) -> Result<Reply, Stop>
+    requires { length bytes.now ≤ most_of_bundle }
+    ensures { Judges recheck_task bytes.now result }
+{
+    match check_bundle(alloc, bytes) {
+        Ok(verdict) => match reply_of(alloc, verdict) {
+            Ok(reply) => Ok(reply),
+            Err(AllocError) => Err(Stop::NoMemory),
+        },
+        Err(BundleError::Memory) => Err(Stop::NoMemory),
+        Err(error) => Err(Stop::NoAnswer(refusal_of(error))),
+    }
+}
