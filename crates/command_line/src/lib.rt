@@ -16,6 +16,3 @@ mod words;
 
 pub use command::{Command, Given, WordsError};
 pub use words::read_words;
-
-#[cfg(test)]
-mod tests;

@@ -105,48 +105,33 @@ fn logs_go_on(rt: HostRuntime) -> Result<(), Fail> {
     Ok(())
 }
 
-/// A checker with an index by literals, or without one.
-fn checker_of(alloc: Global, cnf: Cnf, indexed: bool) -> Result<Checker, AllocError> {
-    if indexed {
-        Checker::indexed(alloc, cnf)
-    } else {
-        Checker::new(alloc, cnf)
-    }
-}
-
 #[test]
 fn clauses_are_new(rt: HostRuntime) -> Result<(), Fail> {
     let alloc = rt.alloc();
-    for indexed in [false, true] {
-        let mut checker = checker_of(
-            alloc,
-            formula(alloc, 3, &[b"1 1 2 0 0", b"2 -1 3 0 0"])?,
-            indexed,
-        )?;
-        for (text, new) in [
-            (b"1 1 2 0 0" as &[u8], false),
-            (b"1 2 1 3 0 0", false),
-            (b"1 3 -1 0 0", false),
-            (b"1 1 3 0 0", true),
-            (b"1 -1 2 0 0", true),
-            (b"1 1 0 0", true),
-            (b"1 0 0", true),
-        ] {
-            assert_eq!(rt; checker.is_new(clause(alloc, text).lits()), new, "{text:?}");
-        }
-        checker
-            .feed(read_line(alloc, b"3 2 3 0 1 2 0")?)
-            .map_err(|_| Fail::from("refused"))?;
-        assert!(rt; !checker.is_new(clause(alloc, b"1 3 2 -1 0 0").lits()));
-        assert!(rt; !checker.is_new(clause(alloc, b"1 3 2 0 0").lits()));
-        checker
-            .feed(read_line(alloc, b"3 d 1 3 0")?)
-            .map_err(|_| Fail::from("refused"))?;
-        assert!(rt; checker.is_new(clause(alloc, b"1 3 2 0 0").lits()));
-        assert!(rt; checker.is_new(clause(alloc, b"1 1 2 3 0 0").lits()));
-        let checker = checker_of(alloc, formula(alloc, 2, &[b"1 0 0"])?, indexed)?;
-        assert!(rt; !checker.is_new(&[]));
+    let mut checker = Checker::new(alloc, formula(alloc, 3, &[b"1 1 2 0 0", b"2 -1 3 0 0"])?)?;
+    for (text, new) in [
+        (b"1 1 2 0 0" as &[u8], false),
+        (b"1 2 1 3 0 0", false),
+        (b"1 3 -1 0 0", false),
+        (b"1 1 3 0 0", true),
+        (b"1 -1 2 0 0", true),
+        (b"1 1 0 0", true),
+        (b"1 0 0", true),
+    ] {
+        assert_eq!(rt; checker.is_new(clause(alloc, text).lits()), new, "{text:?}");
     }
+    checker
+        .feed(read_line(alloc, b"3 2 3 0 1 2 0")?)
+        .map_err(|_| Fail::from("refused"))?;
+    assert!(rt; !checker.is_new(clause(alloc, b"1 3 2 -1 0 0").lits()));
+    assert!(rt; !checker.is_new(clause(alloc, b"1 3 2 0 0").lits()));
+    checker
+        .feed(read_line(alloc, b"3 d 1 3 0")?)
+        .map_err(|_| Fail::from("refused"))?;
+    assert!(rt; checker.is_new(clause(alloc, b"1 3 2 0 0").lits()));
+    assert!(rt; checker.is_new(clause(alloc, b"1 1 2 3 0 0").lits()));
+    let checker = Checker::new(alloc, formula(alloc, 2, &[b"1 0 0"])?)?;
+    assert!(rt; !checker.is_new(&[]));
     Ok(())
 }
 
@@ -243,7 +228,7 @@ fn the_plain_program_agrees(rt: HostRuntime) -> Result<(), Fail> {
     for round in 0..40u64 {
         let (cnf, mut plain) = random_formula(alloc, round)?;
         let mut greatest = 12u32;
-        let mut checker = checker_of(alloc, cnf, round % 2 == 1)?;
+        let mut checker = Checker::new(alloc, cnf)?;
         let mut seed = round;
         for _ in 0..200u32 {
             seed = next_random(seed);

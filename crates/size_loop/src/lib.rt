@@ -19,6 +19,3 @@ mod verdicts;
 
 pub use advancing::{Advance, Search};
 pub use searching::search;
-
-#[cfg(test)]
-mod tests;

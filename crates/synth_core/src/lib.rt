@@ -18,6 +18,3 @@ mod certificate;
 pub use asked::Asked;
 pub use bundle_core::Verdict;
 pub use certificate::{Certificate, synthesise};
-
-#[cfg(test)]
-mod tests;
