@@ -25,3 +25,6 @@ mod marks;
 
 pub use checker::Checker;
 pub use error::CheckError;
+
+#[cfg(test)]
+mod tests;
