@@ -79,7 +79,7 @@ fn add(alloc: Global, cnf: &mut Cnf, text: &[u8]) -> Result<(), Fault> {
 }
 
 /// The formula at the front of a text, and what stands behind it.
-fn formula(alloc: Global, text: &[u8]) -> Result<(Cnf, &[u8]), Fault> {
+pub fn formula(alloc: Global, text: &[u8]) -> Result<(Cnf, &[u8]), Fault> {
     let Some((first, _, rest)) = next_line(text) else {
         return Err(Fault::Formula);
     };

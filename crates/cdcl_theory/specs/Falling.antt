@@ -15,7 +15,8 @@ pub record HasNoValue (fell : ℤ → ℕ) (p : ℕ) (l : ℤ) : Type 0 where
 -- A state of values is closed where no live clause is falsified, and none is unit: all its literals
 -- but one falsified, and that one without a value.
 -- Example: with the one live clause 1, 2 it is closed while nothing has fallen. When 2 falls it isn't,
--- since 1 follows.
+-- since 1 follows. A falsified clause is excluded by any u that has no value, and there always is one:
+-- variables have no end.
 pub record IsClosed (live : ℕ → Option (List ℤ)) (fell : ℤ → ℕ) (p : ℕ) : Type 0 where
   pub excludes : (u : ℤ) → HasNoValue fell p u → (id : ℕ) (clause : List ℤ) → live id ≡ Some clause → All (λ l. (l ≡ u) ⊎ IsFallen fell p l) clause → ⊥
 

@@ -25,6 +25,9 @@ pub record ArePlaces (lits : List ℤ) (places : ℤ → ℕ) : Type 0 where
   pub found : (l d : ℤ) → 0 < places l → slice_index_or lits (places l - 1) d ≡ opposite l
   pub one_side : (l : ℤ) → 0 < places l → places (opposite l) ≡ 0
 
+-- A trail fits its tables: each of its literals is one of the variables 1 to vars and has its place, and
+-- the tables have room for all of them. By `room` each literal of the trail has taken one entry of the
+-- table that was 0, so the trail is no longer than the table, and its places are small numbers.
 pub record IsTrail (t : Trailed) : Type 0 where
   pub places : ArePlaces t.lits (fell t)
   pub variables : All (λ l. (0 < variable l) × (variable l ≤ t.vars)) t.lits

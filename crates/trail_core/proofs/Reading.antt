@@ -58,7 +58,7 @@ values_more t i have taken l some low =
 
 -- bits that tell which negative literals have fallen
 pub follows : (t : Trailed) (bits : List Bool) → IsTrail t → length bits ≡ t.vars → ((k : ℕ) (d : Bool) → k < t.vars → slice_index_or bits k d ≡ nat_lt 0 (fell t (negsuc k))) → Follows t bits
-follows t bits trail long told = record { long = long; values = λ l over fallen. value l over.0 over.1 fallen }
+follows t bits trail long told = record { long = long; values = λ l over fallen. value l over.0 over.1 fallen; others = λ v some low free. other v some low free }
   where
     bit : (n : ℕ) → suc n ≤ t.vars → bits_of bits (suc n) ≡ nat_lt 0 (fell t (negsuc n))
     bit n low =
@@ -73,5 +73,11 @@ follows t bits trail long told = record { long = long; values = λ l over fallen
         let none : fell t (negsuc n) ≡ 0 = trail.places.one_side (pos (suc n)) fallen in
         let off : bits_of bits (suc n) ≡ false = bit n low ∙ le-ltb 0 (fell t (negsuc n)) (omega arith) in
         rw off refl
+
+    other : (v : ℕ) → 0 < v → v ≤ t.vars → IsFree t (pos v) → bits_of bits v ≡ false
+    other zero some low free = absurd (let h : 0 < 0 = some in omega arith)
+    other (suc n) some low free =
+        let none : fell t (negsuc n) ≡ 0 = free.1 in
+        bit n low ∙ le-ltb 0 (fell t (negsuc n)) (omega arith)
 
 pub ruleset reading = (common_steps, code_of-room, trail_none, values_more, follows, back_more)

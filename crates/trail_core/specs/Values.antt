@@ -1,5 +1,5 @@
 -- Which variables have a value on a trail, and the assignment of these values.
-use Rattle.std.specs.Prelude.{◌≡◌, ℕ, ◌<◌, ◌≤◌, ◌⊎◌, ℤ, Bool, true, List, length}
+use Rattle.std.specs.Prelude.{◌≡◌, ℕ, ◌<◌, ◌≤◌, ◌⊎◌, ℤ, pos, Bool, true, false, List, length}
 use Rattle.sat_theory.specs.Formula.{variable, opposite, bits_of, literal_value}
 use Rattle.cdcl_theory.specs.Trails.{Trailed, fell}
 
@@ -15,7 +15,8 @@ IsFree t l = (fell t l ≡ 0) × (fell t (opposite l) ≡ 0)
 abbrev pub HaveValues : Trailed → ℕ → Type 0
 HaveValues t v = (l : ℤ) → 0 < variable l → variable l < v → (0 < fell t l) ⊎ (0 < fell t (opposite l))
 
--- each literal whose opposite has fallen is true
+-- each literal whose opposite has fallen is true, and a variable without a value is false
 pub record Follows (t : Trailed) (bits : List Bool) : Type 0 where
   pub long : length bits ≡ t.vars
   pub values : (l : ℤ) → IsOver t.vars l → 0 < fell t (opposite l) → literal_value (bits_of bits) l ≡ true
+  pub others : (v : ℕ) → 0 < v → v ≤ t.vars → IsFree t (pos v) → bits_of bits v ≡ false

@@ -1,4 +1,4 @@
-ghost use Rattle.std.specs.Prelude.{◌≡◌, ℕ, ℤ, negsuc, ◌+◌, ◌-◌, ◌<◌, ◌≤◌, ◌↔◌, [], length, slice_index_or, IsTrue, IfOk, OnOk, OnErr, IfSome, IfNone};
+ghost use Rattle.std.specs.Prelude.{◌≡◌, ℕ, ℤ, pos, negsuc, ◌<ℤ◌, ◌+◌, ◌-◌, ◌<◌, ◌≤◌, ◌↔◌, [], length, slice_index_or, IsTrue, IfOk, OnOk, OnErr, IfSome, IfNone};
 ghost use Rattle.sat_theory.specs.Formula.{variable as variable_of, opposite as opposite_of};
 ghost use Rattle.cdcl_theory.specs.Trails.{IsTrail, IsBack, pushed, fell as fell_of, reason_of};
 ghost use Rattle.trail_core.specs.Values.{IsOver, IsFree, HaveValues, Follows};
@@ -140,6 +140,7 @@ impl Trail {
     pub fn free_literal(&self) -> Option<Lit>
         ensures over { IfSome result (IsOver self.now.vars) }
         ensures free { IfSome result (IsFree self.now) }
+        ensures negative { IfSome result (λ l. l <ℤ pos 0) }
         ensures least { IfSome result (λ l. HaveValues self.now (variable_of l)) }
         ensures none { IfNone result (HaveValues self.now (1 + self.now.vars)) }
     {

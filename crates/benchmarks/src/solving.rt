@@ -1,0 +1,68 @@
+//! Solves the formula at the front of a text, of the same form as `check` reads.
+use crate::check::{Fault, formula};
+use cdcl_core::{Solved, solve};
+use lrat_text::{Line, Log};
+use std::alloc::Global;
+
+/// The most clauses that the solver may learn.
+const BUDGET: u32 = 10_000_000;
+
+/// How a formula was decided.
+#[derive(Clone, Copy, Debug, PartialEq, Eq)]
+pub enum Answer {
+    /// An assignment satisfies it.
+    Satisfied,
+    /// A log refutes it.
+    Refuted,
+    /// The budget was spent.
+    Open,
+}
+
+/// What a search came to.
+#[derive(Clone, Copy, Debug, PartialEq, Eq)]
+pub struct Outcome {
+    /// How the formula was decided.
+    pub answer: Answer,
+    /// The lines of the log, one for each conflict; 0 where the formula is satisfied.
+    pub conflicts: u64,
+    /// The hints of the log, one for each clause that the analysis went over.
+    pub hints: u64,
+}
+
+/// What a log of the solver shows.
+fn outcome_of(answer: Answer, log: &Log) -> Outcome {
+    let mut conflicts = 0u64;
+    let mut hints = 0u64;
+    for line in &log.lines {
+        conflicts = conflicts.saturating_add(1);
+        hints = hints.saturating_add(hints_of(line));
+    }
+    Outcome {
+        answer,
+        conflicts,
+        hints,
+    }
+}
+
+/// How many hints a line has.
+fn hints_of(line: &Line) -> u64 {
+    match line {
+        Line::Add { hints, .. } => hints.len() as u64,
+        Line::Delete { .. } => 0,
+    }
+}
+
+/// Solves the formula at the front of a text.
+pub fn solve_front(alloc: Global, text: &[u8]) -> Result<Outcome, Fault> {
+    let (cnf, _) = formula(alloc, text)?;
+    let outcome = match solve(alloc, &cnf, BUDGET)? {
+        Solved::Sat(_) => Outcome {
+            answer: Answer::Satisfied,
+            conflicts: 0,
+            hints: 0,
+        },
+        Solved::Unsat(log) => outcome_of(Answer::Refuted, &log),
+        Solved::Open(log) => outcome_of(Answer::Open, &log),
+    };
+    Ok(outcome)
+}
