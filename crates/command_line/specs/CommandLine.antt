@@ -8,7 +8,7 @@ use Rattle.text_core.specs.Numbers.{number_up_to}
 use Rattle.op_basis.specs.Text.{basis_of, all_set}
 use Rattle.op_basis.specs.declared.error.BasisError.{BasisError}
 use Rattle.enc_theory.specs.declared.data.Method.{Method}
-use Rattle.enc_theory.specs.declared.data.Method.TheVariants.{Plain}
+use Rattle.enc_theory.specs.declared.data.Method.TheVariants.{Plain, Ssv}
 use Rattle.command_line.specs.declared.command.Command.{Command}
 use Rattle.command_line.specs.declared.command.Command.TheVariants.{Agree, Recheck, Synth, Improve}
 use Rattle.command_line.specs.declared.command.Given.{Given}
@@ -26,7 +26,10 @@ is_word = pointwise nat_eq
 
 -- the method of a name, of those that there are so far
 abbrev pub method_in : List ℕ → Option Method
-method_in value = if is_word value (codes "plain") then Some Plain else None
+method_in value =
+    if is_word value (codes "plain") then Some Plain
+    else (if is_word value (codes "ssv") then Some Ssv
+    else None)
 
 abbrev pub basis_in : Result ℕ BasisError → Option ℕ
 basis_in (Ok basis) = Some basis
@@ -81,16 +84,12 @@ abbrev pub or_else : {A : Type 0} → Option A → A → A
 or_else None default = default
 or_else (Some x) default = x
 
--- What isn't named has its default: all operators, 16 and 100,000. The method has to be named so far.
-abbrev pub synth_by : Given → Option Method → Option Command
-synth_by given None = None
-synth_by given (Some method) = Some (Synth (or_else given.basis all_set) method (or_else given.max 16) (or_else given.conflicts 100000))
-
-abbrev pub synth_with : Given → Option Command
-synth_with given = synth_by given given.method
+-- What isn't named has its default: all operators, the method ssv, 16 and 100,000.
+abbrev pub synth_with : Given → Command
+synth_with given = Synth (or_else given.basis all_set) (or_else given.method Ssv) (or_else given.max 16) (or_else given.conflicts 100000)
 
 unfoldable pub synth_in : List (List ℕ) → Option Command
-synth_in words = option_and_then synth_with (options_in nothing_given words)
+synth_in words = option_map synth_with (options_in nothing_given words)
 
 -- ---- command lines
 
@@ -112,8 +111,8 @@ improve_in (a ∷ b ∷ c ∷ d ∷ []) = if (is_cap a b && is_format c d) || (i
 improve_in words = None
 
 -- The command that words ask for, if they ask for one.
--- Example: synth --max 3 --method plain asks for all operators, at most 3 steps, by the plain method,
--- with a budget of 100,000.
+-- Example: synth --max 3 --basis nand asks for NAND alone, at most 3 steps, by the method ssv, with a
+-- budget of 100,000.
 unfoldable pub command_of : List (List ℕ) → Option Command
 command_of [] = None
 command_of (name ∷ words) =

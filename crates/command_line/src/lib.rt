@@ -6,7 +6,7 @@
 //! `read_words` answers it.
 //!
 //! ```text
-//! let command = read_words(&words)?;   // of synth --max 3 --basis nand --method plain
+//! let command = read_words(&words)?;   // of synth --max 3 --basis nand
 //! ```
 #![tactic(auto)]
 
@@ -16,3 +16,6 @@ mod words;
 
 pub use command::{Command, Given, WordsError};
 pub use words::read_words;
+
+#[cfg(test)]
+mod tests;

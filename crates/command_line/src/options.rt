@@ -22,6 +22,9 @@ fn method_in(value: &[u8]) -> Option<Method>
     if is_word(value, b"plain") {
         return Some(Method::Plain);
     }
+    if is_word(value, b"ssv") {
+        return Some(Method::Ssv);
+    }
     None
 }
 
@@ -135,16 +138,16 @@ fn options_in(words: &[String]) -> Option<Given>
     Some(given)
 }
 
-/// The command of some options.
-fn synth_with(given: Given) -> Option<Command>
+/// The command of some options; what isn't named has its default.
+fn synth_with(given: Given) -> Command
     ensures { result ≡ spec.synth_with given }
 {
-    Some(Command::Synth {
+    Command::Synth {
         basis: given.basis.unwrap_or(Basis::new(u16::MAX)),
-        method: given.method?,
+        method: given.method.unwrap_or(Method::Ssv),
         max: given.max.unwrap_or(16),
         conflicts: given.conflicts.unwrap_or(100_000),
-    })
+    }
 }
 
 /// `synth` with options.
@@ -153,7 +156,7 @@ pub(crate) fn synth_in(words: &[String]) -> Option<Command>
     ensures { result ≡ spec.synth_in (map string_bytes words.now) }
 {
     match options_in(words) {
-        Some(given) => synth_with(given),
+        Some(given) => Some(synth_with(given)),
         None => None,
     }
 }

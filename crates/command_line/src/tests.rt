@@ -1,0 +1,103 @@
+use crate::{Command, WordsError, read_words};
+use enc_theory::Method;
+use op_basis::Basis;
+use std::alloc::{AllocError, Global};
+use std::test::Fail;
+
+/// The words of a line, which blanks part.
+fn words_of(alloc: Global, line: &str) -> Result<Vec<String>, AllocError> {
+    let mut words = Vec::new(alloc);
+    for word in line.split(' ') {
+        words.push(String::from_str(alloc, word)?)?;
+    }
+    Ok(words)
+}
+
+/// What a line asks for; None where it asks for nothing.
+fn asked(alloc: Global, line: &str) -> Result<Option<Command>, AllocError> {
+    Ok(read_words(&words_of(alloc, line)?).ok())
+}
+
+#[test]
+fn lines_ask_for_commands(rt: HostRuntime) -> Result<(), Fail> {
+    for (line, command) in [
+        ("agree", Command::Agree),
+        ("recheck", Command::Recheck),
+        ("improve --cap 0", Command::Improve),
+        ("improve --format blif --cap 0", Command::Improve),
+    ] {
+        assert_eq!(rt; asked(rt.alloc(), line)?, Some(command), "{line}");
+    }
+    Ok(())
+}
+
+#[test]
+fn what_is_not_named_has_its_default(rt: HostRuntime) -> Result<(), Fail> {
+    for (line, basis, method, max, conflicts) in [
+        ("synth", 65_535, Method::Ssv, 16, 100_000),
+        (
+            "synth --max 3 --basis nand",
+            16_384,
+            Method::Ssv,
+            3,
+            100_000,
+        ),
+        ("synth --method plain", 65_535, Method::Plain, 16, 100_000),
+        (
+            "synth --conflicts 10000000 --max 0 --method ssv",
+            65_535,
+            Method::Ssv,
+            0,
+            10_000_000,
+        ),
+        (
+            "synth --basis 0110,1001 --conflicts 1",
+            576,
+            Method::Ssv,
+            16,
+            1,
+        ),
+    ] {
+        let command = Command::Synth {
+            basis: Basis::new(basis),
+            method,
+            max,
+            conflicts,
+        };
+        assert_eq!(rt; asked(rt.alloc(), line)?, Some(command), "{line}");
+    }
+    Ok(())
+}
+
+#[test]
+fn other_words_ask_for_none(rt: HostRuntime) -> Result<(), Fail> {
+    for line in [
+        "",
+        "Agree",
+        "agree agree",
+        "recheck --depth yes",
+        "synth --method",
+        "synth plain",
+        "synth --method Plain",
+        "synth --method ssv --method ssv",
+        "synth --max=3",
+        "synth --max 17",
+        "synth --max 03",
+        "synth --conflicts 0",
+        "synth --conflicts 10000001",
+        "synth --basis none",
+        "synth -- --max 3",
+        "improve --cap 0 --cap 0",
+        "improve --format bench --basis all",
+    ] {
+        assert_eq!(rt; asked(rt.alloc(), line)?, None, "{line}");
+    }
+    Ok(())
+}
+
+#[test]
+fn no_words_are_no_command(rt: HostRuntime) -> Result<(), Fail> {
+    let none: Vec<String> = Vec::new(rt.alloc());
+    assert_eq!(rt; read_words(&none), Err(WordsError::Usage));
+    Ok(())
+}
