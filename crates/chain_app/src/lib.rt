@@ -26,3 +26,6 @@ pub use agree::{AgreeError, Answer};
 pub use jobs::Job;
 pub use running::run;
 pub use status::Status;
+
+#[cfg(test)]
+mod tests;

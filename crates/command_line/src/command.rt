@@ -16,7 +16,7 @@ pub enum Command {
         method: Method,
         /// The greatest size that is tried, at most 16.
         max: u32,
-        /// How many clauses are learnt before a formula is left open, from 1 to 10,000,000.
+        /// How many clauses at least are learnt before a formula is left open, from 1 to 10,000,000.
         conflicts: u32,
     },
     /// Write a netlist again, without the gates that nothing reads. The words are read; the top call

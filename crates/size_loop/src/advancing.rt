@@ -51,8 +51,8 @@ pub enum Advance {
 impl Search {
     /// A search for a chain over the basis that agrees with the tables, from size 0 on. The basis
     /// isn't empty, the method is one that is built, `max` is the greatest size, at most 16, and the
-    /// budget, from 1 to 10,000,000, is how many clauses the solver adds to a formula before it leaves
-    /// it open.
+    /// budget, from 1 to 10,000,000, is how many clauses at least the solver adds to a formula before
+    /// it leaves it open.
     pub fn new(spec: Spec, basis: Basis, method: Method, max: u32, budget: u32) -> Search
         requires basis { 0 < basis }
         requires method { is_built method ≡ true }

@@ -19,3 +19,6 @@ mod verdicts;
 
 pub use advancing::{Advance, Search};
 pub use searching::search;
+
+#[cfg(test)]
+mod tests;

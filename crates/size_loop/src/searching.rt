@@ -12,8 +12,8 @@ use tt_core::Spec;
 
 /// Searches the sizes from 0 to `max` for a chain of the fewest steps over the basis that agrees with
 /// the tables, and answers the certificate of what it found. A part of a size is left open where the
-/// solver has added `budget` clauses to its formula. The basis isn't empty, the method is one that is
-/// built, `max` is at most 16, and the budget is from 1 to 10,000,000.
+/// solver has added `budget` clauses to its formula or more. The basis isn't empty, the method is one
+/// that is built, `max` is at most 16, and the budget is from 1 to 10,000,000.
 #[tactic(auto, using(crate::proofs::Sections::steps))]
 pub fn search(
     alloc: Global,

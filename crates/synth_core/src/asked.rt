@@ -10,6 +10,7 @@ pub struct Asked {
     pub method: Method,
     /// The greatest size, at most 16.
     pub max: u32,
-    /// How many clauses the solver adds to a formula before it leaves it open, from 1 to 10,000,000.
+    /// How many clauses at least the solver adds to a formula before it leaves it open, from 1 to
+    /// 10,000,000.
     pub conflicts: u32,
 }

@@ -6,7 +6,7 @@
 //! tables that it was given, and it refuses exactly what isn't tables alone.
 //!
 //! ```text
-//! let asked = Asked { basis, method: Method::Plain, max: 16, conflicts: 100_000 };
+//! let asked = Asked { basis, method: Method::Ssv, max: 16, conflicts: 100_000 };
 //! let certificate = synthesise(alloc, b"inputs 2\n0110\n", &asked)?;
 //! certificate.verdict // Minimum(1), over a basis with XOR
 //! ```
@@ -18,3 +18,6 @@ mod certificate;
 pub use asked::Asked;
 pub use bundle_core::Verdict;
 pub use certificate::{Certificate, synthesise};
+
+#[cfg(test)]
+mod tests;

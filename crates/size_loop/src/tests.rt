@@ -1,0 +1,115 @@
+use super::*;
+use bundle_core::{Bundle, Verdict};
+use enc_frame::Method;
+use op_basis::Basis;
+use std::alloc::Global;
+use std::test::Fail;
+use tt_core::read_tables;
+
+const ALL: u16 = 65_535;
+
+/// NAND alone.
+const NAND: u16 = 16_384;
+
+/// What a search makes of tables, of at most 1,000 bytes: with the cuts that leave a least chain, or by
+/// the plain method.
+fn searched(
+    alloc: Global,
+    text: &[u8],
+    basis: u16,
+    cuts: bool,
+    max: u32,
+    budget: u32,
+) -> Result<Bundle, Fail> {
+    if text.len() > 1_000 || basis == 0 || max > 16 || budget == 0 || budget > 10_000_000 {
+        return Err(Fail::from("beyond the limits"));
+    }
+    let tables = read_tables(alloc, text).map_err(|_| Fail::from("refused"))?;
+    let method = if cuts { Method::Ssv } else { Method::Plain };
+    let found = search(alloc, &tables.spec, Basis::new(basis), method, max, budget);
+    found.map_err(|_| Fail::from("want of memory"))
+}
+
+#[test]
+fn fewest_steps_are_found(rt: HostRuntime) -> Result<(), Fail> {
+    for (text, basis, cuts, verdict, sections) in [
+        // XOR, by all operators and by NAND
+        (
+            b"inputs 2\n0110\n" as &[u8],
+            ALL,
+            false,
+            Verdict::Minimum(1),
+            1,
+        ),
+        (b"inputs 2\n0110\n", ALL, true, Verdict::Minimum(1), 1),
+        (b"inputs 2\n0110\n", NAND, false, Verdict::Minimum(4), 4),
+        (b"inputs 2\n0110\n", NAND, true, Verdict::Minimum(4), 4),
+        // NOT by NAND, AND of three, cells that are all free
+        (b"inputs 1\n10\n", NAND, true, Verdict::Minimum(1), 1),
+        (b"inputs 3\n00000001\n", ALL, true, Verdict::Minimum(2), 2),
+        (b"inputs 2\n----\n", ALL, false, Verdict::Minimum(0), 0),
+        // NOT by XOR and its complement: a constant step is needed
+        (b"inputs 1\n10\n", 576, true, Verdict::Minimum(2), 2),
+        // the median of three
+        (b"inputs 3\n00010111\n", ALL, true, Verdict::Minimum(4), 4),
+    ] {
+        let bundle = searched(rt.alloc(), text, basis, cuts, 16, 100_000)?;
+        assert_eq!(rt; bundle.verdict, verdict);
+        assert_eq!(rt; bundle.sections.len(), sections);
+    }
+    Ok(())
+}
+
+#[test]
+fn limits_end_a_search(rt: HostRuntime) -> Result<(), Fail> {
+    for (text, basis, cuts, max, budget, verdict) in [
+        (
+            b"inputs 2\n0110\n" as &[u8],
+            NAND,
+            false,
+            3,
+            100_000,
+            Verdict::NoChain(3),
+        ),
+        (
+            b"inputs 3\n00010111\n",
+            ALL,
+            true,
+            3,
+            100_000,
+            Verdict::NoChain(3),
+        ),
+        // the full adder, with next to no work
+        (
+            b"inputs 3\n01101001\n00010111\n",
+            ALL,
+            false,
+            2,
+            1,
+            Verdict::Open { low: 2 },
+        ),
+    ] {
+        let bundle = searched(rt.alloc(), text, basis, cuts, max, budget)?;
+        assert_eq!(rt; bundle.verdict, verdict);
+    }
+    Ok(())
+}
+
+#[test]
+fn search_goes_on_a_size_at_a_time(rt: HostRuntime) -> Result<(), Fail> {
+    let alloc = rt.alloc();
+    let Ok(tables) = read_tables(alloc, b"inputs 2\n0110\n") else {
+        return Err(Fail::from("no answer"));
+    };
+    let search = Search::new(tables.spec, Basis::new(ALL), Method::Plain, 16, 100_000);
+    let Ok(Advance::Section { rest, section }) = search.advance(alloc) else {
+        return Err(Fail::from("no answer"));
+    };
+    assert_eq!(rt; section.size, 0);
+    let Ok(Advance::Ended { chain, verdict }) = rest.advance(alloc) else {
+        return Err(Fail::from("no answer"));
+    };
+    assert!(rt; chain.is_some());
+    assert_eq!(rt; verdict, Verdict::Minimum(1));
+    Ok(())
+}
