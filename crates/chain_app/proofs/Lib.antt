@@ -1,6 +1,7 @@
 pub mod AgreeKeeping
 pub mod Agreeing
 pub mod Asking
+pub mod Certified
 pub mod Ends
 pub mod Faults
 pub mod Keeping

@@ -10,7 +10,7 @@ use Rattle.op_basis.specs.Text.{basis_of, all_set}
 use Rattle.op_basis.specs.declared.error.BasisError.{BasisError}
 use Rattle.op_basis.proofs.Lists.{basis_some}
 use Rattle.enc_theory.specs.declared.data.Method.{Method}
-use Rattle.enc_theory.specs.declared.data.Method.TheVariants.{Plain}
+use Rattle.enc_theory.specs.declared.data.Method.TheVariants.{Plain, Ssv}
 use Rattle.cert_theory.specs.Coding.{is_built}
 use Rattle.synth_core.specs.Asking.{IsAsked}
 use Rattle.command_line.specs.declared.command.Command.{Command}
@@ -19,7 +19,7 @@ use Rattle.command_line.specs.declared.command.Given.{Given}
 use Rattle.command_line.specs.declared.command.WordsError.{WordsError}
 use Rattle.chain_app.specs.declared.jobs.Job.{Job}
 use Rattle.chain_app.specs.Jobs.{job_of, IsJob}
-use Rattle.command_line.specs.CommandLine.{is_word, method_in, basis_in, max_in, some_conflicts, conflicts_in, nothing_given, with_basis, with_method, with_max, with_conflicts, with_option, options_in, or_else, synth_by, synth_with, synth_in, alone, is_cap, is_format, improve_in, command_of, or_usage, read}
+use Rattle.command_line.specs.CommandLine.{is_word, method_in, basis_in, max_in, some_conflicts, conflicts_in, nothing_given, with_basis, with_method, with_max, with_conflicts, with_option, options_in, or_else, synth_with, synth_in, alone, is_cap, is_format, improve_in, command_of, or_usage, read}
 
 -- options in their ranges
 record IsGiven (g : Given) : Type 0 where
@@ -52,9 +52,20 @@ basis_ok : (r : Result ℕ BasisError) (b : ℕ) → basis_in r ≡ Some b → r
 basis_ok (Ok a) b e = ap (λ (n : ℕ). Ok n) (some_is a b e)
 basis_ok (Err e') b e = absurd cc
 
-plain_method : (t : Bool) (m : Method) → cond t (Some Plain) None ≡ Some m → is_built m ≡ true
-plain_method true m e = ap is_built (sym (some_is Plain m e))
-plain_method false m e = absurd cc
+-- a method of one name, or one of the rest
+named : (t : Bool) (a : Method) (rest : Option Method) (m : Method) → is_built a ≡ true → (rest ≡ Some m → is_built m ≡ true) → cond t (Some a) rest ≡ Some m → is_built m ≡ true
+named true a rest m built other e = subst (λ (k : Method). is_built k ≡ true) (some_is a m e) built
+named false a rest m built other e = other e
+
+no_name : (m : Method) → None ≡ Some m → is_built m ≡ true
+no_name m e = absurd cc
+
+-- each method that has a name is built
+method_built : (value : List ℕ) (m : Method) → method_in value ≡ Some m → is_built m ≡ true
+method_built value m =
+    named (is_word value (codes "plain")) Plain _ m refl
+    (named (is_word value (codes "ssv")) Ssv _ m refl
+    (no_name m))
 
 from_one : (t : Bool) (n m : ℕ) → (n == 0) ≡ t → cond t None (Some n) ≡ Some m → 1 ≤ m
 from_one true n m is e = absurd cc
@@ -104,7 +115,7 @@ unfolding with_method
 method_given g more value is e =
     let t = taken (λ (m : Method). let h : Given = record g { method = Some m } in h) (method_in value) more (unless_none (is_some g.method) _ more e) in
     is_given (record g { method = Some t.0 }) more t.2
-    (record { basis = is.basis; method = λ m at. plain_method (is_word value (codes "plain")) m (t.1 ∙ at); max = is.max; conflicts_from = is.conflicts_from; conflicts_to = is.conflicts_to })
+    (record { basis = is.basis; method = λ m at. method_built value m (t.1 ∙ at); max = is.max; conflicts_from = is.conflicts_from; conflicts_to = is.conflicts_to })
 
 max_given : (g more : Given) (value : List ℕ) → IsGiven g → with_max g value ≡ Some more → IsGiven more
 unfolding with_max
@@ -171,15 +182,15 @@ default_from : (o : Option ℕ) (d : ℕ) → 1 ≤ d → ((n : ℕ) → o ≡ S
 default_from None d low is = low
 default_from (Some n) d low is = is n refl
 
-by_range : (g : Given) (m : Option Method) (c : Command) → IsGiven g → ((k : Method) → m ≡ Some k → is_built k ≡ true) → synth_by g m ≡ Some c → IsInRange c
-by_range g None c is built e = absurd cc
-by_range g (Some m) c is built e =
-    let same : Synth (or_else g.basis all_set) m (or_else g.max 16) (or_else g.conflicts 100000) ≡ c = some_is _ c e in
-    in_range (Synth (or_else g.basis all_set) m (or_else g.max 16) (or_else g.conflicts 100000)) c same (default_basis g.basis is.basis, built m refl, default_to g.max 16 16 (omega arith) is.max, default_from g.conflicts 100000 (omega arith) is.conflicts_from, default_to g.conflicts 100000 10000000 (omega arith) is.conflicts_to)
+default_method : (o : Option Method) → ((m : Method) → o ≡ Some m → is_built m ≡ true) → is_built (or_else o Ssv) ≡ true
+default_method None is = refl
+default_method (Some m) is = is m refl
 
-then_range : (o : Option Given) (c : Command) → ((g : Given) → o ≡ Some g → IsGiven g) → option_and_then synth_with o ≡ Some c → IsInRange c
+then_range : (o : Option Given) (c : Command) → ((g : Given) → o ≡ Some g → IsGiven g) → option_map synth_with o ≡ Some c → IsInRange c
 then_range None c given e = absurd cc
-then_range (Some g) c given e = let is : IsGiven g = given g refl in by_range g g.method c is is.method e
+then_range (Some g) c given e =
+    let is : IsGiven g = given g refl in
+    in_range (synth_with g) c (some_is (synth_with g) c e) (default_basis g.basis is.basis, default_method g.method is.method, default_to g.max 16 16 (omega arith) is.max, default_from g.conflicts 100000 (omega arith) is.conflicts_from, default_to g.conflicts 100000 10000000 (omega arith) is.conflicts_to)
 
 synth_range : (words : List (List ℕ)) (c : Command) → synth_in words ≡ Some c → IsInRange c
 unfolding synth_in

@@ -26,6 +26,7 @@ use Rattle.chain_app.specs.SynthReport.{verdict_status, synth_reply, synth_refus
 use Rattle.chain_app.specs.Told.{Reply, Refusal}
 use Rattle.chain_app.specs.Run.{Run, Reports, ReportsFront}
 use Rattle.chain_app.specs.Promise.{IsAnswerStatus, IsRefusalStatus, memory_refusal, IsTask, NothingFailed, GetsReply, IsCutShort, IsReportCut, GetsRefusal, IsTooLong, Promise}
+use Rattle.chain_app.proofs.Certified.{its_meaning, its_verdict, its_recheck}
 use Rattle.chain_app.specs.SynthPromise.{IsSynth, GetsCertificate, IsCertificateCut, HasTablesCause, SynthPromise}
 
 -- ---- what the search answers
@@ -105,10 +106,14 @@ synth_is_task asked = record {
 stands : (r : Run) (asked : Asked) (input : List ℕ) → r.source.bytes ≡ Some input → GetsReply (synth_task asked) r → GetsCertificate r asked input
 stands r asked input told got =
     let same : got.reply ≡ synth_reply got.tells.text got.tells.verdict = got.tells.is in
+    let certificate : IsCertificate input asked got.tells.text got.tells.verdict = subst (λ (bytes : List ℕ). IsCertificate bytes asked got.tells.text got.tells.verdict) (got.whole input told) got.tells.certificate in
     record {
       text = got.tells.text;
       verdict = got.tells.verdict;
-      certificate = subst (λ (bytes : List ℕ). IsCertificate bytes asked got.tells.text got.tells.verdict) (got.whole input told) got.tells.certificate;
+      certificate = certificate;
+      means = its_meaning asked input got.tells.text got.tells.verdict certificate;
+      judged = its_verdict asked input got.tells.text got.tells.verdict certificate;
+      rechecked = its_recheck asked input got.tells.text got.tells.verdict certificate;
       status_is = got.status_is ∙ ap (λ (x : Reply). x.status) same;
       on_out = subst (λ (x : Reply). Appends r.out.bytes r.out'.bytes x.text) same got.on_out;
       on_note = subst (λ (x : Reply). Reports r.note r.note' x.report) same got.on_note;
@@ -130,6 +135,13 @@ cause_told r asked input status told none is = record {
   fault = subst (λ (bytes : List ℕ). HasTablesFault bytes none.cause.error) (none.whole input told) none.cause.fault;
   tells = sym (ap (λ (x : Refusal). x.status) none.cause.is) ∙ sym none.told.status_is ∙ is;
 }
+
+limit_told : (r : Run) (asked : Asked) (input : List ℕ) → Promise (synth_task asked) r → r.source.bytes ≡ Some input → r.status ≡ Limit → HasTablesCause input Limit ⊎ (most_bytes < length input)
+limit_told r asked input promise told is =
+    ⊎_elim
+    (λ (none : GetsRefusal (synth_task asked) r). inl (cause_told r asked input Limit told none is))
+    (λ (long : IsTooLong (synth_task asked) r). inr (long.beyond input told))
+    (promise.limit_only is)
 
 not_refused : (e : SpecError) → spec_status e ≡ Refused → ⊥
 not_refused (tables.BadHeader line) is = cc
@@ -185,6 +197,7 @@ synth_promised r keeps used = record {
   refused = λ asked input e is fault heard. (keeps asked is.line).refused input (synth_refusal e) is.told (record { error = e; fault = fault; is = refl }) heard;
   too_long = λ asked input is long heard. ((keeps asked is.line).too_long input is.told long heard).told;
   malformed_only = λ asked input is status. cause_told r asked input Malformed is.told ((keeps asked is.line).malformed_only status) status;
+  limit_only = λ asked input is status. limit_told r asked input (keeps asked is.line) is.told status;
   never_refused = λ asked line status. never_refused r asked (keeps asked line) status;
   write_fault = λ asked line status. let cut = cut_by r asked ((keeps asked line).write_fault_only status) in (cut.rose, cut.on_note);
   cut_short = λ asked input is status. cut_told r asked input is.told (cut_by r asked ((keeps asked is.line).write_fault_only status));

@@ -1,12 +1,15 @@
 -- What `synth` promises, for every source and every sink.
-use Rattle.std.specs.Prelude.{◌≡◌, ℕ, ◌<◌, ◌≤◌, List, [], length, Some}
+use Rattle.std.specs.Prelude.{◌≡◌, ℕ, ◌<◌, ◌≤◌, ◌⊎◌, List, [], length, Some, Ok}
 use Rattle.port_io.specs.Bytes.{Appends, AppendsFront}
 use Rattle.port_io.specs.Faults.{Rose}
 use Rattle.text_core.specs.Lines.{lines_of}
 use Rattle.tt_core.specs.Words.{Words, IsSpec, specification}
 use Rattle.tt_core.specs.Spelling.{SpellsTables}
 use Rattle.tt_core.specs.declared.error.SpecError.{SpecError}
+use Rattle.op_basis.specs.Basis.{members}
 use Rattle.cert_theory.specs.declared.data.Verdict.{Verdict}
+use Rattle.cert_theory.specs.Meaning.{Means}
+use Rattle.cert_theory.specs.Judging.{bundle_of}
 use Rattle.synth_core.specs.declared.asked.Asked.{Asked}
 use Rattle.synth_core.specs.Certifying.{IsCertificate}
 use Rattle.chain_app.specs.declared.status.Status.{Status}
@@ -16,6 +19,7 @@ use Rattle.chain_app.specs.Jobs.{IsLine}
 use Rattle.chain_app.specs.Agree.{most_bytes}
 use Rattle.chain_app.specs.AgreeReport.{spec_status}
 use Rattle.chain_app.specs.SynthReport.{verdict_status, synth_refusal, HasTablesFault}
+use Rattle.chain_app.specs.RecheckReport.{most_of_bundle, recheck_reply, RecheckTells}
 use Rattle.chain_app.specs.Outside.{Writes}
 use Rattle.chain_app.specs.Told.{error_line, write_fault, too_long}
 use Rattle.chain_app.specs.Run.{Run}
@@ -27,11 +31,15 @@ pub record IsSynth (r : Run) (asked : Asked) (input : List ℕ) : Type 0 where
   pub told : r.source.bytes ≡ Some input
 
 -- A certificate for the tables in the bytes stands on the output, whole and alone, the status is that of
--- its verdict, and the notes are as before.
+-- its verdict, and the notes are as before. What the verdict says of chains is true, by whatever method.
+-- Who judges the text again has the same verdict; so has `recheck`, of a text within its limit.
 pub record GetsCertificate (r : Run) (asked : Asked) (input : List ℕ) : Type 0 where
   pub text : List ℕ
   pub verdict : Verdict
   pub certificate : IsCertificate input asked text verdict
+  pub means : (tables : Words) → IsSpec tables → SpellsTables (specification tables) (lines_of input) [] → Means (specification tables) (members asked.basis) verdict
+  pub judged : bundle_of (lines_of text) ≡ Ok verdict
+  pub rechecked : length text ≤ most_of_bundle → RecheckTells text (recheck_reply verdict)
   pub status_is : r.status ≡ verdict_status verdict
   pub on_out : Appends r.out.bytes r.out'.bytes text
   pub on_note : r.note' ≡ r.note
@@ -59,8 +67,9 @@ pub record SynthPromise (r : Run) : Type 0 where
   pub refused : (asked : Asked) (input : List ℕ) (error : SpecError) → IsSynth r asked input → HasTablesFault input error → IsHeard r → GetsRefused r (synth_refusal error)
   -- So are bytes beyond the limit of 65,536.
   pub too_long : (asked : Asked) (input : List ℕ) → IsSynth r asked input → most_bytes < length input → IsHeard r → GetsRefused r (record { status = Limit; named = too_long })
-  -- The statuses 2 and 8 come for no other cause: the latter never.
+  -- The statuses 2, 3 and 8 come for no other cause: the last never.
   pub malformed_only : (asked : Asked) (input : List ℕ) → IsSynth r asked input → r.status ≡ Malformed → HasTablesCause input Malformed
+  pub limit_only : (asked : Asked) (input : List ℕ) → IsSynth r asked input → r.status ≡ Limit → HasTablesCause input Limit ⊎ (most_bytes < length input)
   pub never_refused : (asked : Asked) → IsLine r.words (Synth asked) → r.status ≡ Refused → ⊥
   -- A fault of writing is told, and comes only where the output's count of faults rose. A front of a
   -- certificate stands on the output then.
