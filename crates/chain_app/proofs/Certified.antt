@@ -59,7 +59,7 @@ its_verdict asked bytes text verdict c = judged_as text c.bundle verdict c.is_bu
 
 is_verdict : (text : List ℕ) (b : Bundle) (verdict : Verdict) → IsBundle text b → b.verdict ≡ verdict → IsVerdict text verdict
 is_verdict text b verdict is same =
-    let same_as = λ (d : Bundle) (other : IsBundle text d). same_verdict (bundle_of (lines_of text)) d.verdict verdict (text_again text d other) (judged_as text b verdict is same) in
+    let same_as : (d : Bundle) → IsBundle text d → d.verdict ≡ verdict = λ d other. same_verdict (bundle_of (lines_of text)) d.verdict verdict (text_again text d other) (judged_as text b verdict is same) in
     record {
       has = record { bundle = b; is_bundle = is; verdict = same };
       only = same_as;

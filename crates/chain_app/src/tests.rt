@@ -58,11 +58,11 @@ fn failing(alloc: Global, first: bool) -> Result<Vec<u64>, AllocError> {
 fn run_on(
     alloc: Global,
     line: &str,
-    input: &str,
+    input: &[u8],
     fails: (bool, bool, bool),
 ) -> Result<Seen, AllocError> {
     let words = words_of(alloc, line)?;
-    let bytes = Vec::from_slice(alloc, input.as_bytes())?;
+    let bytes = Vec::from_slice(alloc, input)?;
     let mut source = MemorySource::new(bytes, failing(alloc, fails.0)?);
     let mut out = MemorySink::new(alloc, failing(alloc, fails.1)?);
     let mut note = MemorySink::new(alloc, failing(alloc, fails.2)?);
@@ -71,7 +71,7 @@ fn run_on(
 }
 
 /// Runs where nothing fails.
-fn told(alloc: Global, line: &str, input: &str) -> Result<Seen, AllocError> {
+fn told(alloc: Global, line: &str, input: &[u8]) -> Result<Seen, AllocError> {
     run_on(alloc, line, input, (false, false, false))
 }
 
@@ -100,7 +100,7 @@ fn agree_tells(rt: HostRuntime) -> Result<(), Fail> {
             "error: BadEnd 6\n",
         ),
     ] {
-        let seen = told(rt.alloc(), "agree", input)?;
+        let seen = told(rt.alloc(), "agree", input.as_bytes())?;
         assert!(rt; seen.is(status, out, note), "{input}");
     }
     Ok(())
@@ -114,7 +114,7 @@ fn recheck_tells(rt: HostRuntime) -> Result<(), Fail> {
         (REFUSED, 8, "", "error: StepRefused 13 NotUnit 22\n"),
         (CUT, 2, "", "error: Syntax 16\n"),
     ] {
-        let seen = told(rt.alloc(), "recheck", input)?;
+        let seen = told(rt.alloc(), "recheck", input.as_bytes())?;
         assert!(rt; seen.is(status, out, note), "{input}");
     }
     Ok(())
@@ -147,21 +147,32 @@ fn synth_tells(rt: HostRuntime) -> Result<(), Fail> {
         ),
         ("", XOR, 1, "", "error: Usage\n"),
     ] {
-        let seen = told(rt.alloc(), line, input)?;
+        let seen = told(rt.alloc(), line, input.as_bytes())?;
         assert!(rt; seen.is(status, out, note), "{line}");
     }
     Ok(())
 }
 
 #[test]
-fn spent_budgets_leave_a_size_open(rt: HostRuntime) -> Result<(), Fail> {
-    let seen = told(
-        rt.alloc(),
-        "synth --method plain --conflicts 1 --max 2",
-        "inputs 3\n01101001\n00010111\n",
-    )?;
-    assert_eq!(rt; seen.status, 4);
-    assert!(rt; seen.out.written().ends_with(b"\nopen 2\nend\n"));
+fn certificates_are_found_valid_again(rt: HostRuntime) -> Result<(), Fail> {
+    let alloc = rt.alloc();
+    for (line, input, status, verdict) in [
+        ("synth --method plain", "inputs 2\n0110\n", 0, "minimum 1\n"),
+        ("synth", "inputs 3\n00010111\n", 0, "minimum 4\n"),
+        ("synth --max 3", "inputs 3\n00010111\n", 0, "none 3\n"),
+        // the full adder, with next to no work
+        (
+            "synth --method plain --conflicts 1 --max 2",
+            "inputs 3\n01101001\n00010111\n",
+            4,
+            "open 2\n",
+        ),
+    ] {
+        let made = told(alloc, line, input.as_bytes())?;
+        let judged = told(alloc, "recheck", made.out.written())?;
+        assert_eq!(rt; made.status, status, "{line}");
+        assert!(rt; judged.is(0, verdict, ""), "{line}");
+    }
     Ok(())
 }
 
@@ -173,7 +184,7 @@ fn faults_are_told(rt: HostRuntime) -> Result<(), Fail> {
         ((false, false, true), 0, "agrees\n", ""),
         ((true, false, true), 5, "", ""),
     ] {
-        let seen = run_on(rt.alloc(), "agree", XOR, fails)?;
+        let seen = run_on(rt.alloc(), "agree", XOR.as_bytes(), fails)?;
         assert!(rt; seen.is(status, out, note), "{fails:?}");
     }
     Ok(())
@@ -192,9 +203,9 @@ fn zeros(alloc: Global, length: usize) -> Result<String, AllocError> {
 fn inputs_have_a_greatest_length(rt: HostRuntime) -> Result<(), Fail> {
     let greatest = zeros(rt.alloc(), 65_536)?;
     let longer = zeros(rt.alloc(), 65_537)?;
-    let seen = told(rt.alloc(), "synth", greatest.as_str())?;
+    let seen = told(rt.alloc(), "synth", greatest.as_bytes())?;
     assert!(rt; seen.is(2, "", "error: BadHeader 1\n"));
-    let seen = told(rt.alloc(), "synth", longer.as_str())?;
+    let seen = told(rt.alloc(), "synth", longer.as_bytes())?;
     assert!(rt; seen.is(3, "", "error: TooLong\n"));
     Ok(())
 }
