@@ -1,7 +1,7 @@
 -- Fences: how many steps stand on each level, from the lowest (Haaswijk, Soeken, Mishchenko and
 -- De Micheli, "SAT-Based Exact Synthesis", 2020). A reduced chain stands in its own.
 use Rattle.std.proofs.Common.{◌≡◌, ℕ, zero, suc, ◌+◌, ◌-◌, ◌≤◌, ◌<◌, ◌==◌, true, List, [], ◌∷◌, map, length, ltb, leb, sum, refl, sym, ap, ◌∙◌, arith, inl, inr, ⊎_elim, subst}
-use Rattle.std.specs.Prelude.{if◌then◌else◌, ⊤}
+use Rattle.std.specs.Prelude.{if◌then◌else◌}
 use Rattle.std.specs.List.{All, range_with_len}
 use Rattle.std.proofs.lemmas.Bool.{cases_lt, cases_order, le-leb, lt-leb, lt-ltb, le-ltb, eq-eqb, ne_eqb, leb-true, cond-true, cond-false}
 use Rattle.std.proofs.lemmas.List.Sums.{sum_by-cons}
@@ -11,6 +11,7 @@ use Rattle.chain_theory.specs.Specification.{Specification}
 use Rattle.chain_theory.specs.Agreement.{HasChain}
 use Rattle.chain_theory.specs.Chain.{Step, Chain, IsStepAt, IsChain}
 use Rattle.op_basis.specs.Closed.{number}
+use Rattle.fence_core.specs.Fence.{IsFence, IsListed}
 use Rattle.chain_laws.specs.Follow.{step_at, step_at_get, place_cases}
 use Rattle.chain_laws.specs.Keys.{larger}
 use Rattle.chain_laws.specs.Levels.{level, HasLevels, input_level, level_step}
@@ -22,12 +23,6 @@ use Rattle.chain_laws.specs.Users.{width, AreUsed, level_counts}
 
 -- ---- definitions
 
--- Each level has at most as many steps as all levels above it together have, and m more.
--- Example: 2, 1 is listed for one output, and 3, 1 isn't, since the step on top reads two places.
-abbrev pub IsListed : ℕ → List ℕ → Type 0
-IsListed m [] = ⊤
-IsListed m (q ∷ qs) = (q ≤ sum qs + m) × IsListed m qs
-
 -- the level of the step of index i, where steps stand level by level, so many on each
 -- Example: with 2, 1 the steps of the indices 0, 1 and 2 have the levels 1, 1 and 2.
 unfoldable pub level_by : List ℕ → ℕ → ℕ
@@ -37,7 +32,7 @@ level_by (q ∷ qs) i = if ltb i q then 1 else 1 + level_by qs (i - q)
 -- The chain's steps stand level by level, so many on each as the list says, and at least one on each.
 pub record StandsIn (c : Chain) (fence : List ℕ) : Type 0 where
   pub whole : sum fence ≡ length c.steps
-  pub filled : All (λ q. 1 ≤ q) fence
+  pub filled : IsFence fence
   pub levels : (i : ℕ) → i < length c.steps → level c (c.n + 1 + i) ≡ level_by fence i
 
 -- the fence of a chain in level order: how many of its steps have the levels 1, 2, and so on, up to that

@@ -13,7 +13,8 @@ use Rattle.chain_laws.specs.Levels.{level, input_level, HasLevels}
 use Rattle.chain_laws.specs.LevelOrder.{level_of_larger}
 use Rattle.chain_laws.specs.Reduced.{IsReduced, HasChainOfLevels}
 use Rattle.chain_laws.specs.Least.{levels_at_most_steps}
-use Rattle.chain_laws.specs.Fences.{IsListed, level_by, StandsIn, HasFencedChain, least_in_fence}
+use Rattle.fence_core.specs.Fence.{IsFenceOf}
+use Rattle.chain_laws.specs.Fences.{level_by, StandsIn, HasFencedChain, least_in_fence}
 use Rattle.sat_theory.specs.Formula.{IsFormula, Assignment, Satisfies}
 use Rattle.tt_core.specs.Words.{Words, specification}
 use Rattle.tt_core.specs.Live.{live_words}
@@ -170,9 +171,7 @@ fence_sound w basis r fence (v, satisfies) = for_is_there w basis r (fence_decod
 -- A fence of r steps that is listed for the live outputs, with a satisfiable formula.
 pub record HasFence (w : Words) (basis r d : ℕ) : Type 0 where
   pub fence : List ℕ
-  pub whole : sum fence ≡ r
-  pub filled : All (λ q. 1 ≤ q) fence
-  pub listed : IsListed (length (live_words w).on) fence
+  pub listed : IsFenceOf r (length (live_words w).on) fence
   pub low : length fence ≤ d
   pub satisfiable : IsSatisfiable (fence_formula w basis r fence)
 
@@ -189,9 +188,7 @@ fence_complete_at w basis r d has none_fewer =
     let is : IsFor (live_words w) basis r least.reduced.has.chain = record { is_chain = least.reduced.has.is_chain; size = least.reduced.has.size; is_over = least.reduced.has.is_over; agrees = least.reduced.has.agrees } in
     record {
       fence = least.fence;
-      whole = least.stands.whole ∙ least.reduced.has.size;
-      filled = least.stands.filled;
-      listed = least.listed;
+      listed = record { filled = least.stands.filled; whole = least.stands.whole ∙ least.reduced.has.size; listed = least.listed };
       low = least.low;
       satisfiable = reduced_satisfies (fence_pairs (swap_closed (members basis)) w.n least.fence) w basis r (fence_pairs_are_below (swap_closed (members basis)) w.n least.fence) least.reduced.has.chain is least.reduced.reduced
           (stands_allowed (live_words w) basis r least.reduced.has.chain least.fence is least.reduced.reduced least.stands);

@@ -1,7 +1,67 @@
 -- How the steps of a chain stand in levels.
-use Rattle.std.specs.Prelude.{ℕ, ◌≤◌, List, All}
+use Rattle.std.specs.Prelude.{ℕ, zero, suc, ◌+◌, ◌≤◌, ◌<◌, ◌≡◌, ◌⊎◌, ⊤, Bool, true, ◌&&◌, leb, List, [], ◌∷◌, ◌++◌, map, sum, All}
+use Rattle.std.specs.List.{Contains, filter}
 
 -- so many steps on each level, the first level first
 -- Example: 2, 1 is a fence of three steps on two levels, and 2, 0, 1 is none.
 abbrev pub IsFence : List ℕ → Type 0
 IsFence levels = All (λ q. 1 ≤ q) levels
+
+-- Each level has at most as many steps as all levels above it together have, and m more: a step is read
+-- by one above it or is one of m outputs, and a step reads two places.
+-- Example: 2, 1 is listed for one output, and 3, 1 isn't, since the step on top reads two places.
+abbrev pub IsListed : ℕ → List ℕ → Type 0
+IsListed m [] = ⊤
+IsListed m (q ∷ qs) = (q ≤ sum qs + m) × IsListed m qs
+
+-- a fence of r steps that is listed for m outputs
+pub record IsFenceOf (r m : ℕ) (fence : List ℕ) : Type 0 where
+  pub filled : IsFence fence
+  pub whole : sum fence ≡ r
+  pub listed : IsListed m fence
+
+-- the first number that differs is smaller, or the list is a front of the other
+abbrev pub IsBefore : List ℕ → List ℕ → Type 0
+IsBefore xs [] = ⊥
+IsBefore [] (y ∷ ys) = ⊤
+IsBefore (x ∷ xs) (y ∷ ys) = (x < y) ⊎ ((x ≡ y) × IsBefore xs ys)
+
+-- each list comes before all that stand behind it
+abbrev pub IsRising : List (List ℕ) → Type 0
+IsRising [] = ⊤
+IsRising (f ∷ fences) = All (IsBefore f) fences × IsRising fences
+
+-- these are the listed fences of r steps, all of them, in lexicographic order
+pub record AreListed (r m : ℕ) (fences : List (List ℕ)) : Type 0 where
+  pub only : All (IsFenceOf r m) fences
+  pub all : (f : List ℕ) → IsFenceOf r m f → Contains fences f
+  pub order : IsRising fences
+
+-- ---- the same as a list
+
+-- the list with its first number one greater
+abbrev pub one_more : List ℕ → List ℕ
+one_more [] = []
+one_more (q ∷ qs) = (q + 1) ∷ qs
+
+-- The fences of r + 1 steps in lexicographic order, listed or not: where there is more than one step,
+-- those with one step on the first level, and then those that have more there.
+unfoldable pub filled_fences : ℕ → List (List ℕ)
+filled_fences zero = (1 ∷ []) ∷ []
+filled_fences (suc r) = map (λ f. 1 ∷ f) (filled_fences r) ++ map one_more (filled_fences r)
+
+-- the fences of r steps
+-- Example: those of three steps are 1 1 1, 1 2, 2 1 and 3.
+unfoldable pub fences_of_size : ℕ → List (List ℕ)
+fences_of_size zero = [] ∷ []
+fences_of_size (suc r) = filled_fences r
+
+-- whether a fence is listed for m outputs
+unfoldable pub is_listed : ℕ → List ℕ → Bool
+is_listed m [] = true
+is_listed m (q ∷ qs) = leb q (sum qs + m) && is_listed m qs
+
+-- the listed fences of r steps, in lexicographic order
+-- Example: for one output those of three steps are 1 1 1 and 2 1.
+unfoldable pub listed_fences : ℕ → ℕ → List (List ℕ)
+listed_fences r m = filter (is_listed m) (fences_of_size r)

@@ -1,1 +1,3 @@
 pub mod Fence
+pub mod Listing
+pub mod ByFirst

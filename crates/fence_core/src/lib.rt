@@ -9,8 +9,10 @@
 #![tactic(auto)]
 
 mod fence;
+mod listing;
 
 pub use fence::Fence;
+pub use listing::fences;
 
 #[cfg(test)]
 mod tests;
