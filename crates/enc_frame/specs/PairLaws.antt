@@ -33,7 +33,8 @@ of-below place false large small some low high =
     All-cons (IsPair place) (pair small large) (pair large small ∷ []) (is_pair place small large some (omega arith) (omega arith) high)
     (All-cons (IsPair place) (pair large small) [] (is_pair place large small (omega arith) high some (omega arith)) (All-nil (IsPair place)))
 
-with-below : (place : ℕ) (ordered : Bool) (large : ℕ) → 1 ≤ large → large < place → All (IsPair place) (pairs_with ordered large)
+-- the pairs with this larger operand
+pub with-below : (place : ℕ) (ordered : Bool) (large : ℕ) → 1 ≤ large → large < place → All (IsPair place) (pairs_with ordered large)
 unfolding pairs_with
 with-below place ordered large some high =
     All-cons (IsPair place) (pair large large) (flat_map (pairs_of ordered large) (range_with_len 1 (large - 1))) (is_pair place large large some high some high)
@@ -48,7 +49,7 @@ unfolding pairs_of
 of-few true large small = omega arith
 of-few false large small = omega arith
 
-with-few : (ordered : Bool) (large : ℕ) → large ≤ 21 → length (pairs_with ordered large) ≤ 43
+pub with-few : (ordered : Bool) (large : ℕ) → large ≤ 21 → length (pairs_with ordered large) ≤ 43
 unfolding pairs_with
 with-few ordered large low =
     let others : length (flat_map (pairs_of ordered large) (range_with_len 1 (large - 1))) ≤ (large - 1) * 2 = flat_map-few (pairs_of ordered large) 2 1 (large - 1) (λ small from to. of-few ordered large small) in

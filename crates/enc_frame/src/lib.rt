@@ -34,7 +34,7 @@ pub use encoding::Encoding;
 pub use families::push_common;
 pub use layout::{Layout, StepSlots};
 pub use list::ClauseList;
-pub use pairs::{AllPairs, Pairs};
+pub use pairs::{AllPairs, Pairs, push_pairs_with};
 pub use part::Part;
 pub use vars::{f_var, g_var, sizes, x_is};
 

@@ -50,9 +50,10 @@ fn push_pairs_of(
     Ok(())
 }
 
-/// Adds the pairs whose larger operand is this one.
+/// Adds the pairs whose larger operand is this place, in their order; where they are ordered, those with
+/// j <= k alone.
 #[tactic(auto, using(crate::proofs::Ranges::loops), unfolding(enc_theory::specs::Pairs::pairs_with))]
-fn push_pairs_with(pairs: &mut Vec<Pair>, ordered: bool, large: u32) -> Result<(), AllocError>
+pub fn push_pairs_with(pairs: &mut Vec<Pair>, ordered: bool, large: u32) -> Result<(), AllocError>
     requires { 1 ≤ large }
     ensures { OnOk result (pairs.new.items ≡ pairs.old.items ++ pairs_with ordered large) }
 {
