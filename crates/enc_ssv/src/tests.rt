@@ -52,6 +52,73 @@ fn is_formula(formula: &Option<Cnf>, vars: u32, numbers: &[i32]) -> bool {
     left.is_empty() && cnf.vars() == vars
 }
 
+/// A sum over the literals of a clause and the 0 behind them, going on from a sum.
+fn clause_sum(before: u32, lits: &[Lit]) -> u32 {
+    let mut sum = before;
+    for lit in lits {
+        sum = sum.wrapping_mul(31).wrapping_add_signed(lit.get());
+    }
+    sum.wrapping_mul(31)
+}
+
+/// Variables, clauses, and the sum over all literals.
+fn outline(formula: &Option<Cnf>) -> (u32, usize, u32) {
+    let Some(cnf) = formula else {
+        return (0, 0, 0);
+    };
+    let mut sum = 0;
+    for clause in cnf.clauses() {
+        sum = clause_sum(sum, clause.lits());
+    }
+    (cnf.vars(), cnf.clauses().len(), sum)
+}
+
+#[test]
+fn formulas_are_those_of_another_program(rt: HostRuntime) {
+    for (cuts, tables, basis, r, vars, clauses, sum) in [
+        (
+            false,
+            b"inputs 4\n0001011101111110\n" as &[u8],
+            b"all" as &[u8],
+            3,
+            140,
+            3572,
+            599009576,
+        ),
+        (
+            true,
+            b"inputs 4\n0001011101111110\n",
+            b"all",
+            3,
+            109,
+            2433,
+            2276029920,
+        ),
+        (
+            false,
+            b"inputs 4\n0110100110010110\n0000000000000001\n0---------------\n",
+            b"0001,0110,1000",
+            3,
+            143,
+            3660,
+            2724648464,
+        ),
+        (
+            true,
+            b"inputs 4\n0110100110010110\n0000000000000001\n0---------------\n",
+            b"0001,0110,1000",
+            3,
+            112,
+            2443,
+            3735524217,
+        ),
+    ] {
+        let formula = formula(rt.alloc(), cuts, tables, basis, r);
+        let wanted: (u32, usize, u32) = (vars, clauses, sum);
+        assert!(rt; outline(&formula) == wanted, "{r} steps");
+    }
+}
+
 /// The clauses for NOT over AND with one step: that it is the output and has its values, that it has
 /// a pair and its operator's values, and that it is no other operator; behind these the cuts.
 const NOT_BY_AND: [i32; 109] = [
