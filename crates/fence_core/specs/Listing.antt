@@ -36,7 +36,7 @@ contains_cases : {X : Type 0} (y x : X) (xs : List X) → Contains (y ∷ xs) x 
 contains_cases y x xs (zero, low, is) = inl is
 contains_cases y x xs (suc k, low, is) = inr (k, omega arith, is)
 
-contains_map : {X Y : Type 0} (f : X → Y) (xs : List X) (x : X) → Contains xs x → Contains (map f xs) (f x)
+pub contains_map : {X Y : Type 0} (f : X → Y) (xs : List X) (x : X) → Contains xs x → Contains (map f xs) (f x)
 contains_map f [] x c = absurd (omega (arith, c.1))
 contains_map f (y ∷ ys) x c = ⊎_elim
     (λ (here : y ≡ x). subst (Contains (map f (y ∷ ys))) (ap f here) (contains_head (f y) (map f ys)))

@@ -1,0 +1,29 @@
+-- Formulas within the program's limits, and the chains that they give.
+use Rattle.std.proofs.Common.{◌≡◌, ℕ, ◌≤◌, List, length, refl, arith}
+use Rattle.std.proofs.lemmas.Grind.{common_steps}
+use Rattle.chain_theory.specs.Chain.{Chain}
+use Rattle.chain_core.specs.Steps.{IsSmallChain}
+use Rattle.sat_theory.specs.Formula.{Assignment, Satisfies}
+use Rattle.tt_core.specs.Words.{Words, IsSpec}
+use Rattle.tt_core.specs.Live.{live_words}
+use Rattle.enc_theory.specs.Numbering.{sizes_of}
+use Rattle.enc_theory.specs.Fence.{fence_layout, fence_formula, fence_decoded}
+use Rattle.enc_theory.specs.Decode.{decoded}
+use Rattle.enc_laws.specs.Decoded.{IsFor}
+use Rattle.enc_laws.specs.Fence.{fence_decodes}
+use Rattle.enc_ssv.proofs.Chains.{small_chain}
+use Rattle.enc_ssv.proofs.Formulas.{both-few}
+
+pub ruleset fence = (common_steps, both-few)
+
+-- what a satisfying assignment of a fence's formula spells
+pub spelled_is_for : (w : Words) (basis r : ℕ) (fence : List ℕ) (v : Assignment) → Satisfies v (fence_formula w basis r fence) → IsFor w basis r (decoded w (sizes_of (live_words w) r) (fence_layout basis fence (sizes_of (live_words w) r)) v)
+unfolding fence_decoded
+spelled_is_for w basis r fence v sat = fence_decodes w basis r fence v sat
+
+inputs_kept : (w : Words) (basis r : ℕ) (fence : List ℕ) (v : Assignment) → (decoded w (sizes_of (live_words w) r) (fence_layout basis fence (sizes_of (live_words w) r)) v).n ≡ w.n
+unfolding decoded
+inputs_kept w basis r fence v = refl
+
+pub spelled_is_small : (w : Words) (basis r : ℕ) (fence : List ℕ) (v : Assignment) → IsSpec w → r ≤ 16 → Satisfies v (fence_formula w basis r fence) → IsSmallChain (decoded w (sizes_of (live_words w) r) (fence_layout basis fence (sizes_of (live_words w) r)) v)
+spelled_is_small w basis r fence v spec low sat = small_chain w basis r (decoded w (sizes_of (live_words w) r) (fence_layout basis fence (sizes_of (live_words w) r)) v) spec low (inputs_kept w basis r fence v) (spelled_is_for w basis r fence v sat)

@@ -1,0 +1,4 @@
+pub mod Walks
+pub mod Layouts
+pub mod Formulas
+pub mod Places

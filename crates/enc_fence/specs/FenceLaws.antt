@@ -1,0 +1,28 @@
+-- The laws of the encoding by fences, as the trait of encodings states them.
+use Rattle.std.specs.Prelude.{ℕ, ◌≤◌, ◌<◌, List, length, map, refl}
+use Rattle.std.specs.List.{Contains}
+use Rattle.std.proofs.Common.{zero, suc, ◌∷◌, [], ◌≡◌, ◌⊎◌, arith, ap, sym, subst, ⊎_elim}
+use Rattle.chain_theory.specs.Agreement.{HasChain, IsMinimum}
+use Rattle.op_basis.specs.Basis.{members}
+use Rattle.tt_core.specs.Words.{Words, IsSpec, specification}
+use Rattle.tt_core.specs.Live.{live_words}
+use Rattle.fence_core.specs.Fence.{listed_fences}
+use Rattle.fence_core.specs.Listing.{contains_map, fences_are_listed}
+use Rattle.enc_theory.specs.Clauses.{IsSatisfiable}
+use Rattle.enc_theory.specs.Fence.{fence_formula}
+use Rattle.enc_laws.specs.Fence.{fence_sound, fence_complete, HasFence}
+use Rattle.enc_frame.specs.declared.part.Part.{Part}
+use Rattle.enc_frame.specs.declared.part.Part.TheVariants.{Whole, Levels}
+use Rattle.enc_fence.specs.Parts.{parts_for, fence_in}
+
+-- a formula of size r that is satisfiable has a chain of r steps
+pub is_sound : (w : Words) (basis r : ℕ) (part : Part) → IsSpec w → r ≤ 16 → 0 < basis → Contains (parts_for w r) part → IsSatisfiable (fence_formula w basis r (fence_in part)) → HasChain (specification w) (members basis) r
+is_sound w basis r part spec size some one sat = fence_sound w basis r (fence_in part) sat
+
+-- where r is the least number of steps, the formula of some listed fence of r steps is satisfiable
+pub is_complete : (w : Words) (basis r : ℕ) → IsSpec w → r ≤ 16 → 0 < basis → IsMinimum (specification w) (members basis) r → (part : Part) × Contains (parts_for w r) part × IsSatisfiable (fence_formula w basis r (fence_in part))
+unfolding parts_for fence_in
+is_complete w basis r spec size some least =
+    let found : HasFence w basis r r = fence_complete w basis r least in
+    let m : ℕ = length (live_words w).on in
+    (Levels found.fence, contains_map Levels (listed_fences r m) found.fence ((fences_are_listed r m).all found.fence found.listed), found.satisfiable)

@@ -1,0 +1,14 @@
+-- The levels of a chain's steps.
+use Rattle.std.specs.Prelude.{ℕ, ◌+◌, List, length, map, slice_index_or}
+use Rattle.std.specs.List.{range_with_len}
+use Rattle.chain_theory.specs.Chain.{Chain}
+use Rattle.chain_laws.specs.Levels.{level}
+
+-- the levels of places in a slice, that of place p at index p; behind it they are 0
+unfoldable pub heights : List ℕ → ℕ → ℕ
+heights levels place = slice_index_or levels place 0
+
+-- the level of each step, in the order of their places
+-- Example: of x4 = x1 AND x2, x5 = x3 XOR x4 the levels are 1 and 2.
+unfoldable pub levels_of : Chain → List ℕ
+levels_of c = map (level c) (range_with_len (c.n + 1) (length c.steps))

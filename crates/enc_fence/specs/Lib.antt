@@ -1,0 +1,4 @@
+pub mod StepPairs
+pub mod Heights
+pub mod Parts
+pub mod FenceLaws

@@ -1,0 +1,47 @@
+//! On which levels the steps of a chain stand.
+ghost use Rattle.std.specs.Prelude.{◌≡◌, ℕ, ◌+◌, ◌<◌, ◌≤◌, length, map, IfOk};
+ghost use Rattle.std.specs.List.{range_with_len};
+ghost use Rattle.chain_theory.specs.Chain.{AreSteps};
+ghost use Rattle.chain_core.specs.Steps.{steps_of};
+ghost use Rattle.chain_laws.specs.Follow.{run};
+ghost use Rattle.chain_laws.specs.Levels.{step_level, level, level_in};
+ghost use Rattle.enc_fence.specs.Heights.{heights, levels_of};
+
+use chain_core::{Chain, Step};
+use std::alloc::{AllocError, Global};
+
+/// The levels of the places of the steps, each from those in front of it. Place p stands at index p.
+#[tactic(auto, using(crate::proofs::Places::standing), unfolding(chain_laws::specs::Follow::run))]
+fn levels_into(levels: &mut [u32], n: u32, steps: &[Step])
+    requires steps { AreSteps n (steps_of steps.now) }
+    requires room { (n + length steps.now < length levels.old) × (length levels.old ≤ 23) }
+    requires low { (p : ℕ) → heights levels.old p ≤ n }
+    ensures { heights levels.new ≡ run step_level (heights levels.old) (n + 1) (steps_of steps.now) }
+{
+    let mut last = n as usize;
+    let mut left = steps;
+    while let Some((step, rest)) = left.split_first() {
+        let a = levels[step.j as usize];
+        let b = levels[step.k as usize];
+        last += 1;
+        levels[last] = 1 + a.max(b);
+        left = rest;
+    }
+}
+
+/// The level of each step, in the order of their places: one more than the larger level of its
+/// operands, where inputs have the level 0.
+#[tactic(auto, using(enc_frame::proofs::Ranges::loops), unfolding(crate::specs::Heights::levels_of))]
+pub fn levels(alloc: Global, chain: &Chain) -> Result<Vec<u32>, AllocError>
+    ensures { IfOk result (λ levels. levels.items ≡ levels_of chain.now) }
+{
+    let mut of_places = [0; 23];
+    let n = chain.n();
+    let steps = chain.steps();
+    levels_into(&mut of_places, n, steps);
+    let mut levels = Vec::new(alloc);
+    for place in n as usize + 1..n as usize + 1 + steps.len() {
+        levels.push(of_places[place])?;
+    }
+    Ok(levels)
+}
