@@ -48,6 +48,10 @@ restored_at s live h = restored_out (trivial_of s h) (slice_index_or live (lengt
 unfoldable pub restored : Specification → List Out → List Out
 restored s live = map (restored_at s live) (range_with_len 1 s.outputs)
 
--- The chain for tables, of which `z` counts the live outputs.
+-- The chain of these steps for tables, of which `z` counts the live outputs.
+abbrev pub with_outs : Words → Sizes → List Step → Assignment → Chain
+with_outs w z steps v = record { n = w.n; steps = steps; outs = restored (specification w) (map (decoded_out z v) (outputs z)) }
+
+-- The same, of the steps that choose among pairs.
 unfoldable pub decoded : Words → Sizes → List StepSlots → Assignment → Chain
-decoded w z steps v = record { n = w.n; steps = map (decoded_step z v) steps; outs = restored (specification w) (map (decoded_out z v) (outputs z)) }
+decoded w z steps v = with_outs w z (map (decoded_step z v) steps) v

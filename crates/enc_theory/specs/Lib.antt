@@ -11,3 +11,5 @@ pub mod Ssv
 pub mod SsvVectors
 pub mod Fence
 pub mod FenceVectors
+pub mod Select
+pub mod SelectVectors

@@ -42,3 +42,10 @@ pub struct Slot {
     pub k: u32,
     pub var: u32,
 }
+
+/// Which of a step's two operands.
+#[derive(Clone, Copy, Debug, PartialEq, Eq)]
+pub enum Side {
+    First,
+    Second,
+}

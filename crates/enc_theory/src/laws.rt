@@ -8,6 +8,8 @@ ghost use Rattle.enc_theory.specs.PlainVectors.{plain_vectors};
 ghost use Rattle.enc_theory.specs.Ssv.{ssv_formula};
 ghost use Rattle.enc_theory.specs.SsvVectors.{ssv_vectors};
 ghost use Rattle.enc_theory.specs.FenceVectors.{fence_vectors, outline_of, expected_of};
+ghost use Rattle.enc_theory.specs.Select.{select_formula};
+ghost use Rattle.enc_theory.specs.SelectVectors.{select_vectors};
 
 /// The plain encoding.
 pub fn plain_is_that_of_another_program()
@@ -22,4 +24,9 @@ pub fn ssv_is_that_of_another_program()
 /// The encoding by fences.
 pub fn fence_is_that_of_another_program()
     ensures { map outline_of fence_vectors ≡ map expected_of fence_vectors }
+{}
+
+/// The encoding by selection of operands.
+pub fn select_is_that_of_another_program()
+    ensures { map (outline_by select_formula) select_vectors ≡ map expected select_vectors }
 {}

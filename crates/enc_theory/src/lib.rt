@@ -15,6 +15,7 @@
 //!   its own pairs, and it may have more.
 //! - `specs/Plain.antt`: the encoding that has no more. `specs/Cuts.antt`, `specs/Ssv.antt` and
 //!   `specs/Fence.antt`: further clauses that leave a least chain, and the encodings that have them.
+//! - `specs/Select.antt`: the encoding whose steps choose each operand by itself, with its own cuts.
 //! - `specs/Decode.antt`: the chain that an assignment spells.
 //!
 //! `laws` has what an independent program, written from the same description, makes of some two
@@ -24,4 +25,4 @@
 mod data;
 pub mod laws;
 
-pub use data::{Method, Pair, Raw, Sizes, Slot};
+pub use data::{Method, Pair, Raw, Side, Sizes, Slot};
