@@ -24,7 +24,7 @@ use Rattle.enc_theory.specs.Decode.{operator_in}
 use Rattle.enc_laws.specs.Holds.{any_get, any_make}
 use Rattle.enc_laws.specs.Layouts.{IsStepPlace, IsSlotOf, IsLaid, HasSlot, IsSameSlot, laid_is_place}
 use Rattle.enc_laws.specs.Live.{out_at, IsStepOut}
-use Rattle.enc_laws.specs.Solves.{x_bit, Solves}
+use Rattle.enc_laws.specs.Solves.{x_bit, MeetsTables, Solves}
 use Rattle.enc_laws.specs.Sound.{x_bit-input, x_bit-step}
 use Rattle.enc_laws.specs.Built.{built, built_x, built_g, built_f, built_s}
 use Rattle.enc_laws.specs.Decoded.{IsFor}
@@ -47,10 +47,14 @@ is_pair_of s u = (u.j == s.j) && (u.k == s.k)
 unfoldable pub slot_bit : Chain → List StepSlots → ℕ → Bool
 slot_bit c steps x = list_any (λ s. list_any (λ u. (u.var == x) && is_pair_of (step_at c s.place) u) s.slots) steps
 
--- What a chain makes of the variables: the values of its steps, what its outputs are, its operators
--- and its pairs.
+-- What a chain makes of the variables: the values of its steps, what its outputs are, its operators,
+-- and the variables behind these,
+abbrev pub chain_bits : Sizes → Chain → (ℕ → Bool) → Assignment
+chain_bits z c rest = built z (λ i t. value c t i) (λ h i. is_place i (out_at c.outs h)) (λ i b c'. apply (step_at c i).op b c') rest
+
+-- where these are pairs.
 abbrev pub assignment_of : Sizes → List StepSlots → Chain → Assignment
-assignment_of z steps c = built z (λ i t. value c t i) (λ h i. is_place i (out_at c.outs h)) (λ i b c'. apply (step_at c i).op b c') (slot_bit c steps)
+assignment_of z steps c = chain_bits z c (slot_bit c steps)
 
 -- a variable is that of one slot, and the pair of each step has a slot
 pub record HasPairs (steps : List StepSlots) (c : Chain) : Type 0 where
@@ -92,27 +96,24 @@ true_slot steps c s u pairs is true_ =
     let same = pairs.once outer.element s inner.element u (record { step = outer.inside; slot = inner.inside }) is (eqb-true inner.element.var u.var var) in
     ap (λ (x : StepSlots). is_pair_of (step_at c x.place) u) (sym same.step) ∙ ap (is_pair_of (step_at c outer.element.place)) (sym same.slot) ∙ pair
 
-module _ (w : Words) (basis r : ℕ) (steps : List StepSlots) (c : Chain) where
-  pub v_x : (i t : ℕ) → IsStepPlace (sizes_of w r) i → t < 2 ^ w.n → assignment_of (sizes_of w r) steps c (x_var (sizes_of w r) i t) ≡ value c t i
-  v_x i t is row = built_x (sizes_of w r) (λ i t. value c t i) (λ h i. is_place i (out_at c.outs h)) (λ i b c'. apply (step_at c i).op b c') (slot_bit c steps) i t is row
+-- ---- what a chain makes of the variables of values, outputs and operators, whatever comes behind
 
-  pub v_g : (h i : ℕ) → 1 ≤ h → h ≤ length w.on → IsStepPlace (sizes_of w r) i → assignment_of (sizes_of w r) steps c (g_var (sizes_of w r) h i) ≡ is_place i (out_at c.outs h)
-  v_g h i some low is = built_g (sizes_of w r) (λ i t. value c t i) (λ h i. is_place i (out_at c.outs h)) (λ i b c'. apply (step_at c i).op b c') (slot_bit c steps) h i some low is
+pub record IsOfChain (w : Words) (r : ℕ) (c : Chain) (v : Assignment) : Type 0 where
+  pub values : (i t : ℕ) → IsStepPlace (sizes_of w r) i → t < 2 ^ w.n → v (x_var (sizes_of w r) i t) ≡ value c t i
+  pub outs : (h i : ℕ) → 1 ≤ h → h ≤ length w.on → IsStepPlace (sizes_of w r) i → v (g_var (sizes_of w r) h i) ≡ is_place i (out_at c.outs h)
+  pub operators : (i : ℕ) (b b' : Bool) → IsStepPlace (sizes_of w r) i → v (f_var (sizes_of w r) i b b') ≡ apply (step_at c i).op b b'
 
-  pub v_f : (i : ℕ) (b b' : Bool) → IsStepPlace (sizes_of w r) i → assignment_of (sizes_of w r) steps c (f_var (sizes_of w r) i b b') ≡ apply (step_at c i).op b b'
-  v_f i b b' is = built_f (sizes_of w r) (λ i t. value c t i) (λ h i. is_place i (out_at c.outs h)) (λ i b c'. apply (step_at c i).op b c') (slot_bit c steps) i b b' is
+pub bits_of_chain : (w : Words) (r : ℕ) (c : Chain) (rest : ℕ → Bool) → IsOfChain w r c (chain_bits (sizes_of w r) c rest)
+bits_of_chain w r c rest = record {
+  values = λ i t is row. built_x (sizes_of w r) (λ i t. value c t i) (λ h i. is_place i (out_at c.outs h)) (λ i b c'. apply (step_at c i).op b c') rest i t is row;
+  outs = λ h i some low is. built_g (sizes_of w r) (λ i t. value c t i) (λ h i. is_place i (out_at c.outs h)) (λ i b c'. apply (step_at c i).op b c') rest h i some low is;
+  operators = λ i b b' is. built_f (sizes_of w r) (λ i t. value c t i) (λ h i. is_place i (out_at c.outs h)) (λ i b c'. apply (step_at c i).op b c') rest i b b' is;
+}
 
-  pub v_s : (x : ℕ) → s_first (sizes_of w r) ≤ x → assignment_of (sizes_of w r) steps c x ≡ slot_bit c steps x
-  v_s x behind = built_s (sizes_of w r) (λ i t. value c t i) (λ h i. is_place i (out_at c.outs h)) (λ i b c'. apply (step_at c i).op b c') (slot_bit c steps) x behind
+pub bits_behind : (z : Sizes) (c : Chain) (rest : ℕ → Bool) (x : ℕ) → s_first z ≤ x → chain_bits z c rest x ≡ rest x
+bits_behind z c rest x behind = built_s z (λ i t. value c t i) (λ h i. is_place i (out_at c.outs h)) (λ i b c'. apply (step_at c i).op b c') rest x behind
 
-  -- the bits are the values
-  pub bits_are_values : IsFor w basis r c → (p t : ℕ) → p < w.n + 1 + r → t < 2 ^ w.n → x_bit (sizes_of w r) (assignment_of (sizes_of w r) steps c) p t ≡ value c t p
-  bits_are_values is p t low row = ⊎_elim
-      (λ (step : w.n < p). x_bit-step (sizes_of w r) (assignment_of (sizes_of w r) steps c) p t step ∙ v_x p t (record { from = omega arith; to = low }) row)
-      (λ (inp : p ≤ w.n). let inputs = is.agrees.inputs in
-      x_bit-input (sizes_of w r) (assignment_of (sizes_of w r) steps c) p t inp ∙ ap (λ (n : ℕ). input n t p) (sym inputs) ∙ sym (value-input c t p (omega arith)))
-      (cases_lt w.n p)
-
+module _ (w : Words) (basis r : ℕ) (c : Chain) where
   -- the step at a place
   pub step_there : IsFor w basis r c → (i : ℕ) → IsStepPlace (sizes_of w r) i → slice_get c.steps (i - (c.n + 1)) ≡ Some (step_at c i)
   step_there is i place =
@@ -129,20 +130,29 @@ module _ (w : Words) (basis r : ℕ) (steps : List StepSlots) (c : Chain) where
       let e : c.n + 1 + (i - (c.n + 1)) ≡ i = omega arith in
       rw e at (is.is_chain.steps.each (i - (c.n + 1)) (step_at c i) (step_there is i place))
 
-  step_has_value : IsFor w basis r c → (i t : ℕ) → IsStepPlace (sizes_of w r) i → value c t i ≡ apply (step_at c i).op (value c t (step_at c i).j) (value c t (step_at c i).k)
+  pub step_has_value : IsFor w basis r c → (i t : ℕ) → IsStepPlace (sizes_of w r) i → value c t i ≡ apply (step_at c i).op (value c t (step_at c i).j) (value c t (step_at c i).k)
   step_has_value is i t place =
       let from = place.from in
       let inputs = is.agrees.inputs in
       let e : c.n + 1 + (i - (c.n + 1)) ≡ i = omega arith in
       ap (value c t) (sym e) ∙ value-step c t (i - (c.n + 1)) (step_at c i) is.is_chain.steps (step_there is i place)
 
-  -- the operator's variables spell it
-  pub operator_is : IsFor w basis r c → (i : ℕ) → IsStepPlace (sizes_of w r) i → (step_at c i).op ≡ operator_in (sizes_of w r) (assignment_of (sizes_of w r) steps c) i
-  operator_is is i place = operator_only (λ b b'. assignment_of (sizes_of w r) steps c (f_var (sizes_of w r) i b b')) (step_at c i).op (step_below is i place).op_below (λ b b'. sym (v_f i b b' place))
+module _ (w : Words) (basis r : ℕ) (c : Chain) (v : Assignment) (of : IsOfChain w r c v) where
+  -- the bits are the values
+  pub bits_are : IsFor w basis r c → (p t : ℕ) → p < w.n + 1 + r → t < 2 ^ w.n → x_bit (sizes_of w r) v p t ≡ value c t p
+  bits_are is p t low row = ⊎_elim
+      (λ (step : w.n < p). x_bit-step (sizes_of w r) v p t step ∙ of.values p t (record { from = omega arith; to = low }) row)
+      (λ (inp : p ≤ w.n). let inputs = is.agrees.inputs in
+      x_bit-input (sizes_of w r) v p t inp ∙ ap (λ (n : ℕ). input n t p) (sym inputs) ∙ sym (value-input c t p (omega arith)))
+      (cases_lt w.n p)
 
-  -- What a chain makes of the variables has all properties.
-  pub chain_solves : IsFor w basis r c → HasStepOuts c (length w.on) → IsLaid (sizes_of w r) steps → HasPairs steps c → Solves w basis (sizes_of w r) steps (assignment_of (sizes_of w r) steps c)
-  chain_solves is outs laid pairs = record {
+  -- the operator's variables spell it
+  pub operator_is : IsFor w basis r c → (i : ℕ) → IsStepPlace (sizes_of w r) i → (step_at c i).op ≡ operator_in (sizes_of w r) v i
+  operator_is is i place = operator_only (λ b b'. v (f_var (sizes_of w r) i b b')) (step_at c i).op (step_below w basis r c is i place).op_below (λ b b'. sym (of.operators i b b' place))
+
+  -- and the tables are met
+  pub chain_meets : IsFor w basis r c → HasStepOuts c (length w.on) → MeetsTables w basis (sizes_of w r) v
+  chain_meets is outs = record {
     bearer = λ h some low.
         let out = outs.each h some low in
         let above = out.above in
@@ -150,10 +160,34 @@ module _ (w : Words) (basis r : ℕ) (steps : List StepSlots) (c : Chain) where
         let inputs = is.agrees.inputs in
         let size = is.size in
         let place : IsStepPlace (sizes_of w r) out.place = record { from = omega arith; to = omega arith } in
-        (out.place, place, v_g h out.place some low place ∙ test_place out.place (out_at c.outs h) out.is);
+        (out.place, place, of.outs h out.place some low place ∙ test_place out.place (out_at c.outs h) out.is);
     out = λ h i t some low place row true_.
-        let is_out = place_test i (out_at c.outs h) (sym (v_g h i some low place) ∙ true_) in
-        rw (bits_are_values is i t place.to row) (subst (λ (o : Out). is_met (cell_of w h t) (out_value c t o) ≡ true) is_out (is.agrees.cells h t some low row));
+        let is_out = place_test i (out_at c.outs h) (sym (of.outs h i some low place) ∙ true_) in
+        rw (bits_are is i t place.to row) (subst (λ (o : Out). is_met (cell_of w h t) (out_value c t o) ≡ true) is_out (is.agrees.cells h t some low row));
+    operator = λ i place.
+        let from = place.from in
+        let to = place.to in
+        let inputs = is.agrees.inputs in
+        let size = is.size in
+        ap (members basis) (sym (operator_is is i place)) ∙ is.is_over (i - (c.n + 1)) (record { j = 1; k = 1; op = 0 }) (omega arith);
+  }
+
+-- ---- by pairs
+
+module _ (w : Words) (basis r : ℕ) (steps : List StepSlots) (c : Chain) where
+  pub of_pairs : IsOfChain w r c (assignment_of (sizes_of w r) steps c)
+  of_pairs = bits_of_chain w r c (slot_bit c steps)
+
+  pub v_s : (x : ℕ) → s_first (sizes_of w r) ≤ x → assignment_of (sizes_of w r) steps c x ≡ slot_bit c steps x
+  v_s x behind = bits_behind (sizes_of w r) c (slot_bit c steps) x behind
+
+  pub bits_are_values : IsFor w basis r c → (p t : ℕ) → p < w.n + 1 + r → t < 2 ^ w.n → x_bit (sizes_of w r) (assignment_of (sizes_of w r) steps c) p t ≡ value c t p
+  bits_are_values is p t low row = bits_are w basis r c (assignment_of (sizes_of w r) steps c) of_pairs is p t low row
+
+  -- What a chain makes of the variables has all properties.
+  pub chain_solves : IsFor w basis r c → HasStepOuts c (length w.on) → IsLaid (sizes_of w r) steps → HasPairs steps c → Solves w basis (sizes_of w r) steps (assignment_of (sizes_of w r) steps c)
+  chain_solves is outs laid pairs = record {
+    tables = chain_meets w basis r c (assignment_of (sizes_of w r) steps c) of_pairs is outs;
     pair = λ s in_steps.
         let has = pairs.has s in_steps in
         let slot : IsSlotOf steps s has.slot = record { step = in_steps; slot = has.inside } in
@@ -166,14 +200,8 @@ module _ (w : Words) (basis r : ℕ) (steps : List StepSlots) (c : Chain) where
         let k_below = below.k_below in
         let to = place.to in
         bits_are_values is s.place t to row
-        ∙ step_has_value is s.place t place
+        ∙ step_has_value w basis r c is s.place t place
         ∙ rw (← j, ← k) refl
-        ∙ sym (v_f s.place (value c t u.j) (value c t u.k) place)
+        ∙ sym (of_pairs.operators s.place (value c t u.j) (value c t u.k) place)
         ∙ rw (← bits_are_values is u.j t (omega arith) row, ← bits_are_values is u.k t (omega arith) row) refl;
-    operator = λ i place.
-        let from = place.from in
-        let to = place.to in
-        let inputs = is.agrees.inputs in
-        let size = is.size in
-        ap (members basis) (sym (operator_is is i place)) ∙ is.is_over (i - (c.n + 1)) (record { j = 1; k = 1; op = 0 }) (omega arith);
   }

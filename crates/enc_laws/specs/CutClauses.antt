@@ -20,16 +20,16 @@ use Rattle.enc_laws.specs.Holds.{contains_head, contains_tail, filter_get, range
 use Rattle.enc_laws.specs.Layouts.{IsStepPlace, IsLaid, laid_is_place}
 use Rattle.enc_laws.specs.Formulas.{IsOf, AreOf, are_of-map, AreClauses, no_clauses, written_clauses, clauses_each, clauses_both, HasRoom, x_is_of}
 
-are_of-append : (vars : ℕ) (xs ys : List Raw) → AreOf vars xs → AreOf vars ys → AreOf vars (xs ++ ys)
+pub are_of-append : (vars : ℕ) (xs ys : List Raw) → AreOf vars xs → AreOf vars ys → AreOf vars (xs ++ ys)
 are_of-append vars [] ys one two = two
 are_of-append vars (x ∷ xs) ys one two = (one.0, are_of-append vars xs ys one.1 two)
 
-are_of-flat_map : {X : Type 0} (vars : ℕ) (f : X → List Raw) (xs : List X) → ((x : X) → Contains xs x → AreOf vars (f x)) → AreOf vars (flat_map f xs)
+pub are_of-flat_map : {X : Type 0} (vars : ℕ) (f : X → List Raw) (xs : List X) → ((x : X) → Contains xs x → AreOf vars (f x)) → AreOf vars (flat_map f xs)
 are_of-flat_map vars f [] each = tt
 are_of-flat_map vars f (x ∷ xs) each = are_of-append vars (f x) (flat_map f xs) (each x (contains_head x xs)) (are_of-flat_map vars f xs (λ y c. each y (contains_tail x y xs c)))
 
 -- clauses and literals that are listed under a test
-clauses_if : (vars : ℕ) (test : Bool) (clauses : List (List ℤ)) → AreClauses vars clauses → AreClauses vars (if test then clauses else [])
+pub clauses_if : (vars : ℕ) (test : Bool) (clauses : List (List ℤ)) → AreClauses vars clauses → AreClauses vars (if test then clauses else [])
 clauses_if vars true clauses are = are
 clauses_if vars false clauses are = no_clauses vars
 
@@ -37,24 +37,41 @@ one_if : (vars : ℕ) (test : Bool) (raw : Raw) → IsOf vars raw → AreOf vars
 one_if vars true raw is = (is, tt)
 one_if vars false raw is = tt
 
+-- ---- what no pair is in
+
+module _ (vars basis : ℕ) (z : Sizes) (steps : List StepSlots) (room : HasRoom vars z steps) where
+  pub operator_of : (i : ℕ) (b c bit : Bool) → IsStepPlace z i → IsOf vars (Var (f_var z i b c) bit)
+  operator_of i b c bit place = (f_positive z i b c, (let common = room.common in omega (arith, f_below z i b c place)))
+
+  pub raw_of : (i op : ℕ) → IsStepPlace z i → AreOf vars (operator_raw z i op)
+  unfolding operator_raw
+  raw_of i op place = (operator_of i false false true place, (operator_of i false true true place, (operator_of i true false true place, (operator_of i true true true place, tt))))
+
+  pub bears_of : (i : ℕ) → IsStepPlace z i → AreOf vars (map (bears z i) (outputs z))
+  unfolding bears bearer
+  bears_of i place = are_of-map vars (bears z i) (outputs z) (λ h in_outputs.
+      let (some, low) = range_inside 1 z.m h in_outputs in
+      (g_positive z h i place, (let common = room.common in omega (arith, g_below z h i some (omega arith) place))))
+
+  other_clauses : (i op : ℕ) → IsStepPlace z i → AreClauses vars (other_operator basis z i op)
+  unfolding other_operator
+  other_clauses i op place = clauses_if vars (members basis op) (written (operator_raw z i op)) (written_clauses vars (operator_raw z i op) (raw_of i op place))
+
+  pub idle_clauses : (constants : Bool) (i : ℕ) → IsStepPlace z i → AreClauses vars (not_idle constants basis z i)
+  unfolding not_idle
+  idle_clauses constants i place = clauses_each vars (other_operator basis z i) (idle_operators constants) (λ op c. other_clauses i op place)
+
+  pub row_0_clauses : AreClauses vars (row_0 basis z)
+  unfolding row_0 row_0_at
+  row_0_clauses = clauses_if vars (polarity_closed (members basis)) (flat_map (row_0_at z) (places z)) (clauses_each vars (row_0_at z) (places z) (λ i in_places.
+      let (from, to) = range_inside (z.n + 1) z.r i in_places in
+      written_clauses vars (x_is z i 0 false ∷ map (bears z i) (outputs z)) (x_is_of vars z steps i 0 false room to (pow_pos z.n), bears_of i (record { from = from; to = to }))))
+
 -- ---- a layout with room for its variables
 
 module _ (vars basis : ℕ) (w : Words) (z : Sizes) (steps : List StepSlots) (room : HasRoom vars z steps) (laid : IsLaid z steps) where
   chosen_of : (s : StepSlots) (u : Slot) (bit : Bool) → Contains steps s → Contains s.slots u → IsOf vars (Var u.var bit)
   chosen_of s u bit in_steps in_slots = (room.positive s u record { step = in_steps; slot = in_slots }, room.slots s u record { step = in_steps; slot = in_slots })
-
-  operator_of : (i : ℕ) (b c bit : Bool) → IsStepPlace z i → IsOf vars (Var (f_var z i b c) bit)
-  operator_of i b c bit place = (f_positive z i b c, (let common = room.common in omega (arith, f_below z i b c place)))
-
-  raw_of : (i op : ℕ) → IsStepPlace z i → AreOf vars (operator_raw z i op)
-  unfolding operator_raw
-  raw_of i op place = (operator_of i false false true place, (operator_of i false true true place, (operator_of i true false true place, (operator_of i true true true place, tt))))
-
-  bears_of : (i : ℕ) → IsStepPlace z i → AreOf vars (map (bears z i) (outputs z))
-  unfolding bears bearer
-  bears_of i place = are_of-map vars (bears z i) (outputs z) (λ h in_outputs.
-      let (some, low) = range_inside 1 z.m h in_outputs in
-      (g_positive z h i place, (let common = room.common in omega (arith, g_below z h i some (omega arith) place))))
 
   not_both_clauses : (s s' : StepSlots) (u u' : Slot) → Contains steps s → Contains s.slots u → Contains steps s' → Contains s'.slots u' → AreClauses vars (not_both u u')
   unfolding not_both
@@ -66,40 +83,36 @@ module _ (vars basis : ℕ) (w : Words) (z : Sizes) (steps : List StepSlots) (ro
   used_clauses (s ∷ later) inside =
       clauses_both vars (used_by z s later) (used z later)
       (written_clauses vars (map (bears z s.place) (outputs z) ++ flat_map (readers s.place) later)
-      (are_of-append vars (map (bears z s.place) (outputs z)) (flat_map (readers s.place) later) (bears_of s.place (laid_is_place z steps s laid (inside s (contains_head s later))))
+      (are_of-append vars (map (bears z s.place) (outputs z)) (flat_map (readers s.place) later) (bears_of vars basis z steps room s.place (laid_is_place z steps s laid (inside s (contains_head s later))))
       (are_of-flat_map vars (readers s.place) later (λ s' in_later. are_of-flat_map vars (reader s.place) s'.slots (λ u in_slots.
       one_if vars (reads u s.place) (Var u.var true) (chosen_of s' u true (inside s' (contains_tail s s' later in_later)) in_slots))))))
       (used_clauses later (λ s' c. inside s' (contains_tail s s' later c)))
-
-  other_clauses : (i op : ℕ) → IsStepPlace z i → AreClauses vars (other_operator basis z i op)
-  unfolding other_operator
-  other_clauses i op place = clauses_if vars (members basis op) (written (operator_raw z i op)) (written_clauses vars (operator_raw z i op) (raw_of i op place))
 
   equal_clauses : (constants : Bool) (s : StepSlots) (u : Slot) → Contains steps s → Contains s.slots u → AreClauses vars (equal_raw constants z s.place u)
   unfolding equal_raw
   equal_clauses true s u in_steps in_slots =
       let place : IsStepPlace z s.place = laid_is_place z steps s laid in_steps in
       clauses_both vars (written (Var u.var false ∷ Var (f_var z s.place false false) true ∷ [])) (written (Var u.var false ∷ Var (f_var z s.place true true) false ∷ []))
-      (written_clauses vars (Var u.var false ∷ Var (f_var z s.place false false) true ∷ []) (chosen_of s u false in_steps in_slots, (operator_of s.place false false true place, tt)))
-      (written_clauses vars (Var u.var false ∷ Var (f_var z s.place true true) false ∷ []) (chosen_of s u false in_steps in_slots, (operator_of s.place true true false place, tt)))
+      (written_clauses vars (Var u.var false ∷ Var (f_var z s.place false false) true ∷ []) (chosen_of s u false in_steps in_slots, (operator_of vars basis z steps room s.place false false true place, tt)))
+      (written_clauses vars (Var u.var false ∷ Var (f_var z s.place true true) false ∷ []) (chosen_of s u false in_steps in_slots, (operator_of vars basis z steps room s.place true true false place, tt)))
   equal_clauses false s u in_steps in_slots =
       let place : IsStepPlace z s.place = laid_is_place z steps s laid in_steps in
       written_clauses vars (Var u.var false ∷ Var (f_var z s.place false false) true ∷ Var (f_var z s.place true true) false ∷ [])
-      (chosen_of s u false in_steps in_slots, (operator_of s.place false false true place, (operator_of s.place true true false place, tt)))
+      (chosen_of s u false in_steps in_slots, (operator_of vars basis z steps room s.place false false true place, (operator_of vars basis z steps room s.place true true false place, tt)))
 
   negation_clauses : (s : StepSlots) (op : ℕ) → Contains steps s → AreClauses vars (negation_raw basis z s op)
   unfolding negation_raw equal_pair chosen
   negation_clauses s op in_steps = clauses_if vars (members basis op) (written (operator_raw z s.place op ++ flat_map equal_pair s.slots))
       (written_clauses vars (operator_raw z s.place op ++ flat_map equal_pair s.slots)
-      (are_of-append vars (operator_raw z s.place op) (flat_map equal_pair s.slots) (raw_of s.place op (laid_is_place z steps s laid in_steps))
+      (are_of-append vars (operator_raw z s.place op) (flat_map equal_pair s.slots) (raw_of vars basis z steps room s.place op (laid_is_place z steps s laid in_steps))
       (are_of-flat_map vars equal_pair s.slots (λ u in_slots. one_if vars (u.j == u.k) (Var u.var true) (chosen_of s u true in_steps in_slots)))))
 
   not_trivial_clauses : AreClauses vars (not_trivial basis z steps)
-  unfolding not_trivial not_trivial_at not_idle equal_slot negations
+  unfolding not_trivial not_trivial_at equal_slot negations
   not_trivial_clauses = clauses_each vars (not_trivial_at (const_closed (members basis)) basis z) steps (λ s in_steps.
       clauses_both vars (not_idle (const_closed (members basis)) basis z s.place ++ flat_map (equal_slot (const_closed (members basis)) z s.place) s.slots) (negations basis z s)
       (clauses_both vars (not_idle (const_closed (members basis)) basis z s.place) (flat_map (equal_slot (const_closed (members basis)) z s.place) s.slots)
-      (clauses_each vars (other_operator basis z s.place) (idle_operators (const_closed (members basis))) (λ op c. other_clauses s.place op (laid_is_place z steps s laid in_steps)))
+      (idle_clauses vars basis z steps room (const_closed (members basis)) s.place (laid_is_place z steps s laid in_steps))
       (clauses_each vars (equal_slot (const_closed (members basis)) z s.place) s.slots (λ u in_slots. clauses_if vars (u.j == u.k) (equal_raw (const_closed (members basis)) z s.place u) (equal_clauses (const_closed (members basis)) s u in_steps in_slots))))
       (clauses_each vars (negation_raw basis z s) (10 ∷ 12 ∷ []) (λ op c. negation_clauses s op in_steps)))
 
@@ -133,12 +146,6 @@ module _ (vars basis : ℕ) (w : Words) (z : Sizes) (steps : List StepSlots) (ro
       (are_of-append vars before (readers_without p q s) are (are_of-flat_map vars (reader_without p q) s.slots (λ u in_slots. one_if vars (reads_without p q u) (Var u.var true) (chosen_of s u true in_steps in_slots))))
       (λ x c. inside x (contains_tail s x later c)))
 
-  row_0_clauses : AreClauses vars (row_0 basis z)
-  unfolding row_0 row_0_at
-  row_0_clauses = clauses_if vars (polarity_closed (members basis)) (flat_map (row_0_at z) (places z)) (clauses_each vars (row_0_at z) (places z) (λ i in_places.
-      let (from, to) = range_inside (z.n + 1) z.r i in_places in
-      written_clauses vars (x_is z i 0 false ∷ map (bears z i) (outputs z)) (x_is_of vars z steps i 0 false room to (pow_pos z.n), bears_of i (record { from = from; to = to }))))
-
   pub cuts_clauses : AreClauses vars (cuts w basis z steps)
   unfolding cuts again exchange exchange_with exchange_pair
   cuts_clauses =
@@ -151,4 +158,4 @@ module _ (vars basis : ℕ) (w : Words) (z : Sizes) (steps : List StepSlots) (ro
       (clauses_if vars (reapply_closed (members basis)) (again_all steps) (again_clauses steps (λ s c. c))))
       (clauses_each vars (exchange_with w steps) (range_with_len 1 w.n) (λ p c. clauses_each vars (exchange_pair w steps p) (range_with_len (suc p) (w.n - p)) (λ q c'.
       clauses_if vars (may_exchange w p q) (exchange_steps p q [] steps) (exchange_clauses p q [] steps tt (λ s d. d))))))
-      row_0_clauses
+      (row_0_clauses vars basis z steps room)

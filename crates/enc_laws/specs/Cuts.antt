@@ -30,17 +30,21 @@ use Rattle.enc_laws.specs.Holds.{holds, both_hold, each_holds, same, raw_value, 
 use Rattle.enc_laws.specs.Layouts.{IsStepPlace, IsSlotOf, laid_is_place}
 use Rattle.enc_laws.specs.Live.{out_at}
 use Rattle.enc_laws.specs.Solves.{x_bit, x_is_value, x_is_positive, there_place, differs_from, has_own}
-use Rattle.enc_laws.specs.Complete.{step_at, assignment_of, pair_test, test_pair, slot_true, true_slot, test_place, v_g, v_f, v_s, step_there, bits_are_values, operator_is}
+use Rattle.enc_laws.specs.Complete.{step_at, assignment_of, pair_test, test_pair, slot_true, true_slot, IsOfChain, of_pairs, v_s, step_there, operator_is}
+use Rattle.enc_laws.specs.OwnCuts.{step_index, bears_positive, bears_bit, idle_holds, row_0_holds}
 use Rattle.enc_laws.specs.Rests.{IsRest, rest_all, rest_head, rest_tail, rest_place, IsPlaced}
 use Rattle.enc_laws.specs.PairTests.{never_both, if_holds, one_implies, no_copy_bits, operator_positive, steps_before, reads_test, steps_again, exchange_symmetric, without_from, without_test, HasBefore, implies_bit}
 
 module _ (w : Words) (basis r : ℕ) (steps : List StepSlots) (c : Chain) (placed : IsPlaced w basis r steps c) where
   -- a step of the layout is a step of the chain
   pub is_step : (i : ℕ) → IsStepPlace (sizes_of w r) i → IsStep c (i - (c.n + 1)) (step_at c i)
-  is_step i place = step_there w basis r steps c placed.is i place
+  is_step i place = step_there w basis r c placed.is i place
 
-  pub index_place : (i : ℕ) → IsStepPlace (sizes_of w r) i → c.n + 1 + (i - (c.n + 1)) ≡ i
-  index_place i place = let from = place.from in let inputs = placed.is.agrees.inputs in omega arith
+  index_place : (i : ℕ) → IsStepPlace (sizes_of w r) i → c.n + 1 + (i - (c.n + 1)) ≡ i
+  index_place i place = step_index w basis r c placed.is i place
+
+  of_pairs' : IsOfChain w r c (assignment_of (sizes_of w r) steps c)
+  of_pairs' = of_pairs w basis r steps c
 
   -- and each step of the chain is one of the layout
   pub step_slots : (k : ℕ) (a : Step) → IsStep c k a → (s : StepSlots) × Contains steps s × (s.place ≡ c.n + 1 + k) × (step_at c s.place ≡ a)
@@ -69,19 +73,6 @@ module _ (w : Words) (basis r : ℕ) (steps : List StepSlots) (c : Chain) (place
       let slot : IsSlotOf steps s has.slot = record { step = in_steps; slot = has.inside } in
       (has.slot, has.inside, has.is_j, has.is_k, v_s w basis r steps c has.slot.var (placed.laid.behind s has.slot slot) ∙ slot_true steps c s has.slot slot (test_pair (step_at c s.place) has.slot has.is_j has.is_k))
 
-  -- a step that is an out has an output
-  pub out_bit : (i : ℕ) → IsStepPlace (sizes_of w r) i → IsOut c i → (h : ℕ) × (1 ≤ h) × (h ≤ length w.on) × (assignment_of (sizes_of w r) steps c (g_var (sizes_of w r) h i) ≡ true)
-  out_bit i place (k, low, at) =
-      let outputs = placed.is.agrees.outputs in
-      let index : k + 1 - 1 ≡ k = omega arith in
-      let within : k < length c.outs = low in (
-        k + 1,
-        omega arith,
-        omega arith,
-        v_g w basis r steps c (k + 1) i (omega arith) (omega arith) place
-            ∙ test_place i (out_at c.outs (k + 1)) (ap (λ (x : ℕ). get_or c.outs x Zero) index ∙ get_or_default c.outs k Zero (Place i) low ∙ at),
-      )
-
   -- ---- each step is an output or is read
 
   reader_there : (p : ℕ) (u : Slot) → reads u p ≡ true → Contains (reader p u) (chosen u)
@@ -91,10 +82,6 @@ module _ (w : Words) (basis r : ℕ) (steps : List StepSlots) (c : Chain) (place
   readers_there : (p : ℕ) (later : List StepSlots) (s : StepSlots) (u : Slot) → Contains later s → Contains s.slots u → reads u p ≡ true → Contains (flat_map (readers p) later) (chosen u)
   unfolding readers
   readers_there p later s u in_later in_slots e = flat_map_make (readers p) later s (chosen u) in_later (flat_map_make (reader p) s.slots u (chosen u) in_slots (reader_there p u e))
-
-  bears_positive : (i : ℕ) → IsStepPlace (sizes_of w r) i → ArePositive (map (bears (sizes_of w r) i) (outputs (sizes_of w r)))
-  unfolding bears bearer
-  bears_positive i place = positive-map (bears (sizes_of w r) i) (outputs (sizes_of w r)) (λ h c. g_positive (sizes_of w r) h i place)
 
   reader_positive : (p : ℕ) (s : StepSlots) (u : Slot) → IsSlotOf steps s u → ArePositive (reader p u)
   unfolding reader chosen
@@ -106,13 +93,6 @@ module _ (w : Words) (basis r : ℕ) (steps : List StepSlots) (c : Chain) (place
   readers_positive : (p : ℕ) (later : List StepSlots) → ((s : StepSlots) → Contains later s → Contains steps s) → ArePositive (flat_map (readers p) later)
   unfolding readers
   readers_positive p later inside = positive-flat_map (readers p) later (λ s in_later. positive-flat_map (reader p) s.slots (λ u in_slots. reader_positive p s u record { step = inside s in_later; slot = in_slots }))
-
-  bears_bit : (i : ℕ) → IsStepPlace (sizes_of w r) i → IsOut c i → raws_bit (assignment_of (sizes_of w r) steps c) (map (bears (sizes_of w r) i) (outputs (sizes_of w r))) ≡ true
-  unfolding bears bearer raw_value same
-  bears_bit i place out =
-      let (h, some, low, true_) = out_bit i place out in
-      raws_bit-map (assignment_of (sizes_of w r) steps c) (bears (sizes_of w r) i) (outputs (sizes_of w r))
-      ∙ any_make (λ (x : ℕ). assignment_of (sizes_of w r) steps c (g_var (sizes_of w r) x i)) (outputs (sizes_of w r)) h (range_contains 1 (length w.on) h some (omega arith)) true_
 
   -- a step reads places below it alone
   reads_below : (k : ℕ) (a : Step) (p : ℕ) → IsStep c k a → Reads a p → p < c.n + 1 + k
@@ -139,9 +119,9 @@ module _ (w : Words) (basis r : ℕ) (steps : List StepSlots) (c : Chain) (place
       let outs : List Raw = map (bears (sizes_of w r) s.place) (outputs (sizes_of w r)) in
       let reads : List Raw = flat_map (readers s.place) later in
       both_hold v (written (outs ++ reads)) (used (sizes_of w r) later)
-      (holds-written v (outs ++ reads) (positive-append outs reads (bears_positive s.place at) (readers_positive s.place later tail.inside))
+      (holds-written v (outs ++ reads) (positive-append outs reads (bears_positive (sizes_of w r) s.place at) (readers_positive s.place later tail.inside))
       ∙ raws_bit-append v outs reads
-      ∙ ⊎_elim (λ (out : IsOut c (c.n + 1 + (s.place - (c.n + 1)))). or_left (raws_bit v outs) (raws_bit v reads) (bears_bit s.place at (subst (IsOut c) (index_place s.place at) out)))
+      ∙ ⊎_elim (λ (out : IsOut c (c.n + 1 + (s.place - (c.n + 1)))). or_left (raws_bit v outs) (raws_bit v reads) (bears_bit w basis r c v of_pairs' placed.is s.place at (subst (IsOut c) (index_place s.place at) out)))
       (λ (read : IsRead c (c.n + 1 + (s.place - (c.n + 1)))). or_right (raws_bit v outs) (raws_bit v reads) (read_bit s.place later tail (subst (IsRead c) (index_place s.place at) read)))
       (reduced.used (s.place - (c.n + 1)) (step_at c s.place) (is_step s.place at)))
       (used_each reduced later (place + 1) (rest_tail steps s later place rest))
@@ -240,31 +220,6 @@ module _ (w : Words) (basis r : ℕ) (steps : List StepSlots) (c : Chain) (place
     | false ↦ tt
   ])
 
-  other_holds : (i op : ℕ) → IsStepPlace (sizes_of w r) i → op < 16 → ((step_at c i).op ≡ op → ⊥) → holds (assignment_of (sizes_of w r) steps c) (other_operator basis (sizes_of w r) i op) ≡ true
-  unfolding other_operator
-  other_holds i op place low other =
-      let v : Assignment = assignment_of (sizes_of w r) steps c in
-      if_holds v (members basis op) (written (operator_raw (sizes_of w r) i op))
-      (λ member. differs_from (sizes_of w r) v i op low (λ e. other (operator_is w basis r steps c placed.is i place ∙ sym e)))
-
-  idle_holds : (reduced : IsReduced (members basis) (specification w) c) (i : ℕ) (constants : Bool) → IsStepPlace (sizes_of w r) i → const_closed (members basis) ≡ constants
-      → holds (assignment_of (sizes_of w r) steps c) (flat_map (other_operator basis (sizes_of w r) i) (idle_operators constants)) ≡ true
-  unfolding holds
-  idle_holds reduced i true place closed =
-      let v : Assignment = assignment_of (sizes_of w r) steps c in
-      let f : ℕ → List (List ℤ) = other_operator basis (sizes_of w r) i in
-      let k : ℕ = i - (c.n + 1) in
-      both_hold v (f 0) (f 3 ++ (f 5 ++ (f 15 ++ []))) (other_holds i 0 place (omega arith) (λ e. reduced.no_constant closed k (step_at c i) (is_step i place) (inl e)))
-      (both_hold v (f 3) (f 5 ++ (f 15 ++ [])) (other_holds i 3 place (omega arith) (λ e. reduced.no_copy k (step_at c i) (is_step i place) (inl e)))
-      (both_hold v (f 5) (f 15 ++ []) (other_holds i 5 place (omega arith) (λ e. reduced.no_copy k (step_at c i) (is_step i place) (inr e)))
-      (both_hold v (f 15) [] (other_holds i 15 place (omega arith) (λ e. reduced.no_constant closed k (step_at c i) (is_step i place) (inr e))) refl)))
-  idle_holds reduced i false place closed =
-      let v : Assignment = assignment_of (sizes_of w r) steps c in
-      let f : ℕ → List (List ℤ) = other_operator basis (sizes_of w r) i in
-      let k : ℕ = i - (c.n + 1) in
-      both_hold v (f 3) (f 5 ++ []) (other_holds i 3 place (omega arith) (λ e. reduced.no_copy k (step_at c i) (is_step i place) (inl e)))
-      (both_hold v (f 5) [] (other_holds i 5 place (omega arith) (λ e. reduced.no_copy k (step_at c i) (is_step i place) (inr e))) refl)
-
   equal_raw_holds : (reduced : IsReduced (members basis) (specification w) c) (s : StepSlots) (u : Slot) (constants : Bool) → IsSlotOf steps s u → const_closed (members basis) ≡ constants → u.j ≡ u.k
       → holds (assignment_of (sizes_of w r) steps c) (equal_raw constants (sizes_of w r) s.place u) ≡ true
   unfolding equal_raw raws_bit raw_value same
@@ -277,9 +232,9 @@ module _ (w : Words) (basis r : ℕ) (steps : List StepSlots) (c : Chain) (place
       reduced.equal_negate closed (s.place - (c.n + 1)) (step_at c s.place) (is_step s.place at) (sym j ∙ equal ∙ k) in
       both_hold v (written (Var u.var false ∷ Var (f_var (sizes_of w r) s.place false false) true ∷ [])) (written (Var u.var false ∷ Var (f_var (sizes_of w r) s.place true true) false ∷ []))
       (holds-written v (Var u.var false ∷ Var (f_var (sizes_of w r) s.place false false) true ∷ []) (some, (f_positive (sizes_of w r) s.place false false, tt))
-      ∙ one_implies (v u.var) (v (f_var (sizes_of w r) s.place false false)) (λ e. v_f w basis r steps c s.place false false at ∙ (negates e).0))
+      ∙ one_implies (v u.var) (v (f_var (sizes_of w r) s.place false false)) (λ e. of_pairs'.operators s.place false false at ∙ (negates e).0))
       (holds-written v (Var u.var false ∷ Var (f_var (sizes_of w r) s.place true true) false ∷ []) (some, (f_positive (sizes_of w r) s.place true true, tt))
-      ∙ one_implies (v u.var) (not (v (f_var (sizes_of w r) s.place true true))) (λ e. ap not (v_f w basis r steps c s.place true true at ∙ (negates e).1)))
+      ∙ one_implies (v u.var) (not (v (f_var (sizes_of w r) s.place true true))) (λ e. ap not (of_pairs'.operators s.place true true at ∙ (negates e).1)))
   equal_raw_holds reduced s u false slot closed equal =
       let v : Assignment = assignment_of (sizes_of w r) steps c in
       let at : IsStepPlace (sizes_of w r) s.place = laid_is_place (sizes_of w r) steps s placed.laid slot.step in
@@ -288,7 +243,7 @@ module _ (w : Words) (basis r : ℕ) (steps : List StepSlots) (c : Chain) (place
       ∙ no_copy_bits (v u.var) (v (f_var (sizes_of w r) s.place false false)) (v (f_var (sizes_of w r) s.place true true)) (λ true_ low high.
       let (j, k) = has_pair s u slot true_ in
       reduced.equal_no_copy (s.place - (c.n + 1)) (step_at c s.place) (is_step s.place at) (sym j ∙ equal ∙ k)
-      (sym (v_f w basis r steps c s.place false false at) ∙ low, sym (v_f w basis r steps c s.place true true at) ∙ high))
+      (sym (of_pairs'.operators s.place false false at) ∙ low, sym (of_pairs'.operators s.place true true at) ∙ high))
 
   negation_holds : (reduced : IsReduced (members basis) (specification w) c) (s : StepSlots) (op : ℕ) → Contains steps s → op < 16 → IsNegation op → holds (assignment_of (sizes_of w r) steps c) (negation_raw basis (sizes_of w r) s op) ≡ true
   unfolding negation_raw
@@ -303,7 +258,7 @@ module _ (w : Words) (basis r : ℕ) (steps : List StepSlots) (c : Chain) (place
       (λ (is_op : (step_at c s.place).op ≡ op). or_right (raws_bit v (operator_raw z s.place op)) (raws_bit v (flat_map equal_pair s.slots))
       (equal_there s in_steps (reduced.negation_of_equal (s.place - (c.n + 1)) (step_at c s.place) (is_step s.place at) (subst IsNegation (sym is_op) negation))))
       (λ (other : (step_at c s.place).op ≡ op → ⊥). or_left (raws_bit v (operator_raw z s.place op)) (raws_bit v (flat_map equal_pair s.slots))
-      (sym (holds-written v (operator_raw z s.place op) (operator_positive z s.place op)) ∙ differs_from z v s.place op low (λ e. other (operator_is w basis r steps c placed.is s.place at ∙ sym e))))
+      (sym (holds-written v (operator_raw z s.place op) (operator_positive z s.place op)) ∙ differs_from z v s.place op low (λ e. other (operator_is w basis r c v of_pairs' placed.is s.place at ∙ sym e))))
       (cases_eq (step_at c s.place).op op))
 
   pub not_trivial_holds : IsReduced (members basis) (specification w) c → holds (assignment_of (sizes_of w r) steps c) (not_trivial basis (sizes_of w r) steps) ≡ true
@@ -315,7 +270,7 @@ module _ (w : Words) (basis r : ℕ) (steps : List StepSlots) (c : Chain) (place
       let at : IsStepPlace (sizes_of w r) s.place = laid_is_place (sizes_of w r) steps s placed.laid in_steps in
       both_hold v (not_idle (const_closed (members basis)) basis z s.place ++ flat_map (equal_slot (const_closed (members basis)) z s.place) s.slots) (negations basis z s)
       (both_hold v (not_idle (const_closed (members basis)) basis z s.place) (flat_map (equal_slot (const_closed (members basis)) z s.place) s.slots)
-      (idle_holds reduced s.place (const_closed (members basis)) at refl)
+      (idle_holds w basis r c v of_pairs' placed.is reduced s.place (const_closed (members basis)) at refl)
       (each_holds v (equal_slot (const_closed (members basis)) z s.place) s.slots (λ u in_slots. if_holds v (u.j == u.k) (equal_raw (const_closed (members basis)) z s.place u) (λ e.
       equal_raw_holds reduced s u (const_closed (members basis)) (record { step = in_steps; slot = in_slots }) refl (eqb-true u.j u.k e)))))
       (both_hold v (negation_raw basis z s 10) (negation_raw basis z s 12 ++ []) (negation_holds reduced s 10 in_steps (omega arith) (inr refl))
@@ -394,23 +349,6 @@ module _ (w : Words) (basis r : ℕ) (steps : List StepSlots) (c : Chain) (place
       (record { each = λ s u slot low test true_. absurd (let at = laid_is_place (sizes_of w r) steps s placed.laid slot.step in let from = at.from in omega arith) })
       (rest_all (sizes_of w r) steps placed.laid))))
 
-  -- ---- a step that is no output is 0 on row 0
-
-  pub row_0_holds : IsReduced (members basis) (specification w) c → holds (assignment_of (sizes_of w r) steps c) (row_0 basis (sizes_of w r)) ≡ true
-  unfolding row_0 row_0_at raws_bit
-  row_0_holds reduced =
-      let v : Assignment = assignment_of (sizes_of w r) steps c in
-      let z : Sizes = sizes_of w r in
-      if_holds v (polarity_closed (members basis)) (flat_map (row_0_at z) (places z)) (λ closed. each_holds v (row_0_at z) (places z) (λ i in_places.
-      let at : IsStepPlace (sizes_of w r) i = there_place z i in_places in
-      let outs : List Raw = map (bears z i) (outputs z) in
-      holds-written v (x_is z i 0 false ∷ outs) (x_is_positive z i 0 false, bears_positive i at)
-      ∙ ⊎_elim
-      (λ (zero_ : value c 0 (c.n + 1 + (i - (c.n + 1))) ≡ false). or_left (raw_value v (x_is z i 0 false)) (raws_bit v outs)
-      (x_is_value z v i 0 false ∙ has_own (x_bit z v i 0) false (bits_are_values w basis r steps c placed.is i 0 at.to (pow_pos w.n) ∙ ap (value c 0) (sym (index_place i at)) ∙ zero_)))
-      (λ (out : IsOut c (c.n + 1 + (i - (c.n + 1)))). or_right (raw_value v (x_is z i 0 false)) (raws_bit v outs) (bears_bit i at (subst (IsOut c) (index_place i at) out)))
-      (reduced.zero_on_row_0 closed (i - (c.n + 1)) (step_at c i) (is_step i at))))
-
   -- ---- all cuts
 
   -- What a reduced chain makes of the variables satisfies all cuts.
@@ -427,4 +365,4 @@ module _ (w : Words) (basis r : ℕ) (steps : List StepSlots) (c : Chain) (place
       (order_holds reduced))
       (again_holds reduced))
       (exchange_holds reduced))
-      (row_0_holds reduced)
+      (row_0_holds w basis r c v of_pairs' placed.is reduced)

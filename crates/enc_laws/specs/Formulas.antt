@@ -142,6 +142,14 @@ pub record HasRoom (vars : ℕ) (z : Sizes) (steps : List StepSlots) : Type 0 wh
   pub slots : (s : StepSlots) (u : Slot) → IsSlotOf steps s u → u.var ≤ vars
   pub positive : (s : StepSlots) (u : Slot) → IsSlotOf steps s u → 1 ≤ u.var
 
+-- where there are no pairs, room for all others is enough
+pub room_without_pairs : (vars : ℕ) (z : Sizes) → s_first z ≤ vars + 1 → HasRoom vars z []
+room_without_pairs vars z common = record {
+  common = common;
+  slots = λ s u is. absurd (omega (arith, is.step.1));
+  positive = λ s u is. absurd (omega (arith, is.step.1));
+}
+
 pub x_is_of : (vars : ℕ) (z : Sizes) (steps : List StepSlots) (j t : ℕ) (bit : Bool) → HasRoom vars z steps → j < z.n + 1 + z.r → t < 2 ^ z.n → IsOf vars (x_is z j t bit)
 unfolding x_is
 x_is_of vars z steps j t bit room low row = ⊎_elim
@@ -149,7 +157,7 @@ x_is_of vars z steps j t bit room low row = ⊎_elim
     (λ (inp : j ≤ z.n). rw (le-leb j z.n inp) tt)
     (cases_lt z.n j)
 
-bearer_clauses : (vars : ℕ) (z : Sizes) (steps : List StepSlots) → HasRoom vars z steps → AreClauses vars (out_exists z)
+pub bearer_clauses : (vars : ℕ) (z : Sizes) (steps : List StepSlots) → HasRoom vars z steps → AreClauses vars (out_exists z)
 unfolding out_exists out_exists_at bearer
 bearer_clauses vars z steps room = clauses_each vars (out_exists_at z) (outputs z) (λ h in_outputs.
     let (some, low) = range_inside 1 z.m h in_outputs in
@@ -165,7 +173,7 @@ out_clauses vars z steps h i t Zero room some low is row = written_clauses vars 
 out_clauses vars z steps h i t One room some low is row = written_clauses vars (Var (g_var z h i) false ∷ x_is z i t true ∷ []) ((g_positive z h i is, (let common = room.common in omega (arith, g_below z h i some low is))), (x_is_of vars z steps i t true room is.to row, tt))
 out_clauses vars z steps h i t Free room some low is row = no_clauses vars
 
-outs_clauses : (vars : ℕ) (w : Words) (z : Sizes) (steps : List StepSlots) → HasRoom vars z steps → AreClauses vars (out_values w z)
+pub outs_clauses : (vars : ℕ) (w : Words) (z : Sizes) (steps : List StepSlots) → HasRoom vars z steps → AreClauses vars (out_values w z)
 unfolding out_values out_values_at out_values_of out_value
 outs_clauses vars w z steps room =
     clauses_each vars (out_values_at w z) (outputs z) (λ h in_outputs. clauses_each vars (out_values_of w z h) (places z) (λ i in_places. clauses_each vars (out_value w z h i) (rows z) (λ t in_rows.
@@ -221,7 +229,7 @@ operator_clauses vars basis z steps i op room is =
       | false ↦ written_clauses vars (operator_raw z i op) (of false false, (of false true, (of true false, (of true true, tt))))
     ]
 
-operators_clauses : (vars basis : ℕ) (z : Sizes) (steps : List StepSlots) → HasRoom vars z steps → AreClauses vars (operators basis z)
+pub operators_clauses : (vars basis : ℕ) (z : Sizes) (steps : List StepSlots) → HasRoom vars z steps → AreClauses vars (operators basis z)
 unfolding operators operators_at
 operators_clauses vars basis z steps room = clauses_each vars (operators_at basis z) (places z) (λ i in_places. clauses_each vars (operator_clause basis z i) (range_with_len 0 16) (λ op in_range.
     let (from, to) = range_inside (z.n + 1) z.r i in_places in

@@ -31,7 +31,7 @@ pub record AreLive (w : Words) : Type 0 where
 pub record IsAllowed (pairs : ℕ → List Pair) (w : Words) (r : ℕ) (c : Chain) : Type 0 where
   pub each : (i : ℕ) → IsStepPlace (sizes_of w r) i → Contains (pairs i) (pair (step_at c i).j (step_at c i).k)
 
-live_outs : (w : Words) (basis r : ℕ) (c : Chain) → AreLive w → IsFor w basis r c → HasStepOuts c (length w.on)
+pub live_outs : (w : Words) (basis r : ℕ) (c : Chain) → AreLive w → IsFor w basis r c → HasStepOuts c (length w.on)
 live_outs w basis r c live is = record { each = λ h some low. live_out_is_step (specification w) c h is.is_chain is.agrees some low (live.each h some low) }
 
 pub allowed_pairs : (pairs : ℕ → List Pair) (w : Words) (r : ℕ) (c : Chain) → AreBelow w.n pairs → IsAllowed pairs w r c → HasPairs (layout pairs (sizes_of w r)) c
@@ -65,7 +65,7 @@ picked_is_for w basis r c is = record {
 all_allowed : (w : Words) (basis r : ℕ) (c : Chain) → IsFor w basis r c → IsAllowed (pairs_below false) w r c
 all_allowed w basis r c is = record {
   each = λ i place.
-      let below = step_below w basis r (layout (pairs_below false) (sizes_of w r)) c is i place in
+      let below = step_below w basis r c is i place in
       pair_is_there false i (step_at c i).j (step_at c i).k (record { j_from = below.j_from; j_below = below.j_below; k_from = below.k_from; k_below = below.k_below }) (λ e. absurd cc);
 }
 

@@ -11,6 +11,7 @@ pub mod Complete
 pub mod Laws
 pub mod Rests
 pub mod PairTests
+pub mod OwnCuts
 pub mod Cuts
 pub mod CutClauses
 pub mod ByPairs

@@ -29,14 +29,18 @@ use Rattle.enc_laws.specs.Layouts.{IsStepPlace, IsSlotOf, IsLaid}
 unfoldable pub x_bit : Sizes → Assignment → ℕ → ℕ → Bool
 x_bit z v j t = if leb j z.n then input z.n t j else v (x_var z j t)
 
--- The assignment gives each output a step and each step a pair, an operator of the basis, and the
--- values that follow from these and meet the cells of the outputs.
-pub record Solves (w : Words) (basis : ℕ) (z : Sizes) (steps : List StepSlots) (v : Assignment) : Type 0 where
+-- The assignment gives each output a step whose values meet the output's cells, and each step an
+-- operator of the basis, however steps get their operands.
+pub record MeetsTables (w : Words) (basis : ℕ) (z : Sizes) (v : Assignment) : Type 0 where
   pub bearer : (h : ℕ) → 1 ≤ h → h ≤ z.m → (i : ℕ) × IsStepPlace z i × (v (g_var z h i) ≡ true)
   pub out : (h i t : ℕ) → 1 ≤ h → h ≤ z.m → IsStepPlace z i → t < 2 ^ z.n → v (g_var z h i) ≡ true → is_met (cell_of w h t) (x_bit z v i t) ≡ true
+  pub operator : (i : ℕ) → IsStepPlace z i → members basis (operator_in z v i) ≡ true
+
+-- It gives each step a pair besides, and the values that follow from the pair and the operator.
+pub record Solves (w : Words) (basis : ℕ) (z : Sizes) (steps : List StepSlots) (v : Assignment) : Type 0 where
+  pub tables : MeetsTables w basis z v
   pub pair : (s : StepSlots) → Contains steps s → (u : Slot) × Contains s.slots u × (v u.var ≡ true)
   pub value : (s : StepSlots) (u : Slot) (t : ℕ) → IsSlotOf steps s u → t < 2 ^ z.n → v u.var ≡ true → x_bit z v s.place t ≡ v (f_var z s.place (x_bit z v u.j t) (x_bit z v u.k t))
-  pub operator : (i : ℕ) → IsStepPlace z i → members basis (operator_in z v i) ≡ true
 
 -- ---- places, rows, outputs
 
@@ -46,10 +50,10 @@ place_there z i is = range_contains (z.n + 1) z.r i is.from is.to
 pub there_place : (z : Sizes) (i : ℕ) → Contains (places z) i → IsStepPlace z i
 there_place z i c = let (from, to) = range_inside (z.n + 1) z.r i c in record { from = from; to = to }
 
-row_there : (z : Sizes) (t : ℕ) → t < 2 ^ z.n → Contains (rows z) t
+pub row_there : (z : Sizes) (t : ℕ) → t < 2 ^ z.n → Contains (rows z) t
 row_there z t low = range_contains 0 (2 ^ z.n) t (omega arith) (omega arith)
 
-there_row : (z : Sizes) (t : ℕ) → Contains (rows z) t → t < 2 ^ z.n
+pub there_row : (z : Sizes) (t : ℕ) → Contains (rows z) t → t < 2 ^ z.n
 there_row z t c = let (from, to) = range_inside 0 (2 ^ z.n) t c in omega arith
 
 output_there : (z : Sizes) (h : ℕ) → 1 ≤ h → h ≤ z.m → Contains (outputs z) h
@@ -175,7 +179,7 @@ pair_to z v steps laid each = each_holds v pair_exists_at steps (λ s c.
 
 -- ---- a step has the value of its pair
 
-abbrev clause_of : Bool → Bool → Bool → Bool → Bool → Bool → Bool → Bool → Bool
+abbrev pub clause_of : Bool → Bool → Bool → Bool → Bool → Bool → Bool → Bool → Bool
 clause_of s x j k f a b c = not s || (same x (not a) || (same j (not b) || (same k (not c) || (same f a || false))))
 
 value_bits : (z : Sizes) (v : Assignment) (steps : List StepSlots) (s : StepSlots) (u : Slot) (t : ℕ) (a b c : Bool) → IsLaid z steps → IsSlotOf steps s u
@@ -210,7 +214,7 @@ row_make z v i u t each =
     (both_hold v _ (value_clause z i u t true true true) (both_hold v _ (value_clause z i u t true true false) (both_hold v (value_clause z i u t true false false) (value_clause z i u t true false true) (each true false false) (each true false true)) (each true true false)) (each true true true))
 
 -- the clause of the bits that the places have gives the value
-clause_gives : (s x j k f : Bool) → s ≡ true → clause_of s x j k f x j k ≡ true → x ≡ f
+pub clause_gives : (s x j k f : Bool) → s ≡ true → clause_of s x j k f x j k ≡ true → x ≡ f
 unfolding same
 clause_gives false x j k f true_ e = absurd cc
 clause_gives true true true true true true_ e = refl
@@ -244,7 +248,7 @@ has_own x true e = e
 has_own x false e = rw e refl
 
 -- each clause is true where the value is that of the operator
-gives_clause : (s x j k : Bool) (f : Bool → Bool → Bool) (a b c : Bool) → (s ≡ true → x ≡ f j k) → clause_of s x j k (f b c) a b c ≡ true
+pub gives_clause : (s x j k : Bool) (f : Bool → Bool → Bool) (a b c : Bool) → (s ≡ true → x ≡ f j k) → clause_of s x j k (f b c) a b c ≡ true
 gives_clause false x j k f a b c value = refl
 gives_clause true x j k f a b c value = ⊎_elim
     (λ (x_other : same x (not a) ≡ true). or_left (same x (not a)) _ x_other)
@@ -342,6 +346,24 @@ operator_to basis z v each =
     let (from, to) = range_inside 0 16 op in_range in
     operator_holds basis z v i op (members basis op) refl (omega arith) (each i (there_place z i in_places))))
 
+-- ---- the families that no pair is in
+
+pub meets_from : (w : Words) (basis : ℕ) (z : Sizes) (v : Assignment) → holds v (out_exists z) ≡ true → holds v (out_values w z) ≡ true → holds v (operators basis z) ≡ true → MeetsTables w basis z v
+meets_from w basis z v bearers outs all = record {
+  bearer = λ h some low. bearer_from z v h bearers some low;
+  out = λ h i t some low is row true_. outs_from w z v h i t outs some low is row true_;
+  operator = λ i is. operator_from basis z v i all is;
+}
+
+pub bearers_hold : (w : Words) (basis : ℕ) (z : Sizes) (v : Assignment) → MeetsTables w basis z v → holds v (out_exists z) ≡ true
+bearers_hold w basis z v meets = bearer_to z v meets.bearer
+
+pub outs_hold : (w : Words) (basis : ℕ) (z : Sizes) (v : Assignment) → MeetsTables w basis z v → holds v (out_values w z) ≡ true
+outs_hold w basis z v meets = outs_to w z v meets.out
+
+pub operators_hold : (w : Words) (basis : ℕ) (z : Sizes) (v : Assignment) → MeetsTables w basis z v → holds v (operators basis z) ≡ true
+operators_hold w basis z v meets = operator_to basis z v meets.operator
+
 -- ---- all five families
 
 -- What satisfies the clauses has the properties,
@@ -353,11 +375,9 @@ solves_from w basis z steps v laid all =
     let (two, third) = holds_both v _ (pair_exists steps) three in
     let (first, second) = holds_both v (out_exists z) (out_values w z) two in
     record {
-      bearer = λ h some low. bearer_from z v h first some low;
-      out = λ h i t some low is row true_. outs_from w z v h i t second some low is row true_;
+      tables = meets_from w basis z v first second fifth;
       pair = λ s c. pair_from z v steps s laid third c;
       value = λ s u t is row true_. value_from z v steps s u t laid fourth is row true_;
-      operator = λ i is. operator_from basis z v i fifth is;
     }
 
 -- and what has the properties satisfies the clauses.
@@ -367,7 +387,7 @@ solves_to w basis z steps v laid solves =
     both_hold v _ (operators basis z)
     (both_hold v _ (values z steps)
     (both_hold v _ (pair_exists steps)
-    (both_hold v (out_exists z) (out_values w z) (bearer_to z v solves.bearer) (outs_to w z v solves.out))
+    (both_hold v (out_exists z) (out_values w z) (bearers_hold w basis z v solves.tables) (outs_hold w basis z v solves.tables))
     (pair_to z v steps laid solves.pair))
     (value_to z v steps laid solves.value))
-    (operator_to basis z v solves.operator)
+    (operators_hold w basis z v solves.tables)

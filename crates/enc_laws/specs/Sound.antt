@@ -26,7 +26,7 @@ use Rattle.enc_theory.specs.Pairs.{StepSlots, pair}
 use Rattle.enc_theory.specs.Decode.{first_pair, operator_in, decoded_step, first_bearer, decoded_out}
 use Rattle.enc_laws.specs.Holds.{contains_head, contains_tail, any_make, range_contains, range_inside}
 use Rattle.enc_laws.specs.Layouts.{IsStepPlace, IsSlotOf, IsLaid}
-use Rattle.enc_laws.specs.Solves.{x_bit, Solves}
+use Rattle.enc_laws.specs.Solves.{x_bit, MeetsTables, Solves}
 
 -- ---- bits that follow steps
 
@@ -124,13 +124,27 @@ unfolding first_bearer
 first_bearer_is z v h [] any = absurd cc
 first_bearer_is z v h (i ∷ is) any = here_or_later z v h i is (first_bearer z v h is) (v (g_var z h i)) refl (λ e. first_bearer_is z v h is (sym (ap (λ (b : Bool). b || list_any (λ i. v (g_var z h i)) is) e) ∙ any))
 
+-- it is a step, and meets the cells of its output
+pub bearer_place : (w : Words) (basis : ℕ) (z : Sizes) (v : Assignment) (h : ℕ) → MeetsTables w basis z v → 1 ≤ h → h ≤ z.m → IsStepPlace z (first_bearer z v h (places z))
+bearer_place w basis z v h meets some low =
+    let (i, place, true_) = meets.bearer h some low in
+    let first = first_bearer_is z v h (places z) (any_make (λ (i : ℕ). v (g_var z h i)) (places z) i (range_contains (z.n + 1) z.r i place.from place.to) true_) in
+    let (from, to) = range_inside (z.n + 1) z.r (first_bearer z v h (places z)) first.inside in
+    record { from = from; to = to }
+
+pub bearer_met : (w : Words) (basis : ℕ) (z : Sizes) (v : Assignment) (h t : ℕ) → MeetsTables w basis z v → 1 ≤ h → h ≤ z.m → t < 2 ^ z.n → is_met (cell_of w h t) (x_bit z v (first_bearer z v h (places z)) t) ≡ true
+bearer_met w basis z v h t meets some low row =
+    let (i, place, true_) = meets.bearer h some low in
+    let first = first_bearer_is z v h (places z) (any_make (λ (i : ℕ). v (g_var z h i)) (places z) i (range_contains (z.n + 1) z.r i place.from place.to) true_) in
+    meets.out h (first_bearer z v h (places z)) t some low (bearer_place w basis z v h meets some low) row first.true_
+
 -- a step of a list that is made element by element
 pub record IsMade {X Y : Type 0} (f : X → Y) (o : Option X) (y : Y) : Type 0 where
   pub from : X
   pub at : o ≡ Some from
   pub is : y ≡ f from
 
-made_from : {X Y : Type 0} (f : X → Y) (o : Option X) (y : Y) → option_map f o ≡ Some y → IsMade f o y
+pub made_from : {X Y : Type 0} (f : X → Y) (o : Option X) (y : Y) → option_map f o ≡ Some y → IsMade f o y
 made_from f None y e = absurd cc
 made_from f (Some x) y e = record { from = x; at = refl; is = cc }
 
@@ -187,16 +201,8 @@ solved_spells w basis z steps v laid solves = record {
       ∙ solves.value is.from is.slot t is.has row is.true_
       ∙ sym (operator_values (λ b c. v (f_var z is.from.place b c)) (x_bit z v is.slot.j t) (x_bit z v is.slot.k t))
       ∙ ap (λ (s : Step). apply s.op (x_bit z v s.j t) (x_bit z v s.k t)) (sym is.is);
-  place = λ h some low.
-      let (i, place, true_) = solves.bearer h some low in
-      let first = first_bearer_is z v h (places z) (any_make (λ (i : ℕ). v (g_var z h i)) (places z) i (range_contains (z.n + 1) z.r i place.from place.to) true_) in
-      let (from, to) = range_inside (z.n + 1) z.r (first_bearer z v h (places z)) first.inside in
-      record { from = from; to = to };
-  met = λ h t some low row.
-      let (i, place, true_) = solves.bearer h some low in
-      let first = first_bearer_is z v h (places z) (any_make (λ (i : ℕ). v (g_var z h i)) (places z) i (range_contains (z.n + 1) z.r i place.from place.to) true_) in
-      let (from, to) = range_inside (z.n + 1) z.r (first_bearer z v h (places z)) first.inside in
-      solves.out h (first_bearer z v h (places z)) t some low (record { from = from; to = to }) row first.true_;
+  place = λ h some low. bearer_place w basis z v h solves.tables some low;
+  met = λ h t some low row. bearer_met w basis z v h t solves.tables some low row;
 }
 
 -- each step that is spelled is over the basis
@@ -207,7 +213,7 @@ solved_is_over w basis z steps v outs laid solves = λ k d low.
     let place = is.place in
     let long = length-map steps (decoded_step z v) in
     let count = laid.count in
-    ap (λ (s : Step). members basis s.op) is.is ∙ solves.operator is.from.place (record { from = omega arith; to = omega arith })
+    ap (λ (s : Step). members basis s.op) is.is ∙ solves.tables.operator is.from.place (record { from = omega arith; to = omega arith })
 
 -- The chain of an assignment, whatever the pairs.
 pub decoded_outs : (z : Sizes) (v : Assignment) → map (decoded_out z v) (outputs z) ≡ spelled_outs (λ h. first_bearer z v h (places z)) z

@@ -35,9 +35,9 @@ ssv_sound w basis r (v, satisfies) = for_is_there w basis r (ssv_decoded w basis
 reduced_allowed : (w : Words) (basis r : ℕ) (c : Chain) → IsFor w basis r c → IsReduced (members basis) (specification w) c → IsAllowed (pairs_below (swap_closed (members basis))) w r c
 reduced_allowed w basis r c is reduced = record {
   each = λ i place.
-      let below = step_below w basis r (ssv_layout basis (sizes_of w r)) c is i place in
+      let below = step_below w basis r c is i place in
       pair_is_there (swap_closed (members basis)) i (step_at c i).j (step_at c i).k (record { j_from = below.j_from; j_below = below.j_below; k_from = below.k_from; k_below = below.k_below })
-      (λ closed. reduced.operands_rise closed (i - (c.n + 1)) (step_at c i) (step_there w basis r (ssv_layout basis (sizes_of w r)) c is i place));
+      (λ closed. reduced.operands_rise closed (i - (c.n + 1)) (step_at c i) (step_there w basis r c is i place));
 }
 
 -- Where a chain of r steps over the basis agrees and none of fewer steps does, the formula is
