@@ -17,3 +17,7 @@ pub mod CutClauses
 pub mod ByPairs
 pub mod Ssv
 pub mod Fence
+pub mod SelectVars
+pub mod Chooses
+pub mod ChosenSteps
+pub mod ChosenBits
