@@ -1,15 +1,14 @@
 -- What the clauses of a chain whose steps choose each operand by itself say of an assignment:
 -- properties and clauses come to the same.
-use Rattle.std.proofs.Common.{◌≡◌, ℕ, ◌+◌, ◌-◌, ◌^◌, ◌<◌, ◌≤◌, Bool, true, false, not, ◌||◌, List, [], ◌∷◌, ◌++◌, map, Contains, refl, sym, ap, ◌∙◌, arith}
-use Rattle.std.specs.List.{range_with_len, list_any}
+use Rattle.std.proofs.Common.{◌≡◌, ℕ, ◌-◌, ◌^◌, ◌<◌, ◌≤◌, Bool, true, false, not, ◌||◌, map, Contains, refl, sym, ◌∙◌, arith}
+use Rattle.std.specs.List.{list_any}
 use Rattle.sat_theory.specs.Formula.{Assignment}
 use Rattle.tt_core.specs.Words.{Words}
-use Rattle.enc_theory.specs.declared.data.Raw.TheVariants.{Var}
 use Rattle.enc_theory.specs.declared.data.Side.{Side}
 use Rattle.enc_theory.specs.declared.data.Side.TheVariants.{First, Second}
 use Rattle.enc_theory.specs.declared.data.Sizes.{Sizes}
 use Rattle.enc_theory.specs.Clauses.{written}
-use Rattle.enc_theory.specs.Numbering.{places, rows, f_var, x_is}
+use Rattle.enc_theory.specs.Numbering.{places, rows, f_var}
 use Rattle.enc_theory.specs.Families.{out_exists, out_values, operators}
 use Rattle.enc_theory.specs.Select.{choice_var, value_var, below, chooses, choice_exists, choices_exist, operands_exist, copy_raw, copy_row, copy_place, copy_step, copies, result_raw, result_clause, result_bit, result_row, result_step, results, chosen_chain}
 use Rattle.enc_laws.specs.Holds.{holds, holds_both, both_hold, holds_each, each_holds, same, raw_value, raws_bit, raws_bit-map, holds-written, positive-map, any_get, any_make, range_contains, range_inside}

@@ -1,5 +1,5 @@
 -- What a chain makes of the variables, where steps choose each operand by itself.
-use Rattle.std.proofs.Common.{◌≡◌, ℕ, ◌+◌, ◌-◌, ◌*◌, ◌/◌, ◌%◌, ◌^◌, ◌<◌, ◌≤◌, ◌==◌, Bool, true, false, ◌||◌, List, length, refl, sym, ap, ◌∙◌, arith, ⊎_elim}
+use Rattle.std.proofs.Common.{◌≡◌, ℕ, ◌+◌, ◌-◌, ◌*◌, ◌/◌, ◌%◌, ◌^◌, ◌<◌, ◌==◌, Bool, true, ◌||◌, length, refl, sym, ap, ◌∙◌, arith, ⊎_elim}
 use Rattle.std.specs.Prelude.{if◌then◌else◌, nat_lt}
 use Rattle.std.specs.List.{list_any}
 use Rattle.std.proofs.lemmas.Bool.{lt-ltb, le-ltb, or_left, or_right, or_cases, eqb-true, eq-eqb}
@@ -11,11 +11,11 @@ use Rattle.tt_core.specs.Words.{Words}
 use Rattle.enc_theory.specs.declared.data.Side.{Side}
 use Rattle.enc_theory.specs.declared.data.Side.TheVariants.{First, Second}
 use Rattle.enc_theory.specs.declared.data.Sizes.{Sizes}
-use Rattle.enc_theory.specs.Numbering.{sizes_of, places, f_var, s_first}
+use Rattle.enc_theory.specs.Numbering.{sizes_of, places}
 use Rattle.enc_theory.specs.Select.{choice_var, value_first, value_var}
 use Rattle.enc_laws.specs.Holds.{any_get, any_make}
 use Rattle.enc_laws.specs.Layouts.{IsStepPlace}
-use Rattle.enc_laws.specs.Solves.{x_bit, place_there, there_place}
+use Rattle.enc_laws.specs.Solves.{place_there, there_place}
 use Rattle.enc_laws.specs.Decoded.{IsFor}
 use Rattle.enc_laws.specs.Complete.{step_at, chain_bits, IsOfChain, bits_of_chain, bits_behind, HasStepOuts, bits_are, chain_meets, step_below, step_has_value}
 use Rattle.enc_laws.specs.SelectVars.{IsBelow, choice_from, choice_below, choice_once, row_low, value_behind}

@@ -1,12 +1,12 @@
 -- What an assignment spells, where steps choose each operand by itself, is a chain that agrees.
-use Rattle.std.proofs.Common.{◌≡◌, ℕ, ◌+◌, ◌-◌, ◌^◌, ◌<◌, ◌≤◌, Bool, true, false, ◌||◌, List, [], ◌∷◌, length, map, get_or, Some, Contains, refl, sym, ap, ◌∙◌, arith}
+use Rattle.std.proofs.Common.{◌≡◌, ℕ, ◌+◌, ◌^◌, ◌<◌, Bool, true, false, ◌||◌, List, [], ◌∷◌, map, get_or, Some, Contains, refl, sym, ap, ◌∙◌, arith}
 use Rattle.std.specs.Prelude.{if◌then◌else◌, slice_get}
-use Rattle.std.specs.List.{list_any, range_with_len}
+use Rattle.std.specs.List.{list_any}
 use Rattle.std.proofs.lemmas.Option.{slice_get-map, slice_get-get_or, slice_get_within, get_or_from_slice_get}
 use Rattle.std.proofs.lemmas.List.{length-map}
 use Rattle.std.proofs.lemmas.List.FromFn.{length-range_with_len, get_or-range_with_len}
 use Rattle.chain_theory.specs.Operator.{apply}
-use Rattle.chain_theory.specs.Chain.{Step, Chain}
+use Rattle.chain_theory.specs.Chain.{Step}
 use Rattle.chain_theory.specs.Agreement.{IsOver}
 use Rattle.chain_theory.specs.declared.data.Out.{Out}
 use Rattle.op_basis.specs.Basis.{members}
@@ -24,7 +24,7 @@ use Rattle.enc_laws.specs.Layouts.{IsStepPlace}
 use Rattle.enc_laws.specs.Solves.{x_bit}
 use Rattle.enc_laws.specs.Sound.{IsSpelled, bearer_place, bearer_met, made_from}
 use Rattle.enc_laws.specs.SelectVars.{IsBelow}
-use Rattle.enc_laws.specs.Chooses.{Chooses, below_there, there_below, is_below}
+use Rattle.enc_laws.specs.Chooses.{Chooses, below_there, is_below}
 
 -- the first place whose variable is true
 pub record IsFirstChoice (z : Sizes) (v : Assignment) (side : Side) (i : ℕ) (js : List ℕ) (j : ℕ) : Type 0 where

@@ -1,17 +1,13 @@
 -- A reduced chain satisfies the cuts.
 use Rattle.std.proofs.Common.{◌≡◌, ℕ, suc, ◌+◌, ◌-◌, ◌<◌, ◌≤◌, ◌==◌, Bool, true, false, not, List, [], ◌∷◌, ◌++◌, length, map, get_or, Contains, refl, sym, ap, ◌∙◌, subst, arith, inl, inr, ⊎_elim}
-use Rattle.std.specs.Prelude.{ℤ, if◌then◌else◌}
+use Rattle.std.specs.Prelude.{if◌then◌else◌}
 use Rattle.std.specs.List.{flat_map, range_with_len}
 use Rattle.std.proofs.lemmas.Bool.{cases_eq, or_left, or_right, eqb-true, eq-eqb, cases_lt}
-use Rattle.std.proofs.lemmas.Nat.{pow_pos}
 use Rattle.std.proofs.lemmas.Option.{slice_get-get_or, slice_get_within, get_or_from_slice_get}
-use Rattle.std.proofs.lemmas.List.{get_or_default}
 use Rattle.std.proofs.lemmas.List.Elements.{Contains-get_or}
 use Rattle.chain_theory.specs.Chain.{Step, Chain}
-use Rattle.chain_theory.specs.Value.{value}
-use Rattle.chain_theory.specs.declared.data.Out.TheVariants.{Zero, Place}
 use Rattle.op_basis.specs.Basis.{members}
-use Rattle.op_basis.specs.Closed.{const_closed, polarity_closed, reapply_closed}
+use Rattle.op_basis.specs.Closed.{const_closed, reapply_closed}
 use Rattle.chain_laws.specs.Reduced.{IsStep, IsOut, IsRead, Reads, AppliesAgain, IsReduced, NegatesBoth, IsNegation}
 use Rattle.sat_theory.specs.Formula.{Assignment}
 use Rattle.tt_core.specs.Symmetry.{IsSymmetric}
@@ -21,15 +17,14 @@ use Rattle.enc_theory.specs.declared.data.Raw.TheVariants.{Var}
 use Rattle.enc_theory.specs.declared.data.Sizes.{Sizes}
 use Rattle.enc_theory.specs.declared.data.Slot.{Slot}
 use Rattle.enc_theory.specs.Clauses.{written}
-use Rattle.enc_theory.specs.Numbering.{sizes_of, places, outputs, g_var, f_var, x_is}
+use Rattle.enc_theory.specs.Numbering.{sizes_of, outputs, f_var}
 use Rattle.enc_theory.specs.Pairs.{StepSlots}
-use Rattle.enc_theory.specs.Families.{bearer, chosen, operator_raw}
-use Rattle.enc_theory.specs.Cuts.{bears, reads, reader, readers, used_by, used, other_operator, idle_operators, not_idle, equal_raw, equal_slot, equal_pair, negation_raw, negations, not_trivial_at, not_trivial, comes_before, not_both, order_pair, order_slot, order_with, order, applies_again, again_pair, again_slot, has_place, reading, again_later, again_all, again, may_exchange, reads_without, reader_without, readers_without, exchange_slot, exchange_steps, exchange_pair, exchange_with, exchange, row_0_at, row_0, cuts}
-use Rattle.enc_laws.specs.Bounds.{g_positive, f_positive, slot_positive}
-use Rattle.enc_laws.specs.Holds.{holds, both_hold, each_holds, same, raw_value, raws_bit, raws_bit-append, raws_make, raws_bit-map, any_make, holds-written, ArePositive, positive-map, positive-append, positive-flat_map, contains_head, contains_cases, filter_get, flat_map_make, range_contains, range_inside}
+use Rattle.enc_theory.specs.Families.{chosen, operator_raw}
+use Rattle.enc_theory.specs.Cuts.{bears, reads, reader, readers, used_by, used, not_idle, equal_raw, equal_slot, equal_pair, negation_raw, negations, not_trivial_at, not_trivial, comes_before, not_both, order_pair, order_slot, order_with, order, applies_again, again_pair, again_slot, has_place, reading, again_later, again_all, again, may_exchange, reads_without, reader_without, readers_without, exchange_slot, exchange_steps, exchange_pair, exchange_with, exchange, row_0, cuts}
+use Rattle.enc_laws.specs.Bounds.{f_positive, slot_positive}
+use Rattle.enc_laws.specs.Holds.{holds, both_hold, each_holds, same, raw_value, raws_bit, raws_bit-append, raws_make, holds-written, ArePositive, positive-append, positive-flat_map, contains_head, contains_cases, filter_get, flat_map_make, range_inside}
 use Rattle.enc_laws.specs.Layouts.{IsStepPlace, IsSlotOf, laid_is_place}
-use Rattle.enc_laws.specs.Live.{out_at}
-use Rattle.enc_laws.specs.Solves.{x_bit, x_is_value, x_is_positive, there_place, differs_from, has_own}
+use Rattle.enc_laws.specs.Solves.{differs_from}
 use Rattle.enc_laws.specs.Complete.{step_at, assignment_of, pair_test, test_pair, slot_true, true_slot, IsOfChain, of_pairs, v_s, step_there, operator_is}
 use Rattle.enc_laws.specs.OwnCuts.{step_index, bears_positive, bears_bit, idle_holds, row_0_holds}
 use Rattle.enc_laws.specs.Rests.{IsRest, rest_all, rest_head, rest_tail, rest_place, IsPlaced}

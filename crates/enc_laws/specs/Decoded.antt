@@ -1,6 +1,5 @@
 -- The chain that an assignment spells, for tables of which some outputs cost nothing.
-use Rattle.std.proofs.Common.{◌≡◌, ℕ, true, List, length, map, refl, sym, ap, ◌∙◌, subst}
-use Rattle.std.proofs.lemmas.List.{length-map}
+use Rattle.std.proofs.Common.{◌≡◌, ℕ, true, List, length, map, refl, sym, ap, subst}
 use Rattle.chain_theory.specs.Chain.{Step, Chain, IsChain}
 use Rattle.chain_theory.specs.Agreement.{Agrees, IsOver, HasChain}
 use Rattle.chain_theory.specs.declared.data.Out.{Out}

@@ -21,3 +21,6 @@ pub mod SelectVars
 pub mod Chooses
 pub mod ChosenSteps
 pub mod ChosenBits
+pub mod ChosenCuts
+pub mod ChosenClauses
+pub mod Select

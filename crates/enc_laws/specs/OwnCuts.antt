@@ -1,7 +1,7 @@
 -- A reduced chain satisfies the cuts that speak of outputs, operators and values alone, however steps
 -- get their operands.
 use Rattle.std.proofs.Common.{◌≡◌, ℕ, ◌+◌, ◌-◌, ◌<◌, ◌≤◌, Bool, true, false, List, [], ◌∷◌, ◌++◌, length, map, get_or, refl, sym, ap, ◌∙◌, subst, arith, inl, inr, ⊎_elim}
-use Rattle.std.specs.Prelude.{ℤ, slice_get, Some}
+use Rattle.std.specs.Prelude.{ℤ}
 use Rattle.std.specs.List.{flat_map}
 use Rattle.std.proofs.lemmas.Bool.{or_left, or_right}
 use Rattle.std.proofs.lemmas.Nat.{pow_pos}
@@ -19,7 +19,7 @@ use Rattle.enc_theory.specs.declared.data.Sizes.{Sizes}
 use Rattle.enc_theory.specs.Clauses.{written}
 use Rattle.enc_theory.specs.Numbering.{sizes_of, places, outputs, g_var, x_is}
 use Rattle.enc_theory.specs.Families.{bearer, operator_raw}
-use Rattle.enc_theory.specs.Cuts.{bears, other_operator, idle_operators, not_idle, row_0_at, row_0}
+use Rattle.enc_theory.specs.Cuts.{bears, other_operator, not_idle, row_0_at, row_0}
 use Rattle.enc_laws.specs.Bounds.{g_positive}
 use Rattle.enc_laws.specs.Holds.{holds, both_hold, each_holds, same, raw_value, raws_bit, raws_bit-map, any_make, holds-written, ArePositive, positive-map, range_contains}
 use Rattle.enc_laws.specs.Layouts.{IsStepPlace}

@@ -10,9 +10,8 @@ use Rattle.sat_theory.specs.Formula.{IsFormula, Assignment, Satisfies}
 use Rattle.tt_core.specs.Words.{Words, specification}
 use Rattle.tt_core.specs.Live.{live_words}
 use Rattle.enc_theory.specs.Clauses.{IsSatisfiable}
-use Rattle.enc_theory.specs.Numbering.{sizes_of}
 use Rattle.enc_theory.specs.Pairs.{pairs_below}
-use Rattle.enc_theory.specs.Ssv.{ssv_layout, ssv_live, ssv_formula, ssv_decoded}
+use Rattle.enc_theory.specs.Ssv.{ssv_live, ssv_formula, ssv_decoded}
 use Rattle.enc_laws.specs.Layouts.{AreBelow, pairs_are_below, pair_is_there}
 use Rattle.enc_laws.specs.Decoded.{IsFor, for_is_there}
 use Rattle.enc_laws.specs.Complete.{step_at, step_below, step_there}

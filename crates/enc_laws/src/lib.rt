@@ -1,12 +1,20 @@
 //! What the encodings' clauses have to do with chains: an assignment that satisfies the formula of a
 //! size spells a chain of that size over the basis that agrees with the tables, and a chain that
-//! agrees satisfies the plain formula; with cuts some chain of the least size does. This crate has no code; its `specs/` are lemmas on the definitions
-//! of `enc_theory`, and the encodings' own crates show their promises by them.
+//! agrees satisfies the plain formula; with cuts some chain of the least size does. This crate has no
+//! code; its `specs/` are lemmas on the definitions of `enc_theory`, and the encodings' own crates show
+//! their promises by them.
 //!
 //! `Holds` takes the truth of written clauses and of comprehensions apart. `Solves` says what the
 //! clauses of a chain come to as properties of an assignment, both ways. `Sound` and `Decoded` go
 //! from there to the chain that an assignment spells, `Built` and `Complete` from a chain to its
 //! assignment, both whatever pairs the steps may have. `Live` ties the live part of tables to the
-//! whole. `Cuts` and `CutClauses` lead from a reduced chain to the cuts, `ByPairs` has what
-//! encodings by pairs share, and `Laws`, `Ssv` and `Fence` have the laws of the encodings.
+//! whole. `Cuts` and `CutClauses` lead from a reduced chain to the cuts, `OwnCuts` to those that no
+//! operand is in, `ByPairs` has what encodings by pairs share, and `Laws`, `Ssv` and `Fence` have the
+//! laws of these encodings.
+//!
+//! Where steps choose each operand by itself, `SelectVars` has the numbers of variables, `Chooses` the
+//! properties, `ChosenSteps` the chain that is spelled, `ChosenBits` the assignment of a chain,
+//! `ChosenCuts` and `ChosenClauses` the cuts, and `Select` the laws. What these share with the
+//! encodings by pairs (outputs, operators, the variables of both, and from spelled steps to a chain
+//! that agrees) is used from the files above.
 #![tactic(auto)]
