@@ -1,5 +1,5 @@
 -- One reader behind another.
-use Rattle.std.proofs.Common.{◌≡◌, Result, Ok, Err, Bool, true, false, cond, ℕ, Option, Some, None, refl, ap, ◌∙◌, sym}
+use Rattle.std.proofs.Common.{◌≡◌, Result, Ok, Err, Bool, true, false, cond, ℕ, Option, Some, None, refl, ap, ◌∙◌}
 use Rattle.cert_theory.specs.declared.data.BundleError.{BundleError}
 use Rattle.cert_theory.specs.declared.data.BundleError.TheVariants.{Syntax, SizeOutOfOrder, StepRefused, NotRefuted, ChainDiffers, OperatorNotInBasis, OpenTooShort, NotNew, WrongVerdict, Memory}
 use Rattle.cert_theory.specs.Judging.{◌>>=◌, or_syntax}

@@ -1,25 +1,23 @@
 -- Bundles, as they are read.
-use Rattle.std.proofs.Common.{◌≡◌, ℕ, ◌+◌, ◌<◌, ◌≤◌, true, List, [], ◌∷◌, ◌++◌, length, Option, Some, None, Result, Ok, Err, refl, sym, ap, ◌∙◌, subst, arith, zero-add, append_assoc}
+use Rattle.std.proofs.Common.{◌≡◌, ℕ, ◌+◌, ◌<◌, ◌≤◌, true, List, [], ◌∷◌, ◌++◌, length, None, Ok, refl, sym, ap, ◌∙◌, subst, arith, zero-add, append_assoc}
 use Rattle.std.specs.Prelude.{codes}
 use Rattle.std.specs.List.{flat_map}
-use Rattle.text_core.specs.Lines.{Line, lines_of, line_bytes}
+use Rattle.text_core.specs.Lines.{Line, lines_of}
 use Rattle.text_core.specs.ReadBack.{lines_spell}
 use Rattle.tt_core.specs.Words.{Words, IsSpec}
 use Rattle.tt_core.specs.Tables as tables
-use Rattle.tt_core.specs.declared.error.SpecError.{SpecError}
 use Rattle.enc_theory.specs.declared.data.Method.{Method}
 use Rattle.chain_core.specs.Spelling.{line}
 use Rattle.cert_theory.specs.declared.data.Heading.{Heading}
 use Rattle.cert_theory.specs.declared.data.Verdict.{Verdict}
-use Rattle.cert_theory.specs.declared.data.BundleError.{BundleError}
 use Rattle.cert_theory.specs.declared.data.BundleError.TheVariants.{Syntax}
 use Rattle.cert_theory.specs.Coding.{is_built}
-use Rattle.cert_theory.specs.Bundle.{Bundle, IsHeading, AreSections, first_open, IsEnding, IsValid, HasOutput}
-use Rattle.cert_theory.specs.Spelling.{first_text, basis_line, method_line, conflicts_line, max_line, tables_lines, heading_lines, section_lines, ending_lines, bundle_lines, text_of, IsBundle, HasVerdict}
-use Rattle.cert_theory.specs.Judging.{◌>>=◌, or_syntax, as_syntax, table_place, is_line, basis_in, method_in, conflicts_in, max_in, beginning, sections_of, behind_conflicts, behind_method, behind_basis, behind_tables, with_tables, bundle_of, Between}
+use Rattle.cert_theory.specs.Bundle.{Bundle, first_open, IsEnding, IsValid, HasOutput}
+use Rattle.cert_theory.specs.Spelling.{first_text, basis_line, method_line, conflicts_line, max_line, tables_lines, section_lines, ending_lines, bundle_lines, text_of, HasVerdict}
+use Rattle.cert_theory.specs.Judging.{or_syntax, as_syntax, table_place, is_line, basis_in, method_in, conflicts_in, max_in, behind_conflicts, behind_method, behind_basis, behind_tables, with_tables, bundle_of, Between}
 use Rattle.cert_theory.proofs.Binds.{bind_ok, test_ok, read_ok}
 use Rattle.cert_theory.proofs.LineSpellings.{as_ok, is_line_spells, basis_spells, method_spells, conflicts_spells, max_spells}
-use Rattle.cert_theory.proofs.TableSpellings.{ReadTables, tables_read}
+use Rattle.cert_theory.proofs.TableSpellings.{tables_read}
 use Rattle.cert_theory.proofs.SectionSpellings.{Rest, sections_spell}
 
 -- what is read behind the tables

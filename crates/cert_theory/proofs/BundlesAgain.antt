@@ -1,34 +1,31 @@
 -- Bundles that were written are read again.
-use Rattle.std.proofs.Common.{◌≡◌, ◌⊎◌, ℕ, zero, suc, ◌+◌, ◌^◌, ◌<◌, ◌≤◌, Bool, true, false, cond, List, [], ◌∷◌, ◌++◌, length, map, get_or, drop, Option, Some, None, Result, Ok, Err, refl, sym, ap, ◌∙◌, subst, arith, inl, inr, append_assoc, append-nil, zero-add}
+use Rattle.std.proofs.Common.{◌≡◌, ℕ, zero, suc, ◌+◌, ◌^◌, ◌<◌, ◌≤◌, Bool, true, false, cond, List, [], ◌∷◌, ◌++◌, length, map, drop, Option, Some, None, Ok, Err, refl, sym, ap, ◌∙◌, subst, arith, append_assoc, append-nil, zero-add}
 use Rattle.std.specs.Prelude.{codes, slice_get}
-use Rattle.std.specs.List.{flat_map, range_with_len, find}
+use Rattle.std.specs.List.{flat_map, range_with_len}
 use Rattle.std.proofs.Math.Logic.{⊎_elim}
 use Rattle.std.proofs.lemmas.List.FromFn.{length-map-range_with_len, get_or-map-range_with_len}
 use Rattle.text_core.specs.Lines.{Line, lines_from, lines_of}
 use Rattle.text_core.specs.Words.{begins_lower}
 use Rattle.chain_theory.specs.Chain.{Chain}
 use Rattle.sat_theory.specs.State.{start}
-use Rattle.tt_core.specs.Words.{Words, IsSpec, specification, cell_of}
-use Rattle.tt_core.specs.Spelling.{character, header_line, IsTableLine, SpellsTables}
+use Rattle.tt_core.specs.Words.{Words, specification, cell_of}
+use Rattle.tt_core.specs.Spelling.{character, IsTableLine, SpellsTables}
 use Rattle.tt_core.specs.Tables as tables
-use Rattle.tt_core.specs.declared.error.SpecError.{SpecError}
 use Rattle.tt_core.proofs.Again.{tables_again}
-use Rattle.chain_core.specs.Spelling.{line, chain_lines}
+use Rattle.chain_core.specs.Spelling.{line}
 use Rattle.enc_theory.specs.declared.data.Method.{Method}
 use Rattle.cert_theory.specs.declared.data.Heading.{Heading}
 use Rattle.cert_theory.specs.declared.data.Verdict.{Verdict}
-use Rattle.cert_theory.specs.declared.data.Verdict.TheVariants as verdicts
-use Rattle.cert_theory.specs.declared.data.BundleError.{BundleError}
 use Rattle.cert_theory.specs.declared.data.BundleError.TheVariants.{Syntax}
-use Rattle.cert_theory.specs.Bundle.{Section, Bundle, IsHeading, AreSections, IsSection, is_open, size_of, first_open, found, not_found, IsEnding, IsValid, HasOutput}
-use Rattle.cert_theory.specs.Spelling.{first_text, table_text, table_line, tables_lines, basis_line, method_line, conflicts_line, max_line, heading_lines, size_line, ended_text, done_text, log_line, section_lines, block_lines, verdict_line, end_text, ending_lines, bundle_lines, text_of, bundle_text, IsBundle}
-use Rattle.cert_theory.specs.Judging.{◌>>=◌, or_syntax, as_syntax, table_place, is_line, basis_in, method_in, conflicts_in, max_in, beginning, whole_of, sections_of, behind_conflicts, behind_method, behind_basis, behind_tables, with_tables, bundle_of}
+use Rattle.cert_theory.specs.Bundle.{Section, Bundle, IsHeading, AreSections, IsSection, is_open, first_open, IsEnding, IsValid, HasOutput}
+use Rattle.cert_theory.specs.Spelling.{table_text, table_line, tables_lines, basis_line, method_line, conflicts_line, max_line, heading_lines, size_line, ended_text, done_text, log_line, section_lines, block_lines, verdict_line, ending_lines, bundle_lines, bundle_text, IsBundle}
+use Rattle.cert_theory.specs.Judging.{◌>>=◌, or_syntax, beginning, whole_of, sections_of, behind_conflicts, behind_method, behind_basis, behind_tables, with_tables, bundle_of}
 use Rattle.cert_theory.proofs.LineSpellings.{is_line_back, some_is}
 use Rattle.cert_theory.proofs.LinesAgain.{basis_again, method_again, conflicts_again, max_again}
 use Rattle.cert_theory.proofs.Meanings.{open_cases}
-use Rattle.cert_theory.proofs.SectionSpellings.{low_or, section_of, section_text}
+use Rattle.cert_theory.proofs.SectionSpellings.{section_of, section_text}
 use Rattle.cert_theory.proofs.SectionsAgain.{small_chain}
-use Rattle.cert_theory.proofs.SectionLists.{Sole, sole_of, log_holds, sections_again}
+use Rattle.cert_theory.proofs.SectionLists.{sole_of, log_holds, sections_again}
 use Rattle.cert_theory.proofs.WholeTexts.{IsWhole, whole_none, whole_both, whole_cons, whole_block, whole_heading, whole_lines, whole_ended, whole_done, whole_end, whole_size, IsShort, whole_verdict}
 
 -- ---- tables

@@ -1,15 +1,13 @@
 -- The searches that judge a chain find what the definitions say.
-use Rattle.std.proofs.Common.{◌≡◌, ℕ, zero, suc, ◌+◌, ◌^◌, ◌<◌, ◌≤◌, ◌⊎◌, Bool, true, false, cond, List, [], ◌∷◌, ◌++◌, length, Option, Some, None, refl, sym, ap, ◌∙◌, subst, arith, inl, inr}
+use Rattle.std.proofs.Common.{◌≡◌, ℕ, zero, suc, ◌+◌, ◌^◌, ◌<◌, ◌≤◌, Bool, true, false, cond, List, [], ◌∷◌, ◌++◌, length, Option, Some, None, refl, sym, ap, ◌∙◌, subst, arith, inl, inr}
 use Rattle.std.specs.List.{AllByRecursion}
-use Rattle.std.proofs.lemmas.Grind.{common_steps}
-use Rattle.std.proofs.Math.Logic.{⊎_elim}
-use Rattle.std.proofs.lemmas.Bool.{cases_Bool, cases_lt}
+use Rattle.std.proofs.lemmas.Bool.{cases_lt}
 use Rattle.std.proofs.lemmas.List.Elements.{recursion_from_All}
 use Rattle.chain_theory.specs.Operator.{Basis}
 use Rattle.chain_theory.specs.Specification.{Specification}
 use Rattle.chain_theory.specs.Chain.{Step, Chain}
-use Rattle.chain_theory.specs.Agreement.{is_met, output_value, Agrees}
-use Rattle.chain_theory.specs.Difference.{IsFirstDifference, IsComparison}
+use Rattle.chain_theory.specs.Agreement.{is_met, output_value}
+use Rattle.chain_theory.specs.Difference.{IsComparison}
 use Rattle.chain_theory.specs.DifferenceLaws.{one_comparison}
 use Rattle.chain_core.specs.Outside.{IsJudged, outside_from}
 use Rattle.cert_theory.specs.Difference.{missed_row, or_later, missed_output, difference_of}

@@ -1,12 +1,11 @@
 -- The clauses of a log's states.
-use Rattle.std.proofs.Common.{◌≡◌, ◌⊎◌, ℕ, ◌-◌, ◌==◌, ℤ, Bool, true, false, cond, List, [], ◌∷◌, Option, Some, None, refl, sym, ap, ◌∙◌, subst, inl, inr}
-use Rattle.std.specs.Prelude.{slice_get}
+use Rattle.std.proofs.Common.{◌≡◌, ◌==◌, ℤ, true, false, List, Some, None, subst}
 use Rattle.std.proofs.Math.Logic.{⊎_elim}
 use Rattle.std.proofs.lemmas.List.Elements.{All-contains}
 use Rattle.sat_theory.specs.Formula.{Formula, IsClause, IsFormula}
 use Rattle.sat_theory.specs.Line.{Line, Add, Delete}
-use Rattle.sat_theory.specs.State.{State, by_id, start, next, is_listed}
-use Rattle.sat_theory.specs.Log.{IsStep, EachLine, after}
+use Rattle.sat_theory.specs.State.{State, start, next, is_listed}
+use Rattle.sat_theory.specs.Log.{IsStep}
 use Rattle.sat_theory.specs.Soundness.{by_id-Contains}
 use Rattle.lrat_check.specs.Live.{AreClauses}
 use Rattle.cert_theory.proofs.LineSpellings.{chosen, some_is}

@@ -1,5 +1,5 @@
 -- The test for the empty clause.
-use Rattle.std.proofs.Common.{◌≡◌, ◌↔◌, ℤ, ◌||◌, ◌⊎◌, Bool, true, false, List, [], ◌∷◌, length, Any, Contains, refl, sym, ap, ◌∙◌, subst, inl, inr, arith, get_or, ◌<◌}
+use Rattle.std.proofs.Common.{◌≡◌, ℤ, ◌||◌, Bool, true, false, List, [], ◌∷◌, Any, Contains, refl, sym, ap, subst, inl, inr, arith, get_or}
 use Rattle.std.proofs.Math.Logic.{⊎_elim}
 use Rattle.std.proofs.lemmas.Bool.{or_cases}
 use Rattle.std.proofs.lemmas.Bool.Decides.{nat_tests}

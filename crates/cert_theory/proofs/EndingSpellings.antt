@@ -1,5 +1,5 @@
 -- The ending, as it is read.
-use Rattle.std.proofs.Common.{◌≡◌, ◌⊎◌, ℕ, zero, suc, ◌+◌, ◌^◌, ◌<◌, ◌≤◌, ◌&&◌, ◌==◌, Bool, true, false, cond, List, [], ◌∷◌, ◌++◌, length, Option, Some, None, Result, Ok, Err, refl, sym, ap, ap₂, ◌∙◌, subst, arith, inl, inr, append_assoc}
+use Rattle.std.proofs.Common.{◌≡◌, ℕ, ◌+◌, ◌≤◌, ◌&&◌, ◌==◌, Bool, true, false, List, [], ◌∷◌, ◌++◌, length, Option, Some, None, Result, Ok, refl, sym, ap, ◌∙◌, subst, arith}
 use Rattle.std.specs.Prelude.{codes, decimal, option_and_then, nat_le}
 use Rattle.std.specs.List.{join_with_byte}
 use Rattle.std.specs.Option.{option_map}
@@ -11,28 +11,25 @@ use Rattle.std.proofs.lemmas.Option.{option_and_then_some}
 use Rattle.text_core.specs.Lines.{Line}
 use Rattle.text_core.specs.Items.{items_of}
 use Rattle.text_core.specs.ReadBack.{number_spells, items_spell}
-use Rattle.chain_theory.specs.Chain.{Chain, IsChain}
+use Rattle.chain_theory.specs.Chain.{Chain}
 use Rattle.chain_theory.specs.Agreement.{Agrees, IsOver}
 use Rattle.chain_theory.specs.Difference.{IsComparison}
 use Rattle.tt_core.specs.Words.{specification}
 use Rattle.op_basis.specs.Basis.{members}
 use Rattle.chain_core.specs.declared.frame.Frame.{Frame}
-use Rattle.chain_core.specs.declared.error.ChainError.{ChainError}
-use Rattle.chain_core.specs.Block as block
 use Rattle.chain_core.specs.Block.{number_in, counted, count_at, body_from, chain_of}
 use Rattle.text_core.specs.Words.{after}
 use Rattle.chain_core.specs.Outside.{outside_from}
 use Rattle.chain_core.specs.Spelling.{line, count_text, chain_lines}
 use Rattle.chain_core.proofs.StepSearch.{judged}
-use Rattle.chain_core.proofs.WrittenBlocks.{ReadLines, lines_spelled}
+use Rattle.chain_core.proofs.WrittenBlocks.{lines_spelled}
 use Rattle.chain_core.proofs.WrittenLines.{count_back}
 use Rattle.cert_theory.specs.declared.data.Heading.{Heading}
 use Rattle.cert_theory.specs.declared.data.Verdict.{Verdict}
 use Rattle.cert_theory.specs.declared.data.Verdict.TheVariants as verdicts
 use Rattle.cert_theory.specs.declared.data.BundleError.{BundleError}
-use Rattle.cert_theory.specs.Bundle.{found, not_found, IsFound, IsEnding}
+use Rattle.cert_theory.specs.Bundle.{found, not_found, IsEnding}
 use Rattle.cert_theory.specs.Spelling.{verdict_line, end_text, ending_lines}
-use Rattle.cert_theory.specs.Difference.{difference_of}
 use Rattle.cert_theory.specs.Judging.{◌>>=◌, or_syntax, as_syntax, is_line, begins, value_of, is_same, number_behind, both, bounded_in, found_in, not_found_in, follows, nothing_behind, end_of, behind_chain, chain_place, steps_at, frame_of, or_differs, or_outside, chain_judged, with_block, chain_at, no_chain_at, ending_at}
 use Rattle.cert_theory.proofs.Binds.{bind_ok, test_ok, read_ok}
 use Rattle.cert_theory.proofs.BlockReads.{chain_read}

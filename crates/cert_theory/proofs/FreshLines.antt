@@ -1,17 +1,16 @@
 -- The test for new clauses.
-use Rattle.std.proofs.Common.{◌≡◌, ◌↔◌, ◌⊎◌, ℕ, zero, suc, ◌+◌, ◌-◌, ◌<◌, ◌≤◌, ◌&&◌, ℤ, not, ◌==◌, cond, Bool, true, false, List, [], ◌∷◌, length, All, Contains, Option, Some, None, refl, sym, ap, ◌∙◌, subst, inl, inr, arith}
+use Rattle.std.proofs.Common.{◌≡◌, ◌↔◌, ◌⊎◌, ℕ, zero, suc, ◌+◌, ◌-◌, ◌<◌, ◌≤◌, ◌&&◌, ℤ, not, ◌==◌, cond, Bool, true, false, List, [], ◌∷◌, All, Contains, Option, Some, None, refl, sym, ap, ◌∙◌, inl, inr, arith}
 use Rattle.std.proofs.Math.Logic.{⊎_elim}
-use Rattle.std.proofs.lemmas.Grind.{common_steps}
-use Rattle.std.proofs.lemmas.Bool.{cases_Bool, cases_lt}
+use Rattle.std.proofs.lemmas.Bool.{cases_lt}
 use Rattle.std.proofs.lemmas.Bool.Decides.{nat_tests}
-use Rattle.std.proofs.lemmas.List.Elements.{All-nil, All-cons, All-from_recursion, recursion_from_All}
+use Rattle.std.proofs.lemmas.List.Elements.{All-from_recursion, recursion_from_All}
 use Rattle.std.proofs.lemmas.Option.{slice_get_within}
 use Rattle.std.specs.Prelude.{slice_get}
 use Rattle.std.specs.List.{list_all, AllByRecursion}
 use Rattle.sat_theory.specs.Formula.{Formula}
 use Rattle.sat_theory.specs.Line.{Line, Add, Delete}
-use Rattle.sat_theory.specs.State.{State, by_id, start, next, is_listed}
-use Rattle.sat_theory.specs.Holding.{among, Holds}
+use Rattle.sat_theory.specs.State.{State, start, next, is_listed}
+use Rattle.sat_theory.specs.Holding.{among}
 use Rattle.sat_theory.specs.Log.{IsStep, EachLine, after, IsNew, IsFresh}
 use Rattle.sat_theory.specs.Soundness.{Contains-from_among, among-from_Contains}
 use Rattle.cert_theory.specs.Judging.{is_within, is_new_below, is_fresh, state_after}

@@ -1,9 +1,7 @@
 -- Single lines, as they are read and as they are written.
-use Rattle.std.proofs.Common.{◌≡◌, ◌⊎◌, ℕ, zero, suc, ◌+◌, ◌^◌, ◌<◌, ◌≤◌, ◌&&◌, ◌==◌, Bool, true, false, cond, List, [], ◌∷◌, ◌++◌, length, Option, Some, None, Result, Ok, Err, refl, sym, ap, ◌∙◌, subst, arith, inl, inr}
-use Rattle.std.specs.Prelude.{codes, decimal, option_and_then, is_some, if◌then◌else◌}
+use Rattle.std.proofs.Common.{◌≡◌, ◌⊎◌, ℕ, zero, suc, ◌^◌, ◌<◌, ◌≤◌, ◌&&◌, Bool, true, false, cond, List, ◌++◌, Option, Some, None, Result, Ok, Err, refl, sym, ap, ◌∙◌, subst, arith, inl, inr}
+use Rattle.std.specs.Prelude.{codes, decimal, option_and_then}
 use Rattle.std.specs.Str.{bytes_eq}
-use Rattle.std.specs.List.{join_with_byte}
-use Rattle.std.specs.Option.{option_map}
 use Rattle.std.proofs.Math.Logic.{⊎_elim}
 use Rattle.std.proofs.lemmas.Grind.{common_steps}
 use Rattle.std.proofs.lemmas.Bool.{eqb-true}
@@ -11,16 +9,14 @@ use Rattle.std.proofs.lemmas.Bool.Decides.{nat_tests}
 use Rattle.std.proofs.lemmas.Option.{option_and_then_some}
 use Rattle.std.proofs.lemmas.Slice.Eq.{bytes_eq-Decides}
 use Rattle.text_core.specs.Lines.{Line}
-use Rattle.text_core.specs.Items.{items_of}
 use Rattle.text_core.specs.Words.{after}
 use Rattle.text_core.specs.Numbers.{number_up_to}
-use Rattle.text_core.specs.ReadBack.{word_spells, word_back, number_spells, number_back, items_spell}
+use Rattle.text_core.specs.ReadBack.{word_spells, word_back, number_spells, number_back}
 use Rattle.sat_theory.specs.Line as theory
 use Rattle.sat_theory.specs.Line.{IsLine}
 use Rattle.lrat_text.specs.Reading.{line_in}
 use Rattle.lrat_text.specs.Spelling.{line_body}
 use Rattle.lrat_text.specs.WholeLines.{line_spells}
-use Rattle.lrat_text.specs.declared.error.LineError.{LineError}
 use Rattle.op_basis.specs.Text.{basis_of, basis_text, begins_letter, named, listed}
 use Rattle.op_basis.specs.Text as bases
 use Rattle.op_basis.specs.declared.error.BasisError.{BasisError}
@@ -30,17 +26,15 @@ use Rattle.chain_core.specs.Block.{number_in}
 use Rattle.chain_core.specs.Spelling.{line}
 use Rattle.chain_core.proofs.WrittenLists.{line_is}
 use Rattle.enc_theory.specs.declared.data.Method.{Method}
-use Rattle.enc_theory.specs.declared.data.Method.TheVariants.{Plain}
+use Rattle.enc_theory.specs.declared.data.Method.TheVariants.{Plain, Ssv}
 use Rattle.cert_theory.specs.declared.data.Ended.{Ended}
 use Rattle.cert_theory.specs.declared.data.Ended.TheVariants as ends
-use Rattle.cert_theory.specs.declared.data.Verdict.{Verdict}
-use Rattle.cert_theory.specs.declared.data.Verdict.TheVariants as verdicts
 use Rattle.cert_theory.specs.declared.data.BundleError.{BundleError}
-use Rattle.cert_theory.specs.declared.data.BundleError.TheVariants.{Syntax, SizeOutOfOrder}
+use Rattle.cert_theory.specs.declared.data.BundleError.TheVariants.{Syntax}
 use Rattle.cert_theory.specs.declared.data.Heading.{Heading}
 use Rattle.cert_theory.specs.Coding.{is_built, method_text}
-use Rattle.cert_theory.specs.Spelling.{basis_line, method_line, conflicts_line, max_line, size_line, ended_text, verdict_line, log_line}
-use Rattle.cert_theory.specs.Judging.{◌>>=◌, or_syntax, as_syntax, is_line, begins, value_of, spelled, basis_in, named_method, method_in, from_one, conflicts_in, max_in, log_place, spelled_at, size_at, ended_at, is_same, number_behind, both, bounded_in, found_in, not_found_in}
+use Rattle.cert_theory.specs.Spelling.{basis_line, method_line, conflicts_line, max_line, size_line, ended_text, log_line}
+use Rattle.cert_theory.specs.Judging.{or_syntax, as_syntax, is_line, value_of, spelled, basis_in, named_method, method_in, from_one, conflicts_in, max_in, log_place, spelled_at, size_at, ended_at}
 use Rattle.cert_theory.proofs.Binds.{bind_ok, test_ok, read_ok}
 
 pub both_true : (a b : Bool) → (a && b) ≡ true → (a ≡ true) × (b ≡ true)
@@ -111,14 +105,24 @@ basis_spells l b e =
     let parts = spelled_is word (basis_of word) b is in
     (value_spells (codes "basis ") l word value ∙ ap (λ (w : List ℕ). line (codes "basis " ++ w)) parts.1, basis_some word b parts.0, set_low word b (begins_letter word) refl parts.0))
 
-named_method_is : (word : List ℕ) (m : Method) → named_method word ≡ Some m → (word ≡ method_text m) × (is_built m ≡ true)
-named_method_is word m e =
+abbrev IsNamed : List ℕ → Method → Type 0
+IsNamed word m = (word ≡ method_text m) × (is_built m ≡ true)
+
+-- a word that is compared with one name, and else goes on
+named_or : (word : List ℕ) (m first : Method) (later : Option Method) → is_built first ≡ true → (later ≡ Some m → IsNamed word m) → cond (bytes_eq word (method_text first)) (Some first) later ≡ Some m → IsNamed word m
+named_or word m first later built next e =
     ⊎_elim
-    (λ (yes_ : (bytes_eq word (method_text Plain) ≡ true) × (Some Plain ≡ Some m)).
-    let same : Plain ≡ m = some_is Plain m yes_.1 in
-    ((bytes_eq-Decides word (method_text Plain)).0 yes_.0 ∙ ap method_text same, sym (ap is_built same)))
-    (λ (no_ : (bytes_eq word (method_text Plain) ≡ false) × (None ≡ Some m)). absurd (let f = no_.1 in cc))
-    (chosen (bytes_eq word (method_text Plain)) (Some Plain) None (Some m) e)
+    (λ (yes_ : (bytes_eq word (method_text first) ≡ true) × (Some first ≡ Some m)).
+    let same : first ≡ m = some_is first m yes_.1 in
+    ((bytes_eq-Decides word (method_text first)).0 yes_.0 ∙ ap method_text same, sym (ap is_built same) ∙ built))
+    (λ (no_ : (bytes_eq word (method_text first) ≡ false) × (later ≡ Some m)). next no_.1)
+    (chosen (bytes_eq word (method_text first)) (Some first) later (Some m) e)
+
+none_named : (word : List ℕ) (m : Method) → None ≡ Some m → IsNamed word m
+none_named word m e = absurd cc
+
+named_method_is : (word : List ℕ) (m : Method) → named_method word ≡ Some m → IsNamed word m
+named_method_is word m e = named_or word m Plain _ refl (named_or word m Ssv None refl (none_named word m)) e
 
 pub method_spells : (l : Line) (m : Method) → method_in l ≡ Some m → (l ≡ line (method_line m)) × (is_built m ≡ true)
 unfolding method_in method_line

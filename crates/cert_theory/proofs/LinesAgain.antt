@@ -1,25 +1,20 @@
 -- Single lines that were written are read again.
-use Rattle.std.proofs.Common.{◌≡◌, ◌⊎◌, ℕ, zero, suc, ◌+◌, ◌^◌, ◌<◌, ◌≤◌, ◌&&◌, ◌==◌, Bool, true, false, cond, List, [], ◌∷◌, ◌++◌, length, Option, Some, None, Result, Ok, Err, refl, sym, ap, ◌∙◌, subst, arith, inl, inr}
+use Rattle.std.proofs.Common.{◌≡◌, ℕ, ◌<◌, ◌≤◌, ◌==◌, Bool, true, false, cond, List, [], ◌∷◌, ◌++◌, Option, Some, None, Result, Ok, refl, sym, ap, ◌∙◌, arith}
 use Rattle.std.specs.Prelude.{codes, decimal, option_and_then, nat_le}
 use Rattle.std.specs.Str.{bytes_eq}
 use Rattle.std.specs.Option.{option_map}
-use Rattle.std.proofs.Math.Logic.{⊎_elim}
 use Rattle.std.proofs.lemmas.Grind.{common_steps}
-use Rattle.std.proofs.lemmas.Bool.{cases_Bool}
 use Rattle.std.proofs.lemmas.Bool.Decides.{nat_tests}
 use Rattle.std.proofs.lemmas.Slice.Eq.{bytes_eq-Decides}
-use Rattle.text_core.specs.Lines.{Line}
 use Rattle.text_core.specs.Items.{items_of, split_from}
 use Rattle.text_core.specs.Words.{after}
-use Rattle.text_core.specs.Numbers.{number_up_to, number_from}
+use Rattle.text_core.specs.Numbers.{number_from}
 use Rattle.text_core.specs.ReadBack.{number_back, item_back, last_item_back, free_decimal}
 use Rattle.sat_theory.specs.Line as theory
 use Rattle.sat_theory.specs.Line.{IsLine}
 use Rattle.lrat_text.specs.Reading.{line_in}
 use Rattle.lrat_text.specs.Spelling.{line_body}
 use Rattle.lrat_text.specs.WholeLines.{line_back}
-use Rattle.lrat_text.specs.declared.error.LineError.{LineError}
-use Rattle.lrat_text.specs.declared.error.LineError.TheVariants.{BadNumber}
 use Rattle.op_basis.specs.Text.{basis_of, basis_text}
 use Rattle.op_basis.specs.declared.error.BasisError.{BasisError}
 use Rattle.op_basis.specs.ReadBack.{basis_back}
@@ -32,11 +27,10 @@ use Rattle.cert_theory.specs.declared.data.Ended.{Ended}
 use Rattle.cert_theory.specs.declared.data.Ended.TheVariants as ends
 use Rattle.cert_theory.specs.declared.data.Verdict.{Verdict}
 use Rattle.cert_theory.specs.declared.data.Verdict.TheVariants as verdicts
-use Rattle.cert_theory.specs.declared.data.BundleError.{BundleError}
 use Rattle.cert_theory.specs.Coding.{is_built, method_text}
-use Rattle.cert_theory.specs.Spelling.{basis_line, method_line, conflicts_line, max_line, size_line, ended_text, done_text, log_line, verdict_line}
-use Rattle.cert_theory.specs.Judging.{◌>>=◌, or_syntax, as_syntax, is_line, begins, value_of, spelled, basis_in, named_method, method_in, from_one, conflicts_in, max_in, log_place, spelled_at, size_at, ended_at, is_same, number_behind, both, bounded_in, found_in, not_found_in}
-use Rattle.cert_theory.proofs.LineSpellings.{is_line_back, value_back, number_at_back}
+use Rattle.cert_theory.specs.Spelling.{basis_line, method_line, conflicts_line, max_line, size_line, ended_text, log_line, verdict_line}
+use Rattle.cert_theory.specs.Judging.{as_syntax, is_line, begins, spelled, basis_in, named_method, method_in, from_one, conflicts_in, max_in, log_place, spelled_at, size_at, ended_at, is_same, number_behind, both, bounded_in, found_in, not_found_in}
+use Rattle.cert_theory.proofs.LineSpellings.{value_back, number_at_back}
 
 eq_same : (n : ℕ) → (n == n) ≡ true
 eq_same n = grind (arith, nat_tests)
@@ -54,9 +48,8 @@ basis_again b some low =
 pub method_again : (m : Method) → is_built m ≡ true → method_in (line (method_line m)) ≡ Some m
 unfolding method_in method_line
 method_again Plain built =
-    ap (option_and_then named_method) (value_back (codes "method ") (method_text Plain))
-    ∙ ap (λ (t : Bool). let o : Option Method = cond t (Some Plain) None in o) ((bytes_eq-Decides (method_text Plain) (method_text Plain)).1 refl)
-method_again Ssv built = absurd cc
+    ap (option_and_then named_method) (value_back (codes "method ") (method_text Plain)) ∙ refl
+method_again Ssv built = ap (option_and_then named_method) (value_back (codes "method ") (method_text Ssv)) ∙ refl
 method_again Select built = absurd cc
 method_again Fence built = absurd cc
 

@@ -1,11 +1,11 @@
 -- The verdict of a valid bundle is true.
-use Rattle.std.proofs.Common.{◌≡◌, ◌⊎◌, ℕ, zero, suc, ◌+◌, ◌<◌, ◌≤◌, ◌||◌, Bool, true, false, cond, List, [], ◌∷◌, length, map, get_or, Contains, Option, Some, None, refl, sym, ap, ◌∙◌, subst, arith, inl, inr, zero-add}
+use Rattle.std.proofs.Common.{◌≡◌, ◌⊎◌, ℕ, zero, suc, ◌+◌, ◌<◌, ◌≤◌, ◌||◌, Bool, true, false, cond, List, [], ◌∷◌, length, map, Contains, Option, Some, None, refl, sym, ◌∙◌, subst, arith, inl, inr, zero-add}
 use Rattle.std.specs.List.{list_any, find, AllByRecursion}
 use Rattle.std.specs.Option.{option_map}
 use Rattle.std.proofs.Math.Logic.{⊎_elim}
 use Rattle.std.proofs.lemmas.Bool.{cases_lt}
 use Rattle.std.proofs.lemmas.List.Elements.{recursion_from_All}
-use Rattle.chain_theory.specs.Agreement.{HasChain, IsMinimum}
+use Rattle.chain_theory.specs.Agreement.{HasChain}
 use Rattle.chain_theory.specs.Chain.{Chain}
 use Rattle.sat_theory.specs.Formula.{Assignment, Satisfies}
 use Rattle.sat_theory.specs.Line.{Line}
@@ -20,7 +20,7 @@ use Rattle.cert_theory.specs.declared.data.Ended.TheVariants as ends
 use Rattle.cert_theory.specs.declared.data.Verdict.{Verdict}
 use Rattle.cert_theory.specs.Coding.{coding_of}
 use Rattle.cert_theory.specs.CodingLaws.{IsCoding}
-use Rattle.cert_theory.specs.Bundle.{PartLog, Section, Bundle, IsHeading, parts_of, formula_of, EndsAs, IsPartLog, part_of, IsSection, AreSections, is_open_end, is_open, size_of, first_open, found, not_found, IsFound, IsEnding, IsValid}
+use Rattle.cert_theory.specs.Bundle.{PartLog, Section, Bundle, IsHeading, parts_of, formula_of, EndsAs, IsPartLog, part_of, IsSection, AreSections, is_open_end, is_open, size_of, first_open, found, IsFound, IsEnding, IsValid}
 use Rattle.cert_theory.specs.Meaning.{NoneBelow, Means}
 
 abbrev Fewer : Heading → ℕ → Type 0

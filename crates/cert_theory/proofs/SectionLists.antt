@@ -1,44 +1,30 @@
 -- Lists of sections that were written are read again.
-use Rattle.std.proofs.Common.{◌≡◌, ◌⊎◌, ℕ, zero, suc, ◌+◌, ◌^◌, ◌<◌, ◌≤◌, Bool, true, false, not, cond, List, [], ◌∷◌, ◌++◌, length, map, get_or, drop, Contains, All, Option, Some, None, Result, Ok, Err, refl, sym, ap, ◌∙◌, subst, arith, inl, inr, append_assoc, append-nil, zero-add}
-use Rattle.std.specs.Prelude.{codes, slice_get}
-use Rattle.std.specs.List.{flat_map, range_with_len, AllByRecursion}
-use Rattle.std.proofs.Math.Logic.{⊎_elim}
+use Rattle.std.proofs.Common.{◌≡◌, ℕ, suc, ◌+◌, ◌<◌, ◌≤◌, Bool, not, cond, List, [], ◌∷◌, ◌++◌, length, map, Contains, All, Option, Some, None, Result, Ok, refl, sym, ap, ◌∙◌, subst, arith, append_assoc}
+use Rattle.std.specs.List.{flat_map}
 use Rattle.std.proofs.lemmas.List.Elements.{recursion_from_All}
-use Rattle.std.proofs.lemmas.List.FromFn.{length-map-range_with_len, get_or-map-range_with_len}
-use Rattle.text_core.specs.Lines.{Line, lines_of}
-use Rattle.text_core.specs.Words.{begins_lower}
+use Rattle.text_core.specs.Lines.{Line}
 use Rattle.chain_theory.specs.Chain.{Chain}
 use Rattle.sat_theory.specs.Formula.{Formula, IsFormula}
 use Rattle.sat_theory.specs.Line as theory
-use Rattle.sat_theory.specs.State.{State, start}
-use Rattle.sat_theory.specs.Log.{IsStep, IsFresh, EachLine, after}
-use Rattle.lrat_check.specs.Live.{AreClauses}
-use Rattle.tt_core.specs.Words.{Words, IsSpec, specification, cell_of}
-use Rattle.tt_core.specs.Spelling.{character, header_line, IsTableLine, EndsTables, SpellsTables}
-use Rattle.tt_core.specs.Tables as tables
-use Rattle.tt_core.specs.declared.error.SpecError.{SpecError}
-use Rattle.tt_core.proofs.Again.{tables_again}
-use Rattle.chain_core.specs.Spelling.{line, chain_lines}
-use Rattle.enc_theory.specs.declared.data.Method.{Method}
+use Rattle.sat_theory.specs.State.{start}
+use Rattle.sat_theory.specs.Log.{IsStep, EachLine, after}
+use Rattle.chain_core.specs.Spelling.{line}
 use Rattle.enc_frame.specs.declared.part.Part.{Part}
-use Rattle.enc_frame.specs.declared.part.Part.TheVariants.{Whole, Levels}
+use Rattle.enc_frame.specs.declared.part.Part.TheVariants.{Whole}
 use Rattle.cert_theory.specs.declared.data.Heading.{Heading}
 use Rattle.cert_theory.specs.declared.data.Ended.{Ended}
 use Rattle.cert_theory.specs.declared.data.Ended.TheVariants as ends
 use Rattle.cert_theory.specs.declared.data.Verdict.{Verdict}
-use Rattle.cert_theory.specs.declared.data.Verdict.TheVariants as verdicts
 use Rattle.cert_theory.specs.declared.data.BundleError.{BundleError}
-use Rattle.cert_theory.specs.Coding.{coding_of}
 use Rattle.cert_theory.specs.CodingLaws.{built_is_coding}
-use Rattle.cert_theory.specs.Bundle.{PartLog, Section, Bundle, part_of, parts_of, IsHeading, IsPartLog, EndsAs, IsSection, AreSections, first_open, found, not_found, IsEnding, IsValid, HasOutput}
-use Rattle.cert_theory.specs.Spelling.{first_text, table_text, table_line, tables_lines, basis_line, method_line, conflicts_line, max_line, heading_lines, size_line, ended_text, done_text, log_line, section_lines, block_lines, verdict_line, end_text, ending_lines, bundle_lines, text_of, bundle_text, IsBundle}
-use Rattle.cert_theory.specs.Judging.{◌>>=◌, or_syntax, as_syntax, table_place, is_line, begins, state_after, basis_in, method_in, conflicts_in, max_in, beginning, Progress, Between, Begun, Within, low_with, size_at, ended_at, whole_of, section_at, ending_at, sections_of, behind_conflicts, behind_method, behind_basis, behind_tables, with_tables, bundle_of}
+use Rattle.cert_theory.specs.Bundle.{PartLog, Section, part_of, parts_of, IsHeading, IsPartLog, EndsAs, IsSection, AreSections, first_open, IsEnding}
+use Rattle.cert_theory.specs.Spelling.{size_line, ended_text, done_text, log_line, section_lines, ending_lines}
+use Rattle.cert_theory.specs.Judging.{◌>>=◌, Progress, Between, Begun, Within, low_with, whole_of, section_at, ending_at, sections_of}
 use Rattle.cert_theory.proofs.ClauseStates.{start_clauses}
-use Rattle.cert_theory.proofs.LineSpellings.{is_line_back}
-use Rattle.cert_theory.proofs.LinesAgain.{basis_again, method_again, conflicts_again, max_again, size_again, size_begins, ended_again}
+use Rattle.cert_theory.proofs.WholeParts.{one_whole}
+use Rattle.cert_theory.proofs.LinesAgain.{size_again, size_begins, ended_again}
 use Rattle.cert_theory.proofs.SectionSpellings.{progress, low_or, low_same, section_of, low_more, section_text}
-use Rattle.cert_theory.proofs.SectionsAgain.{small_chain, ending_again, WasFresh, within_again}
-use Rattle.cert_theory.proofs.WholeTexts.{IsWhole, whole_none, whole_both, whole_cons, whole_block, whole_heading, whole_lines, whole_ended, whole_done, whole_end, whole_size, IsShort, whole_verdict}
+use Rattle.cert_theory.proofs.SectionsAgain.{ending_again, WasFresh, within_again}
 
 -- ---- a section by its one part
 
@@ -55,9 +41,9 @@ pub record Sole (h : Heading) (size : ℕ) (s : Section) : Type 0 where
   pub ends_as : EndsAs (whole_of h size) h.conflicts ended log
 
 pub sole_of : (h : Heading) (size : ℕ) (s : Section) → IsSection h size s → Sole h size s
-unfolding section_of coding_of
+unfolding section_of
 sole_of h size s is =
-    let one = one_part s.parts is.parts_are in
+    let one = one_part s.parts (is.parts_are ∙ one_whole h.method h.spec size) in
     let logs : All (IsPartLog h size) (record { part = Whole; ended = one.0; log = one.1 } ∷ []) = subst (λ (ps : List PartLog). All (IsPartLog h size) ps) one.2 is.logs in
     record {
       ended = one.0;
@@ -67,8 +53,9 @@ sole_of h size s is =
     }
 
 whole_formula : (h : Heading) (size : ℕ) → IsFormula (whole_of h size)
-unfolding coding_of
-whole_formula h size = (built_is_coding h.method).formulas h.spec h.basis size Whole (0, omega arith, refl)
+whole_formula h size =
+    let there : Contains (parts_of h size) Whole = subst (λ (parts : List Part). Contains parts Whole) (sym (one_whole h.method h.spec size)) (0, omega arith, refl) in
+    (built_is_coding h.method).formulas h.spec h.basis size Whole there
 
 pub log_holds : (f : Formula) (conflicts : ℕ) (ended : Ended) (log : List theory.Line) → EndsAs f conflicts ended log → EachLine IsStep (start f) log
 log_holds f conflicts ends.Refuted log is = is.holds

@@ -1,5 +1,5 @@
 -- Sections, as they are read.
-use Rattle.std.proofs.Common.{◌≡◌, ◌⊎◌, ℕ, zero, suc, ◌+◌, ◌<◌, ◌≤◌, Bool, true, false, not, cond, List, [], ◌∷◌, ◌++◌, length, map, Option, Some, None, Result, Ok, Err, refl, sym, ap, ◌∙◌, subst, arith, inl, inr, append_assoc, append-nil}
+use Rattle.std.proofs.Common.{◌≡◌, ◌⊎◌, ℕ, suc, ◌+◌, ◌≤◌, Bool, true, false, not, cond, List, [], ◌∷◌, ◌++◌, length, map, Option, Some, None, Result, Ok, Err, refl, sym, ap, ◌∙◌, subst, arith, inl, inr, append_assoc, append-nil}
 use Rattle.std.specs.Prelude.{codes, nat_le}
 use Rattle.std.specs.List.{flat_map}
 use Rattle.std.proofs.Math.Logic.{⊎_elim}
@@ -10,7 +10,7 @@ use Rattle.chain_theory.specs.Chain.{Chain}
 use Rattle.sat_theory.specs.Formula.{Formula}
 use Rattle.sat_theory.specs.Line as theory
 use Rattle.sat_theory.specs.State.{State, start}
-use Rattle.sat_theory.specs.Log.{IsStep, IsFresh, EachLine, added_ids, HasEmpty, Refutes, IsSpent}
+use Rattle.sat_theory.specs.Log.{IsStep, IsFresh, EachLine, added_ids}
 use Rattle.sat_theory.specs.LogLaws.{EachLine-push}
 use Rattle.lrat_check.specs.Judging.{line_fault}
 use Rattle.lrat_check.specs.FaultLaws.{line_holds}
@@ -23,15 +23,15 @@ use Rattle.cert_theory.specs.declared.data.Ended.TheVariants as ends
 use Rattle.cert_theory.specs.declared.data.Verdict.{Verdict}
 use Rattle.cert_theory.specs.declared.data.BundleError.{BundleError}
 use Rattle.cert_theory.specs.declared.data.BundleError.TheVariants.{NotRefuted, WrongVerdict, OpenTooShort, NotNew}
-use Rattle.cert_theory.specs.Coding.{coding_of}
-use Rattle.cert_theory.specs.Bundle.{PartLog, Section, part_of, parts_of, IsPartLog, EndsAs, IsSection, AreSections, first_open, IsEnding}
+use Rattle.cert_theory.specs.Bundle.{Section, IsPartLog, EndsAs, IsSection, AreSections, first_open, IsEnding}
 use Rattle.cert_theory.specs.Spelling.{size_line, ended_text, done_text, log_line, title_lines, part_lines, section_lines, ending_lines}
-use Rattle.cert_theory.specs.Judging.{◌>>=◌, is_line, begins, state_after, is_fresh, refused, or_not_new, spelled_at, logged_at, closed, done_at, has_empty, Place, Between, Begun, Within, Progress, low_with, size_at, ended_at, whole_of, within_at, section_at, ending_at, sections_of}
+use Rattle.cert_theory.specs.Judging.{◌>>=◌, is_line, begins, state_after, is_fresh, refused, or_not_new, spelled_at, logged_at, done_at, has_empty, Place, Between, Begun, Within, Progress, low_with, size_at, ended_at, whole_of, within_at, section_at, ending_at, sections_of}
 use Rattle.cert_theory.proofs.Binds.{bind_ok, test_ok}
 use Rattle.cert_theory.proofs.EmptyClauses.{empty_has, has_is}
 use Rattle.cert_theory.proofs.FreshLines.{IsLow, log_low, fresh_from_test}
 use Rattle.cert_theory.proofs.LineSpellings.{chosen, is_line_spells, size_spells, ended_spells, log_spells}
 use Rattle.cert_theory.proofs.EndingSpellings.{IsEnded, ending_spells}
+use Rattle.cert_theory.proofs.WholeParts.{one_whole}
 
 -- ---- logs
 
@@ -182,8 +182,8 @@ low_more None ends.Refuted size log ss = refl
 low_more None ends.Open size log ss = refl
 
 is_section : (h : Heading) (size : ℕ) (ended : Ended) (log : List theory.Line) → EndsAs (whole_of h size) h.conflicts ended log → IsSection h size (section_of size ended log)
-unfolding section_of coding_of
-is_section h size ended log ends_as = record { size_is = refl; parts_are = refl; logs = All-from_recursion (IsPartLog h size) (record { part = Whole; ended = ended; log = log } ∷ []) (ends_as, tt) }
+unfolding section_of
+is_section h size ended log ends_as = record { size_is = refl; parts_are = sym (one_whole h.method h.spec size); logs = All-from_recursion (IsPartLog h size) (record { part = Whole; ended = ended; log = log } ∷ []) (ends_as, tt) }
 
 pub section_text : (size : ℕ) (ended : Ended) (log : List theory.Line) (behind : List Line) → section_lines (section_of size ended log) ++ behind ≡ line (size_line size) ∷ line (ended_text ended) ∷ (map log_line log ++ line done_text ∷ behind)
 unfolding section_of section_lines part_lines title_lines

@@ -1,55 +1,44 @@
 -- Sections and endings that were written are read again.
-use Rattle.std.proofs.Common.{◌≡◌, ◌⊎◌, ℕ, zero, suc, ◌+◌, ◌^◌, ◌<◌, ◌≤◌, ◌==◌, ◌&&◌, Bool, true, false, not, cond, List, [], ◌∷◌, ◌++◌, length, map, Option, Some, None, Result, Ok, Err, refl, sym, ap, ◌∙◌, subst, arith, inl, inr, append_assoc, append-nil}
+use Rattle.std.proofs.Common.{◌≡◌, ℕ, ◌+◌, ◌<◌, ◌≤◌, ◌==◌, ◌&&◌, Bool, true, false, not, cond, List, [], ◌∷◌, ◌++◌, length, map, Option, Some, None, Result, Ok, Err, refl, sym, ap, ◌∙◌, subst, arith, append_assoc, append-nil}
 use Rattle.std.specs.Prelude.{codes, nat_le}
-use Rattle.std.specs.List.{flat_map, AllByRecursion}
-use Rattle.std.proofs.Math.Logic.{⊎_elim}
-use Rattle.std.proofs.lemmas.Grind.{common_steps}
-use Rattle.std.proofs.lemmas.Bool.{cases_Bool}
 use Rattle.std.proofs.lemmas.Bool.Decides.{nat_tests}
-use Rattle.std.proofs.lemmas.List.Elements.{recursion_from_All}
 use Rattle.text_core.specs.Lines.{Line}
 use Rattle.text_core.specs.Words.{after}
-use Rattle.chain_theory.specs.Chain.{Chain, IsChain}
-use Rattle.chain_theory.specs.Difference.{IsComparison}
-use Rattle.sat_theory.specs.Formula.{Formula, IsFormula}
+use Rattle.chain_theory.specs.Chain.{Chain}
+use Rattle.sat_theory.specs.Formula.{Formula}
 use Rattle.sat_theory.specs.Line as theory
 use Rattle.sat_theory.specs.State.{State, start, next}
-use Rattle.sat_theory.specs.Log.{IsStep, IsFresh, EachLine, added_ids, HasEmpty, Refutes, IsSpent, after as after_log}
+use Rattle.sat_theory.specs.Log.{IsStep, IsFresh, EachLine, added_ids}
 use Rattle.sat_theory.specs.LogLaws.{after-push}
 use Rattle.lrat_check.specs.Judging.{line_fault}
 use Rattle.lrat_check.specs.FaultLaws.{line_without_fault}
 use Rattle.lrat_check.specs.Live.{AreClauses}
 use Rattle.lrat_check.specs.declared.error.CheckError.{CheckError}
-use Rattle.tt_core.specs.Words.{IsSpec, specification}
+use Rattle.tt_core.specs.Words.{specification}
 use Rattle.op_basis.specs.Basis.{members}
 use Rattle.chain_core.specs.declared.frame.Frame.{Frame}
 use Rattle.chain_core.specs.declared.error.ChainError.{ChainError}
-use Rattle.chain_core.specs.Outside.{outside_from}
-use Rattle.chain_core.specs.Block.{Read, count_at, body_from, chain_of}
+use Rattle.chain_core.specs.Block.{body_from}
 use Rattle.chain_core.specs.Steps.{IsSmallChain}
-use Rattle.chain_core.specs.Spelling.{line, count_text, step_lines, out_line, chain_lines}
+use Rattle.chain_core.specs.Spelling.{line, count_text, step_lines, out_line}
 use Rattle.chain_core.proofs.WrittenBlocks.{count_at_back, lines_read}
-use Rattle.enc_frame.specs.declared.part.Part.{Part}
-use Rattle.enc_frame.specs.declared.part.Part.TheVariants.{Whole, Levels}
 use Rattle.cert_theory.specs.declared.data.Heading.{Heading}
 use Rattle.cert_theory.specs.declared.data.Ended.{Ended}
 use Rattle.cert_theory.specs.declared.data.Ended.TheVariants as ends
 use Rattle.cert_theory.specs.declared.data.Verdict.{Verdict}
-use Rattle.cert_theory.specs.declared.data.Verdict.TheVariants as verdicts
 use Rattle.cert_theory.specs.declared.data.BundleError.{BundleError}
-use Rattle.cert_theory.specs.declared.data.BundleError.TheVariants.{SizeOutOfOrder, NotRefuted, WrongVerdict, OpenTooShort, NotNew, Syntax}
-use Rattle.cert_theory.specs.Coding.{coding_of}
-use Rattle.cert_theory.specs.Bundle.{PartLog, Section, part_of, parts_of, formula_of, IsHeading, IsPartLog, EndsAs, IsSection, AreSections, first_open, found, not_found, IsFound, IsEnding}
-use Rattle.cert_theory.specs.Spelling.{size_line, ended_text, done_text, log_line, title_lines, part_lines, section_lines, verdict_line, end_text, ending_lines}
+use Rattle.cert_theory.specs.declared.data.BundleError.TheVariants.{SizeOutOfOrder, NotRefuted, WrongVerdict, OpenTooShort, NotNew}
+use Rattle.cert_theory.specs.Bundle.{IsHeading, EndsAs, found, not_found, IsFound, IsEnding}
+use Rattle.cert_theory.specs.Spelling.{done_text, log_line, verdict_line, end_text, ending_lines}
 use Rattle.cert_theory.specs.Difference.{difference_of}
-use Rattle.cert_theory.specs.Judging.{◌>>=◌, or_syntax, as_syntax, is_line, begins, state_after, is_fresh, refused, or_not_new, spelled_at, logged_at, closed, done_at, has_empty, Place, Between, Begun, Within, Progress, low_with, size_at, ended_at, whole_of, within_at, section_at, ending_at, sections_of, found_in, not_found_in, follows, end_of, behind_chain, chain_place, steps_at, frame_of, or_differs, or_outside, chain_judged, with_block, chain_at, no_chain_at}
+use Rattle.cert_theory.specs.Judging.{◌>>=◌, or_syntax, as_syntax, begins, state_after, refused, or_not_new, logged_at, done_at, has_empty, Between, Within, Progress, low_with, whole_of, section_at, ending_at, sections_of, found_in, not_found_in, follows, end_of, behind_chain, chain_place, steps_at, frame_of, or_differs, or_outside, chain_judged, with_block, chain_at, no_chain_at}
 use Rattle.cert_theory.proofs.EmptyClauses.{empty_has, has_is}
 use Rattle.cert_theory.proofs.FreshLines.{test_from_fresh}
 use Rattle.cert_theory.proofs.ChainFaults.{outside_is, difference_is}
 use Rattle.cert_theory.proofs.BlockReads.{body_again}
-use Rattle.cert_theory.proofs.ClauseStates.{start_clauses, next_clauses}
-use Rattle.cert_theory.proofs.LinesAgain.{size_again, size_begins, ended_again, not_done, log_again, minimum_again, bounded_again, none_again, open_again, same_again}
-use Rattle.cert_theory.proofs.SectionSpellings.{progress, low_or, low_same, section_of, low_more, section_text}
+use Rattle.cert_theory.proofs.ClauseStates.{next_clauses}
+use Rattle.cert_theory.proofs.LinesAgain.{not_done, log_again, minimum_again, bounded_again, none_again, open_again, same_again}
+use Rattle.cert_theory.proofs.SectionSpellings.{progress}
 
 abbrev go_on : Heading → ℕ → List Line → Progress → Result Verdict BundleError
 go_on h number ls next = sections_of h (number + 1) next ls

@@ -1,10 +1,8 @@
 -- The lines of a bundle are those of its text.
-use Rattle.std.proofs.Common.{◌≡◌, ◌⊎◌, ℕ, zero, suc, ◌+◌, ◌^◌, ◌<◌, ◌≤◌, ◌==◌, Bool, true, false, cond, List, [], ◌∷◌, ◌++◌, length, map, All, Option, Some, None, refl, sym, ap, ◌∙◌, subst, arith, inl, inr, append_assoc, append-nil}
+use Rattle.std.proofs.Common.{◌≡◌, ℕ, zero, suc, ◌+◌, ◌^◌, ◌<◌, ◌==◌, Bool, true, false, cond, List, [], ◌∷◌, ◌++◌, length, map, Option, Some, None, refl, sym, ap, ◌∙◌, arith, append_assoc, append-nil}
 use Rattle.std.specs.Prelude.{codes, decimal}
-use Rattle.std.specs.List.{flat_map, range_with_len, AllByRecursion}
-use Rattle.std.proofs.Math.Logic.{⊎_elim}
+use Rattle.std.specs.List.{range_with_len}
 use Rattle.std.proofs.lemmas.Grind.{common_steps, flat_map-append}
-use Rattle.std.proofs.lemmas.List.Elements.{recursion_from_All}
 use Rattle.text_core.specs.Lines.{Line, lines_of, line_bytes}
 use Rattle.text_core.specs.Words.{is_free}
 use Rattle.text_core.specs.ReadBack.{line_back, free_both, free_decimal}
@@ -13,8 +11,7 @@ use Rattle.chain_theory.specs.declared.data.Cell.TheVariants.{Zero, One, Free}
 use Rattle.chain_theory.specs.Chain.{Chain}
 use Rattle.sat_theory.specs.Line as theory
 use Rattle.sat_theory.specs.Line.{IsLine}
-use Rattle.sat_theory.specs.State.{State, start, next}
-use Rattle.sat_theory.specs.Formula.{Formula}
+use Rattle.sat_theory.specs.State.{State, next}
 use Rattle.sat_theory.specs.Log.{IsStep, EachLine}
 use Rattle.lrat_text.specs.Spelling.{line_text}
 use Rattle.lrat_text.specs.WholeLines.{text_back}
@@ -28,15 +25,13 @@ use Rattle.chain_core.specs.Spelling.{line, chain_lines}
 use Rattle.chain_core.proofs.WrittenBlocks.{lines_back, block_written}
 use Rattle.enc_theory.specs.declared.data.Method.{Method}
 use Rattle.enc_theory.specs.declared.data.Method.TheVariants.{Plain, Ssv, Select, Fence}
-use Rattle.enc_frame.specs.declared.part.Part.{Part}
-use Rattle.enc_frame.specs.declared.part.Part.TheVariants.{Whole, Levels}
 use Rattle.cert_theory.specs.declared.data.Heading.{Heading}
 use Rattle.cert_theory.specs.declared.data.Ended.{Ended}
 use Rattle.cert_theory.specs.declared.data.Ended.TheVariants as ends
 use Rattle.cert_theory.specs.declared.data.Verdict.{Verdict}
 use Rattle.cert_theory.specs.declared.data.Verdict.TheVariants as verdicts
 use Rattle.cert_theory.specs.Coding.{method_text}
-use Rattle.cert_theory.specs.Spelling.{text_of, table_text, table_line, tables_lines, basis_line, method_line, conflicts_line, max_line, first_text, heading_lines, size_line, ended_text, done_text, log_line, block_lines, verdict_line, end_text, ending_lines}
+use Rattle.cert_theory.specs.Spelling.{text_of, table_text, table_line, tables_lines, basis_line, method_line, conflicts_line, max_line, first_text, heading_lines, size_line, ended_text, done_text, log_line, verdict_line, end_text}
 
 -- lines that are read from their text, whatever follows
 pub record IsWhole (ls : List Line) : Type 0 where

@@ -1,16 +1,18 @@
 -- What the formulas of a method have to mean for its verdicts to be true.
-use Rattle.std.specs.Prelude.{◌≡◌, ℕ, ◌≤◌, ◌<◌, List, Contains, refl, true, Bool}
-use Rattle.std.proofs.Common.{zero, arith}
+use Rattle.std.specs.Prelude.{ℕ, ◌≤◌, ◌<◌, Contains, refl}
+use Rattle.std.proofs.Common.{arith}
 use Rattle.chain_theory.specs.Agreement.{IsMinimum}
 use Rattle.sat_theory.specs.Formula.{IsFormula}
 use Rattle.tt_core.specs.Words.{Words, IsSpec, specification}
 use Rattle.op_basis.specs.Basis.{members}
 use Rattle.enc_theory.specs.Clauses.{IsSatisfiable}
 use Rattle.enc_theory.specs.declared.data.Method.{Method}
+use Rattle.enc_theory.specs.declared.data.Method.TheVariants.{Plain, Ssv, Select, Fence}
 use Rattle.enc_laws.specs.Laws.{plain_complete, plain_is_formula}
+use Rattle.enc_laws.specs.Ssv.{ssv_complete, ssv_is_formula}
 use Rattle.enc_frame.specs.declared.part.Part.{Part}
 use Rattle.enc_frame.specs.declared.part.Part.TheVariants.{Whole}
-use Rattle.cert_theory.specs.Coding.{Coding, plain_coding, coding_of}
+use Rattle.cert_theory.specs.Coding.{Coding, plain_coding, ssv_coding, coding_of}
 
 -- The formulas of a size's parts are formulas, and where the size is the minimum, one of them is
 -- satisfiable.
@@ -24,7 +26,16 @@ plain_is_coding = record {
   complete = λ w basis r spec few some minimum. (Whole, (0, omega arith, refl), plain_complete w basis r minimum.reached);
 }
 
+pub ssv_is_coding : IsCoding ssv_coding
+ssv_is_coding = record {
+  formulas = λ w basis r part there. ssv_is_formula w basis r;
+  complete = λ w basis r spec few some minimum. (Whole, (0, omega arith, refl), ssv_complete w basis r minimum);
+}
+
 -- so the methods that are built have true verdicts
 pub built_is_coding : (method : Method) → IsCoding (coding_of method)
 unfolding coding_of
-built_is_coding method = plain_is_coding
+built_is_coding Plain = plain_is_coding
+built_is_coding Ssv = ssv_is_coding
+built_is_coding Select = plain_is_coding
+built_is_coding Fence = plain_is_coding
