@@ -1,12 +1,9 @@
 -- Refusals of the parts are refusals of the text.
-use Rattle.std.proofs.Common.{◌≡◌, ℕ, List, length, refl, ap, ◌∙◌, inl, inr}
+use Rattle.std.proofs.Common.{◌≡◌, ℕ, List, inl, inr}
 use Rattle.std.proofs.lemmas.Grind.{common_steps}
-use Rattle.net_theory.specs.Dead.{dropped}
-use Rattle.blif_core.specs.Spelling.{circuit_text}
-use Rattle.blif_core.specs.Tidied.{IsTidied}
 use Rattle.std.specs.Prelude.{Ok, Err, None}
 use Rattle.net_theory.specs.WellFormed.{IsWellFormed}
-use Rattle.net_theory.specs.Circuit.{Circuit, IsProper, IsCircuitOf}
+use Rattle.net_theory.specs.Circuit.{Circuit, IsCircuitOf}
 use Rattle.net_core.specs.declared.error.NetError.{NetError}
 use Rattle.net_core.specs.declared.error.NetError.TheVariants.{Memory}
 use Rattle.net_document.specs.Listed.{Listed}
@@ -26,12 +23,4 @@ document_refused bytes l e said h = inr (l, said, h)
 pub text_circuit : (bytes : List ℕ) (l : Listed) (c : Circuit) → listed_of bytes ≡ Ok l → fault_of l ≡ None → IsWellFormed l.document → IsCircuitOf l.document c → IsCircuitOfText bytes c
 text_circuit bytes l c said good well circuit = record { listed = l; said = said; good = good; well = well; circuit = circuit }
 
-pub text_proper : (bytes : List ℕ) (c : Circuit) → IsCircuitOfText bytes c → IsProper c
-text_proper bytes c is = is.circuit.proper
-
-pub text_tidied : (bytes text : List ℕ) (before : ℕ) (c left : Circuit) → IsCircuitOfText bytes c → left ≡ record c { net = dropped c.net } → text ≡ circuit_text left → before ≡ length c.net.gates → IsTidied bytes text before
-text_tidied bytes text before c left read e spelled gates = record { circuit = c; read = read; written = spelled ∙ ap circuit_text e; gates = gates }
-
 pub ruleset refusals = (common_steps, line_refused, document_refused, text_circuit)
-
-pub ruleset tidied = (common_steps, text_proper, text_tidied)

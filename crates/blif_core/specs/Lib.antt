@@ -8,4 +8,3 @@ pub use Rattle.blif_text.specs.Statements
 pub mod Texts
 pub mod Written
 pub mod Spelling
-pub mod Tidied

@@ -15,14 +15,11 @@ mod places;
 mod reading;
 mod spelling;
 mod tables;
-mod tidying;
 mod writing;
 mod written;
 
 pub use net_core::{Circuit, NetError};
 pub use reading::read_blif;
-pub use tidying::{Tidied, tidy_blif};
+pub use spelling::write_document;
 pub use writing::write_blif;
-
-#[cfg(test)]
-mod tests;
+pub use written::document_of;

@@ -198,9 +198,10 @@ fn push_model(text: &mut Vec<u8>, model: &[u8]) -> Result<(), AllocError>
     Ok(())
 }
 
-/// Adds the text of a document.
+/// Appends the BLIF text of a document (the Berkeley BLIF manual): the model, the inputs, outputs and
+/// clocks, 16 on a line, the latches, the tables with their cover lines, and `.end`.
 #[tactic(auto, unfolding(crate::specs::Spelling::spelled))]
-pub fn push_document(text: &mut Vec<u8>, document: &Document) -> Result<(), AllocError>
+pub fn write_document(text: &mut Vec<u8>, document: &Document) -> Result<(), AllocError>
     requires { All HasInit document.now.latches }
     ensures { OnOk result (text.new.items ≡ text.old.items ++ spelling.spelled document.now) }
 {

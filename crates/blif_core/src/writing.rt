@@ -2,7 +2,7 @@ ghost use Rattle.std.specs.Prelude.{◌≡◌, ◌++◌, OnOk, OnErr};
 ghost use Rattle.net_theory.specs.Circuit.{IsProper};
 ghost use Rattle.blif_core.specs.Spelling.{circuit_text};
 
-use crate::spelling::push_document;
+use crate::spelling::write_document;
 use crate::written::document_of;
 use net_core::Circuit;
 use std::alloc::AllocError;
@@ -19,6 +19,6 @@ pub fn write_blif(circuit: &Circuit, out: &mut Vec<u8>) -> Result<(), AllocError
     let alloc = *out.allocator();
     let document = document_of(alloc, circuit)?;
     let mut text = Vec::new(alloc);
-    push_document(&mut text, &document)?;
+    write_document(&mut text, &document)?;
     out.extend_from_slice(&text)
 }

@@ -359,7 +359,8 @@ fn tables_of(alloc: Global, circuit: &Circuit, names: &GateNames) -> Result<Vec<
     Ok(tables)
 }
 
-/// The document of a circuit.
+/// The document as which a circuit is written: the gates in the order of their places under the names
+/// that `gate_names` tells, the constants that latches need, and the outputs whose names weren't written.
 #[tactic(auto, unfolding(crate::specs::Written::written))]
 pub fn document_of(alloc: Global, circuit: &Circuit) -> Result<Document, AllocError>
     requires { IsProper circuit.now }

@@ -38,7 +38,7 @@ no_name : (n : Name) → has [] n ≡ false
 unfolding has
 no_name n = refl
 
-has_all_once : (ns : List Name) (n : Name) → has (each_once [] ns) n ≡ has ns n
+pub has_all_once : (ns : List Name) (n : Name) → has (each_once [] ns) n ≡ has ns n
 has_all_once ns n = has_once [] ns n ∙ ap (λ b. b || has ns n) (no_name n)
 
 -- what is driven is asked for names alone

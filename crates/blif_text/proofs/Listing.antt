@@ -137,7 +137,7 @@ said_fine : (bytes : List ℕ) → Whole (0 + said_size (logical_of 1 bytes)) (s
 unfolding said_of
 said_fine bytes = steps_fine nothing (logical_of 1 bytes) 0 nothing_said
 
-said_whole : (bytes : List ℕ) (s : Said) → said_of bytes ≡ Ok s → IsWhole s (0 + said_size (logical_of 1 bytes))
+pub said_whole : (bytes : List ℕ) (s : Said) → said_of bytes ≡ Ok s → IsWhole s (0 + said_size (logical_of 1 bytes))
 said_whole bytes s e = subst (Whole (0 + said_size (logical_of 1 bytes))) e (said_fine bytes)
 
 pub text_listed : (bytes : List ℕ) (s : Said) → said_of bytes ≡ Ok s → IsListed (listed_by s)
@@ -159,3 +159,7 @@ few_said s size is = omega (arith, is.said.small, ap (λ (ts : List Table). sum_
 
 pub text_few : (bytes : List ℕ) (s : Said) → said_of bytes ≡ Ok s → length (listed_by s).document.tables ≤ length bytes
 text_few bytes s e = omega (arith, few_said s _ (said_whole bytes s e), text_short 1 bytes)
+
+-- the outputs and the clocks are no more than the bytes
+pub text_named : (bytes : List ℕ) (s : Said) → said_of bytes ≡ Ok s → length s.outputs + length s.clocks ≤ length bytes
+text_named bytes s e = omega (arith, (said_whole bytes s e).said.named, text_short 1 bytes)

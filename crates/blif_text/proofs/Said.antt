@@ -42,6 +42,7 @@ pub record IsSaid (s : Said) (size : ℕ) : Type 0 where
   pub used : (n : Name) → times n s.used ≡ times n (flat_map table_inputs (tables_of s)) + times n (map latch_input s.latches)
   pub controls : map control_name s.controls ≡ filter_map control_of (map latch_of s.latches)
   pub small : 2 * (length s.inputs + length s.latches) + sum_by table_size (tables_of s) ≤ size
+  pub named : length s.outputs + length s.clocks ≤ size
 
 -- ---- answers
 
@@ -81,6 +82,7 @@ nothing_said = record {
   used = λ n. refl;
   controls = refl;
   small = omega arith;
+  named = omega arith;
 }
 
 pub closed_said : (s : Said) (size : ℕ) → IsSaid s size → IsSaid (closed s) size
@@ -98,11 +100,12 @@ closed_said s size is =
       used = λ n. is.used n ∙ ap (λ (ts : List Table). times n (flat_map table_inputs ts) + times n (map latch_input s.latches)) (sym same);
       controls = is.controls;
       small = subst (λ (ts : List Table). 2 * (length s.inputs + length s.latches) + sum_by table_size ts ≤ size) (sym same) is.small;
+      named = is.named;
     }
 
 -- a longer text
 pub said_more : (s : Said) (size more : ℕ) → size ≤ more → IsSaid s size → IsSaid s more
-said_more s size more h is = record { model = is.model; inputs = is.inputs; outputs = is.outputs; clocks = is.clocks; latches = is.latches; tables = is.tables; current = is.current; driven = is.driven; used = is.used; controls = is.controls; small = omega (arith, is.small, h) }
+said_more s size more h is = record { model = is.model; inputs = is.inputs; outputs = is.outputs; clocks = is.clocks; latches = is.latches; tables = is.tables; current = is.current; driven = is.driven; used = is.used; controls = is.controls; small = omega (arith, is.small, h); named = omega (arith, is.named, h) }
 
 pub with_inputs_said : (s : Said) (size more : ℕ) (ws : List Name) → IsSaid s size → All IsName ws → size + 2 * length ws ≤ more → IsSaid (record s { inputs = s.inputs ++ ws; driven = s.driven ++ ws }) more
 with_inputs_said s size more ws is names h = record {
@@ -117,19 +120,20 @@ with_inputs_said s size more ws is names h = record {
   used = is.used;
   controls = is.controls;
   small = omega (arith, is.small, h, length-append s.inputs ws);
+  named = omega (arith, is.named, h);
 }
 
-pub with_outputs_said : (s : Said) (size : ℕ) (ws : List Name) → IsSaid s size → All IsName ws → IsSaid (record s { outputs = s.outputs ++ ws }) size
-with_outputs_said s size ws is names = record { model = is.model; inputs = is.inputs; outputs = All-append IsName s.outputs ws is.outputs names; clocks = is.clocks; latches = is.latches; tables = is.tables; current = is.current; driven = is.driven; used = is.used; controls = is.controls; small = is.small }
+pub with_outputs_said : (s : Said) (size more : ℕ) (ws : List Name) → IsSaid s size → All IsName ws → size + length ws ≤ more → IsSaid (record s { outputs = s.outputs ++ ws }) more
+with_outputs_said s size more ws is names h = record { model = is.model; inputs = is.inputs; outputs = All-append IsName s.outputs ws is.outputs names; clocks = is.clocks; latches = is.latches; tables = is.tables; current = is.current; driven = is.driven; used = is.used; controls = is.controls; small = omega (arith, is.small, h); named = omega (arith, is.named, h, length-append s.outputs ws) }
 
-pub with_clocks_said : (s : Said) (size : ℕ) (ws : List Name) → IsSaid s size → All IsName ws → IsSaid (record s { clocks = s.clocks ++ ws }) size
-with_clocks_said s size ws is names = record { model = is.model; inputs = is.inputs; outputs = is.outputs; clocks = All-append IsName s.clocks ws is.clocks names; latches = is.latches; tables = is.tables; current = is.current; driven = is.driven; used = is.used; controls = is.controls; small = is.small }
+pub with_clocks_said : (s : Said) (size more : ℕ) (ws : List Name) → IsSaid s size → All IsName ws → size + length ws ≤ more → IsSaid (record s { clocks = s.clocks ++ ws }) more
+with_clocks_said s size more ws is names h = record { model = is.model; inputs = is.inputs; outputs = is.outputs; clocks = All-append IsName s.clocks ws is.clocks names; latches = is.latches; tables = is.tables; current = is.current; driven = is.driven; used = is.used; controls = is.controls; small = omega (arith, is.small, h); named = omega (arith, is.named, h, length-append s.clocks ws) }
 
 pub with_model_said : (s : Said) (size : ℕ) (w : Name) → IsSaid s size → IsName w → IsSaid (record s { model = w; has_model = true }) size
-with_model_said s size w is name = record { model = name; inputs = is.inputs; outputs = is.outputs; clocks = is.clocks; latches = is.latches; tables = is.tables; current = is.current; driven = is.driven; used = is.used; controls = is.controls; small = is.small }
+with_model_said s size w is name = record { model = name; inputs = is.inputs; outputs = is.outputs; clocks = is.clocks; latches = is.latches; tables = is.tables; current = is.current; driven = is.driven; used = is.used; controls = is.controls; small = is.small; named = is.named }
 
 pub with_flags_said : (s : Said) (size : ℕ) (has ended : Bool) → IsSaid s size → IsSaid (record s { has_model = has; is_ended = ended }) size
-with_flags_said s size has ended is = record { model = is.model; inputs = is.inputs; outputs = is.outputs; clocks = is.clocks; latches = is.latches; tables = is.tables; current = is.current; driven = is.driven; used = is.used; controls = is.controls; small = is.small }
+with_flags_said s size has ended is = record { model = is.model; inputs = is.inputs; outputs = is.outputs; clocks = is.clocks; latches = is.latches; tables = is.tables; current = is.current; driven = is.driven; used = is.used; controls = is.controls; small = is.small; named = is.named }
 
 outputs_push : (n : Name) (ts : List Table) (t : Table) → times n (map table_output (ts ++ t ∷ [])) ≡ times n (map table_output ts) + times n (t.output ∷ [])
 outputs_push n ts t = ap (times n) (map-append table_output ts (t ∷ [])) ∙ times-append n (map table_output ts) (t.output ∷ [])
@@ -163,10 +167,11 @@ with_table_said s size more t is none table one h =
       used = λ n. omega (arith, times-append n s.used t.inputs, is.used n, inputs_push n s.tables t, ap (λ (ts : List Table). times n (flat_map table_inputs ts)) old);
       controls = is.controls;
       small = omega (arith, is.small, h, one, sizes_push s.tables t, ap (λ (ts : List Table). sum_by table_size ts) old);
+      named = omega (arith, is.named, h);
     }
 
-pub with_row_said : (s : Said) (size more : ℕ) (t u : Table) → IsSaid s size → s.current ≡ Some t → IsTable u → u.inputs ≡ t.inputs → u.output ≡ t.output → size + table_size u ≤ more + table_size t → IsSaid (record s { current = Some u }) more
-with_row_said s size more t u is some table inputs output h =
+pub with_row_said : (s : Said) (size more : ℕ) (t u : Table) → IsSaid s size → s.current ≡ Some t → IsTable u → u.inputs ≡ t.inputs → u.output ≡ t.output → size ≤ more → size + table_size u ≤ more + table_size t → IsSaid (record s { current = Some u }) more
+with_row_said s size more t u is some table inputs output low h =
     let old : tables_of s ≡ s.tables ++ t ∷ [] = tables_some s t some in
     record {
       model = is.model;
@@ -180,6 +185,7 @@ with_row_said s size more t u is some table inputs output h =
       used = λ n. omega (arith, is.used n, inputs_push n s.tables t, inputs_push n s.tables u, ap (λ (ts : List Table). times n (flat_map table_inputs ts)) old, ap (λ (is : List Name). times n is) inputs);
       controls = is.controls;
       small = omega (arith, is.small, h, sizes_push s.tables t, sizes_push s.tables u, ap (λ (ts : List Table). sum_by table_size ts) old);
+      named = omega (arith, is.named, low);
     }
 
 control_push : (line : ℕ) (c : Option (Trigger × Name)) → map control_name (control_at line c) ≡ cons_option (option_map second_of c) []
@@ -210,4 +216,5 @@ with_latch_said s size more line l is latch h =
           ∙ sym (filter_map-append control_of (map latch_of s.latches) (l.latch ∷ []))
           ∙ ap (filter_map control_of) (sym latches);
       small = omega (arith, is.small, h, length-append s.latches (l ∷ []));
+      named = omega (arith, is.named, h);
     }

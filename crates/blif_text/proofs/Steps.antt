@@ -270,11 +270,11 @@ directed_fine line s first word ws Inputs size more is none short h =
     (λ e. tt)
 directed_fine line s first word ws Outputs size more is none short h =
     cond_both (are_names ws) (Ok (record s { outputs = s.outputs ++ ws })) (Err (Syntax line)) (Fine more)
-    (λ e. with_outputs_said s more ws (said_more s size more (omega (arith, h)) is) (names_all ws e short))
+    (λ e. let all = names_all ws e short in with_outputs_said s size more ws is all (omega (arith, h, names_long ws all)))
     (λ e. tt)
 directed_fine line s first word ws Clock size more is none short h =
     cond_both (are_names ws) (Ok (record s { clocks = s.clocks ++ ws })) (Err (Syntax line)) (Fine more)
-    (λ e. with_clocks_said s more ws (said_more s size more (omega (arith, h)) is) (names_all ws e short))
+    (λ e. let all = names_all ws e short in with_clocks_said s size more ws is all (omega (arith, h, names_long ws all)))
     (λ e. tt)
 directed_fine line s first word ws Names size more is none short h =
     bind_fine (table_of line ws) (λ t. Ok (with_table s t)) IsNew (λ t. IsSaid t more) (table_fine line ws short)
@@ -288,12 +288,12 @@ directed_fine line s first word ws End size more is none short h =
     (λ e. tt)
 directed_fine line s first word ws Unknown size more is none short h = tt
 
-covered_fine : (line : ℕ) (s : Said) (c : Option Table) (words : List (List ℕ)) (size more : ℕ) → s.current ≡ c → IsSaid s size → size + words_size words ≤ more + 1 → Fine more (covered line s c words)
-covered_fine line s None words size more e is h = tt
-covered_fine line s (Some t) words size more e is h =
+covered_fine : (line : ℕ) (s : Said) (c : Option Table) (words : List (List ℕ)) (size more : ℕ) → s.current ≡ c → IsSaid s size → size ≤ more → size + words_size words ≤ more + 1 → Fine more (covered line s c words)
+covered_fine line s None words size more e is low h = tt
+covered_fine line s (Some t) words size more e is low h =
     let table : IsTable t = All-head IsTable t [] (subst (λ (c : Option Table). All IsTable (option_to_list c)) e is.current) in
     bind_fine (row_of line t words) (λ u. Ok (record s { current = Some u })) (IsMore t words) (λ x. IsSaid x more) (row_fine line t words table)
-    (λ u m. with_row_said s size more t u is e m.table m.inputs m.output (omega (arith, h, m.size)))
+    (λ u m. with_row_said s size more t u is e m.table m.inputs m.output low (omega (arith, h, m.size)))
 
 dot_long : (w : List ℕ) → begins_dot w ≡ true → 1 ≤ length w
 dot_long [] e = absurd cc
@@ -309,7 +309,7 @@ stated_fine line s (w ∷ ws) size more is short low h =
     (λ ended. behind_fine line s w more)
     (λ going. cond_both (begins_dot w) (directed line (closed s) (not s.is_begun) w ws (keyword_of w)) (covered line s s.current (w ∷ ws)) (Fine more)
     (λ dot. directed_fine line (closed s) (not s.is_begun) w ws (keyword_of w) size more (closed_said s size is) refl (short_cons w ws short).1 (omega (arith, h, words_size-cons w ws, dot_long w dot)))
-    (λ row. covered_fine line s s.current (w ∷ ws) size more refl is h))
+    (λ row. covered_fine line s s.current (w ∷ ws) size more refl is low h))
 
 step_fine : (s : Said) (l : Logical) (size : ℕ) → IsSaid s size → Fine (size + length l.text) (step s l)
 unfolding step

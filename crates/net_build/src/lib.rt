@@ -13,5 +13,6 @@ mod merging;
 mod signals;
 
 pub use circuits::circuit_of;
+pub use merging::total_cost;
 pub use net_core::{Circuit, NetError};
 pub use net_document::{Document, Listed};

@@ -1,0 +1,4 @@
+//! Laws of netlists and their texts.
+#![tactic(auto)]
+
+pub fn nothing() {}
