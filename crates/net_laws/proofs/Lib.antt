@@ -5,3 +5,8 @@ pub mod Saying
 pub mod Spelled
 pub mod Faultless
 pub mod Layers
+pub mod GateTables
+pub mod CircuitNames
+pub mod WrittenParts
+pub mod WrittenDocument
+pub mod WrittenValues
