@@ -1,14 +1,13 @@
 -- The names of a circuit's places where it is written: they are names, and differ.
-use Rattle.std.specs.Prelude.{◌≡◌, ℕ, zero, suc, ◌+◌, ◌-◌, ◌^◌, ◌≤◌, ◌<◌, Bool, true, false, ◌==◌, nat_le, if◌then◌else◌, List, [], ◌∷◌, ◌++◌, length, map, slice_get, slice_index_or, All, Option, Some, None, ◌⊎◌, refl}
+use Rattle.std.specs.Prelude.{◌≡◌, ℕ, zero, suc, ◌+◌, ◌-◌, ◌^◌, ◌≤◌, ◌<◌, true, false, nat_le, List, [], ◌∷◌, ◌++◌, length, map, slice_get, slice_index_or, Option, Some, ◌⊎◌, refl}
 use Rattle.std.specs.List.{filter_map}
 use Rattle.std.proofs.Common.{arith, sym, ◌∙◌, ap, subst, inl, inr, ⊎_elim, length-append}
 use Rattle.std.proofs.lemmas.Bool.{both_ways, cond_both, cond-true, cond-false, cases_lt, eqb-true, le-leb, lt-leb, false_from_ne_true}
-use Rattle.std.proofs.lemmas.List.{length-map}
 use Rattle.std.proofs.lemmas.Option.{slice_get_within, slice_get-get_or, get_or_from_slice_get}
 use Rattle.net_theory.specs.declared.data.Sig.{Sig}
 use Rattle.net_theory.specs.declared.data.Sig.TheVariants.{Zero, One, Place}
 use Rattle.net_theory.specs.Net.{end_of}
-use Rattle.net_theory.specs.Document.{Name, IsName, has, are_distinct, Latch, latch_output}
+use Rattle.net_theory.specs.Document.{Name, IsName, has, are_distinct, latch_output}
 use Rattle.net_theory.specs.WellFormed.{IsLatch}
 use Rattle.net_theory.specs.NameLaws.{has_place, has_at, has_left, has_right, has_either, has_first, has_map_place, all_has, all_at, distinct_apart, distinct_right, distinct_cons, append_distinct}
 use Rattle.net_theory.specs.ValueLaws.{at_front}
@@ -17,7 +16,7 @@ use Rattle.net_theory.specs.Naming.{control_of, taken_names, taken_set, free_nam
 use Rattle.blif_text.proofs.Controls.{has_all_once}
 use Rattle.net_laws.specs.Rooms.{HasRoom}
 use Rattle.net_laws.proofs.FreeNames.{AreFree, free_are, free_enough, once_few}
-use Rattle.net_laws.proofs.GivenNames.{AreSeated, MayBeGiven, Given, given_all}
+use Rattle.net_laws.proofs.GivenNames.{AreSeated, Given, given_all}
 
 -- ---- outputs on places
 

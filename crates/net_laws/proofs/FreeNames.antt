@@ -1,14 +1,14 @@
 -- The numbered names that aren't taken are names, differ, and suffice.
-use Rattle.std.specs.Prelude.{◌≡◌, ℕ, zero, suc, ◌+◌, ◌*◌, ◌/◌, ◌%◌, ◌^◌, ◌≤◌, ◌<◌, Bool, true, false, not, ◌&&◌, ◌||◌, ◌==◌, nat_le, if◌then◌else◌, List, [], ◌∷◌, ◌++◌, length, map, filter, sum_by, count_by, All, decimal, ◌⊎◌, refl}
-use Rattle.std.specs.List.{range_with_len, list_any}
-use Rattle.std.proofs.Common.{arith, sym, ◌∙◌, ap, subst, inl, inr, ⊎_elim, length-append}
-use Rattle.std.proofs.lemmas.Bool.{cases_Bool, cond_both, cond-true, cond-false, and_parts, and_from, or_cases, or_parts, not-true, not_from_true, not_from_false, le-leb, ne_eqb, false_from_ne_true, both_ways}
+use Rattle.std.specs.Prelude.{◌≡◌, ℕ, zero, suc, ◌+◌, ◌%◌, ◌^◌, ◌≤◌, ◌<◌, Bool, true, false, not, ◌&&◌, ◌==◌, nat_le, if◌then◌else◌, List, [], ◌∷◌, ◌++◌, length, map, filter, count_by, decimal, refl}
+use Rattle.std.specs.List.{range_with_len}
+use Rattle.std.proofs.Common.{arith, sym, ◌∙◌, ap, subst, ⊎_elim, length-append}
+use Rattle.std.proofs.lemmas.Bool.{cases_Bool, cond_both, and_parts, and_from, not-true, not_from_true, not_from_false, le-leb, ne_eqb, false_from_ne_true, both_ways}
 use Rattle.std.proofs.lemmas.Fmt.{decimal_by_steps, decimal_injective, length-decimal-le}
 use Rattle.std.proofs.lemmas.List.{length-map}
-use Rattle.std.proofs.lemmas.List.Elements.{filter_passes, All-nil, All-cons}
+use Rattle.std.proofs.lemmas.List.Elements.{filter_passes}
 use Rattle.std.proofs.lemmas.List.Sums.{sum_by-cons, length-filter}
 use Rattle.net_theory.specs.Document.{Name, IsName, is_name, is_name_byte, is_same, has, are_distinct}
-use Rattle.net_theory.specs.NameLaws.{has_none, has_cases, has_first, has_later, all_has, cons_distinct, distinct_cons, same_name, name_same}
+use Rattle.net_theory.specs.NameLaws.{has_none, has_cases, has_first, has_later, all_has, cons_distinct, distinct_cons, name_same}
 use Rattle.net_theory.specs.Naming.{numbered, free_names, each_once}
 use Rattle.net_document.specs.Listed.{times}
 use Rattle.net_document.specs.TimesLaws.{distinct_times}

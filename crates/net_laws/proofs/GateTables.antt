@@ -1,8 +1,8 @@
 -- A gate and an output as tables: what they read, cost and are worth.
-use Rattle.std.specs.Prelude.{◌≡◌, ℕ, zero, suc, ◌+◌, ◌≤◌, ◌<◌, Bool, true, false, ◌&&◌, ◌||◌, ◌==◌, if◌then◌else◌, List, [], ◌∷◌, ◌++◌, length, map, All, ◌⊎◌, refl}
+use Rattle.std.specs.Prelude.{◌≡◌, ℕ, ◌≤◌, ◌<◌, Bool, true, false, ◌&&◌, ◌||◌, ◌==◌, if◌then◌else◌, List, [], ◌∷◌, ◌++◌, length, map, All, refl}
 use Rattle.std.specs.List.{list_any}
-use Rattle.std.proofs.Common.{arith, sym, ◌∙◌, ap, subst, ⊎_elim, length-append}
-use Rattle.std.proofs.lemmas.Bool.{cond_both, cond-true, cond-false, eqb-true}
+use Rattle.std.proofs.Common.{arith, sym, ◌∙◌, ap, ⊎_elim, length-append}
+use Rattle.std.proofs.lemmas.Bool.{cond_both, eqb-true}
 use Rattle.std.proofs.Math.Bool.{or_assoc}
 use Rattle.std.proofs.lemmas.Grind.{common_steps}
 use Rattle.std.proofs.lemmas.List.Elements.{All-nil, All-cons, All-append}
@@ -11,14 +11,13 @@ use Rattle.net_theory.specs.declared.data.Sig.{Sig}
 use Rattle.net_theory.specs.declared.data.Sig.TheVariants.{Zero, One, Place}
 use Rattle.net_theory.specs.declared.data.Gate.{Gate}
 use Rattle.net_theory.specs.Net.{IsSigBelow, IsGateAt, sig_value, gate_value}
-use Rattle.net_theory.specs.Cover.{Cover, IsCover, is_cube, is_asked, matches, is_matched, value_by, cover_value}
+use Rattle.net_theory.specs.Cover.{is_cube, matches, value_by, cover_value}
 use Rattle.net_theory.specs.Document.{Name, IsName, is_same, has, Table}
-use Rattle.net_theory.specs.WellFormed.{IsTable}
 use Rattle.net_theory.specs.NameLaws.{has_none, has_cases}
 use Rattle.net_theory.specs.Expansion.{unary_word, binary_word}
-use Rattle.net_theory.specs.Cost.{unary_cost, binary_cost, merged, merged_table, cover_cost, table_cost}
-use Rattle.blif_core.specs.Written.{row_if, table_with, constant_table, unary_table, binary_cubes, binary_table, with_place, with_bit, table_by, gate_table, output_table}
-use Rattle.net_laws.proofs.Saying.{IsSpelledTable}
+use Rattle.net_theory.specs.Cost.{unary_cost, binary_cost, merged_table, cover_cost, table_cost}
+use Rattle.blif_core.specs.Written.{row_if, constant_table, unary_table, binary_cubes, binary_table, with_place, with_bit, table_by, gate_table, output_table}
+use Rattle.net_laws.specs.Spelled.{IsSpelledTable}
 
 -- ---- values
 

@@ -1,10 +1,10 @@
 -- Each gate has the first output that sits on it, or a free name of its own.
-use Rattle.std.specs.Prelude.{◌≡◌, ℕ, zero, suc, ◌+◌, ◌^◌, ◌≤◌, ◌<◌, Bool, true, false, List, [], ◌∷◌, ◌++◌, length, slice_get, slice_index_or, Option, Some, None, ◌⊎◌, refl}
-use Rattle.std.proofs.Common.{arith, sym, ◌∙◌, ap, subst, inl, inr, ⊎_elim, append_assoc, append-nil, length-append}
+use Rattle.std.specs.Prelude.{◌≡◌, ℕ, zero, suc, ◌+◌, ◌≤◌, true, false, List, [], ◌∷◌, ◌++◌, length, slice_get, Option, Some, None, ◌⊎◌, refl}
+use Rattle.std.proofs.Common.{arith, sym, ◌∙◌, ap, subst, inl, inr, ⊎_elim, append_assoc, append-nil}
 use Rattle.std.proofs.lemmas.Bool.{both_ways, false_from_ne_true}
 use Rattle.net_theory.specs.declared.data.Gate.{Gate}
 use Rattle.net_theory.specs.Document.{Name, has, are_distinct}
-use Rattle.net_theory.specs.NameLaws.{has_place, has_first, has_later, has_left, has_right, has_cases, cons_distinct, distinct_cons}
+use Rattle.net_theory.specs.NameLaws.{has_place, has_first, has_later, has_left, cons_distinct, distinct_cons}
 use Rattle.net_theory.specs.Naming.{Naming, named, names_after}
 
 -- outputs on places: each is taken, and sits on one place

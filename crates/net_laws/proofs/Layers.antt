@@ -1,15 +1,14 @@
 -- Tables of which each reads only what stands before it: they have one map, and none depends on itself.
-use Rattle.std.specs.Prelude.{◌≡◌, ℕ, zero, suc, ◌+◌, ◌≤◌, ◌<◌, Bool, true, false, ◌||◌, if◌then◌else◌, List, [], ◌∷◌, ◌++◌, length, map, slice_get, All, Some, None, ◌⊎◌, refl}
+use Rattle.std.specs.Prelude.{◌≡◌, ℕ, zero, suc, ◌<◌, Bool, true, false, if◌then◌else◌, List, [], ◌∷◌, ◌++◌, map, slice_get, All, Some, refl}
 use Rattle.std.specs.List.{flat_map}
 use Rattle.std.proofs.Common.{arith, sym, ◌∙◌, ap, subst, ⊎_elim, append_assoc, append-nil}
-use Rattle.std.proofs.lemmas.Bool.{both_ways, cond-true, cond-false, false_from_ne_true, or_from, or_left}
-use Rattle.std.proofs.lemmas.List.{map-append}
+use Rattle.std.proofs.lemmas.Bool.{both_ways, cond-true, cond-false, false_from_ne_true}
 use Rattle.std.proofs.lemmas.List.Elements.{All-nil, All-cons, All-head, All-tail}
 use Rattle.net_theory.specs.Cover.{cover_value}
 use Rattle.net_theory.specs.Document.{Name, has, are_distinct, is_same, Table, Document, table_output, table_inputs, source_names, driven_names}
-use Rattle.net_theory.specs.NameLaws.{has_none, has_first, has_later, has_cases, has_append, has_left, has_right, has_either, has_map_at, has_all, all_has, same_name, same_itself, cons_distinct, distinct_cons, distinct_apart, append_distinct}
+use Rattle.net_theory.specs.NameLaws.{has_none, has_first, has_cases, has_left, has_right, has_either, has_map_at, has_all, all_has, same_name, same_itself, cons_distinct, distinct_apart, append_distinct}
 use Rattle.net_theory.specs.NetLaws.{map_same}
-use Rattle.net_theory.specs.Behaviour.{HoldsIn, IsMapOf, HasOneMap}
+use Rattle.net_theory.specs.Behaviour.{HoldsIn, HasOneMap}
 use Rattle.net_theory.specs.Dependence.{Reads, DependsOn, at_once, by_way_of, IsAcyclic}
 
 -- a table that reads names before it, and drives another

@@ -10,3 +10,4 @@ pub mod CircuitNames
 pub mod WrittenParts
 pub mod WrittenDocument
 pub mod WrittenValues
+pub mod TextLaws

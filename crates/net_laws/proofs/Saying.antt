@@ -1,5 +1,5 @@
 -- What lines of names say, one after the other.
-use Rattle.std.specs.Prelude.{◌≡◌, ℕ, zero, suc, ◌+◌, ◌*◌, ◌≤◌, ◌<◌, Bool, true, false, not, ◌&&◌, ◌||◌, ◌==◌, nat_le, nat_lt, if◌then◌else◌, List, [], ◌∷◌, ◌++◌, length, map, All, Option, Some, None, Result, Ok, Err, codes, option_to_list, refl}
+use Rattle.std.specs.Prelude.{◌≡◌, ℕ, zero, suc, ◌+◌, ◌≤◌, ◌<◌, Bool, true, false, not, ◌&&◌, ◌||◌, ◌==◌, nat_le, nat_lt, if◌then◌else◌, List, [], ◌∷◌, ◌++◌, length, map, All, Option, Some, None, Result, Ok, Err, codes, refl}
 use Rattle.std.specs.List.{flat_map, list_all}
 use Rattle.std.proofs.Common.{arith, sym, ◌∙◌, ap, subst, append_assoc, append-nil, length-append}
 use Rattle.std.proofs.lemmas.Bool.{and_from, and_parts, or_right, cond-true, cond-false, cond_both, eq-eqb, eqb-true, false_from_ne_true, lt-leb, le-ltb}
@@ -8,15 +8,16 @@ use Rattle.text_core.specs.Lines.{lines_from}
 use Rattle.net_theory.specs.declared.data.Trigger.{Trigger}
 use Rattle.net_theory.specs.declared.data.Trigger.TheVariants.{Fe, Re, Ah, Al, As}
 use Rattle.net_theory.specs.Cover.{is_cube, is_cube_byte}
-use Rattle.net_theory.specs.Document.{Name, IsName, is_name, Table, Latch, LatchLine, Document}
+use Rattle.net_theory.specs.Document.{Name, IsName, is_name, Table, LatchLine, Document}
 use Rattle.net_theory.specs.WellFormed.{IsTable, IsLatchLine, IsControl, IsInit}
 use Rattle.net_core.specs.declared.error.NetError.{NetError}
 use Rattle.blif_text.specs.Reading.{◌>>=◌}
-use Rattle.blif_text.specs.Logical.{Logical, begun_at, logical_from, logical_of}
-use Rattle.blif_text.specs.Rows.{bit_in, row_with, row_in, is_first, agrees, with_row, row_of, Row}
-use Rattle.blif_text.specs.Latches.{Tail, trigger_in, init_in, tail_with, with_control, tail_by, tail_by_both, tail_in, latch_with, latch_of}
-use Rattle.blif_text.specs.Statements.{Said, nothing, closed, are_names, with_model, front_of, last_of, empty_table, table_of, with_table, with_latch, directed, covered, behind_end, begins_dot, keyword_of, stated, step, steps, listed_by}
-use Rattle.blif_core.specs.Spelling.{trigger_text, digit_text}
+use Rattle.blif_text.specs.Logical.{logical_from, logical_of}
+use Rattle.blif_text.specs.Rows.{bit_in, row_in, is_first, with_row, row_of}
+use Rattle.blif_text.specs.Latches.{trigger_in, init_in, tail_with, with_control, tail_by, tail_by_both, tail_in, latch_with, latch_of}
+use Rattle.blif_text.specs.Statements.{Said, nothing, closed, are_names, with_model, front_of, last_of, empty_table, table_of, with_table, with_latch, directed, begins_dot, keyword_of, stated, steps, listed_by}
+use Rattle.blif_core.specs.Spelling.{trigger_text}
+use Rattle.net_laws.specs.Spelled.{IsSpelledTable}
 use Rattle.net_laws.proofs.WordLines.{line_of, logical_line, step_line}
 
 -- ---- lines
@@ -356,11 +357,6 @@ rows_said n s t done (cube ∷ cubes) going all room =
 
 abbrev pub add_tables : List Table → Document → Document
 add_tables ts d = record d { tables = d.tables ++ ts }
-
--- a table whose cubes say where it is 1
-pub record IsSpelledTable (t : Table) : Type 0 where
-  pub table : IsTable t
-  pub on : t.cover.on ≡ true
 
 names_said : (n : ℕ) (t : Table) (s : Said) (d : Document) → IsTable t → Has d s → Says n (names_line t ∷ []) s (λ u. u ≡ open_table (with_table (closed s) t) (with_cubes (empty_table t.inputs t.output) []))
 unfolding directed keyword_of

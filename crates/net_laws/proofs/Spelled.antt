@@ -1,20 +1,19 @@
 -- What was written is read as the document that it spells.
-use Rattle.std.specs.Prelude.{◌≡◌, ℕ, zero, suc, ◌+◌, ◌≤◌, Bool, true, false, not, ◌||◌, ◌==◌, if◌then◌else◌, List, [], ◌∷◌, ◌++◌, length, map, All, Option, Some, None, Result, Ok, Err, IfOk, codes, refl}
+use Rattle.std.specs.Prelude.{◌≡◌, ℕ, zero, suc, ◌+◌, ◌≤◌, Bool, true, false, not, ◌||◌, ◌==◌, if◌then◌else◌, List, [], ◌∷◌, ◌++◌, length, map, All, Option, Some, None, Result, Ok, codes, refl}
 use Rattle.std.specs.List.{flat_map, filter_map, cons_option, list_all}
 use Rattle.std.specs.Option.{option_map}
 use Rattle.std.proofs.Common.{arith, sym, ◌∙◌, ap, subst, ⊎_elim, append_assoc, append-nil, length-append}
 use Rattle.std.proofs.lemmas.Bool.{cond_both, cond-false, eqb-true, eqb-false, cases_lt, and_parts, and_from, or_cases, not_from_false}
-use Rattle.std.proofs.lemmas.Grind.{common_steps, flat_map-append}
-use Rattle.std.proofs.lemmas.List.Elements.{All-nil, All-cons, All-append, All-push, All-head, All-tail, All-map, All-weaker}
+use Rattle.std.proofs.lemmas.Grind.{flat_map-append}
+use Rattle.std.proofs.lemmas.List.Elements.{All-nil, All-cons, All-append, All-push, All-head, All-tail}
 use Rattle.net_theory.specs.declared.data.Trigger.{Trigger}
 use Rattle.net_theory.specs.declared.data.Trigger.TheVariants.{Fe, Re, Ah, Al, As}
 use Rattle.net_theory.specs.Cover.{is_cube, is_cube_byte}
-use Rattle.net_theory.specs.Document.{Name, IsName, is_name, is_name_byte, has, Table, Latch, LatchLine, Document, table_output, latch_of}
+use Rattle.net_theory.specs.Document.{Name, IsName, is_name, is_name_byte, has, Table, LatchLine, Document, table_output, latch_of}
 use Rattle.net_theory.specs.WellFormed.{IsTable, IsLatchLine, IsControl, IsInit, IsFreeOf}
 use Rattle.net_theory.specs.Naming.{control_of, second_of}
 use Rattle.net_core.specs.declared.error.NetError.{NetError}
-use Rattle.net_core.specs.declared.error.NetError.TheVariants.{NotSupported}
-use Rattle.net_document.specs.Listed.{Listed, IsListed, AreFree}
+use Rattle.net_document.specs.Listed.{AreFree}
 use Rattle.blif_text.specs.Logical.{logical_of}
 use Rattle.blif_text.specs.Reading.{◌>>=◌}
 use Rattle.blif_text.specs.Statements.{Said, Control, nothing, steps, said_of, listed_of, listed_by, control_fault, unless}
@@ -22,17 +21,9 @@ use Rattle.blif_text.proofs.Said.{control_name}
 use Rattle.blif_text.proofs.Steps.{IsWhole}
 use Rattle.blif_text.proofs.Listing.{said_whole, text_listed}
 use Rattle.blif_core.specs.Spelling.{word_text, words_text, rest_text, list_text, clocks_text, trigger_text, control_text, init_text, latch_text, row_text, table_text, model_text, spelled}
+use Rattle.net_laws.specs.Spelled.{IsSpelledTable, IsSpelled, IsReadBack}
 use Rattle.net_laws.proofs.WordLines.{line_of}
-use Rattle.net_laws.proofs.Saying.{WordLine, line, line_text, IsLine, said_by, lines_said, Says, says_none, says_then, Has, model_line, model_alone, model_said, rest_lines, list_said, add_inputs, add_outputs, add_clocks, adds_inputs, adds_outputs, adds_clocks, control_words, init_words, latch_words, latch_line, add_latches, latches_said, names_line, row_line, table_lines, add_tables, IsSpelledTable, tables_said, end_line, end_said}
-
--- a document of names, latches and tables that can be spelled
-pub record IsSpelled (d : Document) : Type 0 where
-  pub model : IsName d.model
-  pub inputs : All IsName d.inputs
-  pub outputs : All IsName d.outputs
-  pub clocks : All IsName d.clocks
-  pub latches : All IsLatchLine d.latches
-  pub tables : All IsSpelledTable d.tables
+use Rattle.net_laws.proofs.Saying.{WordLine, line, line_text, IsLine, said_by, lines_said, Says, says_none, says_then, Has, model_line, model_alone, model_said, rest_lines, list_said, add_inputs, add_outputs, add_clocks, adds_inputs, adds_outputs, adds_clocks, control_words, init_words, latch_words, latch_line, add_latches, latches_said, names_line, row_line, table_lines, add_tables, tables_said, end_line, end_said}
 
 -- ---- its lines
 
@@ -374,12 +365,6 @@ controls_free s size is free =
     no_fault (map table_output s.tables) s.controls (subst (λ (ms : List Name). AreNone (map table_output s.tables) ms) (sym is.said.controls) (free_all (map table_output s.tables) s.latches free))
 
 -- a document that is spelled is listed again
-pub record IsReadBack (bytes : List ℕ) (d : Document) : Type 0 where
-  pub listed : Listed
-  pub said : listed_of bytes ≡ Ok listed
-  pub document : listed.document ≡ d
-  pub is : IsListed listed
-
 pub read_back : (d : Document) → IsSpelled d → AreFree d → IsReadBack (spelled d) d
 unfolding listed_of
 read_back d is free =

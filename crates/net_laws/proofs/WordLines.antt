@@ -1,5 +1,5 @@
 -- Lines of names are read as these names.
-use Rattle.std.specs.Prelude.{◌≡◌, ℕ, suc, ◌+◌, ◌*◌, ◌≤◌, Bool, true, false, not, ◌&&◌, ◌||◌, ◌==◌, nat_lt, if◌then◌else◌, List, [], ◌∷◌, ◌++◌, length, All, Option, Some, None, Result, Ok, Err, refl}
+use Rattle.std.specs.Prelude.{◌≡◌, ℕ, ◌+◌, ◌*◌, ◌≤◌, true, false, not, ◌==◌, nat_lt, List, [], ◌∷◌, ◌++◌, length, All, Option, None, refl}
 use Rattle.std.proofs.Common.{arith, sym, ◌∙◌, ap, subst, append_assoc, append-nil, length-append}
 use Rattle.std.proofs.lemmas.Bool.{and_parts, not-true, cond-true, cond-false, or_from, false_from_ne_true, both_ways, eqb-true, le-ltb}
 use Rattle.std.proofs.lemmas.List.Elements.{All-head, All-tail}
@@ -7,13 +7,11 @@ use Rattle.text_core.specs.Lines.{Line, lines_of}
 use Rattle.text_core.specs.Words.{is_free}
 use Rattle.text_core.specs.ReadBack.{line_back, free_both}
 use Rattle.net_theory.specs.Document.{Name, IsName, is_name, is_name_byte}
-use Rattle.net_core.specs.declared.error.NetError.{NetError}
-use Rattle.net_core.specs.declared.error.NetError.TheVariants.{LineTooLong, NameTooLong}
-use Rattle.blif_text.specs.Logical.{Logical, is_blank, before_from, before_comment, trimmed, without_last, or_whole, without_return, content_of, begun_at, ended_by, going_on, line_then, logical_from, logical_of}
+use Rattle.blif_text.specs.Logical.{Logical, is_blank, before_from, before_comment, trimmed, without_last, or_whole, content_of, begun_at, ended_by, going_on, line_then, logical_from, logical_of}
 use Rattle.blif_text.specs.Words.{word_then, words_from, words_of, has_long}
 use Rattle.blif_text.specs.Statements.{Said, stated, step}
 use Rattle.blif_text.proofs.Ends.{trimmed-other, without_last-push}
-use Rattle.blif_core.specs.Spelling.{word_text, words_text}
+use Rattle.blif_core.specs.Spelling.{words_text}
 
 -- a line of words: the first one, and each other behind a blank
 abbrev pub line_of : Name → List Name → List ℕ

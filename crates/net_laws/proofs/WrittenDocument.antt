@@ -1,34 +1,29 @@
 -- A written circuit is a well-formed document that does what the circuit does, at no greater cost.
-use Rattle.std.specs.Prelude.{◌≡◌, ℕ, zero, suc, ◌+◌, ◌-◌, ◌≤◌, ◌<◌, Bool, true, false, if◌then◌else◌, List, [], ◌∷◌, ◌++◌, length, map, slice_get, slice_index_or, sum_by, All, Option, Some, None, ◌⊎◌, refl}
+use Rattle.std.specs.Prelude.{◌≡◌, ℕ, zero, suc, ◌+◌, ◌-◌, ◌≤◌, ◌<◌, Bool, true, false, List, [], ◌∷◌, ◌++◌, length, map, slice_get, slice_index_or, sum_by, All, Option, Some, None, ◌⊎◌, refl}
 use Rattle.std.specs.List.{list_any, flat_map, filter_map, cons_option}
 use Rattle.std.specs.Option.{option_map}
-use Rattle.std.proofs.Common.{arith, sym, ◌∙◌, ap, subst, inl, inr, ⊎_elim, drop, append_assoc, length-append}
-use Rattle.std.proofs.lemmas.Bool.{both_ways, cases_eq, cases_lt, false_from_ne_true}
-use Rattle.std.proofs.lemmas.List.{length-map, length-drop, map-append}
-use Rattle.std.proofs.lemmas.Option.{slice_get_within, slice_get-get_or}
+use Rattle.std.proofs.Common.{arith, sym, ◌∙◌, ap, subst, inl, inr, ⊎_elim, append_assoc}
+use Rattle.std.proofs.lemmas.Bool.{both_ways, false_from_ne_true}
+use Rattle.std.proofs.lemmas.List.{length-drop, map-append}
+use Rattle.std.proofs.lemmas.Option.{slice_get-get_or}
 use Rattle.std.proofs.lemmas.List.Elements.{All-append, All-weaker}
 use Rattle.std.proofs.lemmas.List.Sums.{sum_by-append}
 use Rattle.net_theory.specs.declared.data.Trigger.{Trigger}
 use Rattle.net_theory.specs.declared.data.Sig.{Sig}
 use Rattle.net_theory.specs.declared.data.Sig.TheVariants.{Zero, One, Place}
-use Rattle.net_theory.specs.declared.data.Gate.{Gate}
-use Rattle.net_theory.specs.Net.{Net, IsSigBelow, IsGateAt, end_of, sig_value, gate_value, values_of}
-use Rattle.net_theory.specs.Document.{Name, IsName, has, are_distinct, Table, Latch, LatchLine, Document, latch_of, latch_input, latch_output, latches_of, table_inputs, table_output, source_names, sink_names, driven_names, used_names}
-use Rattle.net_theory.specs.NameLaws.{has_place, has_at, has_left, has_right, has_either, has_none, has_first, has_later, has_cases, has_map_place, all_at, at_all, has_all, all_has, distinct_left, distinct_right, distinct_apart}
-use Rattle.net_theory.specs.Behaviour.{HoldsIn, IsMapOf, HasOneMap}
+use Rattle.net_theory.specs.Net.{IsSigBelow, end_of}
+use Rattle.net_theory.specs.Document.{Name, IsName, has, are_distinct, Table, Latch, LatchLine, latch_of, latch_input, latch_output, table_inputs, table_output, source_names, driven_names, used_names}
+use Rattle.net_theory.specs.NameLaws.{has_place, has_at, has_left, has_right, has_either, has_first, has_later, has_map_place, all_at, at_all, has_all, all_has, distinct_right, distinct_apart}
 use Rattle.net_theory.specs.WellFormed.{IsLatch, IsLatchLine, IsTable, IsFreeOf, IsWellFormed}
 use Rattle.net_theory.specs.Cost.{table_cost, cost}
-use Rattle.net_theory.specs.ValueLaws.{value-source, values_after-gate}
-use Rattle.net_theory.specs.Circuit.{Circuit, IsApart, IsProper, sources_of, by_place, values_by_name, Describes}
-use Rattle.net_theory.specs.Naming.{control_of, second_of, taken_names, output_on, each_once, gate_names, first_spare, second_spare, place_name}
+use Rattle.net_theory.specs.Circuit.{Circuit, IsApart, IsProper, sources_of}
+use Rattle.net_theory.specs.Naming.{control_of, second_of, taken_names, each_once, gate_names, first_spare, second_spare, place_name}
 use Rattle.blif_text.proofs.Controls.{has_all_once}
 use Rattle.blif_core.specs.Written.{gate_tables, is_zero, is_one, next_states, one_name, sig_name, constant_tables, latch_lines, output_tables, written}
-use Rattle.net_laws.specs.Rooms.{HasRoom}
-use Rattle.net_laws.proofs.Saying.{IsSpelledTable}
-use Rattle.net_laws.proofs.Spelled.{IsSpelled}
-use Rattle.net_laws.proofs.Layers.{AreLayered, layered_append, layered_distinct, layered_inputs, layered_acyclic, layered_map}
-use Rattle.net_laws.proofs.CircuitNames.{output_found, outputs_same, output_source, taken_output, taken_source, taken_control, IsSpare, AreNamed, circuit_named, placed, place_at, place_source, place_gate, source_name, place_is}
-use Rattle.net_laws.proofs.WrittenParts.{AreToBeWritten, gates_outputs, gates_spelled, gates_cost, gates_layered, gates_hold, one_of, constants, AreSpare, constants_layered, constants_outputs, constants_spelled, constants_cost, constants_zero, constants_one, zero_driven, one_driven, AreOutputs, HaveOneSink, named_value, outputs_layered, outputs_spelled, outputs_cost, outputs_new, outputs_driven, outputs_hold, lines_latches, IsLineOf, lines_at, lines_values, sinks_split, some_zero, some_one, drop_at}
+use Rattle.net_laws.specs.Spelled.{IsSpelledTable, IsSpelled}
+use Rattle.net_laws.proofs.Layers.{AreLayered, layered_append, layered_distinct, layered_inputs, layered_acyclic}
+use Rattle.net_laws.proofs.CircuitNames.{output_found, taken_output, taken_source, taken_control, IsSpare, AreNamed, placed, place_at, place_source, place_gate, place_is}
+use Rattle.net_laws.proofs.WrittenParts.{AreToBeWritten, gates_outputs, gates_spelled, gates_cost, gates_layered, one_of, constants, AreSpare, constants_layered, constants_outputs, constants_spelled, constants_cost, zero_driven, one_driven, AreOutputs, outputs_layered, outputs_spelled, outputs_cost, outputs_new, outputs_driven, lines_latches, lines_at, some_zero, some_one, drop_at}
 
 -- ---- the parts
 

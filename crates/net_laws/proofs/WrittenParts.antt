@@ -1,20 +1,20 @@
 -- The parts of a written document: tables of gates, of constants and of outputs, and latches.
-use Rattle.std.specs.Prelude.{◌≡◌, ℕ, zero, suc, ◌+◌, ◌≤◌, ◌<◌, Bool, true, false, if◌then◌else◌, List, [], ◌∷◌, ◌++◌, length, map, slice_get, sum_by, All, Some, None, ◌⊎◌, refl}
+use Rattle.std.specs.Prelude.{◌≡◌, ℕ, zero, suc, ◌+◌, ◌≤◌, ◌<◌, Bool, true, false, if◌then◌else◌, List, [], ◌∷◌, ◌++◌, length, map, slice_get, sum_by, All, Some, ◌⊎◌, refl}
 use Rattle.std.specs.List.{list_any}
 use Rattle.std.proofs.Common.{add-zero, arith, sym, ◌∙◌, ap, subst, inl, inr, ⊎_elim, drop}
-use Rattle.std.proofs.lemmas.Bool.{both_ways, cond_both, cases_Bool, cases_eq, false_from_ne_true, or_left, or_right, or_from}
-use Rattle.std.proofs.lemmas.List.Elements.{All-nil, All-cons, All-append, All-head, All-tail}
+use Rattle.std.proofs.lemmas.Bool.{both_ways, cond_both, cases_eq, false_from_ne_true, or_left, or_right}
+use Rattle.std.proofs.lemmas.List.Elements.{All-nil, All-cons, All-head, All-tail}
 use Rattle.std.proofs.lemmas.List.Sums.{sum_by-cons}
 use Rattle.net_theory.specs.declared.data.Sig.{Sig}
-use Rattle.net_theory.specs.declared.data.Sig.TheVariants.{Zero, One, Place}
+use Rattle.net_theory.specs.declared.data.Sig.TheVariants.{Zero, One}
 use Rattle.net_theory.specs.declared.data.Gate.{Gate}
 use Rattle.net_theory.specs.Net.{IsSigBelow, IsGateAt, sig_value, gate_value}
 use Rattle.net_theory.specs.Document.{Name, IsName, has, are_distinct, Table, Latch, LatchLine, table_output, latch_of, latch_input}
-use Rattle.net_theory.specs.NameLaws.{has_none, has_first, has_later, has_cases, has_append, has_left, has_right, has_either, has_neither, distinct_cons}
+use Rattle.net_theory.specs.NameLaws.{has_none, has_first, has_later, has_cases, has_left, has_right, has_either, distinct_cons}
 use Rattle.net_theory.specs.Behaviour.{HoldsIn}
 use Rattle.net_theory.specs.Cost.{table_cost}
 use Rattle.blif_core.specs.Written.{constant_table, gate_table, gate_tables, is_zero, is_one, table_if, latch_lines, output_table, output_tables}
-use Rattle.net_laws.proofs.Saying.{IsSpelledTable}
+use Rattle.net_laws.specs.Spelled.{IsSpelledTable}
 use Rattle.net_laws.proofs.Layers.{IsLayer, AreLayered}
 use Rattle.net_laws.proofs.GateTables.{AreNamesBelow, IsGateTable, gate_is, IsOutputTable, output_is, constant_is, constant_cost, constant_hold}
 

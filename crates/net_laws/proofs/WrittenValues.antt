@@ -1,6 +1,6 @@
 -- The document of a circuit has the circuit's values.
-use Rattle.std.specs.Prelude.{◌≡◌, ℕ, zero, suc, ◌+◌, ◌-◌, ◌≤◌, ◌<◌, Bool, true, false, List, [], ◌∷◌, ◌++◌, length, map, slice_get, slice_index_or, All, Some, ◌⊎◌, refl}
-use Rattle.std.proofs.Common.{arith, sym, ◌∙◌, ap, subst, ⊎_elim, drop}
+use Rattle.std.specs.Prelude.{◌≡◌, ℕ, zero, suc, ◌+◌, ◌-◌, ◌≤◌, ◌<◌, Bool, true, List, [], ◌∷◌, ◌++◌, length, map, slice_get, All, Some, refl}
+use Rattle.std.proofs.Common.{arith, sym, ◌∙◌, ap, subst, ⊎_elim}
 use Rattle.std.proofs.lemmas.Bool.{both_ways, cases_eq}
 use Rattle.std.proofs.lemmas.List.{map-append}
 use Rattle.std.proofs.lemmas.List.Elements.{All-nil, All-cons, All-head, All-tail}
@@ -9,7 +9,7 @@ use Rattle.net_theory.specs.declared.data.Sig.{Sig}
 use Rattle.net_theory.specs.declared.data.Sig.TheVariants.{Zero, One, Place}
 use Rattle.net_theory.specs.declared.data.Gate.{Gate}
 use Rattle.net_theory.specs.Net.{IsSigBelow, IsGateAt, end_of, sig_value, gate_value, values_of}
-use Rattle.net_theory.specs.Document.{Name, has, Table, LatchLine, latch_input, latches_of, source_names, sink_names}
+use Rattle.net_theory.specs.Document.{Name, has, latch_input}
 use Rattle.net_theory.specs.NameLaws.{has_place, has_at, has_either, all_at}
 use Rattle.net_theory.specs.Behaviour.{HoldsIn, IsMapOf}
 use Rattle.net_theory.specs.ValueLaws.{value-source, values_after-gate}

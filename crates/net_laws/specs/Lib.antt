@@ -1,1 +1,13 @@
+pub use Rattle.net_theory.specs.Document
+pub use Rattle.net_theory.specs.Behaviour
+pub use Rattle.net_theory.specs.WellFormed
+pub use Rattle.net_theory.specs.Circuit
+pub use Rattle.net_document.specs.Listed
+pub use Rattle.net_document.specs.Refusals
+pub use Rattle.blif_text.specs.Statements
+pub use Rattle.blif_core.specs.Written
+pub use Rattle.blif_core.specs.Spelling
+pub use Rattle.blif_core.specs.Texts
 pub mod Rooms
+pub mod Spelled
+pub mod CircuitTexts

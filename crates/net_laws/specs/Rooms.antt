@@ -1,5 +1,5 @@
 -- Circuits whose names can be numbered.
-use Rattle.std.specs.Prelude.{ℕ, ◌<◌, ◌^◌, length}
+use Rattle.std.specs.Prelude.{◌<◌, ◌^◌, length}
 use Rattle.net_theory.specs.Circuit.{Circuit}
 use Rattle.net_theory.specs.Naming.{taken_names}
 
