@@ -17,13 +17,9 @@ use Rattle.enc_ssv.proofs.Formulas.{both-few}
 pub ruleset fence = (common_steps, both-few)
 
 -- what a satisfying assignment of a fence's formula spells
-pub spelled_is_for : (w : Words) (basis r : ℕ) (fence : List ℕ) (v : Assignment) → Satisfies v (fence_formula w basis r fence) → IsFor w basis r (decoded w (sizes_of (live_words w) r) (fence_layout basis fence (sizes_of (live_words w) r)) v)
-unfolding fence_decoded
-spelled_is_for w basis r fence v sat = fence_decodes w basis r fence v sat
-
-inputs_kept : (w : Words) (basis r : ℕ) (fence : List ℕ) (v : Assignment) → (decoded w (sizes_of (live_words w) r) (fence_layout basis fence (sizes_of (live_words w) r)) v).n ≡ w.n
-unfolding decoded
+inputs_kept : (w : Words) (basis r : ℕ) (fence : List ℕ) (v : Assignment) → (fence_decoded w basis r fence v).n ≡ w.n
+unfolding fence_decoded decoded
 inputs_kept w basis r fence v = refl
 
-pub spelled_is_small : (w : Words) (basis r : ℕ) (fence : List ℕ) (v : Assignment) → IsSpec w → r ≤ 16 → Satisfies v (fence_formula w basis r fence) → IsSmallChain (decoded w (sizes_of (live_words w) r) (fence_layout basis fence (sizes_of (live_words w) r)) v)
-spelled_is_small w basis r fence v spec low sat = small_chain w basis r (decoded w (sizes_of (live_words w) r) (fence_layout basis fence (sizes_of (live_words w) r)) v) spec low (inputs_kept w basis r fence v) (spelled_is_for w basis r fence v sat)
+pub spelled_is_small : (w : Words) (basis r : ℕ) (fence : List ℕ) (v : Assignment) → IsSpec w → r ≤ 16 → Satisfies v (fence_formula w basis r fence) → IsSmallChain (fence_decoded w basis r fence v)
+spelled_is_small w basis r fence v spec low sat = small_chain w basis r (fence_decoded w basis r fence v) spec low (inputs_kept w basis r fence v) (fence_decodes w basis r fence v sat)

@@ -1,7 +1,9 @@
 ghost use Rattle.std.specs.Prelude.{◌≡◌, ◌≤◌, length, All, IfOk};
+ghost use Rattle.chain_core.specs.Steps.{IsSmallChain};
+ghost use Rattle.sat_theory.specs.Formula.{bits_of};
 ghost use Rattle.enc_theory.specs.Numbering.{sizes_of};
 ghost use Rattle.enc_theory.specs.Pairs.{vars_of, slot_count};
-ghost use Rattle.enc_theory.specs.Fence.{fence_layout};
+ghost use Rattle.enc_theory.specs.Fence.{fence_layout, fence_decoded};
 ghost use Rattle.enc_frame.specs.Room.{HasRoom, HasSlots};
 ghost use Rattle.enc_fence.specs.Parts.{fence_in};
 
@@ -57,6 +59,26 @@ fn layout_in(
     Layout::new(alloc, &pairs, sizes(live, r))
 }
 
+/// The chain that an assignment spells in a part's fence.
+#[tactic(auto, unfolding(enc_theory::specs::Fence::fence_decoded))]
+fn decode_in(
+    alloc: Global,
+    spec: &Spec,
+    basis: Basis,
+    r: u32,
+    part: &Part,
+    assign: &Assign,
+) -> Result<Chain, AllocError>
+    requires size { r ≤ 16 }
+    requires chain { IsSmallChain (fence_decoded spec.now basis r (fence_in part.now) (bits_of assign.now)) }
+    ensures { IfOk result (λ chain. chain ≡ fence_decoded spec.now basis r (fence_in part.now) (bits_of assign.now)) }
+{
+    let live = live_part(alloc, spec)?;
+    let z = sizes(&live, r);
+    let layout = layout_in(alloc, &live, basis, r, part)?;
+    decode(alloc, spec, z, &layout.steps, assign)
+}
+
 impl Encoding for FenceEnc {
     ghost use Rattle.enc_theory.specs.Fence.{fence_formula};
     ghost use Rattle.enc_fence.specs.Parts.{parts_for, fence_in};
@@ -100,7 +122,6 @@ impl Encoding for FenceEnc {
         list.into_cnf(alloc)
     }
 
-    #[tactic(auto, using(crate::proofs::Formulas::fence))]
     fn decode(
         &self,
         alloc: Global,
@@ -110,11 +131,8 @@ impl Encoding for FenceEnc {
         part: &Part,
         assign: &Assign,
     ) -> Result<Chain, AllocError> {
-        let live = live_part(alloc, spec)?;
-        // brings that the live part is within the limits
-        let _n = live.n();
-        let z = sizes(&live, r);
-        let layout = layout_in(alloc, &live, basis, r, part)?;
-        decode(alloc, spec, z, &layout.steps, assign)
+        // brings that the tables are within the limits
+        let _n = spec.n();
+        decode_in(alloc, spec, basis, r, part, assign)
     }
 }

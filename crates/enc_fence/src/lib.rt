@@ -13,12 +13,12 @@
 
 mod encoding;
 pub mod laws;
-mod levels;
 mod pairs;
+mod step_levels;
 
 pub use encoding::FenceEnc;
-pub use levels::levels;
 pub use pairs::FencePairs;
+pub use step_levels::levels;
 
 #[cfg(test)]
 mod tests;

@@ -4,4 +4,4 @@ use Rattle.enc_theory.specs.Pairs.{pairs_with}
 use Rattle.enc_fence.proofs.pairs.pairs_over.Given as goal
 
 abbrev pub invariant-loop-large : goal.invariant-loop-large
-invariant-loop-large l = l.pairs.items ≡ flat_map (pairs_with l.ordered) (range_with_len l.places.first (l.large - l.places.first))
+invariant-loop-large l = l.pairs.items ≡ flat_map (pairs_with l.ordered) (range_with_len l.fn.places.first (l.large - l.fn.places.first))

@@ -4,7 +4,7 @@ use Rattle.chain_core.specs.Steps.{steps_of}
 use Rattle.chain_laws.specs.Follow.{run}
 use Rattle.chain_laws.specs.Levels.{step_level}
 use Rattle.enc_fence.specs.Heights.{heights}
-use Rattle.enc_fence.proofs.levels.levels_into.Given as goal
+use Rattle.enc_fence.proofs.step_levels.levels_into.Given as goal
 
 abbrev pub invariant-loop-step : goal.invariant-loop-step
 invariant-loop-step l = record {
