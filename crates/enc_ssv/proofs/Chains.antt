@@ -25,7 +25,7 @@ if_ok P Q (Ok x) each holds = each x holds
 if_ok P Q (Err e) each holds = tt
 
 -- a chain for tables within the limits is within them
-pub small_chain : (w : Words) (basis r : ℕ) (c : Chain) → IsSpec w → r ≤ 16 → c.n ≡ w.n → IsFor w basis r c → IsSmallChain c
+small_chain : (w : Words) (basis r : ℕ) (c : Chain) → IsSpec w → r ≤ 16 → c.n ≡ w.n → IsFor w basis r c → IsSmallChain c
 small_chain w basis r c spec low inputs is = record {
   chain = is.is_chain;
   inputs = rw inputs spec.inputs;
