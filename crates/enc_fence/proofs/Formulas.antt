@@ -11,7 +11,7 @@ use Rattle.enc_theory.specs.Fence.{fence_layout, fence_formula, fence_decoded}
 use Rattle.enc_theory.specs.Decode.{decoded}
 use Rattle.enc_laws.specs.Decoded.{IsFor}
 use Rattle.enc_laws.specs.Fence.{fence_decodes}
-use Rattle.enc_ssv.proofs.Chains.{small_chain}
+use Rattle.enc_cuts.proofs.Chains.{small_chain}
 use Rattle.enc_ssv.proofs.Formulas.{both-few}
 
 pub ruleset fence = (common_steps, both-few)

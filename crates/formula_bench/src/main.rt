@@ -28,11 +28,13 @@ fn main(rt: HostRuntime) -> io::Result<()> {
         return println!(rt; "no size");
     };
     match build(alloc, words[0].as_bytes(), &bytes, r) {
-        Some(Size {
-            vars,
-            clauses,
-            literals,
-        }) => println!(rt; "{vars} variables, {clauses} clauses, {literals} literals"),
+        Some(
+            Size {
+                vars,
+                clauses,
+                literals,
+            },
+        ) => println!(rt; "{vars} variables, {clauses} clauses, {literals} literals"),
         None => println!(rt; "no formula"),
     }
 }
