@@ -19,7 +19,7 @@ use Rattle.enc_frame.specs.PairLaws.{flat_map-few}
 use Rattle.enc_frame.specs.Counts.{pieces-few, written-few, times-few}
 
 -- clauses that are listed under a test
-if-few : (test : Bool) (clauses : List (List ℤ)) (k : ℕ) → length clauses ≤ k → length (if test then clauses else []) ≤ k
+pub if-few : (test : Bool) (clauses : List (List ℤ)) (k : ℕ) → length clauses ≤ k → length (if test then clauses else []) ≤ k
 if-few true clauses k few = few
 if-few false clauses k few = omega arith
 
@@ -34,7 +34,7 @@ other-few : (basis : ℕ) (z : Sizes) (i op : ℕ) → length (other_operator ba
 unfolding other_operator
 other-few basis z i op = if-few (members basis op) (written _) 1 (written-few _)
 
-idle-few : (constants : Bool) (basis : ℕ) (z : Sizes) (i : ℕ) → length (not_idle constants basis z i) ≤ 4
+pub idle-few : (constants : Bool) (basis : ℕ) (z : Sizes) (i : ℕ) → length (not_idle constants basis z i) ≤ 4
 unfolding not_idle
 idle-few true basis z i = let all = pieces-few (other_operator basis z i) 1 (0 ∷ 3 ∷ 5 ∷ 15 ∷ []) (λ op. other-few basis z i op) in omega (arith, all)
 idle-few false basis z i = let all = pieces-few (other_operator basis z i) 1 (3 ∷ 5 ∷ []) (λ op. other-few basis z i op) in omega (arith, all)
@@ -132,7 +132,7 @@ exchange-few w steps inputs few =
     let all : length (flat_map (exchange_with w steps) (range_with_len 1 w.n)) ≤ w.n * 96000 = flat_map-few (exchange_with w steps) 96000 1 w.n (λ p low high. row p) in
     omega (arith, all)
 
-row_0-few : (basis : ℕ) (z : Sizes) → IsSmall z → length (row_0 basis z) ≤ 16
+pub row_0-few : (basis : ℕ) (z : Sizes) → IsSmall z → length (row_0 basis z) ≤ 16
 unfolding row_0 row_0_at
 row_0-few basis z small =
     let all : length (flat_map (row_0_at z) (range_with_len (z.n + 1) z.r)) ≤ z.r * 1 = flat_map-few (row_0_at z) 1 (z.n + 1) z.r (λ i low high. written-few _) in

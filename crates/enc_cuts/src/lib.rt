@@ -8,6 +8,8 @@
 //! push_common(alloc, &mut list, &live, basis, z, &layout.steps)?; // what a chain is
 //! push_cuts(alloc, &mut list, &live, basis, z, &layout.steps)?;   // and no needless one
 //! ```
+//!
+//! Those that no pair is in, or the parts of them, stand alone too, for encodings of another kind.
 #![tactic(auto)]
 
 ghost use Rattle.std.specs.Prelude.{◌≡◌, ◌++◌, All, OnOk};
@@ -22,10 +24,13 @@ mod slots;
 mod trivial;
 mod used;
 
+pub use crate::row_zero::push_row_0;
+pub use crate::slots::push_bearers;
+pub use crate::trivial::{push_not_idle, push_operator};
+
 use crate::again::push_again;
 use crate::exchange::push_exchange;
 use crate::order::push_order;
-use crate::row_zero::push_row_0;
 use crate::trivial::push_not_trivial;
 use crate::used::push_used;
 use enc_frame::{ClauseList, StepSlots};

@@ -35,9 +35,9 @@ fn push_rows_0(alloc: Global, list: &mut ClauseList, z: Sizes) -> Result<(), All
     Ok(())
 }
 
-/// That each step is 0 on row 0 or is an output, where the basis is closed under complements.
+/// Writes that each step is 0 on row 0 or is an output, where the basis is closed under complements.
 #[tactic(auto, unfolding(enc_theory::specs::Cuts::row_0))]
-pub(crate) fn push_row_0(
+pub fn push_row_0(
     alloc: Global,
     list: &mut ClauseList,
     basis: Basis,

@@ -25,7 +25,7 @@ pub(crate) fn reads_without(p: u32, q: u32, slot: Slot) -> bool
 
 /// Adds for each output that it is the step.
 #[tactic(auto, using(enc_frame::proofs::Ranges::loops), unfolding(enc_theory::specs::Cuts::bears, enc_theory::specs::Families::bearer))]
-pub(crate) fn push_bearers(raws: &mut Vec<Raw>, z: Sizes, place: u32) -> Result<(), AllocError>
+pub fn push_bearers(raws: &mut Vec<Raw>, z: Sizes, place: u32) -> Result<(), AllocError>
     requires small { IsSmall z }
     requires place { IsPlace z place }
     ensures { OnOk result (raws.new.items ≡ raws.old.items ++ map (bears z place) (outputs z)) }

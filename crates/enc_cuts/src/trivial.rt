@@ -14,7 +14,7 @@ use std::alloc::{AllocError, Global};
 
 /// Adds that the operator of step `i` is another one.
 #[tactic(auto, unfolding(enc_theory::specs::Families::operator_raw))]
-fn push_operator(raws: &mut Vec<Raw>, z: Sizes, i: u32, op: Op) -> Result<(), AllocError>
+pub fn push_operator(raws: &mut Vec<Raw>, z: Sizes, i: u32, op: Op) -> Result<(), AllocError>
     requires small { IsSmall z }
     requires place { IsPlace z i }
     ensures { OnOk result (raws.new.items ≡ raws.old.items ++ operator_raw z i op) }
@@ -48,9 +48,9 @@ fn push_other_operator(
     list.push(alloc, &raws)
 }
 
-/// That step `i` copies no operand, and is no constant, where constants can be left out.
+/// Writes that step `i` copies no operand, and is no constant, where constants can be left out.
 #[tactic(auto, using(crate::proofs::Pieces::pieces), unfolding(enc_theory::specs::Cuts::not_idle))]
-fn push_not_idle(
+pub fn push_not_idle(
     alloc: Global,
     list: &mut ClauseList,
     constants: bool,

@@ -42,7 +42,7 @@ rows-few n low = let most : 2 ^ n ≤ 2 ^ 6 = pow_mono low in omega (arith, most
 
 -- ---- the families
 
-out_exists-few : (z : Sizes) → IsSmall z → length (out_exists z) ≤ 8
+pub out_exists-few : (z : Sizes) → IsSmall z → length (out_exists z) ≤ 8
 unfolding out_exists out_exists_at
 out_exists-few z small =
     let all : length (flat_map (out_exists_at z) (range_with_len 1 z.m)) ≤ z.m * 1 = flat_map-few (out_exists_at z) 1 1 z.m (λ h low high. written-few _) in
@@ -66,7 +66,7 @@ out_values_at-few w z h small =
     let all : length (flat_map (out_values_of w z h) (range_with_len (z.n + 1) z.r)) ≤ z.r * 64 = flat_map-few (out_values_of w z h) 64 (z.n + 1) z.r (λ i low high. out_values_of-few w z h i small) in
     omega (arith, all, small.steps)
 
-out_values-few : (w : Words) (z : Sizes) → IsSmall z → length (out_values w z) ≤ 8192
+pub out_values-few : (w : Words) (z : Sizes) → IsSmall z → length (out_values w z) ≤ 8192
 unfolding out_values
 out_values-few w z small =
     let all : length (flat_map (out_values_at w z) (range_with_len 1 z.m)) ≤ z.m * 1024 = flat_map-few (out_values_at w z) 1024 1 z.m (λ h low high. out_values_at-few w z h small) in
@@ -108,7 +108,7 @@ operators_at-few basis z i =
     let all : length (flat_map (operator_clause basis z i) (range_with_len 0 16)) ≤ 16 * 1 = flat_map-few (operator_clause basis z i) 1 0 16 (λ op low high. clause_if-few (members basis op) (operator_raw z i op)) in
     omega (arith, all)
 
-operators-few : (basis : ℕ) (z : Sizes) → IsSmall z → length (operators basis z) ≤ 256
+pub operators-few : (basis : ℕ) (z : Sizes) → IsSmall z → length (operators basis z) ≤ 256
 unfolding operators
 operators-few basis z small =
     let all : length (flat_map (operators_at basis z) (range_with_len (z.n + 1) z.r)) ≤ z.r * 16 = flat_map-few (operators_at basis z) 16 (z.n + 1) z.r (λ i low high. operators_at-few basis z i) in

@@ -5,7 +5,7 @@ ghost use Rattle.sat_theory.specs.Formula.{bits_of};
 ghost use Rattle.tt_core.specs.Live.{live_among};
 ghost use Rattle.tt_core.specs.Words.{specification};
 ghost use Rattle.enc_theory.specs.Numbering.{places, outputs};
-ghost use Rattle.enc_theory.specs.Decode.{first_pair as first_pair_of, operator_in, decoded_step as decoded_step_of, first_bearer as first_bearer_of, decoded_out, restored_at, restored as restored_of, decoded};
+ghost use Rattle.enc_theory.specs.Decode.{first_pair as first_pair_of, operator_in, decoded_step as decoded_step_of, first_bearer as first_bearer_of, decoded_out, restored_at, restored as restored_of, with_outs as with_outs_of, decoded};
 ghost use Rattle.enc_frame.specs.Room.{IsSmall, IsPlace, HasPlace};
 
 use crate::layout::StepSlots;
@@ -17,8 +17,8 @@ use op_basis::Op;
 use std::alloc::{AllocError, Global};
 use tt_core::{Spec, trivial};
 
-/// The bit of a variable; those behind the list are 0.
-fn bit(bits: &[bool], variable: u32) -> bool
+/// The bit of a variable, numbered from 1; those behind the list are 0.
+pub fn bit(bits: &[bool], variable: u32) -> bool
     ensures { result ≡ bits_of bits.now variable }
 {
     if variable == 0 {
@@ -48,8 +48,8 @@ fn first_pair(bits: &[bool], slots: &[Slot]) -> Pair
     Pair { j: 1, k: 1 }
 }
 
-/// The operator of the step at a place.
-fn operator(bits: &[bool], z: Sizes, place: u32) -> Op
+/// The operator of the step at a place, as its four variables spell it.
+pub fn operator(bits: &[bool], z: Sizes, place: u32) -> Op
     requires small { IsSmall z }
     requires place { IsPlace z place }
     ensures { result ≡ operator_in z (bits_of bits.now) place }
@@ -170,9 +170,26 @@ fn restored(alloc: Global, spec: &Spec, live: &[Out]) -> Result<Vec<Out>, AllocE
     Ok(outs)
 }
 
+/// The chain of these steps for the tables: each live output is the first step whose variable for it
+/// is true, and the trivial outputs are put back in their places. `z` counts the live outputs.
+pub fn with_outs(
+    alloc: Global,
+    spec: &Spec,
+    z: Sizes,
+    steps: Vec<Step>,
+    assign: &Assign,
+) -> Result<Chain, AllocError>
+    requires small { IsSmall z }
+    requires chain { IsSmallChain (with_outs_of spec.now z (steps_of steps.items) (bits_of assign.now)) }
+    ensures { IfOk result (λ chain. chain ≡ with_outs_of spec.now z (steps_of steps.items) (bits_of assign.now)) }
+{
+    let live = live_outs(alloc, assign.bits(), z)?;
+    let outs = restored(alloc, spec, &live)?;
+    Ok(Chain::new(spec.n(), steps, outs))
+}
+
 /// The chain for the tables: each step with the first of its pairs whose variable is true and the
-/// operator that its four variables spell, each live output the first step whose variable for it is
-/// true, and the trivial outputs put back in their places. `z` counts the live outputs.
+/// operator that its four variables spell, and the outs of `with_outs`.
 #[tactic(auto, unfolding(enc_theory::specs::Decode::decoded))]
 pub fn decode(
     alloc: Global,
@@ -186,9 +203,6 @@ pub fn decode(
     requires chain { IsSmallChain (decoded spec.now z steps.now (bits_of assign.now)) }
     ensures { IfOk result (λ chain. chain ≡ decoded spec.now z steps.now (bits_of assign.now)) }
 {
-    let bits = assign.bits();
-    let chain = decoded_steps(alloc, bits, z, steps)?;
-    let live = live_outs(alloc, bits, z)?;
-    let outs = restored(alloc, spec, &live)?;
-    Ok(Chain::new(spec.n(), chain, outs))
+    let chain = decoded_steps(alloc, assign.bits(), z, steps)?;
+    with_outs(alloc, spec, z, chain, assign)
 }

@@ -32,9 +32,9 @@ fn push_out_exists_at(
     list.push(alloc, &raws)
 }
 
-/// That each output is some step.
+/// Writes that each output is some step.
 #[tactic(auto, using(crate::proofs::Ranges::loops), unfolding(enc_theory::specs::Families::out_exists))]
-fn push_out_exists(alloc: Global, list: &mut ClauseList, z: Sizes) -> Result<(), AllocError>
+pub fn push_out_exists(alloc: Global, list: &mut ClauseList, z: Sizes) -> Result<(), AllocError>
     requires { HasRoom z list.old.vars }
     ensures { OnOk result (list.new ≡ record list.old { clauses = list.old.clauses ++ out_exists z }) }
 {
@@ -134,9 +134,9 @@ fn push_out_values_at(
     Ok(())
 }
 
-/// That a step which is an output has the values of its cells.
+/// Writes that a step which is an output has the values of its cells.
 #[tactic(auto, using(crate::proofs::Ranges::loops), unfolding(enc_theory::specs::Families::out_values))]
-fn push_out_values(
+pub fn push_out_values(
     alloc: Global,
     list: &mut ClauseList,
     spec: &Spec,
@@ -236,9 +236,9 @@ fn push_operators_at(
     Ok(())
 }
 
-/// That each step's operator is a member.
+/// Writes that each step's operator is a member.
 #[tactic(auto, using(crate::proofs::Ranges::loops), unfolding(enc_theory::specs::Families::operators))]
-fn push_operators(
+pub fn push_operators(
     alloc: Global,
     list: &mut ClauseList,
     basis: Basis,

@@ -22,7 +22,7 @@ pub fn sizes(spec: &Spec, r: u32) -> Sizes
 
 /// How many rows there are.
 #[tactic(auto, using(crate::proofs::Bounds::row_count))]
-pub(crate) fn rows(z: Sizes) -> u32
+pub fn rows(z: Sizes) -> u32
     requires { IsSmall z }
     ensures value { result ≡ 2 ^ z.n }
     ensures few { result ≤ 64 }
@@ -75,9 +75,9 @@ pub fn f_var(z: Sizes, i: u32, b: bool, c: bool) -> u32
     f_first(z) + 4 * (i - (z.n + 1)) + (2 * u32::from(b) + u32::from(c))
 }
 
-/// The first variable of pairs.
+/// The first variable behind those of values, outputs and operators.
 #[tactic(auto, unfolding(enc_theory::specs::Numbering::s_first))]
-pub(crate) fn s_first(z: Sizes) -> u32
+pub fn s_first(z: Sizes) -> u32
     requires { IsSmall z }
     ensures value { result ≡ s_first_of z }
     ensures few { (1 ≤ result) × (result ≤ 1217) }

@@ -12,26 +12,13 @@ use Rattle.enc_theory.specs.Plain.{plain_formula, plain_decoded}
 use Rattle.enc_ssv.specs.Spelled.{spelled}
 use Rattle.enc_theory.specs.Decode.{decoded}
 use Rattle.enc_laws.specs.Decoded.{IsFor}
+use Rattle.enc_cuts.proofs.Chains.{small_chain}
 use Rattle.enc_laws.specs.Laws.{plain_decodes}
 use Rattle.enc_laws.specs.Ssv.{ssv_decodes}
 use Rattle.enc_theory.specs.Ssv.{ssv_formula, ssv_decoded}
 use Rattle.op_basis.specs.Basis.{members}
 use Rattle.op_basis.specs.Closed.{swap_closed}
 use Rattle.std.proofs.lemmas.Grind.{common_steps}
-
--- what holds of each value of which something else holds
-pub if_ok : {X E : Type 0} (P Q : X → Type 0) (r : Result X E) → ((x : X) → P x → Q x) → IfOk r P → IfOk r Q
-if_ok P Q (Ok x) each holds = each x holds
-if_ok P Q (Err e) each holds = tt
-
--- a chain for tables within the limits is within them
-small_chain : (w : Words) (basis r : ℕ) (c : Chain) → IsSpec w → r ≤ 16 → c.n ≡ w.n → IsFor w basis r c → IsSmallChain c
-small_chain w basis r c spec low inputs is = record {
-  chain = is.is_chain;
-  inputs = rw inputs spec.inputs;
-  steps = omega (arith, is.size);
-  outs = omega (arith, is.agrees.outputs, spec.outputs);
-}
 
 plain_spelled : (w : Words) (r : ℕ) (v : Assignment) → plain_decoded w r v ≡ spelled false w r v
 unfolding plain_decoded spelled

@@ -6,7 +6,8 @@ use Rattle.sat_theory.specs.Formula.{bits_of}
 use Rattle.tt_core.specs.Words.{specification}
 use Rattle.enc_laws.specs.Decoded.{IsFor}
 use Rattle.enc_ssv.specs.Spelled.{spelled}
-use Rattle.enc_ssv.proofs.Chains.{if_ok, ssv_is_for, ssv_is_small}
+use Rattle.enc_cuts.proofs.Chains.{if_ok}
+use Rattle.enc_ssv.proofs.Chains.{ssv_is_for, ssv_is_small}
 use Rattle.enc_ssv.proofs.ssv.SsvEncoding.decode.Goals as goal
 
 pub decode_pairs-requires-clause-chain : goal.decode_pairs-requires-clause-chain

@@ -1,0 +1,29 @@
+use Rattle.std.proofs.Common.{◌≡◌, sym, subst, length}
+use Rattle.chain_theory.specs.Chain.{Chain}
+use Rattle.chain_theory.specs.Agreement.{IsOver, Agrees}
+use Rattle.op_basis.specs.Basis.{members}
+use Rattle.sat_theory.specs.Formula.{bits_of}
+use Rattle.tt_core.specs.Words.{specification}
+use Rattle.enc_theory.specs.Select.{select_decoded}
+use Rattle.enc_laws.specs.Select.{select_decodes}
+use Rattle.enc_cuts.proofs.Chains.{if_ok}
+use Rattle.enc_select.proofs.Formulas.{select_is_small}
+use Rattle.enc_select.proofs.select.SelectEncoding.decode.Goals as goal
+
+pub decode_chosen-requires-clause-chain : goal.decode_chosen-requires-clause-chain
+decode_chosen-requires-clause-chain c = select_is_small c.args.spec.now c.args._basis c.args.r (bits_of c.args.assign.now) c.n-n.ensures.whole c.requires.size c.requires.satisfied
+
+pub returns-clause-size : goal.returns-clause-size
+returns-clause-size c =
+    let is = select_decodes c.args.spec.now c.args._basis c.args.r (bits_of c.args.assign.now) c.requires.satisfied in
+    if_ok (λ (chain : Chain). chain ≡ select_decoded c.args.spec.now c.args.r (bits_of c.args.assign.now)) (λ (chain : Chain). length chain.steps ≡ c.args.r) c.decode_chosen.result (λ chain e. rw e is.size) c.decode_chosen.ensures
+
+pub returns-clause-over : goal.returns-clause-over
+returns-clause-over c =
+    let is = select_decodes c.args.spec.now c.args._basis c.args.r (bits_of c.args.assign.now) c.requires.satisfied in
+    if_ok (λ (chain : Chain). chain ≡ select_decoded c.args.spec.now c.args.r (bits_of c.args.assign.now)) (λ (chain : Chain). IsOver (members c.args._basis) chain) c.decode_chosen.result (λ chain e. subst (λ (d : Chain). IsOver (members c.args._basis) d) (sym e) is.is_over) c.decode_chosen.ensures
+
+pub returns-clause-agrees : goal.returns-clause-agrees
+returns-clause-agrees c =
+    let is = select_decodes c.args.spec.now c.args._basis c.args.r (bits_of c.args.assign.now) c.requires.satisfied in
+    if_ok (λ (chain : Chain). chain ≡ select_decoded c.args.spec.now c.args.r (bits_of c.args.assign.now)) (λ (chain : Chain). Agrees chain (specification c.args.spec.now)) c.decode_chosen.result (λ chain e. subst (λ (d : Chain). Agrees d (specification c.args.spec.now)) (sym e) is.agrees) c.decode_chosen.ensures

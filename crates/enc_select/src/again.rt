@@ -1,0 +1,216 @@
+//! No step is applied again to one of its operands.
+ghost use Rattle.std.specs.Prelude.{◌≡◌, ◌<◌, ◌≤◌, ◌++◌, OnOk};
+ghost use Rattle.std.specs.List.{flat_map};
+ghost use Rattle.enc_theory.specs.Clauses.{written};
+ghost use Rattle.enc_theory.specs.Numbering.{places};
+ghost use Rattle.enc_theory.specs.Select.{below, above, not_these, different, again_operand, again_operands, again_from, again_after, again_step, again_steps};
+ghost use Rattle.enc_frame.specs.Room.{IsPlace};
+ghost use Rattle.enc_select.specs.Room.{HasChoices};
+
+use crate::literals::choice;
+use enc_frame::{ClauseList, Side, Sizes};
+use op_basis::Basis;
+use std::alloc::{AllocError, Global};
+
+/// A step, its operands, and a later step.
+#[derive(Clone, Copy, Debug)]
+struct Read {
+    step: u32,
+    first: u32,
+    second: u32,
+    later: u32,
+}
+
+/// The clause that not the step has its operands and the later one has these.
+fn push_not_both(
+    alloc: Global,
+    list: &mut ClauseList,
+    z: Sizes,
+    read: Read,
+    first: u32,
+    second: u32,
+) -> Result<(), AllocError>
+    requires room { HasChoices z list.old.vars }
+    requires places { IsPlace z read.step × IsPlace z read.later }
+    requires operands { (1 ≤ read.first) × (read.first < read.step) × (1 ≤ read.second) × (read.second < read.step) }
+    requires others { (1 ≤ first) × (first < read.later) × (1 ≤ second) × (second < read.later) }
+    ensures { OnOk result (list.new ≡ record list.old { clauses = list.old.clauses ++ written (not_these z read.step read.first read.second ++ not_these z read.later first second) }) }
+{
+    list.push(
+        alloc,
+        &[
+            choice(z, Side::First, read.step, read.first, false),
+            choice(z, Side::Second, read.step, read.second, false),
+            choice(z, Side::First, read.later, first, false),
+            choice(z, Side::Second, read.later, second, false),
+        ],
+    )
+}
+
+/// The clauses of an operand that the later step has beside the step: behind which the step stands
+/// second, and, where operands don't rise, before which it stands first.
+#[tactic(auto, unfolding(enc_theory::specs::Select::again_operand))]
+fn push_again_operand(
+    alloc: Global,
+    list: &mut ClauseList,
+    ordered: bool,
+    z: Sizes,
+    read: Read,
+    operand: u32,
+) -> Result<(), AllocError>
+    requires room { HasChoices z list.old.vars }
+    requires places { IsPlace z read.step × IsPlace z read.later × (read.step < read.later) }
+    requires operands { (1 ≤ read.first) × (read.first < read.step) × (1 ≤ read.second) × (read.second < read.step) }
+    requires operand { (1 ≤ operand) × (operand < read.step) }
+    ensures { OnOk result (list.new ≡ record list.old { clauses = list.old.clauses ++ again_operand ordered z read.step read.later read.first read.second operand }) }
+{
+    push_not_both(alloc, list, z, read, operand, read.step)?;
+    if ordered {
+        return Ok(());
+    }
+    push_not_both(alloc, list, z, read, read.step, operand)
+}
+
+/// The clauses of the step's operands, each once, the smaller first.
+#[tactic(auto, using(crate::proofs::Ranges::pieces))]
+fn push_again_different(
+    alloc: Global,
+    list: &mut ClauseList,
+    ordered: bool,
+    z: Sizes,
+    read: Read,
+) -> Result<(), AllocError>
+    requires room { HasChoices z list.old.vars }
+    requires places { IsPlace z read.step × IsPlace z read.later × (read.step < read.later) }
+    requires operands { (1 ≤ read.first) × (read.first < read.step) × (1 ≤ read.second) × (read.second < read.step) }
+    ensures { OnOk result (list.new ≡ record list.old { clauses = list.old.clauses ++ flat_map (again_operand ordered z read.step read.later read.first read.second) (different read.first read.second) }) }
+{
+    if read.first == read.second {
+        return push_again_operand(alloc, list, ordered, z, read, read.first);
+    }
+    let low = read.first.min(read.second);
+    let high = read.first.max(read.second);
+    push_again_operand(alloc, list, ordered, z, read, low)?;
+    push_again_operand(alloc, list, ordered, z, read, high)
+}
+
+/// The same, unless operands rise and these don't.
+#[tactic(auto, unfolding(enc_theory::specs::Select::again_operands))]
+fn push_again_operands(
+    alloc: Global,
+    list: &mut ClauseList,
+    ordered: bool,
+    z: Sizes,
+    read: Read,
+) -> Result<(), AllocError>
+    requires room { HasChoices z list.old.vars }
+    requires places { IsPlace z read.step × IsPlace z read.later × (read.step < read.later) }
+    requires operands { (1 ≤ read.first) × (read.first < read.step) × (1 ≤ read.second) × (read.second < read.step) }
+    ensures { OnOk result (list.new ≡ record list.old { clauses = list.old.clauses ++ again_operands ordered z read.step read.later read.first read.second }) }
+{
+    if ordered && read.second < read.first {
+        return Ok(());
+    }
+    push_again_different(alloc, list, ordered, z, read)
+}
+
+/// The clauses of a step with a first operand, and a later step.
+#[tactic(auto, using(crate::proofs::Ranges::loops), unfolding(enc_theory::specs::Select::again_from))]
+fn push_again_from(
+    alloc: Global,
+    list: &mut ClauseList,
+    ordered: bool,
+    z: Sizes,
+    step: u32,
+    later: u32,
+    first: u32,
+) -> Result<(), AllocError>
+    requires room { HasChoices z list.old.vars }
+    requires places { IsPlace z step × IsPlace z later × (step < later) }
+    requires operand { (1 ≤ first) × (first < step) }
+    ensures { OnOk result (list.new ≡ record list.old { clauses = list.old.clauses ++ again_from ordered z step later first }) }
+{
+    for second in 1..step {
+        let read = Read {
+            step,
+            first,
+            second,
+            later,
+        };
+        push_again_operands(alloc, list, ordered, z, read)?;
+    }
+    Ok(())
+}
+
+/// The clauses of a step and a later one.
+#[tactic(auto, using(crate::proofs::Ranges::loops), unfolding(enc_theory::specs::Select::again_after))]
+fn push_again_after(
+    alloc: Global,
+    list: &mut ClauseList,
+    ordered: bool,
+    z: Sizes,
+    step: u32,
+    later: u32,
+) -> Result<(), AllocError>
+    requires room { HasChoices z list.old.vars }
+    requires places { IsPlace z step × IsPlace z later × (step < later) }
+    ensures { OnOk result (list.new ≡ record list.old { clauses = list.old.clauses ++ again_after ordered z step later }) }
+{
+    for first in 1..step {
+        push_again_from(alloc, list, ordered, z, step, later, first)?;
+    }
+    Ok(())
+}
+
+/// The clauses of a step and all later ones.
+#[tactic(auto, using(crate::proofs::Ranges::later), unfolding(enc_theory::specs::Select::again_step))]
+fn push_again_step(
+    alloc: Global,
+    list: &mut ClauseList,
+    ordered: bool,
+    z: Sizes,
+    i: u32,
+) -> Result<(), AllocError>
+    requires room { HasChoices z list.old.vars }
+    requires place { IsPlace z i }
+    ensures { OnOk result (list.new ≡ record list.old { clauses = list.old.clauses ++ again_step ordered z i }) }
+{
+    for later in i + 1..z.n + 1 + z.r {
+        push_again_after(alloc, list, ordered, z, i, later)?;
+    }
+    Ok(())
+}
+
+/// The clauses of all steps.
+#[tactic(auto, using(crate::proofs::Ranges::loops))]
+fn push_again_steps(
+    alloc: Global,
+    list: &mut ClauseList,
+    ordered: bool,
+    z: Sizes,
+) -> Result<(), AllocError>
+    requires { HasChoices z list.old.vars }
+    ensures { OnOk result (list.new ≡ record list.old { clauses = list.old.clauses ++ flat_map (again_step ordered z) (places z) }) }
+{
+    for i in z.n + 1..z.n + 1 + z.r {
+        push_again_step(alloc, list, ordered, z, i)?;
+    }
+    Ok(())
+}
+
+/// Writes that no step is applied again to one of its operands, where the basis is closed under that.
+#[tactic(auto, unfolding(enc_theory::specs::Select::again_steps))]
+pub(crate) fn push_again(
+    alloc: Global,
+    list: &mut ClauseList,
+    basis: Basis,
+    z: Sizes,
+) -> Result<(), AllocError>
+    requires { HasChoices z list.old.vars }
+    ensures { OnOk result (list.new ≡ record list.old { clauses = list.old.clauses ++ again_steps basis z }) }
+{
+    if basis.reapply_closed() {
+        return push_again_steps(alloc, list, basis.swap_closed(), z);
+    }
+    Ok(())
+}

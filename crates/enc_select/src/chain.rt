@@ -1,0 +1,262 @@
+//! The clauses that say what a chain is.
+ghost use Rattle.std.specs.Prelude.{◌≡◌, ◌+◌, ◌^◌, ◌<◌, ◌≤◌, ◌++◌, OnOk};
+ghost use Rattle.enc_theory.specs.Clauses.{written};
+ghost use Rattle.enc_theory.specs.Select.{choice_exists, choices_exist, operands_exist, copy_raw, copy_row, copy_place, copy_step, copies, result_clause, result_bit, result_row, result_step, results, chosen_chain};
+ghost use Rattle.enc_frame.specs.Room.{IsPlace, AreFor};
+ghost use Rattle.enc_select.specs.Room.{HasChoices};
+
+use crate::literals::{choice, value};
+use enc_frame::{
+    ClauseList, Raw, Side, Sizes, f_var, push_operators, push_out_exists, push_out_values, rows,
+    x_is,
+};
+use op_basis::Basis;
+use std::alloc::{AllocError, Global};
+use tt_core::Spec;
+
+/// The clause that an operand of step `i` is some place below it.
+#[tactic(auto, using(crate::proofs::Ranges::loops), unfolding(enc_theory::specs::Select::choice_exists, enc_theory::specs::Select::chooses))]
+fn push_choice_exists(
+    alloc: Global,
+    list: &mut ClauseList,
+    z: Sizes,
+    i: u32,
+    side: Side,
+) -> Result<(), AllocError>
+    requires room { HasChoices z list.old.vars }
+    requires place { IsPlace z i }
+    ensures { OnOk result (list.new ≡ record list.old { clauses = list.old.clauses ++ choice_exists z i side }) }
+{
+    let mut raws = Vec::new(alloc);
+    for j in 1..i {
+        raws.push(choice(z, side, i, j, true))?;
+    }
+    list.push(alloc, &raws)
+}
+
+/// That each step has operands.
+#[tactic(auto, using(crate::proofs::Ranges::loops), unfolding(enc_theory::specs::Select::operands_exist, enc_theory::specs::Select::choices_exist))]
+fn push_operands_exist(alloc: Global, list: &mut ClauseList, z: Sizes) -> Result<(), AllocError>
+    requires { HasChoices z list.old.vars }
+    ensures { OnOk result (list.new ≡ record list.old { clauses = list.old.clauses ++ operands_exist z }) }
+{
+    for i in z.n + 1..z.n + 1 + z.r {
+        push_choice_exists(alloc, list, z, i, Side::First)?;
+        push_choice_exists(alloc, list, z, i, Side::Second)?;
+    }
+    Ok(())
+}
+
+/// A place that an operand of a step may be, on a row.
+#[derive(Clone, Copy, Debug)]
+struct At {
+    side: Side,
+    step: u32,
+    place: u32,
+    row: u32,
+}
+
+/// The clause that an operand has a bit if its place has it.
+#[tactic(auto, unfolding(enc_theory::specs::Select::copy_raw))]
+fn push_copy(
+    alloc: Global,
+    list: &mut ClauseList,
+    z: Sizes,
+    at: At,
+    bit: bool,
+) -> Result<(), AllocError>
+    requires room { HasChoices z list.old.vars }
+    requires place { IsPlace z at.step }
+    requires operand { (1 ≤ at.place) × (at.place < at.step) }
+    requires row { at.row < 2 ^ z.n }
+    ensures { OnOk result (list.new ≡ record list.old { clauses = list.old.clauses ++ written (copy_raw z at.side at.step at.place at.row bit) }) }
+{
+    list.push(
+        alloc,
+        &[
+            choice(z, at.side, at.step, at.place, false),
+            value(z, at.side, at.step, at.row, bit),
+            x_is(z, at.place, at.row, !bit),
+        ],
+    )
+}
+
+/// The clauses of both bits.
+#[tactic(auto, unfolding(enc_theory::specs::Select::copy_row))]
+fn push_copy_row(alloc: Global, list: &mut ClauseList, z: Sizes, at: At) -> Result<(), AllocError>
+    requires room { HasChoices z list.old.vars }
+    requires place { IsPlace z at.step }
+    requires operand { (1 ≤ at.place) × (at.place < at.step) }
+    requires row { at.row < 2 ^ z.n }
+    ensures { OnOk result (list.new ≡ record list.old { clauses = list.old.clauses ++ copy_row z at.side at.step at.place at.row }) }
+{
+    push_copy(alloc, list, z, at, false)?;
+    push_copy(alloc, list, z, at, true)
+}
+
+/// The clauses of all rows.
+#[tactic(auto, using(crate::proofs::Ranges::loops), unfolding(enc_theory::specs::Select::copy_place))]
+fn push_copy_place(
+    alloc: Global,
+    list: &mut ClauseList,
+    z: Sizes,
+    side: Side,
+    step: u32,
+    place: u32,
+) -> Result<(), AllocError>
+    requires room { HasChoices z list.old.vars }
+    requires place { IsPlace z step }
+    requires operand { (1 ≤ place) × (place < step) }
+    ensures { OnOk result (list.new ≡ record list.old { clauses = list.old.clauses ++ copy_place z side step place }) }
+{
+    for row in 0..rows(z) {
+        push_copy_row(
+            alloc,
+            list,
+            z,
+            At {
+                side,
+                step,
+                place,
+                row,
+            },
+        )?;
+    }
+    Ok(())
+}
+
+/// The clauses of all places below a step.
+#[tactic(auto, using(crate::proofs::Ranges::loops), unfolding(enc_theory::specs::Select::copy_step))]
+fn push_copy_step(
+    alloc: Global,
+    list: &mut ClauseList,
+    z: Sizes,
+    side: Side,
+    i: u32,
+) -> Result<(), AllocError>
+    requires room { HasChoices z list.old.vars }
+    requires place { IsPlace z i }
+    ensures { OnOk result (list.new ≡ record list.old { clauses = list.old.clauses ++ copy_step z side i }) }
+{
+    for j in 1..i {
+        push_copy_place(alloc, list, z, side, i, j)?;
+    }
+    Ok(())
+}
+
+/// That operands have the values of their places.
+#[tactic(auto, using(crate::proofs::Ranges::loops), unfolding(enc_theory::specs::Select::copies))]
+fn push_copies(alloc: Global, list: &mut ClauseList, z: Sizes, side: Side) -> Result<(), AllocError>
+    requires { HasChoices z list.old.vars }
+    ensures { OnOk result (list.new ≡ record list.old { clauses = list.old.clauses ++ copies z side }) }
+{
+    for i in z.n + 1..z.n + 1 + z.r {
+        push_copy_step(alloc, list, z, side, i)?;
+    }
+    Ok(())
+}
+
+/// The clause that step `i` has its operator's value on row `t`, for bits a, b, c of the step and of
+/// its operands.
+#[tactic(auto, unfolding(enc_theory::specs::Select::result_clause, enc_theory::specs::Select::result_raw))]
+fn push_result_clause(
+    alloc: Global,
+    list: &mut ClauseList,
+    z: Sizes,
+    i: u32,
+    t: u32,
+    a: bool,
+    b: bool,
+    c: bool,
+) -> Result<(), AllocError>
+    requires room { HasChoices z list.old.vars }
+    requires place { IsPlace z i }
+    requires row { t < 2 ^ z.n }
+    ensures { OnOk result (list.new ≡ record list.old { clauses = list.old.clauses ++ result_clause z i t a b c }) }
+{
+    list.push(
+        alloc,
+        &[
+            x_is(z, i, t, !a),
+            value(z, Side::First, i, t, !b),
+            value(z, Side::Second, i, t, !c),
+            Raw::Var(f_var(z, i, b, c), a),
+        ],
+    )
+}
+
+/// The four clauses of a bit of the step.
+#[tactic(auto, unfolding(enc_theory::specs::Select::result_bit))]
+fn push_result_bit(
+    alloc: Global,
+    list: &mut ClauseList,
+    z: Sizes,
+    i: u32,
+    t: u32,
+    a: bool,
+) -> Result<(), AllocError>
+    requires room { HasChoices z list.old.vars }
+    requires place { IsPlace z i }
+    requires row { t < 2 ^ z.n }
+    ensures { OnOk result (list.new ≡ record list.old { clauses = list.old.clauses ++ result_bit z i t a }) }
+{
+    push_result_clause(alloc, list, z, i, t, a, false, false)?;
+    push_result_clause(alloc, list, z, i, t, a, false, true)?;
+    push_result_clause(alloc, list, z, i, t, a, true, false)?;
+    push_result_clause(alloc, list, z, i, t, a, true, true)
+}
+
+/// The clauses of all rows.
+#[tactic(auto, using(crate::proofs::Ranges::loops), unfolding(enc_theory::specs::Select::result_step, enc_theory::specs::Select::result_row))]
+fn push_result_step(
+    alloc: Global,
+    list: &mut ClauseList,
+    z: Sizes,
+    i: u32,
+) -> Result<(), AllocError>
+    requires room { HasChoices z list.old.vars }
+    requires place { IsPlace z i }
+    ensures { OnOk result (list.new ≡ record list.old { clauses = list.old.clauses ++ result_step z i }) }
+{
+    for t in 0..rows(z) {
+        push_result_bit(alloc, list, z, i, t, false)?;
+        push_result_bit(alloc, list, z, i, t, true)?;
+    }
+    Ok(())
+}
+
+/// That steps have their operators' values of their operands' values.
+#[tactic(auto, using(crate::proofs::Ranges::loops), unfolding(enc_theory::specs::Select::results))]
+fn push_results(alloc: Global, list: &mut ClauseList, z: Sizes) -> Result<(), AllocError>
+    requires { HasChoices z list.old.vars }
+    ensures { OnOk result (list.new ≡ record list.old { clauses = list.old.clauses ++ results z }) }
+{
+    for i in z.n + 1..z.n + 1 + z.r {
+        push_result_step(alloc, list, z, i)?;
+    }
+    Ok(())
+}
+
+/// Writes the clauses that say what a chain is, for tables whose outputs are all live: each output is
+/// some step, which has the values of its cells; each step has some operands, with the values of their
+/// places, its operator's values of theirs, and a member for its operator.
+#[tactic(auto, unfolding(enc_theory::specs::Select::chosen_chain))]
+pub(crate) fn push_chain(
+    alloc: Global,
+    list: &mut ClauseList,
+    spec: &Spec,
+    basis: Basis,
+    z: Sizes,
+) -> Result<(), AllocError>
+    requires room { HasChoices z list.old.vars }
+    requires tables { AreFor z spec.now }
+    ensures { OnOk result (list.new ≡ record list.old { clauses = list.old.clauses ++ chosen_chain spec.now basis z }) }
+{
+    push_out_exists(alloc, list, z)?;
+    push_out_values(alloc, list, spec, z)?;
+    push_operands_exist(alloc, list, z)?;
+    push_copies(alloc, list, z, Side::First)?;
+    push_copies(alloc, list, z, Side::Second)?;
+    push_results(alloc, list, z)?;
+    push_operators(alloc, list, basis, z)
+}

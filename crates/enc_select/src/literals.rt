@@ -1,0 +1,33 @@
+//! The literals of chosen operands.
+ghost use Rattle.std.specs.Prelude.{◌≡◌, ℕ, ◌^◌, ◌<◌, ◌≤◌};
+ghost use Rattle.enc_theory.specs.declared.data.Raw.TheVariants.{Var};
+ghost use Rattle.enc_theory.specs.Select.{choice_var as choice_var_of, value_var as value_var_of};
+ghost use Rattle.enc_frame.specs.Room.{IsSmall, IsPlace, IsWithin};
+ghost use Rattle.enc_select.specs.Room.{HasChoices};
+
+use crate::vars::{choice_var, value_var};
+use enc_frame::{Raw, Side, Sizes};
+
+/// That an operand of step `i` is place `j`, or isn't.
+#[tactic(auto, unfolding(enc_frame::specs::Room::IsWithin))]
+pub(crate) fn choice(z: Sizes, side: Side, i: u32, j: u32, bit: bool) -> Raw
+    requires small { IsSmall z }
+    requires place { IsPlace z i }
+    requires operand { (1 ≤ j) × (j < i) }
+    ensures value { result ≡ Var (choice_var_of z side i j) bit }
+    ensures within { (vars : ℕ) → HasChoices z vars → IsWithin vars result }
+{
+    Raw::Var(choice_var(z, side, i, j), bit)
+}
+
+/// That an operand of step `i` has the bit on row `t`.
+#[tactic(auto, unfolding(enc_frame::specs::Room::IsWithin))]
+pub(crate) fn value(z: Sizes, side: Side, i: u32, t: u32, bit: bool) -> Raw
+    requires small { IsSmall z }
+    requires place { IsPlace z i }
+    requires row { t < 2 ^ z.n }
+    ensures value { result ≡ Var (value_var_of z side i t) bit }
+    ensures within { (vars : ℕ) → HasChoices z vars → IsWithin vars result }
+{
+    Raw::Var(value_var(z, side, i, t), bit)
+}

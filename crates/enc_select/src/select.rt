@@ -1,0 +1,91 @@
+ghost use Rattle.std.specs.Prelude.{◌≡◌, ◌++◌, OnOk};
+ghost use Rattle.enc_theory.specs.Select.{chosen_cuts};
+ghost use Rattle.enc_select.specs.Room.{HasChoices};
+
+use crate::again::push_again;
+use crate::chain::push_chain;
+use crate::decoding::decode_chosen;
+use crate::falling::push_falling;
+use crate::rising::push_rising;
+use crate::trivial::push_trivial;
+use crate::used::push_used;
+use crate::vars::select_vars;
+use chain_core::Chain;
+use cnf_core::{Assign, Cnf};
+use enc_cuts::push_row_0;
+use enc_frame::{ClauseList, Encoding, Part, Sizes, sizes};
+use op_basis::Basis;
+use std::alloc::{AllocError, Global};
+use tt_core::{Spec, live_part};
+
+/// Writes the cuts: operands rise; each step is an output or is read; none is trivial; second operands
+/// never fall; no step is applied again to one of its operands; and a step that is no output is 0 on
+/// row 0.
+#[tactic(auto, unfolding(enc_theory::specs::Select::chosen_cuts))]
+fn push_cuts(alloc: Global, list: &mut ClauseList, basis: Basis, z: Sizes) -> Result<(), AllocError>
+    requires { HasChoices z list.old.vars }
+    ensures { OnOk result (list.new ≡ record list.old { clauses = list.old.clauses ++ chosen_cuts basis z }) }
+{
+    push_rising(alloc, list, basis, z)?;
+    push_used(alloc, list, z)?;
+    push_trivial(alloc, list, basis, z)?;
+    push_falling(alloc, list, basis, z)?;
+    push_again(alloc, list, basis, z)?;
+    push_row_0(alloc, list, basis, z)
+}
+
+/// The encoding by selection of operands, with cuts that leave a least chain. A size has one part, the
+/// whole.
+#[derive(Clone, Copy, Debug, PartialEq, Eq)]
+pub struct Select;
+
+impl Encoding for Select {
+    ghost use Rattle.std.specs.Prelude.{[], ◌∷◌};
+    ghost use Rattle.enc_frame.specs.declared.part.Part.TheVariants.{Whole};
+    ghost use Rattle.enc_theory.specs.Select.{select_formula};
+    ghost use Rattle.enc_select.specs.SelectLaws.{is_sound, is_complete};
+
+    ghost parts_of = { λ select w r. Whole ∷ [] };
+
+    ghost formula_of = { λ select w basis r part. select_formula w basis r };
+
+    ghost sound = { λ select w basis r part. is_sound w basis r part };
+
+    ghost complete = { λ select w basis r. is_complete w basis r };
+
+    fn parts(&self, alloc: Global, _spec: &Spec, _r: u32) -> Result<Vec<Part>, AllocError> {
+        Ok(vec![in alloc; Part::Whole]?)
+    }
+
+    #[tactic(auto, using(crate::proofs::Formulas::limits), unfolding(enc_theory::specs::Select::select_formula, enc_theory::specs::Select::select_live))]
+    fn formula(
+        &self,
+        alloc: Global,
+        spec: &Spec,
+        basis: Basis,
+        r: u32,
+        _part: &Part,
+    ) -> Result<Cnf, AllocError> {
+        let live = live_part(alloc, spec)?;
+        let z = sizes(&live, r);
+        let mut list = ClauseList::new(alloc, select_vars(z))?;
+        push_chain(alloc, &mut list, &live, basis, z)?;
+        push_cuts(alloc, &mut list, basis, z)?;
+        list.into_cnf(alloc)
+    }
+
+    #[tactic(auto)]
+    fn decode(
+        &self,
+        alloc: Global,
+        spec: &Spec,
+        _basis: Basis,
+        r: u32,
+        _part: &Part,
+        assign: &Assign,
+    ) -> Result<Chain, AllocError> {
+        // brings that the tables are within the limits
+        let _n = spec.n();
+        decode_chosen(alloc, spec, r, assign)
+    }
+}

@@ -1,0 +1,202 @@
+//! No step is trivial.
+ghost use Rattle.std.specs.Prelude.{◌≡◌, ◌<◌, ◌≤◌, ◌++◌, [], ◌∷◌, OnOk};
+ghost use Rattle.std.specs.List.{flat_map};
+ghost use Rattle.op_basis.specs.Basis.{members};
+ghost use Rattle.op_basis.specs.Closed.{const_closed};
+ghost use Rattle.enc_theory.specs.Select.{below, equal_choice, negation_pair, negation_from, negation_step, trivial_step, trivial_steps};
+ghost use Rattle.enc_frame.specs.Room.{IsPlace};
+ghost use Rattle.enc_select.specs.Room.{HasChoices};
+
+use crate::literals::choice;
+use enc_cuts::{push_not_idle, push_operator};
+use enc_frame::{ClauseList, Raw, Side, Sizes, f_var};
+use op_basis::{Basis, Op};
+use std::alloc::{AllocError, Global};
+
+/// What the place `j` for both operands of step `i` asks of the operator.
+#[tactic(auto, unfolding(enc_theory::specs::Select::equal_choice))]
+fn push_equal(
+    alloc: Global,
+    list: &mut ClauseList,
+    constants: bool,
+    z: Sizes,
+    i: u32,
+    j: u32,
+) -> Result<(), AllocError>
+    requires room { HasChoices z list.old.vars }
+    requires place { IsPlace z i }
+    requires operand { (1 ≤ j) × (j < i) }
+    ensures { OnOk result (list.new ≡ record list.old { clauses = list.old.clauses ++ equal_choice constants z i j }) }
+{
+    let first = choice(z, Side::First, i, j, false);
+    let second = choice(z, Side::Second, i, j, false);
+    let low = Raw::Var(f_var(z, i, false, false), true);
+    let high = Raw::Var(f_var(z, i, true, true), false);
+    if !constants {
+        return list.push(alloc, &[first, second, low, high]);
+    }
+    list.push(alloc, &[first, second, low])?;
+    list.push(alloc, &[first, second, high])
+}
+
+/// The same for all places below the step.
+#[tactic(auto, using(crate::proofs::Ranges::loops))]
+fn push_equals(
+    alloc: Global,
+    list: &mut ClauseList,
+    constants: bool,
+    z: Sizes,
+    i: u32,
+) -> Result<(), AllocError>
+    requires room { HasChoices z list.old.vars }
+    requires place { IsPlace z i }
+    ensures { OnOk result (list.new ≡ record list.old { clauses = list.old.clauses ++ flat_map (equal_choice constants z i) (below i) }) }
+{
+    for j in 1..i {
+        push_equal(alloc, list, constants, z, i, j)?;
+    }
+    Ok(())
+}
+
+/// The clause that step `i` has another operator than this one or other operands than these, if they
+/// differ.
+#[tactic(auto, using(crate::proofs::Ranges::loops), unfolding(enc_theory::specs::Select::negation_pair))]
+fn push_negation_pair(
+    alloc: Global,
+    list: &mut ClauseList,
+    z: Sizes,
+    i: u32,
+    op: Op,
+    j: u32,
+    k: u32,
+) -> Result<(), AllocError>
+    requires room { HasChoices z list.old.vars }
+    requires place { IsPlace z i }
+    requires first { (1 ≤ j) × (j < i) }
+    requires second { (1 ≤ k) × (k < i) }
+    ensures { OnOk result (list.new ≡ record list.old { clauses = list.old.clauses ++ negation_pair z i op j k }) }
+{
+    if j == k {
+        return Ok(());
+    }
+    let mut raws = Vec::new(alloc);
+    push_operator(&mut raws, z, i, op)?;
+    raws.push(choice(z, Side::First, i, j, false))?;
+    raws.push(choice(z, Side::Second, i, k, false))?;
+    list.push(alloc, &raws)
+}
+
+/// The clauses of a first operand.
+#[tactic(auto, using(crate::proofs::Ranges::loops), unfolding(enc_theory::specs::Select::negation_from))]
+fn push_negation_from(
+    alloc: Global,
+    list: &mut ClauseList,
+    z: Sizes,
+    i: u32,
+    op: Op,
+    j: u32,
+) -> Result<(), AllocError>
+    requires room { HasChoices z list.old.vars }
+    requires place { IsPlace z i }
+    requires operand { (1 ≤ j) × (j < i) }
+    ensures { OnOk result (list.new ≡ record list.old { clauses = list.old.clauses ++ negation_from z i op j }) }
+{
+    for k in 1..i {
+        push_negation_pair(alloc, list, z, i, op, j, k)?;
+    }
+    Ok(())
+}
+
+/// The clauses of all first operands.
+#[tactic(auto, using(crate::proofs::Ranges::loops))]
+fn push_negation_all(
+    alloc: Global,
+    list: &mut ClauseList,
+    z: Sizes,
+    i: u32,
+    op: Op,
+) -> Result<(), AllocError>
+    requires room { HasChoices z list.old.vars }
+    requires place { IsPlace z i }
+    ensures { OnOk result (list.new ≡ record list.old { clauses = list.old.clauses ++ flat_map (negation_from z i op) (below i) }) }
+{
+    for j in 1..i {
+        push_negation_from(alloc, list, z, i, op, j)?;
+    }
+    Ok(())
+}
+
+/// That step `i` has this operator, a negation of an operand, on equal operands alone, where it is a
+/// member.
+#[tactic(auto, unfolding(enc_theory::specs::Select::negation_step))]
+fn push_negation(
+    alloc: Global,
+    list: &mut ClauseList,
+    basis: Basis,
+    z: Sizes,
+    i: u32,
+    op: Op,
+) -> Result<(), AllocError>
+    requires room { HasChoices z list.old.vars }
+    requires place { IsPlace z i }
+    ensures { OnOk result (list.new ≡ record list.old { clauses = list.old.clauses ++ negation_step basis z i op }) }
+{
+    if basis.contains(op) {
+        return push_negation_all(alloc, list, z, i, op);
+    }
+    Ok(())
+}
+
+/// That negations have equal operands.
+#[tactic(auto, using(enc_cuts::proofs::Pieces::pieces))]
+fn push_negations(
+    alloc: Global,
+    list: &mut ClauseList,
+    basis: Basis,
+    z: Sizes,
+    i: u32,
+) -> Result<(), AllocError>
+    requires room { HasChoices z list.old.vars }
+    requires place { IsPlace z i }
+    ensures { OnOk result (list.new ≡ record list.old { clauses = list.old.clauses ++ flat_map (negation_step basis z i) (10 ∷ 12 ∷ []) }) }
+{
+    push_negation(alloc, list, basis, z, i, Op::new(10))?;
+    push_negation(alloc, list, basis, z, i, Op::new(12))
+}
+
+/// That step `i` isn't trivial.
+#[tactic(auto, unfolding(enc_theory::specs::Select::trivial_step))]
+fn push_trivial_step(
+    alloc: Global,
+    list: &mut ClauseList,
+    constants: bool,
+    basis: Basis,
+    z: Sizes,
+    i: u32,
+) -> Result<(), AllocError>
+    requires room { HasChoices z list.old.vars }
+    requires place { IsPlace z i }
+    ensures { OnOk result (list.new ≡ record list.old { clauses = list.old.clauses ++ trivial_step constants basis z i }) }
+{
+    push_not_idle(alloc, list, constants, basis, z, i)?;
+    push_equals(alloc, list, constants, z, i)?;
+    push_negations(alloc, list, basis, z, i)
+}
+
+/// Writes that no step is trivial.
+#[tactic(auto, using(crate::proofs::Ranges::loops), unfolding(enc_theory::specs::Select::trivial_steps))]
+pub(crate) fn push_trivial(
+    alloc: Global,
+    list: &mut ClauseList,
+    basis: Basis,
+    z: Sizes,
+) -> Result<(), AllocError>
+    requires { HasChoices z list.old.vars }
+    ensures { OnOk result (list.new ≡ record list.old { clauses = list.old.clauses ++ trivial_steps basis z }) }
+{
+    let constants = basis.const_closed();
+    for i in z.n + 1..z.n + 1 + z.r {
+        push_trivial_step(alloc, list, constants, basis, z, i)?;
+    }
+    Ok(())
+}

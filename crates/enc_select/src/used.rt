@@ -1,0 +1,62 @@
+//! Each step is an output or is read.
+ghost use Rattle.std.specs.Prelude.{◌≡◌, ◌<◌, ◌≤◌, ◌++◌, OnOk};
+ghost use Rattle.std.specs.List.{flat_map};
+ghost use Rattle.enc_theory.specs.Select.{above, choosers, used_step, used_steps};
+ghost use Rattle.enc_frame.specs.Room.{IsSmall, IsPlace};
+ghost use Rattle.enc_select.specs.Room.{HasChoices};
+
+use crate::literals::choice;
+use enc_cuts::push_bearers;
+use enc_frame::{ClauseList, Raw, Side, Sizes};
+use std::alloc::{AllocError, Global};
+
+/// Adds that one of the operands of step `i` is this place.
+#[tactic(auto, using(crate::proofs::Ranges::loops), unfolding(enc_theory::specs::Select::choosers, enc_theory::specs::Select::chooses))]
+fn push_choosers(raws: &mut Vec<Raw>, z: Sizes, place: u32, i: u32) -> Result<(), AllocError>
+    requires small { IsSmall z }
+    requires step { IsPlace z i }
+    requires operand { (1 ≤ place) × (place < i) }
+    ensures { OnOk result (raws.new.items ≡ raws.old.items ++ choosers z place i) }
+{
+    raws.push(choice(z, Side::First, i, place, true))?;
+    raws.push(choice(z, Side::Second, i, place, true))?;
+    Ok(())
+}
+
+/// Adds for each later step that one of its operands is this one.
+#[tactic(auto, using(crate::proofs::Ranges::later))]
+fn push_readers(raws: &mut Vec<Raw>, z: Sizes, i: u32) -> Result<(), AllocError>
+    requires small { IsSmall z }
+    requires place { IsPlace z i }
+    ensures { OnOk result (raws.new.items ≡ raws.old.items ++ flat_map (choosers z i) (above z i)) }
+{
+    for later in i + 1..z.n + 1 + z.r {
+        push_choosers(raws, z, i, later)?;
+    }
+    Ok(())
+}
+
+/// The clause that step `i` is an output or that a later step reads it.
+#[tactic(auto, unfolding(enc_theory::specs::Select::used_step))]
+fn push_used_step(alloc: Global, list: &mut ClauseList, z: Sizes, i: u32) -> Result<(), AllocError>
+    requires room { HasChoices z list.old.vars }
+    requires place { IsPlace z i }
+    ensures { OnOk result (list.new ≡ record list.old { clauses = list.old.clauses ++ used_step z i }) }
+{
+    let mut raws = Vec::new(alloc);
+    push_bearers(&mut raws, z, i)?;
+    push_readers(&mut raws, z, i)?;
+    list.push(alloc, &raws)
+}
+
+/// Writes that each step is an output or is read.
+#[tactic(auto, using(crate::proofs::Ranges::loops), unfolding(enc_theory::specs::Select::used_steps))]
+pub(crate) fn push_used(alloc: Global, list: &mut ClauseList, z: Sizes) -> Result<(), AllocError>
+    requires { HasChoices z list.old.vars }
+    ensures { OnOk result (list.new ≡ record list.old { clauses = list.old.clauses ++ used_steps z }) }
+{
+    for i in z.n + 1..z.n + 1 + z.r {
+        push_used_step(alloc, list, z, i)?;
+    }
+    Ok(())
+}
