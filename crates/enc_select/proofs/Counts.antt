@@ -1,5 +1,5 @@
 -- How many clauses there are at most, within the program's limits.
-use Rattle.std.specs.Prelude.{◌≡◌, ℕ, ◌+◌, ◌-◌, ◌*◌, ◌^◌, ◌≤◌, ◌<◌, ◌==◌, ◌&&◌, ℤ, Bool, true, false, List, [], ◌∷◌, ◌++◌, length, nat_lt, min, max, if◌then◌else◌}
+use Rattle.std.specs.Prelude.{◌≡◌, ℕ, ◌+◌, ◌-◌, ◌*◌, ◌^◌, ◌≤◌, ◌<◌, ◌==◌, ◌&&◌, ℤ, Bool, true, false, List, [], ◌∷◌, ◌++◌, map, length, nat_lt, min, max, if◌then◌else◌}
 use Rattle.std.specs.List.{range_with_len, flat_map}
 use Rattle.std.proofs.Common.{arith, length-append}
 use Rattle.op_basis.specs.Basis.{members}
@@ -9,8 +9,9 @@ use Rattle.enc_theory.specs.declared.data.Side.{Side}
 use Rattle.enc_theory.specs.declared.data.Side.TheVariants.{First, Second}
 use Rattle.enc_theory.specs.declared.data.Sizes.{Sizes}
 use Rattle.enc_theory.specs.Clauses.{written}
-use Rattle.enc_theory.specs.Numbering.{places, rows}
-use Rattle.enc_theory.specs.Select.{below, above, choice_exists, choices_exist, operands_exist, copy_raw, copy_row, copy_place, copy_step, copies, result_raw, result_clause, result_bit, result_row, result_step, results, chosen_chain, rising_pair, rising_from, rising_step, rising, used_step, used_steps, equal_choice, negation_pair, negation_from, negation_step, trivial_step, trivial_steps, falling_pair, falling_from, falling_step, falling, different, again_operand, again_operands, again_from, again_after, again_step, again_steps, chosen_cuts}
+use Rattle.enc_theory.specs.declared.data.Raw.TheVariants.{Var}
+use Rattle.enc_theory.specs.Numbering.{places, rows, f_var}
+use Rattle.enc_theory.specs.Select.{below, above, chooses, not_these, choice_exists, choices_exist, operands_exist, copy_raw, copy_row, copy_place, copy_step, copies, result_raw, result_clause, result_bit, result_row, result_step, results, chosen_chain, rising_pair, rising_from, rising_step, rising, used_step, used_steps, equal_choice, negation_pair, negation_from, negation_step, trivial_step, trivial_steps, falling_pair, falling_from, falling_step, falling, different, again_operand, again_operands, again_from, again_after, again_step, again_steps, chosen_cuts}
 use Rattle.enc_frame.specs.Room.{IsSmall}
 use Rattle.enc_frame.specs.PairLaws.{flat_map-few}
 use Rattle.enc_frame.specs.Counts.{pieces-few, written-few, times-few, out_exists-few, out_values-few, operators-few}
@@ -47,7 +48,7 @@ unless-few false clauses k few = few
 
 operands-few : (z : Sizes) → IsSmall z → length (operands_exist z) ≤ 32
 unfolding operands_exist choices_exist choice_exists
-operands-few z small = let all = all_steps-few (choices_exist z) 2 z small (λ i low. rw length-append (omega (arith, written-few _, written-few _))) in omega (arith, all)
+operands-few z small = let all = all_steps-few (choices_exist z) 2 z small (λ i low. rw length-append (omega (arith, written-few (map (chooses z First i) (below i)), written-few (map (chooses z Second i) (below i))))) in omega (arith, all)
 
 copy_row-few : (z : Sizes) (side : Side) (i j t : ℕ) → length (copy_row z side i j t) ≤ 2
 unfolding copy_row
@@ -86,8 +87,8 @@ used-few z small = let all = all_steps-few (used_step z) 1 z small (λ i low. wr
 
 equal-few : (constants : Bool) (z : Sizes) (i j : ℕ) → length (equal_choice constants z i j) ≤ 2
 unfolding equal_choice
-equal-few true z i j = rw length-append (omega (arith, written-few _, written-few _))
-equal-few false z i j = omega (arith, written-few _)
+equal-few true z i j = rw length-append (omega (arith, written-few (not_these z i j j ++ Var (f_var z i false false) true ∷ []), written-few (not_these z i j j ++ Var (f_var z i true true) false ∷ [])))
+equal-few false z i j = omega (arith, written-few (not_these z i j j ++ Var (f_var z i false false) true ∷ Var (f_var z i true true) false ∷ []))
 
 negation-few : (basis : ℕ) (z : Sizes) (i op : ℕ) → i ≤ 22 → length (negation_step basis z i op) ≤ 484
 unfolding negation_step negation_from negation_pair
@@ -113,7 +114,9 @@ falling-few basis z small = if-few (swap_closed (members basis)) (flat_map (fall
 
 again_operand-few : (ordered : Bool) (z : Sizes) (i l j k o : ℕ) → length (again_operand ordered z i l j k o) ≤ 2
 unfolding again_operand
-again_operand-few ordered z i l j k o = rw length-append (omega (arith, written-few _, unless-few ordered (written _) 1 (written-few _)))
+again_operand-few ordered z i l j k o = 
+    let second = unless-few ordered (written (not_these z i j k ++ not_these z l i o)) 1 (written-few (not_these z i j k ++ not_these z l i o)) in
+    rw length-append (omega (arith, written-few (not_these z i j k ++ not_these z l o i), second))
 
 different-few : (j k : ℕ) → length (different j k) ≤ 2
 different-few j k = (elim (j == k) as (λ b. length (if b then j ∷ [] else min j k ∷ max j k ∷ []) ≤ 2) [ true ↦ omega arith | false ↦ omega arith ])

@@ -1,6 +1,6 @@
 pub mod Numbers
 pub mod Ranges
-pub mod Literals
+pub mod Within
 pub mod Choices
 pub mod Counts
 pub mod Formulas

@@ -21,7 +21,7 @@ count_twice n (suc s) =
     let by_s : suc s * suc s ≡ s * s + 2 * s + 1 = omega arith in
     omega arith
 
-square_from : (s : ℕ) → s ≤ s * s
+pub square_from : (s : ℕ) → s ≤ s * s
 square_from zero = omega arith
 square_from (suc s) = let e : suc s * suc s ≡ s * suc s + suc s = omega arith in omega arith
 

@@ -1,5 +1,5 @@
 -- The variables of the literals that are listed are the formula's.
-use Rattle.std.proofs.Common.{ℕ, ◌+◌, ◌-◌, ◌<◌, ◌≤◌, Bool, List, [], ◌∷◌, ◌++◌, map, get_or, All, Contains, arith}
+use Rattle.std.proofs.Common.{ℕ, ◌+◌, ◌-◌, ◌<◌, ◌≤◌, Bool, true, List, [], ◌∷◌, ◌++◌, map, get_or, All, Contains, arith}
 use Rattle.std.specs.List.{flat_map}
 use Rattle.std.proofs.lemmas.List.Elements.{All-nil, All-cons, All-append, All-map, Contains-get_or}
 use Rattle.enc_theory.specs.declared.data.Raw.{Raw}
@@ -8,7 +8,7 @@ use Rattle.enc_theory.specs.declared.data.Side.{Side}
 use Rattle.enc_theory.specs.declared.data.Side.TheVariants.{First, Second}
 use Rattle.enc_theory.specs.declared.data.Sizes.{Sizes}
 use Rattle.enc_theory.specs.Select.{choice_var, below, above, chooses, not_these, choosers}
-use Rattle.enc_laws.specs.Holds.{range_inside}
+use Rattle.enc_laws.specs.Holds.{contains_tail, range_inside}
 use Rattle.enc_laws.specs.SelectVars.{choice_positive}
 use Rattle.enc_laws.specs.Chooses.{there_below}
 use Rattle.enc_frame.specs.Room.{IsWithin, IsPlace}
@@ -36,7 +36,7 @@ choices_within z vars side i room place = map_each (IsWithin vars) (chooses z si
 
 pieces_each : {Y : Type 0} (P : Y → Type 0) (f : ℕ → List Y) (xs : List ℕ) → ((x : ℕ) → Contains xs x → All P (f x)) → All P (flat_map f xs)
 pieces_each {Y} P f [] each = All-nil P
-pieces_each {Y} P f (x ∷ xs) each = All-append P (f x) (flat_map f xs) (each x (Contains-get_or (x ∷ xs) 0 x (omega arith))) (pieces_each P f xs (λ y c. let (k, low, at) = c in each y (k + 1, omega arith, at)))
+pieces_each {Y} P f (x ∷ xs) each = All-append P (f x) (flat_map f xs) (each x (Contains-get_or (x ∷ xs) 0 x (omega arith))) (pieces_each P f xs (λ y c. each y (contains_tail x y xs c)))
 
 -- all steps above one that may read it
 pub choosers_within : (z : Sizes) (vars i : ℕ) → HasChoices z vars → IsPlace z i → All (IsWithin vars) (flat_map (choosers z i) (above z i))

@@ -1,0 +1,14 @@
+use Rattle.enc_theory.specs.declared.data.Raw.TheVariants.{Var}
+use Rattle.enc_frame.specs.Room.{IsWithin}
+use Rattle.enc_frame.proofs.Within.{within_first, four}
+use Rattle.enc_select.proofs.chain.push_result_clause.Goals as goal
+
+pub push-requires : goal.push-requires
+push-requires c =
+    let vars = c.args.list.now.vars in
+    let room = c.requires.room in
+    four (IsWithin vars) c.x_is.result c.value.result c.value-2.result (Var c.f_var.result c.args.a)
+    (c.x_is.ensures.within vars room.room)
+    (c.value.ensures.within vars room)
+    (c.value-2.ensures.within vars room)
+    (within_first c.args.z vars c.f_var.result c.args.a room.room c.f_var.ensures.within)

@@ -1,0 +1,24 @@
+use Rattle.std.proofs.Common.{◌≡◌, ◌++◌, arith}
+use Rattle.std.proofs.lemmas.List.Elements.{All-same, All-append}
+use Rattle.enc_frame.specs.Room.{IsWithin}
+use Rattle.enc_theory.specs.Families.{operator_raw}
+use Rattle.enc_theory.specs.Select.{not_these}
+use Rattle.enc_cuts.proofs.Literals.{operator_within}
+use Rattle.enc_select.proofs.Within.{these_within}
+use Rattle.enc_select.proofs.Ranges.{loops}
+use Rattle.enc_select.proofs.trivial.push_negation_pair.Goals as goal
+
+pub push-requires-3 : goal.push-requires-3
+push-requires-3 c =
+    let z = c.args.z in
+    let vars = c.args.list.now.vars in
+    let i = c.args.i in
+    let j = c.args.j in
+    let k = c.args.k in
+    let room = c.requires.room in
+    let place = c.requires.place in
+    let is : c.deref.result.now ≡ operator_raw z i c.args.op ++ not_these z i j k = grind (arith, loops) in
+    All-same (IsWithin vars) c.deref.result.now (operator_raw z i c.args.op ++ not_these z i j k) is
+    (All-append (IsWithin vars) (operator_raw z i c.args.op) (not_these z i j k)
+    (operator_within z vars i c.args.op room.room place)
+    (these_within z vars i j k room place c.requires.first.0 c.requires.first.1 c.requires.second.0 c.requires.second.1))
