@@ -1,8 +1,9 @@
 //! Solves the formula at the front of a text, of the same form as `check` reads.
 use crate::check::{Fault, formula};
 use cdcl_core::{Solved, solve};
+use cnf_core::Cnf;
 use lrat_text::{Line, Log};
-use std::alloc::Global;
+use std::alloc::{AllocError, Global};
 
 /// The most clauses that the solver may learn.
 const BUDGET: u32 = 10_000_000;
@@ -52,17 +53,21 @@ fn hints_of(line: &Line) -> u64 {
     }
 }
 
-/// Solves the formula at the front of a text.
-pub fn solve_front(alloc: Global, text: &[u8]) -> Result<Outcome, Fault> {
-    let (cnf, _) = formula(alloc, text)?;
-    let outcome = match solve(alloc, &cnf, BUDGET)? {
-        Solved::Sat(_) => Outcome {
+/// Solves a formula.
+fn solve_cnf(alloc: Global, cnf: &Cnf) -> Result<Outcome, AllocError> {
+    match solve(alloc, cnf, BUDGET)? {
+        Solved::Sat(_) => Ok(Outcome {
             answer: Answer::Satisfied,
             conflicts: 0,
             hints: 0,
-        },
-        Solved::Unsat(log) => outcome_of(Answer::Refuted, &log),
-        Solved::Open(log) => outcome_of(Answer::Open, &log),
-    };
-    Ok(outcome)
+        }),
+        Solved::Unsat(log) => Ok(outcome_of(Answer::Refuted, &log)),
+        Solved::Open(log) => Ok(outcome_of(Answer::Open, &log)),
+    }
+}
+
+/// Solves the formula at the front of a text.
+pub fn solve_front(alloc: Global, text: &[u8]) -> Result<Outcome, Fault> {
+    let (cnf, _log) = formula(alloc, text)?;
+    Ok(solve_cnf(alloc, &cnf)?)
 }
