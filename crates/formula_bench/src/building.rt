@@ -40,11 +40,14 @@ fn formula(alloc: Global, method: &[u8], spec: &Spec, r: u32) -> Option<Cnf>
     }
 }
 
-/// How large the formula is, where the text is one of tables and the word is a method.
+/// How large the formula of at most 16 steps is, where the text is one of tables and the word is a
+/// method.
 pub fn build(alloc: Global, method: &[u8], text: &[u8], r: u32) -> Option<Size>
-    requires size { r ≤ 16 }
-    requires text { length text.now ≤ 65536 }
+    requires { length text.now ≤ 65536 }
 {
+    if r > 16 {
+        return None;
+    }
     let tables = read_tables(alloc, text).ok()?;
     let cnf = formula(alloc, method, &tables.spec, r)?;
     Some(size_of_formula(&cnf))
