@@ -5,14 +5,14 @@ usage: formulas.py PROGRAM [SIZE]
 
 PROGRAM is the built program formula_bench. The table is one output of six inputs, which is 1 where three
 of them are, so that all inputs may be exchanged; SIZE steps (10 where none is named) over all operators.
-Prints a row for each method: variables, clauses, literals, the least user time of three runs, and the
-most memory that a run had."""
+Prints a row for each method: how many formulas the size has, the variables of the one with most, the
+clauses and literals of all together, the least user time of three runs, and the most memory of a run."""
 import os
 import subprocess
 import sys
 import tempfile
 
-METHODS = ("plain", "ssv")
+METHODS = ("plain", "ssv", "fence")
 
 
 def table():

@@ -2,45 +2,55 @@
 ghost use Rattle.std.specs.Prelude.{◌≤◌, length};
 
 use cnf_core::Cnf;
-use enc_frame::{Encoding, Part};
+use enc_fence::FenceEnc;
+use enc_frame::Encoding;
 use enc_ssv::{Plain, Ssv};
 use op_basis::Basis;
 use std::alloc::Global;
 use tt_core::{Spec, read_tables};
 
-/// How many variables, clauses and literals a formula has.
+/// How large the formulas of a size are.
+#[derive(Clone, Copy)]
 pub struct Size {
+    /// How many formulas there are, one for each part of the size.
+    pub formulas: u32,
+    /// The variables of the one that has most.
     pub vars: u32,
+    /// The clauses of all together.
     pub clauses: usize,
+    /// The literals of all together.
     pub literals: usize,
 }
 
-/// How large a formula is.
-fn size_of_formula(cnf: &Cnf) -> Size {
-    let mut literals = 0usize;
+/// Counts one more formula.
+fn count(size: &mut Size, cnf: &Cnf) {
+    size.formulas = size.formulas.saturating_add(1);
+    size.vars = size.vars.max(cnf.vars());
+    size.clauses = size.clauses.saturating_add(cnf.clauses().len());
     for clause in cnf.clauses() {
-        literals = literals.saturating_add(clause.lits().len());
-    }
-    Size {
-        vars: cnf.vars(),
-        clauses: cnf.clauses().len(),
-        literals,
+        size.literals = size.literals.saturating_add(clause.lits().len());
     }
 }
 
-/// The formula of tables for so many steps over all operators, where the word is a method.
-fn formula(alloc: Global, method: &[u8], spec: &Spec, r: u32) -> Option<Cnf>
+/// How large the formulas of an encoding are, over all operators.
+fn size_by<E: Encoding>(alloc: Global, encoding: &E, spec: &Spec, r: u32) -> Option<Size>
     requires { r ≤ 16 }
 {
-    let basis = Basis::new(u16::MAX);
-    match method {
-        b"plain" => Plain.formula(alloc, spec, basis, r, &Part::Whole).ok(),
-        b"ssv" => Ssv.formula(alloc, spec, basis, r, &Part::Whole).ok(),
-        _ => None,
+    let mut size = Size {
+        formulas: 0,
+        vars: 0,
+        clauses: 0,
+        literals: 0,
+    };
+    for part in encoding.parts(alloc, spec, r).ok()? {
+        let basis = Basis::new(u16::MAX);
+        let cnf = encoding.formula(alloc, spec, basis, r, &part).ok()?;
+        count(&mut size, &cnf);
     }
+    Some(size)
 }
 
-/// How large the formula of at most 16 steps is, where the text is one of tables and the word is a
+/// How large the formulas of at most 16 steps are, where the text is one of tables and the word is a
 /// method.
 pub fn build(alloc: Global, method: &[u8], text: &[u8], r: u32) -> Option<Size>
     requires { length text.now ≤ 65536 }
@@ -49,6 +59,10 @@ pub fn build(alloc: Global, method: &[u8], text: &[u8], r: u32) -> Option<Size>
         return None;
     }
     let tables = read_tables(alloc, text).ok()?;
-    let cnf = formula(alloc, method, &tables.spec, r)?;
-    Some(size_of_formula(&cnf))
+    match method {
+        b"plain" => size_by(alloc, &Plain, &tables.spec, r),
+        b"ssv" => size_by(alloc, &Ssv, &tables.spec, r),
+        b"fence" => size_by(alloc, &FenceEnc, &tables.spec, r),
+        _ => None,
+    }
 }

@@ -1,11 +1,13 @@
-//! The program `formula_bench`: builds the formula of tables over all operators, and prints how large it
-//! is. The words are a method, `plain` or `ssv`, and a number of steps; the tables stand on the standard
-//! input. How long that took, and in how much memory, is measured from outside.
+//! The program `formula_bench`: builds the formulas of tables over all operators, one for each part of a
+//! size, and prints how many there are, how many variables the one with most has, and the clauses and
+//! literals of all together. The words are a method, `plain`, `ssv` or `fence`, and a number of steps;
+//! the tables stand on the standard input. How long that took, and in how much memory, is measured from
+//! outside.
 #![tactic(auto)]
 
 mod building;
 
-use building::{Size, build};
+use building::build;
 use port_io::{InputPort, read_all};
 use std::{env, io};
 use text_core::number_up_to;
@@ -22,19 +24,16 @@ fn main(rt: HostRuntime) -> io::Result<()> {
         return println!(rt; "no input");
     };
     if words.len() != 2 || bytes.len() > MOST_BYTES {
-        return println!(rt; "usage: formula_bench plain|ssv SIZE");
+        return println!(rt; "usage: formula_bench plain|ssv|fence SIZE");
     }
     let Some(r) = number_up_to(16, words[1].as_bytes()) else {
         return println!(rt; "no size");
     };
     match build(alloc, words[0].as_bytes(), &bytes, r) {
-        Some(
-            Size {
-                vars,
-                clauses,
-                literals,
-            },
-        ) => println!(rt; "{vars} variables, {clauses} clauses, {literals} literals"),
+        Some(size) => println!(rt;
+            "{} formulas, {} variables, {} clauses, {} literals",
+            size.formulas, size.vars, size.clauses, size.literals
+        ),
         None => println!(rt; "no formula"),
     }
 }
