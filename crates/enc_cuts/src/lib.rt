@@ -24,14 +24,13 @@ mod slots;
 mod trivial;
 mod used;
 
-pub use crate::row_zero::push_row_0;
-pub use crate::slots::push_bearers;
-pub use crate::trivial::{push_not_idle, push_operator};
-
 use crate::again::push_again;
 use crate::exchange::push_exchange;
 use crate::order::push_order;
+pub use crate::row_zero::push_row_0;
+pub use crate::slots::push_bearers;
 use crate::trivial::push_not_trivial;
+pub use crate::trivial::{push_not_idle, push_operator};
 use crate::used::push_used;
 use enc_frame::{ClauseList, StepSlots};
 use enc_theory::Sizes;
