@@ -114,7 +114,7 @@ falling-few basis z small = if-few (swap_closed (members basis)) (flat_map (fall
 
 again_operand-few : (ordered : Bool) (z : Sizes) (i l j k o : ℕ) → length (again_operand ordered z i l j k o) ≤ 2
 unfolding again_operand
-again_operand-few ordered z i l j k o = 
+again_operand-few ordered z i l j k o =
     let second = unless-few ordered (written (not_these z i j k ++ not_these z l i o)) 1 (written-few (not_these z i j k ++ not_these z l i o)) in
     rw length-append (omega (arith, written-few (not_these z i j k ++ not_these z l o i), second))
 
