@@ -129,4 +129,5 @@ def main():
     search.refute([], trail, 0, hints)
 
 
-main()
+if __name__ == "__main__":
+    main()

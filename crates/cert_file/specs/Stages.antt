@@ -1,5 +1,5 @@
 -- What a stage says of the lines that were read: which answer a text has with the lines that come next.
-use Rattle.std.specs.Prelude.{◌≡◌, ℕ, ◌+◌, ◌≤◌, ◌<◌, List, [], length, All, Option, Some, None, Result, Ok, Err}
+use Rattle.std.specs.Prelude.{◌≡◌, ℕ, ◌+◌, ◌≤◌, ◌<◌, true, List, [], length, All, Option, Some, None, Result, Ok, Err}
 use Rattle.text_core.specs.Lines.{Line}
 use Rattle.sat_theory.specs.Line as theory
 use Rattle.sat_theory.specs.Log.{added_ids}
@@ -18,6 +18,7 @@ use Rattle.cert_theory.specs.declared.data.Heading.{Heading}
 use Rattle.cert_theory.specs.declared.data.Ended.{Ended}
 use Rattle.cert_theory.specs.declared.data.Verdict.{Verdict}
 use Rattle.cert_theory.specs.declared.data.BundleError.{BundleError}
+use Rattle.cert_theory.specs.Coding.{is_built}
 use Rattle.cert_theory.specs.Gives.{Fails}
 use Rattle.cert_theory.specs.Judging.{with_block, whole_of, Between, Begun, Within, with_tables, behind_basis, behind_method, behind_conflicts, sections_of, behind_chain, end_of, nothing_behind, bundle_of}
 use Rattle.cert_file.specs.declared.stage.Stage.{Stage}
@@ -30,6 +31,7 @@ Answer = Result Verdict BundleError
 pub record IsKnown (h : Heading) : Type 0 where
   pub output : 0 < length h.spec.on
   pub basis : 0 < h.basis
+  pub method : is_built h.method ≡ true
   pub max : h.max ≤ 16
 
 -- behind the first line of a chain block
@@ -61,8 +63,8 @@ IsStage stages.Start number = number ≡ 1
 IsStage stages.Inputs number = number ≡ 2
 IsStage (stages.Tables n on care) number = (number ≡ 3 + length on.items) × IsSpec (record { n = n; on = on.items; care = care.items })
 IsStage (stages.Methods spec basis) number = (0 < basis) × (0 < length spec.on)
-IsStage (stages.Conflicts spec basis method) number = (0 < basis) × (0 < length spec.on)
-IsStage (stages.Sizes spec basis method conflicts) number = (0 < basis) × (0 < length spec.on)
+IsStage (stages.Conflicts spec basis method) number = (0 < basis) × (0 < length spec.on) × (is_built method ≡ true)
+IsStage (stages.Sizes spec basis method conflicts) number = (0 < basis) × (0 < length spec.on) × (is_built method ≡ true)
 IsStage (stages.Between h size low) number = IsKnown h
 IsStage (stages.Begun h size low) number = IsKnown h × (size ≤ h.max)
 IsStage (stages.Within h size low ended checker additions) number = IsKnown h × (size ≤ h.max) × (additions ≤ number)

@@ -61,7 +61,6 @@ fn steps_at(
 }
 
 /// The first line of a chain block.
-
 fn at_chain(
     alloc: Global,
     heading: Heading,
@@ -103,7 +102,6 @@ fn at_chain(
 }
 
 /// A step of the chain.
-
 pub(crate) fn at_steps(
     alloc: Global,
     heading: Heading,
@@ -161,7 +159,6 @@ fn chain_judged(heading: &Heading, chain: &Chain) -> Result<(), BundleError>
 }
 
 /// An out of the chain, and with the last one the chain.
-
 pub(crate) fn at_outs(
     heading: Heading,
     low: Option<u32>,

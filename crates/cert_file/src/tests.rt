@@ -133,7 +133,7 @@ fn refutations_are_judged(rt: HostRuntime) -> Result<(), Fail> {
         (16, b"none 0\n", 0, b"", Err(BundleError::WrongVerdict(16))),
         (16, b"", 17, b"", Err(BundleError::Syntax(16))),
         (17, b"end\n\n", 0, b"", Err(BundleError::Syntax(18))),
-        (5, b"method ssv\n", 0, b"", Err(BundleError::Syntax(5))),
+        (5, b"method select\n", 0, b"", Err(BundleError::Syntax(5))),
         (2, b"inputs 7\n", 0, b"", Err(BundleError::Syntax(2))),
         (3, b"", 0, b"", Err(BundleError::Syntax(3))),
         (4, b"basis 0110,0001\n", 0, b"", Err(BundleError::Syntax(4))),
@@ -152,6 +152,7 @@ fn chains_are_judged(rt: HostRuntime) -> Result<(), Fail> {
     let alloc = rt.alloc();
     for (line, by, answer) in [
         (0usize, b"" as &[u8], Ok(Verdict::Minimum(1))),
+        (5, b"method ssv\n", Ok(Verdict::Minimum(1))),
         (12, b"x3 x1 x2 1001\n", Err(BundleError::ChainDiffers(1, 0))),
         (4, b"basis 0001\n", Err(BundleError::OperatorNotInBasis(3))),
         (14, b"minimum 2\n", Err(BundleError::WrongVerdict(14))),
@@ -160,6 +161,29 @@ fn chains_are_judged(rt: HostRuntime) -> Result<(), Fail> {
         (11, b"chain 17\n", Err(BundleError::Syntax(11))),
     ] {
         assert_eq!(rt; judged(alloc, &XOR, (line, by), (0, b"")), answer, "{line}");
+    }
+    Ok(())
+}
+
+/// By `ssv` three clauses of cuts stand behind the plain ones, and take the next three ids.
+#[test]
+fn cuts_are_clauses(rt: HostRuntime) -> Result<(), Fail> {
+    let alloc = rt.alloc();
+    let front = &NOT_BY_AND[..13];
+    for (log, answer) in [
+        (
+            b"27 -5 0 1 2 3 4 6 7 22 20 0\n28 0 1 2 3 4 6 7 27 18 16 0\ndone\nnone 1\nend\n" as &[u8],
+            Ok(Verdict::NoChain(1)),
+        ),
+        (
+            b"26 -5 0 1 2 3 4 6 7 22 20 0\n",
+            Err(BundleError::StepRefused(13, CheckError::IdNotGreater(26))),
+        ),
+    ] {
+        assert_eq!(rt;
+            judged(alloc, front, (5, b"method ssv\n"), (13, log)),
+            answer
+        );
     }
     Ok(())
 }
