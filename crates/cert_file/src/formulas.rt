@@ -6,6 +6,7 @@ ghost use Rattle.cert_theory.specs.Judging.{whole_of};
 use cert_theory::Heading;
 use cnf_core::Cnf;
 use enc_frame::{Encoding, Method, Part};
+use enc_select::Select;
 use enc_ssv::{Plain, Ssv};
 use std::alloc::{AllocError, Global};
 
@@ -20,7 +21,8 @@ pub(crate) fn formula_of(alloc: Global, heading: &Heading, size: u32) -> Result<
     match heading.method {
         Method::Plain => Plain.formula(alloc, &heading.spec, heading.basis, size, &Part::Whole),
         Method::Ssv => Ssv.formula(alloc, &heading.spec, heading.basis, size, &Part::Whole),
-        // the methods that are not built, which no heading has
-        Method::Select | Method::Fence => unreachable!(),
+        Method::Select => Select.formula(alloc, &heading.spec, heading.basis, size, &Part::Whole),
+        // the method that is not built, which no heading has
+        Method::Fence => unreachable!(),
     }
 }

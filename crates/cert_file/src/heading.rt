@@ -132,6 +132,9 @@ fn method_named(word: &[u8]) -> Option<Method>
     if word == b"ssv".as_slice() {
         return Some(Method::Ssv);
     }
+    if word == b"select".as_slice() {
+        return Some(Method::Select);
+    }
     None
 }
 

@@ -133,7 +133,7 @@ fn refutations_are_judged(rt: HostRuntime) -> Result<(), Fail> {
         (16, b"none 0\n", 0, b"", Err(BundleError::WrongVerdict(16))),
         (16, b"", 17, b"", Err(BundleError::Syntax(16))),
         (17, b"end\n\n", 0, b"", Err(BundleError::Syntax(18))),
-        (5, b"method select\n", 0, b"", Err(BundleError::Syntax(5))),
+        (5, b"method fences\n", 0, b"", Err(BundleError::Syntax(5))),
         (2, b"inputs 7\n", 0, b"", Err(BundleError::Syntax(2))),
         (3, b"", 0, b"", Err(BundleError::Syntax(3))),
         (4, b"basis 0110,0001\n", 0, b"", Err(BundleError::Syntax(4))),
@@ -153,6 +153,7 @@ fn chains_are_judged(rt: HostRuntime) -> Result<(), Fail> {
     for (line, by, answer) in [
         (0usize, b"" as &[u8], Ok(Verdict::Minimum(1))),
         (5, b"method ssv\n", Ok(Verdict::Minimum(1))),
+        (5, b"method select\n", Ok(Verdict::Minimum(1))),
         (12, b"x3 x1 x2 1001\n", Err(BundleError::ChainDiffers(1, 0))),
         (4, b"basis 0001\n", Err(BundleError::OperatorNotInBasis(3))),
         (14, b"minimum 2\n", Err(BundleError::WrongVerdict(14))),

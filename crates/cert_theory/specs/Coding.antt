@@ -4,6 +4,7 @@ use Rattle.sat_theory.specs.Formula.{Formula}
 use Rattle.tt_core.specs.Words.{Words}
 use Rattle.enc_theory.specs.Plain.{plain_formula}
 use Rattle.enc_theory.specs.Ssv.{ssv_formula}
+use Rattle.enc_theory.specs.Select.{select_formula}
 use Rattle.enc_frame.specs.declared.part.Part.{Part}
 use Rattle.enc_frame.specs.declared.part.Part.TheVariants.{Whole}
 use Rattle.enc_theory.specs.declared.data.Method.{Method}
@@ -21,18 +22,21 @@ plain_coding = record { parts = λ w r. Whole ∷ []; formula = λ w basis r par
 abbrev pub ssv_coding : Coding
 ssv_coding = record { parts = λ w r. Whole ∷ []; formula = λ w basis r part. ssv_formula w basis r }
 
+abbrev pub select_coding : Coding
+select_coding = record { parts = λ w r. Whole ∷ []; formula = λ w basis r part. select_formula w basis r }
+
 -- the methods whose bundles are known so far
 abbrev pub is_built : Method → Bool
 is_built Plain = true
 is_built Ssv = true
-is_built Select = false
+is_built Select = true
 is_built Fence = false
 
 -- the coding of a method that is built; of another one nothing is asked
 unfoldable pub coding_of : Method → Coding
 coding_of Plain = plain_coding
 coding_of Ssv = ssv_coding
-coding_of Select = plain_coding
+coding_of Select = select_coding
 coding_of Fence = plain_coding
 
 abbrev pub method_text : Method → List ℕ

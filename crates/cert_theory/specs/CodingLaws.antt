@@ -10,9 +10,10 @@ use Rattle.enc_theory.specs.declared.data.Method.{Method}
 use Rattle.enc_theory.specs.declared.data.Method.TheVariants.{Plain, Ssv, Select, Fence}
 use Rattle.enc_laws.specs.Laws.{plain_complete, plain_is_formula}
 use Rattle.enc_laws.specs.Ssv.{ssv_complete, ssv_is_formula}
+use Rattle.enc_laws.specs.Select.{select_complete, select_is_formula}
 use Rattle.enc_frame.specs.declared.part.Part.{Part}
 use Rattle.enc_frame.specs.declared.part.Part.TheVariants.{Whole}
-use Rattle.cert_theory.specs.Coding.{Coding, plain_coding, ssv_coding, coding_of}
+use Rattle.cert_theory.specs.Coding.{Coding, plain_coding, ssv_coding, select_coding, coding_of}
 
 -- The formulas of a size's parts are formulas, and where the size is the minimum, one of them is
 -- satisfiable.
@@ -32,10 +33,16 @@ ssv_is_coding = record {
   complete = λ w basis r spec few some minimum. (Whole, (0, omega arith, refl), ssv_complete w basis r minimum);
 }
 
+pub select_is_coding : IsCoding select_coding
+select_is_coding = record {
+  formulas = λ w basis r part there. select_is_formula w basis r;
+  complete = λ w basis r spec few some minimum. (Whole, (0, omega arith, refl), select_complete w basis r minimum);
+}
+
 -- so the methods that are built have true verdicts
 pub built_is_coding : (method : Method) → IsCoding (coding_of method)
 unfolding coding_of
 built_is_coding Plain = plain_is_coding
 built_is_coding Ssv = ssv_is_coding
-built_is_coding Select = plain_is_coding
+built_is_coding Select = select_is_coding
 built_is_coding Fence = plain_is_coding

@@ -34,7 +34,7 @@ use Rattle.chain_core.specs.declared.error.ChainError.{ChainError}
 use Rattle.chain_core.specs.declared.error.ChainError.TheVariants as chain_errors
 use Rattle.enc_frame.specs.declared.part.Part.TheVariants.{Whole}
 use Rattle.enc_theory.specs.declared.data.Method.{Method}
-use Rattle.enc_theory.specs.declared.data.Method.TheVariants.{Plain, Ssv}
+use Rattle.enc_theory.specs.declared.data.Method.TheVariants.{Plain, Ssv, Select}
 use Rattle.cert_theory.specs.declared.data.Heading.{Heading}
 use Rattle.cert_theory.specs.declared.data.Ended.{Ended}
 use Rattle.cert_theory.specs.declared.data.Ended.TheVariants as ends
@@ -97,7 +97,7 @@ basis_in l = option_and_then (λ word. spelled word (basis_of word)) (value_of (
 
 -- a method that is built
 abbrev pub named_method : List ℕ → Option Method
-named_method word = if bytes_eq word (method_text Plain) then Some Plain else (if bytes_eq word (method_text Ssv) then Some Ssv else None)
+named_method word = if bytes_eq word (method_text Plain) then Some Plain else (if bytes_eq word (method_text Ssv) then Some Ssv else (if bytes_eq word (method_text Select) then Some Select else None))
 
 unfoldable pub method_in : Line → Option Method
 method_in l = option_and_then named_method (value_of (codes "method ") l)
