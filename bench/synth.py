@@ -7,7 +7,7 @@ import resource
 import subprocess
 import sys
 
-METHODS = ['ssv', 'plain']
+METHODS = ['ssv', 'select', 'plain']
 
 FUNCTIONS = [
     ('xor', '0110'),

@@ -25,6 +25,9 @@ fn method_in(value: &[u8]) -> Option<Method>
     if is_word(value, b"ssv") {
         return Some(Method::Ssv);
     }
+    if is_word(value, b"select") {
+        return Some(Method::Select);
+    }
     None
 }
 

@@ -8,6 +8,7 @@ use crate::trying::{PartOutcome, try_part};
 use bundle_core::{Heading, Section};
 use chain_core::Chain;
 use enc_frame::{Encoding, Method};
+use enc_select::Select;
 use enc_ssv::{Plain, Ssv};
 use std::alloc::{AllocError, Global};
 
@@ -30,8 +31,9 @@ pub fn search_size(alloc: Global, heading: &Heading, size: u32) -> Result<SizeOu
     match heading.method {
         Method::Plain => search_parts(alloc, &Plain, heading, size),
         Method::Ssv => search_parts(alloc, &Ssv, heading, size),
-        // the methods that are not built, which no heading has
-        Method::Select | Method::Fence => unreachable!(),
+        Method::Select => search_parts(alloc, &Select, heading, size),
+        // the method that is not built, which no heading has
+        Method::Fence => unreachable!(),
     }
 }
 

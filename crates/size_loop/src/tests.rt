@@ -11,49 +11,93 @@ const ALL: u16 = 65_535;
 /// NAND alone.
 const NAND: u16 = 16_384;
 
-/// What a search makes of tables, of at most 1,000 bytes: with the cuts that leave a least chain, or by
-/// the plain method.
+/// What a search makes of tables, of at most 1,000 bytes.
 fn searched(
     alloc: Global,
     text: &[u8],
     basis: u16,
-    cuts: bool,
+    method: Method,
     max: u32,
     budget: u32,
 ) -> Result<Bundle, Fail> {
     if text.len() > 1_000 || basis == 0 || max > 16 || budget == 0 || budget > 10_000_000 {
         return Err(Fail::from("beyond the limits"));
     }
+    if method == Method::Fence {
+        return Err(Fail::from("not built"));
+    }
     let tables = read_tables(alloc, text).map_err(|_| Fail::from("refused"))?;
-    let method = if cuts { Method::Ssv } else { Method::Plain };
     let found = search(alloc, &tables.spec, Basis::new(basis), method, max, budget);
     found.map_err(|_| Fail::from("want of memory"))
 }
 
 #[test]
 fn fewest_steps_are_found(rt: HostRuntime) -> Result<(), Fail> {
-    for (text, basis, cuts, verdict, sections) in [
+    for (text, basis, method, verdict, sections) in [
         // XOR, by all operators and by NAND
         (
             b"inputs 2\n0110\n" as &[u8],
             ALL,
-            false,
+            Method::Plain,
             Verdict::Minimum(1),
             1,
         ),
-        (b"inputs 2\n0110\n", ALL, true, Verdict::Minimum(1), 1),
-        (b"inputs 2\n0110\n", NAND, false, Verdict::Minimum(4), 4),
-        (b"inputs 2\n0110\n", NAND, true, Verdict::Minimum(4), 4),
+        (
+            b"inputs 2\n0110\n",
+            ALL,
+            Method::Ssv,
+            Verdict::Minimum(1),
+            1,
+        ),
+        (
+            b"inputs 2\n0110\n",
+            NAND,
+            Method::Plain,
+            Verdict::Minimum(4),
+            4,
+        ),
+        (
+            b"inputs 2\n0110\n",
+            NAND,
+            Method::Ssv,
+            Verdict::Minimum(4),
+            4,
+        ),
         // NOT by NAND, AND of three, cells that are all free
-        (b"inputs 1\n10\n", NAND, true, Verdict::Minimum(1), 1),
-        (b"inputs 3\n00000001\n", ALL, true, Verdict::Minimum(2), 2),
-        (b"inputs 2\n----\n", ALL, false, Verdict::Minimum(0), 0),
+        (b"inputs 1\n10\n", NAND, Method::Ssv, Verdict::Minimum(1), 1),
+        (
+            b"inputs 3\n00000001\n",
+            ALL,
+            Method::Ssv,
+            Verdict::Minimum(2),
+            2,
+        ),
+        (
+            b"inputs 2\n----\n",
+            ALL,
+            Method::Plain,
+            Verdict::Minimum(0),
+            0,
+        ),
         // NOT by XOR and its complement: a constant step is needed
-        (b"inputs 1\n10\n", 576, true, Verdict::Minimum(2), 2),
+        (b"inputs 1\n10\n", 576, Method::Ssv, Verdict::Minimum(2), 2),
         // the median of three
-        (b"inputs 3\n00010111\n", ALL, true, Verdict::Minimum(4), 4),
+        (
+            b"inputs 3\n00010111\n",
+            ALL,
+            Method::Select,
+            Verdict::Minimum(4),
+            4,
+        ),
+        (
+            b"inputs 3\n00010111\n",
+            ALL,
+            Method::Ssv,
+            Verdict::Minimum(4),
+            4,
+        ),
     ] {
-        let bundle = searched(rt.alloc(), text, basis, cuts, 16, 100_000)?;
+        let bundle = searched(rt.alloc(), text, basis, method, 16, 100_000)?;
         assert_eq!(rt; bundle.verdict, verdict);
         assert_eq!(rt; bundle.sections.len(), sections);
     }
@@ -62,11 +106,11 @@ fn fewest_steps_are_found(rt: HostRuntime) -> Result<(), Fail> {
 
 #[test]
 fn limits_end_a_search(rt: HostRuntime) -> Result<(), Fail> {
-    for (text, basis, cuts, max, budget, verdict) in [
+    for (text, basis, method, max, budget, verdict) in [
         (
             b"inputs 2\n0110\n" as &[u8],
             NAND,
-            false,
+            Method::Plain,
             3,
             100_000,
             Verdict::NoChain(3),
@@ -74,7 +118,7 @@ fn limits_end_a_search(rt: HostRuntime) -> Result<(), Fail> {
         (
             b"inputs 3\n00010111\n",
             ALL,
-            true,
+            Method::Ssv,
             3,
             100_000,
             Verdict::NoChain(3),
@@ -83,13 +127,13 @@ fn limits_end_a_search(rt: HostRuntime) -> Result<(), Fail> {
         (
             b"inputs 3\n01101001\n00010111\n",
             ALL,
-            false,
+            Method::Plain,
             2,
             1,
             Verdict::Open { low: 2 },
         ),
     ] {
-        let bundle = searched(rt.alloc(), text, basis, cuts, max, budget)?;
+        let bundle = searched(rt.alloc(), text, basis, method, max, budget)?;
         assert_eq!(rt; bundle.verdict, verdict);
     }
     Ok(())
