@@ -159,6 +159,12 @@ fn certificates_are_found_valid_again(rt: HostRuntime) -> Result<(), Fail> {
     for (line, input, status, verdict) in [
         ("synth --method plain", "inputs 2\n0110\n", 0, "minimum 1\n"),
         ("synth", "inputs 3\n00010111\n", 0, "minimum 4\n"),
+        (
+            "synth --method select",
+            "inputs 3\n00010111\n",
+            0,
+            "minimum 4\n",
+        ),
         ("synth --max 3", "inputs 3\n00010111\n", 0, "none 3\n"),
         // the full adder, with next to no work
         (

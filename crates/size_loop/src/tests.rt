@@ -1,3 +1,6 @@
+ghost use Rattle.std.specs.Prelude.{◌≡◌};
+ghost use Rattle.cert_theory.specs.Coding.{is_built};
+
 use super::*;
 use bundle_core::{Bundle, Verdict};
 use enc_frame::Method;
@@ -11,6 +14,16 @@ const ALL: u16 = 65_535;
 /// NAND alone.
 const NAND: u16 = 16_384;
 
+/// Whether a method is built.
+fn is_known(method: Method) -> bool
+    ensures { result ≡ is_built method }
+{
+    match method {
+        Method::Plain | Method::Ssv | Method::Select => true,
+        Method::Fence => false,
+    }
+}
+
 /// What a search makes of tables, of at most 1,000 bytes.
 fn searched(
     alloc: Global,
@@ -23,7 +36,7 @@ fn searched(
     if text.len() > 1_000 || basis == 0 || max > 16 || budget == 0 || budget > 10_000_000 {
         return Err(Fail::from("beyond the limits"));
     }
-    if method == Method::Fence {
+    if !is_known(method) {
         return Err(Fail::from("not built"));
     }
     let tables = read_tables(alloc, text).map_err(|_| Fail::from("refused"))?;

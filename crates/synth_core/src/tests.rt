@@ -1,3 +1,6 @@
+ghost use Rattle.std.specs.Prelude.{◌≡◌};
+ghost use Rattle.cert_theory.specs.Coding.{is_built};
+
 use super::*;
 use enc_theory::Method;
 use op_basis::Basis;
@@ -10,22 +13,34 @@ const ALL: u16 = 65_535;
 /// NAND alone.
 const NAND: u16 = 16_384;
 
-/// What is certified of tables of at most 1,000 bytes: with the cuts that leave a least chain, or by the
-/// plain method.
+/// Whether a method is built.
+fn is_known(method: Method) -> bool
+    ensures { result ≡ is_built method }
+{
+    match method {
+        Method::Plain | Method::Ssv | Method::Select => true,
+        Method::Fence => false,
+    }
+}
+
+/// What is certified of tables of at most 1,000 bytes.
 fn certified(
     alloc: Global,
     text: &[u8],
     basis: u16,
-    cuts: bool,
+    method: Method,
     max: u32,
     conflicts: u32,
 ) -> Result<Certificate, SpecError> {
     if text.len() > 1_000 || basis == 0 || max > 16 || conflicts == 0 || conflicts > 10_000_000 {
         return Err(SpecError::Memory);
     }
+    if !is_known(method) {
+        return Err(SpecError::Memory);
+    }
     let asked = Asked {
         basis: Basis::new(basis),
-        method: if cuts { Method::Ssv } else { Method::Plain },
+        method,
         max,
         conflicts,
     };
@@ -34,43 +49,48 @@ fn certified(
 
 #[test]
 fn certificates_end_in_their_verdict(rt: HostRuntime) -> Result<(), Fail> {
-    for (text, basis, cuts, end) in [
+    for (text, basis, method, end) in [
         (
             b"inputs 2\n0110\n" as &[u8],
             ALL,
-            true,
+            Method::Ssv,
             b"\nchain 1\nx3 x1 x2 0110\nout x3\nminimum 1\nend\n" as &[u8],
         ),
         // the cuts leave this chain alone
         (
             b"inputs 3\n00000001\n",
             ALL,
-            true,
+            Method::Ssv,
             b"\nchain 2\nx4 x1 x2 0001\nx5 x3 x4 0001\nout x5\nminimum 2\nend\n",
         ),
         // a complemented output isn't free
-        (b"inputs 2\n0110\n1001\n", ALL, true, b"\nminimum 2\nend\n"),
+        (
+            b"inputs 2\n0110\n1001\n",
+            ALL,
+            Method::Ssv,
+            b"\nminimum 2\nend\n",
+        ),
         // NOT by NAND, cells that are all free, a basis that isn't closed under exchanged operands
         (
             b"inputs 1\n10\n",
             NAND,
-            false,
+            Method::Plain,
             b"\nchain 1\nx2 x1 x1 1110\nout x2\nminimum 1\nend\n",
         ),
         (
             b"inputs 2\n----\n",
             ALL,
-            false,
+            Method::Select,
             b"\nchain 0\nout 0\nminimum 0\nend\n",
         ),
         (
             b"inputs 2\n0100\n",
             4,
-            true,
+            Method::Ssv,
             b"\nchain 1\nx3 x2 x1 0010\nout x3\nminimum 1\nend\n",
         ),
     ] {
-        let found = certified(rt.alloc(), text, basis, cuts, 16, 100_000);
+        let found = certified(rt.alloc(), text, basis, method, 16, 100_000);
         let certificate = found.map_err(|_| Fail::from("refused"))?;
         assert!(rt; certificate.text.ends_with(end));
     }
@@ -96,7 +116,7 @@ fn limits_stand_in_the_verdict(rt: HostRuntime) -> Result<(), Fail> {
             b"\ndone\nopen 2\nend\n",
         ),
     ] {
-        let found = certified(rt.alloc(), text, basis, false, max, conflicts);
+        let found = certified(rt.alloc(), text, basis, Method::Plain, max, conflicts);
         let certificate = found.map_err(|_| Fail::from("refused"))?;
         assert!(rt; certificate.text.ends_with(end));
     }
@@ -105,7 +125,14 @@ fn limits_stand_in_the_verdict(rt: HostRuntime) -> Result<(), Fail> {
 
 #[test]
 fn whole_certificate_is_written(rt: HostRuntime) -> Result<(), Fail> {
-    let found = certified(rt.alloc(), b"inputs 2\n0--1\n", ALL, true, 16, 100_000);
+    let found = certified(
+        rt.alloc(),
+        b"inputs 2\n0--1\n",
+        ALL,
+        Method::Ssv,
+        16,
+        100_000,
+    );
     let certificate = found.map_err(|_| Fail::from("refused"))?;
     let text =
         b"chains 1\ninputs 2\n0--1\nbasis all\nmethod ssv\nconflicts 100000\nmax 16\nchain 0\nout x1\nminimum 0\nend\n";
@@ -122,7 +149,7 @@ fn only_tables_are_read(rt: HostRuntime) -> Result<(), Fail> {
         (b"inputs 2\n0110\nend\n", SpecError::BadRow(3)),
         (b"inputs 7\n0110\n", SpecError::TooManyInputs),
     ] {
-        let found = certified(rt.alloc(), text, ALL, true, 16, 1).err();
+        let found = certified(rt.alloc(), text, ALL, Method::Ssv, 16, 1).err();
         assert_eq!(rt; found, Some(error));
     }
     Ok(())
