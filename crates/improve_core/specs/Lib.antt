@@ -1,0 +1,11 @@
+pub use Rattle.net_theory.specs.Document
+pub use Rattle.net_theory.specs.Behaviour
+pub use Rattle.net_theory.specs.WellFormed
+pub use Rattle.net_theory.specs.Circuit
+pub use Rattle.net_theory.specs.Cost
+pub use Rattle.net_theory.specs.Dead
+pub use Rattle.net_document.specs.Listed
+pub use Rattle.blif_text.specs.Statements
+pub use Rattle.blif_core.specs.Spelling
+pub use Rattle.blif_core.specs.Texts
+pub mod Improving
