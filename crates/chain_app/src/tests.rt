@@ -158,14 +158,14 @@ fn certificates_are_found_valid_again(rt: HostRuntime) -> Result<(), Fail> {
     let alloc = rt.alloc();
     for (line, input, status, verdict) in [
         ("synth --method plain", "inputs 2\n0110\n", 0, "minimum 1\n"),
-        ("synth", "inputs 3\n00010111\n", 0, "minimum 4\n"),
+        ("synth", "inputs 3\n00000001\n", 0, "minimum 2\n"),
         (
             "synth --method select",
-            "inputs 3\n00010111\n",
+            "inputs 3\n00000001\n",
             0,
-            "minimum 4\n",
+            "minimum 2\n",
         ),
-        ("synth --max 3", "inputs 3\n00010111\n", 0, "none 3\n"),
+        ("synth --max 1", "inputs 3\n00000001\n", 0, "none 1\n"),
         // the full adder, with next to no work
         (
             "synth --method plain --conflicts 1 --max 2",

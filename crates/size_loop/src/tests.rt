@@ -94,20 +94,12 @@ fn fewest_steps_are_found(rt: HostRuntime) -> Result<(), Fail> {
         ),
         // NOT by XOR and its complement: a constant step is needed
         (b"inputs 1\n10\n", 576, Method::Ssv, Verdict::Minimum(2), 2),
-        // the median of three
         (
-            b"inputs 3\n00010111\n",
+            b"inputs 3\n00000001\n",
             ALL,
             Method::Select,
-            Verdict::Minimum(4),
-            4,
-        ),
-        (
-            b"inputs 3\n00010111\n",
-            ALL,
-            Method::Ssv,
-            Verdict::Minimum(4),
-            4,
+            Verdict::Minimum(2),
+            2,
         ),
     ] {
         let bundle = searched(rt.alloc(), text, basis, method, 16, 100_000)?;
@@ -129,12 +121,12 @@ fn limits_end_a_search(rt: HostRuntime) -> Result<(), Fail> {
             Verdict::NoChain(3),
         ),
         (
-            b"inputs 3\n00010111\n",
+            b"inputs 3\n00000001\n",
             ALL,
             Method::Ssv,
-            3,
+            1,
             100_000,
-            Verdict::NoChain(3),
+            Verdict::NoChain(1),
         ),
         // the full adder, with next to no work
         (
