@@ -1,0 +1,97 @@
+-- What the heap shows of its variables.
+use Rattle.std.specs.Prelude.{◌≡◌, ℕ, zero, suc, ◌+◌, ◌<◌, ◌≤◌, ◌/◌, Bool, true, List, [], ◌∷◌, map, length, slice_index_or, slice_set, replicate, refl}
+use Rattle.std.proofs.Common.{sym, ap, ◌∙◌, subst, arith}
+use Rattle.std.proofs.lemmas.Bool.{lt-ltb, ltb-true}
+use Rattle.std.proofs.lemmas.Grind.{common_steps}
+use Rattle.std.proofs.lemmas.List.{length-set, length-map}
+use Rattle.var_heap.specs.declared.row.Row.{Row}
+use Rattle.var_heap.specs.Entries.{entry, marks_of}
+use Rattle.var_heap.specs.Held.{Held, IsHeld, IsGreatest, IsFull}
+use Rattle.var_heap.specs.Rows.{IsRow, at, place, IsHeap, IsFilled, IsOrderedAbove}
+use Rattle.var_heap.proofs.Writing.{entry-set, entry_read, mark_read, marks_set, marks_kept}
+use Rattle.var_heap.proofs.Heaps.{first_greatest, ordered_risen, ordered_elsewhere, ordered_alike}
+use Rattle.var_heap.proofs.Filling.{zero_entry}
+
+abbrev shown : ℕ → List ℕ → Row → Held
+shown vars scores r = record { vars = vars; scores = scores; marks = marks_of r.places.items }
+
+held_place : (vars : ℕ) (scores : List ℕ) (r : Row) (v : ℕ) → IsHeld (shown vars scores r) v → 0 < place r v
+held_place vars scores r v held = ltb-true 0 (place r v) (sym (mark_read r.places.items v) ∙ held)
+
+place_held : (vars : ℕ) (scores : List ℕ) (r : Row) (v : ℕ) → 0 < place r v → IsHeld (shown vars scores r) v
+place_held vars scores r v some = mark_read r.places.items v ∙ lt-ltb 0 (place r v) some
+
+-- the first is a held variable of greatest score
+pub greatest_first : (h : Held) (vars : ℕ) (scores : List ℕ) (r : Row) (v : ℕ) → shown vars scores r ≡ h → IsHeap vars scores r → 0 < r.len → v ≡ at r 1 → IsGreatest h v
+greatest_first h vars scores r v view heap some first = rw (← view, first) (record {
+  held = place_held vars scores r (at r 1) (rw (heap.row.arranged.placed 1 (omega arith) (omega (arith, some))) (omega arith));
+  variable = (heap.row.arranged.some 1 (omega arith) (omega (arith, some)), (let low : at r 1 < length r.places.items = heap.row.arranged.below 1 (omega arith) (omega (arith, some)) in let room : length r.places.items ≡ vars + 1 = heap.places_room in omega arith));
+  greatest = λ w held.
+      let here : 0 < place r w = held_place vars scores r w held in
+      let low : place r w ≤ r.len = heap.row.arranged.within w here in
+      let top : entry scores (at r (place r w)) ≤ entry scores (at r 1) = first_greatest (at r) (entry scores) r.len heap.ordered (place r w) (place r w) (omega arith) here low in
+      let same : at r (place r w) ≡ w = heap.row.arranged.found w here in
+      subst (λ (x : ℕ). x ≤ slice_index_or scores (at r 1) 0) (ap (entry scores) same ∙ entry_read scores w) (subst (λ (x : ℕ). entry scores (at r (place r w)) ≤ x) (entry_read scores (at r 1)) top);
+})
+
+pub none_held : (h : Held) (vars : ℕ) (scores : List ℕ) (r : Row) (v : ℕ) → shown vars scores r ≡ h → IsRow r → r.len ≡ 0 → IsHeld h v → ⊥
+none_held h vars scores r v view row none held =
+    let here : 0 < place r v = held_place vars scores r v (subst (λ (x : Held). IsHeld x v) (sym view) held) in
+    let low : place r v ≤ r.len = row.arranged.within v here in
+    omega arith
+
+-- a held variable that is put back stays
+pub held_stays : (h : Held) (vars : ℕ) (scores : List ℕ) (r : Row) (v : ℕ) → shown vars scores r ≡ h → 0 < place r v → h ≡ record h { marks = slice_set h.marks v true }
+held_stays h vars scores r v view some =
+    let same : slice_set (marks_of r.places.items) v true ≡ marks_of r.places.items = sym (marks_set r.places.items v 1) ∙ marks_kept r.places.items v 1 (omega arith) some in
+    rw (← view) (ap (λ (m : List Bool). (let x : Held = record { vars = vars; scores = scores; marks = m } in x)) (sym same))
+
+-- scores that rise
+pub risen_above : (vars : ℕ) (scores now : List ℕ) (r : Row) (v y p : ℕ) → IsHeap vars scores r → v ≤ vars → now ≡ slice_set scores v y → place r v ≡ p → 0 < p → slice_index_or scores v 0 ≤ y → IsOrderedAbove (at r) (entry now) r.len p
+risen_above vars scores now r v y p heap low is at_p some rise =
+    let room : length scores ≡ vars + 1 = heap.scores_room in
+    rw (is, ← at_p, entry-set scores v y (omega (arith, room, low))) (ordered_risen (at r) (place r) (entry scores) r.len (length r.places.items) v y heap.row.arranged heap.ordered (rw at_p some) (rw entry_read rise))
+
+pub risen_elsewhere : (vars : ℕ) (scores : List ℕ) (r : Row) (v y : ℕ) → IsHeap vars scores r → v ≤ vars → place r v ≡ 0 → IsHeap vars (slice_set scores v y) r
+risen_elsewhere vars scores r v y heap low none =
+    let room : length scores ≡ vars + 1 = heap.scores_room in
+    record {
+      row = heap.row;
+      scores_room = length-set scores v y ∙ room;
+      places_room = heap.places_room;
+      ordered = rw (entry-set scores v y (omega (arith, room, low))) (ordered_elsewhere (at r) (place r) (entry scores) r.len (length r.places.items) v y heap.row.arranged heap.ordered none);
+    }
+
+-- scores that are halved
+entry_halved : (xs : List ℕ) (v : ℕ) → entry (map (λ s. s / 2) xs) v ≡ entry xs v / 2
+unfolding entry
+entry_halved [] v = refl
+entry_halved (x ∷ xs) zero = refl
+entry_halved (x ∷ xs) (suc v) = entry_halved xs v
+
+entries_halved : (xs : List ℕ) → entry (map (λ s. s / 2) xs) ≡ (λ v. entry xs v / 2)
+entries_halved xs = λ i v. entry_halved xs v i
+
+pub heap_halved : (vars : ℕ) (scores now : List ℕ) (r : Row) → now ≡ map (λ s. s / 2) scores → IsHeap vars scores r → IsHeap vars now r
+heap_halved vars scores now r is heap = record {
+  row = heap.row;
+  scores_room = ap length is ∙ (rw length-map heap.scores_room);
+  places_room = heap.places_room;
+  ordered = rw (is, entries_halved scores) (ordered_alike (at r) (entry scores) r.len (λ (s : ℕ). s / 2) (λ a b low. omega arith) heap.ordered);
+}
+
+-- the heap of all variables
+pub full_heap : (vars : ℕ) (scores : List ℕ) (r : Row) → scores ≡ replicate (vars + 1) 0 → IsRow r → length r.places.items ≡ vars + 1 → IsHeap vars scores r
+full_heap vars scores r zeros row room = record {
+  row = row;
+  scores_room = ap length zeros ∙ grind (arith, common_steps);
+  places_room = room;
+  ordered = record { order = λ q p low under. rw (zeros, zero_entry (vars + 1) (at r p), zero_entry (vars + 1) (at r q)) (omega arith) };
+}
+
+pub full_shown : (vars : ℕ) (scores : List ℕ) (r : Row) → scores ≡ replicate (vars + 1) 0 → IsFilled vars r → IsFull vars (shown vars scores r)
+full_shown vars scores r zeros filled = record {
+  vars_are = refl;
+  held = λ v some low. place_held vars scores r v (rw (filled.each v low) some);
+  scores_are = zeros;
+}

@@ -1,0 +1,31 @@
+-- Variables with scores, of which some are held.
+use Rattle.std.specs.Prelude.{◌≡◌, ℕ, ◌+◌, ◌<◌, ◌≤◌, Bool, true, false, List, slice_index_or, replicate}
+
+-- The variables are 1 to vars. Index v of a list is that of the variable v, and index 0 is none's.
+-- Example: with the scores 0, 4, 9 and the marks false, true, false the variable 1 is held with the score
+-- 4, and 2 with the score 9 is not.
+pub record Held : Type 0 where
+  pub vars : ℕ
+  pub scores : List ℕ
+  pub marks : List Bool
+
+abbrev pub IsHeld : Held → ℕ → Type 0
+IsHeld h v = slice_index_or h.marks v false ≡ true
+
+abbrev pub score_of : Held → ℕ → ℕ
+score_of h v = slice_index_or h.scores v 0
+
+abbrev pub IsVariable : Held → ℕ → Type 0
+IsVariable h v = (0 < v) × (v ≤ h.vars)
+
+-- v is held, and no held variable exceeds it
+pub record IsGreatest (h : Held) (v : ℕ) : Type 0 where
+  pub held : IsHeld h v
+  pub variable : IsVariable h v
+  pub greatest : (w : ℕ) → IsHeld h w → score_of h w ≤ score_of h v
+
+-- all variables are held, with the score 0
+pub record IsFull (vars : ℕ) (h : Held) : Type 0 where
+  pub vars_are : h.vars ≡ vars
+  pub held : (v : ℕ) → 0 < v → v ≤ vars → IsHeld h v
+  pub scores_are : h.scores ≡ replicate (vars + 1) 0

@@ -1,0 +1,70 @@
+-- How a row holds variables, and when it is a heap.
+use Rattle.std.specs.Prelude.{◌≡◌, ◌≢◌, ℕ, ◌+◌, ◌*◌, ◌<◌, ◌≤◌, ◌==◌, List, length, count_by}
+use Rattle.var_heap.specs.declared.row.Row.{Row}
+use Rattle.var_heap.specs.Entries.{entry, marks_of}
+
+-- the variable at a place, and the place of a variable
+abbrev pub at : Row → ℕ → ℕ
+at r = entry r.heap.items
+
+abbrev pub place : Row → ℕ → ℕ
+place r = entry r.places.items
+
+-- Each place up to len has a variable below bound, whose place it is, and each variable that has a place stands there.
+pub record IsArranged (at_place place_of : ℕ → ℕ) (len bound : ℕ) : Type 0 where
+  pub some : (p : ℕ) → 0 < p → p ≤ len → 0 < at_place p
+  pub below : (p : ℕ) → 0 < p → p ≤ len → at_place p < bound
+  pub placed : (p : ℕ) → 0 < p → p ≤ len → place_of (at_place p) ≡ p
+  pub within : (v : ℕ) → 0 < place_of v → place_of v ≤ len
+  pub found : (v : ℕ) → 0 < place_of v → at_place (place_of v) ≡ v
+
+pub record IsRow (r : Row) : Type 0 where
+  pub arranged : IsArranged (at r) (place r) r.len (length r.places.items)
+  pub room : length r.heap.items ≡ length r.places.items + 1
+  pub count : r.len + count_by (λ p. p == 0) r.places.items ≡ length r.places.items
+  pub few : length r.places.items ≤ 4294967296
+
+abbrev pub HasScores : List ℕ → Row → Type 0
+HasScores scores r = length scores ≡ length r.places.items
+
+-- the same variables are held, at other places
+pub record IsMoved (old new : Row) : Type 0 where
+  pub len : new.len ≡ old.len
+  pub marks : marks_of new.places.items ≡ marks_of old.places.items
+  pub room : length new.places.items ≡ length old.places.items
+
+-- p stands right below q
+abbrev pub IsUnder : ℕ → ℕ → Type 0
+IsUnder p q = (0 < q) × (2 * q ≤ p) × (p ≤ 2 * q + 1)
+
+-- no variable has a greater score than the one above it
+pub record IsOrdered (at_place score : ℕ → ℕ) (len : ℕ) : Type 0 where
+  pub order : (q p : ℕ) → p ≤ len → IsUnder p q → score (at_place p) ≤ score (at_place q)
+
+-- the same but for place i against the one above it
+pub record IsOrderedAbove (at_place score : ℕ → ℕ) (len i : ℕ) : Type 0 where
+  pub others : (q p : ℕ) → p ≤ len → IsUnder p q → p ≢ i → score (at_place p) ≤ score (at_place q)
+  pub over : (g p : ℕ) → p ≤ len → IsUnder i g → IsUnder p i → score (at_place p) ≤ score (at_place g)
+
+-- the same but for place i against those below it
+pub record IsOrderedBelow (at_place score : ℕ → ℕ) (len i : ℕ) : Type 0 where
+  pub others : (q p : ℕ) → p ≤ len → IsUnder p q → q ≢ i → score (at_place p) ≤ score (at_place q)
+  pub over : (g p : ℕ) → p ≤ len → IsUnder i g → IsUnder p i → score (at_place p) ≤ score (at_place g)
+
+-- c stands below q, and none below q has a greater score
+pub record IsGreaterChild (at_place score : ℕ → ℕ) (len q c : ℕ) : Type 0 where
+  pub inside : c ≤ len
+  pub under : IsUnder c q
+  pub greater : (p : ℕ) → p ≤ len → IsUnder p q → score (at_place p) ≤ score (at_place c)
+
+-- The row is a heap by the scores of the variables 1 to vars.
+pub record IsHeap (vars : ℕ) (scores : List ℕ) (r : Row) : Type 0 where
+  pub row : IsRow r
+  pub scores_room : length scores ≡ vars + 1
+  pub places_room : length r.places.items ≡ vars + 1
+  pub ordered : IsOrdered (at r) (entry scores) r.len
+
+-- the variables 1 to vars stand at the places 1 to vars
+pub record IsFilled (vars : ℕ) (r : Row) : Type 0 where
+  pub len : r.len ≡ vars
+  pub each : (v : ℕ) → v ≤ vars → place r v ≡ v

@@ -1,0 +1,21 @@
+//! A heap of variables by their scores, from which a solver takes the next variable to decide on (Moskewicz
+//! and others, "Chaff", 2001; Eén and Sörensson, "An extensible SAT-solver", 2003). It stands on nothing.
+//!
+//! Contracts see a score for each variable, and which variables are held. `pop` takes out a held variable
+//! of greatest score. `pop`, `push` and `bump` cost time in the logarithm of the number of held variables.
+//!
+//! ```text
+//! let mut heap = VarHeap::new(alloc, 3)?;
+//! heap.bump(2, 5);
+//! heap.bump(3, 7);
+//! heap.pop()    // 3
+//! ```
+#![tactic(auto)]
+
+mod row;
+mod var_heap;
+
+pub use var_heap::VarHeap;
+
+#[cfg(test)]
+mod tests;

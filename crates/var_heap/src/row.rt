@@ -1,0 +1,151 @@
+ghost use Rattle.std.specs.Prelude.{◌≡◌, ◌≢◌, ℕ, ◌+◌, ◌-◌, ◌*◌, ◌<◌, ◌≤◌, true, false, length, slice_set, IfOk, IfSome, IfNone};
+ghost use Rattle.var_heap.specs.Entries.{entry, with_entry, marks_of};
+ghost use Rattle.var_heap.specs.Rows.{IsRow, at, place, HasScores, IsUnder, IsOrdered, IsOrderedAbove, IsOrderedBelow, IsGreaterChild, IsMoved, IsFilled};
+
+use std::alloc::{AllocError, Global};
+
+/// The held variables in a row with the places 1 to `len`: the row of a heap, in which those below place p
+/// stand at 2 p and 2 p + 1.
+#[derive(Debug, Drop)]
+pub(crate) struct Row {
+    pub(crate) heap: Vec<u32>,
+    /// where a variable stands; 0 where it isn't held
+    pub(crate) places: Vec<u32>,
+    pub(crate) len: usize,
+}
+
+impl Row {
+    /// The row of the variables 1 to `vars` at the places 1 to `vars`.
+    pub(crate) fn new(alloc: Global, vars: u32) -> Result<Row, AllocError>
+        ensures row { IfOk result IsRow }
+        ensures room { IfOk result (λ r. length r.places.items ≡ vars + 1) }
+        ensures filled { IfOk result (IsFilled vars) }
+    {
+        let mut row = Row {
+            heap: vec![in alloc; 0u32; vars as usize + 2]?,
+            places: vec![in alloc; 0u32; vars as usize + 1]?,
+            len: 0,
+        };
+        for before in 0..vars {
+            row.put(before + 1);
+        }
+        Ok(row)
+    }
+
+    /// Takes out the first variable, and puts the last one in its place.
+    pub(crate) fn take_first(&mut self) -> u32
+        requires row { IsRow self.old }
+        requires some { 0 < self.old.len }
+        ensures row { IsRow self.new }
+        ensures len { self.new.len ≡ self.old.len - 1 }
+        ensures first { result ≡ at self.old 1 }
+        ensures at { at self.new ≡ with_entry (at self.old) 1 (at self.old self.old.len) }
+        ensures marks { marks_of self.new.places.items ≡ slice_set (marks_of self.old.places.items) result false }
+        ensures room { length self.new.places.items ≡ length self.old.places.items }
+    {
+        let first = self.heap[1];
+        let last = self.heap[self.len];
+        self.heap[1] = last;
+        self.places[last as usize] = 1;
+        self.places[first as usize] = 0;
+        self.len -= 1;
+        first
+    }
+
+    /// Puts a variable behind the others.
+    pub(crate) fn put(&mut self, v: u32)
+        requires row { IsRow self.old }
+        requires variable { (0 < v) × (v < length self.old.places.items) }
+        requires free { place self.old v ≡ 0 }
+        ensures row { IsRow self.new }
+        ensures len { self.new.len ≡ self.old.len + 1 }
+        ensures at { at self.new ≡ with_entry (at self.old) (self.old.len + 1) v }
+        ensures place { place self.new ≡ with_entry (place self.old) v (self.old.len + 1) }
+        ensures marks { marks_of self.new.places.items ≡ slice_set (marks_of self.old.places.items) v true }
+        ensures room { length self.new.places.items ≡ length self.old.places.items }
+    {
+        self.len += 1;
+        self.heap[self.len] = v;
+        self.places[v as usize] = self.len as u32;
+    }
+
+    /// Lets the variables at two places change places.
+    fn swap(&mut self, a: usize, b: usize)
+        requires row { IsRow self.old }
+        requires first { (0 < a) × (a ≤ self.old.len) }
+        requires second { (0 < b) × (b ≤ self.old.len) }
+        requires apart { a ≢ b }
+        ensures row { IsRow self.new }
+        ensures moved { IsMoved self.old self.new }
+        ensures swapped { at self.new ≡ with_entry (with_entry (at self.old) a (at self.old b)) b (at self.old a) }
+    {
+        let first = self.heap[a];
+        let second = self.heap[b];
+        self.heap[a] = second;
+        self.heap[b] = first;
+        self.places[second as usize] = a as u32;
+        self.places[first as usize] = b as u32;
+    }
+
+    /// Moves a variable up while the one above it has a smaller score.
+    pub(crate) fn up(&mut self, scores: &[u64], from: usize)
+        requires row { IsRow self.old }
+        requires scores { HasScores scores.now self.old }
+        requires inside { (0 < from) × (from ≤ self.old.len) }
+        requires ordered { IsOrderedAbove (at self.old) (entry scores.now) self.old.len from }
+        ensures row { IsRow self.new }
+        ensures moved { IsMoved self.old self.new }
+        ensures ordered { IsOrdered (at self.new) (entry scores.now) self.new.len }
+    {
+        let mut place = from;
+        while place > 1 {
+            let above = place / 2;
+            if scores[self.heap[place] as usize] <= scores[self.heap[above] as usize] {
+                return;
+            }
+            self.swap(place, above);
+            place = above;
+        }
+    }
+
+    /// The place below another one whose variable has the greater score.
+    fn greater_below(&self, scores: &[u64], above: usize) -> Option<usize>
+        requires row { IsRow self.now }
+        requires scores { HasScores scores.now self.now }
+        requires inside { (0 < above) × (above ≤ self.now.len) }
+        ensures some { IfSome result (IsGreaterChild (at self.now) (entry scores.now) self.now.len above) }
+        ensures none { IfNone result (self.now.len < 2 * above) }
+    {
+        let left = 2 * above;
+        if left > self.len {
+            return None;
+        }
+        if left == self.len {
+            return Some(left);
+        }
+        if scores[self.heap[left] as usize] < scores[self.heap[left + 1] as usize] {
+            return Some(left + 1);
+        }
+        Some(left)
+    }
+
+    /// Moves a variable down while one below it has a greater score.
+    pub(crate) fn down(&mut self, scores: &[u64], from: usize)
+        requires row { IsRow self.old }
+        requires scores { HasScores scores.now self.old }
+        requires inside { (0 < from) × (from ≤ self.old.len) }
+        requires ordered { IsOrderedBelow (at self.old) (entry scores.now) self.old.len from }
+        ensures row { IsRow self.new }
+        ensures moved { IsMoved self.old self.new }
+        ensures ordered { IsOrdered (at self.new) (entry scores.now) self.new.len }
+    {
+        let mut place = from;
+        while let Some(below) = self.greater_below(scores, place) {
+            if scores[self.heap[below] as usize] <= scores[self.heap[place] as usize] {
+                return;
+            }
+            self.swap(place, below);
+            place = below;
+        }
+    }
+}

@@ -1,0 +1,108 @@
+ghost use Rattle.std.specs.Prelude.{◌≡◌, ℕ, ◌+◌, ◌-◌, ◌/◌, ◌^◌, ◌<◌, ◌≤◌, ◌↔◌, Bool, true, false, map, length, min, slice_set, IsTrue, IfOk, IfSome, IfNone};
+ghost use Rattle.var_heap.specs.Held.{IsHeld, IsVariable, IsGreatest, IsFull, score_of};
+ghost use Rattle.var_heap.specs.Entries.{entry};
+ghost use Rattle.var_heap.specs.Rows.{IsRow, at, place, IsOrdered, IsFilled};
+
+use crate::row::Row;
+use std::alloc::{AllocError, Global};
+use std::marker::Model;
+
+/// Variables with scores, of which some are held. Contracts see the scores and which variables are held;
+/// the held ones stand in a row whose first has a greatest score.
+#[derive(Debug, Drop)]
+pub struct VarHeap {
+    vars: u32,
+    scores: Vec<u64>,
+    row: Row,
+}
+
+impl Model for VarHeap {
+    ghost use Rattle.var_heap.specs.Held.{Held};
+
+    ghost Value = { Held };
+
+    ghost use Rattle.std.specs.Prelude.{◌≡◌, ◌+◌};
+    ghost use Rattle.var_heap.specs.Entries.{marks_of};
+    ghost use Rattle.var_heap.specs.Rows.{IsHeap};
+
+    ghost view = { λ h. record { vars = h.vars; scores = h.scores.items; marks = marks_of h.row.places.items } };
+
+    ghost invariant = { λ h. IsHeap h.vars h.scores.items h.row };
+}
+
+impl VarHeap {
+    /// Holds the variables 1 to `vars`, each with the score 0. It makes the room that every later `push`
+    /// needs.
+    pub fn new(alloc: Global, vars: u32) -> Result<VarHeap, AllocError>
+        ensures { IfOk result (IsFull vars) }
+    {
+        let scores = vec![in alloc; 0u64; vars as usize + 1]?;
+        let row = Row::new(alloc, vars)?;
+        Ok(VarHeap { vars, scores, row })
+    }
+
+    /// Takes out a held variable of greatest score; None where none is held.
+    pub fn pop(&mut self) -> Option<u32>
+        ensures greatest { IfSome result (IsGreatest self.old) }
+        ensures taken { IfSome result (λ v. self.new ≡ record self.old { marks = slice_set self.old.marks v false }) }
+        ensures none { IfNone result ((v : ℕ) → IsHeld self.old v → ⊥) }
+        ensures same { IfNone result (self.new ≡ self.old) }
+    {
+        if self.row.len == 0 {
+            return None;
+        }
+        let first = self.row.take_first();
+        if self.row.len > 0 {
+            self.row.down(&self.scores, 1);
+        }
+        Some(first)
+    }
+
+    /// Puts a variable back; a held one stays.
+    pub fn push(&mut self, v: u32)
+        requires { IsVariable self.old v }
+        ensures { self.new ≡ record self.old { marks = slice_set self.old.marks v true } }
+    {
+        if self.row.places[v as usize] > 0 {
+            return;
+        }
+        self.row.put(v);
+        let last = self.row.len;
+        self.row.up(&self.scores, last);
+    }
+
+    /// Adds to the score of a variable, which stays at the greatest number of 64 bits.
+    pub fn bump(&mut self, v: u32, by: u64)
+        requires { IsVariable self.old v }
+        ensures { self.new ≡ record self.old { scores = slice_set self.old.scores v (min (score_of self.old v + by) (2 ^ 64 - 1)) } }
+    {
+        self.scores[v as usize] = self.scores[v as usize].saturating_add(by);
+        let place = self.row.places[v as usize] as usize;
+        if place > 0 {
+            self.row.up(&self.scores, place);
+        }
+    }
+
+    /// Halves every score, rounded down.
+    pub fn halve(&mut self)
+        ensures { self.new ≡ record self.old { scores = map (λ s. s / 2) self.old.scores } }
+    {
+        halve_all(&mut self.scores);
+    }
+
+    /// Whether a variable is held.
+    pub fn contains(&self, v: u32) -> bool
+        requires { IsVariable self.now v }
+        ensures { IsTrue result ↔ IsHeld self.now v }
+    {
+        self.row.places[v as usize] != 0
+    }
+}
+
+fn halve_all(scores: &mut Vec<u64>)
+    ensures { scores.new.items ≡ map (λ s. s / 2) scores.old.items }
+{
+    for index in 0..scores.len() {
+        scores[index] /= 2;
+    }
+}
