@@ -26,3 +26,6 @@ mod used;
 mod vars;
 
 pub use select::Select;
+
+#[cfg(test)]
+mod tests;
