@@ -1,51 +1,52 @@
 -- What is improved is well formed and does the same; what is refused isn't well formed.
-use Rattle.std.specs.Prelude.{◌≡◌, ℕ, suc, ◌+◌, ◌*◌, ◌^◌, ◌≤◌, ◌<◌, slice_get, List, [], ◌∷◌, ◌++◌, length, map, sum_by, All, Option, Some, None, Result, Ok, Err, ◌⊎◌, refl}
+use Rattle.std.specs.Prelude.{◌≡◌, ℕ, suc, ◌+◌, ◌*◌, ◌^◌, ◌≤◌, ◌<◌, slice_get, List, [], ◌∷◌, ◌++◌, length, map, All, Option, Some, None, Result, Ok, Err, IfErr, ◌⊎◌, refl}
 use Rattle.std.specs.List.{filter_map, cons_option}
 use Rattle.std.specs.Option.{option_map}
+use Rattle.std.specs.Result.{IsErrAnd}
 use Rattle.std.proofs.Common.{arith, sym, ◌∙◌, ap, subst, inl, inr, ⊎_elim, length-append}
 use Rattle.std.proofs.lemmas.Bool.{cases_order}
 use Rattle.std.proofs.lemmas.List.{length-map}
 use Rattle.std.proofs.lemmas.Grind.{common_steps}
-use Rattle.std.proofs.lemmas.List.Elements.{All-weaker}
-use Rattle.net_theory.specs.Document.{Name, Latch, Table, Document, latches_of, latch_output, source_names}
+use Rattle.net_theory.specs.Document.{Name, Latch, Table, Document, latches_of, latch_output}
 use Rattle.net_theory.specs.Dependence.{IsFirstCyclic}
-use Rattle.net_theory.specs.WellFormed.{IsTable, IsWellFormed, IsLatchLine}
-use Rattle.net_theory.specs.Cost.{table_cost, cost}
-use Rattle.net_theory.specs.NetOf.{net_of, source_count}
-use Rattle.net_theory.specs.Net.{Net}
-use Rattle.net_theory.specs.Circuit.{Circuit, IsProper, Describes, IsCircuitOf}
-use Rattle.net_theory.specs.Dead.{IsPruned, dropped}
+use Rattle.net_theory.specs.WellFormed.{IsTable}
+use Rattle.net_theory.specs.Cost.{cost}
+use Rattle.net_theory.specs.NetOf.{source_count}
+use Rattle.net_theory.specs.Circuit.{Circuit, IsProper}
+use Rattle.net_theory.specs.Dead.{dropped}
 use Rattle.net_theory.specs.DeadLaws.{dropped_is}
-use Rattle.net_theory.specs.PrunedLaws.{with_net, pruned_proper, pruned_describes}
-use Rattle.net_theory.specs.Naming.{control_of, taken_names}
+use Rattle.net_theory.specs.PrunedLaws.{pruned_proper, pruned_describes}
+use Rattle.net_theory.specs.Naming.{control_of}
 use Rattle.net_core.specs.declared.error.NetError.{NetError}
 use Rattle.net_core.specs.declared.error.NetError.TheVariants.{Syntax, NotSupported, MixedCover, TooWide, TooManyGates, DrivenTwice, Undriven, Cycle, LineTooLong, TooManyRows, NameTooLong, Memory}
 use Rattle.net_document.specs.Listed.{Listed}
 use Rattle.net_document.specs.Refusals.{fault_of, IsRefused}
-use Rattle.blif_text.specs.Statements.{listed_of, listed_by}
+use Rattle.blif_text.specs.Statements.{listed_of}
 use Rattle.blif_text.proofs.Listing.{text_small, text_named}
 use Rattle.blif_core.specs.Written.{written}
 use Rattle.blif_core.specs.Spelling.{circuit_text, HasInit}
 use Rattle.blif_core.specs.Texts.{IsCircuitOfText, IsRefusedText}
 use Rattle.blif_core.proofs.Constants.{written_init}
 use Rattle.net_laws.specs.Rooms.{HasRoom}
-use Rattle.net_laws.specs.CircuitTexts.{IsTextOf}
 use Rattle.net_laws.proofs.Faultless.{listed_said, refused_memory}
 use Rattle.net_laws.proofs.CircuitNames.{circuit_named}
 use Rattle.net_laws.proofs.WrittenDocument.{written_well, written_cost}
 use Rattle.net_laws.proofs.TextLaws.{text_is, describes_same}
-use Rattle.improve_core.specs.Improving.{report_text, IsImproved, IsReported, HasNetFault, IsNetlist}
+use Rattle.improve_core.specs.Improving.{report_text, tidied, IsImproved, IsReported, HasNetFault, IsNetlist}
 
 -- ---- writing
 
-pub written_tables : (c : Circuit) → IsProper c → HasRoom c → All IsTable (written c).tables
-written_tables c is room = (written_well c is (circuit_named c is room)).tables
+pub written_tables : (c : Circuit) (d : Document) → d ≡ written c → IsProper c → HasRoom c → All IsTable d.tables
+written_tables c d e is room = subst (λ (x : Document). All IsTable x.tables) (sym e) (written_well c is (circuit_named c is room)).tables
 
-pub written_small : (c : Circuit) → IsProper c → HasRoom c → sum_by table_cost (written c).tables < 2 ^ 32
-unfolding cost
-written_small c is room = let low = (written_well c is (circuit_named c is room)).gates in omega (arith, low)
+pub written_small : (c : Circuit) (d : Document) → d ≡ written c → IsProper c → HasRoom c → cost d < 2 ^ 32
+written_small c d e is room =
+    let low = (written_well c is (circuit_named c is room)).gates in
+    let whole : cost d ≡ cost (written c) = ap cost e in
+    omega (arith, low, whole)
 
-pub ruleset writing = (common_steps, written_tables, written_small, written_init)
+pub written_inits : (c : Circuit) (d : Document) → d ≡ written c → IsProper c → All HasInit d.latches
+written_inits c d e is = subst (λ (x : Document). All HasInit x.latches) (sym e) (written_init c is)
 
 -- ---- room
 
@@ -85,26 +86,29 @@ text_room bytes c short is =
 
 -- ---- improving
 
-abbrev left_of : Circuit → Circuit
-left_of c = with_net c (dropped c.net)
+pub tidied_proper : (c : Circuit) → IsProper c → IsProper (tidied c)
+tidied_proper c is = pruned_proper c (dropped c.net) is (dropped_is c.net is.net)
 
-pub left_proper : (bytes : List ℕ) (c left : Circuit) → IsCircuitOfText bytes c → left ≡ record c { net = dropped c.net } → IsProper left
-left_proper bytes c left is e = subst IsProper (sym e) (pruned_proper c (dropped c.net) is.circuit.proper (dropped_is c.net is.circuit.proper.net))
+pub text_proper : (bytes : List ℕ) (c : Circuit) → IsCircuitOfText bytes c → IsProper c
+text_proper bytes c is = is.circuit.proper
 
-pub left_room : (bytes : List ℕ) (c left : Circuit) → length bytes < 2 ^ 31 → IsCircuitOfText bytes c → left ≡ record c { net = dropped c.net } → HasRoom left
-left_room bytes c left short is e = subst HasRoom (sym e) (text_room bytes c short is)
+-- the room of a circuit is that of its names alone
+pub tidied_room : (c left : Circuit) → left ≡ record c { net = dropped c.net } → HasRoom c → HasRoom left
+tidied_room c left e room = subst HasRoom (sym e) room
 
-improved_is : (bytes : List ℕ) (c : Circuit) → length bytes < 2 ^ 31 → IsCircuitOfText bytes c → IsImproved bytes (circuit_text (left_of c)) (length c.net.gates) (cost (written (left_of c)))
+pub ruleset tidying = (common_steps, tidied_room)
+
+improved_is : (bytes : List ℕ) (c : Circuit) → length bytes < 2 ^ 31 → IsCircuitOfText bytes c → IsImproved bytes (circuit_text (tidied c)) (length c.net.gates) (cost (written (tidied c)))
 improved_is bytes c short is =
     let pruned = dropped_is c.net is.circuit.proper.net in
     let proper = pruned_proper c (dropped c.net) is.circuit.proper pruned in
     let room = text_room bytes c short is in
-    let text = text_is (left_of c) proper room in
+    let text = text_is (tidied c) proper room in
     record {
       read = is.listed;
       said = is.said;
       well = is.well;
-      circuit = left_of c;
+      circuit = tidied c;
       proper = proper;
       model = is.circuit.model;
       spelled = refl;
@@ -113,31 +117,29 @@ improved_is bytes c short is =
       again = text.listed;
       said_again = text.said;
       well_again = text.well;
-      same = describes_same is.listed.document text.listed.document (left_of c) (pruned_describes is.listed.document c (dropped c.net) pruned is.circuit.describes) text.describes;
+      same = describes_same is.listed.document text.listed.document (tidied c) (pruned_describes is.listed.document c (dropped c.net) pruned is.circuit.describes) text.describes;
       before_is = sym is.circuit.gates;
       after_is = ap cost (sym text.document);
-      fewer = omega (arith, written_cost (left_of c) proper (circuit_named (left_of c) proper room), pruned.fewer);
+      fewer = omega (arith, written_cost (tidied c) proper (circuit_named (tidied c) proper room), pruned.fewer);
     }
 
-pub text_improved : (bytes text report : List ℕ) (before after : ℕ) (c left : Circuit) → length bytes < 2 ^ 31 → IsCircuitOfText bytes c → before ≡ length c.net.gates → left ≡ record c { net = dropped c.net } → text ≡ circuit_text left → after ≡ cost (written left) → report ≡ report_text before after → IsReported bytes text report
-text_improved bytes text report before after c left short is old e spelled new told =
-    let whole = improved_is bytes c short is in
-    record {
-      before = before;
-      after = after;
-      improved = subst (λ (t : List ℕ). IsImproved bytes t before after) (sym (spelled ∙ ap circuit_text e))
-          (subst (λ (n : ℕ). IsImproved bytes (circuit_text (left_of c)) n after) (sym old)
-          (subst (λ (n : ℕ). IsImproved bytes (circuit_text (left_of c)) (length c.net.gates) n) (sym (new ∙ ap (λ (x : Circuit). cost (written x)) e)) whole));
-      told = told;
-    }
+pub text_improved : (bytes text report : List ℕ) (c : Circuit) → length bytes < 2 ^ 31 → IsCircuitOfText bytes c → text ≡ circuit_text (tidied c) → report ≡ report_text (length c.net.gates) (cost (written (tidied c))) → IsReported bytes text report
+text_improved bytes text report c short is spelled told = record {
+  before = length c.net.gates;
+  after = cost (written (tidied c));
+  improved = subst (λ (t : List ℕ). IsImproved bytes t (length c.net.gates) (cost (written (tidied c)))) (sym spelled) (improved_is bytes c short is);
+  told = told;
+}
 
 pub netlist_memory : (bytes : List ℕ) (e : NetError) → IsRefusedText bytes e → IsNetlist bytes → e ≡ Memory
 netlist_memory bytes e refused is = refused_memory bytes is.listed e is.said is.well refused
 
-pub memory_refused : (bytes : List ℕ) (e : NetError) → e ≡ Memory → IsRefusedText bytes e
-memory_refused bytes e same = subst (IsRefusedText bytes) (sym same) tt
+-- an error that is handed on
+pub err_memory : {A : Type 0} (bytes : List ℕ) (r : Result A NetError) (e : NetError) → IsErrAnd r (λ d. d ≡ e) → IsRefusedText bytes e → IfErr r (λ d. IsNetlist bytes → d ≡ Memory)
+err_memory bytes (Ok x) e is refused = absurd is
+err_memory bytes (Err d) e is refused = λ netlist. is ∙ netlist_memory bytes e refused netlist
 
-pub ruleset improvements = (common_steps, left_proper, left_room, text_improved, netlist_memory, memory_refused)
+pub ruleset improving = (common_steps, text_proper, text_room, text_improved)
 
 -- ---- faults
 

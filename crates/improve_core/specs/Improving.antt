@@ -1,5 +1,5 @@
 -- Netlists that were improved: the same behaviour, and no more gates.
-use Rattle.std.specs.Prelude.{◌≡◌, ℕ, ◌+◌, ◌≤◌, ◌<◌, ◌++◌, List, length, Option, Ok, Some, codes, decimal}
+use Rattle.std.specs.Prelude.{◌≡◌, ℕ, ◌+◌, ◌≤◌, ◌<◌, ◌++◌, List, length, Ok, Some, codes, decimal}
 use Rattle.std.specs.Option.{option_map}
 use Rattle.net_theory.specs.WellFormed.{IsWellFormed}
 use Rattle.net_theory.specs.Behaviour.{Same}
@@ -7,6 +7,7 @@ use Rattle.net_theory.specs.Cost.{cost}
 use Rattle.net_theory.specs.NetOf.{net_of}
 use Rattle.net_theory.specs.Circuit.{Circuit, IsProper}
 use Rattle.net_theory.specs.Dead.{IsReached, dropped}
+use Rattle.net_theory.specs.PrunedLaws.{with_net}
 use Rattle.net_core.specs.declared.error.NetError.{NetError}
 use Rattle.net_core.specs.declared.error.NetError.TheVariants.{Memory}
 use Rattle.net_document.specs.Listed.{Listed}
@@ -18,6 +19,10 @@ use Rattle.blif_core.specs.Texts.{IsRefusedText}
 -- Example: `gates 3 -> 1` and `settled`.
 unfoldable pub report_text : ℕ → ℕ → List ℕ
 report_text before after = codes "gates " ++ decimal before ++ codes " -> " ++ decimal after ++ codes "\nsettled\n"
+
+-- a circuit without its dead gates
+abbrev pub tidied : Circuit → Circuit
+tidied c = with_net c (dropped c.net)
 
 -- The bytes list a well-formed document, and the text is that of a proper circuit with its model. The net
 -- of that circuit is the document's without its dead gates, so each of its gates is read by some sink,

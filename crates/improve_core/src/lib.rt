@@ -18,4 +18,3 @@ mod reporting;
 pub use blif_core::NetError;
 pub use improving::{Improved, improve};
 pub use laws::faults_are_one;
-

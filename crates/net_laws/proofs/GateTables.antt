@@ -136,22 +136,23 @@ binary_cubes_are op =
     let a = row_if (apply op false false) (48 ∷ 48 ∷ []) in
     let b = row_if (apply op false true) (48 ∷ 49 ∷ []) in
     let c = row_if (apply op true false) (49 ∷ 48 ∷ []) in
-    let d = row_if (apply op true true) (49 ∷ 49 ∷ []) in
-    (All-append (λ (cube : List ℕ). is_cube 2 cube ≡ true) (a ++ b ++ c) d
-    (All-append (λ (cube : List ℕ). is_cube 2 cube ≡ true) (a ++ b) c
-    (All-append (λ (cube : List ℕ). is_cube 2 cube ≡ true) a b (cube_row 2 (apply op false false) (48 ∷ 48 ∷ []) refl) (cube_row 2 (apply op false true) (48 ∷ 49 ∷ []) refl))
-    (cube_row 2 (apply op true false) (49 ∷ 48 ∷ []) refl))
-    (cube_row 2 (apply op true true) (49 ∷ 49 ∷ []) refl),
-    omega (
-      arith,
-      length-append (a ++ b ++ c) d,
-      length-append (a ++ b) c,
-      length-append a b,
-      row_few (apply op false false) (48 ∷ 48 ∷ []),
-      row_few (apply op false true) (48 ∷ 49 ∷ []),
-      row_few (apply op true false) (49 ∷ 48 ∷ []),
-      row_few (apply op true true) (49 ∷ 49 ∷ []),
-    ))
+    let d = row_if (apply op true true) (49 ∷ 49 ∷ []) in (
+      All-append (λ (cube : List ℕ). is_cube 2 cube ≡ true) (a ++ b ++ c) d
+          (All-append (λ (cube : List ℕ). is_cube 2 cube ≡ true) (a ++ b) c
+          (All-append (λ (cube : List ℕ). is_cube 2 cube ≡ true) a b (cube_row 2 (apply op false false) (48 ∷ 48 ∷ []) refl) (cube_row 2 (apply op false true) (48 ∷ 49 ∷ []) refl))
+          (cube_row 2 (apply op true false) (49 ∷ 48 ∷ []) refl))
+          (cube_row 2 (apply op true true) (49 ∷ 49 ∷ []) refl),
+      omega (
+        arith,
+        length-append (a ++ b ++ c) d,
+        length-append (a ++ b) c,
+        length-append a b,
+        row_few (apply op false false) (48 ∷ 48 ∷ []),
+        row_few (apply op false true) (48 ∷ 49 ∷ []),
+        row_few (apply op true false) (49 ∷ 48 ∷ []),
+        row_few (apply op true true) (49 ∷ 49 ∷ []),
+      ),
+    )
 
 binary_is : (op : ℕ) (first second output : Name) → IsName first → IsName second → IsName output → IsSpelledTable (binary_table op first second output)
 binary_is op first second output is_first is_second is_out = record {

@@ -116,23 +116,26 @@ one_map : (before : List Name) (ts : List Table) (v w : Name → Bool) → AreLa
 one_map before [] v w a hv hw same n had = same n (subst (λ (ns : List Name). has ns n ≡ true) (append-nil before) had)
 one_map before (t ∷ ts) v w a hv hw same n had =
     let head : v t.output ≡ w t.output =
-        All-head (HoldsIn v) t ts hv
-        ∙ ap (cover_value t.cover) (map_same v w t.inputs (λ m read. same m (a.0.inputs m read)))
-        ∙ sym (All-head (HoldsIn w) t ts hw) in
+    All-head (HoldsIn v) t ts hv
+    ∙ ap (cover_value t.cover) (map_same v w t.inputs (λ m read. same m (a.0.inputs m read)))
+    ∙ sym (All-head (HoldsIn w) t ts hw) in
     let more : (m : Name) → has (before ++ t.output ∷ []) m ≡ true → v m ≡ w m = λ m there.
-        ⊎_elim
-        (λ old. same m old)
-        (λ new. ⊎_elim (λ here. ap v here ∙ head ∙ ap w (sym here)) (λ none. absurd (has_none m none)) (has_cases t.output [] m new))
-        (has_either before (t.output ∷ []) m there) in
+    ⊎_elim
+    (λ old. same m old)
+    (λ new. ⊎_elim (λ here. ap v here ∙ head ∙ ap w (sym here)) (λ none. absurd (has_none m none)) (has_cases t.output [] m new))
+    (has_either before (t.output ∷ []) m there) in
     one_map (before ++ t.output ∷ []) ts v w a.1 (All-tail (HoldsIn v) t ts hv) (All-tail (HoldsIn w) t ts hw) more n
     (subst (λ (ns : List Name). has ns n ≡ true) (sym (append_assoc before (t.output ∷ []) (map table_output ts))) had)
 
 pub layered_map : (d : Document) (given : Name → Bool) → AreLayered (source_names d) d.tables → HasOneMap d given
 layered_map d given a = record {
-  some = (values_by given d.tables, record {
-    sources = has_all (λ n. values_by given d.tables n ≡ given n) (source_names d) (λ n had. values_keep (source_names d) d.tables given n a had);
-    tables = values_hold (source_names d) d.tables given a;
-  });
+  some = (
+    values_by given d.tables,
+    record {
+      sources = has_all (λ n. values_by given d.tables n ≡ given n) (source_names d) (λ n had. values_keep (source_names d) d.tables given n a had);
+      tables = values_hold (source_names d) d.tables given a;
+    },
+  );
   one = λ v w maps_v maps_w. has_all (λ n. v n ≡ w n) (driven_names d) (λ n had.
       one_map (source_names d) d.tables v w a maps_v.tables maps_w.tables
       (λ m source. all_has (λ x. v x ≡ given x) (source_names d) m maps_v.sources source ∙ sym (all_has (λ x. w x ≡ given x) (source_names d) m maps_w.sources source))

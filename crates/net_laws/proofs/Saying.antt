@@ -408,7 +408,8 @@ end_line = line (codes ".end") []
 
 pub end_said : (n : ℕ) (d : Document) (s : Said) → Has d s → (t : Said) × (said_by n s (end_line ∷ []) ≡ Ok t) × ((listed_by t).document ≡ d)
 unfolding said_by directed keyword_of
-end_said n d s has =
-    (closed (record (closed s) { is_ended = true }),
-    ap (λ (r : Result Said NetError). r >>= λ u. Ok (closed u)) (directs n s (codes ".end") [] has.going refl has.begun),
-    behind_is d s has)
+end_said n d s has = (
+  closed (record (closed s) { is_ended = true }),
+  ap (λ (r : Result Said NetError). r >>= λ u. Ok (closed u)) (directs n s (codes ".end") [] has.going refl has.begun),
+  behind_is d s has,
+)

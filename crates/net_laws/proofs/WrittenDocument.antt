@@ -167,6 +167,7 @@ all_layered c is named =
           let at : p - 1 < length (sources_of c) = omega (arith, low, high, is.source_count) in
           let same : p - 1 + 1 ≡ p = omega (arith, low) in
           ap (place_name c) (sym same) ∙ place_source c (p - 1) (slice_index_or (sources_of c) (p - 1) []) is (slice_get-get_or (sources_of c) (p - 1) [] at)
+
       false_apart : (c : Circuit) (n : Name) → AreNamed c → has (gate_names c) n ≡ true → has (sources_of c) n ≡ false
       false_apart c n named gate = false_from_ne_true (has (sources_of c) n) (λ source. both_ways (has (gate_names c) n) (distinct_apart (sources_of c) (gate_names c) n named.distinct source) gate)
 

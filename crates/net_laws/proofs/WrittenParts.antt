@@ -74,19 +74,21 @@ gates_layered name before place (g ∷ gs) (n ∷ ns) are known apart distinct =
     let parts = distinct_cons n ns distinct in
     let here : name place ≡ n = subst (λ (p : ℕ). name p ≡ n) (add-zero place) (are.named 0 n refl) in
     let rest : AreLayered (before ++ n ∷ []) (gate_tables name gs ns) = gates_layered name (before ++ n ∷ []) (place + 1) gs ns (next_written name place g gs n ns are)
-        (λ p low high. ⊎_elim
-        (λ same. has_right before (n ∷ []) (name p) (subst (λ (m : Name). has (n ∷ []) m ≡ true) (sym (ap name same ∙ here)) (has_first n [])))
-        (λ other. has_left before (n ∷ []) (name p) (known p low (omega (arith, high, other))))
-        (cases_eq p place))
-        (λ m there. false_from_ne_true (has (before ++ n ∷ []) m) (λ had. ⊎_elim
-        (λ old. both_ways (has before m) (apart m (has_later n ns m there)) old)
-        (λ new. ⊎_elim (λ same. both_ways (has ns n) parts.0 (subst (λ (x : Name). has ns x ≡ true) same there)) (λ none. has_none m none) (has_cases n [] m new))
-        (has_either before (n ∷ []) m had)))
-        parts.1 in
-    (record {
-      fresh = subst (λ (m : Name). has before m ≡ false) (sym table.drives) (apart n (has_first n ns));
-      inputs = λ m read. let r = table.inputs m read in subst (λ (x : Name). has before x ≡ true) (sym r.3) (known r.0 r.1 r.2);
-    }, subst (λ (m : Name). AreLayered (before ++ m ∷ []) (gate_tables name gs ns)) (sym table.drives) rest)
+    (λ p low high. ⊎_elim
+    (λ same. has_right before (n ∷ []) (name p) (subst (λ (m : Name). has (n ∷ []) m ≡ true) (sym (ap name same ∙ here)) (has_first n [])))
+    (λ other. has_left before (n ∷ []) (name p) (known p low (omega (arith, high, other))))
+    (cases_eq p place))
+    (λ m there. false_from_ne_true (has (before ++ n ∷ []) m) (λ had. ⊎_elim
+    (λ old. both_ways (has before m) (apart m (has_later n ns m there)) old)
+    (λ new. ⊎_elim (λ same. both_ways (has ns n) parts.0 (subst (λ (x : Name). has ns x ≡ true) same there)) (λ none. has_none m none) (has_cases n [] m new))
+    (has_either before (n ∷ []) m had)))
+    parts.1 in (
+      record {
+        fresh = subst (λ (m : Name). has before m ≡ false) (sym table.drives) (apart n (has_first n ns));
+        inputs = λ m read. let r = table.inputs m read in subst (λ (x : Name). has before x ≡ true) (sym r.3) (known r.0 r.1 r.2);
+      },
+      subst (λ (m : Name). AreLayered (before ++ m ∷ []) (gate_tables name gs ns)) (sym table.drives) rest,
+    )
 
 pub gates_hold : (name : ℕ → Name) (place : ℕ) (gs : List Gate) (ns : List Name) (v : Name → Bool) (i : ℕ) (g : Gate) (n : Name) → AreToBeWritten name place gs ns → All (HoldsIn v) (gate_tables name gs ns) → slice_get gs i ≡ Some g → slice_get ns i ≡ Some n → v n ≡ gate_value (λ p. v (name p)) g
 unfolding gate_tables
@@ -127,12 +129,17 @@ pub constants_layered : (before : List Name) (z o : Bool) (first second : Name) 
 constants_layered before false false first second are = tt
 constants_layered before false true first second are = (constant_layer before true first are.first_fresh, tt)
 constants_layered before true false first second are = (constant_layer before false first are.first_fresh, tt)
-constants_layered before true true first second are =
-    (constant_layer before false first are.first_fresh, (constant_layer (before ++ first ∷ []) true second
-    (false_from_ne_true (has (before ++ first ∷ []) second) (λ had. ⊎_elim
-    (λ old. both_ways (has before second) are.second_fresh old)
-    (λ new. ⊎_elim (λ same. are.apart (sym same)) (λ none. has_none second none) (has_cases first [] second new))
-    (has_either before (first ∷ []) second had))), tt))
+constants_layered before true true first second are = (
+  constant_layer before false first are.first_fresh,
+  (
+    constant_layer (before ++ first ∷ []) true second
+        (false_from_ne_true (has (before ++ first ∷ []) second) (λ had. ⊎_elim
+        (λ old. both_ways (has before second) are.second_fresh old)
+        (λ new. ⊎_elim (λ same. are.apart (sym same)) (λ none. has_none second none) (has_cases first [] second new))
+        (has_either before (first ∷ []) second had))),
+    tt,
+  ),
+)
 
 pub constants_outputs : (z o : Bool) (first second n : Name) → has (map table_output (constants z o first second)) n ≡ true → (n ≡ first) ⊎ (n ≡ second)
 constants_outputs false false first second n e = absurd (has_none n e)
@@ -204,15 +211,17 @@ outputs_layered name place written before (o ∷ os) (s ∷ ss) are known reach 
     (λ there. outputs_layered name place written before os ss (next_outputs name place o os s ss are) (λ n out old. known n (has_later o os n out) old) reach)
     (λ new.
     let rest : AreLayered (before ++ o ∷ []) (output_tables name (written ++ o ∷ []) os ss) = outputs_layered name place (written ++ o ∷ []) (before ++ o ∷ []) os ss (next_outputs name place o os s ss are)
-        (λ n out old. ⊎_elim
-        (λ was. has_left written (o ∷ []) n (known n (has_later o os n out) was))
-        (λ is. has_right written (o ∷ []) n is)
-        (has_either before (o ∷ []) n old))
-        (λ p low high. has_left before (o ∷ []) (name p) (reach p low high)) in
-    (record {
-      fresh = subst (λ (m : Name). has before m ≡ false) (sym table.drives) (false_from_ne_true (has before o) (λ old. both_ways (has written o) new (known o (has_first o os) old)));
-      inputs = λ m read. let r = table.inputs m read in subst (λ (x : Name). has before x ≡ true) (sym r.3) (reach r.0 r.1 r.2);
-    }, subst (λ (m : Name). AreLayered (before ++ m ∷ []) (output_tables name (written ++ o ∷ []) os ss)) (sym table.drives) rest))
+    (λ n out old. ⊎_elim
+    (λ was. has_left written (o ∷ []) n (known n (has_later o os n out) was))
+    (λ is. has_right written (o ∷ []) n is)
+    (has_either before (o ∷ []) n old))
+    (λ p low high. has_left before (o ∷ []) (name p) (reach p low high)) in (
+      record {
+        fresh = subst (λ (m : Name). has before m ≡ false) (sym table.drives) (false_from_ne_true (has before o) (λ old. both_ways (has written o) new (known o (has_first o os) old)));
+        inputs = λ m read. let r = table.inputs m read in subst (λ (x : Name). has before x ≡ true) (sym r.3) (reach r.0 r.1 r.2);
+      },
+      subst (λ (m : Name). AreLayered (before ++ m ∷ []) (output_tables name (written ++ o ∷ []) os ss)) (sym table.drives) rest,
+    ))
 
 pub outputs_spelled : (name : ℕ → Name) (place : ℕ) (written outs : List Name) (sinks : List Sig) → AreOutputs name place outs sinks → All IsSpelledTable (output_tables name written outs sinks)
 unfolding output_tables
