@@ -1,7 +1,10 @@
 -- Bundles that were written are read again.
-use Rattle.std.proofs.Common.{◌≡◌, ℕ, zero, suc, ◌+◌, ◌^◌, ◌<◌, ◌≤◌, Bool, true, false, cond, List, [], ◌∷◌, ◌++◌, length, map, drop, Option, Some, None, Ok, Err, refl, sym, ap, ◌∙◌, subst, arith, append_assoc, append-nil, zero-add}
+use Rattle.std.proofs.lemmas.List.Elements.{recursion_from_All}
+use Rattle.cert_theory.specs.CodingLaws.{HasShortTitle, built_is_coding}
+use Rattle.enc_frame.specs.declared.part.Part.{Part}
+use Rattle.std.proofs.Common.{◌≡◌, ℕ, zero, suc, ◌+◌, ◌^◌, ◌<◌, ◌≤◌, Bool, true, false, cond, List, [], ◌∷◌, ◌++◌, length, map, drop, Option, Some, None, Ok, Err, refl, sym, ap, ◌∙◌, subst, arith, append_assoc, append-nil, zero-add, Contains}
 use Rattle.std.specs.Prelude.{codes, slice_get}
-use Rattle.std.specs.List.{flat_map, range_with_len}
+use Rattle.std.specs.List.{flat_map, range_with_len, AllByRecursion}
 use Rattle.std.proofs.Math.Logic.{⊎_elim}
 use Rattle.std.proofs.lemmas.List.FromFn.{length-map-range_with_len, get_or-map-range_with_len}
 use Rattle.text_core.specs.Lines.{Line, lines_from, lines_of}
@@ -17,16 +20,15 @@ use Rattle.enc_theory.specs.declared.data.Method.{Method}
 use Rattle.cert_theory.specs.declared.data.Heading.{Heading}
 use Rattle.cert_theory.specs.declared.data.Verdict.{Verdict}
 use Rattle.cert_theory.specs.declared.data.BundleError.TheVariants.{Syntax}
-use Rattle.cert_theory.specs.Bundle.{Section, Bundle, IsHeading, AreSections, IsSection, is_open, first_open, IsEnding, IsValid, HasOutput}
-use Rattle.cert_theory.specs.Spelling.{table_text, table_line, tables_lines, basis_line, method_line, conflicts_line, max_line, heading_lines, size_line, ended_text, done_text, log_line, section_lines, block_lines, verdict_line, ending_lines, bundle_lines, bundle_text, IsBundle}
-use Rattle.cert_theory.specs.Judging.{◌>>=◌, or_syntax, beginning, whole_of, sections_of, behind_conflicts, behind_method, behind_basis, behind_tables, with_tables, bundle_of}
+use Rattle.cert_theory.specs.Bundle.{Section, Bundle, IsHeading, AreSections, IsSection, is_open, first_open, IsEnding, IsValid, HasOutput, PartLog, part_of, formula_of, IsPartLog}
+use Rattle.cert_theory.specs.Spelling.{table_text, table_line, tables_lines, basis_line, method_line, conflicts_line, max_line, heading_lines, log_line, section_lines, block_lines, verdict_line, ending_lines, bundle_lines, bundle_text, IsBundle, title_lines, part_lines}
+use Rattle.cert_theory.specs.Judging.{◌>>=◌, or_syntax, beginning, sections_of, behind_conflicts, behind_method, behind_basis, behind_tables, with_tables, bundle_of}
 use Rattle.cert_theory.proofs.LineSpellings.{is_line_back, some_is}
 use Rattle.cert_theory.proofs.LinesAgain.{basis_again, method_again, conflicts_again, max_again}
 use Rattle.cert_theory.proofs.Meanings.{open_cases}
-use Rattle.cert_theory.proofs.SectionSpellings.{section_of, section_text}
 use Rattle.cert_theory.proofs.SectionsAgain.{small_chain}
-use Rattle.cert_theory.proofs.SectionLists.{sole_of, log_holds, sections_again}
-use Rattle.cert_theory.proofs.WholeTexts.{IsWhole, whole_none, whole_both, whole_cons, whole_block, whole_heading, whole_lines, whole_ended, whole_done, whole_end, whole_size, IsShort, whole_verdict}
+use Rattle.cert_theory.proofs.SectionLists.{log_holds, sections_again}
+use Rattle.cert_theory.proofs.WholeTexts.{IsWhole, whole_none, whole_both, whole_cons, whole_block, whole_heading, whole_lines, whole_ended, whole_done, whole_end, whole_size, IsShort, whole_verdict, whole_title}
 
 -- ---- tables
 
@@ -125,13 +127,27 @@ bundle_again b valid output =
 
 -- ---- the bytes
 
-whole_section : (h : Heading) (size : ℕ) (s : Section) → size < 2 ^ 64 → IsSection h size s → IsWhole (section_lines s)
-whole_section h size s short is =
-    let sole = sole_of h size s is in
-    let lines : section_lines (section_of size sole.ended sole.log) ≡ line (size_line size) ∷ line (ended_text sole.ended) ∷ (map log_line sole.log ++ line done_text ∷ []) = sym (append-nil (section_lines (section_of size sole.ended sole.log))) ∙ section_text size sole.ended sole.log [] in
-    let whole : IsWhole (line (size_line size) ∷ line (ended_text sole.ended) ∷ (map log_line sole.log ++ line done_text ∷ [])) =
-    whole_cons _ _ (whole_size size short) (whole_cons _ _ (whole_ended sole.ended) (whole_both (map log_line sole.log) _ (whole_lines (start (whole_of h size)) sole.log (log_holds (whole_of h size) h.conflicts sole.ended sole.log sole.ends_as)) whole_done)) in
-    subst (λ (t : Section). IsWhole (section_lines t)) (sym sole.same) (subst (λ (ls : List Line). IsWhole ls) (sym lines) whole)
+abbrev AreShort : List PartLog → Type 0
+AreShort ps = (part : Part) → Contains (map part_of ps) part → HasShortTitle part
+
+whole_part : (h : Heading) (size : ℕ) (p : PartLog) → HasShortTitle p.part → IsPartLog h size p → IsWhole (part_lines p)
+unfolding part_lines
+whole_part h size p short is =
+    let f = formula_of h size p.part in
+    whole_both (title_lines p.part) _ (whole_title p.part short)
+    (whole_cons _ _ (whole_ended p.ended) (whole_both (map log_line p.log) _ (whole_lines (start f) p.log (log_holds f h.conflicts p.ended p.log is)) whole_done))
+
+whole_parts : (h : Heading) (size : ℕ) (ps : List PartLog) → AreShort ps → AllByRecursion (IsPartLog h size) ps → IsWhole (flat_map part_lines ps)
+whole_parts h size [] short logs = whole_none
+whole_parts h size (p ∷ ps) short logs =
+    whole_both (part_lines p) (flat_map part_lines ps) (whole_part h size p (short p.part (0, omega arith, refl)) logs.0)
+    (whole_parts h size ps (λ part there. short part (suc there.0, omega (arith, there.1), there.2)) logs.1)
+
+whole_section : (h : Heading) (size : ℕ) (s : Section) → size ≤ 16 → IsSection h size s → IsWhole (section_lines s)
+unfolding section_lines
+whole_section h size s few is =
+    let short : AreShort s.parts = λ part there. (built_is_coding h.method).titles h.spec size part few (subst (λ (parts : List Part). Contains parts part) is.parts_are there) in
+    whole_cons _ _ (whole_size s.size (omega (arith, is.size_is))) (whole_parts h size s.parts short (recursion_from_All (IsPartLog h size) s.parts is.logs))
 
 whole_sections : (h : Heading) (ss : List Section) (size : ℕ) → size + length ss ≤ 17 → AreSections h size ss → IsWhole (flat_map section_lines ss)
 unfolding AreSections

@@ -1,5 +1,7 @@
 -- The ending, as it is read.
-use Rattle.std.proofs.Common.{◌≡◌, ℕ, ◌+◌, ◌≤◌, ◌&&◌, ◌==◌, Bool, true, false, List, [], ◌∷◌, ◌++◌, length, Option, Some, None, Result, Ok, refl, sym, ap, ◌∙◌, subst, arith}
+use Rattle.cert_theory.specs.declared.data.BundleError.TheVariants.{NotRefuted}
+use Rattle.cert_theory.specs.Coding.{is_titled}
+use Rattle.std.proofs.Common.{◌≡◌, ℕ, ◌+◌, ◌≤◌, ◌&&◌, ◌==◌, Bool, true, false, List, [], ◌∷◌, ◌++◌, length, Option, Some, None, Result, Ok, refl, sym, ap, ◌∙◌, subst, arith, cond, Err}
 use Rattle.std.specs.Prelude.{codes, decimal, option_and_then, nat_le}
 use Rattle.std.specs.List.{join_with_byte}
 use Rattle.std.specs.Option.{option_map}
@@ -30,7 +32,7 @@ use Rattle.cert_theory.specs.declared.data.Verdict.TheVariants as verdicts
 use Rattle.cert_theory.specs.declared.data.BundleError.{BundleError}
 use Rattle.cert_theory.specs.Bundle.{found, not_found, IsEnding}
 use Rattle.cert_theory.specs.Spelling.{verdict_line, end_text, ending_lines}
-use Rattle.cert_theory.specs.Judging.{◌>>=◌, or_syntax, as_syntax, is_line, begins, value_of, is_same, number_behind, both, bounded_in, found_in, not_found_in, follows, nothing_behind, end_of, behind_chain, chain_place, steps_at, frame_of, or_differs, or_outside, chain_judged, with_block, chain_at, no_chain_at, ending_at}
+use Rattle.cert_theory.specs.Judging.{◌>>=◌, or_syntax, as_syntax, is_line, begins, value_of, is_same, number_behind, both, bounded_in, found_in, not_found_in, follows, nothing_behind, end_of, behind_chain, chain_place, steps_at, frame_of, or_differs, or_outside, chain_judged, with_block, chain_at, no_chain_at, ending_at, is_title}
 use Rattle.cert_theory.proofs.Binds.{bind_ok, test_ok, read_ok}
 use Rattle.cert_theory.proofs.BlockReads.{chain_read}
 use Rattle.cert_theory.proofs.ChainFaults.{difference_compares}
@@ -148,9 +150,15 @@ last_by number complete due v l ls o spells e =
 
 -- ---- without a chain
 
+-- a title isn't a verdict
+no_title : (b : Bool) (d : BundleError) (read : Result Verdict BundleError) (next : Verdict → Result Verdict BundleError) (v : Verdict) → (cond b (Err d) read >>= next) ≡ Ok v → (read >>= next) ≡ Ok v
+no_title true d read next v e = absurd cc
+no_title false d read next v e = e
+
 not_found_ends : (h : Heading) (number size : ℕ) (low : Option ℕ) (l : Line) (ls : List Line) (v : Verdict) → no_chain_at h number size low l ls ≡ Ok v → IsEnding h size low None v × (l ∷ ls ≡ ending_lines None v)
 not_found_ends h number size low l ls v e =
-    let last = last_by number (size == h.max + 1) (not_found h.max low) v l ls (not_found_in l) (not_found_spells l) e in
+    let read = no_title (is_titled h.method && is_title l) (NotRefuted number) (or_syntax number (not_found_in l)) (λ read. follows number (size == h.max + 1) (not_found h.max low) read >>= λ w. end_of (number + 1) w ls) v e in
+    let last = last_by number (size == h.max + 1) (not_found h.max low) v l ls (not_found_in l) (not_found_spells l) read in
     ((eqb-true size (h.max + 1) last.0, last.1.verdict_is), last.1.lines)
 
 -- ---- with a chain

@@ -6,7 +6,6 @@ pub mod Meanings
 pub mod LineSpellings
 pub mod BlockReads
 pub mod TableSpellings
-pub mod WholeParts
 pub mod SectionSpellings
 pub mod BundleSpellings
 pub mod WholeTexts

@@ -1,6 +1,7 @@
 -- Lists of sections that were written are read again.
-use Rattle.std.proofs.Common.{◌≡◌, ℕ, suc, ◌+◌, ◌<◌, ◌≤◌, Bool, not, cond, List, [], ◌∷◌, ◌++◌, length, map, Contains, All, Option, Some, None, Result, Ok, refl, sym, ap, ◌∙◌, subst, arith, append_assoc}
-use Rattle.std.specs.List.{flat_map}
+use Rattle.cert_theory.specs.declared.data.BundleError.TheVariants.{NotRefuted, Syntax}
+use Rattle.std.proofs.Common.{◌≡◌, ℕ, suc, ◌+◌, ◌<◌, ◌≤◌, Bool, not, cond, List, [], ◌∷◌, ◌++◌, length, map, Contains, Option, Some, None, Result, Ok, refl, sym, ap, ◌∙◌, subst, arith, append_assoc, Err}
+use Rattle.std.specs.List.{flat_map, AllByRecursion}
 use Rattle.std.proofs.lemmas.List.Elements.{recursion_from_All}
 use Rattle.text_core.specs.Lines.{Line}
 use Rattle.chain_theory.specs.Chain.{Chain}
@@ -10,52 +11,23 @@ use Rattle.sat_theory.specs.State.{start}
 use Rattle.sat_theory.specs.Log.{IsStep, EachLine, after}
 use Rattle.chain_core.specs.Spelling.{line}
 use Rattle.enc_frame.specs.declared.part.Part.{Part}
-use Rattle.enc_frame.specs.declared.part.Part.TheVariants.{Whole}
+use Rattle.enc_frame.specs.declared.part.Part.TheVariants.{Whole, Levels}
 use Rattle.cert_theory.specs.declared.data.Heading.{Heading}
 use Rattle.cert_theory.specs.declared.data.Ended.{Ended}
 use Rattle.cert_theory.specs.declared.data.Ended.TheVariants as ends
 use Rattle.cert_theory.specs.declared.data.Verdict.{Verdict}
 use Rattle.cert_theory.specs.declared.data.BundleError.{BundleError}
 use Rattle.cert_theory.specs.CodingLaws.{built_is_coding}
-use Rattle.cert_theory.specs.Bundle.{PartLog, Section, part_of, parts_of, IsHeading, IsPartLog, EndsAs, IsSection, AreSections, first_open, IsEnding}
-use Rattle.cert_theory.specs.Spelling.{size_line, ended_text, done_text, log_line, section_lines, ending_lines}
-use Rattle.cert_theory.specs.Judging.{◌>>=◌, Progress, Between, Begun, Within, low_with, whole_of, section_at, ending_at, sections_of}
+use Rattle.cert_theory.specs.Bundle.{PartLog, Section, part_of, parts_of, IsHeading, IsPartLog, EndsAs, IsSection, AreSections, first_open, IsEnding, formula_of}
+use Rattle.cert_theory.specs.Spelling.{size_line, ended_text, done_text, log_line, section_lines, ending_lines, title_text, title_lines, part_lines}
+use Rattle.cert_theory.specs.Judging.{◌>>=◌, Progress, Between, Begun, Within, low_with, section_at, ending_at, sections_of, Due, before, title_at, may_follow}
 use Rattle.cert_theory.proofs.ClauseStates.{start_clauses}
-use Rattle.cert_theory.proofs.WholeParts.{one_whole}
+use Rattle.cert_theory.proofs.LineSpellings.{is_line_back}
 use Rattle.cert_theory.proofs.LinesAgain.{size_again, size_begins, ended_again}
-use Rattle.cert_theory.proofs.SectionSpellings.{progress, low_or, low_same, section_of, low_more, section_text}
-use Rattle.cert_theory.proofs.SectionsAgain.{ending_again, WasFresh, within_again}
+use Rattle.cert_theory.proofs.SectionSpellings.{progress, low_or, low_same, low_more, low_after, part_text}
+use Rattle.cert_theory.proofs.SectionsAgain.{ending_again, WasFresh, within_again, Onward}
 
--- ---- a section by its one part
-
-one_part : (ps : List PartLog) → map part_of ps ≡ Whole ∷ [] → (ended : Ended) × (log : List theory.Line) × (ps ≡ record { part = Whole; ended = ended; log = log } ∷ [])
-one_part [] e = absurd cc
-one_part (p ∷ []) e = let same : p.part ≡ Whole = cc in (p.ended, p.log, λ i. record { part = same i; ended = p.ended; log = p.log } ∷ [])
-one_part (p ∷ q ∷ ps) e = absurd cc
-
--- what a section of a size is
-pub record Sole (h : Heading) (size : ℕ) (s : Section) : Type 0 where
-  pub ended : Ended
-  pub log : List theory.Line
-  pub same : s ≡ section_of size ended log
-  pub ends_as : EndsAs (whole_of h size) h.conflicts ended log
-
-pub sole_of : (h : Heading) (size : ℕ) (s : Section) → IsSection h size s → Sole h size s
-unfolding section_of
-sole_of h size s is =
-    let one = one_part s.parts (is.parts_are ∙ one_whole h.method h.spec size) in
-    let logs : All (IsPartLog h size) (record { part = Whole; ended = one.0; log = one.1 } ∷ []) = subst (λ (ps : List PartLog). All (IsPartLog h size) ps) one.2 is.logs in
-    record {
-      ended = one.0;
-      log = one.1;
-      same = λ i. record { size = is.size_is i; parts = one.2 i };
-      ends_as = (recursion_from_All (IsPartLog h size) (record { part = Whole; ended = one.0; log = one.1 } ∷ []) logs).0;
-    }
-
-whole_formula : (h : Heading) (size : ℕ) → IsFormula (whole_of h size)
-whole_formula h size =
-    let there : Contains (parts_of h size) Whole = subst (λ (parts : List Part). Contains parts Whole) (sym (one_whole h.method h.spec size)) (0, omega arith, refl) in
-    (built_is_coding h.method).formulas h.spec h.basis size Whole there
+-- ---- parts
 
 pub log_holds : (f : Formula) (conflicts : ℕ) (ended : Ended) (log : List theory.Line) → EndsAs f conflicts ended log → EachLine IsStep (start f) log
 log_holds f conflicts ends.Refuted log is = is.holds
@@ -68,29 +40,72 @@ log_fresh f conflicts ends.Open log is = is.fresh
 abbrev come : Progress → Result Progress BundleError
 come p = Ok p
 
-size_step : (h : Heading) (number size : ℕ) (low : Option ℕ) (ls : List Line) → size ≤ h.max → size ≤ 16 → sections_of h number (progress size low Between) (line (size_line size) ∷ ls) ≡ sections_of h (number + 1) (progress size low Begun) ls
+size_step : (h : Heading) (number size : ℕ) (low : Option ℕ) (ls : List Line) → size ≤ h.max → size ≤ 16 → sections_of h number (progress size low Between) (line (size_line size) ∷ ls) ≡ sections_of h (number + 1) (before size low (parts_of h size)) ls
 unfolding sections_of
 size_step h number size low ls fits few =
     ap (λ (t : Bool). cond (not t) (ending_at h number size low (line (size_line size)) ls) (section_at h number size low Between (line (size_line size)) >>= λ next. sections_of h (number + 1) next ls)) (size_begins size)
-    ∙ ap (λ (r : Result (Unit {0}) BundleError). (r >>= λ begun. come (progress size low Begun)) >>= λ next. sections_of h (number + 1) next ls) (size_again h number size fits few)
+    ∙ ap (λ (r : Result (Unit {0}) BundleError). (r >>= λ begun. come (before size low (parts_of h size))) >>= λ next. sections_of h (number + 1) next ls) (size_again h number size fits few)
 
-ended_step : (h : Heading) (number size : ℕ) (low : Option ℕ) (ended : Ended) (ls : List Line) → sections_of h number (progress size low Begun) (line (ended_text ended) ∷ ls) ≡ sections_of h (number + 1) (progress size low (Within ended [])) ls
+title_again : (number : ℕ) (sizes : List ℕ) → title_at number sizes (line (title_text sizes)) ≡ Ok tt
+unfolding title_at
+title_again number sizes = ap (λ (t : Bool). let r : Result (Unit {0}) BundleError = cond t (Ok tt) (cond (may_follow number (line (title_text sizes))) (Err (NotRefuted number)) (Err (Syntax number))) in r) (is_line_back (title_text sizes))
+
+title_step : (h : Heading) (number size : ℕ) (low : Option ℕ) (sizes : List ℕ) (later : List Part) (ls : List Line) → sections_of h number (progress size low (Due sizes later)) (line (title_text sizes) ∷ ls) ≡ sections_of h (number + 1) (progress size low (Begun (Levels sizes) later)) ls
 unfolding sections_of
-ended_step h number size low ended ls =
-    ap (λ (r : Result Ended BundleError). (r >>= λ e. come (progress size low (Within e []))) >>= λ next. sections_of h (number + 1) next ls) (ended_again number ended)
+title_step h number size low sizes later ls =
+    ap (λ (r : Result (Unit {0}) BundleError). (r >>= λ titled. come (progress size low (Begun (Levels sizes) later))) >>= λ next. sections_of h (number + 1) next ls) (title_again number sizes)
 
--- its lines are read
-section_again : (h : Heading) (number size : ℕ) (low : Option ℕ) (ended : Ended) (log : List theory.Line) (behind : List Line) (v : Verdict) → size ≤ h.max → size ≤ 16 → EndsAs (whole_of h size) h.conflicts ended log
-    → ((n : ℕ) → sections_of h n (progress (size + 1) (low_with low ended size) Between) behind ≡ Ok v) → sections_of h number (progress size low Between) (line (size_line size) ∷ line (ended_text ended) ∷ (map log_line log ++ line done_text ∷ behind)) ≡ Ok v
+ended_step : (h : Heading) (number size : ℕ) (low : Option ℕ) (part : Part) (later : List Part) (ended : Ended) (ls : List Line) → sections_of h number (progress size low (Begun part later)) (line (ended_text ended) ∷ ls) ≡ sections_of h (number + 1) (progress size low (Within part later ended [])) ls
+unfolding sections_of
+ended_step h number size low part later ended ls =
+    ap (λ (r : Result Ended BundleError). (r >>= λ e. come (progress size low (Within part later e []))) >>= λ next. sections_of h (number + 1) next ls) (ended_again number ended)
+
+-- the lines of a log are read
+log_again : (h : Heading) (number size : ℕ) (low : Option ℕ) (part : Part) (later : List Part) (ended : Ended) (log : List theory.Line) (behind : List Line) (v : Verdict) → IsFormula (formula_of h size part) → EndsAs (formula_of h size part) h.conflicts ended log → Onward h size (low_with low ended size) later behind v
+    → sections_of h number (progress size low (Begun part later)) (line (ended_text ended) ∷ (map log_line log ++ line done_text ∷ behind)) ≡ Ok v
 unfolding after
-section_again h number size low ended log behind v fits few is onward =
-    begun_again ∙ ended_next ∙ within_again log h (number + 1 + 1) size low ended [] behind v (start_clauses (whole_of h size) (whole_formula h size)) (log_holds (whole_of h size) h.conflicts ended log is) (log_fresh (whole_of h size) h.conflicts ended log is) is onward
-  where
-    begun_again : sections_of h number (progress size low Between) (line (size_line size) ∷ line (ended_text ended) ∷ (map log_line log ++ line done_text ∷ behind)) ≡ sections_of h (number + 1) (progress size low Begun) (line (ended_text ended) ∷ (map log_line log ++ line done_text ∷ behind))
-    begun_again = size_step h number size low (line (ended_text ended) ∷ (map log_line log ++ line done_text ∷ behind)) fits few
+log_again h number size low part later ended log behind v formula is onward =
+    let f = formula_of h size part in
+    ended_step h number size low part later ended (map log_line log ++ line done_text ∷ behind)
+    ∙ within_again log h (number + 1) size low part later ended [] behind v (start_clauses f formula) (log_holds f h.conflicts ended log is) (log_fresh f h.conflicts ended log is) is onward
 
-    ended_next : sections_of h (number + 1) (progress size low Begun) (line (ended_text ended) ∷ (map log_line log ++ line done_text ∷ behind)) ≡ sections_of h (number + 1 + 1) (progress size low (Within ended [])) (map log_line log ++ line done_text ∷ behind)
-    ended_next = ended_step h (number + 1) size low ended (map log_line log ++ line done_text ∷ behind)
+-- a part, with its title
+part_again : (part : Part) (h : Heading) (number size : ℕ) (low : Option ℕ) (later : List Part) (ended : Ended) (log : List theory.Line) (behind : List Line) (v : Verdict) → IsFormula (formula_of h size part) → EndsAs (formula_of h size part) h.conflicts ended log → Onward h size (low_with low ended size) later behind v
+    → sections_of h number (before size low (part ∷ later)) (title_lines part ++ (line (ended_text ended) ∷ (map log_line log ++ line done_text ∷ behind))) ≡ Ok v
+unfolding before title_lines
+part_again Whole h number size low later ended log behind v formula is onward = log_again h number size low Whole later ended log behind v formula is onward
+part_again (Levels sizes) h number size low later ended log behind v formula is onward =
+    title_step h number size low sizes later (line (ended_text ended) ∷ (map log_line log ++ line done_text ∷ behind))
+    ∙ log_again h (number + 1) size low (Levels sizes) later ended log behind v formula is onward
+
+abbrev AreFormulas : Heading → ℕ → List PartLog → Type 0
+AreFormulas h size ps = (part : Part) → Contains (map part_of ps) part → IsFormula (formula_of h size part)
+
+-- all parts of a section
+parts_again : (ps : List PartLog) (h : Heading) (number size : ℕ) (low : Option ℕ) (behind : List Line) (v : Verdict) → AreFormulas h size ps → AllByRecursion (IsPartLog h size) ps → ((n : ℕ) → sections_of h n (progress (size + 1) (low_after low size ps) Between) behind ≡ Ok v)
+    → sections_of h number (before size low (map part_of ps)) (flat_map part_lines ps ++ behind) ≡ Ok v
+unfolding before low_after
+parts_again [] h number size low behind v formulas logs onward = onward number
+parts_again (p ∷ ps) h number size low behind v formulas logs onward =
+    let rest = flat_map part_lines ps ++ behind in
+    ap (sections_of h number (before size low (p.part ∷ map part_of ps))) (append_assoc (part_lines p) (flat_map part_lines ps) behind ∙ part_text p.part p.ended p.log rest)
+    ∙ part_again p.part h number size low (map part_of ps) p.ended p.log rest v (formulas p.part (0, omega arith, refl)) logs.0
+    (λ n. parts_again ps h n size (low_with low p.ended size) behind v (λ part there. formulas part (suc there.0, omega (arith, there.1), there.2)) logs.1 onward)
+
+section_formulas : (h : Heading) (size : ℕ) (s : Section) → IsSection h size s → AreFormulas h size s.parts
+section_formulas h size s is part there =
+    (built_is_coding h.method).formulas h.spec h.basis size part (subst (λ (parts : List Part). Contains parts part) is.parts_are there)
+
+-- the lines of a section are read
+section_again : (h : Heading) (number size : ℕ) (low : Option ℕ) (s : Section) (behind : List Line) (v : Verdict) → size ≤ h.max → size ≤ 16 → IsSection h size s → ((n : ℕ) → sections_of h n (progress (size + 1) (low_after low size s.parts) Between) behind ≡ Ok v)
+    → sections_of h number (progress size low Between) (section_lines s ++ behind) ≡ Ok v
+unfolding section_lines
+section_again h number size low s behind v fits few is onward =
+    let ls = flat_map part_lines s.parts ++ behind in
+    ap (λ (k : ℕ). sections_of h number (progress size low Between) (line (size_line k) ∷ ls)) is.size_is
+    ∙ size_step h number size low ls fits few
+    ∙ ap (λ (parts : List Part). sections_of h (number + 1) (before size low parts) ls) (sym is.parts_are)
+    ∙ parts_again s.parts h (number + 1) size low behind v (section_formulas h size s is) (recursion_from_All (IsPartLog h size) s.parts is.logs) onward
 
 -- ---- all sections
 
@@ -104,17 +119,13 @@ sections_again [] h number size low chain v heading are few short ending =
     ending_again h number size low chain v heading (λ l e. short l (none ∙ e))
     (subst (λ (o : Option ℕ). IsEnding h size o chain v) none (subst (λ (n : ℕ). IsEnding h n (low_or low None) chain v) same ending))
 sections_again (s ∷ ss) h number size low chain v heading are few short ending =
-    let sole = sole_of h size s are.0 in
     let count : size + suc (length ss) ≡ size + 1 + length ss = omega arith in
-    let first : first_open (s ∷ ss) ≡ first_open (section_of size sole.ended sole.log ∷ ss) = ap (λ (t : Section). first_open (t ∷ ss)) sole.same in
-    let open_same : low_or (low_with low sole.ended size) (first_open ss) ≡ low_or low (first_open (s ∷ ss)) = low_more low sole.ended size sole.log ss ∙ ap (low_or low) (sym first) in
+    let after_it = low_after low size s.parts in
+    let named : first_open (record { size = size; parts = s.parts } ∷ ss) ≡ first_open (s ∷ ss) = ap (λ (k : ℕ). let t : Section = record { size = k; parts = s.parts } in first_open (t ∷ ss)) (sym are.0.size_is) in
+    let open_same : low_or after_it (first_open ss) ≡ low_or low (first_open (s ∷ ss)) = low_more low size s.parts ss ∙ ap (low_or low) named in
     let behind = flat_map section_lines ss ++ ending_lines chain v in
-    let lines : flat_map section_lines (s ∷ ss) ++ ending_lines chain v ≡ line (size_line size) ∷ line (ended_text sole.ended) ∷ (map log_line sole.log ++ line done_text ∷ behind) =
-    append_assoc (section_lines s) (flat_map section_lines ss) (ending_lines chain v)
-    ∙ ap (λ (t : Section). section_lines t ++ behind) sole.same
-    ∙ section_text size sole.ended sole.log behind in
-    ap (sections_of h number (progress size low Between)) lines
-    ∙ section_again h number size low sole.ended sole.log behind v (omega arith) (omega (arith, heading.max_to)) sole.ends_as
-    (λ n. sections_again ss h n (size + 1) (low_with low sole.ended size) chain v heading are.1 (omega arith)
+    ap (sections_of h number (progress size low Between)) (append_assoc (section_lines s) (flat_map section_lines ss) (ending_lines chain v))
+    ∙ section_again h number size low s behind v (omega arith) (omega (arith, heading.max_to)) are.0
+    (λ n. sections_again ss h n (size + 1) after_it chain v heading are.1 (omega arith)
     (λ l e. short l (sym open_same ∙ e))
     (subst (λ (o : Option ℕ). IsEnding h (size + 1 + length ss) o chain v) (sym open_same) (subst (λ (k : ℕ). IsEnding h k (low_or low (first_open (s ∷ ss))) chain v) count ending)))

@@ -1,7 +1,8 @@
 -- Sections, as they are read.
-use Rattle.std.proofs.Common.{◌≡◌, ◌⊎◌, ℕ, suc, ◌+◌, ◌≤◌, Bool, true, false, not, cond, List, [], ◌∷◌, ◌++◌, length, map, Option, Some, None, Result, Ok, Err, refl, sym, ap, ◌∙◌, subst, arith, inl, inr, append_assoc, append-nil}
+use Rattle.std.specs.Option.{option_map}
+use Rattle.std.proofs.Common.{◌≡◌, ◌⊎◌, ℕ, suc, ◌+◌, ◌≤◌, Bool, true, false, not, cond, List, [], ◌∷◌, ◌++◌, length, map, Option, Some, None, Result, Ok, Err, refl, sym, ap, ◌∙◌, subst, arith, inl, inr, append_assoc, append-nil, ◌||◌}
 use Rattle.std.specs.Prelude.{codes, nat_le}
-use Rattle.std.specs.List.{flat_map}
+use Rattle.std.specs.List.{flat_map, list_any, find, AllByRecursion}
 use Rattle.std.proofs.Math.Logic.{⊎_elim}
 use Rattle.std.proofs.lemmas.Bool.Decides.{nat_tests}
 use Rattle.std.proofs.lemmas.List.Elements.{All-from_recursion}
@@ -16,22 +17,22 @@ use Rattle.lrat_check.specs.Judging.{line_fault}
 use Rattle.lrat_check.specs.FaultLaws.{line_holds}
 use Rattle.lrat_check.specs.declared.error.CheckError.{CheckError}
 use Rattle.chain_core.specs.Spelling.{line}
-use Rattle.enc_frame.specs.declared.part.Part.TheVariants.{Whole}
+use Rattle.enc_frame.specs.declared.part.Part.{Part}
+use Rattle.enc_frame.specs.declared.part.Part.TheVariants.{Whole, Levels}
 use Rattle.cert_theory.specs.declared.data.Heading.{Heading}
 use Rattle.cert_theory.specs.declared.data.Ended.{Ended}
 use Rattle.cert_theory.specs.declared.data.Ended.TheVariants as ends
 use Rattle.cert_theory.specs.declared.data.Verdict.{Verdict}
 use Rattle.cert_theory.specs.declared.data.BundleError.{BundleError}
-use Rattle.cert_theory.specs.declared.data.BundleError.TheVariants.{NotRefuted, WrongVerdict, OpenTooShort, NotNew}
-use Rattle.cert_theory.specs.Bundle.{Section, IsPartLog, EndsAs, IsSection, AreSections, first_open, IsEnding}
-use Rattle.cert_theory.specs.Spelling.{size_line, ended_text, done_text, log_line, title_lines, part_lines, section_lines, ending_lines}
-use Rattle.cert_theory.specs.Judging.{◌>>=◌, is_line, begins, state_after, is_fresh, refused, or_not_new, spelled_at, logged_at, done_at, has_empty, Place, Between, Begun, Within, Progress, low_with, size_at, ended_at, whole_of, within_at, section_at, ending_at, sections_of}
+use Rattle.cert_theory.specs.declared.data.BundleError.TheVariants.{NotRefuted, WrongVerdict, OpenTooShort, NotNew, Syntax}
+use Rattle.cert_theory.specs.Bundle.{Section, IsPartLog, EndsAs, AreSections, first_open, IsEnding, PartLog, part_of, parts_of, formula_of, is_open_end, is_open, size_of}
+use Rattle.cert_theory.specs.Spelling.{size_line, ended_text, done_text, log_line, title_lines, part_lines, section_lines, ending_lines, title_text}
+use Rattle.cert_theory.specs.Judging.{◌>>=◌, is_line, begins, state_after, is_fresh, refused, or_not_new, spelled_at, logged_at, done_at, has_empty, Place, Between, Begun, Within, Progress, low_with, size_at, ended_at, within_at, section_at, ending_at, sections_of, Due, before, title_at, may_follow}
 use Rattle.cert_theory.proofs.Binds.{bind_ok, test_ok}
 use Rattle.cert_theory.proofs.EmptyClauses.{empty_has, has_is}
 use Rattle.cert_theory.proofs.FreshLines.{IsLow, log_low, fresh_from_test}
 use Rattle.cert_theory.proofs.LineSpellings.{chosen, is_line_spells, size_spells, ended_spells, log_spells}
 use Rattle.cert_theory.proofs.EndingSpellings.{IsEnded, ending_spells}
-use Rattle.cert_theory.proofs.WholeParts.{one_whole}
 
 -- ---- logs
 
@@ -121,6 +122,11 @@ abbrev pub low_or : Option ℕ → Option ℕ → Option ℕ
 low_or None o = o
 low_or (Some low) o = Some low
 
+-- the first open size, with the parts of one size more
+unfoldable pub low_after : Option ℕ → ℕ → List PartLog → Option ℕ
+low_after low size [] = low
+low_after low size (p ∷ ps) = low_after (low_with low p.ended size) size ps
+
 -- sections of the sizes from one on, and the ending
 pub record Rest (h : Heading) (size : ℕ) (low : Option ℕ) (ls : List Line) (v : Verdict) : Type 0 where
   pub sections : List Section
@@ -130,28 +136,44 @@ pub record Rest (h : Heading) (size : ℕ) (low : Option ℕ) (ls : List Line) (
   pub ending : IsEnding h (size + length sections) (low_or low (first_open sections)) chain v
   pub lines : ls ≡ flat_map section_lines sections ++ ending_lines chain v
 
-pub record LogRest (h : Heading) (size : ℕ) (low : Option ℕ) (ended : Ended) (log : List theory.Line) (ls : List Line) (v : Verdict) : Type 0 where
-  pub more : List theory.Line
-  pub ends_as : EndsAs (whole_of h size) h.conflicts ended (log ++ more)
+-- the logs of the parts that are due, and what stands behind the section
+pub record PartsRest (h : Heading) (size : ℕ) (low : Option ℕ) (due : List Part) (ls : List Line) (v : Verdict) : Type 0 where
+  pub parts : List PartLog
+  pub parts_are : map part_of parts ≡ due
+  pub logs : AllByRecursion (IsPartLog h size) parts
   pub behind : List Line
-  pub rest : Rest h (size + 1) (low_with low ended size) behind v
+  pub rest : Rest h (size + 1) (low_after low size parts) behind v
+  pub lines : ls ≡ flat_map part_lines parts ++ behind
+
+pub record LogRest (h : Heading) (size : ℕ) (low : Option ℕ) (part : Part) (later : List Part) (ended : Ended) (log : List theory.Line) (ls : List Line) (v : Verdict) : Type 0 where
+  pub more : List theory.Line
+  pub ends_as : EndsAs (formula_of h size part) h.conflicts ended (log ++ more)
+  pub behind : List Line
+  pub rest : PartsRest h size (low_with low ended size) later behind v
   pub lines : ls ≡ map log_line more ++ line done_text ∷ behind
 
-pub record BegunRest (h : Heading) (size : ℕ) (low : Option ℕ) (ls : List Line) (v : Verdict) : Type 0 where
+pub record BegunRest (h : Heading) (size : ℕ) (low : Option ℕ) (part : Part) (later : List Part) (ls : List Line) (v : Verdict) : Type 0 where
   pub ended : Ended
   pub behind : List Line
-  pub rest : LogRest h size low ended [] behind v
+  pub rest : LogRest h size low part later ended [] behind v
   pub lines : ls ≡ line (ended_text ended) ∷ behind
+
+pub record DueRest (h : Heading) (size : ℕ) (low : Option ℕ) (sizes : List ℕ) (later : List Part) (ls : List Line) (v : Verdict) : Type 0 where
+  pub behind : List Line
+  pub rest : BegunRest h size low (Levels sizes) later behind v
+  pub lines : ls ≡ line (title_text sizes) ∷ behind
 
 abbrev pub RestAt : Heading → ℕ → Option ℕ → Place → List Line → Verdict → Type 0
 RestAt h size low Between ls v = Rest h size low ls v
-RestAt h size low Begun ls v = BegunRest h size low ls v
-RestAt h size low (Within ended log) ls v = LogRest h size low ended log ls v
+RestAt h size low (Due sizes later) ls v = DueRest h size low sizes later ls v
+RestAt h size low (Begun part later) ls v = BegunRest h size low part later ls v
+RestAt h size low (Within part later ended log) ls v = LogRest h size low part later ended log ls v
 
 abbrev pub IsAt : Heading → ℕ → Place → Type 0
 IsAt h size Between = size ≤ h.max + 1
-IsAt h size Begun = size ≤ h.max
-IsAt h size (Within ended log) = (size ≤ h.max) × IsLog (whole_of h size) ended log
+IsAt h size (Due sizes later) = size ≤ h.max
+IsAt h size (Begun part later) = size ≤ h.max
+IsAt h size (Within part later ended log) = (size ≤ h.max) × IsLog (formula_of h size part) ended log
 
 -- no section more
 pub low_same : (low : Option ℕ) → low ≡ low_or low None
@@ -171,44 +193,92 @@ ended_rest h size low ls v few ended =
       lines = ended.lines;
     }
 
--- a section more in front
-unfoldable pub section_of : ℕ → Ended → List theory.Line → Section
-section_of size ended log = record { size = size; parts = record { part = Whole; ended = ended; log = log } ∷ [] }
+-- ---- a section more in front
 
-pub low_more : (low : Option ℕ) (ended : Ended) (size : ℕ) (log : List theory.Line) (ss : List Section) → low_or (low_with low ended size) (first_open ss) ≡ low_or low (first_open (section_of size ended log ∷ ss))
-unfolding section_of
-low_more (Some low) ended size log ss = refl
-low_more None ends.Refuted size log ss = refl
-low_more None ends.Open size log ss = refl
+abbrev pub any_open : List PartLog → Bool
+any_open ps = list_any (λ p. is_open_end p.ended) ps
 
-is_section : (h : Heading) (size : ℕ) (ended : Ended) (log : List theory.Line) → EndsAs (whole_of h size) h.conflicts ended log → IsSection h size (section_of size ended log)
-unfolding section_of
-is_section h size ended log ends_as = record { size_is = refl; parts_are = sym (one_whole h.method h.spec size); logs = All-from_recursion (IsPartLog h size) (record { part = Whole; ended = ended; log = log } ∷ []) (ends_as, tt) }
+low_some : (low size : ℕ) (ps : List PartLog) → low_after (Some low) size ps ≡ Some low
+unfolding low_after
+low_some low size [] = refl
+low_some low size (p ∷ ps) = low_some low size ps
 
-pub section_text : (size : ℕ) (ended : Ended) (log : List theory.Line) (behind : List Line) → section_lines (section_of size ended log) ++ behind ≡ line (size_line size) ∷ line (ended_text ended) ∷ (map log_line log ++ line done_text ∷ behind)
-unfolding section_of section_lines part_lines title_lines
-section_text size ended log behind = ap (λ (xs : List Line). line (size_line size) ∷ line (ended_text ended) ∷ xs) (simp (append_assoc, append-nil))
+-- the first open size with a section's parts, and those of the sections behind it
+low_first : (ended : Ended) (size : ℕ) (ps : List PartLog) (o : Option ℕ) → low_or (low_after None size ps) o ≡ cond (any_open ps) (Some size) o → low_or (low_after (low_with None ended size) size ps) o ≡ cond (is_open_end ended || any_open ps) (Some size) o
+low_first ends.Refuted size ps o rest = rest
+low_first ends.Open size ps o rest = ap (λ (q : Option ℕ). low_or q o) (low_some size size ps)
 
-begun_rest : (h : Heading) (size : ℕ) (low : Option ℕ) (l : Line) (ls : List Line) (v : Verdict) → l ≡ line (size_line size) → BegunRest h size low ls v → Rest h size low (l ∷ ls) v
-unfolding AreSections
-begun_rest h size low l ls v first begun =
-    let log = begun.rest in
-    let rest = log.rest in
-    let s = section_of size begun.ended log.more in
+low_parts : (size : ℕ) (ps : List PartLog) (o : Option ℕ) → low_or (low_after None size ps) o ≡ cond (any_open ps) (Some size) o
+unfolding low_after
+low_parts size [] o = refl
+low_parts size (p ∷ ps) o = low_first p.ended size ps o (low_parts size ps o)
+
+first_is : (b : Bool) (s : Section) (o : Option Section) → option_map size_of (cond b (Some s) o) ≡ cond b (Some s.size) (option_map size_of o)
+first_is true s o = refl
+first_is false s o = refl
+
+pub low_more : (low : Option ℕ) (size : ℕ) (ps : List PartLog) (ss : List Section) → low_or (low_after low size ps) (first_open ss) ≡ low_or low (first_open (record { size = size; parts = ps } ∷ ss))
+low_more (Some low) size ps ss = ap (λ (o : Option ℕ). low_or o (first_open ss)) (low_some low size ps)
+low_more None size ps ss = low_parts size ps (first_open ss) ∙ sym (first_is (any_open ps) (record { size = size; parts = ps }) (find is_open ss))
+
+size_rest : (h : Heading) (size : ℕ) (low : Option ℕ) (l : Line) (ls : List Line) (v : Verdict) → l ≡ line (size_line size) → PartsRest h size low (parts_of h size) ls v → Rest h size low (l ∷ ls) v
+unfolding AreSections section_lines
+size_rest h size low l ls v first parts =
+    let rest = parts.rest in
+    let s : Section = record { size = size; parts = parts.parts } in
     let count : size + 1 + length rest.sections ≡ size + suc (length rest.sections) = omega arith in
     record {
       sections = s ∷ rest.sections;
       chain = rest.chain;
-      are = (is_section h size begun.ended log.more log.ends_as, rest.are);
+      are = (record { size_is = refl; parts_are = parts.parts_are; logs = All-from_recursion (IsPartLog h size) parts.parts parts.logs }, rest.are);
       sizes_to = omega (arith, rest.sizes_to);
       ending =
-          subst (λ (o : Option ℕ). IsEnding h (size + suc (length rest.sections)) o rest.chain v) (low_more low begun.ended size log.more rest.sections)
-          (subst (λ (n : ℕ). IsEnding h n (low_or (low_with low begun.ended size) (first_open rest.sections)) rest.chain v) count rest.ending);
+          subst (λ (o : Option ℕ). IsEnding h (size + suc (length rest.sections)) o rest.chain v) (low_more low size parts.parts rest.sections)
+          (subst (λ (n : ℕ). IsEnding h n (low_or (low_after low size parts.parts) (first_open rest.sections)) rest.chain v) count rest.ending);
       lines =
-          (λ i. first i ∷ (begun.lines ∙ ap (λ (xs : List Line). line (ended_text begun.ended) ∷ xs) (log.lines ∙ ap (λ (xs : List Line). map log_line log.more ++ line done_text ∷ xs) rest.lines)) i)
-          ∙ sym (section_text size begun.ended log.more (flat_map section_lines rest.sections ++ ending_lines rest.chain v))
+          (λ i. first i ∷ (parts.lines ∙ ap (λ (xs : List Line). flat_map part_lines parts.parts ++ xs) rest.lines) i)
           ∙ sym (append_assoc (section_lines s) (flat_map section_lines rest.sections) (ending_lines rest.chain v));
     }
+
+-- ---- parts
+
+-- the lines of a part, and those behind it
+pub part_text : (part : Part) (ended : Ended) (log : List theory.Line) (behind : List Line) → part_lines (record { part = part; ended = ended; log = log }) ++ behind ≡ title_lines part ++ (line (ended_text ended) ∷ (map log_line log ++ line done_text ∷ behind))
+unfolding part_lines
+part_text part ended log behind =
+    append_assoc (title_lines part) (line (ended_text ended) ∷ (map log_line log ++ line done_text ∷ [])) behind
+    ∙ ap (λ (xs : List Line). title_lines part ++ (line (ended_text ended) ∷ xs)) (append_assoc (map log_line log) (line done_text ∷ []) behind)
+
+begun_parts : (h : Heading) (size : ℕ) (low : Option ℕ) (part : Part) (later : List Part) (ls all : List Line) (v : Verdict) → all ≡ title_lines part ++ ls → BegunRest h size low part later ls v → PartsRest h size low (part ∷ later) all v
+unfolding low_after
+begun_parts h size low part later ls all v first begun =
+    let log = begun.rest in
+    let parts = log.rest in
+    let p : PartLog = record { part = part; ended = begun.ended; log = log.more } in
+    record {
+      parts = p ∷ parts.parts;
+      parts_are = ap (λ (ps : List Part). part ∷ ps) parts.parts_are;
+      logs = (log.ends_as, parts.logs);
+      behind = parts.behind;
+      rest = parts.rest;
+      lines =
+          first
+          ∙ ap (λ (xs : List Line). title_lines part ++ xs) (begun.lines ∙ ap (λ (xs : List Line). line (ended_text begun.ended) ∷ xs) (log.lines ∙ ap (λ (xs : List Line). map log_line log.more ++ line done_text ∷ xs) parts.lines))
+          ∙ sym (part_text part begun.ended log.more (flat_map part_lines parts.parts ++ parts.behind))
+          ∙ sym (append_assoc (part_lines p) (flat_map part_lines parts.parts) parts.behind);
+    }
+
+pub at_before : (h : Heading) (size : ℕ) (low : Option ℕ) (due : List Part) → size ≤ h.max → IsAt h (before size low due).size (before size low due).place
+unfolding before
+at_before h size low [] few = omega arith
+at_before h size low (Whole ∷ later) few = few
+at_before h size low (Levels sizes ∷ later) few = few
+
+before_rest : (h : Heading) (size : ℕ) (low : Option ℕ) (due : List Part) (ls : List Line) (v : Verdict) → RestAt h (before size low due).size (before size low due).low (before size low due).place ls v → PartsRest h size low due ls v
+unfolding before low_after title_lines
+before_rest h size low [] ls v rest = record { parts = []; parts_are = refl; logs = tt; behind = ls; rest = rest; lines = refl }
+before_rest h size low (Whole ∷ later) ls v rest = begun_parts h size low Whole later ls ls v refl rest
+before_rest h size low (Levels sizes ∷ later) ls v rest = begun_parts h size low (Levels sizes) later rest.behind ls v rest.lines rest.rest
 
 -- ---- one line after the other
 
@@ -224,12 +294,12 @@ come p = Ok p
 progress_is : (p q : Progress) → come p ≡ Ok q → p ≡ q
 progress_is p q e = cc
 
--- between two sections
-record BetweenCases (h : Heading) (number size : ℕ) (low : Option ℕ) (l : Line) (ls : List Line) (v : Verdict) : Type 0 where
-  cases : (ending_at h number size low l ls ≡ Ok v) ⊎ ((size_at h number size l ≡ Ok tt) × (sections_of h (number + 1) (progress size low Begun) ls ≡ Ok v))
-
 unit_is : (r : Result (Unit {0}) BundleError) (x : Unit {0}) → r ≡ Ok x → r ≡ Ok tt
 unit_is r x e = e
+
+-- between two sections
+record BetweenCases (h : Heading) (number size : ℕ) (low : Option ℕ) (l : Line) (ls : List Line) (v : Verdict) : Type 0 where
+  cases : (ending_at h number size low l ls ≡ Ok v) ⊎ ((size_at h number size l ≡ Ok tt) × (sections_of h (number + 1) (before size low (parts_of h size)) ls ≡ Ok v))
 
 between_cases : (h : Heading) (number size : ℕ) (low : Option ℕ) (l : Line) (ls : List Line) (v : Verdict) → sections_of h number (progress size low Between) (l ∷ ls) ≡ Ok v → BetweenCases h number size low l ls v
 unfolding sections_of
@@ -239,63 +309,88 @@ between_cases h number size low l ls v e = record {
       (λ (yes_ : (not (begins (codes "size ") l) ≡ true) × (ending_at h number size low l ls ≡ Ok v)). inl yes_.1)
       (λ (no_ : (not (begins (codes "size ") l) ≡ false) × ((section_at h number size low Between l >>= go_on h number ls) ≡ Ok v)).
       let next = bind_ok (section_at h number size low Between l) (go_on h number ls) v no_.1 in
-      let begun = bind_ok (size_at h number size l) (λ begun. Ok (progress size low Begun)) next.0 next.1 in
-      let same : progress size low Begun ≡ next.0 = progress_is (progress size low Begun) next.0 begun.2 in
+      let begun = bind_ok (size_at h number size l) (λ begun. Ok (before size low (parts_of h size))) next.0 next.1 in
+      let same : before size low (parts_of h size) ≡ next.0 = progress_is (before size low (parts_of h size)) next.0 begun.2 in
       inr (unit_is (size_at h number size l) begun.0 begun.1, ap (go_on h number ls) same ∙ next.2))
       (chosen (not (begins (codes "size ") l)) (ending_at h number size low l ls) (section_at h number size low Between l >>= go_on h number ls) (Ok v) e);
 }
 
-record BegunCase (h : Heading) (number size : ℕ) (low : Option ℕ) (l : Line) (ls : List Line) (v : Verdict) : Type 0 where
+record DueCase (h : Heading) (number size : ℕ) (low : Option ℕ) (sizes : List ℕ) (later : List Part) (l : Line) (ls : List Line) (v : Verdict) : Type 0 where
+  text : l ≡ line (title_text sizes)
+  next : sections_of h (number + 1) (progress size low (Begun (Levels sizes) later)) ls ≡ Ok v
+
+title_spells : (number : ℕ) (sizes : List ℕ) (l : Line) → title_at number sizes l ≡ Ok tt → l ≡ line (title_text sizes)
+unfolding title_at
+title_spells number sizes l e =
+    ⊎_elim
+    (λ (yes_ : (is_line (title_text sizes) l ≡ true) × (fine ≡ Ok tt)). is_line_spells (title_text sizes) l yes_.0)
+    (λ (no_ : (is_line (title_text sizes) l ≡ false) × (cond (may_follow number l) (Err (NotRefuted number)) (Err (Syntax number)) ≡ Ok tt)). absurd (none (may_follow number l) no_.1))
+    (chosen (is_line (title_text sizes) l) fine (cond (may_follow number l) (Err (NotRefuted number)) (Err (Syntax number))) (Ok tt) e)
+  where
+    none : (b : Bool) → cond b (Err (NotRefuted number)) (Err (Syntax number)) ≡ fine → ⊥
+    none true e = cc
+    none false e = cc
+
+due_case : (h : Heading) (number size : ℕ) (low : Option ℕ) (sizes : List ℕ) (later : List Part) (l : Line) (ls : List Line) (v : Verdict) → sections_of h number (progress size low (Due sizes later)) (l ∷ ls) ≡ Ok v → DueCase h number size low sizes later l ls v
+unfolding sections_of
+due_case h number size low sizes later l ls v e =
+    let next = bind_ok (section_at h number size low (Due sizes later) l) (go_on h number ls) v e in
+    let read = bind_ok (title_at number sizes l) (λ titled. come (progress size low (Begun (Levels sizes) later))) next.0 next.1 in
+    let same : progress size low (Begun (Levels sizes) later) ≡ next.0 = progress_is _ next.0 read.2 in
+    record { text = title_spells number sizes l (unit_is (title_at number sizes l) read.0 read.1); next = ap (go_on h number ls) same ∙ next.2 }
+
+record BegunCase (h : Heading) (number size : ℕ) (low : Option ℕ) (part : Part) (later : List Part) (l : Line) (ls : List Line) (v : Verdict) : Type 0 where
   ended : Ended
   read : ended_at number l ≡ Ok ended
-  next : sections_of h (number + 1) (progress size low (Within ended [])) ls ≡ Ok v
+  next : sections_of h (number + 1) (progress size low (Within part later ended [])) ls ≡ Ok v
 
-begun_case : (h : Heading) (number size : ℕ) (low : Option ℕ) (l : Line) (ls : List Line) (v : Verdict) → sections_of h number (progress size low Begun) (l ∷ ls) ≡ Ok v → BegunCase h number size low l ls v
+begun_case : (h : Heading) (number size : ℕ) (low : Option ℕ) (part : Part) (later : List Part) (l : Line) (ls : List Line) (v : Verdict) → sections_of h number (progress size low (Begun part later)) (l ∷ ls) ≡ Ok v → BegunCase h number size low part later l ls v
 unfolding sections_of
-begun_case h number size low l ls v e =
-    let next = bind_ok (section_at h number size low Begun l) (go_on h number ls) v e in
-    let read = bind_ok (ended_at number l) (λ ended. Ok (progress size low (Within ended []))) next.0 next.1 in
-    let same : progress size low (Within read.0 []) ≡ next.0 = progress_is (progress size low (Within read.0 [])) next.0 read.2 in
+begun_case h number size low part later l ls v e =
+    let next = bind_ok (section_at h number size low (Begun part later) l) (go_on h number ls) v e in
+    let read = bind_ok (ended_at number l) (λ ended. Ok (progress size low (Within part later ended []))) next.0 next.1 in
+    let same : progress size low (Within part later read.0 []) ≡ next.0 = progress_is (progress size low (Within part later read.0 [])) next.0 read.2 in
     record { ended = read.0; read = read.1; next = ap (go_on h number ls) same ∙ next.2 }
 
-record DoneCase (h : Heading) (number size : ℕ) (low : Option ℕ) (ended : Ended) (log : List theory.Line) (l : Line) (ls : List Line) (v : Verdict) : Type 0 where
+record DoneCase (h : Heading) (number size : ℕ) (low : Option ℕ) (part : Part) (later : List Part) (ended : Ended) (log : List theory.Line) (l : Line) (ls : List Line) (v : Verdict) : Type 0 where
   is_done : is_line (codes "done") l ≡ true
-  closes : done_at (whole_of h size) h.conflicts number ended log ≡ Ok tt
-  next : sections_of h (number + 1) (progress (size + 1) (low_with low ended size) Between) ls ≡ Ok v
+  closes : done_at (formula_of h size part) h.conflicts number ended log ≡ Ok tt
+  next : sections_of h (number + 1) (before size (low_with low ended size) later) ls ≡ Ok v
 
-record LoggedCase (h : Heading) (number size : ℕ) (low : Option ℕ) (ended : Ended) (log : List theory.Line) (l : Line) (ls : List Line) (v : Verdict) : Type 0 where
+record LoggedCase (h : Heading) (number size : ℕ) (low : Option ℕ) (part : Part) (later : List Part) (ended : Ended) (log : List theory.Line) (l : Line) (ls : List Line) (v : Verdict) : Type 0 where
   x : theory.Line
-  read : logged_at (whole_of h size) number ended log l ≡ Ok x
-  next : sections_of h (number + 1) (progress size low (Within ended (log ++ x ∷ []))) ls ≡ Ok v
+  read : logged_at (formula_of h size part) number ended log l ≡ Ok x
+  next : sections_of h (number + 1) (progress size low (Within part later ended (log ++ x ∷ []))) ls ≡ Ok v
 
-within_cases : (h : Heading) (number size : ℕ) (low : Option ℕ) (ended : Ended) (log : List theory.Line) (l : Line) (ls : List Line) (v : Verdict) → sections_of h number (progress size low (Within ended log)) (l ∷ ls) ≡ Ok v → DoneCase h number size low ended log l ls v ⊎ LoggedCase h number size low ended log l ls v
+within_cases : (h : Heading) (number size : ℕ) (low : Option ℕ) (part : Part) (later : List Part) (ended : Ended) (log : List theory.Line) (l : Line) (ls : List Line) (v : Verdict) → sections_of h number (progress size low (Within part later ended log)) (l ∷ ls) ≡ Ok v → DoneCase h number size low part later ended log l ls v ⊎ LoggedCase h number size low part later ended log l ls v
 unfolding sections_of
-within_cases h number size low ended log l ls v e =
-    let next = bind_ok (within_at h number size low ended log l) (go_on h number ls) v e in
+within_cases h number size low part later ended log l ls v e =
+    let f = formula_of h size part in
+    let next = bind_ok (within_at h number size low part later ended log l) (go_on h number ls) v e in
     ⊎_elim
-    (λ (yes_ : (is_line (codes "done") l ≡ true) × ((done_at (whole_of h size) h.conflicts number ended log >>= λ closed. come (progress (size + 1) (low_with low ended size) Between)) ≡ Ok next.0)).
-    let closes = bind_ok (done_at (whole_of h size) h.conflicts number ended log) (λ closed. come (progress (size + 1) (low_with low ended size) Between)) next.0 yes_.1 in
-    let same : progress (size + 1) (low_with low ended size) Between ≡ next.0 = progress_is _ next.0 closes.2 in
-    inl (record { is_done = yes_.0; closes = unit_is (done_at (whole_of h size) h.conflicts number ended log) closes.0 closes.1; next = ap (go_on h number ls) same ∙ next.2 }))
-    (λ (no_ : (is_line (codes "done") l ≡ false) × ((logged_at (whole_of h size) number ended log l >>= λ line. come (progress size low (Within ended (log ++ line ∷ [])))) ≡ Ok next.0)).
-    let read = bind_ok (logged_at (whole_of h size) number ended log l) (λ line. come (progress size low (Within ended (log ++ line ∷ [])))) next.0 no_.1 in
-    let same : progress size low (Within ended (log ++ read.0 ∷ [])) ≡ next.0 = progress_is _ next.0 read.2 in
+    (λ (yes_ : (is_line (codes "done") l ≡ true) × ((done_at f h.conflicts number ended log >>= λ closed. come (before size (low_with low ended size) later)) ≡ Ok next.0)).
+    let closes = bind_ok (done_at f h.conflicts number ended log) (λ closed. come (before size (low_with low ended size) later)) next.0 yes_.1 in
+    let same : before size (low_with low ended size) later ≡ next.0 = progress_is _ next.0 closes.2 in
+    inl (record { is_done = yes_.0; closes = unit_is (done_at f h.conflicts number ended log) closes.0 closes.1; next = ap (go_on h number ls) same ∙ next.2 }))
+    (λ (no_ : (is_line (codes "done") l ≡ false) × ((logged_at f number ended log l >>= λ line. come (progress size low (Within part later ended (log ++ line ∷ [])))) ≡ Ok next.0)).
+    let read = bind_ok (logged_at f number ended log l) (λ line. come (progress size low (Within part later ended (log ++ line ∷ [])))) next.0 no_.1 in
+    let same : progress size low (Within part later ended (log ++ read.0 ∷ [])) ≡ next.0 = progress_is _ next.0 read.2 in
     inr (record { x = read.0; read = read.1; next = ap (go_on h number ls) same ∙ next.2 }))
-    (chosen (is_line (codes "done") l) (done_at (whole_of h size) h.conflicts number ended log >>= λ closed. come (progress (size + 1) (low_with low ended size) Between)) (logged_at (whole_of h size) number ended log l >>= λ line. come (progress size low (Within ended (log ++ line ∷ [])))) (Ok next.0) next.1)
+    (chosen (is_line (codes "done") l) (done_at f h.conflicts number ended log >>= λ closed. come (before size (low_with low ended size) later)) (logged_at f number ended log l >>= λ line. come (progress size low (Within part later ended (log ++ line ∷ [])))) (Ok next.0) next.1)
 
-done_rest : (h : Heading) (number size : ℕ) (low : Option ℕ) (ended : Ended) (log : List theory.Line) (l : Line) (ls : List Line) (v : Verdict) → IsLog (whole_of h size) ended log → DoneCase h number size low ended log l ls v → Rest h (size + 1) (low_with low ended size) ls v → LogRest h size low ended log (l ∷ ls) v
-done_rest h number size low ended log l ls v is done rest = record {
+done_rest : (h : Heading) (number size : ℕ) (low : Option ℕ) (part : Part) (later : List Part) (ended : Ended) (log : List theory.Line) (l : Line) (ls : List Line) (v : Verdict) → IsLog (formula_of h size part) ended log → DoneCase h number size low part later ended log l ls v → PartsRest h size (low_with low ended size) later ls v → LogRest h size low part later ended log (l ∷ ls) v
+done_rest h number size low part later ended log l ls v is done rest = record {
   more = [];
-  ends_as = subst (λ (xs : List theory.Line). EndsAs (whole_of h size) h.conflicts ended xs) (sym (append-nil log)) (closed_is (whole_of h size) h.conflicts number ended log is done.closes);
+  ends_as = subst (λ (xs : List theory.Line). EndsAs (formula_of h size part) h.conflicts ended xs) (sym (append-nil log)) (closed_is (formula_of h size part) h.conflicts number ended log is done.closes);
   behind = ls;
   rest = rest;
   lines = λ i. is_line_spells (codes "done") l done.is_done i ∷ ls;
 }
 
-logged_rest : (h : Heading) (size : ℕ) (low : Option ℕ) (ended : Ended) (log : List theory.Line) (x : theory.Line) (l : Line) (ls : List Line) (v : Verdict) → l ≡ log_line x → LogRest h size low ended (log ++ x ∷ []) ls v → LogRest h size low ended log (l ∷ ls) v
-logged_rest h size low ended log x l ls v first rest = record {
+logged_rest : (h : Heading) (size : ℕ) (low : Option ℕ) (part : Part) (later : List Part) (ended : Ended) (log : List theory.Line) (x : theory.Line) (l : Line) (ls : List Line) (v : Verdict) → l ≡ log_line x → LogRest h size low part later ended (log ++ x ∷ []) ls v → LogRest h size low part later ended log (l ∷ ls) v
+logged_rest h size low part later ended log x l ls v first rest = record {
   more = x ∷ rest.more;
-  ends_as = subst (λ (xs : List theory.Line). EndsAs (whole_of h size) h.conflicts ended xs) (append_assoc log (x ∷ []) rest.more) rest.ends_as;
+  ends_as = subst (λ (xs : List theory.Line). EndsAs (formula_of h size part) h.conflicts ended xs) (append_assoc log (x ∷ []) rest.more) rest.ends_as;
   behind = rest.behind;
   rest = rest.rest;
   lines = λ i. first i ∷ rest.lines i;
@@ -304,29 +399,39 @@ logged_rest h size low ended log x l ls v first rest = record {
 pub sections_spell : (ls : List Line) (h : Heading) (number size : ℕ) (low : Option ℕ) (place : Place) (v : Verdict) → IsAt h size place → sections_of h number (progress size low place) ls ≡ Ok v → RestAt h size low place ls v
 unfolding sections_of
 sections_spell [] h number size low Between v is e = absurd cc
-sections_spell [] h number size low Begun v is e = absurd cc
-sections_spell [] h number size low (Within ended log) v is e = absurd cc
+sections_spell [] h number size low (Due sizes later) v is e = absurd cc
+sections_spell [] h number size low (Begun part later) v is e = absurd cc
+sections_spell [] h number size low (Within part later ended log) v is e = absurd cc
 sections_spell (l ∷ ls) h number size low Between v is e =
     let between = between_cases h number size low l ls v e in
     ⊎_elim
     (λ (ending : ending_at h number size low l ls ≡ Ok v). ended_rest h size low (l ∷ ls) v is (ending_spells h number size low l ls v ending))
-    (λ (begun : (size_at h number size l ≡ Ok tt) × (sections_of h (number + 1) (progress size low Begun) ls ≡ Ok v)).
+    (λ (begun : (size_at h number size l ≡ Ok tt) × (sections_of h (number + 1) (before size low (parts_of h size)) ls ≡ Ok v)).
     let first = size_spells h number size l begun.0 in
-    begun_rest h size low l ls v first.0 (sections_spell ls h (number + 1) size low Begun v first.1 begun.1))
+    let next = before size low (parts_of h size) in
+    size_rest h size low l ls v first.0 (before_rest h size low (parts_of h size) ls v (sections_spell ls h (number + 1) next.size next.low next.place v (at_before h size low (parts_of h size) first.1) begun.1)))
     between.cases
-sections_spell (l ∷ ls) h number size low Begun v is e =
-    let begun = begun_case h number size low l ls v e in
+sections_spell (l ∷ ls) h number size low (Due sizes later) v is e =
+    let due = due_case h number size low sizes later l ls v e in
+    record {
+      behind = ls;
+      rest = sections_spell ls h (number + 1) size low (Begun (Levels sizes) later) v is due.next;
+      lines = λ i. due.text i ∷ ls;
+    }
+sections_spell (l ∷ ls) h number size low (Begun part later) v is e =
+    let begun = begun_case h number size low part later l ls v e in
     record {
       ended = begun.ended;
       behind = ls;
-      rest = sections_spell ls h (number + 1) size low (Within begun.ended []) v (is, no_log (whole_of h size) begun.ended) begun.next;
+      rest = sections_spell ls h (number + 1) size low (Within part later begun.ended []) v (is, no_log (formula_of h size part) begun.ended) begun.next;
       lines = λ i. ended_spells number l begun.ended begun.read i ∷ ls;
     }
-sections_spell (l ∷ ls) h number size low (Within ended log) v is e =
+sections_spell (l ∷ ls) h number size low (Within part later ended log) v is e =
     ⊎_elim
-    (λ (done : DoneCase h number size low ended log l ls v).
-    done_rest h number size low ended log l ls v is.1 done (sections_spell ls h (number + 1) (size + 1) (low_with low ended size) Between v (omega (arith, is.0)) done.next))
-    (λ (logged : LoggedCase h number size low ended log l ls v).
-    let more = logged_is (whole_of h size) number ended log l logged.x is.1 logged.read in
-    logged_rest h size low ended log logged.x l ls v more.line_is (sections_spell ls h (number + 1) size low (Within ended (log ++ logged.x ∷ [])) v (is.0, more.log_is) logged.next))
-    (within_cases h number size low ended log l ls v e)
+    (λ (done : DoneCase h number size low part later ended log l ls v).
+    let next = before size (low_with low ended size) later in
+    done_rest h number size low part later ended log l ls v is.1 done (before_rest h size (low_with low ended size) later ls v (sections_spell ls h (number + 1) next.size next.low next.place v (at_before h size (low_with low ended size) later is.0) done.next)))
+    (λ (logged : LoggedCase h number size low part later ended log l ls v).
+    let more = logged_is (formula_of h size part) number ended log l logged.x is.1 logged.read in
+    logged_rest h size low part later ended log logged.x l ls v more.line_is (sections_spell ls h (number + 1) size low (Within part later ended (log ++ logged.x ∷ [])) v (is.0, more.log_is) logged.next))
+    (within_cases h number size low part later ended log l ls v e)

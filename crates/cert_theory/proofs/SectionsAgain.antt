@@ -1,4 +1,5 @@
 -- Sections and endings that were written are read again.
+use Rattle.cert_theory.specs.Coding.{is_titled}
 use Rattle.std.proofs.Common.{◌≡◌, ℕ, ◌+◌, ◌<◌, ◌≤◌, ◌==◌, ◌&&◌, Bool, true, false, not, cond, List, [], ◌∷◌, ◌++◌, length, map, Option, Some, None, Result, Ok, Err, refl, sym, ap, ◌∙◌, subst, arith, append_assoc, append-nil}
 use Rattle.std.specs.Prelude.{codes, nat_le}
 use Rattle.std.proofs.lemmas.Bool.Decides.{nat_tests}
@@ -22,16 +23,17 @@ use Rattle.chain_core.specs.Block.{body_from}
 use Rattle.chain_core.specs.Steps.{IsSmallChain}
 use Rattle.chain_core.specs.Spelling.{line, count_text, step_lines, out_line}
 use Rattle.chain_core.proofs.WrittenBlocks.{count_at_back, lines_read}
+use Rattle.enc_frame.specs.declared.part.Part.{Part}
 use Rattle.cert_theory.specs.declared.data.Heading.{Heading}
 use Rattle.cert_theory.specs.declared.data.Ended.{Ended}
 use Rattle.cert_theory.specs.declared.data.Ended.TheVariants as ends
 use Rattle.cert_theory.specs.declared.data.Verdict.{Verdict}
 use Rattle.cert_theory.specs.declared.data.BundleError.{BundleError}
 use Rattle.cert_theory.specs.declared.data.BundleError.TheVariants.{SizeOutOfOrder, NotRefuted, WrongVerdict, OpenTooShort, NotNew}
-use Rattle.cert_theory.specs.Bundle.{IsHeading, EndsAs, found, not_found, IsFound, IsEnding}
+use Rattle.cert_theory.specs.Bundle.{IsHeading, EndsAs, found, not_found, IsFound, IsEnding, formula_of}
 use Rattle.cert_theory.specs.Spelling.{done_text, log_line, verdict_line, end_text, ending_lines}
 use Rattle.cert_theory.specs.Difference.{difference_of}
-use Rattle.cert_theory.specs.Judging.{◌>>=◌, or_syntax, as_syntax, begins, state_after, refused, or_not_new, logged_at, done_at, has_empty, Between, Within, Progress, low_with, whole_of, section_at, ending_at, sections_of, found_in, not_found_in, follows, end_of, behind_chain, chain_place, steps_at, frame_of, or_differs, or_outside, chain_judged, with_block, chain_at, no_chain_at}
+use Rattle.cert_theory.specs.Judging.{◌>>=◌, or_syntax, as_syntax, begins, state_after, refused, or_not_new, logged_at, done_at, has_empty, Between, Within, Progress, low_with, section_at, ending_at, sections_of, found_in, not_found_in, follows, end_of, behind_chain, chain_place, steps_at, frame_of, or_differs, or_outside, chain_judged, with_block, chain_at, no_chain_at, before, verdict_at, is_title}
 use Rattle.cert_theory.proofs.EmptyClauses.{empty_has, has_is}
 use Rattle.cert_theory.proofs.FreshLines.{test_from_fresh}
 use Rattle.cert_theory.proofs.ChainFaults.{outside_is, difference_is}
@@ -72,6 +74,16 @@ no_size_begins : (max : ℕ) (low : Option ℕ) → begins (codes "size ") (line
 unfolding verdict_line after
 no_size_begins max None = refl
 no_size_begins max (Some low) = refl
+
+no_title : (max : ℕ) (low : Option ℕ) → is_title (line (verdict_line (not_found max low))) ≡ false
+unfolding verdict_line is_title after
+no_title max None = refl
+no_title max (Some low) = refl
+
+-- what isn't a title is read as a verdict
+verdict_plain : (titled : Bool) (number : ℕ) (l : Line) → is_title l ≡ false → verdict_at titled number l ≡ or_syntax number (not_found_in l)
+verdict_plain true number l e = ap (λ (b : Bool). cond b (Err (NotRefuted number)) (or_syntax number (not_found_in l))) e
+verdict_plain false number l e = refl
 
 chain_begins : (r : ℕ) → begins (codes "chain ") (line (count_text r)) ≡ true
 unfolding count_text after
@@ -142,6 +154,7 @@ not_found_last h number size low complete fits short =
     let v = not_found h.max low in
     let all : (size == h.max + 1) ≡ true = rw complete (eq_same (h.max + 1)) in
     ap (λ (t : Bool). cond t (chain_at h number size low (line (verdict_line v)) (line end_text ∷ [])) (no_chain_at h number size low (line (verdict_line v)) (line end_text ∷ []))) (no_chain_begins h.max low)
+    ∙ ap (λ (r : Result Verdict BundleError). r >>= λ read. follows number (size == h.max + 1) v read >>= λ w. end_of (number + 1) w (line end_text ∷ [])) (verdict_plain (is_titled h.method) number (line (verdict_line v)) (no_title h.max low))
     ∙ ap (λ (t : Bool). or_syntax number (not_found_in (line (verdict_line v))) >>= λ read. follows number t v read >>= λ w. end_of (number + 1) w (line end_text ∷ [])) all
     ∙ last_again number v (not_found_in (line (verdict_line v))) (not_found_again h.max low fits short)
 
@@ -197,27 +210,28 @@ done_again f conflicts number ends.Open log is =
     ap (λ (t : Bool). cond t (Err (WrongVerdict number)) (cond (nat_le conflicts (length (added_ids log))) fine (Err (OpenTooShort number)))) (none_false (has_empty f log) (λ yes_. is.open_yet (empty_has f log yes_)))
     ∙ ap (λ (t : Bool). cond t fine (Err (OpenTooShort number))) (le_back conflicts (length (added_ids log)) is.enough)
 
-abbrev pub Onward : Heading → ℕ → Option ℕ → List Line → Verdict → Type 0
-Onward h size low behind v = (number : ℕ) → sections_of h number (progress size low Between) behind ≡ Ok v
+abbrev pub Onward : Heading → ℕ → Option ℕ → List Part → List Line → Verdict → Type 0
+Onward h size low later behind v = (number : ℕ) → sections_of h number (before size low later) behind ≡ Ok v
 
 abbrev come : Progress → Result Progress BundleError
 come p = Ok p
 
-pub within_again : (more : List theory.Line) (h : Heading) (number size : ℕ) (low : Option ℕ) (ended : Ended) (log : List theory.Line) (behind : List Line) (v : Verdict)
-    → AreClauses (state_after (whole_of h size) log).live → EachLine IsStep (state_after (whole_of h size) log) more → WasFresh ended (state_after (whole_of h size) log) more → EndsAs (whole_of h size) h.conflicts ended (log ++ more)
-    → Onward h (size + 1) (low_with low ended size) behind v → sections_of h number (progress size low (Within ended log)) (map log_line more ++ line done_text ∷ behind) ≡ Ok v
+pub within_again : (more : List theory.Line) (h : Heading) (number size : ℕ) (low : Option ℕ) (part : Part) (later : List Part) (ended : Ended) (log : List theory.Line) (behind : List Line) (v : Verdict)
+    → AreClauses (state_after (formula_of h size part) log).live → EachLine IsStep (state_after (formula_of h size part) log) more → WasFresh ended (state_after (formula_of h size part) log) more → EndsAs (formula_of h size part) h.conflicts ended (log ++ more)
+    → Onward h size (low_with low ended size) later behind v → sections_of h number (progress size low (Within part later ended log)) (map log_line more ++ line done_text ∷ behind) ≡ Ok v
 unfolding sections_of EachLine
-within_again [] h number size low ended log behind v clauses steps fresh ends_as onward =
-    let closes = done_again (whole_of h size) h.conflicts number ended log (subst (λ (xs : List theory.Line). EndsAs (whole_of h size) h.conflicts ended xs) (append-nil log) ends_as) in
-    ap (λ (r : Result (Unit {0}) BundleError). (r >>= λ closed. come (progress (size + 1) (low_with low ended size) Between)) >>= go_on h number behind) closes
+within_again [] h number size low part later ended log behind v clauses steps fresh ends_as onward =
+    let f = formula_of h size part in
+    let closes = done_again f h.conflicts number ended log (subst (λ (xs : List theory.Line). EndsAs f h.conflicts ended xs) (append-nil log) ends_as) in
+    ap (λ (r : Result (Unit {0}) BundleError). (r >>= λ closed. come (before size (low_with low ended size) later)) >>= go_on h number behind) closes
     ∙ onward (number + 1)
-within_again (x ∷ more) h number size low ended log behind v clauses steps fresh ends_as onward =
-    let f = whole_of h size in
+within_again (x ∷ more) h number size low part later ended log behind v clauses steps fresh ends_as onward =
+    let f = formula_of h size part in
     let ls = map log_line more ++ line done_text ∷ behind in
     let state : state_after f (log ++ x ∷ []) ≡ next (state_after f log) x = after-push (start f) log x in
-    ap (λ (t : Bool). cond t (done_at f h.conflicts number ended log >>= λ closed. come (progress (size + 1) (low_with low ended size) Between)) (logged_at f number ended log (log_line x) >>= λ line. come (progress size low (Within ended (log ++ line ∷ [])))) >>= go_on h number ls) (not_done x steps.0.is_line)
-    ∙ ap (λ (r : Result theory.Line BundleError). (r >>= λ line. come (progress size low (Within ended (log ++ line ∷ [])))) >>= go_on h number ls) (logged_again f number ended log x more clauses steps.0 fresh)
-    ∙ within_again more h (number + 1) size low ended (log ++ x ∷ []) behind v
+    ap (λ (t : Bool). cond t (done_at f h.conflicts number ended log >>= λ closed. come (before size (low_with low ended size) later)) (logged_at f number ended log (log_line x) >>= λ line. come (progress size low (Within part later ended (log ++ line ∷ [])))) >>= go_on h number ls) (not_done x steps.0.is_line)
+    ∙ ap (λ (r : Result theory.Line BundleError). (r >>= λ line. come (progress size low (Within part later ended (log ++ line ∷ [])))) >>= go_on h number ls) (logged_again f number ended log x more clauses steps.0 fresh)
+    ∙ within_again more h (number + 1) size low part later ended (log ++ x ∷ []) behind v
     (subst (λ (s : State). AreClauses s.live) (sym state) (next_clauses (state_after f log) x clauses steps.0))
     (subst (λ (s : State). EachLine IsStep s more) (sym state) steps.1)
     (subst (λ (s : State). WasFresh ended s more) (sym state) (fresh_more ended (state_after f log) x more fresh))

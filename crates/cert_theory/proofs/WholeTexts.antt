@@ -1,7 +1,11 @@
 -- The lines of a bundle are those of its text.
+use Rattle.cert_theory.specs.CodingLaws.{HasShortTitle}
+use Rattle.enc_frame.specs.declared.part.Part.{Part}
+use Rattle.enc_frame.specs.declared.part.Part.TheVariants.{Whole, Levels}
+use Rattle.std.proofs.lemmas.List.Elements.{recursion_from_All}
 use Rattle.std.proofs.Common.{◌≡◌, ℕ, zero, suc, ◌+◌, ◌^◌, ◌<◌, ◌==◌, Bool, true, false, cond, List, [], ◌∷◌, ◌++◌, length, map, Option, Some, None, refl, sym, ap, ◌∙◌, arith, append_assoc, append-nil}
 use Rattle.std.specs.Prelude.{codes, decimal}
-use Rattle.std.specs.List.{range_with_len}
+use Rattle.std.specs.List.{range_with_len, AllByRecursion, flat_map}
 use Rattle.std.proofs.lemmas.Grind.{common_steps, flat_map-append}
 use Rattle.text_core.specs.Lines.{Line, lines_of, line_bytes}
 use Rattle.text_core.specs.Words.{is_free}
@@ -31,7 +35,7 @@ use Rattle.cert_theory.specs.declared.data.Ended.TheVariants as ends
 use Rattle.cert_theory.specs.declared.data.Verdict.{Verdict}
 use Rattle.cert_theory.specs.declared.data.Verdict.TheVariants as verdicts
 use Rattle.cert_theory.specs.Coding.{method_text}
-use Rattle.cert_theory.specs.Spelling.{text_of, table_text, table_line, tables_lines, basis_line, method_line, conflicts_line, max_line, first_text, heading_lines, size_line, ended_text, done_text, log_line, verdict_line, end_text}
+use Rattle.cert_theory.specs.Spelling.{text_of, table_text, table_line, tables_lines, basis_line, method_line, conflicts_line, max_line, first_text, heading_lines, size_line, ended_text, done_text, log_line, verdict_line, end_text, title_text, title_lines}
 
 -- lines that are read from their text, whatever follows
 pub record IsWhole (ls : List Line) : Type 0 where
@@ -195,6 +199,16 @@ free_end = refl
 
 pub whole_ended : (ended : Ended) → IsWhole (line (ended_text ended) ∷ [])
 whole_ended ended = whole_line (ended_text ended) (free_ended ended)
+
+free_sizes : (sizes : List ℕ) → AllByRecursion (λ size. size < 2 ^ 64) sizes → is_free 10 (flat_map (λ size. 32 ∷ decimal size) sizes) ≡ true
+unfolding is_free
+free_sizes [] low = refl
+free_sizes (q ∷ qs) low = free_both 10 (32 ∷ decimal q) (flat_map (λ size. 32 ∷ decimal size) qs) (free_decimal 10 q (omega arith) low.0) (free_sizes qs low.1)
+
+pub whole_title : (part : Part) → HasShortTitle part → IsWhole (title_lines part)
+unfolding title_lines title_text HasShortTitle is_free
+whole_title Whole short = whole_none
+whole_title (Levels sizes) short = whole_line (codes "fence" ++ flat_map (λ size. 32 ∷ decimal size) sizes) (free_both 10 (codes "fence") (flat_map (λ size. 32 ∷ decimal size) sizes) refl (free_sizes sizes (recursion_from_All (λ size. size < 2 ^ 64) sizes short)))
 
 pub whole_done : IsWhole (line done_text ∷ [])
 whole_done = whole_line done_text free_done

@@ -32,6 +32,13 @@ is_built Ssv = true
 is_built Select = true
 is_built Fence = false
 
+-- by fences the parts of a size bear titles
+abbrev pub is_titled : Method → Bool
+is_titled Plain = false
+is_titled Ssv = false
+is_titled Select = false
+is_titled Fence = true
+
 -- the coding of a method that is built; of another one nothing is asked
 unfoldable pub coding_of : Method → Coding
 coding_of Plain = plain_coding

@@ -32,7 +32,8 @@ use Rattle.chain_core.specs.Outside.{outside_from}
 use Rattle.chain_core.specs.declared.frame.Frame.{Frame}
 use Rattle.chain_core.specs.declared.error.ChainError.{ChainError}
 use Rattle.chain_core.specs.declared.error.ChainError.TheVariants as chain_errors
-use Rattle.enc_frame.specs.declared.part.Part.TheVariants.{Whole}
+use Rattle.enc_frame.specs.declared.part.Part.{Part}
+use Rattle.enc_frame.specs.declared.part.Part.TheVariants.{Whole, Levels}
 use Rattle.enc_theory.specs.declared.data.Method.{Method}
 use Rattle.enc_theory.specs.declared.data.Method.TheVariants.{Plain, Ssv, Select}
 use Rattle.cert_theory.specs.declared.data.Heading.{Heading}
@@ -42,8 +43,9 @@ use Rattle.cert_theory.specs.declared.data.Verdict.{Verdict}
 use Rattle.cert_theory.specs.declared.data.Verdict.TheVariants as verdicts
 use Rattle.cert_theory.specs.declared.data.BundleError.{BundleError}
 use Rattle.cert_theory.specs.declared.data.BundleError.TheVariants.{Syntax, SizeOutOfOrder, StepRefused, NotRefuted, ChainDiffers, OperatorNotInBasis, OpenTooShort, NotNew, WrongVerdict}
-use Rattle.cert_theory.specs.Coding.{method_text}
-use Rattle.cert_theory.specs.Bundle.{formula_of, found, not_found}
+use Rattle.cert_theory.specs.Coding.{is_titled, method_text}
+use Rattle.cert_theory.specs.Spelling.{title_text}
+use Rattle.cert_theory.specs.Bundle.{parts_of, formula_of, found, not_found}
 use Rattle.cert_theory.specs.Difference.{difference_of}
 
 infixl 10 ◌>>=◌
@@ -168,67 +170,7 @@ closed empty additions conflicts number ends.Open = if empty then Err (WrongVerd
 unfoldable pub done_at : Formula → ℕ → ℕ → Ended → List theory.Line → Result Unit BundleError
 done_at f conflicts number ended log = closed (has_empty f log) (length (logs.added_ids log)) conflicts number ended
 
--- ---- sections
-
--- where the lines of a section have come: none is read, its size is, or a log has begun and has these lines
-pub data Place : Type 0 where
-  Between : Place
-  Begun : Place
-  Within : (ended : Ended) (log : List theory.Line) → Place
-
--- the size that is next or runs, the first open size before it, and the place in its section
-pub record Progress : Type 0 where
-  pub size : ℕ
-  pub low : Option ℕ
-  pub place : Place
-
-abbrev pub beginning : Progress
-beginning = record { size = 0; low = None; place = Between }
-
--- the first open size, with one size more
-abbrev pub low_with : Option ℕ → Ended → ℕ → Option ℕ
-low_with (Some low) ended size = Some low
-low_with None ends.Refuted size = None
-low_with None ends.Open size = Some size
-
-unfoldable pub size_at : Heading → ℕ → ℕ → Line → Result Unit BundleError
-size_at h number size l = do
-  stated ← or_syntax number (option_and_then block.number_in (value_of (codes "size ") l))
-  (if stated == size && nat_le stated h.max then Ok tt else Err (SizeOutOfOrder number))
-
-unfoldable pub ended_at : ℕ → Line → Result Ended BundleError
-ended_at number l = if is_line (codes "refuted") l then Ok ends.Refuted else (if is_line (codes "open") l then Ok ends.Open else Err (Syntax number))
-
--- the formula of the whole of a size
-abbrev pub whole_of : Heading → ℕ → Formula
-whole_of h size = formula_of h size Whole
-
-abbrev pub within_at : Heading → ℕ → ℕ → Option ℕ → Ended → List theory.Line → Line → Result Progress BundleError
-within_at h number size low ended log l =
-    if is_line (codes "done") l
-    then (done_at (whole_of h size) h.conflicts number ended log >>= λ closed. Ok (record { size = size + 1; low = low_with low ended size; place = Between }))
-    else (logged_at (whole_of h size) number ended log l >>= λ line. Ok (record { size = size; low = low; place = Within ended (log ++ line ∷ []) }))
-
--- a line of a section
-abbrev pub section_at : Heading → ℕ → ℕ → Option ℕ → Place → Line → Result Progress BundleError
-section_at h number size low Between l = size_at h number size l >>= λ begun. Ok (record { size = size; low = low; place = Begun })
-section_at h number size low Begun l = ended_at number l >>= λ ended. Ok (record { size = size; low = low; place = Within ended [] })
-section_at h number size low (Within ended log) l = within_at h number size low ended log l
-
--- no section begins with this line
-abbrev pub ends_sections : Place → Line → Bool
-ends_sections Between l = not (begins (codes "size ") l)
-ends_sections Begun l = false
-ends_sections (Within ended log) l = false
-
--- ---- the ending
-
-abbrev pub is_same : Verdict → Verdict → Bool
-is_same (verdicts.Minimum r) (verdicts.Minimum q) = r == q
-is_same (verdicts.NoChain x) (verdicts.NoChain y) = x == y
-is_same (verdicts.Bounded low r) (verdicts.Bounded least q) = low == least && r == q
-is_same (verdicts.Open low) (verdicts.Open least) = low == least
-is_same v w = false
+-- ---- verdicts, as they are written
 
 abbrev pub number_behind : List ℕ → Line → Option ℕ
 number_behind word l = option_and_then block.number_in (value_of word l)
@@ -254,6 +196,103 @@ not_found_in l =
     if begins (codes "none ") l
     then option_map (λ x. verdicts.NoChain x) (number_behind (codes "none ") l)
     else option_map (λ low. verdicts.Open low) (number_behind (codes "open ") l)
+
+-- ---- sections
+
+-- Where the lines of a section have come: none is read; the title of a fence is due; a part is named,
+-- and its log is due; or the log of a part has begun, and has these lines. Behind each stand the parts
+-- that are due later.
+pub data Place : Type 0 where
+  Between : Place
+  Due : (sizes : List ℕ) (later : List Part) → Place
+  Begun : (part : Part) (later : List Part) → Place
+  Within : (part : Part) (later : List Part) (ended : Ended) (log : List theory.Line) → Place
+
+-- the size that is next or runs, the first open size before it, and the place in its section
+pub record Progress : Type 0 where
+  pub size : ℕ
+  pub low : Option ℕ
+  pub place : Place
+
+abbrev pub beginning : Progress
+beginning = record { size = 0; low = None; place = Between }
+
+-- before the first of the parts that are due; where none is, the section is whole
+unfoldable pub before : ℕ → Option ℕ → List Part → Progress
+before size low [] = record { size = size + 1; low = low; place = Between }
+before size low (Whole ∷ later) = record { size = size; low = low; place = Begun Whole later }
+before size low (Levels sizes ∷ later) = record { size = size; low = low; place = Due sizes later }
+
+-- the first open size, with one size more
+abbrev pub low_with : Option ℕ → Ended → ℕ → Option ℕ
+low_with (Some low) ended size = Some low
+low_with None ends.Refuted size = None
+low_with None ends.Open size = Some size
+
+unfoldable pub size_at : Heading → ℕ → ℕ → Line → Result Unit BundleError
+size_at h number size l = do
+  stated ← or_syntax number (option_and_then block.number_in (value_of (codes "size ") l))
+  (if stated == size && nat_le stated h.max then Ok tt else Err (SizeOutOfOrder number))
+
+unfoldable pub ended_at : ℕ → Line → Result Ended BundleError
+ended_at number l = if is_line (codes "refuted") l then Ok ends.Refuted else (if is_line (codes "open") l then Ok ends.Open else Err (Syntax number))
+
+-- numbers by their form alone, of nine digits at most
+abbrev pub are_numbers : List (List ℕ) → Bool
+are_numbers words = list_all (λ word. is_some (block.number_in word)) words
+
+abbrev pub is_list : List ℕ → Bool
+is_list [] = true
+is_list (c ∷ cs) = c == 32 && are_numbers (items_of cs)
+
+abbrev pub is_list_in : Option (List ℕ) → Bool
+is_list_in None = false
+is_list_in (Some rest) = is_list rest
+
+-- whether a line is the title of a fence, of whatever numbers
+unfoldable pub is_title : Line → Bool
+is_title l = is_list_in (value_of (codes "fence") l)
+
+abbrev pub is_read : {A E : Type 0} → Result A E → Bool
+is_read (Ok x) = true
+is_read (Err e) = false
+
+-- whether a line could stand where a title is due: another title, or what stands behind a section
+unfoldable pub may_follow : ℕ → Line → Bool
+may_follow number l = is_title l || is_some (option_and_then block.number_in (value_of (codes "size ") l)) || is_read (block.count_at number l) || is_some (not_found_in l)
+
+-- the title that is due
+unfoldable pub title_at : ℕ → List ℕ → Line → Result Unit BundleError
+title_at number sizes l = if is_line (title_text sizes) l then Ok tt else (if may_follow number l then Err (NotRefuted number) else Err (Syntax number))
+
+abbrev pub within_at : Heading → ℕ → ℕ → Option ℕ → Part → List Part → Ended → List theory.Line → Line → Result Progress BundleError
+within_at h number size low part later ended log l =
+    if is_line (codes "done") l
+    then (done_at (formula_of h size part) h.conflicts number ended log >>= λ closed. Ok (before size (low_with low ended size) later))
+    else (logged_at (formula_of h size part) number ended log l >>= λ line. Ok (record { size = size; low = low; place = Within part later ended (log ++ line ∷ []) }))
+
+-- a line of a section
+abbrev pub section_at : Heading → ℕ → ℕ → Option ℕ → Place → Line → Result Progress BundleError
+section_at h number size low Between l = size_at h number size l >>= λ begun. Ok (before size low (parts_of h size))
+section_at h number size low (Due sizes later) l = title_at number sizes l >>= λ titled. Ok (record { size = size; low = low; place = Begun (Levels sizes) later })
+section_at h number size low (Begun part later) l = ended_at number l >>= λ ended. Ok (record { size = size; low = low; place = Within part later ended [] })
+section_at h number size low (Within part later ended log) l = within_at h number size low part later ended log l
+
+-- no section begins with this line
+abbrev pub ends_sections : Place → Line → Bool
+ends_sections Between l = not (begins (codes "size ") l)
+ends_sections (Due sizes later) l = false
+ends_sections (Begun part later) l = false
+ends_sections (Within part later ended log) l = false
+
+-- ---- the ending
+
+abbrev pub is_same : Verdict → Verdict → Bool
+is_same (verdicts.Minimum r) (verdicts.Minimum q) = r == q
+is_same (verdicts.NoChain x) (verdicts.NoChain y) = x == y
+is_same (verdicts.Bounded low r) (verdicts.Bounded least q) = low == least && r == q
+is_same (verdicts.Open low) (verdicts.Open least) = low == least
+is_same v w = false
 
 -- the verdict is the one that follows
 abbrev pub follows : ℕ → Bool → Verdict → Verdict → Result Verdict BundleError
@@ -315,10 +354,14 @@ with_block h f low read = do
 abbrev pub chain_at : Heading → ℕ → ℕ → Option ℕ → Line → List Line → Result Verdict BundleError
 chain_at h number size low l ls = steps_at h number size l >>= λ steps. with_block h (frame_of h number steps) low (block.body_from (frame_of h number steps) ls)
 
+-- By fences a title where no part is due any more is a fault of its own.
+abbrev pub verdict_at : Bool → ℕ → Line → Result Verdict BundleError
+verdict_at titled number l = if titled && is_title l then Err (NotRefuted number) else or_syntax number (not_found_in l)
+
 -- the verdict where no chain stands: all sizes have to be there
 abbrev pub no_chain_at : Heading → ℕ → ℕ → Option ℕ → Line → List Line → Result Verdict BundleError
 no_chain_at h number size low l ls = do
-  read ← or_syntax number (not_found_in l)
+  read ← verdict_at (is_titled h.method) number l
   v ← follows number (size == h.max + 1) (not_found h.max low) read
   end_of (number + 1) v ls
 

@@ -73,9 +73,12 @@ unfoldable pub size_line : ℕ → List ℕ
 size_line size = codes "size " ++ decimal size
 
 -- a fence bears its levels' sizes, and the whole bears no title
+unfoldable pub title_text : List ℕ → List ℕ
+title_text sizes = codes "fence" ++ flat_map (λ size. 32 ∷ decimal size) sizes
+
 unfoldable pub title_lines : Part → List Line
 title_lines Whole = []
-title_lines (Levels sizes) = line (codes "fence" ++ flat_map (λ size. 32 ∷ decimal size) sizes) ∷ []
+title_lines (Levels sizes) = line (title_text sizes) ∷ []
 
 abbrev pub ended_text : Ended → List ℕ
 ended_text ends.Refuted = codes "refuted"
