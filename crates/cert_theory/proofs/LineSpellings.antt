@@ -26,7 +26,7 @@ use Rattle.chain_core.specs.Block.{number_in}
 use Rattle.chain_core.specs.Spelling.{line}
 use Rattle.chain_core.proofs.WrittenLists.{line_is}
 use Rattle.enc_theory.specs.declared.data.Method.{Method}
-use Rattle.enc_theory.specs.declared.data.Method.TheVariants.{Plain, Ssv, Select}
+use Rattle.enc_theory.specs.declared.data.Method.TheVariants.{Plain, Ssv, Select, Fence}
 use Rattle.cert_theory.specs.declared.data.Ended.{Ended}
 use Rattle.cert_theory.specs.declared.data.Ended.TheVariants as ends
 use Rattle.cert_theory.specs.declared.data.BundleError.{BundleError}
@@ -122,7 +122,7 @@ none_named : (word : List ℕ) (m : Method) → None ≡ Some m → IsNamed word
 none_named word m e = absurd cc
 
 named_method_is : (word : List ℕ) (m : Method) → named_method word ≡ Some m → IsNamed word m
-named_method_is word m e = named_or word m Plain _ refl (named_or word m Ssv _ refl (named_or word m Select None refl (none_named word m))) e
+named_method_is word m e = named_or word m Plain _ refl (named_or word m Ssv _ refl (named_or word m Select _ refl (named_or word m Fence None refl (none_named word m)))) e
 
 pub method_spells : (l : Line) (m : Method) → method_in l ≡ Some m → (l ≡ line (method_line m)) × (is_built m ≡ true)
 unfolding method_in method_line

@@ -51,7 +51,7 @@ method_again Plain built =
     ap (option_and_then named_method) (value_back (codes "method ") (method_text Plain)) ∙ refl
 method_again Ssv built = ap (option_and_then named_method) (value_back (codes "method ") (method_text Ssv)) ∙ refl
 method_again Select built = ap (option_and_then named_method) (value_back (codes "method ") (method_text Select)) ∙ refl
-method_again Fence built = absurd cc
+method_again Fence built = ap (option_and_then named_method) (value_back (codes "method ") (method_text Fence)) ∙ refl
 
 one_again : (k : ℕ) → 1 ≤ k → from_one k ≡ Some k
 one_again k some = grind (arith, common_steps)

@@ -48,7 +48,7 @@ size_step h number size low ls fits few =
 
 title_again : (number : ℕ) (sizes : List ℕ) → title_at number sizes (line (title_text sizes)) ≡ Ok tt
 unfolding title_at
-title_again number sizes = ap (λ (t : Bool). let r : Result (Unit {0}) BundleError = cond t (Ok tt) (cond (may_follow number (line (title_text sizes))) (Err (NotRefuted number)) (Err (Syntax number))) in r) (is_line_back (title_text sizes))
+title_again number sizes = ap (λ (t : Bool). let r : Result (Unit {0}) BundleError = cond t (Ok tt) (cond (may_follow (line (title_text sizes))) (Err (NotRefuted number)) (Err (Syntax number))) in r) (is_line_back (title_text sizes))
 
 title_step : (h : Heading) (number size : ℕ) (low : Option ℕ) (sizes : List ℕ) (later : List Part) (ls : List Line) → sections_of h number (progress size low (Due sizes later)) (line (title_text sizes) ∷ ls) ≡ sections_of h (number + 1) (progress size low (Begun (Levels sizes) later)) ls
 unfolding sections_of

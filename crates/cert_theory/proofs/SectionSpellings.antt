@@ -324,8 +324,8 @@ unfolding title_at
 title_spells number sizes l e =
     ⊎_elim
     (λ (yes_ : (is_line (title_text sizes) l ≡ true) × (fine ≡ Ok tt)). is_line_spells (title_text sizes) l yes_.0)
-    (λ (no_ : (is_line (title_text sizes) l ≡ false) × (cond (may_follow number l) (Err (NotRefuted number)) (Err (Syntax number)) ≡ Ok tt)). absurd (none (may_follow number l) no_.1))
-    (chosen (is_line (title_text sizes) l) fine (cond (may_follow number l) (Err (NotRefuted number)) (Err (Syntax number))) (Ok tt) e)
+    (λ (no_ : (is_line (title_text sizes) l ≡ false) × (cond (may_follow l) (Err (NotRefuted number)) (Err (Syntax number)) ≡ Ok tt)). absurd (none (may_follow l) no_.1))
+    (chosen (is_line (title_text sizes) l) fine (cond (may_follow l) (Err (NotRefuted number)) (Err (Syntax number))) (Ok tt) e)
   where
     none : (b : Bool) → cond b (Err (NotRefuted number)) (Err (Syntax number)) ≡ fine → ⊥
     none true e = cc

@@ -5,6 +5,8 @@ use Rattle.tt_core.specs.Words.{Words}
 use Rattle.enc_theory.specs.Plain.{plain_formula}
 use Rattle.enc_theory.specs.Ssv.{ssv_formula}
 use Rattle.enc_theory.specs.Select.{select_formula}
+use Rattle.enc_theory.specs.Fence.{fence_formula}
+use Rattle.enc_fence.specs.Parts.{parts_for, fence_in}
 use Rattle.enc_frame.specs.declared.part.Part.{Part}
 use Rattle.enc_frame.specs.declared.part.Part.TheVariants.{Whole}
 use Rattle.enc_theory.specs.declared.data.Method.{Method}
@@ -25,12 +27,16 @@ ssv_coding = record { parts = λ w r. Whole ∷ []; formula = λ w basis r part.
 abbrev pub select_coding : Coding
 select_coding = record { parts = λ w r. Whole ∷ []; formula = λ w basis r part. select_formula w basis r }
 
--- the methods whose bundles are known so far
+-- a part for each fence that is listed
+abbrev pub fence_coding : Coding
+fence_coding = record { parts = λ w r. parts_for w r; formula = λ w basis r part. fence_formula w basis r (fence_in part) }
+
+-- the methods whose bundles are known
 abbrev pub is_built : Method → Bool
 is_built Plain = true
 is_built Ssv = true
 is_built Select = true
-is_built Fence = false
+is_built Fence = true
 
 -- by fences the parts of a size bear titles
 abbrev pub is_titled : Method → Bool
@@ -39,12 +45,12 @@ is_titled Ssv = false
 is_titled Select = false
 is_titled Fence = true
 
--- the coding of a method that is built; of another one nothing is asked
+-- the coding of a method
 unfoldable pub coding_of : Method → Coding
 coding_of Plain = plain_coding
 coding_of Ssv = ssv_coding
 coding_of Select = select_coding
-coding_of Fence = plain_coding
+coding_of Fence = fence_coding
 
 abbrev pub method_text : Method → List ℕ
 method_text Plain = codes "plain"

@@ -1,6 +1,6 @@
 -- What the formulas of a method have to mean for its verdicts to be true.
-use Rattle.std.specs.Prelude.{◌≡◌, ℕ, ◌≤◌, ◌<◌, ◌^◌, [], ◌∷◌, All, Contains, slice_index_or, refl}
-use Rattle.std.proofs.Common.{zero, suc, subst, arith}
+use Rattle.std.specs.Prelude.{◌≡◌, ℕ, ◌≤◌, ◌<◌, ◌^◌, List, [], ◌∷◌, All, Contains, slice_index_or, sum, length, map, refl}
+use Rattle.std.proofs.Common.{zero, suc, subst, arith, ap}
 use Rattle.chain_theory.specs.Agreement.{IsMinimum}
 use Rattle.sat_theory.specs.Formula.{IsFormula}
 use Rattle.tt_core.specs.Words.{Words, IsSpec, specification}
@@ -11,9 +11,17 @@ use Rattle.enc_theory.specs.declared.data.Method.TheVariants.{Plain, Ssv, Select
 use Rattle.enc_laws.specs.Laws.{plain_complete, plain_is_formula}
 use Rattle.enc_laws.specs.Ssv.{ssv_complete, ssv_is_formula}
 use Rattle.enc_laws.specs.Select.{select_complete, select_is_formula}
+use Rattle.enc_laws.specs.Fence.{fence_is_formula}
+use Rattle.fence_core.specs.Fence.{IsFenceOf, listed_fences}
+use Rattle.fence_core.specs.Listing.{sum-cons, fences_are_listed}
+use Rattle.tt_core.specs.Live.{live_words}
+use Rattle.enc_fence.specs.Parts.{parts_for, fence_in}
+use Rattle.enc_fence.specs.FenceLaws.{is_complete}
+use Rattle.std.specs.List.{AllByRecursion}
+use Rattle.std.proofs.lemmas.List.Elements.{All-from_recursion, recursion_from_All}
 use Rattle.enc_frame.specs.declared.part.Part.{Part}
 use Rattle.enc_frame.specs.declared.part.Part.TheVariants.{Whole, Levels}
-use Rattle.cert_theory.specs.Coding.{Coding, plain_coding, ssv_coding, select_coding, coding_of}
+use Rattle.cert_theory.specs.Coding.{Coding, plain_coding, ssv_coding, select_coding, fence_coding, coding_of}
 
 -- the numbers of a part's title can be read
 unfoldable pub HasShortTitle : Part → Type 0
@@ -58,10 +66,43 @@ select_is_coding = record {
   complete = λ w basis r spec few some minimum. (Whole, (0, omega arith, refl), select_complete w basis r minimum);
 }
 
+-- the levels of a fence have no more steps than the fence
+short_levels : (fence : List ℕ) (r : ℕ) → r ≤ 16 → sum fence ≤ r → AllByRecursion (λ size. size < 2 ^ 64) fence
+short_levels [] r few within = tt
+short_levels (q ∷ qs) r few within =
+    let total = sum-cons q qs in
+    (omega arith, short_levels qs r few (omega arith))
+
+short_fences : (r m : ℕ) (fences : List (List ℕ)) → r ≤ 16 → AllByRecursion (IsFenceOf r m) fences → (part : Part) (k : ℕ) → k < length fences → slice_index_or (map Levels fences) k part ≡ part → HasShortTitle part
+unfolding HasShortTitle
+short_fences r m [] few all part k low at = absurd (omega arith)
+short_fences r m (f ∷ fences) few all part zero low at =
+    subst (λ (p : Part). HasShortTitle p) at (All-from_recursion (λ size. size < 2 ^ 64) f (short_levels f r few (omega (arith, all.0.whole))))
+short_fences r m (f ∷ fences) few all part (suc k) low at = short_fences r m fences few all.1 part k (omega arith) at
+
+same_count : (fences : List (List ℕ)) → length (map Levels fences) ≡ length fences
+same_count [] = refl
+same_count (f ∷ fences) = ap (λ (n : ℕ). suc n) (same_count fences)
+
+fence_title : (w : Words) (r : ℕ) (part : Part) → r ≤ 16 → Contains (parts_for w r) part → HasShortTitle part
+unfolding parts_for
+fence_title w r part few there =
+    let m : ℕ = length (live_words w).on in
+    let fences = listed_fences r m in
+    let count = same_count fences in
+    short_fences r m fences few (recursion_from_All (IsFenceOf r m) fences (fences_are_listed r m).only) part there.0 (omega (arith, there.1)) there.2
+
+pub fence_is_coding : IsCoding fence_coding
+fence_is_coding = record {
+  titles = λ w r part few there. fence_title w r part few there;
+  formulas = λ w basis r part there. fence_is_formula w basis r (fence_in part);
+  complete = λ w basis r spec few some minimum. is_complete w basis r spec few some minimum;
+}
+
 -- so the methods that are built have true verdicts
 pub built_is_coding : (method : Method) → IsCoding (coding_of method)
 unfolding coding_of
 built_is_coding Plain = plain_is_coding
 built_is_coding Ssv = ssv_is_coding
 built_is_coding Select = select_is_coding
-built_is_coding Fence = plain_is_coding
+built_is_coding Fence = fence_is_coding

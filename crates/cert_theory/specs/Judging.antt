@@ -35,7 +35,7 @@ use Rattle.chain_core.specs.declared.error.ChainError.TheVariants as chain_error
 use Rattle.enc_frame.specs.declared.part.Part.{Part}
 use Rattle.enc_frame.specs.declared.part.Part.TheVariants.{Whole, Levels}
 use Rattle.enc_theory.specs.declared.data.Method.{Method}
-use Rattle.enc_theory.specs.declared.data.Method.TheVariants.{Plain, Ssv, Select}
+use Rattle.enc_theory.specs.declared.data.Method.TheVariants.{Plain, Ssv, Select, Fence}
 use Rattle.cert_theory.specs.declared.data.Heading.{Heading}
 use Rattle.cert_theory.specs.declared.data.Ended.{Ended}
 use Rattle.cert_theory.specs.declared.data.Ended.TheVariants as ends
@@ -97,9 +97,9 @@ spelled word (Err e) = None
 unfoldable pub basis_in : Line → Option ℕ
 basis_in l = option_and_then (λ word. spelled word (basis_of word)) (value_of (codes "basis ") l)
 
--- a method that is built
+-- a method
 abbrev pub named_method : List ℕ → Option Method
-named_method word = if bytes_eq word (method_text Plain) then Some Plain else (if bytes_eq word (method_text Ssv) then Some Ssv else (if bytes_eq word (method_text Select) then Some Select else None))
+named_method word = if bytes_eq word (method_text Plain) then Some Plain else (if bytes_eq word (method_text Ssv) then Some Ssv else (if bytes_eq word (method_text Select) then Some Select else (if bytes_eq word (method_text Fence) then Some Fence else None)))
 
 unfoldable pub method_in : Line → Option Method
 method_in l = option_and_then named_method (value_of (codes "method ") l)
@@ -238,8 +238,9 @@ unfoldable pub ended_at : ℕ → Line → Result Ended BundleError
 ended_at number l = if is_line (codes "refuted") l then Ok ends.Refuted else (if is_line (codes "open") l then Ok ends.Open else Err (Syntax number))
 
 -- numbers by their form alone, of nine digits at most
-abbrev pub are_numbers : List (List ℕ) → Bool
-are_numbers words = list_all (λ word. is_some (block.number_in word)) words
+unfoldable pub are_numbers : List (List ℕ) → Bool
+are_numbers [] = true
+are_numbers (word ∷ words) = is_some (block.number_in word) && are_numbers words
 
 abbrev pub is_list : List ℕ → Bool
 is_list [] = true
@@ -253,17 +254,19 @@ is_list_in (Some rest) = is_list rest
 unfoldable pub is_title : Line → Bool
 is_title l = is_list_in (value_of (codes "fence") l)
 
-abbrev pub is_read : {A E : Type 0} → Result A E → Bool
-is_read (Ok x) = true
-is_read (Err e) = false
+-- a number of steps that a chain block may have
+abbrev pub is_count : Option ℕ → Bool
+is_count None = false
+is_count (Some r) = nat_le r 16
 
--- whether a line could stand where a title is due: another title, or what stands behind a section
-unfoldable pub may_follow : ℕ → Line → Bool
-may_follow number l = is_title l || is_some (option_and_then block.number_in (value_of (codes "size ") l)) || is_read (block.count_at number l) || is_some (not_found_in l)
+-- Whether a line could stand where a title is due: another title, or what stands behind a section,
+-- which is a size, the first line of a chain block, or a verdict.
+unfoldable pub may_follow : Line → Bool
+may_follow l = is_title l || is_some (number_behind (codes "size ") l) || is_count (number_behind (codes "chain ") l) || is_some (not_found_in l)
 
 -- the title that is due
 unfoldable pub title_at : ℕ → List ℕ → Line → Result Unit BundleError
-title_at number sizes l = if is_line (title_text sizes) l then Ok tt else (if may_follow number l then Err (NotRefuted number) else Err (Syntax number))
+title_at number sizes l = if is_line (title_text sizes) l then Ok tt else (if may_follow l then Err (NotRefuted number) else Err (Syntax number))
 
 abbrev pub within_at : Heading → ℕ → ℕ → Option ℕ → Part → List Part → Ended → List theory.Line → Line → Result Progress BundleError
 within_at h number size low part later ended log l =
