@@ -26,7 +26,7 @@ fn push_levels(text: &mut Vec<u8>, levels: &[u32]) -> Result<(), AllocError>
 }
 
 /// Appends the title of a part: the sizes of the levels of a fence, and nothing for the whole.
-#[tactic(auto, unfolding(cert_theory::specs::Spelling::title_lines))]
+#[tactic(auto, unfolding(cert_theory::specs::Spelling::title_lines, cert_theory::specs::Spelling::title_text))]
 fn push_title(text: &mut Vec<u8>, part: &Part) -> Result<(), AllocError>
     ensures { OnOk result (text.new.items ≡ text.old.items ++ spelling.text_of (spelling.title_lines part.now)) }
 {

@@ -18,7 +18,7 @@ use Rattle.cert_theory.specs.declared.data.BundleError.TheVariants.{Syntax}
 use Rattle.cert_theory.specs.Judging.{with_block, with_tables, behind_tables, behind_basis, behind_method, behind_conflicts, sections_of, behind_chain, end_of, bundle_of}
 use Rattle.cert_file.specs.Stages.{Answer, IsStage, Stands, verdict_in, steps_then, outs_then}
 use Rattle.cert_file.specs.declared.stage.Stage.{Stage}
-use Rattle.cert_file.specs.declared.stage.Stage.TheVariants.{Start, Inputs, Tables, Methods, Conflicts, Sizes, Between, Begun, Within, Steps, Outs, Found, End, Done}
+use Rattle.cert_file.specs.declared.stage.Stage.TheVariants.{Start, Inputs, Tables, Methods, Conflicts, Sizes, Between, Due, Begun, Within, Steps, Outs, Found, End, Done}
 
 not_yet : (m n : ℕ) → m < n → (m == n) ≡ false
 not_yet m n less = grind (arith, nat_tests)
@@ -63,8 +63,9 @@ ended_as (Methods spec basis) number answer is stands = stands
 ended_as (Conflicts spec basis method) number answer is stands = stands
 ended_as (Sizes spec basis method conflicts) number answer is stands = stands
 ended_as (Between h size low) number answer is stands = stands
-ended_as (Begun h size low) number answer is stands = stands
-ended_as (Within h size low ended checker additions) number answer is stands = stands.answer_is
+ended_as (Due r) number answer is stands = stands
+ended_as (Begun r) number answer is stands = stands.answer_is
+ended_as (Within r ended checker additions) number answer is stands = stands.answer_is
 ended_as (Steps h low f steps) number answer is stands =
     let count = length-map steps.items step_of in
     stands ∙ ap (λ (r : Result (List chain.Step × List Line) ChainError). with_block h f low (steps_then f r)) (steps_short f (steps_of steps.items) (omega (arith, count, is.due)))

@@ -6,3 +6,4 @@ pub use Rattle.cert_theory.specs.Gives
 pub mod Logged
 pub mod Refusals
 pub mod Stages
+pub mod Titled

@@ -1,5 +1,5 @@
 -- What a stage says of the lines that were read: which answer a text has with the lines that come next.
-use Rattle.std.specs.Prelude.{◌≡◌, ℕ, ◌+◌, ◌≤◌, ◌<◌, true, List, [], length, All, Option, Some, None, Result, Ok, Err}
+use Rattle.std.specs.Prelude.{◌≡◌, ℕ, ◌+◌, ◌≤◌, ◌<◌, List, [], ◌∷◌, length, drop, All, Option, Some, None, Result, Ok, Err}
 use Rattle.text_core.specs.Lines.{Line}
 use Rattle.sat_theory.specs.Line as theory
 use Rattle.sat_theory.specs.Log.{added_ids}
@@ -18,9 +18,11 @@ use Rattle.cert_theory.specs.declared.data.Heading.{Heading}
 use Rattle.cert_theory.specs.declared.data.Ended.{Ended}
 use Rattle.cert_theory.specs.declared.data.Verdict.{Verdict}
 use Rattle.cert_theory.specs.declared.data.BundleError.{BundleError}
-use Rattle.cert_theory.specs.Coding.{is_built}
 use Rattle.cert_theory.specs.Gives.{Fails}
-use Rattle.cert_theory.specs.Judging.{with_block, whole_of, Between, Begun, Within, with_tables, behind_basis, behind_method, behind_conflicts, sections_of, behind_chain, end_of, nothing_behind, bundle_of}
+use Rattle.cert_theory.specs.Judging.{with_block, before, Between, Begun, Within, with_tables, behind_basis, behind_method, behind_conflicts, sections_of, behind_chain, end_of, nothing_behind, bundle_of}
+use Rattle.enc_frame.specs.declared.part.Part.{Part}
+use Rattle.cert_theory.specs.Bundle.{parts_of, formula_of}
+use Rattle.cert_file.specs.declared.stage.Running.{Running}
 use Rattle.cert_file.specs.declared.stage.Stage.{Stage}
 use Rattle.cert_file.specs.declared.stage.Stage.TheVariants as stages
 
@@ -31,8 +33,14 @@ Answer = Result Verdict BundleError
 pub record IsKnown (h : Heading) : Type 0 where
   pub output : 0 < length h.spec.on
   pub basis : 0 < h.basis
-  pub method : is_built h.method ≡ true
   pub max : h.max ≤ 16
+
+-- a size whose section is read: its parts, and one of them
+pub record IsRunning (r : Running) : Type 0 where
+  pub known : IsKnown r.heading
+  pub size : r.size ≤ r.heading.max
+  pub parts : r.parts.items ≡ parts_of r.heading r.size
+  pub at : r.at < length r.parts.items
 
 -- behind the first line of a chain block
 pub record IsFrame (h : Heading) (f : Frame) : Type 0 where
@@ -63,11 +71,12 @@ IsStage stages.Start number = number ≡ 1
 IsStage stages.Inputs number = number ≡ 2
 IsStage (stages.Tables n on care) number = (number ≡ 3 + length on.items) × IsSpec (record { n = n; on = on.items; care = care.items })
 IsStage (stages.Methods spec basis) number = (0 < basis) × (0 < length spec.on)
-IsStage (stages.Conflicts spec basis method) number = (0 < basis) × (0 < length spec.on) × (is_built method ≡ true)
-IsStage (stages.Sizes spec basis method conflicts) number = (0 < basis) × (0 < length spec.on) × (is_built method ≡ true)
+IsStage (stages.Conflicts spec basis method) number = (0 < basis) × (0 < length spec.on)
+IsStage (stages.Sizes spec basis method conflicts) number = (0 < basis) × (0 < length spec.on)
 IsStage (stages.Between h size low) number = IsKnown h
-IsStage (stages.Begun h size low) number = IsKnown h × (size ≤ h.max)
-IsStage (stages.Within h size low ended checker additions) number = IsKnown h × (size ≤ h.max) × (additions ≤ number)
+IsStage (stages.Due r) number = IsRunning r
+IsStage (stages.Begun r) number = IsRunning r
+IsStage (stages.Within r ended checker additions) number = IsRunning r × (additions ≤ number)
 IsStage (stages.Steps h low f steps) number = AreRead h f steps.items number
 IsStage (stages.Outs h low f steps os) number = AreNamed h f steps.items os.items number
 IsStage (stages.Found size low) number = Unit {0}
@@ -79,12 +88,28 @@ abbrev pub verdict_in : Stage → Option Verdict
 verdict_in (stages.Done verdict) = Some verdict
 verdict_in stage = None
 
+-- the parts behind the one that is read or due
+abbrev pub later_of : Running → List Part
+later_of r = drop (r.at + 1) r.parts.items
+
+-- the part that is read or due
+abbrev pub IsPart : Running → Part → Type 0
+IsPart r part = drop r.at r.parts.items ≡ part ∷ later_of r
+
+-- Behind the title of a part.
+pub record IsBegun (r : Running) (number : ℕ) (lines : List Line) (answer : Answer) : Type 0 where
+  pub part : Part
+  pub is_part : IsPart r part
+  pub answer_is : answer ≡ sections_of r.heading number (record { size = r.size; low = r.low; place = Begun part (later_of r) }) lines
+
 -- In a log: a checker has accepted the lines before.
-pub record IsLogging (h : Heading) (size : ℕ) (low : Option ℕ) (ended : Ended) (checker : Checked) (additions number : ℕ) (lines : List Line) (answer : Answer) : Type 0 where
+pub record IsLogging (r : Running) (ended : Ended) (checker : Checked) (additions number : ℕ) (lines : List Line) (answer : Answer) : Type 0 where
+  pub part : Part
+  pub is_part : IsPart r part
   pub log : List theory.Line
-  pub accepted : HasAccepted (whole_of h size) log checker
+  pub accepted : HasAccepted (formula_of r.heading r.size part) log checker
   pub count : additions ≡ length (added_ids log)
-  pub answer_is : answer ≡ sections_of h number (record { size = size; low = low; place = Within ended log }) lines
+  pub answer_is : answer ≡ sections_of r.heading number (record { size = r.size; low = r.low; place = Within part (later_of r) ended log }) lines
 
 -- the block whose outs were read
 abbrev pub outs_then : Frame → List chain.Step → Result (List Out × List Line) ChainError → Result block.Read ChainError
@@ -103,8 +128,9 @@ Stands (stages.Methods spec basis) number lines answer = answer ≡ behind_basis
 Stands (stages.Conflicts spec basis method) number lines answer = answer ≡ behind_method spec basis method number lines
 Stands (stages.Sizes spec basis method conflicts) number lines answer = answer ≡ behind_conflicts spec basis method conflicts number lines
 Stands (stages.Between h size low) number lines answer = answer ≡ sections_of h number (record { size = size; low = low; place = Between }) lines
-Stands (stages.Begun h size low) number lines answer = answer ≡ sections_of h number (record { size = size; low = low; place = Begun }) lines
-Stands (stages.Within h size low ended checker additions) number lines answer = IsLogging h size low ended checker additions number lines answer
+Stands (stages.Due r) number lines answer = answer ≡ sections_of r.heading number (before r.size r.low (drop r.at r.parts.items)) lines
+Stands (stages.Begun r) number lines answer = IsBegun r number lines answer
+Stands (stages.Within r ended checker additions) number lines answer = IsLogging r ended checker additions number lines answer
 Stands (stages.Steps h low f steps) number lines answer = answer ≡ with_block h f low (steps_then f (block.steps_from f (steps_of steps.items) lines))
 Stands (stages.Outs h low f steps os) number lines answer = answer ≡ with_block h f low (outs_then f (steps_of steps.items) (block.outs_from f os.items lines))
 Stands (stages.Found size low) number lines answer = answer ≡ behind_chain number size low lines

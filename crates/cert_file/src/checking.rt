@@ -16,6 +16,7 @@ use crate::heading::{at_conflicts, at_inputs, at_max, at_method, at_start, at_ta
 use crate::logs::{at_begun, at_within};
 use crate::sections::at_between;
 use crate::stage::Stage;
+use crate::titles::at_due;
 use cert_theory::{BundleError, Verdict};
 use std::alloc::Global;
 use text_core::next_line;
@@ -52,19 +53,14 @@ fn take(
         Stage::Between { heading, size, low } => {
             at_between(alloc, heading, size, low, text, ended, number)
         }
-        Stage::Begun { heading, size, low } => {
-            at_begun(alloc, heading, size, low, text, ended, number)
-        }
+        Stage::Due { running } => at_due(alloc, running, text, ended, number),
+        Stage::Begun { running } => at_begun(alloc, running, text, ended, number),
         Stage::Within {
-            heading,
-            size,
-            low,
+            running,
             ended: end,
             checker,
             additions,
-        } => at_within(
-            alloc, heading, size, low, end, checker, additions, text, ended, number,
-        ),
+        } => at_within(alloc, running, end, checker, additions, text, ended, number),
         Stage::Steps {
             heading,
             low,

@@ -6,23 +6,23 @@ ghost use Rattle.chain_core.specs.Block as block;
 ghost use Rattle.chain_core.specs.Steps.{step_of, steps_of};
 ghost use Rattle.text_core.specs.Items.{items_of};
 ghost use Rattle.cert_theory.specs.Gives.{Gives};
+ghost use Rattle.cert_theory.specs.Coding.{is_titled};
 ghost use Rattle.cert_theory.specs.Bundle as bundles;
 ghost use Rattle.cert_theory.specs.Judging as judging;
 ghost use Rattle.cert_file.specs.Refusals.{IsRefusal};
 ghost use Rattle.cert_file.specs.Stages.{Answer, Judged, IsStage, IsKnown, AreRead, AreNamed, outs_then, steps_then};
 
-use crate::lines::{begins, is_line, value_of};
+use crate::lines::{GREATEST, begins, is_line, number_behind, value_of};
 use crate::stage::Stage;
+use crate::titles::is_title;
 use cert_theory::{BundleError, Heading, Verdict};
 use chain_core::{
     Chain, ChainError, Frame, Out, Step, add_step, count_at, first_difference, first_outside,
     out_at, step_at,
 };
+use enc_frame::Method;
 use std::alloc::Global;
 use text_core::{next_item, number_up_to};
-
-/// The greatest number of nine digits.
-const GREATEST: u32 = 999_999_999;
 
 /// A refusal of a chain block.
 fn refusal(error: ChainError) -> BundleError
@@ -211,13 +211,6 @@ fn is_same(verdict: Verdict, due: Verdict) -> bool
     }
 }
 
-/// The number behind a word.
-fn number_behind(word: &[u8], text: &[u8], ended: bool) -> Option<u32>
-    ensures { result ≡ judging.number_behind word.now (record { text = text.now; ended = ended }) }
-{
-    number_up_to(GREATEST, value_of(word, text, ended)?)
-}
-
 /// The two numbers of a bounded verdict.
 fn bounded_in(text: &[u8]) -> Option<Verdict>
     ensures { result ≡ judging.bounded_in (items_of text.now) }
@@ -247,7 +240,7 @@ fn found_in(text: &[u8], ended: bool) -> Option<Verdict>
 
 /// The verdict of a line, where none does.
 #[tactic(auto, unfolding(cert_theory::specs::Judging::not_found_in))]
-fn not_found_in(text: &[u8], ended: bool) -> Option<Verdict>
+pub(crate) fn not_found_in(text: &[u8], ended: bool) -> Option<Verdict>
     ensures { result ≡ judging.not_found_in (record { text = text.now; ended = ended }) }
 {
     if begins(b"none ", text, ended) {
@@ -299,6 +292,20 @@ pub(crate) fn at_found(
     Ok(Stage::End { verdict })
 }
 
+/// The verdict of a line where no chain stands. By fences a title where no part is due any more is a
+/// fault of its own.
+fn verdict_at(method: Method, text: &[u8], ended: bool, number: u32) -> Result<Verdict, BundleError>
+    ensures { Gives (λ v. v) result (judging.verdict_at (is_titled method) number (record { text = text.now; ended = ended })) }
+{
+    if matches!(method, Method::Fence) && is_title(text, ended) {
+        return Err(BundleError::NotRefuted(number));
+    }
+    let Some(verdict) = not_found_in(text, ended) else {
+        return Err(BundleError::Syntax(number));
+    };
+    Ok(verdict)
+}
+
 /// The verdict where no chain stands.
 fn at_not_found(
     heading: Heading,
@@ -312,9 +319,7 @@ fn at_not_found(
     ensures keeps { IfOk result (λ s. IsStage s (number + 1)) }
     ensures answer { (ls : List Line) (answer : Answer) → answer ≡ judging.no_chain_at heading number size low (record { text = text.now; ended = ended }) ls → Judged result (number + 1) ls answer }
 {
-    let Some(verdict) = not_found_in(text, ended) else {
-        return Err(BundleError::Syntax(number));
-    };
+    let verdict = verdict_at(heading.method, text, ended, number)?;
     if size != heading.max + 1 || !is_same(verdict, not_found(heading.max, low)) {
         return Err(BundleError::WrongVerdict(number));
     }

@@ -1,9 +1,8 @@
 //! The lines of the heading.
-ghost use Rattle.std.specs.Prelude.{◌≡◌, ◌+◌, ◌<◌, ◌≤◌, true, List, ◌∷◌, length, IfOk, IfSome};
+ghost use Rattle.std.specs.Prelude.{◌≡◌, ◌+◌, ◌<◌, ◌≤◌, List, ◌∷◌, length, IfOk, IfSome};
 ghost use Rattle.text_core.specs.Lines.{Line};
 ghost use Rattle.tt_core.specs.Words.{IsSpec};
 ghost use Rattle.tt_core.specs.Tables as tables;
-ghost use Rattle.cert_theory.specs.Coding.{is_built};
 ghost use Rattle.cert_theory.specs.Judging as judging;
 ghost use Rattle.cert_file.specs.Stages.{Answer, Judged, IsStage};
 
@@ -121,10 +120,9 @@ pub(crate) fn at_tables(
     Ok(Stage::Tables { n, on, care })
 }
 
-/// The method of that name, where it is built.
+/// The method of that name.
 fn method_named(word: &[u8]) -> Option<Method>
-    ensures exact { result ≡ judging.named_method word.now }
-    ensures built { IfSome result (λ method. is_built method ≡ true) }
+    ensures { result ≡ judging.named_method word.now }
 {
     if word == b"plain".as_slice() {
         return Some(Method::Plain);
@@ -135,14 +133,16 @@ fn method_named(word: &[u8]) -> Option<Method>
     if word == b"select".as_slice() {
         return Some(Method::Select);
     }
+    if word == b"fence".as_slice() {
+        return Some(Method::Fence);
+    }
     None
 }
 
 /// The method of a line.
 #[tactic(auto, unfolding(cert_theory::specs::Judging::method_in))]
 fn method_in(text: &[u8], ended: bool) -> Option<Method>
-    ensures exact { result ≡ judging.method_in (record { text = text.now; ended = ended }) }
-    ensures built { IfSome result (λ method. is_built method ≡ true) }
+    ensures { result ≡ judging.method_in (record { text = text.now; ended = ended }) }
 {
     method_named(value_of(b"method ", text, ended)?)
 }
@@ -195,7 +195,6 @@ pub(crate) fn at_conflicts(
 ) -> Result<Stage, BundleError>
     requires basis { 0 < basis }
     requires output { 0 < length spec.on }
-    requires built { is_built method ≡ true }
     ensures keeps { IfOk result (λ s. IsStage s (number + 1)) }
     ensures answer { (ls : List Line) (answer : Answer) → answer ≡ judging.behind_method spec basis method number (record { text = text.now; ended = ended } ∷ ls) → Judged result (number + 1) ls answer }
 {
@@ -233,7 +232,6 @@ pub(crate) fn at_max(
 ) -> Result<Stage, BundleError>
     requires basis { 0 < basis }
     requires output { 0 < length spec.on }
-    requires built { is_built method ≡ true }
     ensures keeps { IfOk result (λ s. IsStage s (number + 1)) }
     ensures answer { (ls : List Line) (answer : Answer) → answer ≡ judging.behind_conflicts spec basis method conflicts number (record { text = text.now; ended = ended } ∷ ls) → Judged result (number + 1) ls answer }
 {

@@ -19,6 +19,7 @@ mod lines;
 mod logs;
 mod sections;
 mod stage;
+mod titles;
 
 pub use cert_theory::{BundleError, Ended, Heading, Verdict};
 pub use checking::check_bundle;

@@ -3,7 +3,10 @@ ghost use Rattle.std.specs.Prelude.{◌≡◌};
 ghost use Rattle.std.specs.Option.{option_copied};
 ghost use Rattle.cert_theory.specs.Judging as judging;
 
-use text_core::after;
+use text_core::{after, number_up_to};
+
+/// The greatest number of nine digits.
+pub(crate) const GREATEST: u32 = 999_999_999;
 
 /// Whether a line is this text.
 pub(crate) fn is_line(word: &[u8], text: &[u8], ended: bool) -> bool
@@ -28,4 +31,11 @@ pub(crate) fn value_of<'a>(word: &[u8], text: &'a [u8], ended: bool) -> Option<&
         return None;
     }
     after(word, text)
+}
+
+/// The number behind a word.
+pub(crate) fn number_behind(word: &[u8], text: &[u8], ended: bool) -> Option<u32>
+    ensures { result ≡ judging.number_behind word.now (record { text = text.now; ended = ended }) }
+{
+    number_up_to(GREATEST, value_of(word, text, ended)?)
 }

@@ -1,5 +1,5 @@
 //! The lines of a log, and its end.
-ghost use Rattle.std.specs.Prelude.{◌≡◌, ◌+◌, ◌<◌, ◌≤◌, ◌^◌, List, [], ◌∷◌, length, IfOk};
+ghost use Rattle.std.specs.Prelude.{◌≡◌, ℕ, ◌+◌, ◌<◌, ◌≤◌, ◌^◌, List, [], ◌∷◌, length, IfOk};
 ghost use Rattle.text_core.specs.Lines as lines;
 ghost use Rattle.sat_theory.specs.Line as theory;
 ghost use Rattle.sat_theory.specs.Line.{IsLine, HasClause};
@@ -10,12 +10,16 @@ ghost use Rattle.lrat_check.specs.Checked.{HasAccepted};
 ghost use Rattle.cert_theory.specs.Gives.{Gives};
 ghost use Rattle.cert_theory.specs.Judging as judging;
 ghost use Rattle.cert_file.specs.Logged.{IsLogged, IsRefusal, MayAdd, added_by, is_new_to};
-ghost use Rattle.cert_file.specs.Stages.{Answer, Judged, IsStage, IsKnown, IsLogging};
+ghost use Rattle.cert_theory.specs.Bundle as bundles;
+ghost use Rattle.enc_frame.specs.declared.part.Part.{Part};
+ghost use Rattle.cert_file.specs.Stages.{Answer, Judged, Stands, IsStage, IsRunning, IsPart, later_of, IsBegun, IsLogging};
 
 use crate::formulas::formula_of;
 use crate::lines::is_line;
-use crate::stage::Stage;
-use cert_theory::{BundleError, Ended, Heading};
+use crate::sections::due;
+use crate::stage::{Running, Stage};
+use crate::titles::part_in;
+use cert_theory::{BundleError, Ended};
 use cnf_core::Cnf;
 use lrat_check::{CheckError, Checker};
 use lrat_text::{Line, LineError, read_line};
@@ -45,28 +49,31 @@ fn checker_of(alloc: Global, cnf: Cnf, end: Ended) -> Result<Checker, AllocError
     }
 }
 
-/// The line that begins the log of a size.
+/// The formula of the part that is read.
+fn formula_in(alloc: Global, running: &Running) -> Result<Cnf, AllocError>
+    requires { IsRunning running.now }
+    ensures { (part : Part) → IsPart running.now part → IfOk result (λ cnf. cnf ≡ bundles.formula_of running.now.heading running.now.size part) }
+{
+    formula_of(alloc, &running.heading, running.size, part_in(running))
+}
+
+/// The line that begins the log of a part.
 pub(crate) fn at_begun(
     alloc: Global,
-    heading: Heading,
-    size: u32,
-    low: Option<u32>,
+    running: Running,
     text: &[u8],
     ended: bool,
     number: u32,
 ) -> Result<Stage, BundleError>
-    requires known { IsKnown heading }
-    requires size { size ≤ heading.max }
+    requires running { IsRunning running }
     ensures keeps { IfOk result (λ s. IsStage s (number + 1)) }
-    ensures answer { (ls : List lines.Line) (answer : Answer) → answer ≡ judging.sections_of heading number (record { size = size; low = low; place = judging.Begun }) (record { text = text.now; ended = ended } ∷ ls) → Judged result (number + 1) ls answer }
+    ensures answer { (lines ls : List lines.Line) (answer : Answer) → IsBegun running number lines answer → lines ≡ record { text = text.now; ended = ended } ∷ ls → Judged result (number + 1) ls answer }
 {
     let end = ended_at(text, ended, number)?;
-    let cnf = formula_of(alloc, &heading, size)?;
+    let cnf = formula_in(alloc, &running)?;
     let checker = checker_of(alloc, cnf, end)?;
     Ok(Stage::Within {
-        heading,
-        size,
-        low,
+        running,
         ended: end,
         checker,
         additions: 0,
@@ -194,12 +201,32 @@ fn low_with(low: Option<u32>, end: Ended, size: u32) -> Option<u32>
     }
 }
 
+/// What comes behind a part whose log ends so.
+fn behind(running: Running, end: Ended) -> Stage
+    requires { IsRunning running }
+    ensures keeps { (number : ℕ) → IsStage result number }
+    ensures stands { (number : ℕ) (ls : List lines.Line) (answer : Answer) → answer ≡ judging.sections_of running.heading number (judging.before running.size (judging.low_with running.low end running.size) (later_of running)) ls → Stands result number ls answer }
+{
+    let Running {
+        heading,
+        size,
+        low,
+        parts,
+        at,
+    } = running;
+    due(Running {
+        heading,
+        size,
+        low: low_with(low, end, size),
+        parts,
+        at: at + 1,
+    })
+}
+
 /// A line of a log, or its end.
 pub(crate) fn at_within(
     alloc: Global,
-    heading: Heading,
-    size: u32,
-    low: Option<u32>,
+    running: Running,
     end: Ended,
     checker: Checker,
     additions: u32,
@@ -207,28 +234,26 @@ pub(crate) fn at_within(
     ended: bool,
     number: u32,
 ) -> Result<Stage, BundleError>
-    requires known { IsKnown heading }
-    requires size { size ≤ heading.max }
+    requires running { IsRunning running }
     requires few { additions ≤ number }
     requires number { number < 2 ^ 31 }
     ensures keeps { IfOk result (λ s. IsStage s (number + 1)) }
-    ensures answer { (lines ls : List lines.Line) (answer : Answer) → IsLogging heading size low end checker additions number lines answer → lines ≡ record { text = text.now; ended = ended } ∷ ls → Judged result (number + 1) ls answer }
+    ensures answer { (lines ls : List lines.Line) (answer : Answer) → IsLogging running end checker additions number lines answer → lines ≡ record { text = text.now; ended = ended } ∷ ls → Judged result (number + 1) ls answer }
 {
     if is_line(b"done", text, ended) {
-        closed(checker.refuted(), additions, heading.conflicts, end, number)?;
-        let low = low_with(low, end, size);
-        return Ok(Stage::Between {
-            heading,
-            size: size + 1,
-            low,
-        });
+        closed(
+            checker.refuted(),
+            additions,
+            running.heading.conflicts,
+            end,
+            number,
+        )?;
+        return Ok(behind(running, end));
     }
     let mut checker = checker;
     let added = logged_at(alloc, &mut checker, end, text, ended, number)?;
     Ok(Stage::Within {
-        heading,
-        size,
-        low,
+        running,
         ended: end,
         checker,
         additions: additions + added,

@@ -1,13 +1,15 @@
 //! The lines between the logs.
-ghost use Rattle.std.specs.Prelude.{◌≡◌, ◌+◌, ◌<◌, ◌≤◌, ◌^◌, List, ◌∷◌, IfOk, OnOk};
+ghost use Rattle.std.specs.Prelude.{◌≡◌, ℕ, ◌+◌, ◌<◌, ◌≤◌, ◌^◌, List, ◌∷◌, length, drop, IfOk, OnOk};
 ghost use Rattle.text_core.specs.Lines.{Line};
 ghost use Rattle.cert_theory.specs.Gives.{Gives};
 ghost use Rattle.cert_theory.specs.Judging as judging;
-ghost use Rattle.cert_file.specs.Stages.{Answer, Judged, IsStage, IsKnown};
+ghost use Rattle.cert_theory.specs.Bundle.{parts_of};
+ghost use Rattle.cert_file.specs.Stages.{Answer, Judged, Stands, IsStage, IsKnown};
 
 use crate::ending::at_ending;
+use crate::formulas::parts_of;
 use crate::lines::{begins, value_of};
-use crate::stage::Stage;
+use crate::stage::{Running, Stage};
 use cert_theory::{BundleError, Heading};
 use std::alloc::Global;
 use text_core::number_up_to;
@@ -36,6 +38,31 @@ fn size_at(
     Ok(())
 }
 
+/// What comes behind the line of a size, or behind a part: the next part, or the next size.
+pub(crate) fn due(running: Running) -> Stage
+    requires known { IsKnown running.heading }
+    requires size { running.size ≤ running.heading.max }
+    requires parts { running.parts.items ≡ parts_of running.heading running.size }
+    requires at { running.at ≤ length running.parts.items }
+    ensures keeps { (number : ℕ) → IsStage result number }
+    ensures stands { (number : ℕ) (ls : List Line) (answer : Answer) → answer ≡ judging.sections_of running.heading number (judging.before running.size running.low (drop running.at running.parts.items)) ls → Stands result number ls answer }
+{
+    if running.at < running.parts.len() {
+        return Stage::Due { running };
+    }
+    let Running {
+        heading,
+        size,
+        low,
+        ..
+    } = running;
+    Stage::Between {
+        heading,
+        size: size + 1,
+        low,
+    }
+}
+
 /// The line of the next size, or the first line of the ending.
 #[tactic(auto, unfolding(cert_theory::specs::Judging::sections_of))]
 pub(crate) fn at_between(
@@ -56,5 +83,12 @@ pub(crate) fn at_between(
         return at_ending(alloc, heading, size, low, text, ended, number);
     }
     size_at(&heading, size, text, ended, number)?;
-    Ok(Stage::Begun { heading, size, low })
+    let parts = parts_of(alloc, &heading, size)?;
+    Ok(due(Running {
+        heading,
+        size,
+        low,
+        parts,
+        at: 0,
+    }))
 }

@@ -1,8 +1,20 @@
 use cert_theory::{Ended, Heading, Verdict};
 use chain_core::{Basis, Frame, Out, Step};
-use enc_frame::Method;
+use enc_frame::{Method, Part};
 use lrat_check::Checker;
 use tt_core::Spec;
+
+/// A size whose section is read, and one of its parts.
+#[derive(Debug, Drop)]
+pub(crate) struct Running {
+    pub(crate) heading: Heading,
+    pub(crate) size: u32,
+    /// The first open size, by the logs that were read.
+    pub(crate) low: Option<u32>,
+    pub(crate) parts: Vec<Part>,
+    /// How many parts stand before this one.
+    pub(crate) at: usize,
+}
 
 /// What is due next of a bundle whose lines were good so far, and what is kept of them.
 #[derive(Debug, Drop)]
@@ -41,17 +53,17 @@ pub(crate) enum Stage {
         size: u32,
         low: Option<u32>,
     },
-    /// How the log of this size ends.
-    Begun {
-        heading: Heading,
-        size: u32,
-        low: Option<u32>,
+    /// The title of this part, or how its log ends where it bears none.
+    Due {
+        running: Running,
     },
-    /// A line of the log.
+    /// How the log of this part ends.
+    Begun {
+        running: Running,
+    },
+    /// A line of the log of this part.
     Within {
-        heading: Heading,
-        size: u32,
-        low: Option<u32>,
+        running: Running,
         ended: Ended,
         checker: Checker,
         additions: u32,

@@ -166,6 +166,50 @@ fn chains_are_judged(rt: HostRuntime) -> Result<(), Fail> {
     Ok(())
 }
 
+/// The same by fences: each size has one, and its parts bear titles.
+const NOT_BY_FENCES: [&[u8]; 19] = [
+    b"chains 1",
+    b"inputs 1",
+    b"10",
+    b"basis 0001",
+    b"method fence",
+    b"conflicts 100000",
+    b"max 1",
+    b"size 0",
+    b"fence",
+    b"refuted",
+    b"done",
+    b"size 1",
+    b"fence 1",
+    b"refuted",
+    b"27 -5 0 1 2 3 4 6 7 22 20 0",
+    b"28 0 1 2 3 4 6 7 27 18 16 0",
+    b"done",
+    b"none 1",
+    b"end",
+];
+
+#[test]
+fn titles_are_compared(rt: HostRuntime) -> Result<(), Fail> {
+    let alloc = rt.alloc();
+    for (line, by, answer) in [
+        (0usize, b"" as &[u8], Ok(Verdict::NoChain(1))),
+        (9, b"", Err(BundleError::Syntax(9))),
+        (9, b"size 1\n", Err(BundleError::NotRefuted(9))),
+        (9, b"none 1\n", Err(BundleError::NotRefuted(9))),
+        (9, b"chain 17\n", Err(BundleError::Syntax(9))),
+        (13, b"fence 0\n", Err(BundleError::NotRefuted(13))),
+        (13, b"fence 01\n", Err(BundleError::Syntax(13))),
+        (13, b"fence 1 \n", Err(BundleError::Syntax(13))),
+        (18, b"fence 1\n", Err(BundleError::NotRefuted(18))),
+        (18, b"none 2\n", Err(BundleError::WrongVerdict(18))),
+        (5, b"method ssv\n", Err(BundleError::Syntax(9))),
+    ] {
+        assert_eq!(rt; judged(alloc, &NOT_BY_FENCES, (line, by), (0, b"")), answer, "{line}");
+    }
+    Ok(())
+}
+
 /// By `ssv` three clauses of cuts stand behind the plain ones, and take the next three ids.
 #[test]
 fn cuts_are_clauses(rt: HostRuntime) -> Result<(), Fail> {
