@@ -5,7 +5,7 @@ use Rattle.port_io.specs.Faults.{Rose}
 use Rattle.chain_app.specs.declared.status.Status.{Status}
 use Rattle.chain_app.specs.declared.status.Status.TheVariants.{Usage, ReadFault, Memory}
 use Rattle.chain_app.specs.declared.jobs.Job.{Job}
-use Rattle.chain_app.specs.declared.jobs.Job.TheVariants.{Agree, Recheck, Synth}
+use Rattle.chain_app.specs.declared.jobs.Job.TheVariants.{Agree, Recheck, Synth, Improve}
 use Rattle.chain_app.specs.Jobs.{IsLine}
 use Rattle.chain_app.specs.Outside.{Writes}
 use Rattle.chain_app.specs.Told.{error_line, usage, read_fault, memory}
@@ -17,17 +17,20 @@ use Rattle.chain_app.specs.JobPromise.{JobPromise}
 use Rattle.chain_app.specs.AgreePromise.{AgreePromise}
 use Rattle.chain_app.specs.RecheckPromise.{RecheckPromise}
 use Rattle.chain_app.specs.SynthPromise.{SynthPromise}
+use Rattle.chain_app.specs.ImprovePromise.{ImprovePromise}
 use Rattle.chain_app.proofs.Keeping.{not_usage, promised}
 use Rattle.chain_app.proofs.Agreeing.{agree_is_task}
 use Rattle.chain_app.proofs.AgreeKeeping.{agree_promised}
 use Rattle.chain_app.proofs.Rechecking.{recheck_is_task, recheck_promised}
 use Rattle.chain_app.proofs.Synthesising.{synth_is_task, synth_promised}
+use Rattle.chain_app.proofs.Improving.{improve_is_task, improve_promised}
 
 -- every job is one
 is_task : (job : Job) → IsTask (task_of job)
 is_task Agree = agree_is_task
 is_task Recheck = recheck_is_task
 is_task (Synth asked) = synth_is_task asked
+is_task Improve = improve_is_task
 
 -- words ask for one job
 one_job : (words : List (List ℕ)) (a b : Job) → IsLine words a → IsLine words b → a ≡ b
@@ -92,3 +95,7 @@ recheck_kept r e ends =
 pub synth_kept : (r : Run) (e : Ending) → IsEnding r e → SynthPromise r
 synth_kept r e ends =
     synth_promised r (λ asked line. keeps r e (Synth asked) ends line) (λ asked line is. (idle r e ends is).no_line (Synth asked) line)
+
+pub improve_kept : (r : Run) (e : Ending) → IsEnding r e → ImprovePromise r
+improve_kept r e ends =
+    improve_promised r (λ line. keeps r e Improve ends line) (λ line is. (idle r e ends is).no_line Improve line)

@@ -4,6 +4,7 @@ pub mod Asking
 pub mod Certified
 pub mod Ends
 pub mod Faults
+pub mod Improving
 pub mod Keeping
 pub mod Pieces
 pub mod Rechecking

@@ -242,10 +242,10 @@ synth_asked words basis method max conflicts e =
     record { basis_from = is.0; method_built = is.1; max_to = is.2; conflicts_from = is.3; conflicts_to = is.4 }
 
 -- So is what is to be done.
-pub job_asked : (words : List (List ℕ)) (command : Command) (job : Option Job) → Ok command ≡ read words → job ≡ job_of (Ok command) → IfSome job IsJob
-job_asked words Agree job e is = subst (λ (j : Option Job). IfSome j IsJob) (sym is) tt
-job_asked words Recheck job e is = subst (λ (j : Option Job). IfSome j IsJob) (sym is) tt
-job_asked words (Synth basis method max conflicts) job e is = subst (λ (j : Option Job). IfSome j IsJob) (sym is) (synth_asked words basis method max conflicts e)
-job_asked words Improve job e is = subst (λ (j : Option Job). IfSome j IsJob) (sym is) tt
+pub job_asked : (words : List (List ℕ)) (command : Command) (job : Job) → Ok command ≡ read words → job ≡ job_of command → IsJob job
+job_asked words Agree job e is = subst (λ (j : Job). IsJob j) (sym is) tt
+job_asked words Recheck job e is = subst (λ (j : Job). IsJob j) (sym is) tt
+job_asked words (Synth basis method max conflicts) job e is = subst (λ (j : Job). IsJob j) (sym is) (synth_asked words basis method max conflicts e)
+job_asked words Improve job e is = subst (λ (j : Job). IsJob j) (sym is) tt
 
 pub ruleset asking = (common_steps, job_asked)

@@ -3,6 +3,8 @@ pub mod AgreePromise
 pub mod AgreeReport
 pub mod Asked
 pub mod Ending
+pub mod ImprovePromise
+pub mod ImproveReport
 pub mod JobPromise
 pub mod Jobs
 pub mod Outside

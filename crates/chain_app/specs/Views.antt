@@ -16,7 +16,7 @@ use Rattle.chain_app.specs.Run.{Task, Outcome, ReadFault, TooLong, Memory, Answe
 abbrev pub word_bytes : Word → List ℕ
 word_bytes Nothing = []
 word_bytes (Known word) = word.now
-word_bytes (Name word) = word.items
+word_bytes (Name word) = word
 
 abbrev pub line_value : ErrorLine → told.Named
 line_value line = record { name = line.name.now; number = line.number; word = word_bytes line.word; last = line.last }

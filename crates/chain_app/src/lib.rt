@@ -4,7 +4,7 @@
 //! an error line on the notes, and tells a status. Its theorem, for every source and every sink: the
 //! run has an ending (`specs/Ending`), which fits the bytes that the source held, and the status and
 //! all that was written follow from it; every command keeps the promise of `specs/Promise`, and each
-//! its own (`AgreePromise`, `RecheckPromise`, `SynthPromise`).
+//! its own (`AgreePromise`, `RecheckPromise`, `SynthPromise`, `ImprovePromise`).
 //!
 //! ```text
 //! let status = run(alloc, &words, &mut source, &mut out, &mut note);
@@ -12,6 +12,7 @@
 #![tactic(auto)]
 
 mod agree;
+mod improve;
 mod jobs;
 mod judging;
 pub mod laws;

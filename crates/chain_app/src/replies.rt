@@ -5,6 +5,7 @@ ghost use Rattle.chain_app.specs.Run.{status_of};
 ghost use Rattle.chain_app.specs.Views.{word_bytes, line_value, outcome_of};
 
 use crate::status::Status;
+use net_core::Name;
 
 /// A word of an error line.
 #[derive(Debug, Drop)]
@@ -14,7 +15,7 @@ pub(crate) enum Word {
     /// One of the program's own words.
     Known(&'static [u8]),
     /// A name of the input.
-    Name(Vec<u8>),
+    Name(Name),
 }
 
 impl Word {
@@ -25,7 +26,7 @@ impl Word {
         match self {
             Word::Nothing => &[],
             Word::Known(word) => word,
-            Word::Name(name) => name,
+            Word::Name(name) => name.get(),
         }
     }
 }

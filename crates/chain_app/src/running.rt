@@ -10,12 +10,13 @@ ghost use Rattle.chain_app.specs.JobPromise.{JobPromise};
 ghost use Rattle.chain_app.specs.AgreePromise.{AgreePromise};
 ghost use Rattle.chain_app.specs.RecheckPromise.{RecheckPromise};
 ghost use Rattle.chain_app.specs.SynthPromise.{SynthPromise};
+ghost use Rattle.chain_app.specs.ImprovePromise.{ImprovePromise};
 
 use crate::jobs::{Job, read_job};
 use crate::replies::{Ended, ErrorLine, Reply, Stop};
 use crate::reporting::{send, tell, tell_error};
 use crate::status::Status;
-use crate::{agree, recheck, synth};
+use crate::{agree, improve, recheck, synth};
 use port_io::{ReadError, Sink, Source, read_all};
 use std::alloc::Global;
 
@@ -27,6 +28,7 @@ fn most_bytes(job: &Job) -> usize
         Job::Agree => agree::MOST_BYTES,
         Job::Recheck => recheck::MOST_BYTES,
         Job::Synth(_) => synth::MOST_BYTES,
+        Job::Improve => improve::MOST_BYTES,
     }
 }
 
@@ -40,6 +42,7 @@ fn judge(alloc: Global, job: &Job, bytes: &[u8]) -> Result<Reply, Stop>
         Job::Agree => agree::agree(alloc, bytes),
         Job::Recheck => recheck::recheck(alloc, bytes),
         Job::Synth(asked) => synth::synth(alloc, bytes, asked),
+        Job::Improve => improve::improve(alloc, bytes),
     }
 }
 
@@ -89,6 +92,8 @@ pub fn run<S: Source, O: Sink, N: Sink>(
     ensures recheck { RecheckPromise (run_of words.now (before_after S.left S.faults source.old source.new) (before_after O.written O.faults out.old out.new) (before_after N.written N.faults note.old note.new) result) }
     // What `synth` promises.
     ensures synth { SynthPromise (run_of words.now (before_after S.left S.faults source.old source.new) (before_after O.written O.faults out.old out.new) (before_after N.written N.faults note.old note.new) result) }
+    // What `improve` promises.
+    ensures improve { ImprovePromise (run_of words.now (before_after S.left S.faults source.old source.new) (before_after O.written O.faults out.old out.new) (before_after N.written N.faults note.old note.new) result) }
 {
     let Some(asked) = read_job(words) else {
         tell_error(note, &ErrorLine::plain(b"Usage"));

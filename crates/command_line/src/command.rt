@@ -19,8 +19,7 @@ pub enum Command {
         /// How many clauses at least are learnt before a formula is left open, from 1 to 10,000,000.
         conflicts: u32,
     },
-    /// Write a netlist again, without the gates that nothing reads. The words are read; the top call
-    /// doesn't do it yet.
+    /// Write a netlist again that does the same, without the gates that nothing reads.
     Improve,
 }
 

@@ -4,7 +4,7 @@ use Rattle.chain_app.specs.Told.{usage}
 use Rattle.chain_app.specs.Ending.{Idle, Ran}
 use Rattle.chain_app.specs.Views.{line_value, outcome_of}
 use Rattle.chain_app.proofs.Pieces.{named_as}
-use Rattle.chain_app.proofs.Ends.{no_job, jobs_promised, agree_kept, recheck_kept, synth_kept}
+use Rattle.chain_app.proofs.Ends.{no_job, jobs_promised, agree_kept, recheck_kept, synth_kept, improve_kept}
 use Rattle.chain_app.proofs.running.run.Goals as goal
 
 -- ---- words that ask for nothing
@@ -41,6 +41,11 @@ pub returns-in_default-clause-synth : goal.returns-in_default-clause-synth
 returns-in_default-clause-synth g c =
     let ending = returns-in_default-clause-ending g c in
     synth_kept _ ending.0 ending.1
+
+pub returns-in_default-clause-improve : goal.returns-in_default-clause-improve
+returns-in_default-clause-improve g c =
+    let ending = returns-in_default-clause-ending g c in
+    improve_kept _ ending.0 ending.1
 
 -- ---- a job
 
@@ -83,3 +88,8 @@ pub returns-clause-synth : goal.returns-clause-synth
 returns-clause-synth g c =
     let ending = returns-clause-ending g c in
     synth_kept _ ending.0 ending.1
+
+pub returns-clause-improve : goal.returns-clause-improve
+returns-clause-improve g c =
+    let ending = returns-clause-ending g c in
+    improve_kept _ ending.0 ending.1

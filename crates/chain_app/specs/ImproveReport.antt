@@ -1,0 +1,79 @@
+-- What `improve` tells.
+use Rattle.std.specs.Prelude.{◌≡◌, ℕ, ◌≤◌, List, length, Option, Some, None, codes}
+use Rattle.net_core.specs.declared.error.NetError.{NetError}
+use Rattle.net_core.specs.declared.error.NetError.TheVariants as nets
+use Rattle.improve_core.specs.Improving.{IsReported, HasNetFault}
+use Rattle.chain_app.specs.declared.status.Status.{Status}
+use Rattle.chain_app.specs.declared.status.Status.TheVariants.{Done, Malformed, Limit, Memory}
+use Rattle.chain_app.specs.Told.{Reply, Named, Refusal, at, memory}
+use Rattle.chain_app.specs.Run.{Task}
+
+-- the most bytes of a netlist that are read
+abbrev pub most_of_netlist : ℕ
+most_of_netlist = 16777216
+
+-- Faults of form are malformed, and what is beyond a limit is told as that.
+abbrev pub net_status : NetError → Status
+net_status (nets.Syntax line) = Malformed
+net_status (nets.NotSupported line name) = Malformed
+net_status (nets.MixedCover line) = Malformed
+net_status (nets.TooWide line) = Limit
+net_status (nets.TooManyGates count) = Limit
+net_status (nets.DrivenTwice name) = Malformed
+net_status (nets.Undriven name) = Malformed
+net_status (nets.Cycle name) = Malformed
+net_status (nets.LineTooLong line) = Limit
+net_status (nets.TooManyRows line) = Limit
+net_status (nets.NameTooLong line) = Limit
+net_status nets.Memory = Memory
+
+-- a variant with a name of the netlist, and one with a line and a name
+abbrev pub of_name : List ℕ → List ℕ → Named
+of_name variant name = record { name = variant; number = None; word = name; last = None }
+
+abbrev pub at_name : List ℕ → ℕ → List ℕ → Named
+at_name variant line name = record { name = variant; number = Some line; word = name; last = None }
+
+-- the name of a fault, and its line, count or name where it has one
+unfoldable pub named_net : NetError → Named
+named_net (nets.Syntax line) = at (codes "Syntax") line
+named_net (nets.NotSupported line name) = at_name (codes "NotSupported") line name
+named_net (nets.MixedCover line) = at (codes "MixedCover") line
+named_net (nets.TooWide line) = at (codes "TooWide") line
+named_net (nets.TooManyGates count) = at (codes "TooManyGates") count
+named_net (nets.DrivenTwice name) = of_name (codes "DrivenTwice") name
+named_net (nets.Undriven name) = of_name (codes "Undriven") name
+named_net (nets.Cycle name) = of_name (codes "Cycle") name
+named_net (nets.LineTooLong line) = at (codes "LineTooLong") line
+named_net (nets.TooManyRows line) = at (codes "TooManyRows") line
+named_net (nets.NameTooLong line) = at (codes "NameTooLong") line
+named_net nets.Memory = memory
+
+-- a netlist and its report as a reply, and a fault as a refusal
+abbrev pub improve_reply : List ℕ → List ℕ → Reply
+improve_reply text report = record { text = text; report = Some report; status = Done }
+
+abbrev pub improve_refusal : NetError → Refusal
+improve_refusal error = record { status = net_status error; named = named_net error }
+
+-- The bytes are a netlist, the text is one that does the same with no more gates, and the report says
+-- what both cost.
+pub record ImproveTells (bytes : List ℕ) (reply : Reply) : Type 0 where
+  pub within : length bytes ≤ most_of_netlist
+  pub text : List ℕ
+  pub report : List ℕ
+  pub reported : IsReported bytes text report
+  pub is : reply ≡ improve_reply text report
+
+-- The bytes are no netlist, and this is their first fault.
+pub record HasNetlistFault (bytes : List ℕ) (error : NetError) : Type 0 where
+  pub within : length bytes ≤ most_of_netlist
+  pub fault : HasNetFault bytes error
+
+pub record ImproveRefuses (bytes : List ℕ) (refusal : Refusal) : Type 0 where
+  pub error : NetError
+  pub fault : HasNetlistFault bytes error
+  pub is : refusal ≡ improve_refusal error
+
+abbrev pub improve_task : Task
+improve_task = record { most = most_of_netlist; Tells = ImproveTells; Refuses = ImproveRefuses }
