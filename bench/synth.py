@@ -7,7 +7,7 @@ import resource
 import subprocess
 import sys
 
-METHODS = ['ssv', 'select', 'plain']
+METHODS = ['ssv', 'select', 'fence', 'plain']
 
 FUNCTIONS = [
     ('xor', '0110'),

@@ -10,7 +10,7 @@ use Rattle.op_basis.specs.Text.{basis_of, all_set}
 use Rattle.op_basis.specs.declared.error.BasisError.{BasisError}
 use Rattle.op_basis.proofs.Lists.{basis_some}
 use Rattle.enc_theory.specs.declared.data.Method.{Method}
-use Rattle.enc_theory.specs.declared.data.Method.TheVariants.{Plain, Ssv, Select}
+use Rattle.enc_theory.specs.declared.data.Method.TheVariants.{Plain, Ssv, Select, Fence}
 use Rattle.cert_theory.specs.Coding.{is_built}
 use Rattle.synth_core.specs.Asking.{IsAsked}
 use Rattle.command_line.specs.declared.command.Command.{Command}
@@ -66,7 +66,8 @@ method_built value m =
     named (is_word value (codes "plain")) Plain _ m refl
     (named (is_word value (codes "ssv")) Ssv _ m refl
     (named (is_word value (codes "select")) Select _ m refl
-    (no_name m)))
+    (named (is_word value (codes "fence")) Fence _ m refl
+    (no_name m))))
 
 from_one : (t : Bool) (n m : ℕ) → (n == 0) ≡ t → cond t None (Some n) ≡ Some m → 1 ≤ m
 from_one true n m is e = absurd cc

@@ -165,6 +165,12 @@ fn certificates_are_found_valid_again(rt: HostRuntime) -> Result<(), Fail> {
             0,
             "minimum 2\n",
         ),
+        (
+            "synth --method fence",
+            "inputs 3\n00000001\n",
+            0,
+            "minimum 2\n",
+        ),
         ("synth --max 1", "inputs 3\n00000001\n", 0, "none 1\n"),
         // the full adder, with next to no work
         (

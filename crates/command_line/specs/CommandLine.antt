@@ -8,7 +8,7 @@ use Rattle.text_core.specs.Numbers.{number_up_to}
 use Rattle.op_basis.specs.Text.{basis_of, all_set}
 use Rattle.op_basis.specs.declared.error.BasisError.{BasisError}
 use Rattle.enc_theory.specs.declared.data.Method.{Method}
-use Rattle.enc_theory.specs.declared.data.Method.TheVariants.{Plain, Ssv, Select}
+use Rattle.enc_theory.specs.declared.data.Method.TheVariants.{Plain, Ssv, Select, Fence}
 use Rattle.command_line.specs.declared.command.Command.{Command}
 use Rattle.command_line.specs.declared.command.Command.TheVariants.{Agree, Recheck, Synth, Improve}
 use Rattle.command_line.specs.declared.command.Given.{Given}
@@ -24,13 +24,14 @@ is_word = pointwise nat_eq
 
 -- ---- values of options
 
--- the method of a name, of those that there are so far
+-- the method of a name
 abbrev pub method_in : List ℕ → Option Method
 method_in value =
     if is_word value (codes "plain") then Some Plain
     else (if is_word value (codes "ssv") then Some Ssv
     else (if is_word value (codes "select") then Some Select
-    else None))
+    else (if is_word value (codes "fence") then Some Fence
+    else None)))
 
 abbrev pub basis_in : Result ℕ BasisError → Option ℕ
 basis_in (Ok basis) = Some basis

@@ -28,6 +28,9 @@ fn method_in(value: &[u8]) -> Option<Method>
     if is_word(value, b"select") {
         return Some(Method::Select);
     }
+    if is_word(value, b"fence") {
+        return Some(Method::Fence);
+    }
     None
 }
 

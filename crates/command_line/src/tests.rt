@@ -44,6 +44,7 @@ fn what_is_not_named_has_its_default(rt: HostRuntime) -> Result<(), Fail> {
         ),
         ("synth --method plain", 65_535, Method::Plain, 16, 100_000),
         ("synth --method select", 65_535, Method::Select, 16, 100_000),
+        ("synth --method fence", 65_535, Method::Fence, 16, 100_000),
         (
             "synth --conflicts 10000000 --max 0 --method ssv",
             65_535,
@@ -80,7 +81,7 @@ fn other_words_ask_for_none(rt: HostRuntime) -> Result<(), Fail> {
         "synth --method",
         "synth plain",
         "synth --method Plain",
-        "synth --method fence",
+        "synth --method fences",
         "synth --method ssv --method ssv",
         "synth --max=3",
         "synth --max 17",

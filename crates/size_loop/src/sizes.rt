@@ -7,6 +7,7 @@ ghost use Rattle.size_loop.specs.Coded.{IsCodedBy};
 use crate::trying::{PartOutcome, try_part};
 use bundle_core::{Heading, Section};
 use chain_core::Chain;
+use enc_fence::FenceEnc;
 use enc_frame::{Encoding, Method};
 use enc_select::Select;
 use enc_ssv::{Plain, Ssv};
@@ -32,8 +33,7 @@ pub fn search_size(alloc: Global, heading: &Heading, size: u32) -> Result<SizeOu
         Method::Plain => search_parts(alloc, &Plain, heading, size),
         Method::Ssv => search_parts(alloc, &Ssv, heading, size),
         Method::Select => search_parts(alloc, &Select, heading, size),
-        // the method that is not built, which no heading has
-        Method::Fence => unreachable!(),
+        Method::Fence => search_parts(alloc, &FenceEnc, heading, size),
     }
 }
 

@@ -14,13 +14,12 @@ const ALL: u16 = 65_535;
 /// NAND alone.
 const NAND: u16 = 16_384;
 
-/// Whether a method is built.
+/// Whether a method is built; each is.
 fn is_known(method: Method) -> bool
     ensures { result ≡ is_built method }
 {
     match method {
-        Method::Plain | Method::Ssv | Method::Select => true,
-        Method::Fence => false,
+        Method::Plain | Method::Ssv | Method::Select | Method::Fence => true,
     }
 }
 
@@ -98,6 +97,13 @@ fn fewest_steps_are_found(rt: HostRuntime) -> Result<(), Fail> {
             b"inputs 3\n00000001\n",
             ALL,
             Method::Select,
+            Verdict::Minimum(2),
+            2,
+        ),
+        (
+            b"inputs 3\n00000001\n",
+            ALL,
+            Method::Fence,
             Verdict::Minimum(2),
             2,
         ),
