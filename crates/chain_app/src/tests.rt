@@ -221,3 +221,32 @@ fn inputs_have_a_greatest_length(rt: HostRuntime) -> Result<(), Fail> {
     assert!(rt; seen.is(3, "", "error: TooLong\n"));
     Ok(())
 }
+
+#[test]
+fn improve_tells(rt: HostRuntime) -> Result<(), Fail> {
+    for (input, status, out, note) in [
+        // the gate q is read by nothing
+        (
+            ".model x\n.inputs a b\n.outputs p\n.names a b p\n10 1\n.names a b q\n01 1\n.end\n",
+            0,
+            ".model x\n.inputs a b\n.outputs p\n.names a b p\n10 1\n.end\n",
+            "gates 2 -> 1\nsettled\n",
+        ),
+        (
+            ".model u\n.inputs a\n.outputs y\n.end\n",
+            2,
+            "",
+            "error: Undriven y\n",
+        ),
+        (
+            ".model s\n.subckt half a=a\n.end\n",
+            2,
+            "",
+            "error: NotSupported 2 .subckt\n",
+        ),
+    ] {
+        let seen = told(rt.alloc(), "improve --cap 0", input.as_bytes())?;
+        assert!(rt; seen.is(status, out, note), "{input}");
+    }
+    Ok(())
+}
