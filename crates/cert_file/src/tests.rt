@@ -205,7 +205,11 @@ fn titles_are_compared(rt: HostRuntime) -> Result<(), Fail> {
         (18, b"none 2\n", Err(BundleError::WrongVerdict(18))),
         (5, b"method ssv\n", Err(BundleError::Syntax(9))),
     ] {
-        assert_eq!(rt; judged(alloc, &NOT_BY_FENCES, (line, by), (0, b"")), answer, "{line}");
+        assert_eq!(rt;
+            judged(alloc, &NOT_BY_FENCES, (line, by), (0, b"")),
+            answer,
+            "{line}"
+        );
     }
     Ok(())
 }
