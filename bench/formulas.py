@@ -12,7 +12,7 @@ import subprocess
 import sys
 import tempfile
 
-METHODS = ("plain", "ssv", "fence")
+METHODS = ("plain", "ssv", "select", "fence")
 
 
 def table():

@@ -4,6 +4,7 @@ ghost use Rattle.std.specs.Prelude.{◌≤◌, length};
 use cnf_core::Cnf;
 use enc_fence::FenceEnc;
 use enc_frame::Encoding;
+use enc_select::Select;
 use enc_ssv::{Plain, Ssv};
 use op_basis::Basis;
 use std::alloc::Global;
@@ -62,6 +63,7 @@ pub fn build(alloc: Global, method: &[u8], text: &[u8], r: u32) -> Option<Size>
     match method {
         b"plain" => size_by(alloc, &Plain, &tables.spec, r),
         b"ssv" => size_by(alloc, &Ssv, &tables.spec, r),
+        b"select" => size_by(alloc, &Select, &tables.spec, r),
         b"fence" => size_by(alloc, &FenceEnc, &tables.spec, r),
         _ => None,
     }

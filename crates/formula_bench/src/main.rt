@@ -1,8 +1,8 @@
 //! The program `formula_bench`: builds the formulas of tables over all operators, one for each part of a
 //! size, and prints how many there are, how many variables the one with most has, and the clauses and
-//! literals of all together. The words are a method, `plain`, `ssv` or `fence`, and a number of steps;
-//! the tables stand on the standard input. How long that took, and in how much memory, is measured from
-//! outside.
+//! literals of all together. The words are a method, `plain`, `ssv`, `select` or `fence`, and a number of
+//! steps; the tables stand on the standard input. How long that took, and in how much memory, is measured
+//! from outside.
 #![tactic(auto)]
 
 mod building;
@@ -24,7 +24,7 @@ fn main(rt: HostRuntime) -> io::Result<()> {
         return println!(rt; "no input");
     };
     if words.len() != 2 || bytes.len() > MOST_BYTES {
-        return println!(rt; "usage: formula_bench plain|ssv|fence SIZE");
+        return println!(rt; "usage: formula_bench plain|ssv|select|fence SIZE");
     }
     let Some(r) = number_up_to(16, words[1].as_bytes()) else {
         return println!(rt; "no size");
