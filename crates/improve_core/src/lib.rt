@@ -18,3 +18,6 @@ mod reporting;
 pub use blif_core::NetError;
 pub use improving::{Improved, improve};
 pub use laws::faults_are_one;
+
+#[cfg(test)]
+mod tests;
