@@ -27,16 +27,15 @@ def ladder(order):
 def wide(seed):
     """Gates on random earlier signals, and outputs on some of them."""
     source = random.Random(seed)
-    names = [f'x{i}' for i in range(1000)]
-    tables = []
+    inputs = [f'x{i}' for i in range(1000)]
+    names, tables = list(inputs), []
     for number in range(GATES):
         first, second = source.sample(names, 2)
         rows = source.choice([('01', '10'), ('11',), ('00', '01', '10'), ('1-', '-1')])
         tables.append(table(first, second, f'n{number}', rows))
         names.append(f'n{number}')
     outputs = source.sample(names[1000:], 5000)
-    lists = ''.join('.inputs ' + ' '.join(names[i:i + 16]) + '\n' for i in range(0, 1000, 16))
-    lists += ''.join('.outputs ' + ' '.join(outputs[i:i + 16]) + '\n' for i in range(0, 5000, 16))
+    lists = f'.inputs {" ".join(inputs)}\n.outputs {" ".join(outputs)}\n'
     return '.model wide\n' + lists + ''.join(tables) + '.end\n'
 
 
