@@ -1,5 +1,5 @@
 //! The chain block, the verdict and the end.
-ghost use Rattle.std.specs.Prelude.{◌≡◌, ◌+◌, ◌<◌, ◌≤◌, ◌^◌, ◌==◌, Bool, List, [], ◌∷◌, length, All, Ok, IfOk};
+ghost use Rattle.std.specs.Prelude.{◌≡◌, ◌+◌, ◌<◌, ◌≤◌, ◌^◌, ◌==◌, ◌&&◌, nat_lt, Bool, List, [], ◌∷◌, length, All, Ok, IfOk};
 ghost use Rattle.text_core.specs.Lines.{Line};
 ghost use Rattle.chain_theory.specs.Chain as chain;
 ghost use Rattle.chain_core.specs.Block as block;
@@ -292,12 +292,18 @@ pub(crate) fn at_found(
     Ok(Stage::End { verdict })
 }
 
-/// The verdict of a line where no chain stands. By fences a title where no part is due any more is a
-/// fault of its own.
-fn verdict_at(method: Method, text: &[u8], ended: bool, number: u32) -> Result<Verdict, BundleError>
-    ensures { Gives (λ v. v) result (judging.verdict_at (is_titled method) number (record { text = text.now; ended = ended })) }
+/// The verdict of a line where no chain stands. By fences a title behind a section, where no part is due
+/// any more, is a fault of its own.
+fn verdict_at(
+    method: Method,
+    size: u32,
+    text: &[u8],
+    ended: bool,
+    number: u32,
+) -> Result<Verdict, BundleError>
+    ensures { Gives (λ v. v) result (judging.verdict_at (is_titled method && nat_lt 0 size) number (record { text = text.now; ended = ended })) }
 {
-    if matches!(method, Method::Fence) && is_title(text, ended) {
+    if matches!(method, Method::Fence) && size > 0 && is_title(text, ended) {
         return Err(BundleError::NotRefuted(number));
     }
     let Some(verdict) = not_found_in(text, ended) else {
@@ -319,7 +325,7 @@ fn at_not_found(
     ensures keeps { IfOk result (λ s. IsStage s (number + 1)) }
     ensures answer { (ls : List Line) (answer : Answer) → answer ≡ judging.no_chain_at heading number size low (record { text = text.now; ended = ended }) ls → Judged result (number + 1) ls answer }
 {
-    let verdict = verdict_at(heading.method, text, ended, number)?;
+    let verdict = verdict_at(heading.method, size, text, ended, number)?;
     if size != heading.max + 1 || !is_same(verdict, not_found(heading.max, low)) {
         return Err(BundleError::WrongVerdict(number));
     }

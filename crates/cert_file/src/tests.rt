@@ -194,6 +194,7 @@ fn titles_are_compared(rt: HostRuntime) -> Result<(), Fail> {
     let alloc = rt.alloc();
     for (line, by, answer) in [
         (0usize, b"" as &[u8], Ok(Verdict::NoChain(1))),
+        (8, b"fence\n", Err(BundleError::Syntax(8))),
         (9, b"", Err(BundleError::Syntax(9))),
         (9, b"size 1\n", Err(BundleError::NotRefuted(9))),
         (9, b"none 1\n", Err(BundleError::NotRefuted(9))),

@@ -2,7 +2,7 @@
 use Rattle.cert_theory.specs.declared.data.BundleError.TheVariants.{NotRefuted}
 use Rattle.cert_theory.specs.Coding.{is_titled}
 use Rattle.std.proofs.Common.{◌≡◌, ℕ, ◌+◌, ◌≤◌, ◌&&◌, ◌==◌, Bool, true, false, List, [], ◌∷◌, ◌++◌, length, Option, Some, None, Result, Ok, refl, sym, ap, ◌∙◌, subst, arith, cond, Err}
-use Rattle.std.specs.Prelude.{codes, decimal, option_and_then, nat_le}
+use Rattle.std.specs.Prelude.{codes, decimal, option_and_then, nat_le, nat_lt}
 use Rattle.std.specs.List.{join_with_byte}
 use Rattle.std.specs.Option.{option_map}
 use Rattle.std.proofs.Math.Logic.{⊎_elim}
@@ -157,7 +157,7 @@ no_title false d read next v e = e
 
 not_found_ends : (h : Heading) (number size : ℕ) (low : Option ℕ) (l : Line) (ls : List Line) (v : Verdict) → no_chain_at h number size low l ls ≡ Ok v → IsEnding h size low None v × (l ∷ ls ≡ ending_lines None v)
 not_found_ends h number size low l ls v e =
-    let read = no_title (is_titled h.method && is_title l) (NotRefuted number) (or_syntax number (not_found_in l)) (λ read. follows number (size == h.max + 1) (not_found h.max low) read >>= λ w. end_of (number + 1) w ls) v e in
+    let read = no_title (is_titled h.method && nat_lt 0 size && is_title l) (NotRefuted number) (or_syntax number (not_found_in l)) (λ read. follows number (size == h.max + 1) (not_found h.max low) read >>= λ w. end_of (number + 1) w ls) v e in
     let last = last_by number (size == h.max + 1) (not_found h.max low) v l ls (not_found_in l) (not_found_spells l) read in
     ((eqb-true size (h.max + 1) last.0, last.1.verdict_is), last.1.lines)
 

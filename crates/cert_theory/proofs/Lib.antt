@@ -3,6 +3,7 @@ pub mod ChainFaults
 pub mod EmptyClauses
 pub mod FreshLines
 pub mod Meanings
+pub mod LineFaults
 pub mod LineSpellings
 pub mod BlockReads
 pub mod TableSpellings

@@ -1,7 +1,7 @@
 -- Sections and endings that were written are read again.
 use Rattle.cert_theory.specs.Coding.{is_titled}
 use Rattle.std.proofs.Common.{◌≡◌, ℕ, ◌+◌, ◌<◌, ◌≤◌, ◌==◌, ◌&&◌, Bool, true, false, not, cond, List, [], ◌∷◌, ◌++◌, length, map, Option, Some, None, Result, Ok, Err, refl, sym, ap, ◌∙◌, subst, arith, append_assoc, append-nil}
-use Rattle.std.specs.Prelude.{codes, nat_le}
+use Rattle.std.specs.Prelude.{codes, nat_le, nat_lt}
 use Rattle.std.proofs.lemmas.Bool.Decides.{nat_tests}
 use Rattle.text_core.specs.Lines.{Line}
 use Rattle.text_core.specs.Words.{after}
@@ -154,7 +154,7 @@ not_found_last h number size low complete fits short =
     let v = not_found h.max low in
     let all : (size == h.max + 1) ≡ true = rw complete (eq_same (h.max + 1)) in
     ap (λ (t : Bool). cond t (chain_at h number size low (line (verdict_line v)) (line end_text ∷ [])) (no_chain_at h number size low (line (verdict_line v)) (line end_text ∷ []))) (no_chain_begins h.max low)
-    ∙ ap (λ (r : Result Verdict BundleError). r >>= λ read. follows number (size == h.max + 1) v read >>= λ w. end_of (number + 1) w (line end_text ∷ [])) (verdict_plain (is_titled h.method) number (line (verdict_line v)) (no_title h.max low))
+    ∙ ap (λ (r : Result Verdict BundleError). r >>= λ read. follows number (size == h.max + 1) v read >>= λ w. end_of (number + 1) w (line end_text ∷ [])) (verdict_plain (is_titled h.method && nat_lt 0 size) number (line (verdict_line v)) (no_title h.max low))
     ∙ ap (λ (t : Bool). or_syntax number (not_found_in (line (verdict_line v))) >>= λ read. follows number t v read >>= λ w. end_of (number + 1) w (line end_text ∷ [])) all
     ∙ last_again number v (not_found_in (line (verdict_line v))) (not_found_again h.max low fits short)
 

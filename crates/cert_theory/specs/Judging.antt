@@ -1,6 +1,6 @@
 -- What lines say as a bundle, and the first fault where they aren't a valid one. Lines are judged from
 -- the top. Each function is given the number that the first of its lines has in the whole text.
-use Rattle.std.specs.Prelude.{ℕ, zero, suc, ◌+◌, Bool, true, false, not, ◌&&◌, ◌||◌, ◌==◌, nat_le, if◌then◌else◌, List, [], ◌∷◌, ◌++◌, length, codes, Option, Some, None, is_some, Result, Ok, Err, option_and_then}
+use Rattle.std.specs.Prelude.{ℕ, zero, suc, ◌+◌, Bool, true, false, not, ◌&&◌, ◌||◌, ◌==◌, nat_le, nat_lt, if◌then◌else◌, List, [], ◌∷◌, ◌++◌, length, codes, Option, Some, None, is_some, Result, Ok, Err, option_and_then}
 use Rattle.std.specs.List.{list_all, list_any}
 use Rattle.std.specs.Option.{option_map}
 use Rattle.std.specs.Str.{bytes_eq}
@@ -357,14 +357,14 @@ with_block h f low read = do
 abbrev pub chain_at : Heading → ℕ → ℕ → Option ℕ → Line → List Line → Result Verdict BundleError
 chain_at h number size low l ls = steps_at h number size l >>= λ steps. with_block h (frame_of h number steps) low (block.body_from (frame_of h number steps) ls)
 
--- By fences a title where no part is due any more is a fault of its own.
+-- By fences a title behind a section, where no part is due any more, is a fault of its own.
 abbrev pub verdict_at : Bool → ℕ → Line → Result Verdict BundleError
 verdict_at titled number l = if titled && is_title l then Err (NotRefuted number) else or_syntax number (not_found_in l)
 
 -- the verdict where no chain stands: all sizes have to be there
 abbrev pub no_chain_at : Heading → ℕ → ℕ → Option ℕ → Line → List Line → Result Verdict BundleError
 no_chain_at h number size low l ls = do
-  read ← verdict_at (is_titled h.method) number l
+  read ← verdict_at (is_titled h.method && nat_lt 0 size) number l
   v ← follows number (size == h.max + 1) (not_found h.max low) read
   end_of (number + 1) v ls
 

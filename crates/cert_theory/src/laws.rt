@@ -10,7 +10,11 @@ ghost use Rattle.cert_theory.specs.Spelling.{IsBundle, HasVerdict};
 ghost use Rattle.cert_theory.specs.Judging.{bundle_of};
 ghost use Rattle.cert_theory.specs.declared.data.Verdict.{Verdict};
 ghost use Rattle.text_core.specs.Lines.{lines_of};
-ghost use Rattle.std.specs.Prelude.{◌≡◌, ℕ, List, Ok};
+ghost use Rattle.std.specs.Prelude.{◌≡◌, ℕ, List, Some, Ok};
+ghost use Rattle.sat_theory.specs.State.{State};
+ghost use Rattle.sat_theory.specs.Line.{Line};
+ghost use Rattle.lrat_check.specs.Judging.{line_fault};
+ghost use Rattle.lrat_check.specs.declared.error.CheckError.TheVariants.{Memory};
 
 /// The verdict of a valid bundle is true, whoever made it.
 pub fn verdicts_are_true()
@@ -21,4 +25,9 @@ pub fn verdicts_are_true()
 pub fn verdicts_are_spelled()
     ensures only { (bytes : List ℕ) (v : Verdict) → bundle_of (lines_of bytes) ≡ Ok v → HasVerdict bytes v }
     ensures each { (bytes : List ℕ) (b : Bundle) → IsBundle bytes b → bundle_of (lines_of bytes) ≡ Ok b.verdict }
+{}
+
+/// The fault of a log's line is never want of memory, so that `Memory` never stands in `StepRefused`.
+pub fn faults_of_lines_are_told()
+    ensures { (s : State) (l : Line) → line_fault s l ≡ Some Memory → ⊥ }
 {}

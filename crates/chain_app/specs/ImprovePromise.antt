@@ -58,7 +58,7 @@ pub record HasNetlistCause (input : List ℕ) (status : Status) : Type 0 where
   pub tells : net_status error ≡ status
 
 pub record ImprovePromise (r : Run) : Type 0 where
-  -- A netlist gets one that does the same with no more gates, and its report.
+  -- A netlist gets one that does the same with no more gates, and its report, or the notes fail in it.
   pub complete : (input : List ℕ) → IsImprove r input → length input ≤ most_of_netlist → IsNetlist input → NothingFailed r → GetsNetlist r input ⊎ IsNetlistReportCut r input
   -- The status 0 comes with it alone.
   pub done_only : (input : List ℕ) → IsImprove r input → r.status ≡ Done → GetsNetlist r input
