@@ -1,13 +1,12 @@
 #!/usr/bin/env python3
 """netlists.py PROGRAM: makes large netlists, improves each by PROGRAM without windows, and prints a table:
-the gates before and after, the bytes, the time, megabytes of text a second, and the peak of memory.
+the gates before and after, the bytes, the user time, megabytes of text a second, and the peak of memory.
 
 The netlists are a ladder of 100,000 gates of which each reads the one before it, the same with its tables
 in reverse order, and a wide random netlist of which about half is read by the outputs."""
 import random
 import subprocess
 import sys
-import time
 
 GATES = 100_000
 
@@ -40,18 +39,18 @@ def wide(seed):
 
 
 def run(program, text):
-    """The first line of the report, the seconds, and the peak of memory in megabytes."""
-    begun = time.time()
+    """The first line of the report, the user seconds, and the peak of memory in megabytes."""
     words = ['/usr/bin/env', 'python3', '-c', WATCH, program]
     done = subprocess.run(words, input=text.encode(), stdout=subprocess.PIPE, stderr=subprocess.PIPE, check=False)
     lines = done.stderr.decode().splitlines()
-    return lines[0], time.time() - begun, int(lines[-1]) // 1024
+    return lines[0], float(lines[-2]), int(lines[-1]) // 1024
 
 
 WATCH = """
 import resource, subprocess, sys
 subprocess.run([sys.argv[1], 'improve', '--cap', '0'], stdin=sys.stdin, stdout=subprocess.DEVNULL)
-print(resource.getrusage(resource.RUSAGE_CHILDREN).ru_maxrss, file=sys.stderr)
+used = resource.getrusage(resource.RUSAGE_CHILDREN)
+print(used.ru_utime, used.ru_maxrss, sep='\\n', file=sys.stderr)
 """
 
 
