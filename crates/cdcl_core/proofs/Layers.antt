@@ -12,7 +12,7 @@ use Rattle.cdcl_theory.specs.FallingLaws.{implies_kept, implies_more, closed_kep
 use Rattle.cdcl_theory.specs.Trails.{Trailed, fell, reason_of, IsTrail, pushed, HasReason, IsGrown, IsBack, IsLayered}
 use Rattle.cdcl_theory.specs.TrailLaws.{trail_push}
 use Rattle.trail_core.specs.Values.{IsOver, IsFree}
-use Rattle.clause_db.specs.Stored.{Stored, live_in}
+use Rattle.clause_db.specs.Stored.{Stored, live_in, added}
 use Rattle.clause_db.specs.StoredLaws.{live_in-add, added_old, added_new}
 use Rattle.conflict_core.specs.Learning.{IsLearnt, asserting, HaveReasons}
 use Rattle.cdcl_core.specs.Levels.{IsDropped, IsLastStart}
@@ -221,9 +221,9 @@ pub learnt_over : (live : ℕ → Option (List ℤ)) (t : Trailed) (start place 
 learnt_over live t start place lits hints learnt = (learnt.clause.literals 0 (pos 0) learnt.some, learnt.variables 0 (pos 0) learnt.some)
 
 -- So the levels last through a jump, over the clauses of a store.
-pub jumped_layers : (s : Stored) (t back : Trailed) (starts fewer : List ℕ) (start end place id : ℕ) (lits : List ℤ) (hints : List ℕ) (u : ℤ) → IsLayered (live_in s) t starts → IsLearnt (live_in s) t start lits place hints → IsLastStart starts start → IsDropped place starts fewer end → IsTrail back → IsBack end t back → id ≡ length s.clauses + 1 → u ≡ asserting lits → IsLayered (live_in (record s { clauses = s.clauses ++ Some lits ∷ [] })) (pushed back u id) fewer
+pub jumped_layers : (s : Stored) (t back : Trailed) (starts fewer : List ℕ) (start end place id : ℕ) (lits : List ℤ) (hints : List ℕ) (u : ℤ) → IsLayered (live_in s) t starts → IsLearnt (live_in s) t start lits place hints → IsLastStart starts start → IsDropped place starts fewer end → IsTrail back → IsBack end t back → id ≡ length s.clauses + 1 → u ≡ asserting lits → IsLayered (live_in (added s lits)) (pushed back u id) fewer
 jumped_layers s t back starts fewer start end place id lits hints u layered learnt level dropped trail_back is_back id_is u_is =
-    rw u_is (layered_jumped (live_in s) (live_in (record s { clauses = s.clauses ++ Some lits ∷ [] })) t back starts fewer start end place id lits hints
+    rw u_is (layered_jumped (live_in s) (live_in (added s lits)) t back starts fewer start end place id lits hints
     (live_in-add s lits ∙ ap (λ (n : ℕ). with_clause (live_in s) n lits) (sym id_is))
     (λ k clause is. ap (λ (g : ℕ → Option (List ℤ)). g k) (live_in-add s lits) ∙ added_old s lits k clause is)
     (ap (λ (g : ℕ → Option (List ℤ)). g id) (live_in-add s lits) ∙ there)

@@ -7,3 +7,7 @@ pub mod Counting
 pub mod Settling
 pub mod Showing
 pub mod Ternary
+pub mod Guards
+pub mod Visits
+pub mod Jumps
+pub mod Beginning

@@ -1,5 +1,5 @@
 -- How the log grows.
-use Rattle.std.proofs.Common.{◌≡◌, ℕ, ◌+◌, ◌-◌, ◌^◌, ◌<◌, ◌≤◌, ℤ, true, List, [], ◌∷◌, ◌++◌, map, length, Option, Some, None, is_some, subst, sym, ap, ◌∙◌, arith, inr, refl}
+use Rattle.std.proofs.Common.{◌≡◌, ℕ, ◌+◌, ◌-◌, ◌^◌, ◌<◌, ◌≤◌, ℤ, true, List, [], ◌∷◌, ◌++◌, length, Option, Some, None, is_some, All, subst, sym, ap, ◌∙◌, arith, inr, refl}
 use Rattle.std.proofs.lemmas.List.{length_push, length-map, map_push}
 use Rattle.std.proofs.lemmas.List.Elements.{All-push, All-weaker, All-nil}
 use Rattle.std.proofs.lemmas.List.Quantifiers.{Any-push}
@@ -12,8 +12,8 @@ use Rattle.sat_theory.specs.LogLaws.{after-push, EachLine-push, added_ids-add}
 use Rattle.lrat_text.specs.declared.line.Line as rust
 use Rattle.lrat_text.specs.Values.{line_value, line_values}
 use Rattle.cdcl_theory.specs.ResolvingLaws.{hints_live}
-use Rattle.clause_db.specs.Stored.{Stored, live_in, IsStored}
-use Rattle.clause_db.specs.StoredLaws.{live_in-add, live_in-start, live_inside, added_old, added_new}
+use Rattle.clause_db.specs.Stored.{Stored, live_at, live_in, IsStored, none_stored, added, all_added}
+use Rattle.clause_db.specs.StoredLaws.{live_in-add, live_in-start, live_inside, added_old, added_new, all_added-vars, all_added-clauses}
 use Rattle.cdcl_core.specs.Searching.{AddsSome, IsLog}
 
 -- the state of the log, by the clauses
@@ -43,7 +43,7 @@ addition_step f s id lits hints vars stored is_clause within small is hold =
     }
 
 -- One more clause, that is new and not empty.
-pub log_added : (f : Formula) (s : Stored) (lines : List Line) (id : ℕ) (lits : List ℤ) (hints : List ℕ) → IsLog f s lines → IsStored s → IsClause lits → IsWithin s.vars lits → s.vars < 1000000000 → id ≡ length s.clauses + 1 → HintsHold (live_in s) (among lits) hints → IsNew (live_in s) lits → 0 < length lits → IsLog f (record s { clauses = s.clauses ++ Some lits ∷ [] }) (lines ++ Add id lits hints ∷ [])
+pub log_added : (f : Formula) (s : Stored) (lines : List Line) (id : ℕ) (lits : List ℤ) (hints : List ℕ) → IsLog f s lines → IsStored s → IsClause lits → IsWithin s.vars lits → s.vars < 1000000000 → id ≡ length s.clauses + 1 → HintsHold (live_in s) (among lits) hints → IsNew (live_in s) lits → 0 < length lits → IsLog f (added s lits) (lines ++ Add id lits hints ∷ [])
 log_added f s lines id lits hints log stored is_clause within small is hold new some = record {
   vars = log.vars;
   holds = EachLine-push IsStep (start f) lines (Add id lits hints) log.holds (subst (λ (st : State). IsStep st (Add id lits hints)) (sym log.state) (addition_step f s id lits hints log.vars stored is_clause within small is hold));
@@ -57,7 +57,7 @@ log_added f s lines id lits hints log stored is_clause within small is hold new 
 }
   where
     more : Stored
-    more = record s { clauses = s.clauses ++ Some lits ∷ [] }
+    more = added s lits
 
     kept : (k : ℕ) (clause : List ℤ) → live_in s k ≡ Some clause → live_in more k ≡ Some clause
     kept k clause here = ap (λ (g : ℕ → Option (List ℤ)). g k) (live_in-add s lits) ∙ added_old s lits k clause here
@@ -79,16 +79,28 @@ log_refuted f s lines id hints log stored small is hold = record {
     no_literals = record { literals = λ k d (low : k < 0). absurd (omega arith); differ = λ i j d less (low : j < 0). absurd (omega arith) }
 
 -- The log begins empty.
-pub log_begun : (f : Formula) → IsLog f (record { vars = f.vars; clauses = map (λ (c : List ℤ). Some c) f.clauses }) []
+pub log_begun : (f : Formula) → IsLog f (all_added (none_stored f.vars) f.clauses) []
 unfolding after EachLine added_ids
 log_begun f = record {
-  vars = refl;
+  vars = all_added-vars (none_stored f.vars) f.clauses;
   holds = tt;
   fresh = tt;
   some = All-nil AddsSome;
-  state = rw (live_in-start f.vars f.clauses, length-map f.clauses (λ (c : List ℤ). Some c)) refl;
+  state = rw (live_in-start f.vars f.clauses, all_added-clauses (none_stored f.vars) f.clauses, length-map f.clauses (λ (c : List ℤ). Some c)) refl;
   formula = λ id clause is. ap (λ (g : ℕ → Option (List ℤ)). g id) (live_in-start f.vars f.clauses) ∙ is;
-  added = All-nil (λ id. is_some (live_in (record { vars = f.vars; clauses = map (λ (c : List ℤ). Some c) f.clauses }) id) ≡ true);
+  added = All-nil (λ id. is_some (live_in (all_added (none_stored f.vars) f.clauses) id) ≡ true);
+}
+
+-- the same clauses, whatever they watch
+pub log_same : (f : Formula) (a b : Stored) (lines : List Line) → b.clauses ≡ a.clauses → b.vars ≡ a.vars → IsLog f a lines → IsLog f b lines
+log_same f a b lines clauses vars log = record {
+  vars = vars ∙ log.vars;
+  holds = log.holds;
+  fresh = log.fresh;
+  some = log.some;
+  state = log.state ∙ ap (λ (xs : List (Option (List ℤ))). (let st : State = record { live = live_at xs; vars = f.vars; greatest = length xs } in st)) (sym clauses);
+  formula = λ id clause is. ap (λ (xs : List (Option (List ℤ))). live_at xs id) clauses ∙ log.formula id clause is;
+  added = subst (λ (xs : List (Option (List ℤ))). All (λ id. is_some (live_at xs id) ≡ true) (added_ids lines)) (sym clauses) log.added;
 }
 
 -- one more line of the program's

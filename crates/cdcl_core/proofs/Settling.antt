@@ -1,13 +1,20 @@
 -- Propagations and jumps, one after another.
-use Rattle.std.proofs.Common.{◌≡◌, ℕ, ◌+◌, ◌-◌, ◌*◌, ◌<◌, ◌≤◌, ℤ, List, length, slice_index_or, Option, subst, sym, ap, ◌∙◌, arith, refl}
+use Rattle.std.proofs.Common.{◌≡◌, ℕ, ◌+◌, ◌-◌, ◌*◌, ◌<◌, ◌≤◌, ℤ, List, [], length, slice_index_or, All, Option, subst, sym, ap, ◌∙◌, arith, refl}
 use Rattle.std.proofs.Math.Logic.{⊎_elim}
 use Rattle.std.proofs.Math.Nat.{mul-le-mul_right}
 use Rattle.std.proofs.lemmas.Bool.{cases_eq}
-use Rattle.cdcl_theory.specs.Trails.{Trailed, IsTrail, IsGrown, IsLayered}
-use Rattle.clause_db.specs.Stored.{live_in}
+use Rattle.cdcl_theory.specs.Trails.{Trailed, fell, IsTrail, IsGrown, IsLayered}
+use Rattle.clause_db.specs.Stored.{Stored, live_at, live_in, IsStored}
+use Rattle.sat_theory.specs.Formula.{Formula}
+use Rattle.lrat_text.specs.Values.{line_values}
+use Rattle.cdcl_core.specs.Visiting.{IsRest}
+use Rattle.cdcl_core.proofs.Logging.{log_same}
 use Rattle.conflict_core.specs.Learning.{IsReady}
 use Rattle.cdcl_core.specs.declared.search.Search.{Search}
-use Rattle.cdcl_core.specs.Searching.{IsSearching, HasSettled, HasJumped, HasDecided}
+use Rattle.cdcl_core.specs.Searching.{IsSearching, IsVisited, IsLog, IsLogged, HasBegun, HasPropagated, HasSettled, HasJumped, HasDecided}
+use Rattle.cdcl_core.specs.Guarding.{IsGuarded}
+use Rattle.cdcl_core.proofs.Guards.{guarded_begun, guarded_settled}
+use Rattle.cdcl_theory.specs.Falling.{AllSettled}
 use Rattle.cdcl_core.proofs.Counting.{different_below, trail_short}
 use Rattle.cdcl_core.proofs.Layers.{layered_grown}
 
@@ -18,6 +25,62 @@ searching_grown s t searching grown trail = record {
   layered = layered_grown (live_in s.clauses) s.trail t s.starts.items searching.layered grown trail;
   ready = subst (λ (n : ℕ). IsReady n s.analysis) (sym grown.vars) searching.ready;
 }
+
+-- the same with clauses that watch others
+pub searching_rest : (s : Search) (b : Stored) (t : Trailed) (head : ℕ) → IsSearching s → IsRest s.clauses b s.trail t → IsStored b → IsTrail t → IsSearching (record s { clauses = b; trail = t; head = head })
+searching_rest s b t head searching rest stored trail = record {
+  stored = stored;
+  vars = rest.vars ∙ searching.vars ∙ sym rest.grown.vars;
+  layered = layered_grown (live_in b) s.trail t s.starts.items (subst (λ (xs : List (Option (List ℤ))). IsLayered (live_at xs) s.trail s.starts.items) (sym rest.clauses) searching.layered) rest.grown trail;
+  ready = subst (λ (n : ℕ). IsReady n s.analysis) (sym rest.grown.vars) searching.ready;
+}
+
+-- where all is visited, all is settled
+pub settled_visited : (s : Search) → IsSearching s → IsVisited s → s.head ≡ length s.trail.lits → AllSettled (live_in s.clauses) (fell s.trail)
+settled_visited s searching visited all = guarded_settled s.clauses s.trail s.starts.items searching.stored searching.layered.whole (subst (λ (n : ℕ). IsGuarded s.clauses (fell s.trail) s.starts.items n) all visited.guarded)
+
+-- the log after the first propagation
+pub logged_begun : (f : Formula) (a b : Search) → IsLogged f a → HasBegun a b → IsLogged f b
+logged_begun f a b log begun = rw (begun.clauses, begun.lines) log
+
+-- what is visited then,
+pub visited_begun : (s : Search) (t : Trailed) → s.starts.items ≡ [] → s.head ≡ 0 → AllSettled (live_in s.clauses) (fell t) → IsVisited (record s { trail = t })
+visited_begun s t starts head settled = record {
+  guarded = rw (starts, head) (guarded_begun s.clauses t settled);
+  low = rw head (omega arith);
+  begun = rw starts (λ k d (low : k < 0). absurd (omega (arith, low)));
+}
+
+-- and when watched literals have made more true
+pub visited_some : (s : Search) (b : Stored) (t : Trailed) → IsVisited s → IsRest s.clauses b s.trail t → ((starts : List ℕ) → All (λ x. x ≤ s.head) starts → IsGuarded s.clauses (fell s.trail) starts s.head → IsGuarded b (fell t) starts s.head) → IsVisited (record s { clauses = b; trail = t })
+visited_some s b t visited rest kept = record {
+  guarded = kept s.starts.items visited.begun visited.guarded;
+  low = (let h : s.head ≤ length s.trail.lits = visited.low in let g : length s.trail.lits ≤ length t.lits = rest.grown.longer in omega (arith, h, g));
+  begun = visited.begun;
+}
+
+pub visited_all : (s : Search) (b : Stored) (t : Trailed) (head : ℕ) → IsVisited s → IsRest s.clauses b s.trail t → ((starts : List ℕ) → All (λ x. x ≤ s.head) starts → IsGuarded s.clauses (fell s.trail) starts s.head → IsGuarded b (fell t) starts (length t.lits)) → head ≡ length t.lits → IsVisited (record s { clauses = b; trail = t; head = head })
+visited_all s b t head visited rest kept is = rw is (record {
+  guarded = kept s.starts.items visited.begun visited.guarded;
+  low = omega arith;
+  begun = λ k d inside. (let h : slice_index_or s.starts.items k d ≤ s.head = visited.begun k d inside in let g : s.head ≤ length s.trail.lits = visited.low in let m : length s.trail.lits ≤ length t.lits = rest.grown.longer in omega (arith, h, g, m));
+})
+
+pub settled_propagated : (a b c : Search) → HasSettled a b → HasPropagated b c → HasSettled a c
+settled_propagated a b c settled propagated =
+    let lines : length c.lines.items ≡ length b.lines.items = ap (λ ls. length ls.items) propagated.lines in
+    let starts : length c.starts.items ≡ length b.starts.items = ap (λ ls. length ls.items) propagated.starts in
+    let clauses : length c.clauses.clauses ≡ length b.clauses.clauses = ap (λ (xs : List (Option (List ℤ))). length xs) propagated.rest.clauses in
+    record {
+      vars = propagated.rest.grown.vars ∙ settled.vars;
+      more = (let h : length a.lines.items ≤ length b.lines.items = settled.more in omega (arith, h, lines));
+      starts = (let h : length b.lines.items + length b.starts.items ≤ length a.lines.items + length a.starts.items = settled.starts in omega (arith, h, lines, starts));
+      clauses = (let h : length b.clauses.clauses + length a.lines.items ≡ length a.clauses.clauses + length b.lines.items = settled.clauses in omega (arith, h, lines, clauses));
+      longer = λ same. (let h : length b.lines.items ≡ length a.lines.items → length a.trail.lits ≤ length b.trail.lits = settled.longer in let low : length a.trail.lits ≤ length b.trail.lits = h (omega (arith, same, lines)) in let g : length b.trail.lits ≤ length c.trail.lits = propagated.rest.grown.longer in omega (arith, low, g));
+    }
+
+pub logged_propagated : (f : Formula) (b c : Search) → IsLogged f b → HasPropagated b c → IsLogged f c
+logged_propagated f b c log propagated = subst (λ ls. IsLog f c.clauses (line_values ls.items)) (sym propagated.lines) (log_same f b.clauses c.clauses (line_values b.lines.items) propagated.rest.clauses propagated.rest.vars log)
 
 pub settled_self : (s : Search) → HasSettled s s
 settled_self s = record { vars = refl; more = omega arith; starts = omega arith; clauses = refl; longer = λ same. omega arith }

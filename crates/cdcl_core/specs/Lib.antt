@@ -3,3 +3,5 @@ pub mod Levels
 pub mod Searching
 pub mod Endings
 pub mod Answering
+pub mod Guarding
+pub mod Visiting

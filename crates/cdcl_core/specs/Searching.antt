@@ -6,10 +6,12 @@ use Rattle.sat_theory.specs.Line.{Add, Delete}
 use Rattle.sat_theory.specs.State.{by_id, start}
 use Rattle.sat_theory.specs.Log.{after, EachLine, IsStep, IsFresh, added_ids}
 use Rattle.lrat_text.specs.Values.{line_values}
-use Rattle.cdcl_theory.specs.Trails.{IsLayered}
+use Rattle.cdcl_theory.specs.Trails.{IsLayered, fell}
 use Rattle.clause_db.specs.Stored.{Stored, live_in, IsStored}
 use Rattle.conflict_core.specs.Learning.{IsReady}
 use Rattle.cdcl_core.specs.declared.search.Search.{Search}
+use Rattle.cdcl_core.specs.Guarding.{IsGuarded}
+use Rattle.cdcl_core.specs.Visiting.{IsRest}
 
 -- the parts of the search fit together
 pub record IsSearching (s : Search) : Type 0 where
@@ -36,6 +38,25 @@ pub record IsLog (f : Formula) (clauses : Stored) (lines : List theory.Line) : T
 
 abbrev pub IsLogged : Formula → Search → Type 0
 IsLogged f s = IsLog f s.clauses (line_values s.lines.items)
+
+-- The watched literals keep their promise for the literals that are visited.
+pub record IsVisited (s : Search) : Type 0 where
+  pub guarded : IsGuarded s.clauses (fell s.trail) s.starts.items s.head
+  pub low : s.head ≤ length s.trail.lits
+  pub begun : All (λ x. x ≤ s.head) s.starts.items
+
+-- The trail went on, and nothing else changed.
+pub record HasBegun (old new : Search) : Type 0 where
+  pub vars : new.trail.vars ≡ old.trail.vars
+  pub lines : new.lines ≡ old.lines
+  pub clauses : new.clauses ≡ old.clauses
+  pub starts : new.starts ≡ old.starts
+
+-- The trail went on, and clauses may watch other literals.
+pub record HasPropagated (old new : Search) : Type 0 where
+  pub rest : IsRest old.clauses new.clauses old.trail new.trail
+  pub lines : new.lines ≡ old.lines
+  pub starts : new.starts ≡ old.starts
 
 -- One clause was learnt, for which a level at least was taken off.
 pub record HasJumped (old new : Search) : Type 0 where

@@ -18,5 +18,6 @@ mod answering;
 mod levels;
 mod propagation;
 mod search;
+mod visiting;
 
 pub use answering::{Solved, solve};

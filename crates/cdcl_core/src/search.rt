@@ -10,6 +10,7 @@ ghost use Rattle.cdcl_core.specs.Levels.{IsLastStart};
 
 use crate::levels::drop_levels;
 use crate::propagation::propagate;
+use crate::visiting::propagate_watched;
 use clause_db::ClauseDb;
 use cnf_core::{Cnf, Lit};
 use conflict_core::Analysis;
@@ -26,6 +27,8 @@ pub(crate) struct Search {
     pub(crate) starts: Vec<usize>,
     pub(crate) analysis: Analysis,
     pub(crate) lines: Vec<Line>,
+    /// how many literals of the trail are visited
+    pub(crate) head: usize,
 }
 
 /// How a search ends.
@@ -39,7 +42,7 @@ pub(crate) enum Ending {
 }
 
 impl Search {
-    ghost use Rattle.cdcl_core.specs.Searching.{IsSearching, IsLogged, HasJumped, HasSettled, HasDecided};
+    ghost use Rattle.cdcl_core.specs.Searching.{IsSearching, IsVisited, IsLogged, HasBegun, HasPropagated, HasJumped, HasSettled, HasDecided};
     ghost use Rattle.cdcl_core.specs.Endings.{Ends};
 
     /// A search over a formula, before its first step.
@@ -49,6 +52,7 @@ impl Search {
         ensures clauses { IfOk result (λ s. length s.clauses.clauses ≡ length cnf.now.clauses) }
         ensures lines { IfOk result (λ s. s.lines.items ≡ []) }
         ensures starts { IfOk result (λ s. s.starts.items ≡ []) }
+        ensures head { IfOk result (λ s. s.head ≡ 0) }
     {
         Ok(Search {
             clauses: ClauseDb::new(alloc, cnf)?,
@@ -56,7 +60,44 @@ impl Search {
             starts: Vec::new(alloc),
             analysis: Analysis::new(alloc, cnf.vars())?,
             lines: Vec::new(alloc),
+            head: 0,
         })
+    }
+
+    /// Makes true what follows before the first decision, in the plain way: clauses of one literal, which
+    /// watch nothing, are true for good then.
+    fn begin(&mut self) -> Result<Option<u32>, AllocError>
+        requires searching { IsSearching self.old }
+        requires starts { self.old.starts.items ≡ [] }
+        requires head { self.old.head ≡ 0 }
+        ensures searching { IfOk result (λ _. IsSearching self.new) }
+        ensures begun { IfOk result (λ _. HasBegun self.old self.new) }
+        ensures visited { IfOk result (λ found. IfNone found (IsVisited self.new)) }
+        ensures conflict { IfOk result (λ found. IfSome found (IsFalsified (live_in self.new.clauses) (fell_of self.new.trail))) }
+    {
+        if let Some(conflict) = propagate(&mut self.trail, &self.clauses)? {
+            return Ok(Some(conflict));
+        }
+        Ok(None)
+    }
+
+    /// Makes true what follows, by the watched literals.
+    fn propagate(&mut self) -> Result<Option<u32>, AllocError>
+        requires searching { IsSearching self.old }
+        requires visited { IsVisited self.old }
+        ensures searching { IfOk result (λ _. IsSearching self.new) }
+        ensures visited { IfOk result (λ _. IsVisited self.new) }
+        ensures propagated { IfOk result (λ _. HasPropagated self.old self.new) }
+        ensures all { IfOk result (λ found. IfNone found (self.new.head ≡ length self.new.trail.lits)) }
+        ensures conflict { IfOk result (λ found. IfSome found (IsFalsified (live_in self.new.clauses) (fell_of self.new.trail))) }
+    {
+        match propagate_watched(&mut self.trail, &mut self.clauses, self.head)? {
+            Some(conflict) => Ok(Some(conflict)),
+            None => {
+                self.head = self.trail.len();
+                Ok(None)
+            }
+        }
     }
 
     /// Learns a clause from a conflict in the last level, which begins at index `start`, goes back to
@@ -66,7 +107,9 @@ impl Search {
         requires level { IsLastStart self.old.starts.items start }
         requires few { length self.old.clauses.clauses < 4000000000 }
         requires conflict { IsFalsified (live_in self.old.clauses) (fell_of self.old.trail) conflict }
+        requires visited { IsVisited self.old }
         ensures searching { OnOk result (IsSearching self.new) }
+        ensures visited { OnOk result (IsVisited self.new) }
         ensures logged { (f : Formula) → IsLogged f self.old → OnOk result (IsLogged f self.new) }
         ensures jumped { OnOk result (HasJumped self.old self.new) }
     {
@@ -83,21 +126,25 @@ impl Search {
             lits: learnt.lits,
             hints: learnt.hints,
         })?;
+        self.head = end;
         Ok(())
     }
 
     /// Propagates, and learns from each conflict, until none is left, or one with no decision standing.
     fn settle(&mut self) -> Result<Option<u32>, AllocError>
         requires searching { IsSearching self.old }
+        requires visited { IsVisited self.old }
         requires few { length self.old.clauses.clauses + length self.old.starts.items < 4000000000 }
         ensures searching { IfOk result (λ _. IsSearching self.new) }
         ensures logged { (f : Formula) → IsLogged f self.old → IfOk result (λ _. IsLogged f self.new) }
         ensures settled { IfOk result (λ _. HasSettled self.old self.new) }
+        ensures visited { IfOk result (λ _. IsVisited self.new) }
+        ensures all { IfOk result (λ found. IfNone found (self.new.head ≡ length self.new.trail.lits)) }
         ensures none { IfOk result (λ found. IfNone found (AllSettled (live_in self.new.clauses) (fell_of self.new.trail))) }
         ensures conflict { IfOk result (λ found. IfSome found (IsFalsified (live_in self.new.clauses) (fell_of self.new.trail))) }
         ensures last { IfOk result (λ found. IfSome found (λ _. self.new.starts.items ≡ [])) }
     {
-        while let Some(conflict) = propagate(&mut self.trail, &self.clauses)? {
+        while let Some(conflict) = self.propagate()? {
             let Some(start) = self.starts.last() else {
                 return Ok(Some(conflict));
             };
@@ -111,9 +158,12 @@ impl Search {
     fn decide(&mut self, lit: Lit) -> Result<(), AllocError>
         requires searching { IsSearching self.old }
         requires settled { AllSettled (live_in self.old.clauses) (fell_of self.old.trail) }
+        requires visited { IsVisited self.old }
+        requires all { self.old.head ≡ length self.old.trail.lits }
         requires over { IsOver self.old.trail.vars lit }
         requires free { IsFree self.old.trail lit }
         ensures searching { OnOk result (IsSearching self.new) }
+        ensures visited { OnOk result (IsVisited self.new) }
         ensures decided { OnOk result (HasDecided self.old self.new) }
     {
         self.starts.push(self.trail.len())?;
@@ -143,6 +193,24 @@ impl Search {
     /// Searches until the formula is decided, or a decision is due after `budget` additions.
     pub(crate) fn run(&mut self, budget: u32) -> Result<Ending, AllocError>
         requires searching { IsSearching self.old }
+        requires budget { budget ≤ 10000000 }
+        requires few { length self.old.clauses.clauses < 2000000000 }
+        requires lines { self.old.lines.items ≡ [] }
+        requires starts { self.old.starts.items ≡ [] }
+        requires head { self.old.head ≡ 0 }
+        ensures { (f : Formula) → IsLogged f self.old → IfOk result (Ends f budget self.new) }
+    {
+        if let Some(conflict) = self.begin()? {
+            self.refute(conflict)?;
+            return Ok(Ending::Refuted);
+        }
+        self.go_on(budget)
+    }
+
+    /// Decides and learns until the formula is decided or the budget is spent.
+    fn go_on(&mut self, budget: u32) -> Result<Ending, AllocError>
+        requires searching { IsSearching self.old }
+        requires visited { IsVisited self.old }
         requires budget { budget ≤ 10000000 }
         requires few { length self.old.clauses.clauses < 2000000000 }
         requires lines { self.old.lines.items ≡ [] }

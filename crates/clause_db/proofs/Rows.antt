@@ -1,11 +1,13 @@
 -- One more clause behind the row of literals.
-use Rattle.std.proofs.Common.{◌≡◌, ℕ, ◌+◌, ◌-◌, ◌<◌, ◌≤◌, ℤ, Bool, true, false, if◌then◌else◌, List, [], ◌∷◌, ◌++◌, length, Option, Some, None, refl, ap, ◌∙◌, sym, subst, arith, take, drop, length-append}
+use Rattle.std.proofs.Common.{◌≡◌, ℕ, zero, suc, ◌+◌, ◌-◌, ◌<◌, ◌≤◌, ◌==◌, ℤ, Bool, true, false, if◌then◌else◌, List, [], ◌∷◌, ◌++◌, length, slice_get, Option, Some, None, refl, ap, ◌∙◌, sym, subst, arith, take, drop, length-append}
 use Rattle.std.specs.List.{slice_range}
-use Rattle.std.proofs.lemmas.List.{drop-append-le, drop_at, take-append-le, take_all, length-drop, map-append}
+use Rattle.std.specs.Option.{option_flatten}
+use Rattle.std.proofs.lemmas.Bool.{ne_eqb}
+use Rattle.std.proofs.lemmas.List.{drop-append-le, drop_at, take-append-le, take_all, length-drop, map-append, take-map, length-take, length-take-le, get_or-take}
 use Rattle.std.proofs.lemmas.List.Elements.{All-head, All-tail, All-weaker, All-push}
 use Rattle.sat_theory.specs.Formula.{IsClause, IsWithin}
-use Rattle.clause_db.specs.Stored.{Stored, IsStored}
-use Rattle.clause_db.specs.StoredLaws.{stored_add}
+use Rattle.clause_db.specs.Stored.{Entries, AreEntries, live_at}
+use Rattle.clause_db.specs.StoredLaws.{entries_add, flatten_some}
 use Rattle.clause_db.specs.declared.windows.Window.{Window}
 use Rattle.clause_db.specs.Windows.{entry_of, entries_of, AreInside}
 
@@ -53,32 +55,63 @@ inside_added row new lits windows w is inside at end = All-push (λ (v : Window)
 
 -- the invariant of the store, and what it shows
 abbrev IsLaid : ℕ → List ℤ → List Window → Type 0
-IsLaid vars row windows = AreInside row windows × IsStored (record { vars = vars; clauses = entries_of row windows })
+IsLaid vars row windows = AreInside row windows × AreEntries (record { vars = vars; clauses = entries_of row windows })
 
-abbrev shown : ℕ → List ℤ → List Window → Stored
+abbrev shown : ℕ → List ℤ → List Window → Entries
 shown vars row windows = record { vars = vars; clauses = entries_of row windows }
 
 -- where the window couldn't be kept, the literals behind the row don't show
 pub laid_same : (vars : ℕ) (row new lits : List ℤ) (windows same : List Window) → new ≡ row ++ lits → same ≡ windows → IsLaid vars row windows → IsLaid vars new same
-laid_same vars row new lits windows same is kept laid = rw (kept) ((inside_written row new lits windows is laid.0, subst (λ (es : List (Option (List ℤ))). IsStored (record { vars = vars; clauses = es })) (sym (entries_written row new lits windows is laid.0)) laid.1))
+laid_same vars row new lits windows same is kept laid = rw (kept) ((inside_written row new lits windows is laid.0, subst (λ (es : List (Option (List ℤ))). AreEntries (record { vars = vars; clauses = es })) (sym (entries_written row new lits windows is laid.0)) laid.1))
 
 pub shown_same : (vars : ℕ) (row new lits : List ℤ) (windows same : List Window) → new ≡ row ++ lits → same ≡ windows → AreInside row windows → shown vars new same ≡ shown vars row windows
 shown_same vars row new lits windows same is kept inside = rw kept (ap (λ (es : List (Option (List ℤ))). shown_of vars es) (entries_written row new lits windows is inside))
   where
-    shown_of : ℕ → List (Option (List ℤ)) → Stored
+    shown_of : ℕ → List (Option (List ℤ)) → Entries
     shown_of v es = record { vars = v; clauses = es }
 
-pub laid_more : (s : Stored) (vars : ℕ) (row new lits : List ℤ) (windows more : List Window) (w : Window) → shown vars row windows ≡ s → new ≡ row ++ lits → more ≡ windows ++ w ∷ [] → w.live ≡ true → w.start ≡ length row → w.end ≡ length new → IsLaid vars row windows → IsClause lits → IsWithin s.vars lits → length s.clauses < 4000000000 → IsLaid vars new more
+pub laid_more : (s : Entries) (vars : ℕ) (row new lits : List ℤ) (windows more : List Window) (w : Window) → shown vars row windows ≡ s → new ≡ row ++ lits → more ≡ windows ++ w ∷ [] → w.live ≡ true → w.start ≡ length row → w.end ≡ length new → IsLaid vars row windows → IsClause lits → IsWithin s.vars lits → length s.clauses < 4000000000 → IsLaid vars new more
 laid_more s vars row new lits windows more w view is kept live at end laid is_clause within few =
-    let before : IsStored s = subst IsStored view laid.1 in
-    let vars_same : vars ≡ s.vars = ap (λ (t : Stored). t.vars) view in
-    let entries : entries_of row windows ≡ s.clauses = ap (λ (t : Stored). t.clauses) view in
+    let before : AreEntries s = subst AreEntries view laid.1 in
+    let vars_same : vars ≡ s.vars = ap (λ (t : Entries). t.vars) view in
+    let entries : entries_of row windows ≡ s.clauses = ap (λ (t : Entries). t.clauses) view in
     let all : entries_of new (windows ++ w ∷ []) ≡ s.clauses ++ Some lits ∷ [] = entries_added row new lits windows w is laid.0 live at end ∙ ap (λ (es : List (Option (List ℤ))). es ++ Some lits ∷ []) entries in
-    rw kept ((inside_added row new lits windows w is laid.0 at end, rw (all, vars_same) (stored_add s lits before is_clause within few)))
+    rw kept ((inside_added row new lits windows w is laid.0 at end, rw (all, vars_same) (entries_add s lits before is_clause within few)))
 
-pub shown_more : (s : Stored) (vars : ℕ) (row new lits : List ℤ) (windows more : List Window) (w : Window) → shown vars row windows ≡ s → new ≡ row ++ lits → more ≡ windows ++ w ∷ [] → w.live ≡ true → w.start ≡ length row → w.end ≡ length new → AreInside row windows → shown vars new more ≡ record s { clauses = s.clauses ++ Some lits ∷ [] }
+pub shown_more : (s : Entries) (vars : ℕ) (row new lits : List ℤ) (windows more : List Window) (w : Window) → shown vars row windows ≡ s → new ≡ row ++ lits → more ≡ windows ++ w ∷ [] → w.live ≡ true → w.start ≡ length row → w.end ≡ length new → AreInside row windows → shown vars new more ≡ record s { clauses = s.clauses ++ Some lits ∷ [] }
 shown_more s vars row new lits windows more w view is kept live at end inside =
-    let vars_same : vars ≡ s.vars = ap (λ (t : Stored). t.vars) view in
-    let entries : entries_of row windows ≡ s.clauses = ap (λ (t : Stored). t.clauses) view in
+    let vars_same : vars ≡ s.vars = ap (λ (t : Entries). t.vars) view in
+    let entries : entries_of row windows ≡ s.clauses = ap (λ (t : Entries). t.clauses) view in
     let all : entries_of new (windows ++ w ∷ []) ≡ s.clauses ++ Some lits ∷ [] = entries_added row new lits windows w is inside live at end ∙ ap (λ (es : List (Option (List ℤ))). es ++ Some lits ∷ []) entries in
     rw (kept, all, vars_same) refl
+
+-- The last window is taken off.
+pub inside_front : (row : List ℤ) (windows front : List Window) (n : ℕ) → front ≡ take n windows → n ≤ length windows → AreInside row windows → AreInside row front
+inside_front row windows front n is low inside = rw is (λ k d within. (let less : k < n = rw (length-take-le n windows low) at within in rw (get_or-take n windows k d less) (inside k d (omega (arith, less, low)))))
+
+get_front : {A : Type 0} (xs : List A) (n k : ℕ) (x : A) → slice_get (take n xs) k ≡ Some x → slice_get xs k ≡ Some x
+get_front [] zero k x is = absurd (cc)
+get_front [] (suc n) k x is = is
+get_front (y ∷ ys) zero k x is = absurd (cc)
+get_front (y ∷ ys) (suc n) zero x is = is
+get_front (y ∷ ys) (suc n) (suc k) x is = get_front ys n k x is
+
+live_front : (clauses : List (Option (List ℤ))) (n id : ℕ) (clause : List ℤ) → live_at (take n clauses) id ≡ Some clause → live_at clauses id ≡ Some clause
+live_front clauses n zero clause is = absurd (cc)
+live_front clauses n (suc k) clause is =
+    let index : suc k - 1 ≡ k = omega arith in
+    let some : (suc k == 0) ≡ false = ne_eqb (suc k) 0 (λ e. omega arith) in
+    let entry : option_flatten (slice_get (take n clauses) (suc k - 1)) ≡ Some clause = rw some at is in
+    let at : slice_get (take n clauses) (suc k - 1) ≡ Some (Some clause) = flatten_some (slice_get (take n clauses) (suc k - 1)) clause entry in
+    rw some (ap option_flatten (get_front clauses n (suc k - 1) (Some clause) at))
+
+pub entries_front : (vars : ℕ) (row : List ℤ) (windows front : List Window) (n : ℕ) → front ≡ take n windows → n ≤ length windows → IsLaid vars row windows → IsLaid vars row front
+entries_front vars row windows front n is low laid =
+    let front_is : entries_of row front ≡ take n (entries_of row windows) = ap (entries_of row) is ∙ sym (take-map (entry_of row) n windows) in (
+      inside_front row windows front n is low laid.0,
+      record {
+        clauses = λ id clause live. laid.1.clauses id clause (live_front (entries_of row windows) n id clause (subst (λ (es : List (Option (List ℤ))). live_at es id ≡ Some clause) front_is live));
+        variables = λ id clause live. laid.1.variables id clause (live_front (entries_of row windows) n id clause (subst (λ (es : List (Option (List ℤ))). live_at es id ≡ Some clause) front_is live));
+        few = (let long : length (entries_of row front) ≤ length (entries_of row windows) = rw front_is (rw length-take (omega arith)) in let few : length (entries_of row windows) ≤ 4000000000 = laid.1.few in omega (arith, long, few));
+      },
+    )

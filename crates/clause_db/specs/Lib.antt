@@ -1,3 +1,6 @@
 pub mod Stored
 pub mod StoredLaws
 pub mod Windows
+pub mod Watching
+pub mod WatchingLaws
+pub mod Moving

@@ -1,21 +1,22 @@
-ghost use Rattle.std.specs.Prelude.{◌≡◌, ◌+◌, ◌<◌, ◌≤◌, ◌↔◌, ◌∷◌, [], ◌++◌, map, length, Some, List, ℤ, IsTrue, IsSome, IfOk, OnOk, OnErr};
-ghost use Rattle.std.specs.Option.{option_copied};
-ghost use Rattle.sat_theory.specs.Formula.{IsClause, IsWithin};
-ghost use Rattle.clause_db.specs.Stored.{live_in, IsStored};
+ghost use Rattle.std.specs.Prelude.{◌≡◌, ◌≢◌, ℕ, ◌+◌, ◌<◌, ◌≤◌, ◌⊎◌, ◌↔◌, length, slice_index_or, Contains, AllPairs, Some, List, ℤ, IsTrue, IsSome, IfOk, OnOk, OnErr};
+ghost use Rattle.sat_theory.specs.Formula.{variable as variable_of, IsClause, IsWithin};
+ghost use Rattle.clause_db.specs.Watching.{list_of, pair_at};
+ghost use Rattle.clause_db.specs.Stored.{live_in, Watches as WatchesOf, IsLong, IsStored, none_stored, added, all_added, rewatched};
+ghost use Rattle.clause_db.specs.Moving.{IsMovable};
 
-use crate::windows::Window;
+use crate::store::Store;
+use crate::watches::Watches;
 use cnf_core::{Cnf, Lit};
 use std::alloc::{AllocError, Global};
 use std::marker::Model;
 
-/// Clauses by their ids, which are 1, 2 and so on, over the variables of one formula. Contracts see the
-/// variables and a list with an entry for each id that was given: its clause, where that is live. The
-/// literals of all clauses lie in one row, without an allocation for each clause.
+/// Clauses by their ids, which are 1, 2 and so on, over the variables of one formula. Each clause of two
+/// literals and more watches two of them. Contracts see the variables, a list with an entry for each id that
+/// was given (its clause, where that is live), the watched pairs, and for each literal a list of ids.
 #[derive(Debug, Drop)]
 pub struct ClauseDb {
-    vars: u32,
-    row: Vec<Lit>,
-    windows: Vec<Window>,
+    store: Store,
+    watches: Watches,
 }
 
 impl Model for ClauseDb {
@@ -23,52 +24,53 @@ impl Model for ClauseDb {
 
     ghost Value = { Stored };
 
-    ghost use Rattle.clause_db.specs.Windows.{entries_of, AreInside};
+    ghost view = { λ c. record { vars = c.store.vars; clauses = c.store.clauses; watches = c.watches } };
 
-    ghost view = { λ c. record { vars = c.vars; clauses = entries_of c.row.items c.windows.items } };
-
-    ghost invariant = { λ c. AreInside c.row.items c.windows.items × IsStored (record { vars = c.vars; clauses = entries_of c.row.items c.windows.items }) };
+    ghost invariant = { λ c. IsStored (record { vars = c.store.vars; clauses = c.store.clauses; watches = c.watches }) };
 }
 
+#[tactic(auto, using(crate::proofs::Databases::databases))]
 impl ClauseDb {
-    /// The clauses of a formula, under the ids that they have there.
+    /// The clauses of a formula, under the ids that they have there. Each watches its first two literals.
     pub fn new(alloc: Global, cnf: &Cnf) -> Result<ClauseDb, AllocError>
-        ensures { IfOk result (λ c. c ≡ record { vars = cnf.now.vars; clauses = map (λ (lits : List ℤ). Some lits) cnf.now.clauses }) }
+        ensures { IfOk result (λ c. c ≡ all_added (none_stored cnf.now.vars) cnf.now.clauses) }
     {
-        let mut clauses = ClauseDb::none(alloc, cnf.vars());
+        let mut clauses = ClauseDb::none(alloc, cnf.vars())?;
         for clause in cnf.clauses() {
             clauses.add(clause.lits())?;
         }
         Ok(clauses)
     }
 
-    fn none(alloc: Global, vars: u32) -> ClauseDb
-        ensures { result ≡ record { vars = vars; clauses = [] } }
+    fn none(alloc: Global, vars: u32) -> Result<ClauseDb, AllocError>
+        requires { vars < 1000000000 }
+        ensures { IfOk result (λ c. c ≡ none_stored vars) }
     {
-        ClauseDb {
-            vars,
-            row: Vec::new(alloc),
-            windows: Vec::new(alloc),
-        }
+        Ok(ClauseDb {
+            store: Store::none(alloc, vars),
+            watches: Watches::none(alloc, vars)?,
+        })
     }
 
-    /// Adds a clause over the variables of the formula, and gives its id, the one behind all before.
+    /// Adds a clause over the variables of the formula, and gives its id, the one behind all before. It
+    /// watches its first two literals.
     pub fn add(&mut self, lits: &[Lit]) -> Result<u32, AllocError>
         requires clause { IsClause lits.now }
         requires variables { IsWithin self.old.vars lits.now }
         requires few { length self.old.clauses < 4000000000 }
-        ensures ok { OnOk result (self.new ≡ record self.old { clauses = self.old.clauses ++ Some lits.now ∷ [] }) }
+        ensures ok { OnOk result (self.new ≡ added self.old lits.now) }
         ensures id { IfOk result (λ id. id ≡ length self.old.clauses + 1) }
         ensures err { OnErr result (self.new ≡ self.old) }
+        ensures whole { IsStored self.new }
     {
-        let start = self.row.len();
-        self.row.extend_from_slice(lits)?;
-        self.windows.push(Window {
-            start,
-            end: self.row.len(),
-            live: true,
-        })?;
-        Ok(self.windows.len() as u32)
+        let id = self.store.add(lits)?;
+        match self.watches.add(lits, id) {
+            Ok(()) => Ok(id),
+            Err(error) => {
+                self.store.take_last();
+                Err(error)
+            }
+        }
     }
 
     /// The literals of a live clause.
@@ -78,21 +80,22 @@ impl ClauseDb {
         ensures clause { IsClause result.now }
         ensures variables { IsWithin self.now.vars result.now }
     {
-        let window = &self.windows[id as usize - 1];
-        &self.row[window.start..window.end]
+        self.store.lits(id)
     }
 
     /// Whether an id is that of a live clause.
     pub fn live(&self, id: u32) -> bool
         ensures { IsTrue result ↔ IsSome (live_in self.now id) }
     {
-        if id == 0 {
-            return false;
-        }
-        match self.windows.get(id as usize - 1) {
-            Some(window) => window.live,
-            None => false,
-        }
+        self.store.live(id)
+    }
+
+    /// How many variables the formula has.
+    pub fn vars(&self) -> u32
+        ensures value { result ≡ self.now.vars }
+        ensures whole { IsStored self.now }
+    {
+        self.store.vars()
     }
 
     /// The last id that was given; 0 where there is none.
@@ -100,6 +103,70 @@ impl ClauseDb {
         ensures value { result ≡ length self.now.clauses }
         ensures whole { IsStored self.now }
     {
-        self.windows.len() as u32
+        self.store.last()
     }
+
+    /// The two literals that a clause of two or more watches.
+    pub fn watched(&self, id: u32) -> (Lit, Lit)
+        requires { IsLong self.now id }
+        ensures first { WatchesOf self.now id result.0 }
+        ensures second { WatchesOf self.now id result.1 }
+        ensures differ { result.0 ≢ result.1 }
+        ensures only { (l : ℤ) → WatchesOf self.now id l → (l ≡ result.0) ⊎ (l ≡ result.1) }
+    {
+        let pair = self.watches.pair(id);
+        (pair.first, pair.second)
+    }
+
+    /// The ids of the clauses that watch a literal of the formula's variables, each once.
+    pub fn watching(&self, lit: Lit) -> &[u32]
+        requires { variable_of lit ≤ self.now.vars }
+        ensures value { result.now ≡ list_of self.now.watches lit }
+        ensures exact { (id : ℕ) → Contains result.now id ↔ WatchesOf self.now id lit }
+        ensures once { AllPairs (λ a b. a ≢ b) result.now }
+        ensures whole { IsStored self.now }
+    {
+        self.watches.list(lit)
+    }
+
+    /// Lets the clause at an index in the list of `from` watch `to`, another one of its literals, in place of
+    /// `from`. In that list the last entry takes its place, and the list of `to` gets it at the end.
+    pub fn rewatch_at(&mut self, from: Lit, index: usize, to: Lit) -> Result<(), AllocError>
+        requires movable { IsMovable self.old (slice_index_or (list_of self.old.watches from) index 0) from to index }
+        ensures ok { OnOk result (self.new ≡ rewatched self.old (slice_index_or (list_of self.old.watches from) index 0) from to index) }
+        ensures err { OnErr result (self.new ≡ self.old) }
+        ensures whole { IsStored self.new }
+    {
+        self.watches.move_to(from, index, to)?;
+        Ok(())
+    }
+
+    /// Lets a clause that watches `from` watch `to`, another one of its literals, in place of it: as
+    /// `rewatch_at` does, where the index isn't known.
+    pub fn rewatch(&mut self, id: u32, from: Lit, to: Lit) -> Result<(), AllocError>
+        requires from { WatchesOf self.old id from }
+        requires there { (clause : List ℤ) → live_in self.old id ≡ Some clause → Contains clause to }
+        requires other { WatchesOf self.old id to → ⊥ }
+        ensures ok { OnOk result ((index : ℕ) × IsMovable self.old id from to index × (self.new ≡ rewatched self.old id from to index)) }
+        ensures err { OnErr result (self.new ≡ self.old) }
+        ensures whole { IsStored self.new }
+    {
+        // brings what the type says of the lists
+        let _last = self.last();
+        let index = find(self.watching(from), id);
+        self.rewatch_at(from, index, to)
+    }
+}
+
+/// The index of an id in a list that has it.
+fn find(ids: &[u32], id: u32) -> usize
+    requires { Contains ids.now id }
+    ensures inside { result < length ids.now }
+    ensures there { slice_index_or ids.now result 0 ≡ id }
+{
+    let mut index = 0;
+    while index + 1 < ids.len() && ids[index] != id {
+        index += 1;
+    }
+    index
 }

@@ -2,7 +2,9 @@
 //! `cnf_core` for formulas and literals and on `sat_theory` for what a clause is.
 //!
 //! Contracts see a list with an entry for each id that was given, the clause where it is live; `add`
-//! appends one entry, and `lits` and `live` read.
+//! appends one entry, and `lits` and `live` read. Each clause of two literals and more watches two of them:
+//! `watched` tells which, `watching` gives the clauses that watch a literal, and `rewatch` lets a clause
+//! watch another one (Moskewicz and others, "Chaff", 2001).
 //!
 //! ```text
 //! let mut clauses = ClauseDb::new(alloc, &cnf)?;     // the clauses 1 to 4
@@ -12,6 +14,8 @@
 #![tactic(auto)]
 
 mod clause_db;
+mod store;
+mod watches;
 mod windows;
 
 pub use clause_db::ClauseDb;

@@ -33,3 +33,31 @@ fn clauses_have_ids(rt: HostRuntime) -> Result<(), Fail> {
     assert!(rt; numbers(alloc, &clauses, 3)? == Some(vec![in alloc; 3]?));
     Ok(())
 }
+
+/// The ids of the clauses that watch a literal, if its variable is one of the formula.
+fn ids(alloc: Global, clauses: &ClauseDb, number: i32) -> Result<Option<Vec<u32>>, Fail> {
+    if !(-9..=9).contains(&number) || number == 0 {
+        return Ok(None);
+    }
+    let lit = Lit::new(number);
+    if lit.variable() > clauses.vars() {
+        return Ok(None);
+    }
+    Ok(Some(Vec::from_slice(alloc, clauses.watching(lit))?))
+}
+
+#[test]
+fn clauses_watch_their_first_two_literals(rt: HostRuntime) -> Result<(), Fail> {
+    let alloc = rt.alloc();
+    let mut cnf = Cnf::new(alloc, 3);
+    cnf.push(Clause::new(vec![in alloc; Lit::new(1), Lit::new(-2), Lit::new(3)]?))?;
+    cnf.push(Clause::new(vec![in alloc; Lit::new(2)]?))?;
+    let mut clauses = ClauseDb::new(alloc, &cnf)?;
+    clauses.add(&[Lit::new(1), Lit::new(2)])?;
+    assert!(rt; ids(alloc, &clauses, 1)? == Some(vec![in alloc; 1, 3]?));
+    assert!(rt; ids(alloc, &clauses, -2)? == Some(vec![in alloc; 1]?));
+    assert!(rt; ids(alloc, &clauses, 2)? == Some(vec![in alloc; 3]?));
+    assert!(rt; ids(alloc, &clauses, 3)? == Some(Vec::new(alloc)));
+    assert!(rt; ids(alloc, &clauses, 4)?.is_none());
+    Ok(())
+}

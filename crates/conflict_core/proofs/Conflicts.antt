@@ -86,8 +86,8 @@ walk_all live t start top first m marks lower ids trail after within at walk non
     behind (k, low, here) = (suc k, (let less : suc k < suc (length lower) = omega arith in less), here)
 
 -- The clause at the end of the walk is what is learnt.
-pub walk_learnt : (live : ℕ → Option (List ℤ)) (t : Trailed) (start top back : ℕ) (first : ℤ) (marks : List Bool) (lower lits : List ℤ) (ids hints : List ℕ) → IsTrail t → start ≤ top → top < length t.lits → opposite (slice_index_or t.lits top first) ≡ first → IsOver t.vars first → IsWalk live t start (top + 1) marks lower ids → NoneMarked t marks start top → All (λ m. fell t m ≤ back) lower → (0 < back → HasFallenAt (fell t) lower back) → lits ≡ first ∷ lower → hints ≡ reverse ids → IsLearnt live t start lits back hints
-walk_learnt live t start top back first marks lower lits ids hints trail after within at over walk none low there lits_are hints_are = rw (lits_are, hints_are) (record {
+pub walk_learnt : (live : ℕ → Option (List ℤ)) (t : Trailed) (start top back : ℕ) (first : ℤ) (marks : List Bool) (lower lits : List ℤ) (ids hints : List ℕ) → IsTrail t → start ≤ top → top < length t.lits → opposite (slice_index_or t.lits top first) ≡ first → IsOver t.vars first → IsWalk live t start (top + 1) marks lower ids → NoneMarked t marks start top → All (λ m. fell t m ≤ back) lower → (0 < back → HasFallenAt (fell t) lower back) → ((d : ℤ) → 0 < length lower → fell t (slice_index_or lower 0 d) ≡ back) → lits ≡ first ∷ lower → hints ≡ reverse ids → IsLearnt live t start lits back hints
+walk_learnt live t start top back first marks lower lits ids hints trail after within at over walk none low there head lits_are hints_are = rw (lits_are, hints_are) (record {
   some = omega arith;
   after = omega (arith, place);
   low = back_low (cases_lt 0 back);
@@ -100,6 +100,7 @@ walk_learnt live t start top back first marks lower lits ids hints trail after w
   };
   others = All-cons (λ l. (l ≡ first) ⊎ IsFallen (fell t) back l) first lower (inl refl) (λ k d less. inr (down k d less, low k d less));
   second = λ some. (let w = there some in (w.0, behind w.0 w.1, w.2));
+  next = λ d more. head d (let h : 1 < suc (length lower) = more in omega arith);
   clause = record {
     literals = All-cons (λ l. 0 < variable l) first lower over.0 (All-weaker (IsOver t.vars) (λ l. 0 < variable l) (λ l h. h.0) lower walk.gathered.over);
     differ = AllPairs-cons (λ l m. variable l ≢ variable m) first lower

@@ -2,3 +2,4 @@ pub mod Marking
 pub mod Gathering
 pub mod Walks
 pub mod Conflicts
+pub mod Raising

@@ -1,5 +1,6 @@
 -- What is learnt from a conflict.
-use Rattle.std.specs.Prelude.{◌≡◌, ℕ, ◌<◌, ◌≤◌, ◌⊎◌, ℤ, pos, List, [], length, slice_index_or, Contains, All, Option}
+use Rattle.std.specs.Prelude.{◌≡◌, ◌≢◌, ℕ, ◌<◌, ◌≤◌, ◌⊎◌, ℤ, pos, List, [], length, slice_index_or, Contains, All, Option}
+use Rattle.std.specs.List.{swap}
 use Rattle.sat_theory.specs.Formula.{IsClause, IsWithin}
 use Rattle.sat_theory.specs.Holding.{among, HintsHold}
 use Rattle.cdcl_theory.specs.Falling.{IsFallen, IsUnitUnder}
@@ -25,8 +26,12 @@ HaveReasons live t from = (p : ℕ) → from ≤ p → p < length t.lits → Has
 abbrev pub asserting : List ℤ → ℤ
 asserting lits = slice_index_or lits 0 (pos 0)
 
+-- One that fell at `back` stands first, if there is one, and else all stay.
+abbrev pub IsRaised : (ℤ → ℕ) → ℕ → List ℤ → List ℤ → Type 0
+IsRaised places back old new = ((i : ℕ) × (i < length old) × (new ≡ swap old 0 i) × ((d : ℤ) → places (slice_index_or old i d) ≡ back)) ⊎ ((new ≡ old) × All (λ l. places l ≢ back) old)
+
 -- The clause that is learnt from a conflict in the level that begins at index `start`: its first literal
--- fell in the level, and all others up to `back`, where one of them fell; back is 0 where there is no
+-- fell in the level, and all others up to `back`, where the second one fell; back is 0 where there is no
 -- other. Going back to a place from `back` to `start` makes the clause unit.
 pub record IsLearnt (live : ℕ → Option (List ℤ)) (t : Trailed) (start : ℕ) (lits : List ℤ) (back : ℕ) (hints : List ℕ) : Type 0 where
   pub some : 0 < length lits
@@ -35,6 +40,7 @@ pub record IsLearnt (live : ℕ → Option (List ℤ)) (t : Trailed) (start : �
   pub unit : IsUnitUnder (fell t) start lits (asserting lits)
   pub others : All (λ l. (l ≡ asserting lits) ⊎ IsFallen (fell t) back l) lits
   pub second : 0 < back → (w : ℤ) × Contains lits w × (fell t w ≡ back)
+  pub next : (d : ℤ) → 1 < length lits → fell t (slice_index_or lits 1 d) ≡ back
   pub clause : IsClause lits
   pub variables : IsWithin t.vars lits
   pub hold : HintsHold live (among lits) hints

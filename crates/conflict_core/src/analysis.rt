@@ -7,7 +7,7 @@ ghost use Rattle.cdcl_theory.specs.Trails.{IsTrail, HasReason, fell as fell_of};
 ghost use Rattle.clause_db.specs.Stored.{live_in};
 ghost use Rattle.trail_core.specs.Values.{IsOver};
 ghost use Rattle.conflict_core.specs.Walking.{AreMarked, AreUnmarked, IsMarkedClause, HasFallenAt, IsGathered, NoneMarked, IsLastMarked, StayBelow, HasRoom};
-ghost use Rattle.conflict_core.specs.Learning.{IsReady, IsWalkOf, HaveReasons, IsLearnt};
+ghost use Rattle.conflict_core.specs.Learning.{IsReady, IsWalkOf, HaveReasons, IsRaised, IsLearnt};
 
 use crate::Learnt;
 use crate::marks::Marks;
@@ -233,6 +233,7 @@ impl Analysis {
         let top = self.reduce(trail, clauses, start)?;
         let first = trail.at(top).opposite();
         let back = last_fallen(trail, &self.lower);
+        raise(trail, &mut self.lower, back);
         let lits = joined(alloc, first, &self.lower)?;
         let hints = turned(alloc, &self.hints)?;
         self.clear(vars, first);
@@ -271,6 +272,19 @@ fn last_fallen(trail: &Trail, lits: &[Lit]) -> u32
         back = back.max(trail.fell(*lit));
     }
     back
+}
+
+/// Lets the first literal that fell at `back` change places with the first of all, if there is one.
+fn raise(trail: &Trail, lits: &mut Vec<Lit>, back: u32)
+    requires { IsWithin trail.now.vars lits.old.items }
+    ensures { IsRaised (fell_of trail.now) back lits.old.items lits.new.items }
+{
+    for index in 0..lits.len() {
+        if trail.fell(lits[index]) == back {
+            lits.swap(0, index);
+            return;
+        }
+    }
 }
 
 /// A literal and others behind it.

@@ -1,11 +1,25 @@
-use Rattle.cdcl_core.proofs.Settling.{searching_grown}
+use Rattle.cdcl_core.proofs.Settling.{settled_propagated, logged_propagated, settled_jumped, settled_visited}
 use Rattle.cdcl_core.proofs.search.Search.settle.Goals as goal
 
-pub returns-in_default-last-clause-searching : goal.returns-in_default-last-clause-searching
-returns-in_default-last-clause-searching c = searching_grown c.loop-conflict.self c.propagate.new.trail c.loop-conflict.invariant.searching c.in_ok-conflict.ensures.grown c.in_ok-conflict.ensures.whole
+pub returns-in_default-last-clause-logged : goal.returns-in_default-last-clause-logged
+returns-in_default-last-clause-logged c = λ f log. logged_propagated f c.loop-conflict.self c.propagate.new.self (c.loop-conflict.invariant.logged f log) c.in_ok-conflict.ensures.propagated
 
-pub jump-requires-clause-searching : goal.jump-requires-clause-searching
-jump-requires-clause-searching c = searching_grown c.loop-conflict.self c.propagate.new.trail c.loop-conflict.invariant.searching c.in_ok-conflict.ensures.grown c.in_ok-conflict.ensures.whole
+pub returns-in_default-last-clause-settled : goal.returns-in_default-last-clause-settled
+returns-in_default-last-clause-settled c = settled_propagated c.args.self.now c.loop-conflict.self c.propagate.new.self c.loop-conflict.invariant.settled c.in_ok-conflict.ensures.propagated
 
-pub returns-clause-searching : goal.returns-clause-searching
-returns-clause-searching c = searching_grown c.loop-conflict.self c.propagate.new.trail c.loop-conflict.invariant.searching c.in_ok-conflict.ensures.grown c.in_ok-conflict.ensures.whole
+pub returns-clause-logged : goal.returns-clause-logged
+returns-clause-logged c = λ f log. logged_propagated f c.loop-conflict.self c.propagate.new.self (c.loop-conflict.invariant.logged f log) c.in_ok-conflict.ensures.propagated
+
+pub returns-clause-settled : goal.returns-clause-settled
+returns-clause-settled c = settled_propagated c.args.self.now c.loop-conflict.self c.propagate.new.self c.loop-conflict.invariant.settled c.in_ok-conflict.ensures.propagated
+
+pub loop-conflict-preserved : goal.loop-conflict-preserved
+loop-conflict-preserved c = record {
+  searching = c.in_ok-jump.ensures.searching;
+  visited = c.in_ok-jump.ensures.visited;
+  logged = λ f log. c.in_ok-jump.ensures.logged f (logged_propagated f c.loop-conflict.self c.propagate.new.self (c.loop-conflict.invariant.logged f log) c.in_ok-conflict.ensures.propagated);
+  settled = settled_jumped c.args.self.now c.propagate.new.self c.jump.new.self (settled_propagated c.args.self.now c.loop-conflict.self c.propagate.new.self c.loop-conflict.invariant.settled c.in_ok-conflict.ensures.propagated) c.in_ok-jump.ensures.jumped;
+}
+
+pub returns-clause-none : goal.returns-clause-none
+returns-clause-none c = settled_visited c.propagate.new.self c.in_ok-conflict.ensures.searching c.in_ok-conflict.ensures.visited (rw c.in_default.is at c.in_ok-conflict.ensures.all)

@@ -1,5 +1,10 @@
-use Rattle.std.proofs.Common.{◌≡◌, map, take, List, ℤ, Some}
+use Rattle.std.proofs.Common.{◌≡◌, take, length}
+use Rattle.clause_db.specs.Stored.{none_stored, all_added}
 use Rattle.clause_db.proofs.clause_db.ClauseDb.new.Given as goal
 
 abbrev pub invariant-loop-clause : goal.invariant-loop-clause
-invariant-loop-clause l = l.clauses ≡ record { vars = l.cnf.vars; clauses = map (λ (lits : List ℤ). Some lits) (take l.clause-index l.cnf.clauses) }
+invariant-loop-clause l = record {
+  clauses : l.clauses ≡ all_added (none_stored l.cnf.vars) (take l.clause-index l.cnf.clauses);
+  vars : l.clauses.vars ≡ l.cnf.vars;
+  count : length l.clauses.clauses ≡ l.clause-index;
+}

@@ -1,7 +1,7 @@
 use Rattle.std.proofs.Common.{◌≡◌, length, refl, ◌∙◌, rules}
 use Rattle.std.proofs.lemmas.Result.{err_from_is_err_and}
 use Rattle.clause_db.proofs.Rows.{laid_same, shown_same, laid_more, shown_more}
-use Rattle.clause_db.proofs.clause_db.ClauseDb.add.Goals as goal
+use Rattle.clause_db.proofs.store.Store.add.Goals as goal
 
 pub invariant_of-self-in_err-push : goal.invariant_of-self-in_err-push
 invariant_of-self-in_err-push c = laid_same c.self.inside.vars c.self.inside.row.items _ c.args.lits.now c.self.inside.windows.items _ c.in_ok-extend_from_slice.ensures.items c.in_err-push.ensures.items c.self.invariant

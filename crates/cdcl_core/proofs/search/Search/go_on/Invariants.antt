@@ -1,11 +1,12 @@
 use Rattle.std.proofs.Common.{◌≡◌, ◌+◌, ◌*◌, ◌-◌, ◌≤◌, length}
 use Rattle.sat_theory.specs.Formula.{Formula}
-use Rattle.cdcl_core.specs.Searching.{IsSearching, IsLogged}
-use Rattle.cdcl_core.proofs.search.Search.run.Given as goal
+use Rattle.cdcl_core.specs.Searching.{IsSearching, IsVisited, IsLogged}
+use Rattle.cdcl_core.proofs.search.Search.go_on.Given as goal
 
 abbrev pub invariant-loop-conflict : goal.invariant-loop-conflict
 invariant-loop-conflict l = record {
   searching : IsSearching l.self;
+  visited : IsVisited l.self;
   logged : (f : Formula) → IsLogged f l.initial.self → IsLogged f l.self;
   clauses : length l.self.clauses.clauses ≡ length l.initial.self.clauses.clauses + length l.self.lines.items;
   starts : length l.self.lines.items + length l.self.starts.items ≤ l.budget + l.self.trail.vars + 1;

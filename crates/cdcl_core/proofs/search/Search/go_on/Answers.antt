@@ -3,7 +3,7 @@ use Rattle.clause_db.specs.Stored.{live_in}
 use Rattle.cdcl_core.specs.declared.search.Search.{Search}
 use Rattle.cdcl_core.proofs.Counting.{trail_short}
 use Rattle.cdcl_core.proofs.Settling.{measure_falls, starts_short}
-use Rattle.cdcl_core.proofs.search.Search.run.Goals as goal
+use Rattle.cdcl_core.proofs.search.Search.go_on.Goals as goal
 
 pub loop-conflict-smaller : goal.loop-conflict-smaller
 loop-conflict-smaller c =
@@ -31,6 +31,7 @@ loop-conflict-preserved c =
     let before : length a.clauses.clauses ≡ length c.args.self.now.clauses.clauses + length a.lines.items = c.loop-conflict.invariant.clauses in
     record {
       searching = c.in_ok-decide.ensures.searching;
+      visited = c.in_ok-decide.ensures.visited;
       logged = λ f log. rw (c.in_ok-decide.ensures.decided.clauses, c.in_ok-decide.ensures.decided.lines) (c.in_ok-conflict.ensures.logged f (c.loop-conflict.invariant.logged f log));
       clauses = omega (arith, lines, clauses, settled, before);
       starts = omega (arith, lines, starts, vars, short, under);

@@ -1,0 +1,215 @@
+-- How the promise of the watched literals lasts.
+use Rattle.std.proofs.Common.{◌≡◌, ℕ, zero, suc, ◌+◌, ◌<◌, ◌≤◌, ◌⊎◌, ℤ, pos, List, [], ◌∷◌, ◌++◌, length, slice_index_or, Contains, All, Some, subst, sym, ap, ◌∙◌, arith, inl, inr, refl}
+use Rattle.std.proofs.Math.Logic.{⊎_elim}
+use Rattle.std.proofs.lemmas.Bool.{cases_lt, cases_eq}
+use Rattle.std.proofs.lemmas.List.Elements.{All-contains, All-push, Contains-get_or}
+use Rattle.sat_theory.specs.Formula.{opposite}
+use Rattle.cdcl_theory.specs.CodeLaws.{opposite-opposite}
+use Rattle.cdcl_theory.specs.Falling.{IsFallen, SameFallen, IsSettled, AllSettled}
+use Rattle.cdcl_theory.specs.Trails.{Trailed, fell, IsTrail, IsBack}
+use Rattle.cdcl_theory.specs.TrailLaws.{fallen_at}
+use Rattle.clause_db.specs.Watching.{pair_at, pair_of}
+use Rattle.clause_db.specs.Stored.{Stored, live_in, Watches, IsPair, IsStored, added}
+use Rattle.clause_db.specs.StoredLaws.{live_added, next_is_free}
+use Rattle.clause_db.specs.Moving.{added_watches}
+use Rattle.cdcl_core.specs.Guarding.{HasTrue, IsBacked, IsTrueForGood, IsGuarded, HasTrueAt}
+use Rattle.cdcl_core.proofs.Judging.{settled_by_true}
+
+-- fewer visited literals ask for less
+pub guarded_less : (s : Stored) (places : ℤ → ℕ) (starts : List ℕ) (low high : ℕ) → low ≤ high → IsGuarded s places starts high → IsGuarded s places starts low
+guarded_less s places starts low high order guarded = record {
+  long = λ id w clause watches is fallen. guarded.long id w clause watches is (fallen.0, (let h : places w ≤ low = fallen.1 in omega (arith, h, order)));
+  short = guarded.short;
+}
+
+-- what backs a literal does so when more has fallen,
+backed_more : (f g : ℤ → ℕ) (starts : List ℕ) (n : ℕ) (clause : List ℤ) (w : ℤ) → SameFallen n f g → ((l : ℤ) → f l ≤ n) → All (λ s. s ≤ n) starts → 0 < f w → IsBacked f starts clause w → IsBacked g starts clause w
+backed_more f g starts n clause w same within low some backed = record {
+  lit = backed.lit;
+  there = backed.there;
+  on = (same.there n (opposite backed.lit) (omega arith) (backed.on, within (opposite backed.lit))).0;
+  together = λ k d inside before.
+      let under : slice_index_or starts k d ≤ n = low k d inside in
+      let some_now : 0 < g w = (same.there n w (omega arith) (some, within w)).0 in
+      let was : IsFallen f (slice_index_or starts k d) w = same.back (slice_index_or starts k d) w under (some_now, before) in
+      let on_was : IsFallen f (slice_index_or starts k d) (opposite backed.lit) = (backed.on, backed.together k d inside was.1) in
+      (same.there (slice_index_or starts k d) (opposite backed.lit) under on_was).1;
+}
+
+good_more : (f g : ℤ → ℕ) (starts : List ℕ) (n : ℕ) (clause : List ℤ) → SameFallen n f g → ((l : ℤ) → f l ≤ n) → All (λ s. s ≤ n) starts → IsTrueForGood f starts clause → IsTrueForGood g starts clause
+good_more f g starts n clause same within low good = record {
+  lit = good.lit;
+  there = good.there;
+  on = (same.there n (opposite good.lit) (omega arith) (good.on, within (opposite good.lit))).0;
+  bottom = λ k d inside.
+      let under : slice_index_or starts k d ≤ n = low k d inside in
+      (same.there (slice_index_or starts k d) (opposite good.lit) under (good.on, good.bottom k d inside)).1;
+}
+
+-- The promise lasts when literals become true and clauses watch others that haven't fallen.
+pub guarded_moved : (a b : Stored) (f g : ℤ → ℕ) (starts : List ℕ) (n head : ℕ) → SameFallen n f g → ((l : ℤ) → f l ≤ n) → head ≤ n → All (λ s. s ≤ head) starts → b.clauses ≡ a.clauses → ((id : ℕ) (w : ℤ) → Watches b id w → Watches a id w ⊎ (f w ≡ 0)) → IsGuarded a f starts head → IsGuarded b g starts head
+guarded_moved a b f g starts n head same within high low clauses moved guarded = record {
+  long = λ id w clause watches is fallen.
+      let was : IsFallen f head w = same.back head w high fallen in
+      ⊎_elim
+      (λ (old : Watches a id w). backed_more f g starts n clause w same within low_n was.0 (guarded.long id w clause old (live_before id clause is) was))
+      (λ (up : f w ≡ 0). absurd (let some : 0 < f w = was.0 in omega (arith, some, up)))
+      (moved id w watches);
+  short = λ id clause is short. good_more f g starts n clause same within low_n (guarded.short id clause (live_before id clause is) short);
+}
+  where
+    low_n : All (λ s. s ≤ n) starts
+    low_n k d inside = (let h : slice_index_or starts k d ≤ head = low k d inside in omega (arith, h, high))
+
+    live_before : (id : ℕ) (clause : List ℤ) → live_in b id ≡ Some clause → live_in a id ≡ Some clause
+    live_before id clause is = sym (ap (λ (x : Stored). live_in x id) (same_live)) ∙ is
+      where
+        same_live : record a { clauses = b.clauses } ≡ a
+        same_live = rw clauses refl
+
+-- One more literal is visited.
+pub guarded_visited : (s : Stored) (t : Trailed) (starts : List ℕ) (head : ℕ) (l : ℤ) → IsTrail t → All (λ x. x ≤ head) starts → head < length t.lits → opposite (slice_index_or t.lits head l) ≡ l → ((id : ℕ) → Watches s id l → HasTrueAt s (fell t) id) → IsGuarded s (fell t) starts head → IsGuarded s (fell t) starts (head + 1)
+guarded_visited s t starts head l trail low inside at visited guarded = record {
+  long = λ id w clause watches is fallen. ⊎_elim
+      (λ (last : fell t w ≡ head + 1).
+      let same : w ≡ l = fallen_at t.lits (fell t) head l w trail.places last ∙ at in
+      let on : HasTrue (fell t) clause = visited id (subst (λ (x : ℤ). Watches s id x) same watches) clause is in
+      record { lit = on.lit; there = on.there; on = on.on; together = λ k d within before. absurd (let h : slice_index_or starts k d ≤ head = low k d within in omega (arith, h, before, last)) })
+      (λ (early : fell t w ≡ head + 1 → ⊥). guarded.long id w clause watches is (fallen.0, (let h : fell t w ≤ head + 1 = fallen.1 in omega (arith, h, early))))
+      (cases_eq (fell t w) (head + 1));
+  short = guarded.short;
+}
+
+-- a literal that is true hasn't fallen
+true_up : (t : Trailed) (l : ℤ) → IsTrail t → 0 < fell t (opposite l) → fell t l ≡ 0
+true_up t l trail on = ap (fell t) (sym (opposite-opposite l)) ∙ trail.places.one_side (opposite l) on
+
+-- When all are visited, all clauses are settled.
+pub guarded_settled : (s : Stored) (t : Trailed) (starts : List ℕ) → IsStored s → IsTrail t → IsGuarded s (fell t) starts (length t.lits) → AllSettled (live_in s) (fell t)
+guarded_settled s t starts stored trail guarded = record { each = λ id clause is. ⊎_elim (λ (short : length clause < 2). settled_short id clause is short) (λ (long : 2 ≤ length clause). settled_long id clause is long) (cases_lt (length clause) 2) }
+  where
+    settled_short : (id : ℕ) (clause : List ℤ) → live_in s id ≡ Some clause → length clause < 2 → IsSettled (fell t) clause
+    settled_short id clause is short = (let good : IsTrueForGood (fell t) starts clause = guarded.short id clause is short in settled_by_true (fell t) clause good.lit good.there (true_up t good.lit trail good.on) good.on)
+
+    watched_down : (id : ℕ) (clause : List ℤ) (w : ℤ) → live_in s id ≡ Some clause → Watches s id w → 0 < fell t w → IsSettled (fell t) clause
+    watched_down id clause w is watches down = (let backed : IsBacked (fell t) starts clause w = guarded.long id w clause watches is (down, trail.places.within w) in settled_by_true (fell t) clause backed.lit backed.there (true_up t backed.lit trail backed.on) backed.on)
+
+    both_up : (clause : List ℤ) (a b : ℤ) → Contains clause a → Contains clause b → (a ≡ b → ⊥) → fell t a ≡ 0 → fell t b ≡ 0 → IsSettled (fell t) clause
+    both_up clause a b a_in b_in differ up_a up_b = record {
+      not_false = λ all. (let down : 0 < fell t a = All-contains (λ m. 0 < fell t m) clause a all a_in in omega (arith, down, up_a));
+      not_unit = λ u none free all.
+          ⊎_elim
+          (λ (a_is : a ≡ u). ⊎_elim (λ (b_is : b ≡ u). differ (a_is ∙ sym b_is)) (λ (down : 0 < fell t b). omega (arith, down, up_b)) (All-contains (λ m. (m ≡ u) ⊎ (0 < fell t m)) clause b all b_in))
+          (λ (down : 0 < fell t a). omega (arith, down, up_a))
+          (All-contains (λ m. (m ≡ u) ⊎ (0 < fell t m)) clause a all a_in);
+    }
+
+    settled_long : (id : ℕ) (clause : List ℤ) → live_in s id ≡ Some clause → 2 ≤ length clause → IsSettled (fell t) clause
+    settled_long id clause is long =
+        let pair : IsPair clause (pair_at s.watches id) = stored.pairs id clause is long in
+        let first : Watches s id (pair_at s.watches id).first = record { clause = clause; is_live = is; long = long; watched = inl refl } in
+        let second : Watches s id (pair_at s.watches id).second = record { clause = clause; is_live = is; long = long; watched = inr refl } in
+        ⊎_elim
+        (λ (down : 0 < fell t (pair_at s.watches id).first). watched_down id clause (pair_at s.watches id).first is first down)
+        (λ (up : fell t (pair_at s.watches id).first ≤ 0). ⊎_elim
+        (λ (down : 0 < fell t (pair_at s.watches id).second). watched_down id clause (pair_at s.watches id).second is second down)
+        (λ (up_too : fell t (pair_at s.watches id).second ≤ 0). both_up clause (pair_at s.watches id).first (pair_at s.watches id).second pair.first pair.second pair.differ (omega (arith, up)) (omega (arith, up_too)))
+        (cases_lt 0 (fell t (pair_at s.watches id).second)))
+        (cases_lt 0 (fell t (pair_at s.watches id).first))
+
+-- Going back to where a level began keeps the promise, with all that is left visited.
+pub guarded_back : (s : Stored) (t back : Trailed) (starts fewer : List ℕ) (head n : ℕ) → n ≤ head → Contains starts n → All (λ x. x < n) fewer → ((k d : ℕ) → k < length fewer → Contains starts (slice_index_or fewer k d)) → IsBack n t back → IsGuarded s (fell t) starts head → IsGuarded s (fell back) fewer n
+guarded_back s t back starts fewer head n low there under front is_back guarded = record {
+  long = λ id w clause watches is fallen.
+      let was : IsFallen (fell t) n w = is_back.same.back n w (omega arith) fallen in
+      let backed : IsBacked (fell t) starts clause w = guarded.long id w clause watches is (was.0, (let h : fell t w ≤ n = was.1 in omega (arith, h, low))) in
+      let on : fell t (opposite backed.lit) ≤ n = All-contains (λ x. fell t w ≤ x → fell t (opposite backed.lit) ≤ x) starts n backed.together there was.1 in
+      record {
+        lit = backed.lit;
+        there = backed.there;
+        on = (is_back.same.there n (opposite backed.lit) (omega arith) (backed.on, on)).0;
+        together = λ k d inside before.
+            let x : ℕ = slice_index_or fewer k d in
+            let below : slice_index_or fewer k d < n = under k d inside in
+            let early : IsFallen (fell t) (slice_index_or fewer k d) w = is_back.same.back (slice_index_or fewer k d) w (omega (arith, below)) (fallen.0, before) in
+            let on_early : fell t (opposite backed.lit) ≤ slice_index_or fewer k d = All-contains (λ y. fell t w ≤ y → fell t (opposite backed.lit) ≤ y) starts (slice_index_or fewer k d) backed.together (front k d inside) early.1 in
+            (is_back.same.there (slice_index_or fewer k d) (opposite backed.lit) (omega (arith, below)) (backed.on, on_early)).1;
+      };
+  short = λ id clause is short.
+      let good : IsTrueForGood (fell t) starts clause = guarded.short id clause is short in
+      let on : fell t (opposite good.lit) ≤ n = All-contains (λ x. fell t (opposite good.lit) ≤ x) starts n good.bottom there in
+      record {
+        lit = good.lit;
+        there = good.there;
+        on = (is_back.same.there n (opposite good.lit) (omega arith) (good.on, on)).0;
+        bottom = λ k d inside.
+            let below : slice_index_or fewer k d < n = under k d inside in
+            let early : fell t (opposite good.lit) ≤ slice_index_or fewer k d = All-contains (λ x. fell t (opposite good.lit) ≤ x) starts (slice_index_or fewer k d) good.bottom (front k d inside) in
+            (is_back.same.there (slice_index_or fewer k d) (opposite good.lit) (omega (arith, below)) (good.on, early)).1;
+      };
+}
+
+-- A level may begin where all is visited.
+pub guarded_decided : (s : Stored) (t : Trailed) (starts : List ℕ) → IsTrail t → IsGuarded s (fell t) starts (length t.lits) → IsGuarded s (fell t) (starts ++ length t.lits ∷ []) (length t.lits)
+guarded_decided s t starts trail guarded = record {
+  long = λ id w clause watches is fallen.
+      let backed : IsBacked (fell t) starts clause w = guarded.long id w clause watches is fallen in
+      record { lit = backed.lit; there = backed.there; on = backed.on; together = All-push (λ x. fell t w ≤ x → fell t (opposite backed.lit) ≤ x) starts (length t.lits) backed.together (λ _. trail.places.within (opposite backed.lit)) };
+  short = λ id clause is short.
+      let good : IsTrueForGood (fell t) starts clause = guarded.short id clause is short in
+      record { lit = good.lit; there = good.there; on = good.on; bottom = All-push (λ x. fell t (opposite good.lit) ≤ x) starts (length t.lits) good.bottom (trail.places.within (opposite good.lit)) };
+}
+
+-- Where nothing is visited and no level begun, clauses of one literal have to be true.
+pub guarded_begun : (s : Stored) (t : Trailed) → AllSettled (live_in s) (fell t) → IsGuarded s (fell t) [] 0
+guarded_begun s t settled = record {
+  long = λ id w clause watches is fallen. absurd (let some : 0 < fell t w = fallen.0 in let low : fell t w ≤ 0 = fallen.1 in omega (arith, some, low));
+  short = λ id clause is short. good id clause is short;
+}
+  where
+    good : (id : ℕ) (clause : List ℤ) → live_in s id ≡ Some clause → length clause < 2 → IsTrueForGood (fell t) [] clause
+    good id [] is short = absurd ((settled.each id [] is).not_false (λ k d (low : k < 0). absurd (omega (arith, low))))
+    good id (l ∷ []) is short =
+        ⊎_elim
+        (λ (on : 0 < fell t (opposite l)). record { lit = l; there = (0, omega arith, refl); on = on; bottom = λ k d (low : k < 0). absurd (omega (arith, low)) })
+        (λ (off : fell t (opposite l) ≤ 0). ⊎_elim
+        (λ (down : 0 < fell t l). absurd ((settled.each id (l ∷ []) is).not_false (one (λ m. 0 < fell t m) l down)))
+        (λ (up : fell t l ≤ 0). absurd ((settled.each id (l ∷ []) is).not_unit l (omega (arith, up)) (omega (arith, off)) (one (λ m. (m ≡ l) ⊎ (0 < fell t m)) l (inl refl))))
+        (cases_lt 0 (fell t l)))
+        (cases_lt 0 (fell t (opposite l)))
+      where
+        one : (P : ℤ → Type 0) (m : ℤ) → P m → All P (m ∷ [])
+        one P m here zero d low = here
+        one P m here (suc k) d low = absurd (let h : suc k < 1 = low in omega (arith, h))
+    good id (l ∷ m ∷ ls) is short = absurd (let h : suc (suc (length ls)) < 2 = short in omega (arith, h))
+
+-- A clause is added that has a true literal where it is first, and a second one that fell last.
+pub guarded_added : (s : Stored) (places : ℤ → ℕ) (starts : List ℕ) (head : ℕ) (lits : List ℤ) → IsStored s → 0 < length lits → 0 < places (opposite (slice_index_or lits 0 (pos 1))) → places (slice_index_or lits 0 (pos 1)) ≡ 0 → (length lits < 2 → All (λ x. places (opposite (slice_index_or lits 0 (pos 1))) ≤ x) starts) → (2 ≤ length lits → All (λ x. x < places (slice_index_or lits 1 (pos 1))) starts) → IsGuarded s places starts head → IsGuarded (added s lits) places starts head
+guarded_added s places starts head lits stored some on up bottom late guarded = record {
+  long = λ id w clause watches is fallen. ⊎_elim
+      (λ (new : (id ≡ length s.clauses + 1) × (2 ≤ length lits) × ((w ≡ (pair_of lits).first) ⊎ (w ≡ (pair_of lits).second))).
+      ⊎_elim
+      (λ (first : w ≡ slice_index_or lits 0 (pos 1)). absurd (let h : places w ≡ 0 = ap places first ∙ up in let down : 0 < places w = fallen.0 in omega (arith, h, down)))
+      (λ (second : w ≡ slice_index_or lits 1 (pos 1)). subst (λ (c : List ℤ). IsBacked places starts c w) (is_lits id clause new.0 is) (record {
+        lit = slice_index_or lits 0 (pos 1);
+        there = Contains-get_or lits 0 (pos 1) some;
+        on = on;
+        together = λ k d inside before. absurd (let h : slice_index_or starts k d < places (slice_index_or lits 1 (pos 1)) = late new.1 k d inside in let e : places w ≡ places (slice_index_or lits 1 (pos 1)) = ap places second in omega (arith, h, e, before));
+      }))
+      new.2)
+      (λ (old : Watches s id w). guarded.long id w clause old (old_live id w clause old is) fallen)
+      (added_watches s lits id w stored watches);
+  short = λ id clause is short. ⊎_elim
+      (λ (new : (id ≡ length s.clauses + 1) × (lits ≡ clause)). subst (λ (c : List ℤ). IsTrueForGood places starts c) new.1 (record { lit = slice_index_or lits 0 (pos 1); there = Contains-get_or lits 0 (pos 1) some; on = on; bottom = bottom (rw new.1 short) }))
+      (λ (old : live_in s id ≡ Some clause). guarded.short id clause old short)
+      (live_added s lits id clause is);
+}
+  where
+    is_lits : (id : ℕ) (clause : List ℤ) → id ≡ length s.clauses + 1 → live_in (added s lits) id ≡ Some clause → lits ≡ clause
+    is_lits id clause e is = ⊎_elim (λ (new : (id ≡ length s.clauses + 1) × (lits ≡ clause)). new.1) (λ (old : live_in s id ≡ Some clause). absurd (next_free id clause old e)) (live_added s lits id clause is)
+      where
+        next_free : (k : ℕ) (c : List ℤ) → live_in s k ≡ Some c → k ≡ length s.clauses + 1 → ⊥
+        next_free k c is_c e_c = next_is_free s k c is_c e_c
+
+    old_live : (id : ℕ) (w : ℤ) (clause : List ℤ) → Watches s id w → live_in (added s lits) id ≡ Some clause → live_in s id ≡ Some clause
+    old_live id w clause old is = ⊎_elim (λ (new : (id ≡ length s.clauses + 1) × (lits ≡ clause)). absurd (next_is_free s id old.clause old.is_live new.0)) (λ (same : live_in s id ≡ Some clause). same) (live_added s lits id clause is)

@@ -1,0 +1,168 @@
+-- The steps of a visit.
+use Rattle.std.proofs.Common.{◌≡◌, ◌≢◌, ℕ, ◌+◌, ◌-◌, ◌<◌, ◌≤◌, ◌⊎◌, ℤ, List, length, slice_index_or, Contains, All, Option, Some, IsSome, subst, sym, ap, ◌∙◌, arith, inl, inr, refl}
+use Rattle.std.proofs.Math.Logic.{⊎_elim}
+use Rattle.std.proofs.lemmas.Bool.{cases_eq}
+use Rattle.std.proofs.lemmas.Grind.{common_steps}
+use Rattle.std.proofs.lemmas.List.Elements.{All-contains, Contains-get_or}
+use Rattle.sat_theory.specs.Formula.{variable, opposite}
+use Rattle.cdcl_theory.specs.Falling.{Implies}
+use Rattle.cdcl_theory.specs.Trails.{Trailed, fell, IsTrail, pushed, IsGrown}
+use Rattle.clause_db.specs.Watching.{list_of}
+use Rattle.clause_db.specs.WatchingLaws.{swap_other, swap_length, list_from}
+use Rattle.std.specs.List.{swap_remove}
+use Rattle.cdcl_theory.specs.Codes.{code_of}
+use Rattle.cdcl_theory.specs.CodeLaws.{code_of-room}
+use Rattle.clause_db.specs.Stored.{Stored, live_at, live_in, Watches, IsLong, IsStored, rewatched}
+use Rattle.clause_db.specs.Moving.{IsMovable, movable_watches, watched_in, watched_variable, rewatched_old}
+use Rattle.cdcl_core.specs.Guarding.{HasTrue, HasTrueAt, IsGuarded}
+use Rattle.cdcl_core.proofs.Guards.{guarded_moved, guarded_visited}
+use Rattle.cdcl_core.specs.Visiting.{id_at, IsKept, IsMoved, IsRest}
+use Rattle.trail_core.specs.Values.{IsOver, IsFree}
+use Rattle.cdcl_core.proofs.Growing.{grown_self, grown_trans, grown_pushed}
+use Rattle.cdcl_core.proofs.Jumps.{pushed_on}
+
+-- the entry at an index of a literal's list watches it
+pub entry_watches : (s : Stored) (l : ℤ) (index id : ℕ) → IsStored s → index < length (list_of s.watches l) → id ≡ id_at s l index → Watches s id l
+entry_watches s l index id stored inside is = rw is (stored.only l (id_at s l index) (Contains-get_or (list_of s.watches l) index 0 inside))
+
+pub watches_long : (s : Stored) (id : ℕ) (l : ℤ) → Watches s id l → IsLong s id
+watches_long s id l watches = record { clause = watches.clause; is_live = watches.is_live; long = watches.long }
+
+pub watches_live : (s : Stored) (id : ℕ) (l : ℤ) → Watches s id l → IsSome (live_in s id)
+watches_live s id l watches = let is : live_in s id ≡ Some watches.clause = watches.is_live in rw is refl
+
+-- a true literal among the watched
+pub true_at : (s : Stored) (places : ℤ → ℕ) (id : ℕ) (l : ℤ) → IsStored s → Watches s id l → 0 < places (opposite l) → HasTrueAt s places id
+true_at s places id l stored watches on clause is = record { lit = l; there = watched_in s id l clause stored watches is; on = on }
+
+-- A literal that hasn't fallen, is in the clause and isn't watched can be watched in place of one that fell.
+pub movable_to : (s : Stored) (places : ℤ → ℕ) (l other to : ℤ) (index id : ℕ) (lits : List ℤ) → IsStored s → index < length (list_of s.watches l) → id ≡ id_at s l index → live_in s id ≡ Some lits → Contains lits to → places to ≡ 0 → 0 < places l → to ≢ other → ((m : ℤ) → Watches s id m → (m ≡ l) ⊎ (m ≡ other)) → IsMovable s (id_at s l index) l to index
+movable_to s places l other to index id lits stored inside id_is is there up down apart only = record {
+  inside = inside;
+  at_index = refl;
+  there = λ clause live. (let here : live_in s id ≡ Some clause = ap (live_in s) id_is ∙ live in let same : lits ≡ clause = cc in subst (λ (c : List ℤ). Contains c to) same there);
+  other = λ watches. ⊎_elim (λ (e : to ≡ l). (let h : places to ≡ places l = ap places e in omega (arith, h, up, down))) apart (only to (subst (λ (k : ℕ). Watches s k to) (sym id_is) watches));
+}
+
+-- Where all but one have fallen, that one follows, or the clause is falsified.
+pub left_over : (places : ℤ → ℕ) (lits : List ℤ) (other : ℤ) → 0 < places other → All (λ m. (m ≡ other) ⊎ (0 < places m)) lits → All (λ m. 0 < places m) lits
+left_over places lits other down all k d low = ⊎_elim (λ (e : slice_index_or lits k d ≡ other). subst (λ (x : ℤ). 0 < places x) (sym e) down) (λ (h : 0 < places (slice_index_or lits k d)). h) (all k d low)
+
+pub others_imply : (live : ℕ → Option (List ℤ)) (t : Trailed) (id : ℕ) (lits : List ℤ) (other : ℤ) → IsTrail t → live id ≡ Some lits → Contains lits other → All (λ m. (m ≡ other) ⊎ (0 < fell t m)) lits → Implies live (fell t) (length t.lits) other id
+others_imply live t id lits other trail is there all = record {
+  clause = lits;
+  is_live = is;
+  there = there;
+  others = λ k d low. ⊎_elim (λ (e : slice_index_or lits k d ≡ other). inl e) (λ (down : 0 < fell t (slice_index_or lits k d)). inr (down, trail.places.within (slice_index_or lits k d))) (all k d low);
+}
+
+-- what is true stays true while the trail grows
+pub true_grown : (live : ℕ → Option (List ℤ)) (s : Stored) (a b : Trailed) (id : ℕ) → IsTrail a → IsGrown live a b → HasTrueAt s (fell a) id → HasTrueAt s (fell b) id
+true_grown live s a b id trail grown on clause is =
+    let was : HasTrue (fell a) clause = on clause is in
+    record { lit = was.lit; there = was.there; on = (grown.same.there (length a.lits) (opposite was.lit) (omega arith) (was.on, trail.places.within (opposite was.lit))).0 }
+
+-- and what hasn't fallen hadn't before
+pub up_before : (live : ℕ → Option (List ℤ)) (a b : Trailed) (l : ℤ) → IsTrail a → IsGrown live a b → fell b l ≡ 0 → fell a l ≡ 0
+up_before live a b l trail grown up =
+    ⊎_elim
+    (λ (none : fell a l ≡ 0). none)
+    (λ (some : fell a l ≡ 0 → ⊥). absurd (let now : 0 < fell b l = (grown.same.there (length a.lits) l (omega arith) (omega (arith, some), trail.places.within l)).0 in omega (arith, now, up)))
+    (cases_eq (fell a l) 0)
+
+pub rest_self : (a : Stored) (s : Trailed) → IsRest a a s s
+rest_self a s = record { clauses = refl; vars = refl; grown = grown_self (live_in a) s; moved = λ id w watches. inl watches }
+
+pub rest_kept : (a b c : Stored) (r s t : Trailed) (l : ℤ) (index : ℕ) → IsRest a b r s → IsKept b c s t l index → IsRest a c r t
+rest_kept a b c r s t l index rest kept = record {
+  clauses = ap (λ (x : Stored). x.clauses) kept.same ∙ rest.clauses;
+  vars = ap (λ (x : Stored). x.vars) kept.same ∙ rest.vars;
+  grown = grown_trans (live_in c) r s t (subst (λ (x : Stored). IsGrown (live_in x) r s) (sym kept.same) rest.grown) kept.grown;
+  moved = λ id w watches. rest.moved id w (subst (λ (x : Stored). Watches x id w) kept.same watches);
+}
+
+pub rest_moved : (a b c : Stored) (r s t : Trailed) (l : ℤ) (index : ℕ) → IsTrail r → IsStored b → IsRest a b r s → IsMoved b c s t l index → IsRest a c r t
+rest_moved a b c r s t l index trail stored rest moved = rw (moved.is, moved.same) (record {
+  clauses = rest.clauses;
+  vars = rest.vars;
+  grown = rest.grown;
+  moved = λ id w watches. ⊎_elim
+      (λ (old : Watches b id w). rest.moved id w old)
+      (λ (new : (id ≡ id_at b l index) × (w ≡ moved.to)). inr (up_before (live_in b) r s w trail rest.grown (ap (fell s) new.1 ∙ moved.up)))
+      (rewatched_old b (id_at b l index) l moved.to index id w stored moved.movable watches);
+})
+
+-- The visited entries stay visited.
+pub visited_kept : (b c : Stored) (s t : Trailed) (l : ℤ) (index : ℕ) → IsTrail s → IsKept b c s t l index → ((k : ℕ) → k < index → HasTrueAt b (fell s) (id_at b l k)) → (k : ℕ) → k < index + 1 → HasTrueAt c (fell t) (id_at c l k)
+visited_kept b c s t l index trail kept before k low =
+    ⊎_elim
+    (λ (e : k ≡ index). rw e kept.on)
+    (λ (apart : k ≡ index → ⊥). true_grown (live_in c) c s t (id_at c l k) trail kept.grown (subst (λ (x : Stored). HasTrueAt x (fell s) (id_at x l k)) (sym kept.same) (before k (omega (arith, low, apart)))))
+    (cases_eq k index)
+
+list_room : (b : Stored) (l : ℤ) (id : ℕ) → Watches b id l → IsStored b → code_of l < length b.watches.lists
+list_room b l id watches stored = rw stored.room (code_of-room l b.vars (watched_variable b id l stored watches))
+
+moved_entry : (b : Stored) (l to : ℤ) (id index k : ℕ) → IsStored b → IsMovable b id l to index → k < index → id_at (rewatched b id l to index) l k ≡ id_at b l k
+moved_entry b l to id index k stored movable low =
+    ap (λ (xs : List ℕ). slice_index_or xs k 0) (list_from b.watches id l to index l (list_room b l id (movable_watches b id l to index stored movable) stored) refl) ∙ swap_other (list_of b.watches l) index 0 k 0 (let inside : index < length (list_of b.watches l) = movable.inside in omega (arith, inside, low)) (λ e. omega (arith, e, low))
+
+pub visited_moved : (b c : Stored) (s t : Trailed) (l : ℤ) (index : ℕ) → IsStored b → IsMoved b c s t l index → ((k : ℕ) → k < index → HasTrueAt b (fell s) (id_at b l k)) → (k : ℕ) → k < index → HasTrueAt c (fell t) (id_at c l k)
+visited_moved b c s t l index stored moved before k low =
+    let same : id_at (rewatched b (id_at b l index) l moved.to index) l k ≡ id_at b l k = moved_entry b l moved.to (id_at b l index) index k stored moved.movable low in
+    rw (moved.is, moved.same, same) (before k low)
+
+-- the list is shorter by one
+pub moved_shorter : (b c : Stored) (s t : Trailed) (l : ℤ) (index : ℕ) → IsStored b → IsMoved b c s t l index → length (list_of c.watches l) + 1 ≡ length (list_of b.watches l)
+moved_shorter b c s t l index stored moved =
+    let list : list_of (rewatched b (id_at b l index) l moved.to index).watches l ≡ swap_remove (list_of b.watches l) index 0 = list_from b.watches (id_at b l index) l moved.to index l (list_room b l (id_at b l index) (movable_watches b (id_at b l index) l moved.to index stored moved.movable) stored) refl in
+    let inside : index < length (list_of b.watches l) = moved.movable.inside in
+    let long : length (list_of c.watches l) ≡ length (list_of b.watches l) - 1 = ap (λ (x : Stored). length (list_of x.watches l)) moved.is ∙ ap length list ∙ swap_length (list_of b.watches l) index 0 inside in
+    omega (arith, long, inside)
+
+-- a watched literal is one of the variables
+pub watched_over : (s : Stored) (t : Trailed) (id : ℕ) (l : ℤ) → IsStored s → s.vars ≡ t.vars → Watches s id l → IsOver t.vars l
+watched_over s t id l stored vars watches =
+    (All-contains (λ m. 0 < variable m) watches.clause l (stored.clauses id watches.clause watches.is_live).literals (watched_in s id l watches.clause stored watches watches.is_live), (let low : variable l ≤ s.vars = watched_variable s id l stored watches in omega (arith, low, vars)))
+
+-- The other watched literal is made true.
+pub kept_pushed : (s : Stored) (t new : Trailed) (l other : ℤ) (index id : ℕ) (lits : List ℤ) → IsStored s → IsTrail t → s.vars ≡ t.vars → id ≡ id_at s l index → live_in s id ≡ Some lits → Watches s id other → IsFree t other → All (λ m. (m ≡ other) ⊎ (0 < fell t m)) lits → new ≡ pushed t other id → IsKept s s t new l index
+kept_pushed s t new l other index id lits stored trail vars id_is is watches free all new_is =
+    let over : IsOver t.vars other = watched_over s t id other stored vars watches in
+    let there : Contains lits other = watched_in s id other lits stored watches is in
+    let on : (fell (pushed t other id) (opposite other) ≡ length t.lits + 1) × (fell (pushed t other id) other ≡ 0) = pushed_on t other id trail over free in
+    rw new_is (record {
+      same = refl;
+      grown = grown_pushed (live_in s) t other id trail over.1 free (others_imply (live_in s) t id lits other trail is there all);
+      on = subst (λ (k : ℕ). HasTrueAt s (fell (pushed t other id)) k) id_is (true_at s (fell (pushed t other id)) id other stored watches (omega (arith, on.0)));
+    })
+
+-- With the whole list visited each clause that watches the literal has a true one.
+pub visited_each : (s : Stored) (places : ℤ → ℕ) (l : ℤ) (index : ℕ) → IsStored s → length (list_of s.watches l) ≤ index → ((k : ℕ) → k < index → HasTrueAt s places (id_at s l k)) → (id : ℕ) → Watches s id l → HasTrueAt s places id
+visited_each s places l index stored done visited id watches =
+    let there : Contains (list_of s.watches l) id = stored.listed l id watches in
+    let within : there.0 < length (list_of s.watches l) = there.1 in
+    let same : id_at s l there.0 ≡ slice_index_or (list_of s.watches l) there.0 id = grind (arith, common_steps) in
+    subst (λ (k : ℕ). HasTrueAt s places k) (same ∙ there.2) (visited there.0 (omega (arith, within, done)))
+
+-- one visit after another
+pub rest_trans : (a b c : Stored) (r s t : Trailed) → IsTrail r → IsRest a b r s → IsRest b c s t → IsRest a c r t
+rest_trans a b c r s t trail first second = record {
+  clauses = second.clauses ∙ first.clauses;
+  vars = second.vars ∙ first.vars;
+  grown = grown_trans (live_in c) r s t (subst (λ (xs : List (Option (List ℤ))). IsGrown (live_at xs) r s) (sym second.clauses) first.grown) second.grown;
+  moved = λ id w watches. ⊎_elim (λ (old : Watches b id w). first.moved id w old) (λ (up : fell s w ≡ 0). inr (up_before (live_in b) r s w trail first.grown up)) (second.moved id w watches);
+}
+
+-- The promise lasts over visits,
+pub guarded_rest : (a b : Stored) (s t : Trailed) (starts : List ℕ) (head : ℕ) → IsTrail s → head ≤ length s.lits → All (λ x. x ≤ head) starts → IsRest a b s t → IsGuarded a (fell s) starts head → IsGuarded b (fell t) starts head
+guarded_rest a b s t starts head trail low begun rest guarded =
+    guarded_moved a b (fell s) (fell t) starts (length s.lits) head rest.grown.same trail.places.within low begun rest.clauses rest.moved guarded
+
+-- and goes on by one literal.
+pub guarded_next : (a b : Stored) (s t : Trailed) (starts : List ℕ) (from head : ℕ) (l : ℤ) → IsTrail s → IsTrail t → from ≤ head → head < length s.lits → opposite (slice_index_or s.lits head l) ≡ l → All (λ x. x ≤ from) starts → IsRest a b s t → ((id : ℕ) → Watches b id l → HasTrueAt b (fell t) id) → IsGuarded a (fell s) starts head → IsGuarded b (fell t) starts (head + 1)
+guarded_next a b s t starts from head l trail trail_now low inside at begun rest visited guarded =
+    guarded_visited b t starts head l trail_now begun_head (let longer : length s.lits ≤ length t.lits = rest.grown.longer in omega (arith, inside, longer)) (ap opposite (rest.grown.lits head l inside) ∙ at) visited (guarded_rest a b s t starts head trail (omega (arith, inside)) begun_head rest guarded)
+  where
+    begun_head : All (λ x. x ≤ head) starts
+    begun_head k d within = (let h : slice_index_or starts k d ≤ from = begun k d within in omega (arith, h, low))

@@ -1,0 +1,19 @@
+use Rattle.std.proofs.Common.{◌<◌, ◌≤◌, ◌-◌, ℕ, length}
+use Rattle.cdcl_theory.specs.Trails.{IsTrail, fell}
+use Rattle.clause_db.specs.Watching.{list_of}
+use Rattle.clause_db.specs.Stored.{IsStored}
+use Rattle.cdcl_core.specs.Guarding.{HasTrueAt}
+use Rattle.cdcl_core.specs.Visiting.{id_at, IsRest}
+use Rattle.cdcl_core.proofs.visiting.visit_watching.Given as goal
+
+abbrev pub invariant-loop-index : goal.invariant-loop-index
+invariant-loop-index l = record {
+  whole : IsTrail l.trail;
+  stored : IsStored l.clauses;
+  rest : IsRest l.initial.clauses l.clauses l.initial.trail l.trail;
+  visited : (k : ℕ) → k < l.index → HasTrueAt l.clauses (fell l.trail) (id_at l.clauses l.fallen k);
+  inside : l.index ≤ length (list_of l.clauses.watches l.fallen);
+}
+
+abbrev pub decreases-loop-index : goal.decreases-loop-index
+decreases-loop-index l = length (list_of l.clauses.watches l.fallen) - l.index

@@ -1,0 +1,46 @@
+-- What a visit of a clause leaves.
+use Rattle.std.specs.Prelude.{◌≡◌, ℕ, ◌⊎◌, ℤ, slice_index_or}
+use Rattle.cdcl_theory.specs.Falling.{IsFalsified}
+use Rattle.cdcl_theory.specs.Trails.{Trailed, fell, IsGrown}
+use Rattle.clause_db.specs.Watching.{list_of}
+use Rattle.clause_db.specs.Stored.{Stored, live_in, Watches, rewatched}
+use Rattle.clause_db.specs.Moving.{IsMovable}
+use Rattle.cdcl_core.specs.Guarding.{HasTrueAt}
+use Rattle.cdcl_core.specs.declared.visiting.Fate.{Fate}
+use Rattle.cdcl_core.specs.declared.visiting.Fate.TheVariants.{Kept, Moved, Falsified}
+
+-- the id at an index in a literal's list
+abbrev pub id_at : Stored → ℤ → ℕ → ℕ
+id_at s l index = slice_index_or (list_of s.watches l) index 0
+
+-- The clause stays, and has a true literal now.
+pub record IsKept (a b : Stored) (s t : Trailed) (l : ℤ) (index : ℕ) : Type 0 where
+  pub same : b ≡ a
+  pub grown : IsGrown (live_in b) s t
+  pub on : HasTrueAt b (fell t) (id_at b l index)
+
+-- The clause watches another literal, which hasn't fallen.
+pub record IsMoved (a b : Stored) (s t : Trailed) (l : ℤ) (index : ℕ) : Type 0 where
+  pub same : t ≡ s
+  pub to : ℤ
+  pub movable : IsMovable a (id_at a l index) l to index
+  pub up : fell s to ≡ 0
+  pub is : b ≡ rewatched a (id_at a l index) l to index
+
+-- The clause of an id is falsified.
+pub record IsFound (a b : Stored) (s t : Trailed) (id : ℕ) : Type 0 where
+  pub same : b ≡ a
+  pub same_trail : t ≡ s
+  pub falsified : IsFalsified (live_in b) (fell t) id
+
+abbrev pub IsFate : Stored → Stored → Trailed → Trailed → ℤ → ℕ → Fate → Type 0
+IsFate a b s t l index Kept = IsKept a b s t l index
+IsFate a b s t l index Moved = IsMoved a b s t l index
+IsFate a b s t l index (Falsified id) = IsFound a b s t id
+
+-- The clauses are as they were, the trail went on, and what a clause watches it watched before, or it hadn't fallen.
+pub record IsRest (a b : Stored) (s t : Trailed) : Type 0 where
+  pub clauses : b.clauses ≡ a.clauses
+  pub vars : b.vars ≡ a.vars
+  pub grown : IsGrown (live_in b) s t
+  pub moved : (id : ℕ) (w : ℤ) → Watches b id w → Watches a id w ⊎ (fell s w ≡ 0)

@@ -1,0 +1,146 @@
+//! Propagation by watched literals: only the clauses that watch a literal which falls are visited
+//! (Moskewicz and others, "Chaff", 2001). A visited clause keeps its watch where its other watched literal is
+//! true or becomes so, and else watches another literal that hasn't fallen.
+ghost use Rattle.std.specs.Prelude.{◌≡◌, ◌≢◌, ℕ, ℤ, ◌<◌, ◌≤◌, ◌⊎◌, List, length, slice_index_or, Contains, All, IfOk, IfSome, IfNone};
+ghost use Rattle.sat_theory.specs.Formula.{variable as variable_of, IsClause, IsWithin};
+ghost use Rattle.cdcl_theory.specs.Falling.{AllSettled, IsFalsified};
+ghost use Rattle.cdcl_theory.specs.Trails.{IsTrail, IsGrown, fell as fell_of};
+ghost use Rattle.clause_db.specs.Watching.{list_of};
+ghost use Rattle.clause_db.specs.Stored.{live_in, Watches, IsLong, IsStored};
+ghost use Rattle.cdcl_core.specs.Guarding.{HasTrueAt, IsGuarded};
+ghost use Rattle.cdcl_core.specs.Visiting.{IsFate, IsRest};
+
+use clause_db::ClauseDb;
+use cnf_core::Lit;
+use std::alloc::AllocError;
+use trail_core::Trail;
+
+/// What became of a clause that was visited.
+pub(crate) enum Fate {
+    /// It has a true literal, and its watch stays.
+    Kept,
+    /// It watches another literal.
+    Moved,
+    /// All its literals are false.
+    Falsified(u32),
+}
+
+/// The other literal that a clause watches.
+fn other_watched(clauses: &ClauseDb, id: u32, fallen: Lit) -> Lit
+    requires { Watches clauses.now id fallen }
+    ensures watches { Watches clauses.now id result }
+    ensures differ { result ≢ fallen }
+    ensures only { (l : ℤ) → Watches clauses.now id l → (l ≡ fallen) ⊎ (l ≡ result) }
+{
+    let (first, second) = clauses.watched(id);
+    if first == fallen {
+        return second;
+    }
+    first
+}
+
+/// The first literal that hasn't fallen, besides one.
+fn replacement(trail: &Trail, lits: &[Lit], other: Lit) -> Option<Lit>
+    requires within { IsWithin trail.now.vars lits.now }
+    ensures some { IfSome result (λ m. Contains lits.now m × (fell_of trail.now m ≡ 0) × (m ≢ other)) }
+    ensures none { IfNone result (All (λ m. (m ≡ other) ⊎ (0 < fell_of trail.now m)) lits.now) }
+{
+    for lit in lits {
+        if *lit != other && trail.fell(*lit) == 0 {
+            return Some(*lit);
+        }
+    }
+    None
+}
+
+/// Visits the clause at an index in the list of a literal that fell.
+fn visit(
+    trail: &mut Trail,
+    clauses: &mut ClauseDb,
+    fallen: Lit,
+    index: usize,
+) -> Result<Fate, AllocError>
+    requires whole { IsTrail trail.old }
+    requires stored { IsStored clauses.old }
+    requires vars { clauses.old.vars ≡ trail.old.vars }
+    requires over { variable_of fallen ≤ trail.old.vars }
+    requires fallen { 0 < fell_of trail.old fallen }
+    requires inside { index < length (list_of clauses.old.watches fallen) }
+    ensures whole { IsTrail trail.new }
+    ensures stored { IsStored clauses.new }
+    ensures visit { IfOk result (IsFate clauses.old clauses.new trail.old trail.new fallen index) }
+{
+    let id = clauses.watching(fallen)[index];
+    let other = other_watched(clauses, id, fallen);
+    if trail.fell(other.opposite()) > 0 {
+        return Ok(Fate::Kept);
+    }
+    if let Some(to) = replacement(trail, clauses.lits(id), other) {
+        clauses.rewatch_at(fallen, index, to)?;
+        return Ok(Fate::Moved);
+    }
+    if trail.fell(other) > 0 {
+        return Ok(Fate::Falsified(id));
+    }
+    trail.push(other, id)?;
+    Ok(Fate::Kept)
+}
+
+/// Visits all clauses that watch a literal that fell. It stops at a falsified clause.
+fn visit_watching(
+    trail: &mut Trail,
+    clauses: &mut ClauseDb,
+    fallen: Lit,
+) -> Result<Option<u32>, AllocError>
+    requires whole { IsTrail trail.old }
+    requires stored { IsStored clauses.old }
+    requires vars { clauses.old.vars ≡ trail.old.vars }
+    requires over { variable_of fallen ≤ trail.old.vars }
+    requires fallen { 0 < fell_of trail.old fallen }
+    ensures whole { IsTrail trail.new }
+    ensures stored { IsStored clauses.new }
+    ensures rest { IfOk result (λ _. IsRest clauses.old clauses.new trail.old trail.new) }
+    ensures visited { IfOk result (λ found. IfNone found ((id : ℕ) → Watches clauses.new id fallen → HasTrueAt clauses.new (fell_of trail.new) id)) }
+    ensures conflict { IfOk result (λ found. IfSome found (IsFalsified (live_in clauses.new) (fell_of trail.new))) }
+{
+    let mut index = 0;
+    while index < clauses.watching(fallen).len() {
+        match visit(trail, clauses, fallen, index)? {
+            Fate::Kept => index += 1,
+            Fate::Moved => continue,
+            Fate::Falsified(id) => return Ok(Some(id)),
+        }
+    }
+    Ok(None)
+}
+
+/// Makes true what follows from the literals of the trail, of which those before `from` are visited, until
+/// a live clause is falsified, whose id is answered, or all are visited.
+pub(crate) fn propagate_watched(
+    trail: &mut Trail,
+    clauses: &mut ClauseDb,
+    from: usize,
+) -> Result<Option<u32>, AllocError>
+    requires whole { IsTrail trail.old }
+    requires stored { IsStored clauses.old }
+    requires vars { clauses.old.vars ≡ trail.old.vars }
+    requires low { from ≤ length trail.old.lits }
+    ensures whole { IsTrail trail.new }
+    ensures stored { IsStored clauses.new }
+    ensures rest { IfOk result (λ _. IsRest clauses.old clauses.new trail.old trail.new) }
+    ensures all { (starts : List ℕ) → All (λ s. s ≤ from) starts → IsGuarded clauses.old (fell_of trail.old) starts from →
+        IfOk result (λ found. IfNone found (IsGuarded clauses.new (fell_of trail.new) starts (length trail.new.lits))) }
+    ensures some { (starts : List ℕ) → All (λ s. s ≤ from) starts → IsGuarded clauses.old (fell_of trail.old) starts from →
+        IfOk result (λ found. IfSome found (λ _. IsGuarded clauses.new (fell_of trail.new) starts from)) }
+    ensures conflict { IfOk result (λ found. IfSome found (IsFalsified (live_in clauses.new) (fell_of trail.new))) }
+{
+    let mut head = from;
+    while head < trail.len() {
+        let fallen = trail.at(head).opposite();
+        if let Some(conflict) = visit_watching(trail, clauses, fallen)? {
+            return Ok(Some(conflict));
+        }
+        head += 1;
+    }
+    Ok(None)
+}

@@ -1,0 +1,11 @@
+use Rattle.std.proofs.Common.{◌≡◌, ◌+◌, ◌-◌, ◌<◌, ◌≤◌, ℕ, length, slice_index_or}
+use Rattle.clause_db.proofs.clause_db.find.Given as goal
+
+abbrev pub invariant-loop-index : goal.invariant-loop-index
+invariant-loop-index l = record {
+  inside : l.index < length l.ids;
+  before : (k d : ℕ) → k < l.index → slice_index_or l.ids k d ≡ l.id → ⊥;
+}
+
+abbrev pub decreases-loop-index : goal.decreases-loop-index
+decreases-loop-index l = length l.ids - l.index
