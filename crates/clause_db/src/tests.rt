@@ -22,6 +22,7 @@ fn clauses_have_ids(rt: HostRuntime) -> Result<(), Fail> {
     cnf.push(Clause::new(vec![in alloc; Lit::new(1), Lit::new(-2)]?))?;
     cnf.push(Clause::new(Vec::new(alloc)))?;
     let mut clauses = ClauseDb::new(alloc, &cnf)?;
+    assert_eq!(rt; clauses.vars(), 3);
     assert_eq!(rt; clauses.last(), 2);
     assert_eq!(rt; clauses.add(&[Lit::new(3)])?, 3);
     assert_eq!(rt; clauses.last(), 3);
@@ -53,6 +54,8 @@ fn clauses_watch_their_first_two_literals(rt: HostRuntime) -> Result<(), Fail> {
     cnf.push(Clause::new(vec![in alloc; Lit::new(1), Lit::new(-2), Lit::new(3)]?))?;
     cnf.push(Clause::new(vec![in alloc; Lit::new(2)]?))?;
     let mut clauses = ClauseDb::new(alloc, &cnf)?;
+    assert_eq!(rt; clauses.vars(), 3);
+    assert_eq!(rt; clauses.last(), 2);
     clauses.add(&[Lit::new(1), Lit::new(2)])?;
     assert!(rt; ids(alloc, &clauses, 1)? == Some(vec![in alloc; 1, 3]?));
     assert!(rt; ids(alloc, &clauses, -2)? == Some(vec![in alloc; 1]?));
