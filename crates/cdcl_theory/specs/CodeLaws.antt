@@ -1,5 +1,5 @@
 -- Entries of tables that are written.
-use Rattle.std.specs.Prelude.{◌≡◌, ℕ, zero, suc, ◌+◌, ◌*◌, ◌<◌, ◌≤◌, ◌⊎◌, ℤ, pos, negsuc, Bool, true, false, List, length, slice_index_or, slice_set, replicate, refl}
+use Rattle.std.specs.Prelude.{◌≡◌, ℕ, zero, suc, ◌<◌, ◌≤◌, ◌⊎◌, ℤ, pos, negsuc, Bool, true, false, List, length, slice_index_or, slice_set, replicate, refl}
 use Rattle.std.specs.Ordering.{int_eq}
 use Rattle.std.proofs.Common.{ap, arith, inl, inr}
 use Rattle.std.proofs.Math.Logic.{⊎_elim}
@@ -8,19 +8,9 @@ use Rattle.std.proofs.lemmas.Bool.Decides.{Decides-int_eq}
 use Rattle.std.proofs.lemmas.Grind.{common_steps}
 use Rattle.sat_theory.specs.Formula.{variable, opposite}
 use Rattle.sat_theory.specs.Holding.{with_literal}
-use Rattle.cdcl_theory.specs.Codes.{code_of, place_in, with_place, marked_in, without_literal}
-
--- each literal has its own entry
-pub code_of-same : (l m : ℤ) → code_of l ≡ code_of m → l ≡ m
-code_of-same (pos a) (pos b) e = let h : 2 * a ≡ 2 * b = e in let same : a ≡ b = omega arith in ap (λ (n : ℕ). pos n) same
-code_of-same (pos a) (negsuc b) e = let h : 2 * a ≡ 2 * suc b + 1 = e in absurd (omega arith)
-code_of-same (negsuc a) (pos b) e = let h : 2 * suc a + 1 ≡ 2 * b = e in absurd (omega arith)
-code_of-same (negsuc a) (negsuc b) e = let h : 2 * suc a + 1 ≡ 2 * suc b + 1 = e in let same : a ≡ b = omega arith in ap (λ (n : ℕ). negsuc n) same
-
--- the entries of the variables 1 to n fit a table of 2 n + 2
-pub code_of-room : (l : ℤ) (n : ℕ) → variable l ≤ n → code_of l < 2 * n + 2
-code_of-room (pos a) n within = let h : a ≤ n = within in let goal : 2 * a < 2 * n + 2 = omega arith in goal
-code_of-room (negsuc a) n within = let h : suc a ≤ n = within in let goal : 2 * suc a + 1 < 2 * n + 2 = omega arith in goal
+use Rattle.cnf_core.specs.Codes.{code_of}
+use Rattle.cdcl_theory.specs.Codes.{place_in, with_place, marked_in, without_literal}
+pub use Rattle.cnf_core.specs.CodeLaws.{code_of-same, code_of-room}
 
 pub opposite-opposite : (l : ℤ) → opposite (opposite l) ≡ l
 opposite-opposite (pos zero) = refl

@@ -1,11 +1,7 @@
--- Tables with an entry for each literal.
-use Rattle.std.specs.Prelude.{ℕ, suc, ◌+◌, ◌*◌, if◌then◌else◌, ℤ, pos, negsuc, Bool, false, not, ◌&&◌, List, slice_index_or}
+-- What tables with an entry for each literal say.
+use Rattle.std.specs.Prelude.{ℕ, if◌then◌else◌, ℤ, Bool, false, not, ◌&&◌, List, slice_index_or}
 use Rattle.std.specs.Ordering.{int_eq}
-
--- where the entry of a literal stands: at 2 v that of v, and at 2 v + 1 that of -v
-abbrev pub code_of : ℤ → ℕ
-code_of (pos n) = 2 * n
-code_of (negsuc n) = 2 * suc n + 1
+pub use Rattle.cnf_core.specs.Codes.{code_of}
 
 -- a table of numbers, as a function
 unfoldable pub place_in : List ℕ → ℤ → ℕ

@@ -6,14 +6,6 @@
 //! The theorem in the middle is `laws::unit_clauses_are_new`: a clause that is unit in a closed state of
 //! values is new, however it was found. So it holds of clauses that were learnt, and of those that were
 //! shortened afterwards, and restarts, watches and deletions don't touch it.
-//!
-//! `code` numbers the literals for tables: `code(Lit::new(-3))` is 7.
 #![tactic(auto)]
 
-mod codes;
 pub mod laws;
-
-pub use codes::code;
-
-#[cfg(test)]
-mod tests;

@@ -3,7 +3,6 @@ ghost use Rattle.std.specs.List.{swap_remove};
 ghost use Rattle.cdcl_theory.specs.Codes.{code_of};
 ghost use Rattle.clause_db.specs.Watching.{HasRoom, list_of, pair_at, pair_of, with_id, with_ids, watching_more, watching_moved, replaced};
 
-use cdcl_theory::code;
 use cnf_core::Lit;
 use std::alloc::{AllocError, Global};
 use std::marker::Model;
@@ -134,7 +133,7 @@ impl Watches {
         requires { code_of lit < length self.now.lists }
         ensures { result.now ≡ list_of self.now lit }
     {
-        self.lists[code(lit)].get()
+        self.lists[lit.code()].get()
     }
 
     /// Puts an id at the end of a literal's list.
@@ -144,7 +143,7 @@ impl Watches {
         ensures ok { OnOk result (self.new ≡ record self.old { lists = with_id self.old.lists lit id }) }
         ensures err { OnErr result (self.new ≡ self.old) }
     {
-        self.lists[code(lit)].push(id)?;
+        self.lists[lit.code()].push(id)?;
         Ok(())
     }
 
@@ -154,7 +153,7 @@ impl Watches {
         requires { code_of lit < length self.old.lists }
         ensures { self.new ≡ record self.old { lists = slice_set self.old.lists (code_of lit) (take (length (list_of self.old lit) - 1) (list_of self.old lit)) } }
     {
-        self.lists[code(lit)].take_last();
+        self.lists[lit.code()].take_last();
     }
 
     /// Puts an id at the ends of the lists of a clause's first two literals, if it has two.
@@ -216,7 +215,7 @@ impl Watches {
         requires inside { index < length (list_of self.old lit) }
         ensures { self.new ≡ record self.old { lists = slice_set self.old.lists (code_of lit) (swap_remove (list_of self.old lit) index 0) } }
     {
-        self.lists[code(lit)].take_out(index);
+        self.lists[lit.code()].take_out(index);
     }
 }
 

@@ -1,5 +1,5 @@
-ghost use Rattle.std.specs.Prelude.{◌≡◌};
-ghost use Rattle.sat_theory.specs.Formula.{IsClause};
+ghost use Rattle.std.specs.Prelude.{◌≡◌, ◌↔◌, IsTrue};
+ghost use Rattle.sat_theory.specs.Formula.{IsClause, IsWithin};
 
 use crate::Lit;
 use std::marker::Model;
@@ -37,6 +37,13 @@ impl Clause {
         ensures whole { IsClause self.now }
     {
         &self.lits
+    }
+
+    /// Whether its variables are 1 to `vars`.
+    pub fn is_within(&self, vars: u32) -> bool
+        ensures { IsTrue result ↔ IsWithin vars self.now }
+    {
+        self.lits.iter().all(|lit| lit.variable() <= vars)
     }
 
     /// Its literals, given back.

@@ -1,4 +1,4 @@
-ghost use Rattle.std.specs.Prelude.{◌≡◌, ◌<◌, ◌+◌, [], ◌∷◌, ◌++◌, length, OnOk, OnErr};
+ghost use Rattle.std.specs.Prelude.{◌≡◌, ◌↔◌, ◌<◌, ◌+◌, [], ◌∷◌, ◌++◌, length, Contains, IsTrue, OnOk, OnErr};
 ghost use Rattle.sat_theory.specs.Formula.{IsWithin};
 ghost use Rattle.cnf_core.specs.Bounds.{IsCnf};
 
@@ -64,6 +64,14 @@ impl Cnf {
         ensures whole { IsCnf self.now }
     {
         &self.clauses
+    }
+
+    /// Whether the empty clause is one of its clauses.
+    pub fn has_empty(&self) -> bool
+        ensures value { IsTrue result ↔ Contains self.now.clauses [] }
+        ensures whole { IsCnf self.now }
+    {
+        self.clauses.iter().any(|clause| clause.lits().is_empty())
     }
 
     /// Its clauses, given back.

@@ -1,5 +1,6 @@
 ghost use Rattle.std.specs.Prelude.{◌≡◌, ℤ, pos, ◌<◌, ◌^◌, ◌<ℤ◌, ◌↔◌, IsTrue};
 ghost use Rattle.cnf_core.specs.Bounds.{IsLit};
+ghost use Rattle.cnf_core.specs.Codes.{code_of};
 ghost use Rattle.sat_theory.specs.Formula.{variable as variable_of, opposite as opposite_of};
 
 use std::marker::Model;
@@ -61,5 +62,14 @@ impl Lit {
         ensures { IsTrue result ↔ (pos 0 <ℤ self) }
     {
         self.0 > 0
+    }
+
+    /// Where its entry stands in a table with an entry for each literal: at 2 v for the variable v, and
+    /// at 2 v + 1 for the opposite. A table of 2 n + 2 entries has room for the variables 1 to n.
+    pub fn code(self) -> usize
+        ensures value { result ≡ code_of self }
+        ensures small { result < 2 ^ 33 }
+    {
+        2 * self.variable() as usize + usize::from(!self.is_positive())
     }
 }

@@ -43,3 +43,35 @@ fn literals_have_opposites(rt: HostRuntime) {
         assert!(rt; lit.opposite().opposite() == lit);
     }
 }
+
+#[test]
+fn literals_are_numbered(rt: HostRuntime) {
+    for (number, place) in [(1, 2), (-1, 3), (2, 4), (-3, 7), (2147483647, 4294967294)] {
+        assert_eq!(rt; Lit::new(number).code(), place);
+    }
+}
+
+#[test]
+fn clauses_tell_what_they_are_over(rt: HostRuntime) -> Result<(), Fail> {
+    let alloc = rt.alloc();
+    let clause = Clause::new(vec![in alloc; Lit::new(2), Lit::new(-5), Lit::new(3)]?);
+    for (vars, yes) in [(0, false), (4, false), (5, true), (6, true)] {
+        assert_eq!(rt; clause.is_within(vars), yes, "{vars}");
+    }
+    assert!(rt; Clause::new(Vec::new(alloc)).is_within(0));
+    Ok(())
+}
+
+#[test]
+fn formulas_tell_of_the_empty_clause(rt: HostRuntime) -> Result<(), Fail> {
+    let alloc = rt.alloc();
+    let mut cnf = Cnf::new(alloc, 2);
+    assert!(rt; !cnf.has_empty());
+    cnf.push(Clause::new(vec![in alloc; Lit::new(-2)]?))?;
+    assert!(rt; !cnf.has_empty());
+    cnf.push(Clause::new(Vec::new(alloc)))?;
+    assert!(rt; cnf.has_empty());
+    cnf.push(Clause::new(vec![in alloc; Lit::new(1)]?))?;
+    assert!(rt; cnf.has_empty());
+    Ok(())
+}

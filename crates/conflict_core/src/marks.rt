@@ -4,7 +4,6 @@ ghost use Rattle.sat_theory.specs.Holding.{with_literal};
 ghost use Rattle.cdcl_theory.specs.Codes.{code_of, marked_in, without_literal};
 ghost use Rattle.conflict_core.specs.Walking.{HasRoom, IsClear, AreUnmarked};
 
-use cdcl_theory::code;
 use cnf_core::Lit;
 use std::alloc::{AllocError, Global};
 use std::marker::Model;
@@ -40,7 +39,7 @@ impl Marks {
         requires { code_of lit < length self.now }
         ensures { result ≡ marked_in self.now lit }
     {
-        self.marks[code(lit)]
+        self.marks[lit.code()]
     }
 
     /// Puts a literal into the set.
@@ -49,7 +48,7 @@ impl Marks {
         ensures set { marked_in self.new ≡ with_literal (marked_in self.old) lit }
         ensures room { length self.new ≡ length self.old }
     {
-        self.marks[code(lit)] = true;
+        self.marks[lit.code()] = true;
     }
 
     /// Takes a literal out of the set.
@@ -58,7 +57,7 @@ impl Marks {
         ensures set { marked_in self.new ≡ without_literal (marked_in self.old) lit }
         ensures room { length self.new ≡ length self.old }
     {
-        self.marks[code(lit)] = false;
+        self.marks[lit.code()] = false;
     }
 
     /// Takes the literals of a list out of the set.

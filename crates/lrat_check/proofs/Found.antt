@@ -4,7 +4,7 @@ use Rattle.std.proofs.Math.Logic.{⊎_elim}
 use Rattle.std.proofs.lemmas.Bool.{cases_eq, eq-eqb}
 use Rattle.std.proofs.lemmas.Grind.{common_steps}
 use Rattle.sat_theory.specs.State.{is_listed}
-use Rattle.lrat_check.specs.Marks.{code_of}
+use Rattle.cnf_core.specs.Codes.{code_of}
 use Rattle.lrat_check.specs.Index.{with_id, IsFound, KeepsFound}
 
 -- an id that is pushed is listed, and so are those before it

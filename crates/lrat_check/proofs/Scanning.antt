@@ -4,7 +4,8 @@ use Rattle.std.specs.Option.{option_to_list}
 use Rattle.std.proofs.lemmas.List.{take-append-drop}
 use Rattle.std.proofs.lemmas.List.Elements.{filter-append}
 use Rattle.sat_theory.specs.Formula.{variable, opposite}
-use Rattle.lrat_check.specs.Marks.{Stamped, code_of, HasRoom}
+use Rattle.cnf_core.specs.Codes.{code_of}
+use Rattle.lrat_check.specs.Marks.{Stamped, HasRoom}
 use Rattle.lrat_check.specs.Hints.{outside}
 use Rattle.lrat_check.specs.Scan.{AreMany}
 

@@ -1,19 +1,14 @@
 -- Stamps that are set, and stamps that have passed.
-use Rattle.std.proofs.Common.{◌≡◌, ℕ, suc, ◌+◌, ◌*◌, ◌<◌, ◌≤◌, ℤ, pos, negsuc, true, false, ◌||◌, ◌==◌, List, length, slice_index_or, slice_set, replicate, refl, ap, arith}
+use Rattle.std.proofs.Common.{◌≡◌, ℕ, ◌+◌, ◌<◌, ◌≤◌, ℤ, true, false, ◌||◌, ◌==◌, List, length, slice_index_or, slice_set, replicate, refl, ap, arith}
 use Rattle.std.specs.Ordering.{int_eq}
 use Rattle.std.proofs.Math.Logic.{⊎_elim}
 use Rattle.std.proofs.lemmas.Bool.{cases_eq, cases_lt, ne_eqb}
 use Rattle.std.proofs.lemmas.Bool.Decides.{Decides-int_eq}
 use Rattle.std.proofs.lemmas.Grind.{common_steps}
 use Rattle.sat_theory.specs.Holding.{with_literal}
-use Rattle.lrat_check.specs.Marks.{AreStamps, code_of, marked}
-
--- each literal has its own place
-code_of_same : (l m : ℤ) → code_of l ≡ code_of m → l ≡ m
-code_of_same (pos a) (pos b) e = let h : 2 * a ≡ 2 * b = e in let same : a ≡ b = omega arith in ap (λ (n : ℕ). pos n) same
-code_of_same (pos a) (negsuc b) e = let h : 2 * a ≡ 2 * suc b + 1 = e in absurd (omega arith)
-code_of_same (negsuc a) (pos b) e = let h : 2 * suc a + 1 ≡ 2 * b = e in absurd (omega arith)
-code_of_same (negsuc a) (negsuc b) e = let h : 2 * suc a + 1 ≡ 2 * suc b + 1 = e in let same : a ≡ b = omega arith in ap (λ (n : ℕ). negsuc n) same
+use Rattle.cnf_core.specs.Codes.{code_of}
+use Rattle.cnf_core.specs.CodeLaws.{code_of-same}
+use Rattle.lrat_check.specs.Marks.{AreStamps, marked}
 
 same_literal : (l m : ℤ) → l ≡ m → int_eq l m ≡ true
 same_literal l m e = (Decides-int_eq l m).1 e
@@ -24,7 +19,7 @@ other_literal l m apart = grind (arith, Decides-int_eq l m)
 stamp_set : (stamps : List ℕ) (time : ℕ) (l m : ℤ) → code_of l < length stamps → (slice_index_or (slice_set stamps (code_of l) time) (code_of m) 0 == time) ≡ (int_eq m l || (slice_index_or stamps (code_of m) 0 == time))
 stamp_set stamps time l m room =
     ⊎_elim
-    (λ (same : code_of m ≡ code_of l). let e : int_eq m l ≡ true = same_literal m l (code_of_same m l same) in rw e (grind (arith, common_steps)))
+    (λ (same : code_of m ≡ code_of l). let e : int_eq m l ≡ true = same_literal m l (code_of-same m l same) in rw e (grind (arith, common_steps)))
     (λ (apart : code_of m ≡ code_of l → ⊥). let e : int_eq m l ≡ false = other_literal m l (λ same. apart (ap code_of same)) in rw e (grind (arith, common_steps)))
     (cases_eq (code_of m) (code_of l))
 

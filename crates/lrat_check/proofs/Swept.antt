@@ -4,7 +4,7 @@ use Rattle.std.proofs.Math.Logic.{⊎_elim}
 use Rattle.std.proofs.lemmas.Bool.{cases_Bool, cases_eq, or_cases, eqb-true}
 use Rattle.std.proofs.lemmas.Grind.{common_steps}
 use Rattle.sat_theory.specs.State.{is_listed}
-use Rattle.lrat_check.specs.Marks.{code_of}
+use Rattle.cnf_core.specs.Codes.{code_of}
 use Rattle.lrat_check.specs.Index.{Lists, is_live, IsFound, KeepsLive, SweepsLists}
 
 or_left : (b c : Bool) → b ≡ true → (b || c) ≡ true

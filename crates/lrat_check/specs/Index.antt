@@ -1,7 +1,7 @@
 -- Where a clause is looked for by its literals.
 use Rattle.std.specs.Prelude.{◌≡◌, ℕ, ◌⊎◌, ℤ, Bool, true, is_some, List, [], ◌∷◌, ◌++◌, slice_set, Any, All, Contains, slice_index_or, Option, Some}
 use Rattle.sat_theory.specs.State.{is_listed}
-use Rattle.lrat_check.specs.Marks.{code_of}
+use Rattle.cnf_core.specs.Codes.{code_of}
 
 -- whether a clause has the id
 abbrev pub is_live : (ℕ → Option (List ℤ)) → ℕ → Bool

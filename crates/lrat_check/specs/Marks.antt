@@ -1,15 +1,11 @@
 -- A set of literals, kept as a stamp for each literal: a literal is in the set where its stamp is the
 -- one of now.
-use Rattle.std.specs.Prelude.{◌≡◌, ℕ, suc, ◌+◌, ◌*◌, ◌≤◌, ◌<◌, ◌==◌, ℤ, pos, negsuc, Bool, List, length, slice_index_or, All}
+use Rattle.std.specs.Prelude.{◌≡◌, ℕ, ◌+◌, ◌*◌, ◌≤◌, ◌<◌, ◌==◌, ℤ, Bool, List, length, slice_index_or, All}
+use Rattle.cnf_core.specs.Codes.{code_of}
 
 pub record Stamped : Type 0 where
   pub stamps : List ℕ
   pub time : ℕ
-
--- where the stamp of a literal stands
-abbrev pub code_of : ℤ → ℕ
-code_of (pos n) = 2 * n
-code_of (negsuc n) = 2 * suc n + 1
 
 -- no stamp is of a later time, and none is of now by default
 pub record AreStamps (m : Stamped) : Type 0 where

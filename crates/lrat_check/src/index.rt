@@ -1,9 +1,8 @@
 ghost use Rattle.std.specs.Prelude.{◌≡◌, ◌+◌, ◌*◌, ◌<◌, ℤ, [], ◌∷◌, ◌++◌, length, filter, slice_set, slice_index_or, nat_eq, OnOk, OnErr, IfOk, IfSome, Any};
 ghost use Rattle.std.specs.HashMap.{get};
-ghost use Rattle.lrat_check.specs.Marks.{code_of};
+ghost use Rattle.cnf_core.specs.Codes.{code_of};
 ghost use Rattle.lrat_check.specs.Index.{ids_of as ids_of_lit, is_live, with_id, IsFound, KeepsFound, KeepsLive, SweepsLists};
 
-use crate::marks::code;
 use cnf_core::{Clause, Lit};
 use std::alloc::{AllocError, Global};
 use std::collections::HashMap;
@@ -102,7 +101,7 @@ impl Index {
     pub(crate) fn ids_of(&self, lit: Lit) -> &[u32]
         ensures { result.now ≡ ids_of_lit self.now lit }
     {
-        match self.heads.get(code(lit)) {
+        match self.heads.get(lit.code()) {
             Some(ids) => ids.get(),
             None => &[],
         }
@@ -150,7 +149,7 @@ impl Index {
     {
         let mut best: Option<(usize, usize)> = None;
         for lit in lits {
-            let place = code(*lit);
+            let place = lit.code();
             let Some(ids) = self.heads.get(place) else {
                 continue;
             };

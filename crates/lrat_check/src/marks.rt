@@ -1,7 +1,8 @@
-ghost use Rattle.std.specs.Prelude.{◌≡◌, ◌+◌, ◌*◌, ◌<◌, ◌≤◌, ◌^◌, ℤ, false, length, IfOk};
+ghost use Rattle.std.specs.Prelude.{◌≡◌, ◌<◌, ℤ, false, length, IfOk};
 ghost use Rattle.sat_theory.specs.Formula.{variable};
 ghost use Rattle.sat_theory.specs.Holding.{with_literal};
-ghost use Rattle.lrat_check.specs.Marks.{code_of, marked, HasRoom};
+ghost use Rattle.cnf_core.specs.Codes.{code_of};
+ghost use Rattle.lrat_check.specs.Marks.{marked, HasRoom};
 
 use cnf_core::Lit;
 use std::alloc::{AllocError, Global};
@@ -23,14 +24,6 @@ impl Model for Marks {
     ghost view = { λ m. record { stamps = m.stamps.items; time = m.time } };
 
     ghost invariant = { λ m. AreStamps (record { stamps = m.stamps.items; time = m.time }) };
-}
-
-/// Where the stamp of a literal stands.
-pub(crate) fn code(lit: Lit) -> usize
-    ensures value { result ≡ code_of lit }
-    ensures small { result < 2 ^ 33 }
-{
-    2 * lit.variable() as usize + usize::from(!lit.is_positive())
 }
 
 #[tactic(auto, using(crate::proofs::Stamps::stamping))]
@@ -62,7 +55,7 @@ impl Marks {
         ensures set { marked self.new ≡ with_literal (marked self.old) lit }
         ensures room { length self.new.stamps ≡ length self.old.stamps }
     {
-        self.stamps[code(lit)] = self.time;
+        self.stamps[lit.code()] = self.time;
     }
 
     /// Whether a literal is in the set.
@@ -70,7 +63,7 @@ impl Marks {
     pub(crate) fn has(&self, lit: Lit) -> bool
         ensures { result ≡ marked self.now lit }
     {
-        match self.stamps.get(code(lit)) {
+        match self.stamps.get(lit.code()) {
             Some(stamp) => *stamp == self.time,
             None => false,
         }

@@ -3,7 +3,6 @@ ghost use Rattle.sat_theory.specs.Formula.{variable as variable_of, opposite as 
 ghost use Rattle.cdcl_theory.specs.Trails.{IsTrail, IsBack, pushed, fell as fell_of, reason_of};
 ghost use Rattle.trail_core.specs.Values.{IsOver, IsFree, HaveValues, Follows};
 
-use cdcl_theory::code;
 use cnf_core::{Assign, Lit};
 use std::alloc::{AllocError, Global};
 use std::marker::Model;
@@ -81,7 +80,7 @@ impl Trail {
         ensures value { result ≡ fell_of self.now lit }
         ensures whole { IsTrail self.now }
     {
-        self.table[code(lit)]
+        self.table[lit.code()]
     }
 
     /// The id that the literal was pushed with.
@@ -101,7 +100,7 @@ impl Trail {
         ensures whole { IsTrail self.new }
     {
         self.lits.push(lit)?;
-        self.table[code(lit.opposite())] = self.lits.len() as u32;
+        self.table[lit.opposite().code()] = self.lits.len() as u32;
         self.reasons[lit.variable() as usize] = reason;
         Ok(())
     }
@@ -125,7 +124,7 @@ impl Trail {
         let Some(lit) = self.lits.pop() else {
             return;
         };
-        self.table[code(lit.opposite())] = 0;
+        self.table[lit.opposite().code()] = 0;
     }
 
     /// Whether neither the literal nor its opposite is true.

@@ -1,5 +1,5 @@
 use Rattle.std.proofs.Common.{◌≡◌, ◌<◌, ℤ, length, IfSome, Any}
-use Rattle.lrat_check.specs.Marks.{code_of}
+use Rattle.cnf_core.specs.Codes.{code_of}
 use Rattle.lrat_check.proofs.index.Index.shortest.Given as goal
 
 abbrev pub invariant-loop-lit : goal.invariant-loop-lit

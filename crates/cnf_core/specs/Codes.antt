@@ -1,0 +1,7 @@
+-- Tables with an entry for each literal.
+use Rattle.std.specs.Prelude.{ℕ, suc, ◌+◌, ◌*◌, ℤ, pos, negsuc}
+
+-- where the entry of a literal stands: at 2 v that of v, and at 2 v + 1 that of -v
+abbrev pub code_of : ℤ → ℕ
+code_of (pos n) = 2 * n
+code_of (negsuc n) = 2 * suc n + 1
