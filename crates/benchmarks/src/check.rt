@@ -1,6 +1,5 @@
 //! Checks a refutation log: `bench/make_log.py` writes what it reads.
-ghost use Rattle.std.specs.Prelude.{◌≡◌, ◌<◌, ◌+◌, ◌↔◌, IsTrue, IfOk, IfSome, length};
-ghost use Rattle.sat_theory.specs.Formula.{IsWithin};
+ghost use Rattle.std.specs.Prelude.{◌≡◌, ◌<◌, ◌+◌, IfOk, IfSome, length};
 
 use cnf_core::{Clause, Cnf};
 use lrat_check::{CheckError, Checker};
@@ -58,20 +57,13 @@ fn count_in(text: &[u8]) -> Option<u32>
     number_up_to(999_999_999, text)
 }
 
-/// Whether the variables of a clause are 1 to `vars`.
-fn is_within(vars: u32, clause: &Clause) -> bool
-    ensures { IsTrue result ↔ IsWithin vars clause.now }
-{
-    clause.lits().iter().all(|lit| lit.variable() <= vars)
-}
-
 /// One more clause, which a line spells as an addition without hints.
 fn add(alloc: Global, cnf: &mut Cnf, text: &[u8]) -> Result<(), Fault> {
     let Line::Add { lits, .. } = read_line(alloc, text)? else {
         return Err(Fault::Formula);
     };
     let clause = Clause::new(lits);
-    if !is_within(cnf.vars(), &clause) || cnf.clauses().len() >= 1_000_000_000 {
+    if !clause.is_within(cnf.vars()) || cnf.clauses().len() >= 1_000_000_000 {
         return Err(Fault::Formula);
     }
     cnf.push(clause)?;

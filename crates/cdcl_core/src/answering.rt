@@ -1,10 +1,10 @@
-ghost use Rattle.std.specs.Prelude.{◌≡◌, ◌^◌, ◌<◌, ◌≤◌, [], length, Contains, IsTrue, ◌↔◌, IfOk};
+ghost use Rattle.std.specs.Prelude.{◌≡◌, ◌^◌, ◌<◌, ◌≤◌, length, IfOk};
 ghost use Rattle.sat_theory.specs.Formula.{bits_of, Satisfies};
 ghost use Rattle.sat_theory.specs.Log.{Refutes, IsSpent, IsKept};
 ghost use Rattle.cdcl_core.specs.Answering.{IfSat, IfUnsat, IfOpen, IsDecided};
 
 use crate::search::{Ending, Search};
-use cnf_core::{Assign, Clause, Cnf};
+use cnf_core::{Assign, Cnf};
 use lrat_text::Log;
 use std::alloc::{AllocError, Global};
 
@@ -32,7 +32,7 @@ pub fn solve(alloc: Global, cnf: &Cnf, budget: u32) -> Result<Solved, AllocError
     // A budget of 3 to the number of variables decides every formula.
     ensures decides { 3 ^ cnf.now.vars ≤ budget → IfOk result IsDecided }
 {
-    if has_empty(cnf.clauses()) {
+    if cnf.has_empty() {
         return Ok(Solved::Unsat(Log {
             lines: Vec::new(alloc),
         }));
@@ -47,11 +47,4 @@ pub fn solve(alloc: Global, cnf: &Cnf, budget: u32) -> Result<Solved, AllocError
             lines: search.lines,
         })),
     }
-}
-
-/// Whether the empty clause is among some.
-fn has_empty(clauses: &[Clause]) -> bool
-    ensures { IsTrue result ↔ Contains clauses.now [] }
-{
-    clauses.iter().any(|clause| clause.lits().is_empty())
 }

@@ -1,5 +1,5 @@
 -- A checker at its beginning.
-use Rattle.std.proofs.Common.{◌≡◌, ℕ, ◌↔◌, ℤ, Bool, true, List, [], ◌∷◌, Any, Contains, Option, Some, refl, sym, ap, subst, inl, get_or, ◌∙◌, ◌<◌, arith}
+use Rattle.std.proofs.Common.{◌≡◌, ℕ, ◌↔◌, ℤ, Bool, true, List, [], ◌∷◌, Any, Contains, Option, Some, refl, sym, ap, inl, ◌∙◌, ◌<◌, arith}
 use Rattle.std.proofs.lemmas.Bool.Decides.{nat_tests}
 use Rattle.std.proofs.Math.Logic.{⊎_elim}
 use Rattle.std.proofs.lemmas.List.Elements.{All-contains}
@@ -28,15 +28,10 @@ pub empty_is : (lits : List ℤ) → is_empty lits ≡ true → lits ≡ []
 empty_is [] yes_ = refl
 empty_is (l ∷ ls) yes_ = absurd (grind (arith, nat_tests))
 
--- The empty clause is in the formula.
-pub has_empty : (f : Formula) (b : Bool) → (b ≡ true) ↔ Any (λ (c : List ℤ). is_empty c ≡ true) f.clauses → (b ≡ true) ↔ HasEmpty f []
-has_empty f b told = (λ yes_. inl (contained (told.0 yes_)), λ has. told.1 (found has))
-  where
-    contained : Any (λ (c : List ℤ). is_empty c ≡ true) f.clauses → Contains f.clauses []
-    contained (k, c, within, at, empty) = (k, within, subst (λ (x : List ℤ). get_or f.clauses k x ≡ x) (empty_is c empty) at)
-
-    found : HasEmpty f [] → Any (λ (c : List ℤ). is_empty c ≡ true) f.clauses
-    found has = ⊎_elim (λ (there : Contains f.clauses []). (there.0, [], there.1, there.2, refl)) (λ (none : Any AddsEmpty []). absurd (let within : none.0 < 0 = none.2 in omega arith)) has
+-- Before the first line the empty clause can only be in the formula.
+pub has_empty : (f : Formula) (b : Bool) → (b ≡ true) ↔ Contains f.clauses [] → (b ≡ true) ↔ HasEmpty f []
+has_empty f b told =
+    (λ yes_. inl (told.0 yes_), λ has. ⊎_elim told.1 (λ (none : Any AddsEmpty []). absurd (let within : none.0 < 0 = none.2 in omega arith)) has)
 
 -- A checker of a formula has accepted no line.
 pub accepted_none : (f : Formula) (c : Checked) → IsFormula f → state_of c ≡ start f → (c.refuted ≡ true) ↔ HasEmpty f [] → HasAccepted f [] c

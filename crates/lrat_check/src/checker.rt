@@ -1,4 +1,4 @@
-ghost use Rattle.std.specs.Prelude.{◌≡◌, true, ◌↔◌, ◌||◌, ◌++◌, ◌∷◌, [], List, ℕ, ℤ, Any, IsTrue, IsOk, IfOk, OnOk, OnErr, IsOkUnless};
+ghost use Rattle.std.specs.Prelude.{◌≡◌, ◌↔◌, ◌||◌, ◌++◌, ◌∷◌, [], List, IsTrue, IsOk, IfOk, OnOk, OnErr, IsOkUnless};
 ghost use Rattle.sat_theory.specs.Formula.{Formula, IsClause};
 ghost use Rattle.sat_theory.specs.Line as theory;
 ghost use Rattle.sat_theory.specs.Line.{IsLine, HasClause};
@@ -71,7 +71,7 @@ impl Checker {
     {
         let vars = cnf.vars();
         let greatest = cnf.clauses().len() as u32;
-        let refuted = has_empty(cnf.clauses());
+        let refuted = cnf.has_empty();
         let clauses = Clauses::of(alloc, index, cnf.into_clauses())?;
         let marks = Marks::new(alloc, vars)?;
         Ok(Checker {
@@ -180,11 +180,4 @@ fn remove_all(clauses: &mut Clauses, ids: &[u32])
     for id in ids {
         clauses.remove(*id);
     }
-}
-
-/// Whether the empty clause is among some.
-fn has_empty(clauses: &[Clause]) -> bool
-    ensures { IsTrue result ↔ Any (λ (c : List ℤ). is_empty c ≡ true) clauses.now }
-{
-    clauses.iter().any(|clause| clause.lits().is_empty())
 }

@@ -1,4 +1,4 @@
-ghost use Rattle.std.specs.Prelude.{◌↔◌, ◌-◌, ◌^◌, IsTrue, IfOk};
+ghost use Rattle.std.specs.Prelude.{◌-◌, ◌^◌, IfOk};
 ghost use Rattle.sat_theory.specs.Formula.{IsWithin};
 
 use crate::{CheckError, Checker};
@@ -16,15 +16,9 @@ fn clause(alloc: Global, text: &[u8]) -> Clause {
     }
 }
 
-fn is_within(vars: u32, clause: &Clause) -> bool
-    ensures { IsTrue result ↔ IsWithin vars clause.now }
-{
-    clause.lits().iter().all(|lit| lit.variable() <= vars)
-}
-
 /// Adds a clause whose variables are the formula's.
 fn push_within(cnf: &mut Cnf, clause: Clause) -> Result<(), AllocError> {
-    if is_within(cnf.vars(), &clause) && cnf.clauses().len() < 99 {
+    if clause.is_within(cnf.vars()) && cnf.clauses().len() < 99 {
         cnf.push(clause)?;
     }
     Ok(())

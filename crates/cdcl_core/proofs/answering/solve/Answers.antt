@@ -1,4 +1,4 @@
-use Rattle.std.proofs.Common.{[], Contains, List, ℤ, sym, ap, subst, arith}
+use Rattle.std.proofs.Common.{ap, subst, arith}
 use Rattle.std.proofs.lemmas.Bool.{both_ways}
 use Rattle.lrat_text.specs.Values.{line_values}
 use Rattle.cdcl_core.specs.declared.search.Ending.{Ending}
@@ -9,20 +9,20 @@ use Rattle.cdcl_core.proofs.answering.solve.Goals as goal
 
 pub returns-then-has_empty-clause-unsat : goal.returns-then-has_empty-clause-unsat
 returns-then-has_empty-clause-unsat c =
-    refuted_at_once c.args.cnf.now (line_values c.new.result.items) (ap line_values c.new.ensures.items) (subst (λ (xs : List (List ℤ)). Contains xs []) c.clauses.ensures.value (c.has_empty.ensures.0 c.if-has_empty.true))
+    refuted_at_once c.args.cnf.now (line_values c.new.result.items) (ap line_values c.new.ensures.items) (c.has_empty.ensures.value.0 c.if-has_empty.true)
 
 pub returns-in_ok-assignment-in-Valued-clause-sat : goal.returns-in_ok-assignment-in-Valued-clause-sat
 returns-in_ok-assignment-in-Valued-clause-sat c =
     let s = c.run.new.self in
     let valued : IsValued c.args.cnf.now s = subst (λ (e : Ending). Ends c.args.cnf.now c.args.budget s e) c.in-Valued.is (c.in_ok-run.ensures c.args.cnf.now c.in_ok-search.ensures.logged) in
-    values_satisfy c.args.cnf.now s.clauses s.trail (line_values s.lines.items) c.in_ok-assignment-in-Valued.field-0 c.clauses.ensures.whole.formula valued.logged valued.vars valued.values valued.settled c.in_ok-assignment-in-Valued.ensures
+    values_satisfy c.args.cnf.now s.clauses s.trail (line_values s.lines.items) c.in_ok-assignment-in-Valued.field-0 c.has_empty.ensures.whole.formula valued.logged valued.vars valued.values valued.settled c.in_ok-assignment-in-Valued.ensures
 
 pub returns-in-Spent-clause-open : goal.returns-in-Spent-clause-open
 returns-in-Spent-clause-open c =
     let s = c.run.new.self in
     let spent : HasSpent c.args.cnf.now c.args.budget s = subst (λ (e : Ending). Ends c.args.cnf.now c.args.budget s e) c.in-Spent.is (c.in_ok-run.ensures c.args.cnf.now c.in_ok-search.ensures.logged) in
     log_spent c.args.cnf.now s.clauses (line_values s.lines.items) c.args.budget spent.logged
-    (λ there. both_ways c.has_empty.result c.if-has_empty.false (c.has_empty.ensures.1 (subst (λ (xs : List (List ℤ)). Contains xs []) (sym c.clauses.ensures.value) there)))
+    (λ there. both_ways c.has_empty.result c.if-has_empty.false (c.has_empty.ensures.value.1 there))
     (lines_many s.lines.items c.args.budget spent.enough)
 
 pub returns-in-Spent-clause-kept : goal.returns-in-Spent-clause-kept

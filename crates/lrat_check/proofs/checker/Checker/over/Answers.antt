@@ -1,6 +1,6 @@
-use Rattle.std.proofs.Common.{◌≡◌, ℕ, ℤ, List, length, ap, ◌∙◌, sym, subst, true, Any, ◌↔◌, []}
+use Rattle.std.proofs.Common.{◌≡◌, ℕ, length, ap, ◌∙◌, sym, subst, true, ◌↔◌, []}
 use Rattle.sat_theory.specs.Log.{HasEmpty}
-use Rattle.lrat_check.specs.Checked.{Checked, state_of, is_empty}
+use Rattle.lrat_check.specs.Checked.{Checked, state_of}
 use Rattle.sat_theory.specs.State.{by_id, start}
 use Rattle.lrat_check.specs.Live.{live_at}
 use Rattle.lrat_check.specs.Marks.{HasRoom}
@@ -17,8 +17,7 @@ invariant_of-result c =
 
 pub returns-clause-accepted : goal.returns-clause-accepted
 returns-clause-accepted c =
-    let all : c.clauses-2.result.now ≡ c.args.cnf.clauses = c.clauses-2.ensures.value in
-    let told : (c.has_empty-refuted.result ≡ true) ↔ HasEmpty c.args.cnf [] = has_empty c.args.cnf c.has_empty-refuted.result (subst (λ (cs : List (List ℤ)). (c.has_empty-refuted.result ≡ true) ↔ Any (λ (x : List ℤ). is_empty x ≡ true) cs) all c.has_empty-refuted.ensures) in
+    let told : (c.has_empty-refuted.result ≡ true) ↔ HasEmpty c.args.cnf [] = has_empty c.args.cnf c.has_empty-refuted.result c.has_empty-refuted.ensures.value in
     let checked : Checked = record { live = c.in_ok-clauses.clauses; vars = c.vars-vars.result; greatest = length c.clauses.result.now; refuted = c.has_empty-refuted.result } in
     let state : state_of checked ≡ start c.args.cnf = same_state (live_at c.in_ok-clauses.clauses) (by_id c.args.cnf.clauses) c.vars-vars.result c.args.cnf.vars (length c.clauses.result.now) (length c.args.cnf.clauses) (c.in_ok-clauses.ensures ∙ ap by_id c.into_clauses.ensures.value) c.vars-vars.ensures.value (ap length c.clauses.ensures.value) in
     accepted_none c.args.cnf checked c.vars-vars.ensures.whole.formula state told
