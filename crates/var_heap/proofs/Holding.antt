@@ -6,7 +6,7 @@ use Rattle.std.proofs.lemmas.Grind.{common_steps}
 use Rattle.std.proofs.lemmas.List.{length-set, length-map}
 use Rattle.var_heap.specs.declared.row.Row.{Row}
 use Rattle.var_heap.specs.Entries.{entry, marks_of}
-use Rattle.var_heap.specs.Held.{Held, IsHeld, IsGreatest, IsFull}
+use Rattle.var_heap.specs.Held.{Held, IsHeld, IsVariable, IsWhole, IsGreatest, IsFull}
 use Rattle.var_heap.specs.Rows.{IsRow, at, place, IsHeap, IsFilled, IsOrderedAbove}
 use Rattle.var_heap.proofs.Writing.{entry-set, entry_read, mark_read, marks_set, marks_kept}
 use Rattle.var_heap.proofs.Heaps.{first_greatest, ordered_risen, ordered_elsewhere, ordered_alike}
@@ -20,6 +20,26 @@ held_place vars scores r v held = ltb-true 0 (place r v) (sym (mark_read r.place
 
 place_held : (vars : ℕ) (scores : List ℕ) (r : Row) (v : ℕ) → 0 < place r v → IsHeld (shown vars scores r) v
 place_held vars scores r v some = mark_read r.places.items v ∙ lt-ltb 0 (place r v) some
+
+held_variable : (vars : ℕ) (scores : List ℕ) (r : Row) (v : ℕ) → IsRow r → length r.places.items ≡ vars + 1 → IsHeld (shown vars scores r) v → IsVariable (shown vars scores r) v
+held_variable vars scores r v row room held =
+    let here : 0 < place r v = held_place vars scores r v held in
+    let within : place r v ≤ r.len = row.arranged.within v here in
+    let found : at r (place r v) ≡ v = row.arranged.found v here in
+    let some : 0 < at r (place r v) = row.arranged.some (place r v) here within in
+    let below : at r (place r v) < length r.places.items = row.arranged.below (place r v) here within in
+    (omega (arith, found, some), omega (arith, found, below, room))
+
+-- what the heap shows is whole
+pub row_whole : (vars : ℕ) (scores : List ℕ) (r : Row) → IsRow r → length scores ≡ vars + 1 → length r.places.items ≡ vars + 1 → IsWhole (shown vars scores r)
+row_whole vars scores r row scores_room places_room = record {
+  scores_room = scores_room;
+  marks_room = rw length-map places_room;
+  variables = λ v. held_variable vars scores r v row places_room;
+}
+
+pub heap_whole : (vars : ℕ) (scores : List ℕ) (r : Row) → IsHeap vars scores r → IsWhole (shown vars scores r)
+heap_whole vars scores r heap = row_whole vars scores r heap.row heap.scores_room heap.places_room
 
 -- the first is a held variable of greatest score
 pub greatest_first : (h : Held) (vars : ℕ) (scores : List ℕ) (r : Row) (v : ℕ) → shown vars scores r ≡ h → IsHeap vars scores r → 0 < r.len → v ≡ at r 1 → IsGreatest h v
@@ -89,9 +109,9 @@ full_heap vars scores r zeros row room = record {
   ordered = record { order = λ q p low under. rw (zeros, zero_entry (vars + 1) (at r p), zero_entry (vars + 1) (at r q)) (omega arith) };
 }
 
-pub full_shown : (vars : ℕ) (scores : List ℕ) (r : Row) → scores ≡ replicate (vars + 1) 0 → IsFilled vars r → IsFull vars (shown vars scores r)
-full_shown vars scores r zeros filled = record {
+pub full_shown : (vars : ℕ) (scores : List ℕ) (r : Row) → scores ≡ replicate (vars + 1) 0 → IsRow r → length r.places.items ≡ vars + 1 → IsFilled vars r → IsFull vars (shown vars scores r)
+full_shown vars scores r zeros row room filled = record {
   vars_are = refl;
-  held = λ v some low. place_held vars scores r v (rw (filled.each v low) some);
+  held = λ v. (held_variable vars scores r v row room, λ (some, low). place_held vars scores r v (rw (filled.each v low) some));
   scores_are = zeros;
 }

@@ -1,5 +1,5 @@
 -- Variables with scores, of which some are held.
-use Rattle.std.specs.Prelude.{◌≡◌, ℕ, ◌+◌, ◌<◌, ◌≤◌, Bool, true, false, List, slice_index_or, replicate}
+use Rattle.std.specs.Prelude.{◌≡◌, ℕ, ◌+◌, ◌<◌, ◌≤◌, ◌↔◌, Bool, true, false, List, length, slice_index_or, replicate}
 
 -- The variables are 1 to vars. Index v of a list is that of the variable v, and index 0 is none's.
 -- Example: with the scores 0, 4, 9 and the marks false, true, false the variable 1 is held with the score
@@ -18,14 +18,20 @@ score_of h v = slice_index_or h.scores v 0
 abbrev pub IsVariable : Held → ℕ → Type 0
 IsVariable h v = (0 < v) × (v ≤ h.vars)
 
+-- Each variable has a score and a mark, and nothing but variables is held.
+pub record IsWhole (h : Held) : Type 0 where
+  pub scores_room : length h.scores ≡ h.vars + 1
+  pub marks_room : length h.marks ≡ h.vars + 1
+  pub variables : (v : ℕ) → IsHeld h v → IsVariable h v
+
 -- v is held, and no held variable exceeds it
 pub record IsGreatest (h : Held) (v : ℕ) : Type 0 where
   pub held : IsHeld h v
   pub variable : IsVariable h v
   pub greatest : (w : ℕ) → IsHeld h w → score_of h w ≤ score_of h v
 
--- all variables are held, with the score 0
+-- all variables are held and nothing else, with the score 0
 pub record IsFull (vars : ℕ) (h : Held) : Type 0 where
   pub vars_are : h.vars ≡ vars
-  pub held : (v : ℕ) → 0 < v → v ≤ vars → IsHeld h v
+  pub held : (v : ℕ) → IsHeld h v ↔ IsVariable h v
   pub scores_are : h.scores ≡ replicate (vars + 1) 0

@@ -1,5 +1,5 @@
 ghost use Rattle.std.specs.Prelude.{◌≡◌, ℕ, ◌+◌, ◌-◌, ◌/◌, ◌^◌, ◌<◌, ◌≤◌, ◌↔◌, Bool, true, false, map, length, min, slice_set, IsTrue, IfOk, IfSome, IfNone};
-ghost use Rattle.var_heap.specs.Held.{IsHeld, IsVariable, IsGreatest, IsFull, score_of};
+ghost use Rattle.var_heap.specs.Held.{IsHeld, IsVariable, IsWhole, IsGreatest, IsFull, score_of};
 ghost use Rattle.var_heap.specs.Entries.{entry};
 ghost use Rattle.var_heap.specs.Rows.{IsRow, at, place, IsOrdered, IsFilled};
 
@@ -34,7 +34,8 @@ impl VarHeap {
     /// Holds the variables 1 to `vars`, each with the score 0. It makes the room that every later `push`
     /// needs.
     pub fn new(alloc: Global, vars: u32) -> Result<VarHeap, AllocError>
-        ensures { IfOk result (IsFull vars) }
+        ensures full { IfOk result (IsFull vars) }
+        ensures whole { IfOk result IsWhole }
     {
         let scores = vec![in alloc; 0u64; vars as usize + 1]?;
         let row = Row::new(alloc, vars)?;
@@ -47,6 +48,7 @@ impl VarHeap {
         ensures taken { IfSome result (λ v. self.new ≡ record self.old { marks = slice_set self.old.marks v false }) }
         ensures none { IfNone result ((v : ℕ) → IsHeld self.old v → ⊥) }
         ensures same { IfNone result (self.new ≡ self.old) }
+        ensures whole { IsWhole self.new }
     {
         if self.row.len == 0 {
             return None;
@@ -61,7 +63,8 @@ impl VarHeap {
     /// Puts a variable back; a held one stays.
     pub fn push(&mut self, v: u32)
         requires { IsVariable self.old v }
-        ensures { self.new ≡ record self.old { marks = slice_set self.old.marks v true } }
+        ensures held { self.new ≡ record self.old { marks = slice_set self.old.marks v true } }
+        ensures whole { IsWhole self.new }
     {
         if self.row.places[v as usize] > 0 {
             return;
@@ -74,7 +77,8 @@ impl VarHeap {
     /// Adds to the score of a variable, which stays at the greatest number of 64 bits.
     pub fn bump(&mut self, v: u32, by: u64)
         requires { IsVariable self.old v }
-        ensures { self.new ≡ record self.old { scores = slice_set self.old.scores v (min (score_of self.old v + by) (2 ^ 64 - 1)) } }
+        ensures added { self.new ≡ record self.old { scores = slice_set self.old.scores v (min (score_of self.old v + by) (2 ^ 64 - 1)) } }
+        ensures whole { IsWhole self.new }
     {
         self.scores[v as usize] = self.scores[v as usize].saturating_add(by);
         let place = self.row.places[v as usize] as usize;
@@ -85,7 +89,8 @@ impl VarHeap {
 
     /// Halves every score, rounded down.
     pub fn halve(&mut self)
-        ensures { self.new ≡ record self.old { scores = map (λ s. s / 2) self.old.scores } }
+        ensures halved { self.new ≡ record self.old { scores = map (λ s. s / 2) self.old.scores } }
+        ensures whole { IsWhole self.new }
     {
         halve_all(&mut self.scores);
     }
@@ -93,7 +98,8 @@ impl VarHeap {
     /// Whether a variable is held.
     pub fn contains(&self, v: u32) -> bool
         requires { IsVariable self.now v }
-        ensures { IsTrue result ↔ IsHeld self.now v }
+        ensures value { IsTrue result ↔ IsHeld self.now v }
+        ensures whole { IsWhole self.now }
     {
         self.row.places[v as usize] != 0
     }

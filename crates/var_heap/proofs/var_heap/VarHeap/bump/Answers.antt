@@ -1,8 +1,8 @@
 use Rattle.std.proofs.Common.{◌≤◌, ℕ, ap, ◌∙◌, subst, arith, rules, slice_index_or}
-use Rattle.std.proofs.lemmas.List.{get_or_read}
+use Rattle.std.proofs.lemmas.List.{get_or_read, length-set}
 use Rattle.var_heap.specs.Held.{Held}
 use Rattle.var_heap.proofs.Standing.{read_entry}
-use Rattle.var_heap.proofs.Holding.{risen_above, risen_elsewhere}
+use Rattle.var_heap.proofs.Holding.{risen_above, risen_elsewhere, row_whole}
 use Rattle.var_heap.proofs.var_heap.VarHeap.bump.Goals as goal
 
 pub up-requires-clause-inside : goal.up-requires-clause-inside
@@ -25,3 +25,9 @@ invariant_of-self-else-place-gt0 c =
     let vars = ap (λ (h : Held). h.vars) c.self.view_is in
     let is = read_entry c.self.inside.row.places.items c.args.v c.index-2.result.now (omega (arith, vars, c.requires.1, c.self.invariant.places_room)) c.index-2.ensures in
     risen_elsewhere c.self.inside.vars c.self.inside.scores.items c.self.inside.row c.args.v c.saturating_add.result c.self.invariant (omega (arith, vars, c.requires.1)) (is ∙ omega (arith, c.if-place-gt0.false))
+
+pub returns-then-place-gt0-clause-whole : goal.returns-then-place-gt0-clause-whole
+returns-then-place-gt0-clause-whole c = row_whole c.self.inside.vars _ c.up.new.self c.up.ensures.row (length-set c.self.inside.scores.items c.args.v c.saturating_add.result ∙ c.self.invariant.scores_room) (c.up.ensures.moved.room ∙ c.self.invariant.places_room)
+
+pub returns-else-place-gt0-clause-whole : goal.returns-else-place-gt0-clause-whole
+returns-else-place-gt0-clause-whole c = row_whole c.self.inside.vars _ c.self.inside.row c.self.invariant.row (length-set c.self.inside.scores.items c.args.v c.saturating_add.result ∙ c.self.invariant.scores_room) c.self.invariant.places_room
