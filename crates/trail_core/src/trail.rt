@@ -29,8 +29,7 @@ impl Model for Trail {
 
 #[tactic(auto, using(crate::proofs::Reading::reading))]
 impl Trail {
-    /// The empty trail for the variables 1 to `vars`, fewer than 1,000,000,000. It makes the room that
-    /// every later `push` needs.
+    /// The empty trail for the variables 1 to `vars`, fewer than 1,000,000,000.
     pub fn new(alloc: Global, vars: u32) -> Result<Trail, AllocError>
         requires { vars < 1000000000 }
         ensures vars { IfOk result (λ t. t.vars ≡ vars) }
