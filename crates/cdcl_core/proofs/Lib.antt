@@ -11,3 +11,4 @@ pub mod Guards
 pub mod Visits
 pub mod Jumps
 pub mod Beginning
+pub mod Choices

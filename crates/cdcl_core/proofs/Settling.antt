@@ -17,6 +17,7 @@ use Rattle.cdcl_core.proofs.Guards.{guarded_begun, guarded_settled}
 use Rattle.cdcl_theory.specs.Falling.{AllSettled}
 use Rattle.cdcl_core.proofs.Counting.{different_below, trail_short}
 use Rattle.cdcl_core.proofs.Layers.{layered_grown}
+use Rattle.cdcl_core.proofs.Choices.{choosing_grown}
 
 pub searching_grown : (s : Search) (t : Trailed) → IsSearching s → IsGrown (live_in s.clauses) s.trail t → IsTrail t → IsSearching (record s { trail = t })
 searching_grown s t searching grown trail = record {
@@ -24,6 +25,7 @@ searching_grown s t searching grown trail = record {
   vars = searching.vars ∙ sym grown.vars;
   layered = layered_grown (live_in s.clauses) s.trail t s.starts.items searching.layered grown trail;
   ready = subst (λ (n : ℕ). IsReady n s.analysis) (sym grown.vars) searching.ready;
+  choosing = choosing_grown (live_in s.clauses) s.trail t s.choice searching.layered.whole grown searching.choosing;
 }
 
 -- the same with clauses that watch others
@@ -33,6 +35,7 @@ searching_rest s b t head searching rest stored trail = record {
   vars = rest.vars ∙ searching.vars ∙ sym rest.grown.vars;
   layered = layered_grown (live_in b) s.trail t s.starts.items (subst (λ (xs : List (Option (List ℤ))). IsLayered (live_at xs) s.trail s.starts.items) (sym rest.clauses) searching.layered) rest.grown trail;
   ready = subst (λ (n : ℕ). IsReady n s.analysis) (sym rest.grown.vars) searching.ready;
+  choosing = choosing_grown (live_in b) s.trail t s.choice searching.layered.whole rest.grown searching.choosing;
 }
 
 -- where all is visited, all is settled

@@ -1,5 +1,6 @@
 pub mod Propagating
 pub mod Levels
+pub mod Choosing
 pub mod Searching
 pub mod Endings
 pub mod Answering

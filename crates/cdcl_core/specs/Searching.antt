@@ -10,6 +10,7 @@ use Rattle.cdcl_theory.specs.Trails.{IsLayered, fell}
 use Rattle.clause_db.specs.Stored.{Stored, live_in, IsStored}
 use Rattle.conflict_core.specs.Learning.{IsReady}
 use Rattle.cdcl_core.specs.declared.search.Search.{Search}
+use Rattle.cdcl_core.specs.Choosing.{IsChoosing}
 use Rattle.cdcl_core.specs.Guarding.{IsGuarded}
 use Rattle.cdcl_core.specs.Visiting.{IsRest}
 
@@ -19,6 +20,7 @@ pub record IsSearching (s : Search) : Type 0 where
   pub vars : s.clauses.vars ≡ s.trail.vars
   pub layered : IsLayered (live_in s.clauses) s.trail s.starts.items
   pub ready : IsReady s.trail.vars s.analysis
+  pub choosing : IsChoosing s.trail s.choice
 
 -- the line adds a clause, and not the empty one
 abbrev pub AddsSome : theory.Line → Type 0

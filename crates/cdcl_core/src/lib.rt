@@ -15,6 +15,7 @@
 #![tactic(auto)]
 
 mod answering;
+mod choosing;
 mod levels;
 mod propagation;
 mod search;

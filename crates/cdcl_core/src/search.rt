@@ -5,14 +5,14 @@ ghost use Rattle.lrat_text.specs.Values.{line_values};
 ghost use Rattle.cdcl_theory.specs.Falling.{AllSettled, IsFalsified};
 ghost use Rattle.cdcl_theory.specs.Trails.{fell as fell_of};
 ghost use Rattle.clause_db.specs.Stored.{live_in};
-ghost use Rattle.trail_core.specs.Values.{IsOver, IsFree};
 ghost use Rattle.cdcl_core.specs.Levels.{IsLastStart};
 
+use crate::choosing::Choice;
 use crate::levels::drop_levels;
 use crate::propagation::propagate;
 use crate::visiting::propagate_watched;
 use clause_db::ClauseDb;
-use cnf_core::{Cnf, Lit};
+use cnf_core::Cnf;
 use conflict_core::Analysis;
 use lrat_text::Line;
 use std::alloc::{AllocError, Global};
@@ -29,6 +29,7 @@ pub(crate) struct Search {
     pub(crate) lines: Vec<Line>,
     /// how many literals of the trail are visited
     pub(crate) head: usize,
+    pub(crate) choice: Choice,
 }
 
 /// How a search ends.
@@ -61,6 +62,7 @@ impl Search {
             analysis: Analysis::new(alloc, cnf.vars())?,
             lines: Vec::new(alloc),
             head: 0,
+            choice: Choice::new(alloc, cnf.vars())?,
         })
     }
 
@@ -117,8 +119,11 @@ impl Search {
         let learnt = self
             .analysis
             .learn(alloc, &self.trail, &self.clauses, conflict, start)?;
+        self.choice.bump(&learnt.lits);
+        self.choice.grow();
         let id = self.clauses.add(&learnt.lits)?;
         let end = drop_levels(&mut self.starts, learnt.back as usize);
+        self.choice.release(&self.trail, end);
         self.trail.back_to(end);
         self.trail.push(learnt.lits[0], id)?;
         self.lines.push(Line::Add {
@@ -154,21 +159,28 @@ impl Search {
         Ok(None)
     }
 
-    /// Begins a level with a literal.
-    fn decide(&mut self, lit: Lit) -> Result<(), AllocError>
+    /// Begins a level with a literal of a variable without a value. There is no such variable at the end of
+    /// a search that shows values, and none is decided on when the budget is spent.
+    fn decide(&mut self, budget: u32) -> Result<Option<Ending>, AllocError>
         requires searching { IsSearching self.old }
         requires settled { AllSettled (live_in self.old.clauses) (fell_of self.old.trail) }
         requires visited { IsVisited self.old }
         requires all { self.old.head ≡ length self.old.trail.lits }
-        requires over { IsOver self.old.trail.vars lit }
-        requires free { IsFree self.old.trail lit }
-        ensures searching { OnOk result (IsSearching self.new) }
-        ensures visited { OnOk result (IsVisited self.new) }
-        ensures decided { OnOk result (HasDecided self.old self.new) }
+        ensures searching { IfOk result (λ ending. IfNone ending (IsSearching self.new)) }
+        ensures visited { IfOk result (λ ending. IfNone ending (IsVisited self.new)) }
+        ensures decided { IfOk result (λ ending. IfNone ending (HasDecided self.old self.new)) }
+        ensures under { IfOk result (λ ending. IfNone ending (length self.old.lines.items < budget)) }
+        ensures ended { (f : Formula) → IsLogged f self.old → IfOk result (λ ending. IfSome ending (Ends f budget self.new)) }
     {
+        let Some(lit) = self.choice.take_free(&self.trail) else {
+            return Ok(Some(Ending::Valued));
+        };
+        if self.lines.len() >= budget as usize {
+            return Ok(Some(Ending::Spent));
+        }
         self.starts.push(self.trail.len())?;
         self.trail.push(lit, 0)?;
-        Ok(())
+        Ok(None)
     }
 
     /// Writes the line of the empty clause.
@@ -222,13 +234,9 @@ impl Search {
                 self.refute(conflict)?;
                 return Ok(Ending::Refuted);
             }
-            let Some(lit) = self.trail.free_literal() else {
-                return Ok(Ending::Valued);
-            };
-            if self.lines.len() >= budget as usize {
-                return Ok(Ending::Spent);
+            if let Some(ending) = self.decide(budget)? {
+                return Ok(ending);
             }
-            self.decide(lit)?;
         }
     }
 }

@@ -10,24 +10,25 @@ use Rattle.cdcl_core.proofs.search.Search.decide.Goals as goal
 pub returns-clause-searching : goal.returns-clause-searching
 returns-clause-searching c =
     let old : Trailed = c.args.self.now.trail in
-    let is : c.push-2.new.self ≡ pushed old c.args.lit 0 = c.in_ok-push-2.ensures.ok in
-    let starts : c.push.new.self.items ≡ c.args.self.now.starts.items ++ length old.lits ∷ [] = c.in_ok-push.ensures.items ∙ ap (λ (n : ℕ). c.args.self.now.starts.items ++ n ∷ []) c.len.ensures.value in
+    let is : c.push-2.new.self ≡ pushed old c.in-Some.lit 0 = c.in_ok-push-2.ensures.ok in
+    let starts : c.push.new.self.items ≡ c.args.self.now.starts.items ++ length old.lits ∷ [] = c.in_ok-push.ensures.items ∙ ap (λ (n : ℕ). c.args.self.now.starts.items ++ n ∷ []) c.len-2.ensures.value in
     record {
       stored = c.requires.searching.stored;
       vars = c.requires.searching.vars ∙ sym (ap (λ (t : Trailed). t.vars) is);
-      layered = rw is (layered_decided (live_in c.args.self.now.clauses) old c.args.self.now.starts.items c.push.new.self.items c.args.lit 0 c.requires.searching.layered c.requires.settled c.requires.over c.requires.free starts);
+      layered = rw is (layered_decided (live_in c.args.self.now.clauses) old c.args.self.now.starts.items c.push.new.self.items c.in-Some.lit 0 c.requires.searching.layered c.requires.settled c.in-Some.ensures.over c.in-Some.ensures.free starts);
       ready = rw is c.requires.searching.ready;
+      choosing = rw is (c.in-Some.ensures.choosing 0);
     }
 
 pub returns-clause-visited : goal.returns-clause-visited
 returns-clause-visited c =
     let s = c.args.self.now in
     let old : Trailed = s.trail in
-    let is : c.push-2.new.self ≡ pushed old c.args.lit 0 = c.in_ok-push-2.ensures.ok in
-    let starts : c.push.new.self.items ≡ s.starts.items ++ length old.lits ∷ [] = c.in_ok-push.ensures.items ∙ ap (λ (n : ℕ). s.starts.items ++ n ∷ []) c.len.ensures.value in
-    let long : length c.push-2.new.self.lits ≡ length old.lits + 1 = ap (λ (t : Trailed). length t.lits) is ∙ length_push old.lits c.args.lit in
+    let is : c.push-2.new.self ≡ pushed old c.in-Some.lit 0 = c.in_ok-push-2.ensures.ok in
+    let starts : c.push.new.self.items ≡ s.starts.items ++ length old.lits ∷ [] = c.in_ok-push.ensures.items ∙ ap (λ (n : ℕ). s.starts.items ++ n ∷ []) c.len-2.ensures.value in
+    let long : length c.push-2.new.self.lits ≡ length old.lits + 1 = ap (λ (t : Trailed). length t.lits) is ∙ length_push old.lits c.in-Some.lit in
     record {
-      guarded = rw is (guarded_started s.clauses old s.starts.items c.push.new.self.items s.head c.args.lit 0 c.requires.searching.layered.whole c.requires.over c.requires.free c.requires.all c.requires.visited.begun starts c.requires.visited.guarded);
+      guarded = rw is (guarded_started s.clauses old s.starts.items c.push.new.self.items s.head c.in-Some.lit 0 c.requires.searching.layered.whole c.in-Some.ensures.over c.in-Some.ensures.free c.requires.all c.requires.visited.begun starts c.requires.visited.guarded);
       low = omega (arith, long, c.requires.all);
       begun = rw starts (All-push (λ x. x ≤ s.head) s.starts.items (length old.lits) c.requires.visited.begun (omega (arith, c.requires.all)));
     }

@@ -10,6 +10,8 @@ use Rattle.trail_core.specs.Values.{IsOver, IsFree}
 use Rattle.conflict_core.specs.Learning.{IsReady, asserting}
 use Rattle.cdcl_core.proofs.Layers.{closed_last, reasons_last, dropped_low, jumped_free, jumped_layers, learnt_over}
 use Rattle.cdcl_core.proofs.Logging.{log_added, lines_pushed}
+use Rattle.cdcl_core.specs.Choosing.{IsChoosing}
+use Rattle.cdcl_core.proofs.Choices.{choosing_pushed}
 use Rattle.cdcl_core.proofs.search.Search.jump.Goals as goal
 
 pub learn-requires-clause-closed : goal.learn-requires-clause-closed
@@ -30,12 +32,16 @@ pub returns-clause-searching : goal.returns-clause-searching
 returns-clause-searching c =
     let s = c.args.self.now in
     let l = c.in_ok-learnt.learnt in
-    let clauses_are : c.add.new.self ≡ added s.clauses l.lits.items = c.in_ok-id.ensures.ok ∙ ap (λ (xs : List ℤ). added s.clauses xs) c.deref.ensures.value in
+    let clauses_are : c.add.new.self ≡ added s.clauses l.lits.items = c.in_ok-id.ensures.ok ∙ ap (λ (xs : List ℤ). added s.clauses xs) c.deref-2.ensures.value in
     let u : c.index.result.now ≡ asserting l.lits.items = get_or_read l.lits.items 0 c.index.result.now c.in_ok-learnt.ensures.learnt.some c.index.ensures (pos 0) in
     let trail_is : c.push.new.self ≡ pushed c.back_to.new.self c.index.result.now c.in_ok-id.id = c.in_ok-push.ensures.ok in
     let vars : c.back_to.new.self.vars ≡ s.trail.vars = c.back_to.ensures.back.vars in
     let vars_now : c.push.new.self.vars ≡ s.trail.vars = ap (λ (t : Trailed). t.vars) trail_is ∙ vars in
     let within : IsWithin s.clauses.vars l.lits.items = subst (λ (n : ℕ). IsWithin n l.lits.items) (sym c.requires.searching.vars) c.in_ok-learnt.ensures.learnt.variables in
+    let back : Trailed = c.back_to.new.self in
+    let low = dropped_low s.starts.items c.drop_levels-end.new.starts.items c.args.start l.back c.drop_levels-end.result c.requires.searching.layered.rising c.requires.level.last c.drop_levels-end.ensures in
+    let free : IsFree back c.index.result.now = rw u (jumped_free (live_in s.clauses) s.trail back c.args.start c.drop_levels-end.result l.back l.lits.items l.hints.items c.requires.searching.layered.whole c.back_to.ensures.whole c.in_ok-learnt.ensures.learnt low c.back_to.ensures.back) in
+    let over : IsOver back.vars c.index.result.now = rw (u, c.back_to.ensures.back.vars) (learnt_over (live_in s.clauses) s.trail c.args.start l.back l.lits.items l.hints.items c.in_ok-learnt.ensures.learnt) in
     record {
       stored = c.in_ok-id.ensures.whole;
       vars = ap (λ (x : Stored). x.vars) clauses_are ∙ c.requires.searching.vars ∙ sym vars_now;
@@ -43,13 +49,15 @@ returns-clause-searching c =
           (subst (λ (t : Trailed). IsLayered (live_in (added s.clauses l.lits.items)) t c.drop_levels-end.new.starts.items) (sym trail_is)
           (jumped_layers s.clauses s.trail c.back_to.new.self s.starts.items c.drop_levels-end.new.starts.items c.args.start c.drop_levels-end.result l.back c.in_ok-id.id l.lits.items l.hints.items c.index.result.now c.requires.searching.layered c.in_ok-learnt.ensures.learnt c.requires.level c.drop_levels-end.ensures c.back_to.ensures.whole c.back_to.ensures.back c.in_ok-id.ensures.id u));
       ready = subst (λ (n : ℕ). IsReady n c.learn.new.self) (sym vars_now) c.in_ok-learnt.ensures.ready;
+      choosing = subst (λ (t : Trailed). IsChoosing t c.release.new.self) (sym trail_is)
+          (choosing_pushed back c.index.result.now c.in_ok-id.id c.release.new.self c.back_to.ensures.whole over.1 free (c.release.ensures back c.back_to.ensures.whole c.back_to.ensures.back));
     }
 
 pub returns-clause-logged : goal.returns-clause-logged
 returns-clause-logged c = λ f log.
     let s = c.args.self.now in
     let l = c.in_ok-learnt.learnt in
-    let clauses_are : c.add.new.self ≡ added s.clauses l.lits.items = c.in_ok-id.ensures.ok ∙ ap (λ (xs : List ℤ). added s.clauses xs) c.deref.ensures.value in
+    let clauses_are : c.add.new.self ≡ added s.clauses l.lits.items = c.in_ok-id.ensures.ok ∙ ap (λ (xs : List ℤ). added s.clauses xs) c.deref-2.ensures.value in
     let lines_are = lines_pushed s.lines.items c.push-2.new.self.items _ c.in_ok-push-2.ensures.items in
     let within : IsWithin s.clauses.vars l.lits.items = subst (λ (n : ℕ). IsWithin n l.lits.items) (sym c.requires.searching.vars) c.in_ok-learnt.ensures.learnt.variables in
     let few : s.trail.vars < 1000000000 = c.requires.searching.layered.whole.few in
@@ -66,7 +74,7 @@ returns-clause-visited c =
     let end : ℕ = c.drop_levels-end.result in
     let back : Trailed = c.back_to.new.self in
     let u : c.index.result.now ≡ asserting l.lits.items = get_or_read l.lits.items 0 c.index.result.now c.in_ok-learnt.ensures.learnt.some c.index.ensures (pos 0) in
-    let clauses_are : c.add.new.self ≡ added s.clauses l.lits.items = c.in_ok-id.ensures.ok ∙ ap (λ (xs : List ℤ). added s.clauses xs) c.deref.ensures.value in
+    let clauses_are : c.add.new.self ≡ added s.clauses l.lits.items = c.in_ok-id.ensures.ok ∙ ap (λ (xs : List ℤ). added s.clauses xs) c.deref-2.ensures.value in
     let trail_is : c.push.new.self ≡ pushed back c.index.result.now c.in_ok-id.id = c.in_ok-push.ensures.ok in
     let low = dropped_low s.starts.items fewer c.args.start l.back end c.requires.searching.layered.rising c.requires.level.last c.drop_levels-end.ensures in
     let free : IsFree back c.index.result.now = rw u (jumped_free (live_in s.clauses) s.trail back c.args.start end l.back l.lits.items l.hints.items c.requires.searching.layered.whole c.back_to.ensures.whole c.in_ok-learnt.ensures.learnt low c.back_to.ensures.back) in
@@ -87,3 +95,9 @@ back_to-requires c =
     let inside : slice_index_or s.starts.items (length fewer) 0 < length s.trail.lits = c.requires.searching.layered.inside (length fewer) 0 c.drop_levels-end.ensures.fewer in
     let at : slice_index_or s.starts.items (length fewer) 0 ≡ c.drop_levels-end.result = c.drop_levels-end.ensures.at 0 in
     omega (arith, inside, at)
+
+pub bump-requires : goal.bump-requires
+bump-requires c = rw (c.deref.ensures.value, c.requires.searching.choosing.vars) c.in_ok-learnt.ensures.learnt.variables
+
+pub release-requires-clause-choosing : goal.release-requires-clause-choosing
+release-requires-clause-choosing c = c.grow.ensures c.args.self.now.trail (c.bump.ensures c.args.self.now.trail c.requires.searching.choosing)

@@ -19,6 +19,7 @@ returns-clause-searching c =
       vars = ap (λ (s : Stored). s.vars) is ∙ all_added-vars (none_stored f.vars) f.clauses ∙ sym trail_vars;
       layered = layered_begun (live_in c.in_ok-new.field-0) c.in_ok-new-2.field-0 c.new-3.result.items c.in_ok-new-2.ensures.whole c.in_ok-new-2.ensures.empty c.new-3.ensures.items;
       ready = subst (λ (n : ℕ). IsReady n c.in_ok-new-3.field-0) (c.vars-2.ensures.value ∙ sym trail_vars) c.in_ok-new-3.ensures;
+      choosing = c.in_ok-new-4.ensures c.in_ok-new-2.field-0 (trail_vars ∙ sym c.vars-3.ensures.value);
     }
 
 pub returns-clause-clauses : goal.returns-clause-clauses

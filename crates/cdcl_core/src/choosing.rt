@@ -1,0 +1,119 @@
+//! Which variable a search decides on, and with which sign. It is a variable without a value whose score is
+//! greatest, where the variables of late conflicts score high (Moskewicz and others, "Chaff", 2001; Eén and
+//! Sörensson, "An extensible SAT-solver", 2003), and it gets the value that it had last (Pipatsrisawat and
+//! Darwiche, "A lightweight component caching scheme for satisfiability solvers", 2007).
+//!
+//! Going back puts the variables that lose their values into the heap again, and only decisions take out
+//! any. So a heap that is empty says that all variables have values.
+ghost use Rattle.std.specs.Prelude.{◌≡◌, ℕ, ℤ, ◌+◌, ◌<◌, ◌≤◌, length, IfOk, IfSome, IfNone};
+ghost use Rattle.sat_theory.specs.Formula.{variable as variable_of, IsWithin};
+ghost use Rattle.cdcl_theory.specs.Trails.{Trailed, IsTrail, IsBack, pushed};
+ghost use Rattle.trail_core.specs.Values.{IsOver, IsFree, HaveValues};
+ghost use Rattle.var_heap.specs.Held.{score_of};
+
+use cnf_core::Lit;
+use std::alloc::{AllocError, Global};
+use trail_core::Trail;
+use var_heap::VarHeap;
+
+/// What the variables of the first conflict score.
+const FIRST_STEP: u64 = 1 << 40;
+
+/// Where all scores are halved, and the step with them.
+const GREATEST_STEP: u64 = 1 << 56;
+
+/// With each conflict the step grows by this part of itself.
+const STEP_PART: u64 = 16;
+
+/// The variables to decide on, with their scores and signs.
+#[derive(Debug, Drop)]
+pub(crate) struct Choice {
+    pub(crate) heap: VarHeap,
+    /// by variable: whether it was true when it last had a value
+    pub(crate) signs: Vec<bool>,
+    /// what a conflict adds to the scores of its variables
+    pub(crate) step: u64,
+}
+
+impl Choice {
+    ghost use Rattle.cdcl_core.specs.Choosing.{IsChoosing};
+
+    /// All variables with the same score; each is to be false first.
+    pub(crate) fn new(alloc: Global, vars: u32) -> Result<Choice, AllocError>
+        ensures { IfOk result (λ c. (t : Trailed) → t.vars ≡ vars → IsChoosing t c) }
+    {
+        Ok(Choice {
+            heap: VarHeap::new(alloc, vars)?,
+            signs: vec![in alloc; false; vars as usize + 1]?,
+            step: FIRST_STEP,
+        })
+    }
+
+    /// Takes out a variable without a value, whose score is greatest, and gives the literal to decide on.
+    pub(crate) fn take_free(&mut self, trail: &Trail) -> Option<Lit>
+        requires whole { IsTrail trail.now }
+        requires choosing { IsChoosing trail.now self.old }
+        ensures over { IfSome result (IsOver trail.now.vars) }
+        ensures free { IfSome result (IsFree trail.now) }
+        ensures choosing { IfSome result (λ l. (reason : ℕ) → IsChoosing (pushed trail.now l reason) self.new) }
+        ensures greatest { IfSome result (λ l. (m : ℤ) → IsOver trail.now.vars m → IsFree trail.now m → score_of self.old.heap (variable_of m) ≤ score_of self.old.heap (variable_of l)) }
+        ensures none { IfNone result (HaveValues trail.now (1 + trail.now.vars)) }
+    {
+        while let Some(variable) = self.heap.pop() {
+            let lit = literal(variable, self.signs[variable as usize]);
+            if trail.is_free(lit) {
+                return Some(lit);
+            }
+        }
+        None
+    }
+
+    /// Puts the variables of the literals behind the first `from` in again, and notes their signs, before
+    /// the trail goes back to there.
+    pub(crate) fn release(&mut self, trail: &Trail, from: usize)
+        requires whole { IsTrail trail.now }
+        requires choosing { IsChoosing trail.now self.old }
+        ensures { (back : Trailed) → IsTrail back → IsBack from trail.now back → IsChoosing back self.new }
+    {
+        for index in from..trail.len() {
+            let lit = trail.at(index);
+            self.signs[lit.variable() as usize] = lit.is_positive();
+            self.heap.push(lit.variable());
+        }
+    }
+
+    /// Adds the step to the scores of the variables of literals.
+    pub(crate) fn bump(&mut self, lits: &[Lit])
+        requires { IsWithin self.old.heap.vars lits.now }
+        ensures { (t : Trailed) → IsChoosing t self.old → IsChoosing t self.new }
+    {
+        for lit in lits {
+            self.heap.bump(lit.variable(), self.step);
+        }
+    }
+
+    /// Lets the next conflict count more than those before.
+    pub(crate) fn grow(&mut self)
+        ensures { (t : Trailed) → IsChoosing t self.old → IsChoosing t self.new }
+    {
+        self.step = self.step.saturating_add(self.step / STEP_PART);
+        if self.step <= GREATEST_STEP {
+            return;
+        }
+        self.step /= 2;
+        self.heap.halve();
+    }
+}
+
+/// The literal of a variable with a sign.
+fn literal(variable: u32, positive: bool) -> Lit
+    requires some { 0 < variable }
+    requires small { variable < 1000000000 }
+    ensures { variable_of result ≡ variable }
+{
+    let number = variable as i32;
+    if positive {
+        return Lit::new(number);
+    }
+    Lit::new(-number)
+}
