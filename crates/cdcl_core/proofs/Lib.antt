@@ -12,3 +12,5 @@ pub mod Visits
 pub mod Jumps
 pub mod Beginning
 pub mod Choices
+pub mod Restarting
+pub mod Runs

@@ -9,6 +9,11 @@ pub record IsDropped (back : ℕ) (old new : List ℕ) (end : ℕ) : Type 0 wher
   pub high : back ≤ end
   pub low : All (λ s. s < back) new
 
+-- the first level begins at an index
+pub record IsFirstStart (starts : List ℕ) (first : ℕ) : Type 0 where
+  pub some : 0 < length starts
+  pub begins : (d : ℕ) → slice_index_or starts 0 d ≡ first
+
 -- the last level begins at an index
 pub record IsLastStart (starts : List ℕ) (start : ℕ) : Type 0 where
   pub some : 0 < length starts

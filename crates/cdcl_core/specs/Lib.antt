@@ -1,6 +1,7 @@
 pub mod Propagating
 pub mod Levels
 pub mod Choosing
+pub mod Luby
 pub mod Searching
 pub mod Endings
 pub mod Answering

@@ -67,6 +67,13 @@ pub record HasJumped (old new : Search) : Type 0 where
   pub clauses : length new.clauses.clauses ≡ length old.clauses.clauses + 1
   pub starts : length new.starts.items < length old.starts.items
 
+-- Levels may have been taken off, and the clauses and the log are the same.
+pub record HasRestarted (old new : Search) : Type 0 where
+  pub vars : new.trail.vars ≡ old.trail.vars
+  pub lines : new.lines ≡ old.lines
+  pub clauses : new.clauses ≡ old.clauses
+  pub starts : length new.starts.items ≤ length old.starts.items
+
 -- For each clause that was learnt a level at least was taken off, and where none was learnt the trail is no shorter.
 pub record HasSettled (old new : Search) : Type 0 where
   pub vars : new.trail.vars ≡ old.trail.vars

@@ -18,6 +18,7 @@ mod answering;
 mod choosing;
 mod levels;
 mod propagation;
+mod restarts;
 mod search;
 mod visiting;
 

@@ -5,11 +5,12 @@ ghost use Rattle.lrat_text.specs.Values.{line_values};
 ghost use Rattle.cdcl_theory.specs.Falling.{AllSettled, IsFalsified};
 ghost use Rattle.cdcl_theory.specs.Trails.{fell as fell_of};
 ghost use Rattle.clause_db.specs.Stored.{live_in};
-ghost use Rattle.cdcl_core.specs.Levels.{IsLastStart};
+ghost use Rattle.cdcl_core.specs.Levels.{IsFirstStart, IsLastStart};
 
 use crate::choosing::Choice;
 use crate::levels::drop_levels;
 use crate::propagation::propagate;
+use crate::restarts::Restarts;
 use crate::visiting::propagate_watched;
 use clause_db::ClauseDb;
 use cnf_core::Cnf;
@@ -30,6 +31,7 @@ pub(crate) struct Search {
     /// how many literals of the trail are visited
     pub(crate) head: usize,
     pub(crate) choice: Choice,
+    pub(crate) restarts: Restarts,
 }
 
 /// How a search ends.
@@ -43,7 +45,7 @@ pub(crate) enum Ending {
 }
 
 impl Search {
-    ghost use Rattle.cdcl_core.specs.Searching.{IsSearching, IsVisited, IsLogged, HasBegun, HasPropagated, HasJumped, HasSettled, HasDecided};
+    ghost use Rattle.cdcl_core.specs.Searching.{IsSearching, IsVisited, IsLogged, HasBegun, HasPropagated, HasJumped, HasRestarted, HasSettled, HasDecided};
     ghost use Rattle.cdcl_core.specs.Endings.{Ends};
 
     /// A search over a formula, before its first step.
@@ -63,6 +65,7 @@ impl Search {
             lines: Vec::new(alloc),
             head: 0,
             choice: Choice::new(alloc, cnf.vars())?,
+            restarts: Restarts::new(),
         })
     }
 
@@ -135,6 +138,40 @@ impl Search {
         Ok(())
     }
 
+    /// Takes off all levels, of which the first begins at index `first`.
+    fn go_down(&mut self, first: usize)
+        requires searching { IsSearching self.old }
+        requires visited { IsVisited self.old }
+        requires level { IsFirstStart self.old.starts.items first }
+        ensures searching { IsSearching self.new }
+        ensures visited { IsVisited self.new }
+        ensures bottom { self.new.starts.items ≡ [] }
+        ensures restarted { HasRestarted self.old self.new }
+    {
+        self.choice.release(&self.trail, first);
+        self.trail.back_to(first);
+        self.starts.clear();
+        self.head = first;
+    }
+
+    /// Counts a conflict, and takes off all levels where a run of conflicts ends with it.
+    fn restart(&mut self)
+        requires searching { IsSearching self.old }
+        requires visited { IsVisited self.old }
+        ensures searching { IsSearching self.new }
+        ensures visited { IsVisited self.new }
+        ensures restarted { HasRestarted self.old self.new }
+    {
+        if !self.restarts.count() {
+            return;
+        }
+        let Some(first) = self.starts.first() else {
+            return;
+        };
+        let first = *first;
+        self.go_down(first);
+    }
+
     /// Propagates, and learns from each conflict, until none is left, or one with no decision standing.
     fn settle(&mut self) -> Result<Option<u32>, AllocError>
         requires searching { IsSearching self.old }
@@ -155,6 +192,7 @@ impl Search {
             };
             let start = *start;
             self.jump(conflict, start)?;
+            self.restart();
         }
         Ok(None)
     }

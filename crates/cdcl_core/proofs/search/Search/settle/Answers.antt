@@ -1,4 +1,6 @@
+use Rattle.std.proofs.Common.{◌≡◌, length, ap, arith}
 use Rattle.cdcl_core.proofs.Settling.{settled_propagated, logged_propagated, settled_jumped, settled_visited}
+use Rattle.cdcl_core.proofs.Restarting.{jumped_restarted}
 use Rattle.cdcl_core.proofs.search.Search.settle.Goals as goal
 
 pub returns-in_default-last-clause-logged : goal.returns-in_default-last-clause-logged
@@ -15,11 +17,18 @@ returns-clause-settled c = settled_propagated c.args.self.now c.loop-conflict.se
 
 pub loop-conflict-preserved : goal.loop-conflict-preserved
 loop-conflict-preserved c = record {
-  searching = c.in_ok-jump.ensures.searching;
-  visited = c.in_ok-jump.ensures.visited;
-  logged = λ f log. c.in_ok-jump.ensures.logged f (logged_propagated f c.loop-conflict.self c.propagate.new.self (c.loop-conflict.invariant.logged f log) c.in_ok-conflict.ensures.propagated);
-  settled = settled_jumped c.args.self.now c.propagate.new.self c.jump.new.self (settled_propagated c.args.self.now c.loop-conflict.self c.propagate.new.self c.loop-conflict.invariant.settled c.in_ok-conflict.ensures.propagated) c.in_ok-jump.ensures.jumped;
+  searching = c.restart.ensures.searching;
+  visited = c.restart.ensures.visited;
+  logged = λ f log. rw (c.restart.ensures.restarted.clauses, c.restart.ensures.restarted.lines) (c.in_ok-jump.ensures.logged f (logged_propagated f c.loop-conflict.self c.propagate.new.self (c.loop-conflict.invariant.logged f log) c.in_ok-conflict.ensures.propagated));
+  settled = settled_jumped c.args.self.now c.propagate.new.self c.restart.new.self (settled_propagated c.args.self.now c.loop-conflict.self c.propagate.new.self c.loop-conflict.invariant.settled c.in_ok-conflict.ensures.propagated)
+      (jumped_restarted c.propagate.new.self c.jump.new.self c.restart.new.self c.in_ok-jump.ensures.jumped c.restart.ensures.restarted);
 }
+
+pub loop-conflict-smaller : goal.loop-conflict-smaller
+loop-conflict-smaller c =
+    let jumped = jumped_restarted c.propagate.new.self c.jump.new.self c.restart.new.self c.in_ok-jump.ensures.jumped c.restart.ensures.restarted in
+    let same : length c.propagate.new.self.starts.items ≡ length c.loop-conflict.self.starts.items = ap (λ ls. length ls.items) c.in_ok-conflict.ensures.propagated.starts in
+    omega (arith, jumped.starts, same)
 
 pub returns-clause-none : goal.returns-clause-none
 returns-clause-none c = settled_visited c.propagate.new.self c.in_ok-conflict.ensures.searching c.in_ok-conflict.ensures.visited (rw c.in_default.is at c.in_ok-conflict.ensures.all)

@@ -1,0 +1,83 @@
+-- Going back to the bottom.
+use Rattle.std.proofs.Common.{◌≡◌, ℕ, zero, suc, ◌<◌, ◌≤◌, ℤ, List, [], length, slice_index_or, Contains, All, Option, ap, ◌∙◌, arith, inr}
+use Rattle.std.proofs.Math.Logic.{⊎_elim}
+use Rattle.std.proofs.lemmas.List.Elements.{All-contains}
+use Rattle.sat_theory.specs.Formula.{variable}
+use Rattle.cdcl_theory.specs.FallingLaws.{implies_kept}
+use Rattle.cdcl_theory.specs.Trails.{Trailed, fell, reason_of, IsTrail, HasReason, IsBack, IsLayered}
+use Rattle.clause_db.specs.Stored.{Stored}
+use Rattle.cdcl_core.specs.declared.search.Search.{Search}
+use Rattle.cdcl_core.specs.declared.restarts.Restarts.{Restarts}
+use Rattle.cdcl_core.specs.Levels.{IsFirstStart}
+use Rattle.cdcl_core.specs.Guarding.{IsGuarded}
+use Rattle.cdcl_core.specs.Searching.{IsSearching, IsVisited, HasJumped, HasRestarted}
+use Rattle.cdcl_core.proofs.Guards.{guarded_back}
+
+-- no level begins before the first one
+first_least : (live : ℕ → Option (List ℤ)) (t : Trailed) (starts : List ℕ) (first p : ℕ) → IsLayered live t starts → IsFirstStart starts first → Contains starts p → first ≤ p
+first_least live t starts first p layered begins (zero, inside, at) = omega (arith, begins.begins p, at)
+first_least live t starts first p layered begins (suc k, inside, at) = (let less : slice_index_or starts 0 p < slice_index_or starts (suc k) p = layered.rising 0 (suc k) p (omega arith) inside in omega (arith, less, begins.begins p, at))
+
+pub first_inside : (live : ℕ → Option (List ℤ)) (t : Trailed) (starts : List ℕ) (first : ℕ) → IsLayered live t starts → IsFirstStart starts first → first < length t.lits
+first_inside live t starts first layered begins = (let low : slice_index_or starts 0 0 < length t.lits = layered.inside 0 0 begins.some in omega (arith, low, begins.begins 0))
+
+-- What stands below all levels has its reasons.
+pub layered_bottom : (live : ℕ → Option (List ℤ)) (t back : Trailed) (starts none : List ℕ) (first : ℕ) → IsLayered live t starts → IsFirstStart starts first → none ≡ [] → IsTrail back → IsBack first t back → IsLayered live back none
+layered_bottom live t back starts none first layered begins is trail is_back = rw is (record {
+  whole = trail;
+  inside = λ k d (low : k < 0). absurd (omega (arith, low));
+  rising = λ i j d less (low : j < 0). absurd (omega (arith, low));
+  closed = λ k d (low : k < 0). absurd (omega (arith, low));
+  reasons = λ p within. inr (reason_of_low p (omega (arith, within, is_back.short)));
+})
+  where
+    still : (p : ℕ) → p < first → HasReason live t p → HasReason live back p
+    still p low reason = record {
+      implied = λ d.
+          let same_lit : slice_index_or back.lits p d ≡ slice_index_or t.lits p d = is_back.lits p d low in
+          let same_reason : reason_of back (slice_index_or t.lits p d) ≡ reason_of t (slice_index_or t.lits p d) = ap (λ (rs : List ℕ). slice_index_or rs (variable (slice_index_or t.lits p d)) 0) is_back.reasons in
+          rw (same_lit, same_reason)
+          (implies_kept live first p (fell t) (fell back) (slice_index_or t.lits p d) (reason_of t (slice_index_or t.lits p d)) is_back.same (omega (arith, low)) (reason.implied d));
+    }
+
+    reason_of_low : (p : ℕ) → p < first → HasReason live back p
+    reason_of_low p low =
+        ⊎_elim
+        (λ (start : Contains starts p). absurd (let high : first ≤ p = first_least live t starts first p layered begins start in omega (arith, low, high)))
+        (λ (reason : HasReason live t p). still p low reason)
+        (layered.reasons p (let within : first < length t.lits = first_inside live t starts first layered begins in omega (arith, low, within)))
+
+-- The watched literals keep their promise there.
+pub guarded_bottom : (s : Stored) (t back : Trailed) (starts none : List ℕ) (head first : ℕ) → IsFirstStart starts first → All (λ x. x ≤ head) starts → none ≡ [] → IsBack first t back → IsGuarded s (fell t) starts head → IsGuarded s (fell back) none first
+guarded_bottom s t back starts none head first begins begun is is_back guarded =
+    let there : Contains starts first = (0, begins.some, begins.begins first) in
+    rw is (guarded_back s t back starts [] head first (All-contains (λ x. x ≤ head) starts first begun there) there (λ k d (low : k < 0). absurd (omega (arith, low))) (λ k d (low : k < 0). absurd (omega (arith, low))) is_back guarded)
+
+-- What is counted doesn't matter.
+pub searching_counted : (s : Search) (r : Restarts) → IsSearching s → IsSearching (record s { restarts = r })
+searching_counted s r searching = record {
+  stored = searching.stored;
+  vars = searching.vars;
+  layered = searching.layered;
+  ready = searching.ready;
+  choosing = searching.choosing;
+}
+
+pub visited_counted : (s : Search) (r : Restarts) → IsVisited s → IsVisited (record s { restarts = r })
+visited_counted s r visited = record {
+  guarded = visited.guarded;
+  low = visited.low;
+  begun = visited.begun;
+}
+
+-- A jump with a restart behind it is a jump.
+pub jumped_restarted : (a b c : Search) → HasJumped a b → HasRestarted b c → HasJumped a c
+jumped_restarted a b c jumped restarted =
+    let lines : length c.lines.items ≡ length b.lines.items = ap (λ ls. length ls.items) restarted.lines in
+    let clauses : length c.clauses.clauses ≡ length b.clauses.clauses = ap (λ (x : Stored). length x.clauses) restarted.clauses in
+    record {
+      vars = restarted.vars ∙ jumped.vars;
+      lines = lines ∙ jumped.lines;
+      clauses = clauses ∙ jumped.clauses;
+      starts = (let h : length b.starts.items < length a.starts.items = jumped.starts in let g : length c.starts.items ≤ length b.starts.items = restarted.starts in omega (arith, h, g));
+    }

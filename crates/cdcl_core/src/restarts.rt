@@ -1,0 +1,72 @@
+//! When a search goes back to the bottom and decides anew: after runs of conflicts whose lengths follow Luby's
+//! sequence (Luby, Sinclair and Zuckerman, "Optimal speedup of Las Vegas algorithms", 1993). The clauses, the
+//! scores and the signs stay, so a restart loses little, and no answer rests on when it comes.
+ghost use Rattle.std.specs.Prelude.{◌≡◌, ℕ, ◌+◌, ◌-◌, ◌*◌, ◌^◌, ◌<◌, IsTrue, IsFalse};
+ghost use Rattle.cdcl_core.specs.Luby.{IsLuby, IsPowerUpTo};
+
+/// How many conflicts the shortest runs have.
+const SHORTEST_RUN: u64 = 64;
+
+/// Behind so many runs the sequence begins anew.
+const RUNS: u32 = 2147483647;
+
+/// The run of conflicts that is going on.
+#[derive(Debug, Drop)]
+pub(crate) struct Restarts {
+    /// its place in the sequence, from 1 on
+    pub(crate) run: u32,
+    /// how many of its conflicts are still to come
+    pub(crate) left: u64,
+}
+
+impl Restarts {
+    /// The first run.
+    pub(crate) fn new() -> Restarts {
+        Restarts {
+            run: 1,
+            left: SHORTEST_RUN,
+        }
+    }
+
+    /// Counts a conflict, and tells whether a run ended with it.
+    pub(crate) fn count(&mut self) -> bool
+        ensures goes_on { IsFalse result → self.new ≡ record self.old { left = self.old.left - 1 } }
+        ensures ends { IsTrue result → (length : ℕ) × IsLuby self.new.run length × (self.new.left ≡ SHORTEST_RUN * length) }
+    {
+        if self.left > 1 {
+            self.left -= 1;
+            return false;
+        }
+        self.run = self.run % RUNS + 1;
+        self.left = SHORTEST_RUN * u64::from(luby(self.run));
+        true
+    }
+}
+
+/// The member of Luby's sequence at an index.
+fn luby(index: u32) -> u32
+    requires some { 0 < index }
+    requires small { index < 2 ^ 31 }
+    ensures { IsLuby index result }
+{
+    let mut rest = index;
+    let mut power = greatest_power(rest);
+    while rest + 1 < 2 * power {
+        rest = rest + 1 - power;
+        power = greatest_power(rest);
+    }
+    power
+}
+
+/// The greatest power of 2 up to a number.
+fn greatest_power(number: u32) -> u32
+    requires some { 0 < number }
+    requires small { number < 2 ^ 31 }
+    ensures { IsPowerUpTo number result }
+{
+    let mut power = 1;
+    while power <= number / 2 {
+        power *= 2;
+    }
+    power
+}
