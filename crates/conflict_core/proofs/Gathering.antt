@@ -1,17 +1,15 @@
--- Marking the fallen literals of a clause, and gathering those that fell early.
-use Rattle.std.proofs.Common.{◌≡◌, ◌≢◌, ℕ, ◌+◌, ◌<◌, ◌≤◌, ℤ, Bool, true, false, List, [], ◌∷◌, ◌++◌, length, take, slice_index_or, Contains, subst, sym, ap, ◌∙◌, arith, inl, inr, refl}
+-- Marking the fallen literals of a clause, and gathering those that are marked.
+use Rattle.std.proofs.Common.{◌≡◌, ℕ, ◌+◌, ◌<◌, ◌⊎◌, ℤ, Bool, true, List, [], ◌∷◌, ◌++◌, length, take, slice_index_or, Contains, subst, sym, ap, ◌∙◌, arith, inl, inr, refl}
 use Rattle.std.proofs.Math.Logic.{⊎_elim}
-use Rattle.std.proofs.lemmas.Bool.{both_ways}
+use Rattle.std.proofs.lemmas.Bool.{both_ways, false_from_ne_true}
 use Rattle.std.proofs.lemmas.Grind.{common_steps}
 use Rattle.std.proofs.lemmas.List.{take_more}
-use Rattle.std.proofs.lemmas.List.Elements.{All-append, All-push, All-weaker, All-cons, All-nil, Contains-push, Contains-append_left, Contains-append_right}
-use Rattle.std.proofs.lemmas.List.Quantifiers.{all_pairs_push}
+use Rattle.std.proofs.lemmas.List.Elements.{All-append, All-contains, All-push, All-weaker, All-cons, All-nil, Contains-push, Contains-append_left, Contains-append_right}
 use Rattle.sat_theory.specs.Holding.{with_literal}
 use Rattle.cdcl_theory.specs.Codes.{marked_in, without_literal}
-use Rattle.cdcl_theory.specs.CodeLaws.{with_literal-cases, with_literal-old, with_literal-new, without_literal-other}
-use Rattle.cdcl_theory.specs.Trails.{Trailed, fell}
+use Rattle.cdcl_theory.specs.CodeLaws.{cases_literal, with_literal-cases, with_literal-old, with_literal-new, without_literal-other, without_literal-same}
 use Rattle.trail_core.specs.Values.{IsOver}
-use Rattle.conflict_core.specs.Walking.{AreMarked, IsGathered}
+use Rattle.conflict_core.specs.Walking.{AreMarked, AreTaken, AreOthers, IsListed, IsClear}
 
 first_there : (l : ℤ) → Contains (l ∷ []) l
 first_there l = (0, (let one : 0 < 1 = omega arith in one), refl)
@@ -57,48 +55,49 @@ marked_more places lits i d l a b c within at before now =
 pub marked_none : (places : ℤ → ℕ) (lits : List ℤ) (a : List Bool) → AreMarked places (take 0 lits) a a
 marked_none places lits a = record { stay = λ m is. is; there = λ k d (low : k < 0). absurd (omega arith); only = λ m is. inl is }
 
--- what is gathered, after a literal is marked that fell later,
-pub gathered_late : (t : Trailed) (start : ℕ) (old new : List Bool) (lower : List ℤ) (l : ℤ) → IsGathered t start old lower → start < fell t l → marked_in new ≡ with_literal (marked_in old) l → IsGathered t start new lower
-gathered_late t start old new lower l before late now = record {
-  over = before.over;
-  inside = All-weaker (λ m. (marked_in old m ≡ true) × (fell t m ≤ start)) (λ m. (marked_in new m ≡ true) × (fell t m ≤ start)) (λ m h. (ap (λ (f : ℤ → Bool). f m) now ∙ with_literal-old (marked_in old) l m h.0, h.1)) lower before.inside;
-  all = λ m is low. ⊎_elim (λ (same : m ≡ l). absurd (let e : fell t m ≡ fell t l = ap (fell t) same in omega arith)) (λ (was : marked_in old m ≡ true). before.all m was low) (with_literal-cases (marked_in old) l m (sym (ap (λ (f : ℤ → Bool). f m) now) ∙ is));
-  differ = before.differ;
-}
-
--- and after one is marked and gathered.
-pub gathered_push : (t : Trailed) (start : ℕ) (old new : List Bool) (lower more : List ℤ) (l : ℤ) → IsGathered t start old lower → IsOver t.vars l → fell t l ≤ start → marked_in old l ≡ false → marked_in new ≡ with_literal (marked_in old) l → more ≡ lower ++ l ∷ [] → IsGathered t start new more
-gathered_push t start old new lower more l before over low unmarked now is = rw is (record {
-  over = All-push (IsOver t.vars) lower l before.over over;
-  inside = All-push (λ m. (marked_in new m ≡ true) × (fell t m ≤ start)) lower l (All-weaker (λ m. (marked_in old m ≡ true) × (fell t m ≤ start)) (λ m. (marked_in new m ≡ true) × (fell t m ≤ start)) (λ m h. (ap (λ (f : ℤ → Bool). f m) now ∙ with_literal-old (marked_in old) l m h.0, h.1)) lower before.inside) (ap (λ (f : ℤ → Bool). f l) now ∙ with_literal-new (marked_in old) l l refl, low);
-  all = λ m mark early. ⊎_elim (λ (same : m ≡ l). subst (λ (x : ℤ). Contains (lower ++ l ∷ []) x) (sym same) (Contains-push lower l)) (λ (was : marked_in old m ≡ true). Contains-append_left lower (l ∷ []) m (before.all m was early)) (with_literal-cases (marked_in old) l m (sym (ap (λ (f : ℤ → Bool). f m) now) ∙ mark));
-  differ = all_pairs_push (λ a b. a ≢ b) lower l before.differ (λ k d within same. both_ways (marked_in old l) unmarked (subst (λ (x : ℤ). marked_in old x ≡ true) same (before.inside k d within).0));
+-- the list after a literal is marked and pushed,
+pub listed_push : (vars : ℕ) (old new : List Bool) (touched more : List ℤ) (l : ℤ) → IsListed vars old touched → IsOver vars l → marked_in new ≡ with_literal (marked_in old) l → length new ≡ length old → more ≡ touched ++ l ∷ [] → IsListed vars new more
+listed_push vars old new touched more l before over now same is = rw is (record {
+  room = same ∙ before.room;
+  over = All-push (IsOver vars) touched l before.over over;
+  all = λ m mark. ⊎_elim (λ (e : m ≡ l). subst (λ (x : ℤ). Contains (touched ++ l ∷ []) x) (sym e) (Contains-push touched l)) (λ (was : marked_in old m ≡ true). Contains-append_left touched (l ∷ []) m (before.all m was)) (with_literal-cases (marked_in old) l m (sym (ap (λ (f : ℤ → Bool). f m) now) ∙ mark));
 })
 
--- and after one is unmarked that fell later
-pub gathered_unmarked : (t : Trailed) (start : ℕ) (old new : List Bool) (lower : List ℤ) (l : ℤ) → IsGathered t start old lower → start < fell t l → marked_in new ≡ without_literal (marked_in old) l → IsGathered t start new lower
-gathered_unmarked t start old new lower l before late now = record {
+-- and after one is unmarked
+pub listed_unset : (vars : ℕ) (old new : List Bool) (touched : List ℤ) (l : ℤ) → IsListed vars old touched → marked_in new ≡ without_literal (marked_in old) l → length new ≡ length old → IsListed vars new touched
+listed_unset vars old new touched l before now same = record {
+  room = same ∙ before.room;
   over = before.over;
-  inside = All-weaker (λ m. (marked_in old m ≡ true) × (fell t m ≤ start)) (λ m. (marked_in new m ≡ true) × (fell t m ≤ start)) (λ m h. (kept m h, h.1)) lower before.inside;
-  all = λ m is low. before.all m (sym (ap (λ (f : ℤ → Bool). f m) now ∙ without_literal-other (marked_in old) l m (apart m low)) ∙ is) low;
-  differ = before.differ;
+  all = λ m mark. before.all m (was m mark (cases_literal m l));
 }
   where
-    apart : (m : ℤ) → fell t m ≤ start → m ≡ l → ⊥
-    apart m low same = (let e : fell t m ≡ fell t l = ap (fell t) same in omega arith)
+    was : (m : ℤ) → marked_in new m ≡ true → (m ≡ l) ⊎ (m ≡ l → ⊥) → marked_in old m ≡ true
+    was m mark (inl e) = absurd (both_ways (marked_in new m) (ap (λ (f : ℤ → Bool). f m) now ∙ without_literal-same (marked_in old) l m e) mark)
+    was m mark (inr apart) = sym (ap (λ (f : ℤ → Bool). f m) now ∙ without_literal-other (marked_in old) l m apart) ∙ mark
 
-    kept : (m : ℤ) → (marked_in old m ≡ true) × (fell t m ≤ start) → marked_in new m ≡ true
-    kept m h = ap (λ (f : ℤ → Bool). f m) now ∙ without_literal-other (marked_in old) l m (apart m h.1) ∙ h.0
+-- With one literal unmarked and the others of the list taken, nothing is marked, and they are the others.
+pub others_taken : (vars : ℕ) (old off new : List Bool) (touched others : List ℤ) (first : ℤ) → IsListed vars old touched → marked_in off ≡ without_literal (marked_in old) first → AreTaken touched off new others → AreOthers vars old first others
+others_taken vars old off new touched others first listed now taken = record {
+  over = λ k d low. All-contains (IsOver vars) touched (slice_index_or others k d) listed.over (taken.inside k d low).0;
+  inside = λ k d low. was (slice_index_or others k d) (taken.inside k d low).1 (cases_literal (slice_index_or others k d) first);
+  all = λ m mark. ⊎_elim (λ (e : m ≡ first). inl e) (λ (apart : m ≡ first → ⊥). inr (gathered m mark (taken.all m (ap (λ (f : ℤ → Bool). f m) now ∙ without_literal-other (marked_in old) first m apart ∙ mark)))) (cases_literal m first);
+  differ = taken.differ;
+}
+  where
+    was : (m : ℤ) → marked_in off m ≡ true → (m ≡ first) ⊎ (m ≡ first → ⊥) → (marked_in old m ≡ true) × (m ≡ first → ⊥)
+    was m mark (inl e) = absurd (both_ways (marked_in off m) (ap (λ (f : ℤ → Bool). f m) now ∙ without_literal-same (marked_in old) first m e) mark)
+    was m mark (inr apart) = (sym (ap (λ (f : ℤ → Bool). f m) now ∙ without_literal-other (marked_in old) first m apart) ∙ mark, apart)
 
--- nothing is gathered where nothing is marked
-pub gathered_none : (t : Trailed) (start : ℕ) (marks : List Bool) → ((m : ℤ) → marked_in marks m ≡ false) → IsGathered t start marks []
-gathered_none t start marks none = record {
-  over = All-nil (IsOver t.vars);
-  inside = All-nil (λ m. (marked_in marks m ≡ true) × (fell t m ≤ start));
-  all = λ m is low. absurd (both_ways (marked_in marks m) (none m) is);
-  differ = λ i j d less (within : j < 0). absurd (omega arith);
+    gathered : (m : ℤ) → marked_in old m ≡ true → (marked_in new m ≡ true) ⊎ Contains others m → Contains others m
+    gathered m mark (inl still) = absurd (taken.gone m still (listed.all m mark))
+    gathered m mark (inr there) = there
+
+pub clear_taken : (vars : ℕ) (old off new : List Bool) (touched others : List ℤ) (first : ℤ) → IsListed vars old touched → marked_in off ≡ without_literal (marked_in old) first → length off ≡ length old → AreTaken touched off new others → length new ≡ length off → IsClear vars new
+clear_taken vars old off new touched others first listed now same taken long = record {
+  none = λ m. false_from_ne_true (marked_in new m) (λ is. taken.gone m is ((listed_unset vars old off touched first listed now same).all m (taken.was m is)));
+  room = long ∙ same ∙ listed.room;
 }
 
-pub ruleset gathering = (common_steps, marked_not_fallen, marked_already, marked_now, gathered_late, gathered_push)
+pub ruleset marking_one = (common_steps, marked_not_fallen, marked_already, marked_now, listed_push)
 
 pub ruleset marking_all = (common_steps, marked_none, marked_more)

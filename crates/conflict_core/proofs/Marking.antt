@@ -1,23 +1,40 @@
 -- Marks that are set and taken off.
-use Rattle.std.proofs.Common.{◌≡◌, ℕ, ◌+◌, ◌*◌, ◌<◌, ℤ, Bool, true, false, List, [], ◌∷◌, ◌++◌, length, take, slice_index_or, replicate, Contains, subst, sym, ap, ◌∙◌, arith}
+use Rattle.std.proofs.Common.{◌≡◌, ◌≢◌, ℕ, ◌+◌, ◌*◌, ◌<◌, ℤ, Bool, true, false, List, [], ◌∷◌, ◌++◌, length, take, slice_index_or, replicate, Contains, subst, sym, ap, ◌∙◌, arith, inl, inr}
 use Rattle.std.proofs.Math.Logic.{⊎_elim}
 use Rattle.std.proofs.lemmas.Bool.{both_ways}
 use Rattle.std.proofs.lemmas.Grind.{common_steps}
 use Rattle.std.proofs.lemmas.List.{take_more, length-replicate}
-use Rattle.std.proofs.lemmas.List.Elements.{Contains-push_cases}
+use Rattle.std.proofs.lemmas.List.Elements.{All-push, All-weaker, Contains-push, Contains-push_cases, Contains-append_left}
+use Rattle.std.proofs.lemmas.List.Quantifiers.{all_pairs_push}
 use Rattle.cdcl_theory.specs.Codes.{marked_in, without_literal}
 use Rattle.cdcl_theory.specs.CodeLaws.{code_of-room, cases_literal, marked_in-set, marked_in-unset, marked_in-none, with_literal-cases, with_literal-old, with_literal-new, without_literal-other, without_literal-same}
-use Rattle.conflict_core.specs.Walking.{IsClear, AreUnmarked}
+use Rattle.conflict_core.specs.Walking.{IsClear, AreTaken}
 
 pub clear_none : (vars : ℕ) → IsClear vars (replicate (2 * vars + 2) false)
 clear_none vars = record { none = marked_in-none (2 * vars + 2); room = length-replicate (2 * vars + 2) false }
 
--- one more literal was unmarked
-pub unmarked_more : (lits : List ℤ) (i : ℕ) (d l : ℤ) (a b c : List Bool) → i < length lits → slice_index_or lits i d ≡ l → AreUnmarked (take i lits) a b → marked_in c ≡ without_literal (marked_in b) l → AreUnmarked (take (i + 1) lits) a c
-unmarked_more lits i d l a b c within at before now = record {
+-- one more literal wasn't marked,
+pub taken_passed : (lits : List ℤ) (i : ℕ) (d l : ℤ) (a b : List Bool) (taken : List ℤ) → i < length lits → slice_index_or lits i d ≡ l → AreTaken (take i lits) a b taken → marked_in b l ≡ false → AreTaken (take (i + 1) lits) a b taken
+taken_passed lits i d l a b taken within at before off = rw (take_more lits i d within, at) (record {
+  was = before.was;
+  gone = λ m is there. ⊎_elim (λ (early : Contains (take i lits) m). before.gone m is early) (λ (last : l ≡ m). both_ways (marked_in b m) (ap (marked_in b) (sym last) ∙ off) is) (Contains-push_cases (take i lits) l m there);
+  inside = All-weaker (λ m. Contains (take i lits) m × (marked_in a m ≡ true)) (λ m. Contains (take i lits ++ l ∷ []) m × (marked_in a m ≡ true)) (λ m h. (Contains-append_left (take i lits) (l ∷ []) m h.0, h.1)) taken before.inside;
+  all = before.all;
+  differ = before.differ;
+})
+
+-- or one more was, and is gathered
+pub taken_more : (lits : List ℤ) (i : ℕ) (d l : ℤ) (a b c : List Bool) (taken more : List ℤ) → i < length lits → slice_index_or lits i d ≡ l → AreTaken (take i lits) a b taken → marked_in b l ≡ true → marked_in c ≡ without_literal (marked_in b) l → more ≡ taken ++ l ∷ [] → AreTaken (take (i + 1) lits) a c more
+taken_more lits i d l a b c taken more within at before on now is_more = rw (take_more lits i d within, at, is_more) (record {
   was = λ m is. before.was m (old m is);
-  gone = λ m is there. ⊎_elim (λ (early : Contains (take i lits) m). before.gone m (old m is) early) (λ (last : l ≡ m). apart m is (sym last)) (Contains-push_cases (take i lits) l m (subst (λ (xs : List ℤ). Contains xs m) (take_more lits i d within ∙ ap (λ (x : ℤ). take i lits ++ x ∷ []) at) there));
-}
+  gone = λ m is there. ⊎_elim (λ (early : Contains (take i lits) m). before.gone m (old m is) early) (λ (last : l ≡ m). apart m is (sym last)) (Contains-push_cases (take i lits) l m there);
+  inside = All-push (λ m. Contains (take i lits ++ l ∷ []) m × (marked_in a m ≡ true)) taken l (All-weaker (λ m. Contains (take i lits) m × (marked_in a m ≡ true)) (λ m. Contains (take i lits ++ l ∷ []) m × (marked_in a m ≡ true)) (λ m h. (Contains-append_left (take i lits) (l ∷ []) m h.0, h.1)) taken before.inside) (Contains-push (take i lits) l, before.was l on);
+  all = λ m was. ⊎_elim
+      (λ (still : marked_in b m ≡ true). ⊎_elim (λ (same : m ≡ l). inr (subst (λ (x : ℤ). Contains (taken ++ l ∷ []) x) (sym same) (Contains-push taken l))) (λ (other : m ≡ l → ⊥). inl (ap (λ (f : ℤ → Bool). f m) now ∙ without_literal-other (marked_in b) l m other ∙ still)) (cases_literal m l))
+      (λ (there : Contains taken m). inr (Contains-append_left taken (l ∷ []) m there))
+      (before.all m was);
+  differ = all_pairs_push (λ x y. x ≢ y) taken l before.differ (λ k e low same. before.gone l on (subst (λ (x : ℤ). Contains (take i lits) x) same (before.inside k e low).0));
+})
   where
     apart : (m : ℤ) → marked_in c m ≡ true → m ≡ l → ⊥
     apart m is same = (let off : marked_in c m ≡ false = ap (λ (f : ℤ → Bool). f m) now ∙ without_literal-same (marked_in b) l m same in both_ways (marked_in c m) off is)
@@ -25,7 +42,15 @@ unmarked_more lits i d l a b c within at before now = record {
     old : (m : ℤ) → marked_in c m ≡ true → marked_in b m ≡ true
     old m is = sym (ap (λ (f : ℤ → Bool). f m) now ∙ without_literal-other (marked_in b) l m (apart m is)) ∙ is
 
-pub unmarked_none : (lits : List ℤ) (a : List Bool) → AreUnmarked (take 0 lits) a a
-unmarked_none lits a = record { was = λ m is. is; gone = λ m is there. (let low : there.0 < 0 = there.1 in omega arith) }
+pub taken_none : (lits : List ℤ) (a : List Bool) (taken : List ℤ) → taken ≡ [] → AreTaken (take 0 lits) a a taken
+taken_none lits a taken empty = rw empty (record {
+  was = λ m is. is;
+  gone = λ m is there. (let low : there.0 < 0 = there.1 in omega arith);
+  inside = λ k d (low : k < 0). absurd (omega arith);
+  all = λ m is. inl is;
+  differ = λ i j d less (within : j < 0). absurd (omega arith);
+})
 
-pub ruleset marking = (common_steps, code_of-room, clear_none, marked_in-set, marked_in-unset, unmarked_none, unmarked_more)
+pub ruleset marking = (common_steps, code_of-room, clear_none, marked_in-set, marked_in-unset)
+
+pub ruleset taking = (common_steps, code_of-room, taken_none, taken_passed, taken_more)

@@ -1,5 +1,5 @@
 -- The literal that fell last comes to the front of a list.
-use Rattle.std.proofs.Common.{◌≡◌, ◌≢◌, ℕ, ◌<◌, ◌≤◌, ◌⊎◌, ℤ, Bool, true, List, length, slice_index_or, slice_set, Contains, All, AllPairs, Option, subst, sym, ap, ◌∙◌, arith, inl, inr, refl}
+use Rattle.std.proofs.Common.{◌≡◌, ◌≢◌, ℕ, ◌<◌, ◌≤◌, ◌⊎◌, ℤ, Bool, true, List, length, slice_index_or, slice_set, Contains, All, AllPairs, subst, sym, ap, ◌∙◌, arith, inl, inr, refl}
 use Rattle.std.specs.List.{swap}
 use Rattle.std.proofs.Math.Logic.{⊎_elim}
 use Rattle.std.proofs.lemmas.Bool.{cases_eq, cases_lt}
@@ -8,9 +8,8 @@ use Rattle.std.proofs.lemmas.List.{length-set, get_or-set_same, get_or-set_other
 use Rattle.std.proofs.lemmas.List.Edits.{length-swap, swap_is}
 use Rattle.std.proofs.lemmas.List.Elements.{All-contains}
 use Rattle.cdcl_theory.specs.Codes.{marked_in}
-use Rattle.cdcl_theory.specs.Trails.{Trailed, fell}
 use Rattle.trail_core.specs.Values.{IsOver}
-use Rattle.conflict_core.specs.Walking.{IsWalk, HasFallenAt}
+use Rattle.conflict_core.specs.Walking.{AreOthers, HasFallenAt}
 use Rattle.conflict_core.specs.Learning.{IsRaised}
 
 -- where the entry at an index of the list with two exchanged stood
@@ -106,22 +105,18 @@ raised_contains places back old new m (inr (is, none)) there = rw is there
 pub raised_fallen : (places : ℤ → ℕ) (back : ℕ) (old new : List ℤ) → IsRaised places back old new → HasFallenAt places old back → HasFallenAt places new back
 raised_fallen places back old new raised (w, there, at) = (w, raised_contains places back old new w raised there, at)
 
--- and so does what the walk has gathered.
-pub raised_walk : (live : ℕ → Option (List ℤ)) (t : Trailed) (start p back : ℕ) (marks : List Bool) (old new : List ℤ) (ids : List ℕ) → IsRaised (fell t) back old new → IsWalk live t start p marks old ids → IsWalk live t start p marks new ids
-raised_walk live t start p back marks old new ids raised walk = record {
-  resolvent = walk.resolvent;
-  gathered = record {
-    over = raised_all (fell t) back old new (IsOver t.vars) raised walk.gathered.over;
-    inside = raised_all (fell t) back old new (λ m. (marked_in marks m ≡ true) × (fell t m ≤ start)) raised walk.gathered.inside;
-    all = λ m is low. raised_contains (fell t) back old new m raised (walk.gathered.all m is low);
-    differ = differ raised;
-  };
-  room = walk.room;
+-- and so does that they are the marked ones but one.
+pub raised_others : (places : ℤ → ℕ) (vars back : ℕ) (marks : List Bool) (first : ℤ) (old new : List ℤ) → IsRaised places back old new → AreOthers vars marks first old → AreOthers vars marks first new
+raised_others places vars back marks first old new raised others = record {
+  over = raised_all places back old new (IsOver vars) raised others.over;
+  inside = raised_all places back old new (λ m. (marked_in marks m ≡ true) × (m ≢ first)) raised others.inside;
+  all = λ m is. ⊎_elim (λ (same : m ≡ first). inl same) (λ (there : Contains old m). inr (raised_contains places back old new m raised there)) (others.all m is);
+  differ = differ raised;
 }
   where
-    differ : IsRaised (fell t) back old new → AllPairs (λ a b. a ≢ b) new
-    differ (inl (i, low, is, at)) = rw is (swapped_differ old i low walk.gathered.differ)
-    differ (inr (is, none)) = rw is walk.gathered.differ
+    differ : IsRaised places back old new → AllPairs (λ a b. a ≢ b) new
+    differ (inl (i, low, is, at)) = rw is (swapped_differ old i low others.differ)
+    differ (inr (is, none)) = rw is others.differ
 
 -- The first one fell at `back`.
 pub raised_head : (places : ℤ → ℕ) (back : ℕ) (old new : List ℤ) (d : ℤ) → IsRaised places back old new → All (λ m. 0 < places m) new → All (λ m. places m ≤ back) old → (0 < back → HasFallenAt places old back) → 0 < length new → places (slice_index_or new 0 d) ≡ back

@@ -1,22 +1,22 @@
 -- What is learnt from a conflict.
-use Rattle.std.specs.Prelude.{◌≡◌, ◌≢◌, ℕ, ◌<◌, ◌≤◌, ◌⊎◌, ℤ, pos, List, [], length, slice_index_or, Contains, All, Option}
+use Rattle.std.specs.Prelude.{◌≡◌, ◌≢◌, ℕ, ◌<◌, ◌≤◌, ◌⊎◌, ℤ, pos, List, length, slice_index_or, Contains, All, Option}
 use Rattle.std.specs.List.{swap}
 use Rattle.sat_theory.specs.Formula.{IsClause, IsWithin}
 use Rattle.sat_theory.specs.Holding.{among, HintsHold}
 use Rattle.cdcl_theory.specs.Falling.{IsFallen, IsUnitUnder}
 use Rattle.cdcl_theory.specs.Trails.{Trailed, fell, HasReason}
 use Rattle.conflict_core.specs.declared.analysis.Analysis.{Analysis}
+use Rattle.conflict_core.specs.declared.walk.Walk.{Walk}
 use Rattle.conflict_core.specs.Walking.{IsClear, IsWalk}
 
--- no mark and no list is left over from an earlier conflict
-pub record IsReady (vars : ℕ) (a : Analysis) : Type 0 where
-  pub clear : IsClear vars a.marks
-  pub no_lower : a.lower.items ≡ []
-  pub no_hints : a.hints.items ≡ []
+-- the walk with the marks and lists of a value
+abbrev pub IsWalkOf : (ℕ → Option (List ℤ)) → Trailed → Walk → Type 0
+IsWalkOf live t w = IsWalk live t w.marks w.touched.items w.hints.items
 
--- the walk has come down to place p, with the marks and lists of the analysis
-abbrev pub IsWalkOf : (ℕ → Option (List ℤ)) → Trailed → ℕ → ℕ → Analysis → Type 0
-IsWalkOf live t start p a = IsWalk live t start p a.marks a.lower.items a.hints.items
+-- no mark is left over from an earlier conflict
+pub record IsReady (vars : ℕ) (a : Analysis) : Type 0 where
+  pub clear : IsClear vars a.walk.marks
+  pub touched : IsWithin vars a.walk.touched.items
 
 -- each literal from an index on has its reason
 abbrev pub HaveReasons : (ℕ → Option (List ℤ)) → Trailed → ℕ → Type 0

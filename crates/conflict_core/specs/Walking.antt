@@ -12,13 +12,6 @@ pub record AreMarked (places : ℤ → ℕ) (lits : List ℤ) (old new : List Bo
   pub there : All (λ m. 0 < places m → marked_in new m ≡ true) lits
   pub only : (m : ℤ) → marked_in new m ≡ true → (marked_in old m ≡ true) ⊎ (Contains lits m × (0 < places m))
 
--- the list has the marked literals that fell up to `start`, each once
-pub record IsGathered (t : Trailed) (start : ℕ) (marks : List Bool) (lower : List ℤ) : Type 0 where
-  pub over : All (IsOver t.vars) lower
-  pub inside : All (λ m. (marked_in marks m ≡ true) × (fell t m ≤ start)) lower
-  pub all : (m : ℤ) → marked_in marks m ≡ true → fell t m ≤ start → Contains lower m
-  pub differ : AllPairs (λ a b. a ≢ b) lower
-
 -- no literal that fell at an index from low to high is marked
 abbrev pub NoneMarked : Trailed → List Bool → ℕ → ℕ → Type 0
 NoneMarked t marks low high = (p : ℕ) (d : ℤ) → low ≤ p → p < high → marked_in marks (opposite (slice_index_or t.lits p d)) ≡ true → ⊥
@@ -26,22 +19,36 @@ NoneMarked t marks low high = (p : ℕ) (d : ℤ) → low ≤ p → p < high →
 abbrev pub HasRoom : ℕ → List Bool → Type 0
 HasRoom vars marks = length marks ≡ 2 * vars + 2
 
--- The walk has come down to place p. The clause of the marked literals, all among the first p that
--- fell, follows by the ids so far.
-pub record IsWalk (live : ℕ → Option (List ℤ)) (t : Trailed) (start p : ℕ) (marks : List Bool) (lower : List ℤ) (ids : List ℕ) : Type 0 where
-  pub resolvent : IsResolvent live (fell t) p (marked_in marks) ids
-  pub gathered : IsGathered t start marks lower
-  pub room : HasRoom t.vars marks
+-- a list over the variables has all marked literals
+pub record IsListed (vars : ℕ) (marks : List Bool) (touched : List ℤ) : Type 0 where
+  pub room : HasRoom vars marks
+  pub over : All (IsOver vars) touched
+  pub all : (m : ℤ) → marked_in marks m ≡ true → Contains touched m
+
+-- The clause of the marked literals, all of which have fallen, follows by the ids so far.
+pub record IsWalk (live : ℕ → Option (List ℤ)) (t : Trailed) (marks : List Bool) (touched : List ℤ) (ids : List ℕ) : Type 0 where
+  pub resolvent : IsResolvent live (fell t) (length t.lits) (marked_in marks) ids
+  pub listed : IsListed t.vars marks touched
 
 -- nothing is marked
 pub record IsClear (vars : ℕ) (marks : List Bool) : Type 0 where
   pub none : (m : ℤ) → marked_in marks m ≡ false
   pub room : HasRoom vars marks
 
--- the literals of a list were unmarked, and no others were marked
-pub record AreUnmarked (lits : List ℤ) (old new : List Bool) : Type 0 where
+-- The literals of a list were unmarked, and those that had been marked are gathered, each once.
+pub record AreTaken (lits : List ℤ) (old new : List Bool) (taken : List ℤ) : Type 0 where
   pub was : (m : ℤ) → marked_in new m ≡ true → marked_in old m ≡ true
   pub gone : (m : ℤ) → marked_in new m ≡ true → Contains lits m → ⊥
+  pub inside : All (λ m. Contains lits m × (marked_in old m ≡ true)) taken
+  pub all : (m : ℤ) → marked_in old m ≡ true → (marked_in new m ≡ true) ⊎ Contains taken m
+  pub differ : AllPairs (λ a b. a ≢ b) taken
+
+-- the list has the marked literals but one, each once
+pub record AreOthers (vars : ℕ) (marks : List Bool) (first : ℤ) (others : List ℤ) : Type 0 where
+  pub over : All (IsOver vars) others
+  pub inside : All (λ m. (marked_in marks m ≡ true) × (m ≢ first)) others
+  pub all : (m : ℤ) → marked_in marks m ≡ true → (m ≡ first) ⊎ Contains others m
+  pub differ : AllPairs (λ a b. a ≢ b) others
 
 -- p is the last index from low to high whose literal fell and is marked
 pub record IsLastMarked (t : Trailed) (marks : List Bool) (low high p : ℕ) : Type 0 where
@@ -50,9 +57,18 @@ pub record IsLastMarked (t : Trailed) (marks : List Bool) (low high p : ℕ) : T
   pub there : (d : ℤ) → marked_in marks (opposite (slice_index_or t.lits p d)) ≡ true
   pub last : NoneMarked t marks (p + 1) high
 
+-- the literal that fell at index p isn't marked any more, and no others were marked but those that fell before it
+pub record IsReplaced (t : Trailed) (p : ℕ) (old new : List Bool) : Type 0 where
+  pub stay : (m : ℤ) → marked_in old m ≡ true → (fell t m ≡ p + 1) ⊎ (marked_in new m ≡ true)
+  pub only : (m : ℤ) → marked_in new m ≡ true → (fell t m ≤ p) ⊎ ((marked_in old m ≡ true) × (fell t m ≢ p + 1))
+
 -- the marked literals among the first p that fell stay marked
 abbrev pub StayBelow : Trailed → ℕ → List Bool → List Bool → Type 0
 StayBelow t p old new = (m : ℤ) → fell t m ≤ p → marked_in old m ≡ true → marked_in new m ≡ true
+
+-- no others were marked but those among the first p that fell
+abbrev pub OnlyBelow : Trailed → ℕ → List Bool → List Bool → Type 0
+OnlyBelow t p old new = (m : ℤ) → marked_in new m ≡ true → (marked_in old m ≡ true) ⊎ (fell t m ≤ p)
 
 -- all literals of the clause of an id are marked
 abbrev pub IsMarkedClause : (ℕ → Option (List ℤ)) → List Bool → ℕ → Type 0

@@ -1,8 +1,8 @@
-ghost use Rattle.std.specs.Prelude.{◌≡◌, ℤ, true, ◌<◌, length, IfOk, Contains};
+ghost use Rattle.std.specs.Prelude.{◌≡◌, ◌<◌, [], length, IfOk, OnOk};
 ghost use Rattle.sat_theory.specs.Formula.{IsWithin};
 ghost use Rattle.sat_theory.specs.Holding.{with_literal};
 ghost use Rattle.cdcl_theory.specs.Codes.{code_of, marked_in, without_literal};
-ghost use Rattle.conflict_core.specs.Walking.{HasRoom, IsClear, AreUnmarked};
+ghost use Rattle.conflict_core.specs.Walking.{HasRoom, IsClear, AreTaken};
 
 use cnf_core::Lit;
 use std::alloc::{AllocError, Global};
@@ -60,15 +60,27 @@ impl Marks {
         self.marks[lit.code()] = false;
     }
 
-    /// Takes the literals of a list out of the set.
-    pub(crate) fn unset_all(&mut self, vars: u32, lits: &[Lit])
+    /// Takes the literals of a list out of the set, and gathers those that were in it.
+    #[tactic(auto, using(crate::proofs::Marking::taking))]
+    pub(crate) fn take(
+        &mut self,
+        vars: u32,
+        lits: &[Lit],
+        taken: &mut Vec<Lit>,
+    ) -> Result<(), AllocError>
         requires room { HasRoom vars self.old }
         requires within { IsWithin vars lits.now }
-        ensures set { AreUnmarked lits.now self.old self.new }
+        requires empty { taken.old.items ≡ [] }
+        ensures taken { OnOk result (AreTaken lits.now self.old self.new taken.new.items) }
         ensures room { length self.new ≡ length self.old }
     {
         for lit in lits {
+            if !self.has(*lit) {
+                continue;
+            }
             self.unset(*lit);
+            taken.push(*lit)?;
         }
+        Ok(())
     }
 }

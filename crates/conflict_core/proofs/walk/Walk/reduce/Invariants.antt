@@ -1,11 +1,12 @@
-use Rattle.std.proofs.Common.{◌+◌, length}
+use Rattle.std.proofs.Common.{length}
 use Rattle.clause_db.specs.Stored.{live_in}
-use Rattle.conflict_core.specs.Walking.{IsWalk, IsLastMarked}
-use Rattle.conflict_core.proofs.analysis.Analysis.reduce.Given as goal
+use Rattle.conflict_core.specs.Walking.{IsLastMarked}
+use Rattle.conflict_core.specs.Learning.{IsWalkOf}
+use Rattle.conflict_core.proofs.walk.Walk.reduce.Given as goal
 
 abbrev pub invariant-loop-other : goal.invariant-loop-other
 invariant-loop-other l = record {
-  walk : IsWalk (live_in l.clauses) l.trail l.start (l.top + 1) l.self.marks l.self.lower.items l.self.hints.items;
+  walk : IsWalkOf (live_in l.clauses) l.trail l.self;
   last : IsLastMarked l.trail l.self.marks l.start (length l.trail.lits) l.top;
 }
 

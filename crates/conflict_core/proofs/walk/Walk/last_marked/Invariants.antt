@@ -1,6 +1,6 @@
 use Rattle.std.proofs.Common.{◌≤◌}
 use Rattle.conflict_core.specs.Walking.{NoneMarked}
-use Rattle.conflict_core.proofs.analysis.Analysis.last_marked.Given as goal
+use Rattle.conflict_core.proofs.walk.Walk.last_marked.Given as goal
 
 abbrev pub invariant-loop-place : goal.invariant-loop-place
 invariant-loop-place l = record {

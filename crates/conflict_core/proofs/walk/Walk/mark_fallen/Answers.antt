@@ -1,12 +1,11 @@
 use Rattle.std.proofs.Common.{◌∙◌, sym}
 use Rattle.cdcl_theory.specs.Trails.{fell}
 use Rattle.conflict_core.proofs.Gathering.{marked_more}
-use Rattle.conflict_core.proofs.analysis.Analysis.mark_fallen.Goals as goal
+use Rattle.conflict_core.proofs.walk.Walk.mark_fallen.Goals as goal
 
 pub loop-lit-preserved : goal.loop-lit-preserved
 loop-lit-preserved c = record {
   marked = marked_more (fell c.args.trail.now) c.args.lits.now c.loop-lit.lit-index c.lit-item.result c.lit-item.result c.args.self.now.marks c.loop-lit.self.marks c.mark.new.self.marks c.loop-lit-test.true (sym c.lit-item.is) c.loop-lit.invariant.marked c.in_ok-mark.ensures.marked;
-  gathered = c.in_ok-mark.ensures.gathered;
-  room = c.in_ok-mark.ensures.room ∙ c.loop-lit.invariant.room;
+  listed = c.in_ok-mark.ensures.listed;
   hints = c.in_ok-mark.ensures.hints ∙ c.loop-lit.invariant.hints;
 }

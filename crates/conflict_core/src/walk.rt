@@ -1,0 +1,206 @@
+ghost use Rattle.std.specs.Prelude.{◌≡◌, ◌+◌, ◌<◌, ◌≤◌, ◌∷◌, [], length, IfOk, OnOk, IfSome, IfNone};
+ghost use Rattle.sat_theory.specs.Formula.{variable as variable_of, IsClause, IsWithin};
+ghost use Rattle.cdcl_theory.specs.Falling.{IsFalsified};
+ghost use Rattle.cdcl_theory.specs.Trails.{IsTrail, HasReason, fell as fell_of};
+ghost use Rattle.clause_db.specs.Stored.{live_in};
+ghost use Rattle.trail_core.specs.Values.{IsOver};
+ghost use Rattle.conflict_core.specs.Walking.{AreMarked, IsListed, IsMarkedClause, NoneMarked, IsLastMarked, IsReplaced, StayBelow, HasRoom, IsClear, AreOthers};
+ghost use Rattle.conflict_core.specs.Learning.{IsWalkOf, HaveReasons};
+
+use crate::marks::Marks;
+use clause_db::ClauseDb;
+use cnf_core::Lit;
+use std::alloc::{AllocError, Global};
+use trail_core::Trail;
+
+/// A walk back over the trail from a conflict. The marked literals are the clause that is left.
+#[derive(Debug, Drop)]
+pub(crate) struct Walk {
+    pub(crate) marks: Marks,
+    /// the literals that were marked since the walk began
+    pub(crate) touched: Vec<Lit>,
+    /// the ids of the clauses that were gone over, from the conflict on
+    pub(crate) hints: Vec<u32>,
+}
+
+impl Walk {
+    /// Room for the literals of the variables 1 to `vars`.
+    pub(crate) fn new(alloc: Global, vars: u32) -> Result<Walk, AllocError>
+        ensures clear { IfOk result (λ w. IsClear vars w.marks) }
+        ensures touched { IfOk result (λ w. w.touched.items ≡ []) }
+    {
+        Ok(Walk {
+            marks: Marks::new(alloc, vars)?,
+            touched: Vec::new(alloc),
+            hints: Vec::new(alloc),
+        })
+    }
+
+    /// Marks a literal, if it has fallen.
+    #[tactic(auto, using(crate::proofs::Gathering::marking_one))]
+    fn mark(&mut self, trail: &Trail, lit: Lit) -> Result<(), AllocError>
+        requires over { IsOver trail.now.vars lit }
+        requires listed { IsListed trail.now.vars self.old.marks self.old.touched.items }
+        ensures marked { OnOk result (AreMarked (fell_of trail.now) (lit ∷ []) self.old.marks self.new.marks) }
+        ensures listed { OnOk result (IsListed trail.now.vars self.new.marks self.new.touched.items) }
+        ensures hints { self.new.hints ≡ self.old.hints }
+    {
+        if trail.fell(lit) == 0 || self.marks.has(lit) {
+            return Ok(());
+        }
+        self.marks.set(lit);
+        self.touched.push(lit)?;
+        Ok(())
+    }
+
+    /// Marks the literals of a clause that have fallen.
+    #[tactic(auto, using(crate::proofs::Gathering::marking_all))]
+    fn mark_fallen(&mut self, trail: &Trail, lits: &[Lit]) -> Result<(), AllocError>
+        requires clause { IsClause lits.now }
+        requires within { IsWithin trail.now.vars lits.now }
+        requires listed { IsListed trail.now.vars self.old.marks self.old.touched.items }
+        ensures marked { OnOk result (AreMarked (fell_of trail.now) lits.now self.old.marks self.new.marks) }
+        ensures listed { OnOk result (IsListed trail.now.vars self.new.marks self.new.touched.items) }
+        ensures hints { self.new.hints ≡ self.old.hints }
+    {
+        for lit in lits {
+            self.mark(trail, *lit)?;
+        }
+        Ok(())
+    }
+
+    /// Marks the literals of a falsified clause, from which the walk begins.
+    pub(crate) fn begin(
+        &mut self,
+        trail: &Trail,
+        clauses: &ClauseDb,
+        conflict: u32,
+    ) -> Result<(), AllocError>
+        requires whole { IsTrail trail.now }
+        requires clear { IsClear trail.now.vars self.old.marks }
+        requires vars { clauses.now.vars ≡ trail.now.vars }
+        requires conflict { IsFalsified (live_in clauses.now) (fell_of trail.now) conflict }
+        ensures walk { OnOk result (IsWalkOf (live_in clauses.now) trail.now self.new) }
+        ensures marked { OnOk result (IsMarkedClause (live_in clauses.now) self.new.marks conflict) }
+    {
+        self.touched.clear();
+        self.hints.clear();
+        self.mark_fallen(trail, clauses.lits(conflict))?;
+        self.hints.push(conflict)?;
+        Ok(())
+    }
+
+    /// Puts the other literals of its reason in the place of the literal that fell at an index.
+    pub(crate) fn resolve(
+        &mut self,
+        trail: &Trail,
+        clauses: &ClauseDb,
+        place: usize,
+    ) -> Result<(), AllocError>
+        requires vars { clauses.now.vars ≡ trail.now.vars }
+        requires inside { place < length trail.now.lits }
+        requires reason { HasReason (live_in clauses.now) trail.now place }
+        requires walk { IsWalkOf (live_in clauses.now) trail.now self.old }
+        ensures walk { OnOk result (IsWalkOf (live_in clauses.now) trail.now self.new) }
+        ensures replaced { OnOk result (IsReplaced trail.now place self.old.marks self.new.marks) }
+    {
+        let lit = trail.at(place);
+        let id = trail.reason(lit);
+        self.marks.unset(lit.opposite());
+        self.mark_fallen(trail, clauses.lits(id))?;
+        self.hints.push(id)?;
+        Ok(())
+    }
+
+    /// Goes back over all marked literals with the indices from `low` to `high`.
+    pub(crate) fn resolve_down(
+        &mut self,
+        trail: &Trail,
+        clauses: &ClauseDb,
+        low: usize,
+        high: usize,
+    ) -> Result<(), AllocError>
+        requires vars { clauses.now.vars ≡ trail.now.vars }
+        requires inside { high ≤ length trail.now.lits }
+        requires order { low ≤ high }
+        requires reasons { HaveReasons (live_in clauses.now) trail.now low }
+        requires walk { IsWalkOf (live_in clauses.now) trail.now self.old }
+        requires none { NoneMarked trail.now self.old.marks high (length trail.now.lits) }
+        ensures walk { OnOk result (IsWalkOf (live_in clauses.now) trail.now self.new) }
+        ensures none { OnOk result (NoneMarked trail.now self.new.marks low (length trail.now.lits)) }
+        ensures others { OnOk result (StayBelow trail.now low self.old.marks self.new.marks) }
+    {
+        let mut place = high;
+        while place > low {
+            place -= 1;
+            if !self.marks.has(trail.at(place).opposite()) {
+                continue;
+            }
+            self.resolve(trail, clauses, place)?;
+        }
+        Ok(())
+    }
+
+    /// The last index from `low` to `high` whose literal fell and is marked.
+    fn last_marked(&self, trail: &Trail, low: usize, high: usize) -> Option<usize>
+        requires room { HasRoom trail.now.vars self.now.marks }
+        requires inside { high ≤ length trail.now.lits }
+        ensures some { IfSome result (IsLastMarked trail.now self.now.marks low high) }
+        ensures none { IfNone result (NoneMarked trail.now self.now.marks low high) }
+    {
+        let mut place = high;
+        while place > low {
+            place -= 1;
+            if self.marks.has(trail.at(place).opposite()) {
+                return Some(place);
+            }
+        }
+        None
+    }
+
+    /// Goes back until one literal of the level that begins at `start` is left, and gives its index.
+    /// Each index of the level is looked at twice at most.
+    pub(crate) fn reduce(
+        &mut self,
+        trail: &Trail,
+        clauses: &ClauseDb,
+        start: usize,
+    ) -> Result<usize, AllocError>
+        requires vars { clauses.now.vars ≡ trail.now.vars }
+        requires reasons { HaveReasons (live_in clauses.now) trail.now (start + 1) }
+        requires walk { IsWalkOf (live_in clauses.now) trail.now self.old }
+        requires some { NoneMarked trail.now self.old.marks start (length trail.now.lits) → ⊥ }
+        ensures walk { IfOk result (λ top. IsWalkOf (live_in clauses.now) trail.now self.new) }
+        ensures last { IfOk result (IsLastMarked trail.now self.new.marks start (length trail.now.lits)) }
+        ensures alone { IfOk result (NoneMarked trail.now self.new.marks start) }
+    {
+        let Some(mut top) = self.last_marked(trail, start, trail.len()) else {
+            unreachable!()
+        };
+        while let Some(other) = self.last_marked(trail, start, top) {
+            self.resolve_down(trail, clauses, other + 1, top + 1)?;
+            top = other;
+        }
+        Ok(top)
+    }
+
+    /// Takes all marks off, and gathers the literals that were marked, but for one.
+    pub(crate) fn take_others(
+        &mut self,
+        vars: u32,
+        first: Lit,
+        others: &mut Vec<Lit>,
+    ) -> Result<(), AllocError>
+        requires listed { IsListed vars self.old.marks self.old.touched.items }
+        requires over { variable_of first ≤ vars }
+        ensures clear { OnOk result (IsClear vars self.new.marks) }
+        ensures others { OnOk result (AreOthers vars self.old.marks first others.new.items) }
+        ensures touched { self.new.touched ≡ self.old.touched }
+        ensures hints { self.new.hints ≡ self.old.hints }
+    {
+        others.clear();
+        self.marks.unset(first);
+        self.marks.take(vars, &self.touched, others)?;
+        Ok(())
+    }
+}
