@@ -1,6 +1,6 @@
-ghost use Rattle.std.specs.Prelude.{◌≡◌, ◌≢◌, ℕ, ◌+◌, ◌-◌, ◌*◌, ◌<◌, ◌≤◌, true, false, length, slice_set, IfOk, IfSome, IfNone};
+ghost use Rattle.std.specs.Prelude.{◌≡◌, ◌≢◌, ◌+◌, ◌-◌, ◌*◌, ◌<◌, ◌≤◌, true, false, length, slice_set, IfOk, IfSome, IfNone};
 ghost use Rattle.var_heap.specs.Entries.{entry, with_entry, marks_of};
-ghost use Rattle.var_heap.specs.Rows.{IsRow, at, place, HasScores, IsUnder, IsOrdered, IsOrderedAbove, IsOrderedBelow, IsGreaterChild, IsMoved, IsFilled};
+ghost use Rattle.var_heap.specs.Rows.{IsRow, at, place, HasScores, IsOrdered, IsOrderedAbove, IsOrderedBelow, IsGreaterChild, IsMoved, IsFilled};
 
 use std::alloc::{AllocError, Global};
 

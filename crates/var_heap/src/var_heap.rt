@@ -1,7 +1,5 @@
-ghost use Rattle.std.specs.Prelude.{◌≡◌, ℕ, ◌+◌, ◌-◌, ◌/◌, ◌^◌, ◌<◌, ◌≤◌, ◌↔◌, Bool, true, false, map, length, min, slice_set, IsTrue, IfOk, IfSome, IfNone};
+ghost use Rattle.std.specs.Prelude.{◌≡◌, ℕ, ◌+◌, ◌-◌, ◌/◌, ◌^◌, ◌↔◌, true, false, map, min, slice_set, IsTrue, IfOk, IfSome, IfNone};
 ghost use Rattle.var_heap.specs.Held.{IsHeld, IsVariable, IsWhole, IsGreatest, IsFull, score_of};
-ghost use Rattle.var_heap.specs.Entries.{entry};
-ghost use Rattle.var_heap.specs.Rows.{IsRow, at, place, IsOrdered, IsFilled};
 
 use crate::row::Row;
 use std::alloc::{AllocError, Global};
