@@ -178,9 +178,9 @@ choosing_scores c d vars marks signs t choosing = record {
 pub choosing_full : (vars : ℕ) (c : Choice) → IsFull vars c.heap → length c.signs.items ≡ vars + 1 → (t : Trailed) → t.vars ≡ vars → IsChoosing t c
 choosing_full vars c full signs t same = record {
   vars = full.vars_are ∙ sym same;
-  room = λ v some low. room_held c.heap.marks v (full.held v some (omega (arith, low, same)));
+  room = λ v some low. room_held c.heap.marks v ((full.held v).1 (some, omega (arith, low, same, full.vars_are)));
   signs = signs ∙ ap (λ (n : ℕ). n + 1) (sym same);
-  held = λ l over free. (let small : variable l ≤ t.vars = over.1 in full.held (variable l) over.0 (omega (arith, small, same)));
+  held = λ l over free. (let small : variable l ≤ t.vars = over.1 in (full.held (variable l)).1 (over.0, omega (arith, small, same, full.vars_are)));
 }
 
 -- fewer are held when one is taken out
