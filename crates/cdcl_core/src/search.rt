@@ -119,10 +119,15 @@ impl Search {
         ensures jumped { OnOk result (HasJumped self.old self.new) }
     {
         let alloc = *self.starts.allocator();
-        let learnt = self
-            .analysis
-            .learn(alloc, &self.trail, &self.clauses, conflict, start)?;
-        self.choice.bump(&learnt.lits);
+        let learnt = self.analysis.learn(
+            alloc,
+            &self.trail,
+            &self.clauses,
+            conflict,
+            &self.starts,
+            start,
+        )?;
+        self.choice.bump(self.analysis.touched());
         self.choice.grow();
         let id = self.clauses.add(&learnt.lits)?;
         let end = drop_levels(&mut self.starts, learnt.back as usize);

@@ -3,3 +3,4 @@ pub mod Gathering
 pub mod Walks
 pub mod Conflicts
 pub mod Raising
+pub mod Starts

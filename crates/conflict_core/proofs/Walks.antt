@@ -13,7 +13,7 @@ use Rattle.cdcl_theory.specs.Trails.{Trailed, fell, reason_of, ArePlaces, IsTrai
 use Rattle.cdcl_theory.specs.TrailLaws.{place_at, true_not_fallen, fallen_at}
 use Rattle.cdcl_theory.specs.Resolving.{IsDerived, IsResolvent}
 use Rattle.cdcl_theory.specs.ResolvingLaws.{derived_step}
-use Rattle.conflict_core.specs.Walking.{AreMarked, IsListed, IsReplaced, NoneMarked, StayBelow, IsWalk}
+use Rattle.conflict_core.specs.Walking.{AreMarked, IsListed, IsReplaced, NoneMarked, StayBelow, OnlyBelow, IsWalk}
 
 -- the reason of the literal at an index
 pub reason_at : (live : ℕ → Option (List ℤ)) (t : Trailed) (p : ℕ) (l : ℤ) → HasReason live t p → slice_index_or t.lits p l ≡ l → Implies live (fell t) p l (reason_of t l)
@@ -113,6 +113,10 @@ marks_replaced live t p id l lits old off new trail within at reason id_is is un
 -- what was marked below stays so
 pub stay_replaced : (t : Trailed) (low p : ℕ) (a b c : List Bool) → low ≤ p → StayBelow t low a b → IsReplaced t p b c → StayBelow t low a c
 stay_replaced t low p a b c order before replaced m is was = ⊎_elim (λ (e : fell t m ≡ p + 1). absurd (omega arith)) (λ (still : marked_in c m ≡ true). still) (replaced.stay m (before m is was))
+
+-- others were marked among the first that fell alone
+pub replaced_below : (t : Trailed) (start p : ℕ) (old new : List Bool) → p < start → IsReplaced t p old new → OnlyBelow t start old new
+replaced_below t start p old new early replaced m is = ⊎_elim (λ (low : fell t m ≤ p). inr (omega arith)) (λ (was : (marked_in old m ≡ true) × (fell t m ≡ p + 1 → ⊥)). inl was.0) (replaced.only m is)
 
 -- after the step nothing is marked from its index on
 pub none_replaced : (t : Trailed) (p : ℕ) (old new : List Bool) → IsTrail t → IsReplaced t p old new → NoneMarked t old (p + 1) (length t.lits) → NoneMarked t new p (length t.lits)

@@ -1,5 +1,5 @@
 -- What is learnt from a conflict.
-use Rattle.std.specs.Prelude.{◌≡◌, ◌≢◌, ℕ, ◌<◌, ◌≤◌, ◌⊎◌, ℤ, pos, List, length, slice_index_or, Contains, All, Option}
+use Rattle.std.specs.Prelude.{◌≡◌, ◌≢◌, ℕ, ◌+◌, ◌<◌, ◌≤◌, ◌⊎◌, ℤ, pos, List, length, slice_index_or, Contains, All, Option}
 use Rattle.std.specs.List.{swap}
 use Rattle.sat_theory.specs.Formula.{IsClause, IsWithin}
 use Rattle.sat_theory.specs.Holding.{among, HintsHold}
@@ -13,10 +13,11 @@ use Rattle.conflict_core.specs.Walking.{IsClear, IsWalk}
 abbrev pub IsWalkOf : (ℕ → Option (List ℤ)) → Trailed → Walk → Type 0
 IsWalkOf live t w = IsWalk live t w.marks w.touched.items w.hints.items
 
--- no mark is left over from an earlier conflict
+-- no mark is left over from an earlier conflict, and there is room for a verdict on each variable
 pub record IsReady (vars : ℕ) (a : Analysis) : Type 0 where
   pub clear : IsClear vars a.walk.marks
   pub touched : IsWithin vars a.walk.touched.items
+  pub verdicts : length a.redundancy.verdicts.items ≡ vars + 1
 
 -- each literal from an index on has its reason
 abbrev pub HaveReasons : (ℕ → Option (List ℤ)) → Trailed → ℕ → Type 0

@@ -2,12 +2,13 @@ ghost use Rattle.std.specs.Prelude.{◌≡◌, ℕ, ◌+◌, ◌<◌, ◌≤◌,
 ghost use Rattle.sat_theory.specs.Formula.{IsWithin};
 ghost use Rattle.sat_theory.specs.Holding.{among, HintsHold};
 ghost use Rattle.cdcl_theory.specs.Falling.{IsClosed, IsFalsified};
-ghost use Rattle.cdcl_theory.specs.Trails.{fell as fell_of};
+ghost use Rattle.cdcl_theory.specs.Trails.{IsLayered, fell as fell_of};
 ghost use Rattle.clause_db.specs.Stored.{live_in};
-ghost use Rattle.conflict_core.specs.Walking.{HasFallenAt};
-ghost use Rattle.conflict_core.specs.Learning.{IsReady, HaveReasons, IsRaised, IsLearnt};
+ghost use Rattle.conflict_core.specs.Walking.{HasFallenAt, OnlyBelow};
+ghost use Rattle.conflict_core.specs.Learning.{IsReady, IsWalkOf, HaveReasons, IsRaised, IsLearnt};
 
 use crate::Learnt;
+use crate::redundancy::Redundancy;
 use crate::walk::Walk;
 use clause_db::ClauseDb;
 use cnf_core::Lit;
@@ -18,6 +19,7 @@ use trail_core::Trail;
 #[derive(Debug, Drop)]
 pub struct Analysis {
     walk: Walk,
+    redundancy: Redundancy,
     /// the literals of the learnt clause that fell below the conflict's level
     lower: Vec<Lit>,
 }
@@ -29,6 +31,7 @@ impl Analysis {
     {
         Ok(Analysis {
             walk: Walk::new(alloc, vars)?,
+            redundancy: Redundancy::new(alloc, vars)?,
             lower: Vec::new(alloc),
         })
     }
@@ -41,6 +44,29 @@ impl Analysis {
         &self.walk.touched
     }
 
+    /// Resolves away what follows from the other literals of the clause, of those that fell up to `start`.
+    fn minimise(
+        &mut self,
+        trail: &Trail,
+        clauses: &ClauseDb,
+        starts: &[usize],
+        start: usize,
+    ) -> Result<(), AllocError>
+        requires vars { clauses.now.vars ≡ trail.now.vars }
+        requires layered { IsLayered (live_in clauses.now) trail.now starts.now }
+        requires room { length self.old.redundancy.verdicts.items ≡ trail.now.vars + 1 }
+        requires walk { IsWalkOf (live_in clauses.now) trail.now self.old.walk }
+        ensures walk { OnOk result (IsWalkOf (live_in clauses.now) trail.now self.new.walk) }
+        ensures below { OnOk result (OnlyBelow trail.now start self.old.walk.marks self.new.walk.marks) }
+        ensures room { length self.new.redundancy.verdicts.items ≡ length self.old.redundancy.verdicts.items }
+    {
+        self.redundancy.find(trail, clauses, &self.walk.marks, &self.walk.touched, start)?;
+        while let Some(lit) = self.redundancy.pop() {
+            self.walk.resolve_away(trail, clauses, starts, start, lit)?;
+        }
+        Ok(())
+    }
+
     /// Learns a clause from one that is falsified in the level that begins at index `start`, by going
     /// back to the first unique implication point of the level.
     pub fn learn(
@@ -49,6 +75,7 @@ impl Analysis {
         trail: &Trail,
         clauses: &ClauseDb,
         conflict: u32,
+        starts: &[usize],
         start: usize,
     ) -> Result<Learnt, AllocError>
         requires ready { IsReady trail.now.vars self.old }
@@ -56,6 +83,7 @@ impl Analysis {
         requires level { start < length trail.now.lits }
         requires closed { IsClosed (live_in clauses.now) (fell_of trail.now) start }
         requires reasons { HaveReasons (live_in clauses.now) trail.now (start + 1) }
+        requires layered { IsLayered (live_in clauses.now) trail.now starts.now }
         requires conflict { IsFalsified (live_in clauses.now) (fell_of trail.now) conflict }
         ensures learnt { IfOk result (λ l. IsLearnt (live_in clauses.now) trail.now start l.lits.items l.back l.hints.items) }
         ensures ready { OnOk result (IsReady trail.now.vars self.new) }
@@ -64,7 +92,10 @@ impl Analysis {
         self.walk.begin(trail, clauses, conflict)?;
         let top = self.walk.reduce(trail, clauses, start)?;
         let first = trail.at(top).opposite();
+        let walked = self.walk.touched.len();
+        self.minimise(trail, clauses, starts, start)?;
         self.walk.take_others(vars, first, &mut self.lower)?;
+        self.walk.touched.truncate(walked);
         let back = last_fallen(trail, &self.lower);
         raise(trail, &mut self.lower, back);
         let lits = joined(alloc, first, &self.lower)?;

@@ -17,6 +17,7 @@
 mod analysis;
 mod learnt;
 mod marks;
+mod redundancy;
 mod walk;
 
 pub use analysis::Analysis;

@@ -1,10 +1,10 @@
-ghost use Rattle.std.specs.Prelude.{◌≡◌, ◌+◌, ◌<◌, ◌≤◌, ◌∷◌, [], length, IfOk, OnOk, IfSome, IfNone};
+ghost use Rattle.std.specs.Prelude.{◌≡◌, ◌+◌, ◌<◌, ◌≤◌, ◌∷◌, [], false, length, Contains, AllPairs, IfOk, OnOk, IfSome, IfNone};
 ghost use Rattle.sat_theory.specs.Formula.{variable as variable_of, IsClause, IsWithin};
 ghost use Rattle.cdcl_theory.specs.Falling.{IsFalsified};
-ghost use Rattle.cdcl_theory.specs.Trails.{IsTrail, HasReason, fell as fell_of};
+ghost use Rattle.cdcl_theory.specs.Trails.{IsTrail, IsLayered, HasReason, fell as fell_of};
 ghost use Rattle.clause_db.specs.Stored.{live_in};
 ghost use Rattle.trail_core.specs.Values.{IsOver};
-ghost use Rattle.conflict_core.specs.Walking.{AreMarked, IsListed, IsMarkedClause, NoneMarked, IsLastMarked, IsReplaced, StayBelow, HasRoom, IsClear, AreOthers};
+ghost use Rattle.conflict_core.specs.Walking.{AreMarked, IsListed, IsMarkedClause, NoneMarked, IsLastMarked, IsReplaced, StayBelow, OnlyBelow, HasRoom, IsClear, AreOthers};
 ghost use Rattle.conflict_core.specs.Learning.{IsWalkOf, HaveReasons};
 
 use crate::marks::Marks;
@@ -184,6 +184,32 @@ impl Walk {
         Ok(top)
     }
 
+    /// Resolves a literal away if it is marked, fell up to `start`, and isn't the opposite of a decision.
+    pub(crate) fn resolve_away(
+        &mut self,
+        trail: &Trail,
+        clauses: &ClauseDb,
+        starts: &[usize],
+        start: usize,
+        lit: Lit,
+    ) -> Result<(), AllocError>
+        requires vars { clauses.now.vars ≡ trail.now.vars }
+        requires layered { IsLayered (live_in clauses.now) trail.now starts.now }
+        requires over { variable_of lit ≤ trail.now.vars }
+        requires walk { IsWalkOf (live_in clauses.now) trail.now self.old }
+        ensures walk { OnOk result (IsWalkOf (live_in clauses.now) trail.now self.new) }
+        ensures below { OnOk result (OnlyBelow trail.now start self.old.marks self.new.marks) }
+    {
+        if !self.marks.has(lit) {
+            return Ok(());
+        }
+        let place = trail.fell(lit) as usize - 1;
+        if place >= start || is_start(starts, place) {
+            return Ok(());
+        }
+        self.resolve(trail, clauses, place)
+    }
+
     /// Takes all marks off, and gathers the literals that were marked, but for one.
     pub(crate) fn take_others(
         &mut self,
@@ -203,4 +229,12 @@ impl Walk {
         self.marks.take(vars, &self.touched, others)?;
         Ok(())
     }
+}
+
+/// Whether a level begins at an index.
+fn is_start(starts: &[usize], place: usize) -> bool
+    requires { AllPairs (λ a b. a < b) starts.now }
+    ensures { result ≡ false → Contains starts.now place → ⊥ }
+{
+    starts.binary_search(&place).is_ok()
 }

@@ -5,7 +5,7 @@ use Rattle.cdcl_theory.specs.Trails.{fell}
 use Rattle.clause_db.specs.Stored.{live_in}
 use Rattle.trail_core.specs.Values.{IsOver}
 use Rattle.conflict_core.specs.Walking.{AreOthers, HasFallenAt}
-use Rattle.conflict_core.proofs.Conflicts.{conflict_in_level, alone_left, walk_learnt}
+use Rattle.conflict_core.proofs.Conflicts.{conflict_in_level, alone_left, alone_less, walk_learnt}
 use Rattle.conflict_core.proofs.Raising.{raised_all, raised_fallen, raised_others, raised_head}
 use Rattle.conflict_core.proofs.analysis.Analysis.learn.Goals as goal
 
@@ -17,7 +17,8 @@ returns-clause-learnt c =
     let first = c.opposite-first.result in
     let t = c.args.trail.now in
     let places = fell t in
-    let walk = c.reduce.new.self in
+    let reduced = c.reduce.new.self in
+    let walk = c.minimise.new.self.walk in
     let back = c.last_fallen-back.result in
     let old = c.take_others.new.others.items in
     let lower = c.raise.new.lits.items in
@@ -27,11 +28,13 @@ returns-clause-learnt c =
     let there = subst (λ (xs : List ℤ). 0 < back → HasFallenAt places xs back) c.deref.ensures.value c.last_fallen-back.ensures.there in
     let others = subst (λ (n : ℕ). AreOthers n walk.marks first old) c.vars-vars.ensures.value c.in_ok-take_others.ensures.others in
     let raised = raised_others places t.vars back walk.marks first old lower c.raise.ensures others in
-    let alone = alone_left (live_in c.args.clauses.now) t c.args.start c.in_ok-top.top first walk.marks walk.touched.items walk.hints.items c.vars-vars.ensures.whole at c.in_ok-top.ensures.walk c.in_ok-top.ensures.last c.in_ok-top.ensures.alone in
+    let alone = alone_less t c.args.start reduced.marks walk.marks first
+    (alone_left (live_in c.args.clauses.now) t c.args.start c.in_ok-top.top first reduced.marks reduced.touched.items reduced.hints.items c.vars-vars.ensures.whole at c.in_ok-top.ensures.walk c.in_ok-top.ensures.last c.in_ok-top.ensures.alone)
+    c.in_ok-minimise.ensures.below in
     walk_learnt (live_in c.args.clauses.now) t c.args.start c.in_ok-top.top back first walk.marks walk.touched.items lower c.in_ok-lits.lits.items walk.hints.items c.in_ok-hints.hints.items
-    c.vars-vars.ensures.whole c.in_ok-top.ensures.last.after c.in_ok-top.ensures.last.before at over c.in_ok-top.ensures.walk alone raised
+    c.vars-vars.ensures.whole c.in_ok-top.ensures.last.after c.in_ok-top.ensures.last.before at over c.in_ok-minimise.ensures.walk alone raised
     (raised_all places back old lower (λ m. places m ≤ back) c.raise.ensures low)
     (λ some. raised_fallen places back old lower c.raise.ensures (there some))
-    (λ d some. raised_head places back old lower d c.raise.ensures (λ k e within. (c.in_ok-top.ensures.walk.resolvent.below (slice_index_or lower k e) (raised.inside k e within).0).0) low there some)
+    (λ d some. raised_head places back old lower d c.raise.ensures (λ k e within. (c.in_ok-minimise.ensures.walk.resolvent.below (slice_index_or lower k e) (raised.inside k e within).0).0) low there some)
     (c.in_ok-lits.ensures ∙ ap (λ (xs : List ℤ). first ∷ xs) c.deref-2.ensures.value)
     (c.in_ok-hints.ensures ∙ ap (λ xs. reverse xs) (c.deref-3.ensures.value ∙ ap (λ h. h.items) c.take_others.ensures.hints))

@@ -1,0 +1,15 @@
+use Rattle.std.proofs.Common.{◌≡◌, length}
+use Rattle.clause_db.specs.Stored.{live_in}
+use Rattle.conflict_core.specs.Walking.{OnlyBelow}
+use Rattle.conflict_core.specs.Learning.{IsWalkOf}
+use Rattle.conflict_core.proofs.analysis.Analysis.minimise.Given as goal
+
+abbrev pub invariant-loop-lit : goal.invariant-loop-lit
+invariant-loop-lit l = record {
+  walk : IsWalkOf (live_in l.clauses) l.trail l.self.walk;
+  below : OnlyBelow l.trail l.start l.initial.self.walk.marks l.self.walk.marks;
+  room : length l.self.redundancy.verdicts.items ≡ length l.initial.self.redundancy.verdicts.items;
+}
+
+abbrev pub decreases-loop-lit : goal.decreases-loop-lit
+decreases-loop-lit l = length l.self.redundancy.redundant.items

@@ -1,0 +1,8 @@
+use Rattle.std.proofs.Common.{◌≡◌, length}
+use Rattle.conflict_core.proofs.redundancy.Redundancy.clear.Given as goal
+
+abbrev pub invariant-loop-lit : goal.invariant-loop-lit
+invariant-loop-lit l = length l.self.verdicts.items ≡ length l.initial.self.verdicts.items
+
+abbrev pub decreases-loop-lit : goal.decreases-loop-lit
+decreases-loop-lit l = length l.self.judged.items

@@ -1,0 +1,141 @@
+ghost use Rattle.std.specs.Prelude.{◌≡◌, ◌+◌, ◌<◌, ◌≤◌, length, All, IfOk, IfSome};
+ghost use Rattle.sat_theory.specs.Formula.{variable as variable_of, IsWithin};
+ghost use Rattle.conflict_core.specs.Walking.{HasRoom};
+
+use crate::marks::Marks;
+use clause_db::ClauseDb;
+use cnf_core::Lit;
+use std::alloc::{AllocError, Global};
+use trail_core::Trail;
+
+/// So many reasons behind one another are gone over.
+const DEPTH: u32 = 1000;
+
+/// What is known of a fallen literal.
+#[derive(Clone, Copy, Debug)]
+enum Verdict {
+    Open,
+    /// it follows from the literals of a clause
+    Follows,
+    /// that isn't so, or was too far to see
+    Stands,
+}
+
+/// Which literals of a clause follow from its others, and may be resolved away. It is found by going back
+/// over reasons from each of them, and nothing rests on it but how short the clause gets.
+#[derive(Debug, Drop)]
+pub(crate) struct Redundancy {
+    /// by variable
+    verdicts: Vec<Verdict>,
+    /// the literals that have a verdict
+    judged: Vec<Lit>,
+    /// those that follow, each behind all that it follows from
+    redundant: Vec<Lit>,
+    ghost judged_inside: { All (λ l. variable_of l < length verdicts.items) judged.items },
+    ghost redundant_inside: { All (λ l. variable_of l < length verdicts.items) redundant.items },
+}
+
+impl Redundancy {
+    /// Room for the variables 1 to `vars`.
+    pub(crate) fn new(alloc: Global, vars: u32) -> Result<Redundancy, AllocError>
+        ensures { IfOk result (λ r. length r.verdicts.items ≡ vars + 1) }
+    {
+        Ok(Redundancy {
+            verdicts: vec![in alloc; Verdict::Open; vars as usize + 1]?,
+            judged: Vec::new(alloc),
+            redundant: Vec::new(alloc),
+        })
+    }
+
+    fn clear(&mut self)
+        ensures { length self.new.verdicts.items ≡ length self.old.verdicts.items }
+    {
+        while let Some(lit) = self.judged.pop() {
+            self.verdicts[lit.variable() as usize] = Verdict::Open;
+        }
+        self.redundant.clear();
+    }
+
+    fn note(&mut self, lit: Lit, verdict: Verdict) -> Result<(), AllocError>
+        requires { variable_of lit < length self.old.verdicts.items }
+        ensures { length self.new.verdicts.items ≡ length self.old.verdicts.items }
+    {
+        self.verdicts[lit.variable() as usize] = verdict;
+        self.judged.push(lit)?;
+        Ok(())
+    }
+
+    /// Whether a fallen literal follows from the marked ones, as far as is seen.
+    fn judge(
+        &mut self,
+        trail: &Trail,
+        clauses: &ClauseDb,
+        marks: &Marks,
+        lit: Lit,
+        depth: u32,
+    ) -> Result<bool, AllocError>
+        requires vars { clauses.now.vars ≡ trail.now.vars }
+        requires marks { HasRoom trail.now.vars marks.now }
+        requires over { variable_of lit ≤ trail.now.vars }
+        requires room { length self.old.verdicts.items ≡ trail.now.vars + 1 }
+        ensures { length self.new.verdicts.items ≡ length self.old.verdicts.items }
+    {
+        match self.verdicts[lit.variable() as usize] {
+            Verdict::Follows => return Ok(true),
+            Verdict::Stands => return Ok(false),
+            Verdict::Open => {}
+        }
+        let implied = lit.opposite();
+        let id = trail.reason(implied);
+        if depth == 0 || !clauses.live(id) {
+            self.note(lit, Verdict::Stands)?;
+            return Ok(false);
+        }
+        for other in clauses.lits(id) {
+            if *other == implied {
+                continue;
+            }
+            if !self.judge(trail, clauses, marks, *other, depth - 1)? && !marks.has(*other) {
+                self.note(lit, Verdict::Stands)?;
+                return Ok(false);
+            }
+        }
+        self.note(lit, Verdict::Follows)?;
+        self.redundant.push(lit)?;
+        Ok(true)
+    }
+
+    /// Judges the marked literals of a list that fell up to `start`.
+    pub(crate) fn find(
+        &mut self,
+        trail: &Trail,
+        clauses: &ClauseDb,
+        marks: &Marks,
+        lits: &[Lit],
+        start: usize,
+    ) -> Result<(), AllocError>
+        requires vars { clauses.now.vars ≡ trail.now.vars }
+        requires marks { HasRoom trail.now.vars marks.now }
+        requires within { IsWithin trail.now.vars lits.now }
+        requires room { length self.old.verdicts.items ≡ trail.now.vars + 1 }
+        ensures { length self.new.verdicts.items ≡ length self.old.verdicts.items }
+    {
+        self.clear();
+        for lit in lits {
+            if !marks.has(*lit) || trail.fell(*lit) as usize > start {
+                continue;
+            }
+            self.judge(trail, clauses, marks, *lit, DEPTH)?;
+        }
+        Ok(())
+    }
+
+    /// Takes the last of the literals that follow off the list.
+    pub(crate) fn pop(&mut self) -> Option<Lit>
+        ensures inside { IfSome result (λ l. variable_of l < length self.new.verdicts.items) }
+        ensures fewer { IfSome result (λ _. length self.new.redundant.items < length self.old.redundant.items) }
+        ensures room { length self.new.verdicts.items ≡ length self.old.verdicts.items }
+    {
+        self.redundant.pop()
+    }
+}
