@@ -97,7 +97,7 @@ back_to-requires c =
     omega (arith, inside, at)
 
 pub bump-requires : goal.bump-requires
-bump-requires c = rw c.requires.searching.choosing.vars (c.touched.ensures c.args.self.now.trail.vars c.in_ok-learnt.ensures.ready)
+bump-requires c = rw c.requires.searching.choosing.vars (c.touched.ensures.within c.args.self.now.trail.vars c.in_ok-learnt.ensures.ready)
 
 pub release-requires-clause-choosing : goal.release-requires-clause-choosing
 release-requires-clause-choosing c = c.grow.ensures c.args.self.now.trail (c.bump.ensures c.args.self.now.trail c.requires.searching.choosing)
