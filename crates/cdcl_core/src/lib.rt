@@ -23,3 +23,6 @@ mod search;
 mod visiting;
 
 pub use answering::{Solved, solve};
+
+#[cfg(test)]
+mod tests;
