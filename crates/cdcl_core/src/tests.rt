@@ -1,6 +1,3 @@
-ghost use Rattle.std.specs.Prelude.{◌↔◌, IsTrue};
-ghost use Rattle.sat_theory.specs.Formula.{IsWithin};
-
 use crate::propagation::propagate;
 use crate::visiting::propagate_watched;
 use clause_db::ClauseDb;
@@ -18,15 +15,9 @@ fn clause(alloc: Global, text: &[u8]) -> Clause {
     }
 }
 
-fn is_within(vars: u32, clause: &Clause) -> bool
-    ensures { IsTrue result ↔ IsWithin vars clause.now }
-{
-    clause.lits().iter().all(|lit| lit.variable() <= vars)
-}
-
 /// Adds a clause whose variables are the formula's.
 fn push_within(cnf: &mut Cnf, clause: Clause) -> Result<(), AllocError> {
-    if is_within(cnf.vars(), &clause) && cnf.clauses().len() < 9999 {
+    if clause.is_within(cnf.vars()) && cnf.clauses().len() < 9999 {
         cnf.push(clause)?;
     }
     Ok(())
