@@ -8,7 +8,7 @@ ghost use Rattle.cdcl_theory.specs.Trails.{IsTrail, IsGrown, fell as fell_of};
 ghost use Rattle.clause_db.specs.Watching.{list_of};
 ghost use Rattle.clause_db.specs.Stored.{live_in, Watches, IsLong, IsStored};
 ghost use Rattle.cdcl_core.specs.Guarding.{HasTrueAt, IsGuarded};
-ghost use Rattle.cdcl_core.specs.Visiting.{IsFate, IsRest};
+ghost use Rattle.cdcl_core.specs.Visiting.{AreDown, IsFate, IsRest};
 
 use clause_db::ClauseDb;
 use cnf_core::Lit;
@@ -25,6 +25,13 @@ pub(crate) enum Fate {
     Falsified(u32),
 }
 
+/// A literal that a clause can watch, and its place there.
+#[derive(Clone, Copy)]
+struct Standing {
+    place: usize,
+    lit: Lit,
+}
+
 /// The other literal that a clause watches.
 fn other_watched(clauses: &ClauseDb, id: u32, fallen: Lit) -> Lit
     requires { Watches clauses.now id fallen }
@@ -39,18 +46,41 @@ fn other_watched(clauses: &ClauseDb, id: u32, fallen: Lit) -> Lit
     first
 }
 
-/// The first literal that hasn't fallen, besides one.
-fn replacement(trail: &Trail, lits: &[Lit], other: Lit) -> Option<Lit>
+/// The first literal of a range of places that hasn't fallen, besides one, with its place.
+fn first_standing(
+    trail: &Trail,
+    lits: &[Lit],
+    low: usize,
+    high: usize,
+    other: Lit,
+) -> Option<Standing>
     requires within { IsWithin trail.now.vars lits.now }
-    ensures some { IfSome result (λ m. Contains lits.now m × (fell_of trail.now m ≡ 0) × (m ≢ other)) }
-    ensures none { IfNone result (All (λ m. (m ≡ other) ⊎ (0 < fell_of trail.now m)) lits.now) }
+    requires range { (low ≤ high) × (high ≤ length lits.now) }
+    ensures some { IfSome result (λ p. Contains lits.now p.lit × (fell_of trail.now p.lit ≡ 0) × (p.lit ≢ other)) }
+    ensures none { IfNone result (AreDown trail.now lits.now low high other) }
 {
-    for lit in lits {
-        if *lit != other && trail.fell(*lit) == 0 {
-            return Some(*lit);
+    for place in low..high {
+        let lit = lits[place];
+        if lit != other && trail.fell(lit) == 0 {
+            return Some(Standing { place, lit });
         }
     }
     None
+}
+
+/// A literal that hasn't fallen, besides one, with its place: the search begins at a place and goes on at the
+/// clause's front.
+fn replacement(trail: &Trail, lits: &[Lit], from: usize, other: Lit) -> Option<Standing>
+    requires within { IsWithin trail.now.vars lits.now }
+    requires inside { from ≤ length lits.now }
+    ensures some { IfSome result (λ p. Contains lits.now p.lit × (fell_of trail.now p.lit ≡ 0) × (p.lit ≢ other)) }
+    ensures none { IfNone result (All (λ m. (m ≡ other) ⊎ (0 < fell_of trail.now m)) lits.now) }
+{
+    let behind = first_standing(trail, lits, from, lits.len(), other);
+    if behind.is_some() {
+        return behind;
+    }
+    first_standing(trail, lits, 0, from, other)
 }
 
 /// Visits the clause at an index in the list of a literal that fell.
@@ -75,8 +105,9 @@ fn visit(
     if trail.fell(other.opposite()) > 0 {
         return Ok(Fate::Kept);
     }
-    if let Some(to) = replacement(trail, clauses.lits(id), other) {
-        clauses.rewatch_at(fallen, index, to)?;
+    if let Some(found) = replacement(trail, clauses.lits(id), clauses.search_from(id), other) {
+        clauses.rewatch_at(fallen, index, found.lit)?;
+        clauses.note(id, found.place);
         return Ok(Fate::Moved);
     }
     if trail.fell(other) > 0 {

@@ -83,6 +83,24 @@ impl ClauseDb {
         self.store.lits(id)
     }
 
+    /// From which literal of a live clause on a search for one to watch begins: the place that `note` was
+    /// given last, or the clause's first literal.
+    pub fn search_from(&self, id: u32) -> usize
+        requires live { IsSome (live_in self.now id) }
+        ensures within { (clause : List ℤ) → live_in self.now id ≡ Some clause → result ≤ length clause }
+    {
+        self.store.search_from(id)
+    }
+
+    /// Lets the next search in a live clause begin at a place. Nothing else is changed.
+    pub fn note(&mut self, id: u32, place: usize)
+        requires live { IsSome (live_in self.old id) }
+        ensures same { self.new ≡ self.old }
+        ensures whole { IsStored self.new }
+    {
+        self.store.note(id, place);
+    }
+
     /// Whether an id is that of a live clause.
     pub fn live(&self, id: u32) -> bool
         ensures { IsTrue result ↔ IsSome (live_in self.now id) }

@@ -1,4 +1,4 @@
-use Rattle.std.proofs.Common.{◌≡◌, ℕ, ℤ, List, slice_index_or, refl, ap, arith}
+use Rattle.std.proofs.Common.{◌≡◌, ℕ, ℤ, List, slice_index_or, refl, ap, ◌∙◌, arith}
 use Rattle.cdcl_theory.specs.Trails.{Trailed, fell}
 use Rattle.clause_db.specs.Stored.{Stored}
 use Rattle.cdcl_core.specs.Visiting.{id_at}
@@ -11,7 +11,7 @@ rewatch_at-requires c =
     let id : ℕ = slice_index_or c.watching.result.now c.args.index 0 in
     let id_is : id ≡ id_at s c.args.fallen c.args.index = ap (λ (xs : List ℕ). slice_index_or xs c.args.index 0) c.watching.ensures.value in
     let new = c.in-Some.ensures.some in
-    record { movable = movable_to s (fell c.args.trail.now) c.args.fallen c.other_watched-other.result c.in-Some.to c.args.index id c.lits.result.now c.requires.stored c.requires.inside id_is c.lits.ensures.value new.0 new.1 c.requires.fallen new.2 c.other_watched-other.ensures.only }
+    record { movable = movable_to s (fell c.args.trail.now) c.args.fallen c.other_watched-other.result c.in-Some.found.lit c.args.index id c.lits.result.now c.requires.stored c.requires.inside id_is c.lits.ensures.value new.0 new.1 c.requires.fallen new.2 c.other_watched-other.ensures.only }
 
 pub returns-in-Some-clause-visit : goal.returns-in-Some-clause-visit
 returns-in-Some-clause-visit c =
@@ -21,10 +21,10 @@ returns-in-Some-clause-visit c =
     let new = c.in-Some.ensures.some in
     record {
       same = refl;
-      to = c.in-Some.to;
-      movable = movable_to s (fell c.args.trail.now) c.args.fallen c.other_watched-other.result c.in-Some.to c.args.index id c.lits.result.now c.requires.stored c.requires.inside id_is c.lits.ensures.value new.0 new.1 c.requires.fallen new.2 c.other_watched-other.ensures.only;
+      to = c.in-Some.found.lit;
+      movable = movable_to s (fell c.args.trail.now) c.args.fallen c.other_watched-other.result c.in-Some.found.lit c.args.index id c.lits.result.now c.requires.stored c.requires.inside id_is c.lits.ensures.value new.0 new.1 c.requires.fallen new.2 c.other_watched-other.ensures.only;
       up = new.1;
-      is = c.in_ok-rewatch_at.ensures.ok;
+      is = c.note.ensures.same ∙ c.in_ok-rewatch_at.ensures.ok;
     }
 
 pub returns-clause-visit : goal.returns-clause-visit
