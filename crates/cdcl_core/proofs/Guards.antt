@@ -1,5 +1,5 @@
 -- How the promise of the watched literals lasts.
-use Rattle.std.proofs.Common.{◌≡◌, ℕ, zero, suc, ◌+◌, ◌<◌, ◌≤◌, ◌⊎◌, ℤ, pos, List, [], ◌∷◌, ◌++◌, length, slice_index_or, Contains, All, Some, subst, sym, ap, ◌∙◌, arith, inl, inr, refl}
+use Rattle.std.proofs.Common.{◌≡◌, ℕ, ◌+◌, ◌<◌, ◌≤◌, ◌⊎◌, ℤ, pos, List, [], ◌∷◌, ◌++◌, length, slice_index_or, Contains, All, Some, subst, sym, ap, ◌∙◌, arith, inl, inr, refl}
 use Rattle.std.proofs.Math.Logic.{⊎_elim}
 use Rattle.std.proofs.lemmas.Bool.{cases_lt, cases_eq}
 use Rattle.std.proofs.lemmas.List.Elements.{All-contains, All-push, Contains-get_or}
@@ -159,29 +159,6 @@ guarded_decided s t starts trail guarded = record {
       let good : IsTrueForGood (fell t) starts clause = guarded.short id clause is short in
       record { lit = good.lit; there = good.there; on = good.on; bottom = All-push (λ x. fell t (opposite good.lit) ≤ x) starts (length t.lits) good.bottom (trail.places.within (opposite good.lit)) };
 }
-
--- Where nothing is visited and no level begun, clauses of one literal have to be true.
-pub guarded_begun : (s : Stored) (t : Trailed) → AllSettled (live_in s) (fell t) → IsGuarded s (fell t) [] 0
-guarded_begun s t settled = record {
-  long = λ id w clause watches is fallen. absurd (let some : 0 < fell t w = fallen.0 in let low : fell t w ≤ 0 = fallen.1 in omega (arith, some, low));
-  short = λ id clause is short. good id clause is short;
-}
-  where
-    good : (id : ℕ) (clause : List ℤ) → live_in s id ≡ Some clause → length clause < 2 → IsTrueForGood (fell t) [] clause
-    good id [] is short = absurd ((settled.each id [] is).not_false (λ k d (low : k < 0). absurd (omega (arith, low))))
-    good id (l ∷ []) is short =
-        ⊎_elim
-        (λ (on : 0 < fell t (opposite l)). record { lit = l; there = (0, omega arith, refl); on = on; bottom = λ k d (low : k < 0). absurd (omega (arith, low)) })
-        (λ (off : fell t (opposite l) ≤ 0). ⊎_elim
-        (λ (down : 0 < fell t l). absurd ((settled.each id (l ∷ []) is).not_false (one (λ m. 0 < fell t m) l down)))
-        (λ (up : fell t l ≤ 0). absurd ((settled.each id (l ∷ []) is).not_unit l (omega (arith, up)) (omega (arith, off)) (one (λ m. (m ≡ l) ⊎ (0 < fell t m)) l (inl refl))))
-        (cases_lt 0 (fell t l)))
-        (cases_lt 0 (fell t (opposite l)))
-      where
-        one : (P : ℤ → Type 0) (m : ℤ) → P m → All P (m ∷ [])
-        one P m here zero d low = here
-        one P m here (suc k) d low = absurd (let h : suc k < 1 = low in omega (arith, h))
-    good id (l ∷ m ∷ ls) is short = absurd (let h : suc (suc (length ls)) < 2 = short in omega (arith, h))
 
 -- A clause is added that has a true literal where it is first, and a second one that fell last.
 pub guarded_added : (s : Stored) (places : ℤ → ℕ) (starts : List ℕ) (head : ℕ) (lits : List ℤ) → IsStored s → 0 < length lits → 0 < places (opposite (slice_index_or lits 0 (pos 1))) → places (slice_index_or lits 0 (pos 1)) ≡ 0 → (length lits < 2 → All (λ x. places (opposite (slice_index_or lits 0 (pos 1))) ≤ x) starts) → (2 ≤ length lits → All (λ x. x < places (slice_index_or lits 1 (pos 1))) starts) → IsGuarded s places starts head → IsGuarded (added s lits) places starts head

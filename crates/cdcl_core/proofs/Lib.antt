@@ -14,3 +14,4 @@ pub mod Beginning
 pub mod Choices
 pub mod Restarting
 pub mod Runs
+pub mod UnitClauses

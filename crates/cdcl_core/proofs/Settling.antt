@@ -1,5 +1,5 @@
 -- Propagations and jumps, one after another.
-use Rattle.std.proofs.Common.{◌≡◌, ℕ, ◌+◌, ◌-◌, ◌*◌, ◌<◌, ◌≤◌, ℤ, List, [], length, slice_index_or, All, Option, subst, sym, ap, ◌∙◌, arith, refl}
+use Rattle.std.proofs.Common.{◌≡◌, ℕ, ◌+◌, ◌-◌, ◌*◌, ◌<◌, ◌≤◌, ℤ, List, length, slice_index_or, All, Option, subst, sym, ap, ◌∙◌, arith, refl}
 use Rattle.std.proofs.Math.Logic.{⊎_elim}
 use Rattle.std.proofs.Math.Nat.{mul-le-mul_right}
 use Rattle.std.proofs.lemmas.Bool.{cases_eq}
@@ -13,7 +13,7 @@ use Rattle.conflict_core.specs.Learning.{IsReady}
 use Rattle.cdcl_core.specs.declared.search.Search.{Search}
 use Rattle.cdcl_core.specs.Searching.{IsSearching, IsVisited, IsLog, IsLogged, HasBegun, HasPropagated, HasSettled, HasJumped, HasDecided}
 use Rattle.cdcl_core.specs.Guarding.{IsGuarded}
-use Rattle.cdcl_core.proofs.Guards.{guarded_begun, guarded_settled}
+use Rattle.cdcl_core.proofs.Guards.{guarded_settled}
 use Rattle.cdcl_theory.specs.Falling.{AllSettled}
 use Rattle.cdcl_core.proofs.Counting.{different_below, trail_short}
 use Rattle.cdcl_core.proofs.Layers.{layered_grown}
@@ -46,15 +46,7 @@ settled_visited s searching visited all = guarded_settled s.clauses s.trail s.st
 pub logged_begun : (f : Formula) (a b : Search) → IsLogged f a → HasBegun a b → IsLogged f b
 logged_begun f a b log begun = rw (begun.clauses, begun.lines) log
 
--- what is visited then,
-pub visited_begun : (s : Search) (t : Trailed) → s.starts.items ≡ [] → s.head ≡ 0 → AllSettled (live_in s.clauses) (fell t) → IsVisited (record s { trail = t })
-visited_begun s t starts head settled = record {
-  guarded = rw (starts, head) (guarded_begun s.clauses t settled);
-  low = rw head (omega arith);
-  begun = rw starts (λ k d (low : k < 0). absurd (omega (arith, low)));
-}
-
--- and when watched literals have made more true
+-- what is visited when watched literals have made more true
 pub visited_some : (s : Search) (b : Stored) (t : Trailed) → IsVisited s → IsRest s.clauses b s.trail t → ((starts : List ℕ) → All (λ x. x ≤ s.head) starts → IsGuarded s.clauses (fell s.trail) starts s.head → IsGuarded b (fell t) starts s.head) → IsVisited (record s { clauses = b; trail = t })
 visited_some s b t visited rest kept = record {
   guarded = kept s.starts.items visited.begun visited.guarded;

@@ -20,6 +20,7 @@ mod levels;
 mod propagation;
 mod restarts;
 mod search;
+mod units;
 mod visiting;
 
 pub use answering::{Solved, solve};

@@ -1,3 +1,5 @@
+//! Propagation in the plain way, by going over all clauses for as long as anything follows. A search goes by the
+//! watched literals; this way tells what those have to find.
 ghost use Rattle.std.specs.Prelude.{◌≡◌, ◌<◌, length, IfOk, IfSome, IfNone};
 ghost use Rattle.sat_theory.specs.Formula.{IsClause, IsWithin};
 ghost use Rattle.cdcl_theory.specs.Falling.{AllSettled, IsFalsified};
@@ -20,8 +22,9 @@ pub(crate) enum Verdict {
     Falsified,
 }
 
+/// Reads a clause under the values of a trail.
 #[tactic(auto, using(crate::proofs::Judging::judging))]
-fn judge(trail: &Trail, lits: &[Lit]) -> Verdict
+pub(crate) fn judge(trail: &Trail, lits: &[Lit]) -> Verdict
     requires clause { IsClause lits.now }
     requires within { IsWithin trail.now.vars lits.now }
     ensures { IsVerdict (fell_of trail.now) lits.now result }
@@ -66,8 +69,7 @@ fn visit_all(trail: &mut Trail, clauses: &ClauseDb) -> Result<Option<u32>, Alloc
 }
 
 /// Makes true what follows from the literals of the trail, until a live clause is falsified, whose id is
-/// answered, or no live clause is falsified or unit. It goes over all clauses for as long as anything
-/// follows: the plain way, by which faster ones are measured.
+/// answered, or no live clause is falsified or unit.
 pub(crate) fn propagate(trail: &mut Trail, clauses: &ClauseDb) -> Result<Option<u32>, AllocError>
     requires whole { IsTrail trail.old }
     requires vars { clauses.now.vars ≡ trail.old.vars }

@@ -9,8 +9,8 @@ ghost use Rattle.cdcl_core.specs.Levels.{IsFirstStart, IsLastStart};
 
 use crate::choosing::Choice;
 use crate::levels::drop_levels;
-use crate::propagation::propagate;
 use crate::restarts::Restarts;
+use crate::units::push_units;
 use crate::visiting::propagate_watched;
 use clause_db::ClauseDb;
 use cnf_core::Cnf;
@@ -69,8 +69,9 @@ impl Search {
         })
     }
 
-    /// Makes true what follows before the first decision, in the plain way: clauses of one literal, which
-    /// watch nothing, are true for good then.
+    /// Makes the clauses of one literal true, which watch nothing. What follows from them comes by the watched
+    /// literals.
+    #[tactic(auto, using(crate::proofs::Settling::searching_grown))]
     fn begin(&mut self) -> Result<Option<u32>, AllocError>
         requires searching { IsSearching self.old }
         requires starts { self.old.starts.items ≡ [] }
@@ -80,10 +81,7 @@ impl Search {
         ensures visited { IfOk result (λ found. IfNone found (IsVisited self.new)) }
         ensures conflict { IfOk result (λ found. IfSome found (IsFalsified (live_in self.new.clauses) (fell_of self.new.trail))) }
     {
-        if let Some(conflict) = propagate(&mut self.trail, &self.clauses)? {
-            return Ok(Some(conflict));
-        }
-        Ok(None)
+        push_units(&mut self.trail, &self.clauses)
     }
 
     /// Makes true what follows, by the watched literals.
