@@ -12,15 +12,7 @@ has one digit a row, from row 0 on, and input 1 is the first digit of a row in b
 import itertools
 import sys
 
-
-def pigeons(holes):
-    """Pigeon p sits in hole h where variable p * holes + h + 1 is true."""
-    place = lambda pigeon, hole: pigeon * holes + hole + 1
-    clauses = [[place(p, h) for h in range(holes)] for p in range(holes + 1)]
-    for h in range(holes):
-        for p in range(holes + 1):
-            clauses += [[-place(q, h), -place(p, h)] for q in range(p)]
-    return (holes + 1) * holes, clauses
+from make_log import pigeons
 
 
 def pairs(step):
@@ -87,7 +79,10 @@ def plain(size, tables):
 
 def main():
     family, *words = sys.argv[1:]
-    variables, clauses = pigeons(int(words[0])) if family == "pigeons" else plain(int(words[0]), words[1:])
+    if family == "pigeons":
+        variables, clauses, _ = pigeons(int(words[0]))
+    else:
+        variables, clauses = plain(int(words[0]), words[1:])
     print(f"formula {variables} {len(clauses)}")
     for i, clause in enumerate(clauses, 1):
         print(*[i, *clause, 0, 0])
