@@ -62,6 +62,15 @@ const NOT_BY_AND: [i32; 189] = [
     0, -8, -9, -7, 0,
 ];
 
+/// The clauses for one step without inputs, where no output needs it: that it has operands, of which
+/// there are none, its operator's values of their values, and the cuts: that it is read, that its
+/// operator is no copy and no constant, and that it is 0.
+const NO_INPUT: [i32; 65] = [
+    0, 0, 1, 6, 7, -2, 0, 1, 6, -7, -3, 0, 1, -6, 7, -4, 0, 1, -6, -7, -5, 0, -1, 6, 7, 2, 0, -1,
+    6, -7, 3, 0, -1, -6, 7, 4, 0, -1, -6, -7, 5, 0, 0, 2, 3, 4, 5, 0, 2, 3, -4, -5, 0, 2, -3, 4,
+    -5, 0, -2, -3, -4, -5, 0, -1, 0,
+];
+
 #[test]
 fn formulas_are_written(rt: HostRuntime) {
     for (tables, basis, r, vars, numbers) in [
@@ -72,6 +81,8 @@ fn formulas_are_written(rt: HostRuntime) {
             13,
             &NOT_BY_AND as &[i32],
         ),
+        // no input: a step has no operands
+        (b"inputs 0\n1\n", b"all", 1, 7, &NO_INPUT),
         // live outputs are no steps where there are none
         (b"inputs 2\n0110\n1001\n", b"all", 0, 0, &[0, 0]),
         // outputs that cost nothing ask for nothing
