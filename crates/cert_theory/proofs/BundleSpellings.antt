@@ -1,5 +1,5 @@
 -- Bundles, as they are read.
-use Rattle.std.proofs.Common.{◌≡◌, ℕ, ◌+◌, ◌<◌, ◌≤◌, true, List, [], ◌∷◌, ◌++◌, length, None, Ok, refl, sym, ap, ◌∙◌, subst, arith, zero-add, append_assoc}
+use Rattle.std.proofs.Common.{◌≡◌, ℕ, ◌+◌, ◌<◌, ◌≤◌, List, [], ◌∷◌, ◌++◌, length, None, Ok, refl, sym, ap, ◌∙◌, subst, arith, zero-add, append_assoc}
 use Rattle.std.specs.Prelude.{codes}
 use Rattle.std.specs.List.{flat_map}
 use Rattle.text_core.specs.Lines.{Line, lines_of}
@@ -11,7 +11,6 @@ use Rattle.chain_core.specs.Spelling.{line}
 use Rattle.cert_theory.specs.declared.data.Heading.{Heading}
 use Rattle.cert_theory.specs.declared.data.Verdict.{Verdict}
 use Rattle.cert_theory.specs.declared.data.BundleError.TheVariants.{Syntax}
-use Rattle.cert_theory.specs.Coding.{is_built}
 use Rattle.cert_theory.specs.Bundle.{Bundle, first_open, IsEnding, IsValid, HasOutput}
 use Rattle.cert_theory.specs.Spelling.{first_text, basis_line, method_line, conflicts_line, max_line, tables_lines, section_lines, ending_lines, bundle_lines, text_of, HasVerdict}
 use Rattle.cert_theory.specs.Judging.{or_syntax, as_syntax, table_place, is_line, basis_in, method_in, conflicts_in, max_in, behind_conflicts, behind_method, behind_basis, behind_tables, with_tables, bundle_of, Between}
@@ -26,7 +25,6 @@ record Read (w : Words) (ls : List Line) (v : Verdict) : Type 0 where
   spec_is : h.spec ≡ w
   basis_from : 0 < h.basis
   basis_below : h.basis < 65536
-  method_built : is_built h.method ≡ true
   conflicts_from : 1 ≤ h.conflicts
   conflicts_to : h.conflicts ≤ 10000000
   max_to : h.max ≤ 16
@@ -42,10 +40,10 @@ read_max w basis method conflicts number (l ∷ ls) v e =
     let parts = max_spells l read.0 (read_ok number (max_in l) read.0 read.1) in
     (read.0, ls, parts.1, sections_spell ls (record { spec = w; basis = basis; method = method; conflicts = conflicts; max = read.0 }) (number + 1) 0 None Between v (omega arith) read.2, (λ i. parts.0 i ∷ ls))
 
-read_conflicts : (w : Words) (basis : ℕ) (method : Method) (number : ℕ) (ls : List Line) (v : Verdict) → 0 < basis → basis < 65536 → is_built method ≡ true → behind_method w basis method number ls ≡ Ok v → (r : Read w (line (basis_line basis) ∷ line (method_line method) ∷ ls) v) × Unit {0}
+read_conflicts : (w : Words) (basis : ℕ) (method : Method) (number : ℕ) (ls : List Line) (v : Verdict) → 0 < basis → basis < 65536 → behind_method w basis method number ls ≡ Ok v → (r : Read w (line (basis_line basis) ∷ line (method_line method) ∷ ls) v) × Unit {0}
 unfolding behind_method
-read_conflicts w basis method number [] v from below built e = absurd cc
-read_conflicts w basis method number (l ∷ ls) v from below built e =
+read_conflicts w basis method number [] v from below e = absurd cc
+read_conflicts w basis method number (l ∷ ls) v from below e =
     let read = bind_ok (or_syntax number (conflicts_in l)) _ v e in
     let parts = conflicts_spells l read.0 (read_ok number (conflicts_in l) read.0 read.1) in
     let last = read_max w basis method read.0 (number + 1) ls v read.2 in (
@@ -54,7 +52,6 @@ read_conflicts w basis method number (l ∷ ls) v from below built e =
         spec_is = refl;
         basis_from = from;
         basis_below = below;
-        method_built = built;
         conflicts_from = parts.1;
         conflicts_to = parts.2;
         max_to = last.2;
@@ -71,7 +68,6 @@ moved w ls more v same r = record {
   spec_is = r.spec_is;
   basis_from = r.basis_from;
   basis_below = r.basis_below;
-  method_built = r.method_built;
   conflicts_from = r.conflicts_from;
   conflicts_to = r.conflicts_to;
   max_to = r.max_to;
@@ -86,8 +82,8 @@ read_method w basis number [] v from below e = absurd cc
 read_method w basis number (l ∷ ls) v from below e =
     let read = bind_ok (or_syntax number (method_in l)) _ v e in
     let parts = method_spells l read.0 (read_ok number (method_in l) read.0 read.1) in
-    let next = read_conflicts w basis read.0 (number + 1) ls v from below parts.1 read.2 in
-    moved w (line (basis_line basis) ∷ line (method_line read.0) ∷ ls) (line (basis_line basis) ∷ l ∷ ls) v (λ i. line (basis_line basis) ∷ parts.0 i ∷ ls) next.0
+    let next = read_conflicts w basis read.0 (number + 1) ls v from below read.2 in
+    moved w (line (basis_line basis) ∷ line (method_line read.0) ∷ ls) (line (basis_line basis) ∷ l ∷ ls) v (λ i. line (basis_line basis) ∷ parts i ∷ ls) next.0
 
 read_basis : (w : Words) (number : ℕ) (ls : List Line) (v : Verdict) → behind_tables w number ls ≡ Ok v → Read w ls v
 unfolding behind_tables
@@ -117,7 +113,6 @@ with_read w ls behind v spec output lines r =
           tables = subst (λ (x : Words). IsSpec x) (sym r.spec_is) spec;
           basis_from = r.basis_from;
           basis_below = r.basis_below;
-          method_built = r.method_built;
           conflicts_from = r.conflicts_from;
           conflicts_to = r.conflicts_to;
           max_to = r.max_to;

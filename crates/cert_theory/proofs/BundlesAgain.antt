@@ -1,6 +1,6 @@
 -- Bundles that were written are read again.
 use Rattle.std.proofs.lemmas.List.Elements.{recursion_from_All}
-use Rattle.cert_theory.specs.CodingLaws.{HasShortTitle, built_is_coding}
+use Rattle.cert_theory.specs.CodingLaws.{HasShortTitle, method_is_coding}
 use Rattle.enc_frame.specs.declared.part.Part.{Part}
 use Rattle.std.proofs.Common.{◌≡◌, ℕ, zero, suc, ◌+◌, ◌^◌, ◌<◌, ◌≤◌, Bool, true, false, cond, List, [], ◌∷◌, ◌++◌, length, map, drop, Option, Some, None, Ok, Err, refl, sym, ap, ◌∙◌, subst, arith, append_assoc, append-nil, zero-add, Contains}
 use Rattle.std.specs.Prelude.{codes, slice_get}
@@ -82,9 +82,9 @@ conflicts_next : (w : Words) (basis : ℕ) (method : Method) (number conflicts :
 unfolding behind_method
 conflicts_next w basis method number conflicts ls some fits = ap (λ (o : Option ℕ). or_syntax number o >>= λ k. behind_conflicts w basis method k (number + 1) ls) (conflicts_again conflicts some fits)
 
-method_next : (h : Heading) (number : ℕ) (ls : List Line) → IsHeading h → behind_basis h.spec h.basis number (line (method_line h.method) ∷ ls) ≡ behind_method h.spec h.basis h.method (number + 1) ls
+method_next : (h : Heading) (number : ℕ) (ls : List Line) → behind_basis h.spec h.basis number (line (method_line h.method) ∷ ls) ≡ behind_method h.spec h.basis h.method (number + 1) ls
 unfolding behind_basis
-method_next h number ls is = ap (λ (o : Option Method). or_syntax number o >>= λ m. behind_method h.spec h.basis m (number + 1) ls) (method_again h.method is.method_built)
+method_next h number ls = ap (λ (o : Option Method). or_syntax number o >>= λ m. behind_method h.spec h.basis m (number + 1) ls) (method_again h.method)
 
 basis_next : (w : Words) (number basis : ℕ) (ls : List Line) → 0 < basis → basis < 65536 → behind_tables w number (line (basis_line basis) ∷ ls) ≡ behind_basis w basis (number + 1) ls
 unfolding behind_tables
@@ -100,7 +100,7 @@ heading_again h rest v is output onward =
     ∙ ap (λ (ls : List Line). with_tables (tables.tables_of ls)) (append_assoc (tables_lines h.spec) (line (basis_line h.basis) ∷ line (method_line h.method) ∷ line (conflicts_line h.conflicts) ∷ line (max_line h.max) ∷ []) rest)
     ∙ ap with_tables (tables_again h.spec (tables_lines h.spec ++ line (basis_line h.basis) ∷ others) (line (basis_line h.basis) ∷ others) is.tables (spells_tables h.spec (line (basis_line h.basis)) others output (basis_lower h.basis)))
     ∙ basis_next h.spec number h.basis others is.basis_from is.basis_below
-    ∙ method_next h (number + 1) (line (conflicts_line h.conflicts) ∷ line (max_line h.max) ∷ rest) is
+    ∙ method_next h (number + 1) (line (conflicts_line h.conflicts) ∷ line (max_line h.max) ∷ rest)
     ∙ conflicts_next h.spec h.basis h.method (number + 1 + 1) h.conflicts (line (max_line h.max) ∷ rest) is.conflicts_from is.conflicts_to
     ∙ max_next h.spec h.basis h.method h.conflicts (number + 1 + 1 + 1) h.max rest is.max_to
     ∙ onward (number + 1 + 1 + 1 + 1)
@@ -146,7 +146,7 @@ whole_parts h size (p ∷ ps) short logs =
 whole_section : (h : Heading) (size : ℕ) (s : Section) → size ≤ 16 → IsSection h size s → IsWhole (section_lines s)
 unfolding section_lines
 whole_section h size s few is =
-    let short : AreShort s.parts = λ part there. (built_is_coding h.method).titles h.spec size part few (subst (λ (parts : List Part). Contains parts part) is.parts_are there) in
+    let short : AreShort s.parts = λ part there. (method_is_coding h.method).titles h.spec size part few (subst (λ (parts : List Part). Contains parts part) is.parts_are there) in
     whole_cons _ _ (whole_size s.size (omega (arith, is.size_is))) (whole_parts h size s.parts short (recursion_from_All (IsPartLog h size) s.parts is.logs))
 
 whole_sections : (h : Heading) (ss : List Section) (size : ℕ) → size + length ss ≤ 17 → AreSections h size ss → IsWhole (flat_map section_lines ss)

@@ -32,7 +32,7 @@ use Rattle.cert_theory.specs.declared.data.Ended.TheVariants as ends
 use Rattle.cert_theory.specs.declared.data.BundleError.{BundleError}
 use Rattle.cert_theory.specs.declared.data.BundleError.TheVariants.{Syntax}
 use Rattle.cert_theory.specs.declared.data.Heading.{Heading}
-use Rattle.cert_theory.specs.Coding.{is_built, method_text}
+use Rattle.cert_theory.specs.Coding.{method_text}
 use Rattle.cert_theory.specs.Spelling.{basis_line, method_line, conflicts_line, max_line, size_line, ended_text, log_line}
 use Rattle.cert_theory.specs.Judging.{or_syntax, as_syntax, is_line, value_of, spelled, basis_in, named_method, method_in, from_one, conflicts_in, max_in, log_place, spelled_at, size_at, ended_at}
 use Rattle.cert_theory.proofs.Binds.{bind_ok, test_ok, read_ok}
@@ -105,31 +105,26 @@ basis_spells l b e =
     let parts = spelled_is word (basis_of word) b is in
     (value_spells (codes "basis ") l word value ∙ ap (λ (w : List ℕ). line (codes "basis " ++ w)) parts.1, basis_some word b parts.0, set_low word b (begins_letter word) refl parts.0))
 
-abbrev IsNamed : List ℕ → Method → Type 0
-IsNamed word m = (word ≡ method_text m) × (is_built m ≡ true)
-
 -- a word that is compared with one name, and else goes on
-named_or : (word : List ℕ) (m first : Method) (later : Option Method) → is_built first ≡ true → (later ≡ Some m → IsNamed word m) → cond (bytes_eq word (method_text first)) (Some first) later ≡ Some m → IsNamed word m
-named_or word m first later built next e =
+named_or : (word : List ℕ) (m first : Method) (later : Option Method) → (later ≡ Some m → word ≡ method_text m) → cond (bytes_eq word (method_text first)) (Some first) later ≡ Some m → word ≡ method_text m
+named_or word m first later next e =
     ⊎_elim
     (λ (yes_ : (bytes_eq word (method_text first) ≡ true) × (Some first ≡ Some m)).
-    let same : first ≡ m = some_is first m yes_.1 in
-    ((bytes_eq-Decides word (method_text first)).0 yes_.0 ∙ ap method_text same, sym (ap is_built same) ∙ built))
+    (bytes_eq-Decides word (method_text first)).0 yes_.0 ∙ ap method_text (some_is first m yes_.1))
     (λ (no_ : (bytes_eq word (method_text first) ≡ false) × (later ≡ Some m)). next no_.1)
     (chosen (bytes_eq word (method_text first)) (Some first) later (Some m) e)
 
-none_named : (word : List ℕ) (m : Method) → None ≡ Some m → IsNamed word m
+none_named : (word : List ℕ) (m : Method) → None ≡ Some m → word ≡ method_text m
 none_named word m e = absurd cc
 
-named_method_is : (word : List ℕ) (m : Method) → named_method word ≡ Some m → IsNamed word m
-named_method_is word m e = named_or word m Plain _ refl (named_or word m Ssv _ refl (named_or word m Select _ refl (named_or word m Fence None refl (none_named word m)))) e
+named_method_is : (word : List ℕ) (m : Method) → named_method word ≡ Some m → word ≡ method_text m
+named_method_is word m e = named_or word m Plain _ (named_or word m Ssv _ (named_or word m Select _ (named_or word m Fence None (none_named word m)))) e
 
-pub method_spells : (l : Line) (m : Method) → method_in l ≡ Some m → (l ≡ line (method_line m)) × (is_built m ≡ true)
+pub method_spells : (l : Line) (m : Method) → method_in l ≡ Some m → l ≡ line (method_line m)
 unfolding method_in method_line
 method_spells l m e =
     option_and_then_some named_method (value_of (codes "method ") l) m e (λ word value is.
-    let parts = named_method_is word m is in
-    (value_spells (codes "method ") l word value ∙ ap (λ (w : List ℕ). line (codes "method " ++ w)) parts.0, parts.1))
+    value_spells (codes "method ") l word value ∙ ap (λ (w : List ℕ). line (codes "method " ++ w)) (named_method_is word m is))
 
 from_one_is : (n k : ℕ) → from_one n ≡ Some k → (n ≡ k) × (1 ≤ k)
 from_one_is zero k e = absurd cc

@@ -27,7 +27,7 @@ use Rattle.cert_theory.specs.declared.data.Ended.{Ended}
 use Rattle.cert_theory.specs.declared.data.Ended.TheVariants as ends
 use Rattle.cert_theory.specs.declared.data.Verdict.{Verdict}
 use Rattle.cert_theory.specs.declared.data.Verdict.TheVariants as verdicts
-use Rattle.cert_theory.specs.Coding.{is_built, method_text}
+use Rattle.cert_theory.specs.Coding.{method_text}
 use Rattle.cert_theory.specs.Spelling.{basis_line, method_line, conflicts_line, max_line, size_line, ended_text, log_line, verdict_line}
 use Rattle.cert_theory.specs.Judging.{as_syntax, is_line, begins, spelled, basis_in, named_method, method_in, from_one, conflicts_in, max_in, log_place, spelled_at, size_at, ended_at, is_same, number_behind, both, bounded_in, found_in, not_found_in}
 use Rattle.cert_theory.proofs.LineSpellings.{value_back, number_at_back}
@@ -45,13 +45,12 @@ basis_again b some low =
     ∙ ap (λ (r : Result ℕ BasisError). spelled (basis_text b) r) (basis_back b some low)
     ∙ ap (λ (t : Bool). let o : Option ℕ = cond t (Some b) None in o) ((bytes_eq-Decides (basis_text b) (basis_text b)).1 refl)
 
-pub method_again : (m : Method) → is_built m ≡ true → method_in (line (method_line m)) ≡ Some m
+pub method_again : (m : Method) → method_in (line (method_line m)) ≡ Some m
 unfolding method_in method_line
-method_again Plain built =
-    ap (option_and_then named_method) (value_back (codes "method ") (method_text Plain)) ∙ refl
-method_again Ssv built = ap (option_and_then named_method) (value_back (codes "method ") (method_text Ssv)) ∙ refl
-method_again Select built = ap (option_and_then named_method) (value_back (codes "method ") (method_text Select)) ∙ refl
-method_again Fence built = ap (option_and_then named_method) (value_back (codes "method ") (method_text Fence)) ∙ refl
+method_again Plain = ap (option_and_then named_method) (value_back (codes "method ") (method_text Plain)) ∙ refl
+method_again Ssv = ap (option_and_then named_method) (value_back (codes "method ") (method_text Ssv)) ∙ refl
+method_again Select = ap (option_and_then named_method) (value_back (codes "method ") (method_text Select)) ∙ refl
+method_again Fence = ap (option_and_then named_method) (value_back (codes "method ") (method_text Fence)) ∙ refl
 
 one_again : (k : ℕ) → 1 ≤ k → from_one k ≡ Some k
 one_again k some = grind (arith, common_steps)

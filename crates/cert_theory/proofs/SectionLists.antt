@@ -17,7 +17,7 @@ use Rattle.cert_theory.specs.declared.data.Ended.{Ended}
 use Rattle.cert_theory.specs.declared.data.Ended.TheVariants as ends
 use Rattle.cert_theory.specs.declared.data.Verdict.{Verdict}
 use Rattle.cert_theory.specs.declared.data.BundleError.{BundleError}
-use Rattle.cert_theory.specs.CodingLaws.{built_is_coding}
+use Rattle.cert_theory.specs.CodingLaws.{method_is_coding}
 use Rattle.cert_theory.specs.Bundle.{PartLog, Section, part_of, parts_of, IsHeading, IsPartLog, EndsAs, IsSection, AreSections, first_open, IsEnding, formula_of}
 use Rattle.cert_theory.specs.Spelling.{size_line, ended_text, done_text, log_line, section_lines, ending_lines, title_text, title_lines, part_lines}
 use Rattle.cert_theory.specs.Judging.{◌>>=◌, Progress, Between, Begun, Within, low_with, section_at, ending_at, sections_of, Due, before, title_at, may_follow}
@@ -94,7 +94,7 @@ parts_again (p ∷ ps) h number size low behind v formulas logs onward =
 
 section_formulas : (h : Heading) (size : ℕ) (s : Section) → IsSection h size s → AreFormulas h size s.parts
 section_formulas h size s is part there =
-    (built_is_coding h.method).formulas h.spec h.basis size part (subst (λ (parts : List Part). Contains parts part) is.parts_are there)
+    (method_is_coding h.method).formulas h.spec h.basis size part (subst (λ (parts : List Part). Contains parts part) is.parts_are there)
 
 -- the lines of a section are read
 section_again : (h : Heading) (number size : ℕ) (low : Option ℕ) (s : Section) (behind : List Line) (v : Verdict) → size ≤ h.max → size ≤ 16 → IsSection h size s → ((n : ℕ) → sections_of h n (progress (size + 1) (low_after low size s.parts) Between) behind ≡ Ok v)

@@ -15,7 +15,7 @@ use Rattle.cert_theory.specs.declared.data.Ended.{Ended}
 use Rattle.cert_theory.specs.declared.data.Ended.TheVariants as ends
 use Rattle.cert_theory.specs.declared.data.Verdict.{Verdict}
 use Rattle.cert_theory.specs.declared.data.Verdict.TheVariants as verdicts
-use Rattle.cert_theory.specs.Coding.{is_built, coding_of}
+use Rattle.cert_theory.specs.Coding.{coding_of}
 
 -- ---- bundles as values
 
@@ -43,7 +43,6 @@ pub record IsHeading (h : Heading) : Type 0 where
   pub tables : IsSpec h.spec
   pub basis_from : 0 < h.basis
   pub basis_below : h.basis < 65536
-  pub method_built : is_built h.method ≡ true
   pub conflicts_from : 1 ≤ h.conflicts
   pub conflicts_to : h.conflicts ≤ 10000000
   pub max_to : h.max ≤ 16

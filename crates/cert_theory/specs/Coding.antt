@@ -31,13 +31,6 @@ select_coding = record { parts = λ w r. Whole ∷ []; formula = λ w basis r pa
 abbrev pub fence_coding : Coding
 fence_coding = record { parts = λ w r. parts_for w r; formula = λ w basis r part. fence_formula w basis r (fence_in part) }
 
--- the methods whose bundles are known
-abbrev pub is_built : Method → Bool
-is_built Plain = true
-is_built Ssv = true
-is_built Select = true
-is_built Fence = true
-
 -- by fences the parts of a size bear titles
 abbrev pub is_titled : Method → Bool
 is_titled Plain = false

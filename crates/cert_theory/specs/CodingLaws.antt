@@ -99,10 +99,10 @@ fence_is_coding = record {
   complete = λ w basis r spec few some minimum. is_complete w basis r spec few some minimum;
 }
 
--- so the methods that are built have true verdicts
-pub built_is_coding : (method : Method) → IsCoding (coding_of method)
+-- so each method has true verdicts
+pub method_is_coding : (method : Method) → IsCoding (coding_of method)
 unfolding coding_of
-built_is_coding Plain = plain_is_coding
-built_is_coding Ssv = ssv_is_coding
-built_is_coding Select = select_is_coding
-built_is_coding Fence = fence_is_coding
+method_is_coding Plain = plain_is_coding
+method_is_coding Ssv = ssv_is_coding
+method_is_coding Select = select_is_coding
+method_is_coding Fence = fence_is_coding

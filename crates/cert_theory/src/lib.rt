@@ -18,5 +18,8 @@
 
 mod data;
 pub mod laws;
+mod titles;
+mod verdicts;
 
 pub use data::{BundleError, Ended, Heading, Verdict};
+pub use titles::title_of;

@@ -1,0 +1,27 @@
+//! The verdict that follows.
+ghost use Rattle.std.specs.Prelude.{◌≡◌};
+ghost use Rattle.cert_theory.specs.Bundle as bundles;
+
+use crate::Verdict;
+
+impl Verdict {
+    /// The verdict with a chain of `size` steps, where `low` is the first open size.
+    pub fn found(size: u32, low: Option<u32>) -> Verdict
+        ensures { result ≡ bundles.found size low }
+    {
+        match low {
+            None => Verdict::Minimum(size),
+            Some(low) => Verdict::Bounded { low, r: size },
+        }
+    }
+
+    /// The verdict without a chain of at most `max` steps, where `low` is the first open size.
+    pub fn not_found(max: u32, low: Option<u32>) -> Verdict
+        ensures { result ≡ bundles.not_found max low }
+    {
+        match low {
+            None => Verdict::NoChain(max),
+            Some(low) => Verdict::Open { low },
+        }
+    }
+}
