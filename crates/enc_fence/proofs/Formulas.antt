@@ -1,15 +1,11 @@
 -- Formulas within the program's limits, and the chains that they give.
-use Rattle.std.proofs.Common.{◌≡◌, ℕ, ◌≤◌, List, length, refl, arith}
+use Rattle.std.proofs.Common.{◌≡◌, ℕ, ◌≤◌, List, refl}
 use Rattle.std.proofs.lemmas.Grind.{common_steps}
-use Rattle.chain_theory.specs.Chain.{Chain}
 use Rattle.chain_core.specs.Steps.{IsSmallChain}
 use Rattle.sat_theory.specs.Formula.{Assignment, Satisfies}
 use Rattle.tt_core.specs.Words.{Words, IsSpec}
-use Rattle.tt_core.specs.Live.{live_words}
-use Rattle.enc_theory.specs.Numbering.{sizes_of}
-use Rattle.enc_theory.specs.Fence.{fence_layout, fence_formula, fence_decoded}
+use Rattle.enc_theory.specs.Fence.{fence_formula, fence_decoded}
 use Rattle.enc_theory.specs.Decode.{decoded}
-use Rattle.enc_laws.specs.Decoded.{IsFor}
 use Rattle.enc_laws.specs.Fence.{fence_decodes}
 use Rattle.enc_cuts.proofs.Chains.{small_chain}
 use Rattle.enc_ssv.proofs.Formulas.{both-few}

@@ -1,5 +1,4 @@
 -- The layout of a fence.
-use Rattle.std.proofs.Common.{◌≡◌, ℕ, Bool, List}
 use Rattle.std.proofs.lemmas.Grind.{common_steps}
 use Rattle.enc_fence.specs.StepPairs.{layout-same}
 

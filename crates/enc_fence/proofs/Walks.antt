@@ -1,10 +1,9 @@
 -- Walks over the levels of a fence.
-use Rattle.std.proofs.Common.{◌≡◌, ℕ, zero, suc, ◌+◌, ◌-◌, ◌<◌, ◌≤◌, Bool, List, [], ◌∷◌, refl, sym, arith, ap, ◌∙◌}
-use Rattle.std.specs.Prelude.{nat_lt, if◌then◌else◌}
+use Rattle.std.proofs.Common.{◌≡◌, ℕ, ◌+◌, ◌-◌, ◌<◌, ◌≤◌, Bool, List, [], ◌∷◌, refl, sym, ap, ◌∙◌}
+use Rattle.std.specs.Prelude.{nat_lt}
 use Rattle.std.specs.List.{range_with_len, flat_map}
 use Rattle.std.proofs.lemmas.Bool.{lt-ltb, le-ltb, cond-true, cond-false}
 use Rattle.std.proofs.lemmas.Grind.{common_steps}
-use Rattle.enc_theory.specs.declared.data.Pair.{Pair}
 use Rattle.enc_theory.specs.Pairs.{pairs_with}
 use Rattle.enc_theory.specs.Fence.{places_under, fence_pairs}
 use Rattle.enc_frame.proofs.Ranges.{flat_map-turn_from}

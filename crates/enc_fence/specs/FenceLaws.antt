@@ -1,7 +1,6 @@
 -- The laws of the encoding by fences, as the trait of encodings states them.
-use Rattle.std.specs.Prelude.{ℕ, ◌≤◌, ◌<◌, List, length, map, refl}
+use Rattle.std.specs.Prelude.{ℕ, ◌≤◌, ◌<◌, length}
 use Rattle.std.specs.List.{Contains}
-use Rattle.std.proofs.Common.{zero, suc, ◌∷◌, [], ◌≡◌, ◌⊎◌, arith, ap, sym, subst, ⊎_elim}
 use Rattle.chain_theory.specs.Agreement.{HasChain, IsMinimum}
 use Rattle.op_basis.specs.Basis.{members}
 use Rattle.tt_core.specs.Words.{Words, IsSpec, specification}
@@ -12,7 +11,7 @@ use Rattle.enc_theory.specs.Clauses.{IsSatisfiable}
 use Rattle.enc_theory.specs.Fence.{fence_formula}
 use Rattle.enc_laws.specs.Fence.{fence_sound, fence_complete, HasFence}
 use Rattle.enc_frame.specs.declared.part.Part.{Part}
-use Rattle.enc_frame.specs.declared.part.Part.TheVariants.{Whole, Levels}
+use Rattle.enc_frame.specs.declared.part.Part.TheVariants.{Levels}
 use Rattle.enc_fence.specs.Parts.{parts_for, fence_in}
 
 -- a formula of size r that is satisfiable has a chain of r steps

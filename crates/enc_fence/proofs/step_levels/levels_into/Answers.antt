@@ -1,4 +1,4 @@
-use Rattle.std.proofs.Common.{◌≡◌, ℕ, ◌+◌, ◌<◌, ◌≤◌, arith, ap, length, ◌∙◌, rules}
+use Rattle.std.proofs.Common.{◌+◌, ◌<◌, ◌≤◌, arith, ap, length, ◌∙◌}
 use Rattle.chain_core.specs.Steps.{step_of, steps_of}
 use Rattle.chain_core.proofs.StepLists.{other_steps}
 use Rattle.enc_fence.specs.Heights.{heights}
