@@ -1,14 +1,20 @@
 -- The store and what its clauses watch, together.
-use Rattle.std.proofs.Common.{◌≡◌, ℕ, ◌+◌, ◌*◌, ◌<◌, ◌≤◌, ℤ, List, [], ◌∷◌, ◌++◌, length, take, slice_index_or, All, Option, Some, refl, sym, ap, ◌∙◌, subst, arith}
+use Rattle.std.proofs.Common.{◌≡◌, ℕ, ◌+◌, ◌*◌, ◌<◌, ◌≤◌, ℤ, List, [], ◌∷◌, ◌++◌, length, take, slice_index_or, slice_set, replicate, ◌-◌, ◌⊎◌, inl, Contains, All, Option, Some, refl, pos, sym, ap, ◌∙◌, subst, arith}
 use Rattle.std.proofs.lemmas.List.Elements.{All-contains}
 use Rattle.std.proofs.lemmas.Grind.{common_steps}
 use Rattle.sat_theory.specs.Formula.{variable, IsClause, IsWithin}
 use Rattle.cdcl_theory.specs.Codes.{code_of}
 use Rattle.cdcl_theory.specs.CodeLaws.{code_of-room}
-use Rattle.clause_db.specs.Watching.{Watching, list_of}
-use Rattle.clause_db.specs.Stored.{Stored, Watches, IsStored, none_stored, added, all_added, rewatched}
+use Rattle.clause_db.specs.Watching.{Watching, list_of, pair_of, pair_at, watching_more, watching_moved}
+use Rattle.clause_db.specs.Stored.{Stored, Entries, live_in, Watches, IsStored, none_stored, added, all_added, rewatched}
 use Rattle.clause_db.specs.StoredLaws.{all_added-push, all_added-none, live_inside}
-use Rattle.clause_db.specs.Moving.{IsMovable, movable_watches, watched_variable, stored_none, stored_added, stored_rewatched, rooms}
+use Rattle.std.specs.List.{swap_remove}
+use Rattle.std.proofs.lemmas.List.{length-set, get_or-take, length-take-le}
+use Rattle.std.proofs.lemmas.List.Elements.{Contains-get_or}
+use Rattle.clause_db.specs.Blocking.{row_of, with_row, blocker_at, IsOf, AreBlockers, AreKept, Follows}
+use Rattle.clause_db.specs.WatchingLaws.{list_from, swap_length}
+use Rattle.clause_db.proofs.Blocks.{blockers_kept, blockers_none, blockers_set, blockers_added, blockers_moved, row-same}
+use Rattle.clause_db.specs.Moving.{watched_in, IsMovable, movable_watches, watched_variable, stored_none, stored_added, stored_rewatched, rooms}
 
 pub ruleset databases = (common_steps, all_added-push, all_added-none, stored_none, stored_added, stored_rewatched, rooms)
 
@@ -28,3 +34,90 @@ movable_given s now from to index view stored movable_now =
     let under : slice_index_or (list_of s.watches from) index 0 ≤ length s.clauses = low.1 in
     let room : length s.watches.pairs ≡ length s.clauses = stored.pairs_room in
     (low.0, omega (arith, under, room))
+
+-- the store with what its clauses watch
+abbrev pub joined : Entries → Watching → Stored
+joined e w = record { vars = e.vars; clauses = e.clauses; watches = w }
+
+-- what the type says of both
+abbrev pub AreWhole : Stored → List (List ℤ) → Type 0
+AreWhole s rows = IsStored s × AreBlockers s rows
+
+pub whole_none : (vars : ℕ) (e : Entries) (w : Watching) (rows : List (List ℤ)) → e ≡ record { vars = vars; clauses = [] } → w ≡ record { pairs = []; lists = replicate (2 * vars + 2) [] } → rows ≡ replicate (2 * vars + 2) [] → AreWhole (joined e w) rows
+whole_none vars e w rows e_is w_is rows_is = rw (e_is, w_is, rows_is) (stored_none vars, blockers_none vars)
+
+pub whole_kept : (s : Stored) (rows new : List (List ℤ)) → AreWhole s rows → AreKept s.watches rows new → AreWhole s new
+whole_kept s rows new whole kept = (whole.0, blockers_kept s rows new whole.1 kept)
+
+pub whole_added : (s now : Stored) (lits : List ℤ) (rows new : List (List ℤ)) (e : Entries) (w : Watching) (id : ℕ) → s ≡ now → AreWhole s rows → IsClause lits → IsWithin now.vars lits → length now.clauses < 4000000000 → AreKept s.watches rows new
+    → (2 ≤ length lits → Follows s.watches new (pair_of lits).first (pair_of lits).second) → (2 ≤ length lits → Follows s.watches new (pair_of lits).second (pair_of lits).first)
+    → e ≡ record { vars = s.vars; clauses = s.clauses ++ Some lits ∷ [] } → w ≡ watching_more s.watches lits id → id ≡ length s.clauses + 1 → AreWhole (joined e w) new
+whole_added s now lits rows new e w id view whole is_clause within_now few_now kept first second e_is w_is id_is =
+    let within : IsWithin s.vars lits = subst (λ (x : Stored). IsWithin x.vars lits) (sym view) within_now in
+    let few : length s.clauses < 4000000000 = subst (λ (x : Stored). length x.clauses < 4000000000) (sym view) few_now in
+    rw (e_is, w_is, id_is) (stored_added s lits whole.0 is_clause within few, blockers_added s lits new whole.0 is_clause within (blockers_kept s rows new whole.1 kept) first second)
+
+pub whole_again : (s : Stored) (lits : List ℤ) (rows new : List (List ℤ)) (e after : Entries) (w : Watching) → AreWhole s rows → AreKept s.watches rows new → e ≡ record { vars = s.vars; clauses = s.clauses ++ Some lits ∷ [] } → after.vars ≡ e.vars → after.clauses ≡ take (length e.clauses - 1) e.clauses → w ≡ s.watches → AreWhole (joined after w) new
+whole_again s lits rows new e after w whole kept e_is vars_is clauses_is w_is =
+    let vars : after.vars ≡ s.vars = vars_is ∙ ap (λ (x : Entries). x.vars) e_is in
+    let back : take (length (s.clauses ++ Some lits ∷ []) - 1) (s.clauses ++ Some lits ∷ []) ≡ s.clauses = grind (arith, common_steps) in
+    let clauses : after.clauses ≡ s.clauses = clauses_is ∙ ap (λ (x : Entries). take (length x.clauses - 1) x.clauses) e_is ∙ back in
+    rw (vars, clauses, w_is) (whole_kept s rows new whole kept)
+
+-- the rows of the formula's literals
+pub row_room : (s now : Stored) (rows : List (List ℤ)) (l : ℤ) → s ≡ now → AreBlockers s rows → variable l ≤ now.vars → code_of l < length rows
+row_room s now rows l view are low = rw are.room (code_of-room l s.vars (subst (λ (x : Stored). variable l ≤ x.vars) (sym view) low))
+
+pub whole_set : (s now : Stored) (rows new : List (List ℤ)) (l m : ℤ) (index : ℕ) → s ≡ now → AreWhole s rows → variable l ≤ now.vars → index < length (list_of now.watches l) → IsOf now (slice_index_or (list_of now.watches l) index 0) m → new ≡ with_row rows l (slice_set (row_of rows l) index m) → AreWhole s new
+whole_set s now rows new l m index view whole low inside of new_is =
+    (whole.0, subst (AreBlockers s) (sym new_is) (blockers_set s rows l m index whole.1 (row_room s now rows l view whole.1 low) (subst (λ (x : Stored). index < length (list_of x.watches l)) (sym view) inside) (subst (λ (x : Stored). IsOf x (slice_index_or (list_of x.watches l) index 0) m) (sym view) of)))
+
+-- the blocking literals are literals of the formula
+pub blockers_over : (s now : Stored) (rows : List (List ℤ)) (l : ℤ) (list : List ℕ) (row : List ℤ) → s ≡ now → AreWhole s rows → list ≡ list_of s.watches l → row ≡ row_of rows l → IsWithin now.vars (take (length list) row)
+blockers_over s now rows l list row view whole list_is row_is = rw (list_is, row_is) (subst (λ (x : Stored). IsWithin x.vars (take count (row_of rows l))) view over)
+  where
+    count : ℕ
+    count = length (list_of s.watches l)
+
+    over : IsWithin s.vars (take count (row_of rows l))
+    over k d within =
+        let all : length (take count (row_of rows l)) ≡ count = length-take-le count (row_of rows l) (whole.1.long l) in
+        let low : k < count = omega (arith, within, all) in
+        let id : ℕ = slice_index_or (list_of s.watches l) k 0 in
+        let watches : Watches s id l = whole.0.only l id (Contains-get_or (list_of s.watches l) k 0 low) in
+        let there : Contains watches.clause (blocker_at rows l k) = whole.1.there l k low watches.clause watches.is_live in
+        let over_one : variable (blocker_at rows l k) ≤ s.vars = All-contains (λ m. variable m ≤ s.vars) watches.clause (blocker_at rows l k) (whole.0.variables id watches.clause watches.is_live) there in
+        let long : length (list_of s.watches l) ≤ length (row_of rows l) = whole.1.long l in
+        let same : slice_index_or (take count (row_of rows l)) k d ≡ blocker_at rows l k = get_or-take count (row_of rows l) k d low ∙ (let e : slice_index_or (row_of rows l) k d ≡ slice_index_or (row_of rows l) k (pos 1) = grind (arith, common_steps, long, low) in e) in
+        rw same over_one
+
+pub moved_row : (s now : Stored) (rows : List (List ℤ)) (from to : ℤ) (index : ℕ) → s ≡ now → AreWhole s rows → IsMovable now (slice_index_or (list_of now.watches from) index 0) from to index → code_of to < length rows
+moved_row s now rows from to index view whole movable =
+    let room : code_of to < length s.watches.lists = (movable_rooms s now from to index view whole.0 movable).1 in
+    let lists : length s.watches.lists ≡ 2 * s.vars + 2 = whole.0.room in
+    rw (whole.1.room, sym lists) room
+
+-- after a clause left a list the row has one literal more than the list
+pub moved_rooms : (s : Stored) (rows : List (List ℤ)) (w : Watching) (id : ℕ) (from to : ℤ) (index : ℕ) → AreWhole s rows → IsMovable s id from to index → w ≡ watching_moved s.watches id from to index → (code_of from < length rows) × (code_of from < length w.lists) × (length (list_of w from) < length (row_of rows from)) × (index ≤ length (list_of w from))
+moved_rooms s rows w id from to index whole movable w_is =
+    let watches : Watches s id from = movable_watches s id from to index whole.0 movable in
+    let low : variable from ≤ s.vars = watched_variable s id from whole.0 watches in
+    let room : code_of from < length s.watches.lists = rw whole.0.room (code_of-room from s.vars low) in
+    let inside : index < length (list_of s.watches from) = movable.inside in
+    let long : length (list_of s.watches from) ≤ length (row_of rows from) = whole.1.long from in
+    let less : length (list_of w from) ≡ length (list_of s.watches from) - 1 = ap (λ (x : Watching). length (list_of x from)) w_is ∙ ap length (list_from s.watches id from to index from room refl) ∙ swap_length (list_of s.watches from) index 0 inside in
+    let still : length w.lists ≡ length s.watches.lists = ap (λ (x : Watching). length x.lists) w_is ∙ length-set (slice_set s.watches.lists (code_of to) _) (code_of from) _ ∙ length-set s.watches.lists (code_of to) _ in
+    (rw whole.1.room (code_of-room from s.vars low), omega (arith, still, room), omega (arith, less, inside, long), omega (arith, less, inside))
+
+pub whole_moved : (s : Stored) (rows rows_1 rows_2 : List (List ℤ)) (w : Watching) (id : ℕ) (from to m : ℤ) (index : ℕ) → AreWhole s rows → IsMovable s id from to index → AreKept s.watches rows rows_1 → Follows s.watches rows_1 to m → ((m ≡ (pair_at s.watches id).first) ⊎ (m ≡ (pair_at s.watches id).second)) → w ≡ watching_moved s.watches id from to index
+    → rows_2 ≡ with_row rows_1 from (slice_set (row_of rows_1 from) index (blocker_at rows_1 from (length (list_of w from)))) → AreWhole (record { vars = s.vars; clauses = s.clauses; watches = w }) rows_2
+whole_moved s rows rows_1 rows_2 w id from to m index whole movable kept follows which w_is rows_is =
+    let watches : Watches s id from = movable_watches s id from to index whole.0 movable in
+    let low : variable from ≤ s.vars = watched_variable s id from whole.0 watches in
+    let room : code_of from < length s.watches.lists = rw whole.0.room (code_of-room from s.vars low) in
+    let now : AreBlockers s rows_1 = blockers_kept s rows rows_1 whole.1 kept in
+    let to_low : variable to ≤ s.vars = All-contains (λ x. variable x ≤ s.vars) watches.clause to (whole.0.variables id watches.clause watches.is_live) (movable.there watches.clause watches.is_live) in
+    let of : IsOf s id m = λ clause is. watched_in s id m clause whole.0 (record { clause = watches.clause; is_live = watches.is_live; long = watches.long; watched = which }) is in
+    let last : length (list_of w from) ≡ length (list_of s.watches from) - 1 = ap (λ (x : Watching). length (list_of x from)) w_is ∙ ap length (list_from s.watches id from to index from room refl) ∙ swap_length (list_of s.watches from) index 0 movable.inside in
+    let rows_moved : rows_2 ≡ with_row rows_1 from (slice_set (row_of rows_1 from) index (blocker_at rows_1 from (length (list_of s.watches from) - 1))) = rows_is ∙ ap (λ (n : ℕ). with_row rows_1 from (slice_set (row_of rows_1 from) index (blocker_at rows_1 from n))) last in
+    rw (rows_moved, w_is) (stored_rewatched s id from to index whole.0 movable, blockers_moved s rows_1 id from to m index whole.0 movable now (rw now.room (code_of-room from s.vars low)) (rw whole.0.room (code_of-room to s.vars to_low)) of follows)

@@ -4,3 +4,4 @@ pub mod Windows
 pub mod Watching
 pub mod WatchingLaws
 pub mod Moving
+pub mod Blocking

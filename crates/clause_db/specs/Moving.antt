@@ -41,13 +41,13 @@ stored_none vars = record {
     length_replicate : (n : ℕ) → length (replicate {A = List ℕ} n []) ≡ n
     length_replicate n = length-replicate n []
 
-first_in : (lits : List ℤ) → 2 ≤ length lits → Contains lits (pair_of lits).first
+pub first_in : (lits : List ℤ) → 2 ≤ length lits → Contains lits (pair_of lits).first
 first_in lits long = Contains-get_or lits 0 (pos 1) (omega (arith, long))
 
-second_in : (lits : List ℤ) → 2 ≤ length lits → Contains lits (pair_of lits).second
+pub second_in : (lits : List ℤ) → 2 ≤ length lits → Contains lits (pair_of lits).second
 second_in lits long = Contains-get_or lits 1 (pos 1) (omega (arith, long))
 
-two_differ : (lits : List ℤ) → IsClause lits → 2 ≤ length lits → (pair_of lits).first ≡ (pair_of lits).second → ⊥
+pub two_differ : (lits : List ℤ) → IsClause lits → 2 ≤ length lits → (pair_of lits).first ≡ (pair_of lits).second → ⊥
 two_differ lits clause long e = clause.differ 0 1 (pos 1) (omega arith) (omega (arith, long)) (ap variable e)
 
 -- a watched literal is in its clause
@@ -61,6 +61,17 @@ watched_in s id l clause stored watches is =
 
 pub watched_variable : (s : Stored) (id : ℕ) (l : ℤ) → IsStored s → Watches s id l → variable l ≤ s.vars
 watched_variable s id l stored watches = All-contains (λ m. variable m ≤ s.vars) watches.clause l (stored.variables id watches.clause watches.is_live) (watched_in s id l watches.clause stored watches watches.is_live)
+
+-- the lists after a clause was added
+pub added_lists : (s : Stored) (lits : List ℤ) (l : ℤ) → IsStored s → IsClause lits → IsWithin s.vars lits
+    → ((2 ≤ length lits) × ((l ≡ (pair_of lits).first) ⊎ (l ≡ (pair_of lits).second)) × (list_of (added s lits).watches l ≡ list_of s.watches l ++ (length s.clauses + 1) ∷ [])) ⊎ (((2 ≤ length lits → (l ≡ (pair_of lits).first) ⊎ (l ≡ (pair_of lits).second) → ⊥)) × (list_of (added s lits).watches l ≡ list_of s.watches l))
+added_lists s lits l stored is_clause within = ⊎_elim
+    (λ (short : length lits < 2). inr (λ long h. omega (arith, long, short), short_lists s.watches lits (length s.clauses + 1) l short))
+    (λ (long : 2 ≤ length lits). lists_more s.watches lits (length s.clauses + 1) l (room_of (pair_of lits).first (first_in lits long)) (room_of (pair_of lits).second (second_in lits long)) (two_differ lits is_clause long))
+    (cases_lt (length lits) 2)
+  where
+    room_of : (m : ℤ) → Contains lits m → code_of m < length s.watches.lists
+    room_of m there = All-contains (λ x. code_of x < length s.watches.lists) lits m (rooms s.vars s.watches lits stored.room within) there
 
 pub stored_added : (s : Stored) (lits : List ℤ) → IsStored s → IsClause lits → IsWithin s.vars lits → length s.clauses < 4000000000 → IsStored (added s lits)
 stored_added s lits stored is_clause within few = record {
@@ -110,13 +121,7 @@ stored_added s lits stored is_clause within few = record {
     }
 
     cases : (l : ℤ) → ((2 ≤ length lits) × ((l ≡ (pair_of lits).first) ⊎ (l ≡ (pair_of lits).second)) × (list_of (added s lits).watches l ≡ list_of s.watches l ++ next ∷ [])) ⊎ (((2 ≤ length lits → (l ≡ (pair_of lits).first) ⊎ (l ≡ (pair_of lits).second) → ⊥)) × (list_of (added s lits).watches l ≡ list_of s.watches l))
-    cases l = ⊎_elim
-        (λ (short : length lits < 2). inr (λ long h. omega (arith, long, short), short_lists s.watches lits next l short))
-        (λ (long : 2 ≤ length lits). lists_more s.watches lits next l (room_of (pair_of lits).first (first_in lits long)) (room_of (pair_of lits).second (second_in lits long)) (two_differ lits is_clause long))
-        (cases_lt (length lits) 2)
-      where
-        room_of : (m : ℤ) → Contains lits m → code_of m < length s.watches.lists
-        room_of m there = All-contains (λ x. code_of x < length s.watches.lists) lits m (rooms s.vars s.watches lits stored.room within) there
+    cases l = added_lists s lits l stored is_clause within
 
     watches_cases : (id : ℕ) (l : ℤ) → Watches (added s lits) id l → ((id ≡ next) × (2 ≤ length lits) × ((l ≡ (pair_of lits).first) ⊎ (l ≡ (pair_of lits).second))) ⊎ Watches s id l
     watches_cases id l watches = ⊎_elim

@@ -62,7 +62,7 @@ differ_at xs i j d e once low_i low_j apart same =
 pub swap_length : (xs : List ℕ) (i d : ℕ) → i < length xs → length (swap_remove xs i d) ≡ length xs - 1
 swap_length xs i d low = length-take-le (length xs - 1) (slice_set xs i (slice_index_or xs (length xs - 1) d)) (rw length-set (omega arith))
 
-swap_at : (xs : List ℕ) (i d k e : ℕ) → i < length xs → k < length xs - 1 → k ≡ i → slice_index_or (swap_remove xs i d) k e ≡ slice_index_or xs (length xs - 1) d
+pub swap_at : (xs : List ℕ) (i d k e : ℕ) → i < length xs → k < length xs - 1 → k ≡ i → slice_index_or (swap_remove xs i d) k e ≡ slice_index_or xs (length xs - 1) d
 swap_at xs i d k e low inside same =
     get_or-take (length xs - 1) (slice_set xs i (slice_index_or xs (length xs - 1) d)) k e inside ∙ ap (λ (j : ℕ). slice_index_or (slice_set xs i (slice_index_or xs (length xs - 1) d)) j e) same ∙ get_or-set_same xs i (slice_index_or xs (length xs - 1) d) e low
 

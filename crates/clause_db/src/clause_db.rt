@@ -3,7 +3,9 @@ ghost use Rattle.sat_theory.specs.Formula.{variable as variable_of, IsClause, Is
 ghost use Rattle.clause_db.specs.Watching.{list_of, pair_at};
 ghost use Rattle.clause_db.specs.Stored.{live_in, Watches as WatchesOf, IsLong, IsStored, none_stored, added, all_added, rewatched};
 ghost use Rattle.clause_db.specs.Moving.{IsMovable};
+ghost use Rattle.clause_db.specs.Blocking.{IsOf};
 
+use crate::blockers::Blockers;
 use crate::store::Store;
 use crate::watches::Watches;
 use cnf_core::{Cnf, Lit};
@@ -17,16 +19,19 @@ use std::marker::Model;
 pub struct ClauseDb {
     store: Store,
     watches: Watches,
+    blockers: Blockers,
 }
 
 impl Model for ClauseDb {
     ghost use Rattle.clause_db.specs.Stored.{Stored, IsStored};
+    ghost use Rattle.clause_db.specs.Blocking.{AreBlockers};
 
     ghost Value = { Stored };
 
     ghost view = { λ c. record { vars = c.store.vars; clauses = c.store.clauses; watches = c.watches } };
 
-    ghost invariant = { λ c. IsStored (record { vars = c.store.vars; clauses = c.store.clauses; watches = c.watches }) };
+    ghost invariant = { λ c. IsStored (record { vars = c.store.vars; clauses = c.store.clauses; watches = c.watches })
+        × AreBlockers (record { vars = c.store.vars; clauses = c.store.clauses; watches = c.watches }) c.blockers };
 }
 
 #[tactic(auto, using(crate::proofs::Databases::databases))]
@@ -49,6 +54,7 @@ impl ClauseDb {
         Ok(ClauseDb {
             store: Store::none(alloc, vars),
             watches: Watches::none(alloc, vars)?,
+            blockers: Blockers::none(alloc, vars)?,
         })
     }
 
@@ -63,6 +69,7 @@ impl ClauseDb {
         ensures err { OnErr result (self.new ≡ self.old) }
         ensures whole { IsStored self.new }
     {
+        self.blockers.push_both(&self.watches, lits)?;
         let id = self.store.add(lits)?;
         match self.watches.add(lits, id) {
             Ok(()) => Ok(id),
@@ -147,6 +154,29 @@ impl ClauseDb {
         self.watches.list(lit)
     }
 
+    /// For each clause that watches a literal one of its literals: while that is true, the clause is.
+    pub fn blockers(&self, lit: Lit) -> &[Lit]
+        requires { variable_of lit ≤ self.now.vars }
+        ensures long { length result.now ≡ length (list_of self.now.watches lit) }
+        ensures there { (index : ℕ) (d : ℤ) → index < length result.now → IsOf self.now (slice_index_or (list_of self.now.watches lit) index 0) (slice_index_or result.now index d) }
+        ensures over { IsWithin self.now.vars result.now }
+        ensures whole { IsStored self.now }
+    {
+        &self.blockers.row(lit)[..self.watches.list(lit).len()]
+    }
+
+    /// Lets a literal of the clause at an index in a literal's list be the one that `blockers` gives. Nothing
+    /// else is changed.
+    pub fn block(&mut self, lit: Lit, index: usize, by: Lit)
+        requires over { variable_of lit ≤ self.old.vars }
+        requires inside { index < length (list_of self.old.watches lit) }
+        requires there { IsOf self.old (slice_index_or (list_of self.old.watches lit) index 0) by }
+        ensures same { self.new ≡ self.old }
+        ensures whole { IsStored self.new }
+    {
+        self.blockers.set(lit, index, by);
+    }
+
     /// Lets the clause at an index in the list of `from` watch `to`, another one of its literals, in place of
     /// `from`. In that list the last entry takes its place, and the list of `to` gets it at the end.
     pub fn rewatch_at(&mut self, from: Lit, index: usize, to: Lit) -> Result<(), AllocError>
@@ -155,7 +185,10 @@ impl ClauseDb {
         ensures err { OnErr result (self.new ≡ self.old) }
         ensures whole { IsStored self.new }
     {
+        let blocker = self.watches.other_at(from, index);
+        self.blockers.push(&self.watches, to, blocker)?;
         self.watches.move_to(from, index, to)?;
+        self.blockers.fill(&self.watches, from, index);
         Ok(())
     }
 

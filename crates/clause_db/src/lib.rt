@@ -13,6 +13,7 @@
 //! ```
 #![tactic(auto)]
 
+mod blockers;
 mod clause_db;
 mod store;
 mod watches;

@@ -1,4 +1,4 @@
-ghost use Rattle.std.specs.Prelude.{◌≡◌, ◌≢◌, ℕ, ℤ, ◌+◌, ◌-◌, ◌*◌, ◌<◌, ◌≤◌, ◌∷◌, [], ◌++◌, length, take, All, pos, slice_index_or, slice_set, replicate, IfOk, OnOk, OnErr};
+ghost use Rattle.std.specs.Prelude.{◌≡◌, ◌≢◌, ◌⊎◌, ℕ, ℤ, ◌+◌, ◌-◌, ◌*◌, ◌<◌, ◌≤◌, ◌∷◌, [], ◌++◌, length, take, All, pos, slice_index_or, slice_set, replicate, IfOk, OnOk, OnErr};
 ghost use Rattle.std.specs.List.{swap_remove};
 ghost use Rattle.cdcl_theory.specs.Codes.{code_of};
 ghost use Rattle.clause_db.specs.Watching.{HasRoom, list_of, pair_at, pair_of, with_id, with_ids, watching_more, watching_moved, replaced};
@@ -99,6 +99,16 @@ impl Pair {
             second: to,
         }
     }
+
+    /// The literal of the pair that isn't a given one, or the first if neither is.
+    pub(crate) fn besides(self, lit: Lit) -> Lit
+        ensures { (result ≡ self.first) ⊎ (result ≡ self.second) }
+    {
+        if self.first == lit {
+            return self.second;
+        }
+        self.first
+    }
 }
 
 #[tactic(auto, using(crate::specs::WatchingLaws::watching))]
@@ -189,6 +199,17 @@ impl Watches {
                 Err(error)
             }
         }
+    }
+
+    /// What the clause at an index in a literal's list watches besides that literal.
+    pub(crate) fn other_at(&self, lit: Lit, index: usize) -> Lit
+        requires room { code_of lit < length self.now.lists }
+        requires inside { index < length (list_of self.now lit) }
+        requires id { (0 < slice_index_or (list_of self.now lit) index 0) × (slice_index_or (list_of self.now lit) index 0 ≤ length self.now.pairs) }
+        ensures { (result ≡ (pair_at self.now (slice_index_or (list_of self.now lit) index 0)).first) ⊎ (result ≡ (pair_at self.now (slice_index_or (list_of self.now lit) index 0)).second) }
+    {
+        let id = self.list(lit)[index];
+        self.pair(id).besides(lit)
     }
 
     /// Lets a clause watch `to` in place of `from`, in whose list it stands at an index.
