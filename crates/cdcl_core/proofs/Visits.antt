@@ -1,7 +1,7 @@
 -- The steps of a visit.
 use Rattle.std.proofs.Common.{◌≡◌, ◌≢◌, ℕ, ◌+◌, ◌-◌, ◌<◌, ◌≤◌, ◌⊎◌, ℤ, List, length, slice_index_or, Contains, All, Option, Some, IsSome, subst, sym, ap, ◌∙◌, arith, inl, inr, refl}
 use Rattle.std.proofs.Math.Logic.{⊎_elim}
-use Rattle.std.proofs.lemmas.Bool.{cases_eq}
+use Rattle.std.proofs.lemmas.Bool.{cases_eq, cases_lt}
 use Rattle.std.proofs.lemmas.Grind.{common_steps}
 use Rattle.std.proofs.lemmas.List.Elements.{All-contains, Contains-get_or}
 use Rattle.sat_theory.specs.Formula.{variable, opposite}
@@ -13,10 +13,11 @@ use Rattle.std.specs.List.{swap_remove}
 use Rattle.cdcl_theory.specs.Codes.{code_of}
 use Rattle.cdcl_theory.specs.CodeLaws.{code_of-room}
 use Rattle.clause_db.specs.Stored.{Stored, live_at, live_in, Watches, IsLong, IsStored, rewatched}
+use Rattle.clause_db.specs.Blocking.{IsOf}
 use Rattle.clause_db.specs.Moving.{IsMovable, movable_watches, watched_in, watched_variable, rewatched_old}
 use Rattle.cdcl_core.specs.Guarding.{HasTrue, HasTrueAt, IsGuarded}
 use Rattle.cdcl_core.proofs.Guards.{guarded_moved, guarded_visited}
-use Rattle.cdcl_core.specs.Visiting.{id_at, IsKept, IsMoved, IsRest}
+use Rattle.cdcl_core.specs.Visiting.{AreTrue, id_at, IsKept, IsMoved, IsRest}
 use Rattle.trail_core.specs.Values.{IsOver, IsFree}
 use Rattle.cdcl_core.proofs.Growing.{grown_self, grown_trans, grown_pushed}
 use Rattle.cdcl_core.proofs.Jumps.{pushed_on}
@@ -43,6 +44,10 @@ movable_to s places l other to index id lits stored inside id_is is there up dow
   there = λ clause live. (let here : live_in s id ≡ Some clause = ap (live_in s) id_is ∙ live in let same : lits ≡ clause = cc in subst (λ (c : List ℤ). Contains c to) same there);
   other = λ watches. ⊎_elim (λ (e : to ≡ l). (let h : places to ≡ places l = ap places e in omega (arith, h, up, down))) apart (only to (subst (λ (k : ℕ). Watches s k to) (sym id_is) watches));
 }
+
+-- the other watched literal can be the blocking one
+pub blocks : (s : Stored) (l other : ℤ) (index id : ℕ) → IsStored s → id ≡ id_at s l index → Watches s id other → IsOf s (id_at s l index) other
+blocks s l other index id stored id_is watches clause is = watched_in s id other clause stored watches (ap (live_in s) id_is ∙ is)
 
 -- Where all but one have fallen, that one follows, or the clause is falsified.
 pub left_over : (places : ℤ → ℕ) (lits : List ℤ) (other : ℤ) → 0 < places other → All (λ m. (m ≡ other) ⊎ (0 < places m)) lits → All (λ m. 0 < places m) lits
@@ -91,6 +96,14 @@ rest_moved a b c r s t l index trail stored rest moved = rw (moved.is, moved.sam
       (λ (new : (id ≡ id_at b l index) × (w ≡ moved.to)). inr (up_before (live_in b) r s w trail rest.grown (ap (fell s) new.1 ∙ moved.up)))
       (rewatched_old b (id_at b l index) l moved.to index id w stored moved.movable watches);
 })
+
+-- Clauses whose blocking literals are true need no visit.
+pub visited_open : (s : Stored) (t : Trailed) (l : ℤ) (blockers : List ℤ) (index open_at : ℕ) → ((k : ℕ) (d : ℤ) → k < length blockers → IsOf s (slice_index_or (list_of s.watches l) k 0) (slice_index_or blockers k d)) → AreTrue t blockers index open_at → open_at ≤ length blockers → ((k : ℕ) → k < index → HasTrueAt s (fell t) (id_at s l k)) → (k : ℕ) → k < open_at → HasTrueAt s (fell t) (id_at s l k)
+visited_open s t l blockers index open_at there on low before k under =
+    ⊎_elim
+    (λ (old : k < index). before k old)
+    (λ (new : index ≤ k). λ clause is. record { lit = slice_index_or blockers k l; there = there k l (omega (arith, under, low)) clause is; on = on k l new under })
+    (cases_lt k index)
 
 -- The visited entries stay visited.
 pub visited_kept : (b c : Stored) (s t : Trailed) (l : ℤ) (index : ℕ) → IsTrail s → IsKept b c s t l index → ((k : ℕ) → k < index → HasTrueAt b (fell s) (id_at b l k)) → (k : ℕ) → k < index + 1 → HasTrueAt c (fell t) (id_at c l k)

@@ -1,5 +1,6 @@
 -- What a visit of a clause leaves.
 use Rattle.std.specs.Prelude.{◌≡◌, ℕ, ◌<◌, ◌≤◌, ◌⊎◌, ℤ, List, slice_index_or}
+use Rattle.sat_theory.specs.Formula.{opposite}
 use Rattle.cdcl_theory.specs.Falling.{IsFalsified}
 use Rattle.cdcl_theory.specs.Trails.{Trailed, fell, IsGrown}
 use Rattle.clause_db.specs.Watching.{list_of}
@@ -16,6 +17,10 @@ id_at s l index = slice_index_or (list_of s.watches l) index 0
 -- the literals in a range of places have fallen, besides one
 abbrev pub AreDown : Trailed → List ℤ → ℕ → ℕ → ℤ → Type 0
 AreDown t lits low high other = (k : ℕ) (d : ℤ) → low ≤ k → k < high → (slice_index_or lits k d ≡ other) ⊎ (0 < fell t (slice_index_or lits k d))
+
+-- the literals in a range of places are true
+abbrev pub AreTrue : Trailed → List ℤ → ℕ → ℕ → Type 0
+AreTrue t lits low high = (k : ℕ) (d : ℤ) → low ≤ k → k < high → 0 < fell t (opposite (slice_index_or lits k d))
 
 -- The clause stays, and has a true literal now.
 pub record IsKept (a b : Stored) (s t : Trailed) (l : ℤ) (index : ℕ) : Type 0 where

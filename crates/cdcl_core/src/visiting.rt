@@ -1,6 +1,8 @@
 //! Propagation by watched literals: only the clauses that watch a literal which falls are visited
 //! (Moskewicz and others, "Chaff", 2001). A visited clause keeps its watch where its other watched literal is
-//! true or becomes so, and else watches another literal that hasn't fallen.
+//! true or becomes so, and else watches another literal that hasn't fallen. Beside each clause in a list stands
+//! one of its literals, its blocking literal: while that is true the clause isn't even read (Sörensson and Eén,
+//! "MiniSat 2.1", 2008).
 ghost use Rattle.std.specs.Prelude.{◌≡◌, ◌≢◌, ℕ, ℤ, ◌<◌, ◌≤◌, ◌⊎◌, List, length, slice_index_or, Contains, All, IfOk, IfSome, IfNone};
 ghost use Rattle.sat_theory.specs.Formula.{variable as variable_of, IsClause, IsWithin};
 ghost use Rattle.cdcl_theory.specs.Falling.{AllSettled, IsFalsified};
@@ -8,7 +10,7 @@ ghost use Rattle.cdcl_theory.specs.Trails.{IsTrail, IsGrown, fell as fell_of};
 ghost use Rattle.clause_db.specs.Watching.{list_of};
 ghost use Rattle.clause_db.specs.Stored.{live_in, Watches, IsLong, IsStored};
 ghost use Rattle.cdcl_core.specs.Guarding.{HasTrueAt, IsGuarded};
-ghost use Rattle.cdcl_core.specs.Visiting.{AreDown, IsFate, IsRest};
+ghost use Rattle.cdcl_core.specs.Visiting.{AreDown, AreTrue, IsFate, IsRest};
 
 use clause_db::ClauseDb;
 use cnf_core::Lit;
@@ -103,6 +105,7 @@ fn visit(
     let id = clauses.watching(fallen)[index];
     let other = other_watched(clauses, id, fallen);
     if trail.fell(other.opposite()) > 0 {
+        clauses.block(fallen, index, other);
         return Ok(Fate::Kept);
     }
     if let Some(found) = replacement(trail, clauses.lits(id), clauses.search_from(id), other) {
@@ -117,7 +120,21 @@ fn visit(
     Ok(Fate::Kept)
 }
 
-/// Visits all clauses that watch a literal that fell. It stops at a falsified clause.
+/// The first index from one on at which the blocking literal isn't true.
+fn first_open(trail: &Trail, blockers: &[Lit], from: usize) -> Option<usize>
+    requires within { IsWithin trail.now.vars blockers.now }
+    ensures some { IfSome result (λ k. (from ≤ k) × (k < length blockers.now) × AreTrue trail.now blockers.now from k) }
+    ensures none { IfNone result (AreTrue trail.now blockers.now from (length blockers.now)) }
+{
+    for index in from..blockers.len() {
+        if trail.fell(blockers[index].opposite()) == 0 {
+            return Some(index);
+        }
+    }
+    None
+}
+
+/// Visits all clauses that watch a literal that fell, but those whose blocking literal is true. It stops at a falsified clause.
 fn visit_watching(
     trail: &mut Trail,
     clauses: &mut ClauseDb,
@@ -135,10 +152,13 @@ fn visit_watching(
     ensures conflict { IfOk result (λ found. IfSome found (IsFalsified (live_in clauses.new) (fell_of trail.new))) }
 {
     let mut index = 0;
-    while index < clauses.watching(fallen).len() {
-        match visit(trail, clauses, fallen, index)? {
-            Fate::Kept => index += 1,
-            Fate::Moved => continue,
+    while let Some(next) = first_open(trail, clauses.blockers(fallen), index) {
+        match visit(trail, clauses, fallen, next)? {
+            Fate::Kept => index = next + 1,
+            Fate::Moved => {
+                index = next;
+                continue;
+            }
             Fate::Falsified(id) => return Ok(Some(id)),
         }
     }

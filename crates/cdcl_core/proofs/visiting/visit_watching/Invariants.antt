@@ -6,8 +6,8 @@ use Rattle.cdcl_core.specs.Guarding.{HasTrueAt}
 use Rattle.cdcl_core.specs.Visiting.{id_at, IsRest}
 use Rattle.cdcl_core.proofs.visiting.visit_watching.Given as goal
 
-abbrev pub invariant-loop-index : goal.invariant-loop-index
-invariant-loop-index l = record {
+abbrev pub invariant-loop-next : goal.invariant-loop-next
+invariant-loop-next l = record {
   whole : IsTrail l.trail;
   stored : IsStored l.clauses;
   rest : IsRest l.initial.clauses l.clauses l.initial.trail l.trail;
@@ -15,5 +15,5 @@ invariant-loop-index l = record {
   inside : l.index ≤ length (list_of l.clauses.watches l.fallen);
 }
 
-abbrev pub decreases-loop-index : goal.decreases-loop-index
-decreases-loop-index l = length (list_of l.clauses.watches l.fallen) - l.index
+abbrev pub decreases-loop-next : goal.decreases-loop-next
+decreases-loop-next l = length (list_of l.clauses.watches l.fallen) - l.index
