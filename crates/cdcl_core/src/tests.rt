@@ -1,4 +1,5 @@
 use crate::propagation::propagate;
+use crate::units::push_units;
 use crate::visiting::propagate_watched;
 use clause_db::ClauseDb;
 use cnf_core::{Clause, Cnf, Lit};
@@ -111,8 +112,18 @@ fn run(
     Ok(Meeting::Valued(plain.vars()))
 }
 
-/// Runs both ways on the clauses of a formula. What follows before the first decision is found in the
-/// plain way for both.
+/// Makes true what follows before the first decision, as a search does.
+fn begun(trail: &mut Trail, clauses: &mut ClauseDb) -> Result<Option<u32>, AllocError> {
+    if clauses.vars() != trail.vars() {
+        return Ok(None);
+    }
+    if let Some(conflict) = push_units(trail, clauses)? {
+        return Ok(Some(conflict));
+    }
+    propagate_watched(trail, clauses, 0)
+}
+
+/// Runs both ways on the clauses of a formula.
 fn compared(alloc: Global, vars: u32, clauses: &[&[u8]]) -> Result<Meeting, AllocError> {
     let cnf = formula(alloc, vars, clauses)?;
     let mut store = ClauseDb::new(alloc, &cnf)?;
@@ -122,9 +133,12 @@ fn compared(alloc: Global, vars: u32, clauses: &[&[u8]]) -> Result<Meeting, Allo
         return Ok(Meeting::Differ);
     }
     let first = propagate(&mut plain, &store)?;
-    let second = propagate(&mut watched, &store)?;
+    let second = begun(&mut watched, &mut store)?;
     if first.is_some() && second.is_some() {
         return Ok(Meeting::Conflict(0));
+    }
+    if first.is_some() || second.is_some() || !agree(&plain, &watched) {
+        return Ok(Meeting::Differ);
     }
     run(&mut plain, &mut watched, &mut store)
 }

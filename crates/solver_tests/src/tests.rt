@@ -158,22 +158,57 @@ fn pigeons(alloc: Global, holes: u32) -> Result<Cnf, AllocError> {
 fn pigeons_have_no_holes(rt: HostRuntime) -> Result<(), Fail> {
     let alloc = rt.alloc();
     for (holes, budget, refuted) in [
-        (3, 1, false),
-        (3, 1000000, true),
-        (4, 3, false),
-        (5, 1000000, true),
+        (3, 1, Some(false)),
+        (3, 1000000, Some(true)),
+        (4, 3, Some(false)),
+        (5, 1000000, Some(true)),
+        // either way
+        (9, 20000, None),
     ] {
         let cnf = pigeons(alloc, holes)?;
         match solve(alloc, &cnf, budget)? {
             Solved::Sat(_) => assert!(rt; false, "satisfied"),
             Solved::Unsat(log) => {
-                assert!(rt; refuted && judged(alloc, cnf, &log)? == Some(true));
+                assert!(rt; refuted != Some(false));
+                assert!(rt; judged(alloc, cnf, &log)? == Some(true));
             }
             Solved::Open(log) => {
-                assert!(rt; !refuted && log.lines.len() >= budget as usize);
+                assert!(rt; refuted != Some(true) && log.lines.len() >= budget as usize);
                 assert!(rt; judged(alloc, cnf, &log)? == Some(false));
             }
         }
+    }
+    Ok(())
+}
+
+/// The variables 1 to `vars`, of which the first is true and each follows from the one before. What follows
+/// last is listed first.
+fn implications(alloc: Global, vars: u32) -> Result<Cnf, AllocError> {
+    let vars = vars.min(9000);
+    let mut cnf = Cnf::new(alloc, vars);
+    for left in 1..vars {
+        let text = format!(in alloc; "1 -{} {} 0 0", vars - left, vars - left + 1)?;
+        push_within(&mut cnf, clause(alloc, text.as_bytes()))?;
+    }
+    push_within(&mut cnf, clause(alloc, b"1 1 0 0"))?;
+    Ok(cnf)
+}
+
+#[test]
+fn long_rows_are_followed(rt: HostRuntime) -> Result<(), Fail> {
+    let alloc = rt.alloc();
+    let mut cnf = implications(alloc, 4000)?;
+    match solve(alloc, &cnf, 1)? {
+        Solved::Sat(assign) => assert!(rt; !assign.bits().contains(&false)),
+        _ => assert!(rt; false, "not satisfied"),
+    }
+    push_within(&mut cnf, clause(alloc, b"1 -4000 0 0"))?;
+    match solve(alloc, &cnf, 1)? {
+        Solved::Unsat(log) => {
+            assert_eq!(rt; log.lines.len(), 1);
+            assert!(rt; judged(alloc, cnf, &log)? == Some(true));
+        }
+        _ => assert!(rt; false, "not refuted"),
     }
     Ok(())
 }
