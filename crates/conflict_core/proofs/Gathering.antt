@@ -1,13 +1,13 @@
 -- Marking the fallen literals of a clause, and gathering those that are marked.
-use Rattle.std.proofs.Common.{◌≡◌, ℕ, ◌+◌, ◌<◌, ◌⊎◌, ℤ, Bool, true, List, [], ◌∷◌, ◌++◌, length, take, slice_index_or, Contains, subst, sym, ap, ◌∙◌, arith, inl, inr, refl}
+use Rattle.std.proofs.Common.{◌≡◌, ℕ, ◌+◌, ◌<◌, ◌⊎◌, ℤ, Bool, true, List, [], ◌∷◌, ◌++◌, length, take, slice_index_or, All, Contains, subst, sym, ap, ◌∙◌, arith, inl, inr, refl}
 use Rattle.std.proofs.Math.Logic.{⊎_elim}
 use Rattle.std.proofs.lemmas.Bool.{both_ways, false_from_ne_true}
 use Rattle.std.proofs.lemmas.Grind.{common_steps}
 use Rattle.std.proofs.lemmas.List.{take_more}
 use Rattle.std.proofs.lemmas.List.Elements.{All-append, All-contains, All-push, All-weaker, All-cons, All-nil, Contains-push, Contains-append_left, Contains-append_right}
 use Rattle.sat_theory.specs.Holding.{with_literal}
-use Rattle.cdcl_theory.specs.Codes.{marked_in, without_literal}
-use Rattle.cdcl_theory.specs.CodeLaws.{cases_literal, with_literal-cases, with_literal-old, with_literal-new, without_literal-other, without_literal-same}
+use Rattle.cdcl_theory.specs.Codes.{code_of, marked_in, without_literal}
+use Rattle.cdcl_theory.specs.CodeLaws.{cases_literal, code_of-room, with_literal-cases, with_literal-old, with_literal-new, without_literal-other, without_literal-same}
 use Rattle.trail_core.specs.Values.{IsOver}
 use Rattle.conflict_core.specs.Walking.{AreMarked, AreTaken, AreOthers, IsListed, IsClear}
 
@@ -74,6 +74,10 @@ listed_unset vars old new touched l before now same = record {
     was : (m : ℤ) → marked_in new m ≡ true → (m ≡ l) ⊎ (m ≡ l → ⊥) → marked_in old m ≡ true
     was m mark (inl e) = absurd (both_ways (marked_in new m) (ap (λ (f : ℤ → Bool). f m) now ∙ without_literal-same (marked_in old) l m e) mark)
     was m mark (inr apart) = sym (ap (λ (f : ℤ → Bool). f m) now ∙ without_literal-other (marked_in old) l m apart) ∙ mark
+
+-- each literal of the list has its place in the table
+pub listed_inside : (vars : ℕ) (marks new : List Bool) (touched : List ℤ) → IsListed vars marks touched → length new ≡ length marks → All (λ l. code_of l < length new) touched
+listed_inside vars marks new touched listed same = All-weaker (IsOver vars) (λ l. code_of l < length new) (λ l over. rw (same, listed.room) (code_of-room l vars over.1)) touched listed.over
 
 -- With one literal unmarked and the others of the list taken, nothing is marked, and they are the others.
 pub others_taken : (vars : ℕ) (old off new : List Bool) (touched others : List ℤ) (first : ℤ) → IsListed vars old touched → marked_in off ≡ without_literal (marked_in old) first → AreTaken touched off new others → AreOthers vars old first others

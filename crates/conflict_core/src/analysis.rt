@@ -88,13 +88,11 @@ impl Analysis {
         ensures learnt { IfOk result (λ l. IsLearnt (live_in clauses.now) trail.now start l.lits.items l.back l.hints.items) }
         ensures ready { OnOk result (IsReady trail.now.vars self.new) }
     {
-        let vars = trail.vars();
         self.walk.begin(trail, clauses, conflict)?;
         let top = self.walk.reduce(trail, clauses, start)?;
-        let first = trail.at(top).opposite();
         let walked = self.walk.touched.len();
         self.minimise(trail, clauses, starts, start)?;
-        self.walk.take_others(vars, first, &mut self.lower)?;
+        let first = self.walk.take_others(trail, top, &mut self.lower)?;
         self.walk.touched.truncate(walked);
         let back = last_fallen(trail, &self.lower);
         raise(trail, &mut self.lower, back);

@@ -4,11 +4,14 @@
 //!
 //! The analysis marks the literals of the falsified clause and walks back over the trail. At a marked
 //! literal of the level it takes the others of its reason in its place, until one of the level is left.
-//! It costs time in the literals of the reasons that it goes over and of the level, and the marks are
-//! taken off as they came.
+//! Then it resolves away the literals below the level that follow from the others of the clause by reasons,
+//! also by several behind one another (Sörensson and Biere, "Minimizing learned clauses", 2009). Which
+//! these are is guessed beforehand; each goes by the same step as those of the level, with its hint, so
+//! that a wrong guess makes a longer clause and no wrong one. It costs time in the literals of the reasons
+//! that it goes over and of the level, and the marks are taken off as they came.
 //!
 //! ```text
-//! let learnt = analysis.learn(alloc, &trail, &clauses, conflict, start)?;
+//! let learnt = analysis.learn(alloc, &trail, &clauses, conflict, &starts, start)?;
 //! // learnt.lits has the literal of the level first, learnt.back says where the others fell
 //! let hints = analysis.refute(alloc, &trail, &clauses, conflict)?; // of the empty clause
 //! ```

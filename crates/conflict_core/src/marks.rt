@@ -1,4 +1,4 @@
-ghost use Rattle.std.specs.Prelude.{◌≡◌, ◌<◌, [], length, IfOk, OnOk};
+ghost use Rattle.std.specs.Prelude.{◌≡◌, ◌<◌, [], length, All, IfOk, OnOk};
 ghost use Rattle.sat_theory.specs.Formula.{IsWithin};
 ghost use Rattle.sat_theory.specs.Holding.{with_literal};
 ghost use Rattle.cdcl_theory.specs.Codes.{code_of, marked_in, without_literal};
@@ -62,14 +62,8 @@ impl Marks {
 
     /// Takes the literals of a list out of the set, and gathers those that were in it.
     #[tactic(auto, using(crate::proofs::Marking::taking))]
-    pub(crate) fn take(
-        &mut self,
-        vars: u32,
-        lits: &[Lit],
-        taken: &mut Vec<Lit>,
-    ) -> Result<(), AllocError>
-        requires room { HasRoom vars self.old }
-        requires within { IsWithin vars lits.now }
+    pub(crate) fn take(&mut self, lits: &[Lit], taken: &mut Vec<Lit>) -> Result<(), AllocError>
+        requires inside { All (λ l. code_of l < length self.old) lits.now }
         requires empty { taken.old.items ≡ [] }
         ensures taken { OnOk result (AreTaken lits.now self.old self.new taken.new.items) }
         ensures room { length self.new ≡ length self.old }

@@ -1,5 +1,5 @@
-ghost use Rattle.std.specs.Prelude.{◌≡◌, ◌+◌, ◌<◌, ◌≤◌, ◌∷◌, [], false, length, Contains, AllPairs, IfOk, OnOk, IfSome, IfNone};
-ghost use Rattle.sat_theory.specs.Formula.{variable as variable_of, IsClause, IsWithin};
+ghost use Rattle.std.specs.Prelude.{◌≡◌, ℤ, ◌+◌, ◌<◌, ◌≤◌, ◌∷◌, [], false, length, slice_index_or, Contains, AllPairs, IfOk, OnOk, IfSome, IfNone};
+ghost use Rattle.sat_theory.specs.Formula.{variable as variable_of, opposite as opposite_of, IsClause, IsWithin};
 ghost use Rattle.cdcl_theory.specs.Falling.{IsFalsified};
 ghost use Rattle.cdcl_theory.specs.Trails.{IsTrail, IsLayered, HasReason, fell as fell_of};
 ghost use Rattle.clause_db.specs.Stored.{live_in};
@@ -210,24 +210,28 @@ impl Walk {
         self.resolve(trail, clauses, place)
     }
 
-    /// Takes all marks off, and gathers the literals that were marked, but for one.
+    /// Takes all marks off, and gathers the marked literals but for the one that fell at an index, which is
+    /// the answer.
     pub(crate) fn take_others(
         &mut self,
-        vars: u32,
-        first: Lit,
+        trail: &Trail,
+        top: usize,
         others: &mut Vec<Lit>,
-    ) -> Result<(), AllocError>
-        requires listed { IsListed vars self.old.marks self.old.touched.items }
-        requires over { variable_of first ≤ vars }
-        ensures clear { OnOk result (IsClear vars self.new.marks) }
-        ensures others { OnOk result (AreOthers vars self.old.marks first others.new.items) }
+    ) -> Result<Lit, AllocError>
+        requires inside { top < length trail.now.lits }
+        requires listed { IsListed trail.now.vars self.old.marks self.old.touched.items }
+        ensures first { IfOk result (λ first. (d : ℤ) → opposite_of (slice_index_or trail.now.lits top d) ≡ first) }
+        ensures over { IfOk result (IsOver trail.now.vars) }
+        ensures others { IfOk result (λ first. AreOthers trail.now.vars self.old.marks first others.new.items) }
+        ensures clear { OnOk result (IsClear trail.now.vars self.new.marks) }
         ensures touched { self.new.touched ≡ self.old.touched }
         ensures hints { self.new.hints ≡ self.old.hints }
     {
+        let first = trail.at(top).opposite();
         others.clear();
         self.marks.unset(first);
-        self.marks.take(vars, &self.touched, others)?;
-        Ok(())
+        self.marks.take(&self.touched, others)?;
+        Ok(first)
     }
 }
 

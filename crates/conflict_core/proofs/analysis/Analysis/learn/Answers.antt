@@ -1,20 +1,18 @@
-use Rattle.std.proofs.Common.{◌≡◌, ◌∙◌, ◌∷◌, sym, ap, subst, slice_index_or, reverse, All, List, ℕ, ℤ, ◌≤◌, ◌<◌}
+use Rattle.std.proofs.Common.{◌≡◌, ◌∙◌, ◌∷◌, ap, subst, slice_index_or, reverse, All, List, ℤ, ◌≤◌, ◌<◌}
 use Rattle.sat_theory.specs.Formula.{opposite}
-use Rattle.cdcl_theory.specs.CodeLaws.{variable-opposite}
 use Rattle.cdcl_theory.specs.Trails.{fell}
 use Rattle.clause_db.specs.Stored.{live_in}
-use Rattle.trail_core.specs.Values.{IsOver}
-use Rattle.conflict_core.specs.Walking.{AreOthers, HasFallenAt}
+use Rattle.conflict_core.specs.Walking.{HasFallenAt}
 use Rattle.conflict_core.proofs.Conflicts.{conflict_in_level, alone_left, alone_less, walk_learnt}
 use Rattle.conflict_core.proofs.Raising.{raised_all, raised_fallen, raised_others, raised_head}
 use Rattle.conflict_core.proofs.analysis.Analysis.learn.Goals as goal
 
 pub reduce-requires-clause-some : goal.reduce-requires-clause-some
-reduce-requires-clause-some c = conflict_in_level (live_in c.args.clauses.now) c.args.trail.now c.args.start c.args.conflict c.begin.new.self.marks c.vars-vars.ensures.whole c.requires.level c.requires.closed c.requires.conflict c.in_ok-begin.ensures.marked
+reduce-requires-clause-some c = conflict_in_level (live_in c.args.clauses.now) c.args.trail.now c.args.start c.args.conflict c.begin.new.self.marks c.requires.layered.whole c.requires.level c.requires.closed c.requires.conflict c.in_ok-begin.ensures.marked
 
 pub returns-clause-learnt : goal.returns-clause-learnt
 returns-clause-learnt c =
-    let first = c.opposite-first.result in
+    let first = c.in_ok-first.first in
     let t = c.args.trail.now in
     let places = fell t in
     let reduced = c.reduce.new.self in
@@ -22,17 +20,15 @@ returns-clause-learnt c =
     let back = c.last_fallen-back.result in
     let old = c.take_others.new.others.items in
     let lower = c.raise.new.lits.items in
-    let at : opposite (slice_index_or t.lits c.in_ok-top.top first) ≡ first = ap opposite (sym (c.at.ensures.value first)) ∙ sym c.opposite-first.ensures.value in
-    let over : IsOver t.vars first = subst (λ (x : ℤ). IsOver t.vars x) (sym c.opposite-first.ensures.value) (rw variable-opposite c.at.ensures.over) in
+    let at : opposite (slice_index_or t.lits c.in_ok-top.top first) ≡ first = c.in_ok-first.ensures.first first in
     let low : All (λ m. places m ≤ back) old = subst (λ (xs : List ℤ). All (λ m. places m ≤ back) xs) c.deref.ensures.value c.last_fallen-back.ensures.all in
     let there = subst (λ (xs : List ℤ). 0 < back → HasFallenAt places xs back) c.deref.ensures.value c.last_fallen-back.ensures.there in
-    let others = subst (λ (n : ℕ). AreOthers n walk.marks first old) c.vars-vars.ensures.value c.in_ok-take_others.ensures.others in
-    let raised = raised_others places t.vars back walk.marks first old lower c.raise.ensures others in
+    let raised = raised_others places t.vars back walk.marks first old lower c.raise.ensures c.in_ok-first.ensures.others in
     let alone = alone_less t c.args.start reduced.marks walk.marks first
-    (alone_left (live_in c.args.clauses.now) t c.args.start c.in_ok-top.top first reduced.marks reduced.touched.items reduced.hints.items c.vars-vars.ensures.whole at c.in_ok-top.ensures.walk c.in_ok-top.ensures.last c.in_ok-top.ensures.alone)
+    (alone_left (live_in c.args.clauses.now) t c.args.start c.in_ok-top.top first reduced.marks reduced.touched.items reduced.hints.items c.requires.layered.whole at c.in_ok-top.ensures.walk c.in_ok-top.ensures.last c.in_ok-top.ensures.alone)
     c.in_ok-minimise.ensures.below in
     walk_learnt (live_in c.args.clauses.now) t c.args.start c.in_ok-top.top back first walk.marks walk.touched.items lower c.in_ok-lits.lits.items walk.hints.items c.in_ok-hints.hints.items
-    c.vars-vars.ensures.whole c.in_ok-top.ensures.last.after c.in_ok-top.ensures.last.before at over c.in_ok-minimise.ensures.walk alone raised
+    c.requires.layered.whole c.in_ok-top.ensures.last.after c.in_ok-top.ensures.last.before at c.in_ok-first.ensures.over c.in_ok-minimise.ensures.walk alone raised
     (raised_all places back old lower (λ m. places m ≤ back) c.raise.ensures low)
     (λ some. raised_fallen places back old lower c.raise.ensures (there some))
     (λ d some. raised_head places back old lower d c.raise.ensures (λ k e within. (c.in_ok-minimise.ensures.walk.resolvent.below (slice_index_or lower k e) (raised.inside k e within).0).0) low there some)
