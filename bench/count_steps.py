@@ -1,103 +1,408 @@
 #!/usr/bin/env python3
-"""Takes the steps of the solver with plain scans, and counts them: the benchmark `solve` has the log alone
-to count by.
+"""Takes the steps of the solver and counts them: the benchmark `solve` has the log alone to count by.
 
-    make_formula.py pigeons 4 | count_steps.py
+    make_formula.py pigeons 4 | count_steps.py [MOST]
 
-It reads what `make_formula.py` writes, decides the least variable without a value to be false, goes over
-the clauses in the order of their ids for as long as anything follows, and learns the clause of the first
-unique implication point. It shares no line with the solver, so equal numbers of conflicts and hints say
-that both take the same steps.
+It reads what `make_formula.py` writes, and gives up behind MOST conflicts, where a number is named. It
+decides, propagates, learns and restarts as `cdcl_core` does, with the same order of all lists, and shares no
+line with it: equal numbers of conflicts and hints say that both take the same steps. Propagations are the
+literals of the trail that were visited, and visits the clauses that watched one of them.
+
+In tables by literals, -v stands at the index -v, which counts from the end.
 """
 
+import itertools
 import sys
+
+FIRST_STEP, GREATEST_STEP, STEP_PART = 1 << 40, 1 << 56, 16
+GREATEST_SCORE = (1 << 64) - 1
+SHORTEST_RUN = 64
+DEPTH = 1000
+
+
+class Heap:
+    """Variables with scores. The held ones stand in a row whose first has a greatest score, and in which
+    those below place p stand at 2 p and 2 p + 1."""
+
+    def __init__(self, variables):
+        self.scores = [0] * (variables + 1)
+        self.row = list(range(variables + 1))
+        self.places = list(range(variables + 1))  # 0 where a variable isn't held
+
+    def up(self, place):
+        row, places, scores = self.row, self.places, self.scores
+        variable = row[place]
+        score = scores[variable]
+        while place > 1 and score > scores[row[place // 2]]:
+            row[place] = row[place // 2]
+            places[row[place]] = place
+            place //= 2
+        row[place] = variable
+        places[variable] = place
+
+    def down(self, place):
+        row, places, scores = self.row, self.places, self.scores
+        variable, last = row[place], len(row) - 1
+        while 2 * place <= last:
+            below = 2 * place
+            if below < last and scores[row[below]] < scores[row[below + 1]]:
+                below += 1
+            if scores[row[below]] <= scores[variable]:
+                break
+            row[place] = row[below]
+            places[row[place]] = place
+            place = below
+        row[place] = variable
+        places[variable] = place
+
+    def pop(self):
+        """A held variable of greatest score, or None."""
+        if len(self.row) == 1:
+            return None
+        first, last = self.row[1], self.row.pop()
+        if first != last:
+            self.row[1] = last
+            self.down(1)
+        self.places[first] = 0
+        return first
+
+    def push(self, variable):
+        if not self.places[variable]:
+            self.row.append(variable)
+            self.up(len(self.row) - 1)
+
+    def bump(self, variable, step):
+        self.scores[variable] = min(self.scores[variable] + step, GREATEST_SCORE)
+        if self.places[variable]:
+            self.up(self.places[variable])
+
+    def halve(self):
+        self.scores[:] = [score // 2 for score in self.scores]
+
+
+class Choice:
+    """The variables to decide on, with their scores and the signs that they had last."""
+
+    def __init__(self, variables):
+        self.heap = Heap(variables)
+        self.signs = [-1] * (variables + 1)
+        self.step = FIRST_STEP
+
+    def release(self, lits):
+        for lit in lits:
+            self.signs[abs(lit)] = 1 if lit > 0 else -1
+            self.heap.push(abs(lit))
+
+    def bump(self, lits):
+        for lit in lits:
+            self.heap.bump(abs(lit), self.step)
+        self.step = min(self.step + self.step // STEP_PART, GREATEST_SCORE)
+        if self.step > GREATEST_STEP:
+            self.step //= 2
+            self.heap.halve()
+
+    def take_free(self, trail):
+        """The literal to decide on, or None where all variables have values."""
+        while variable := self.heap.pop():
+            if not trail.fell[variable] and not trail.fell[-variable]:
+                return self.signs[variable] * variable
+        return None
+
+
+def luby(index):
+    """A member of Luby's sequence, from 1 on."""
+    power = 1 << index.bit_length() - 1
+    return power if index == 2 * power - 1 else luby(index + 1 - power)
+
+
+class Restarts:
+    """Runs of conflicts whose lengths follow Luby's sequence."""
+
+    def __init__(self):
+        self.run, self.left = 1, SHORTEST_RUN
+
+    def count(self):
+        """Whether a run ends with this conflict."""
+        self.left -= 1
+        if self.left:
+            return False
+        self.run += 1
+        self.left = SHORTEST_RUN * luby(self.run)
+        return True
+
+
+class Trail:
+    """The literals that are true. `fell` has 1 + the index of a literal's opposite, or 0; `reason` has the
+    id of the clause that made a literal true, by its variable, and 0 for decisions."""
+
+    def __init__(self, variables):
+        self.lits = []
+        self.fell = [0] * (2 * variables + 1)
+        self.reason = [0] * (variables + 1)
+
+    def push(self, lit, reason):
+        self.lits.append(lit)
+        self.fell[-lit] = len(self.lits)
+        self.reason[abs(lit)] = reason
+
+    def back_to(self, length):
+        for lit in self.lits[length:]:
+            self.fell[-lit] = 0
+        del self.lits[length:]
+
+
+class Clauses:
+    """Clauses by their ids, from 1 on. Each of two literals and more watches two of them."""
+
+    def __init__(self, variables, clauses):
+        self.lits = [None]
+        self.pairs = [None]
+        self.watching = [[] for _ in range(2 * variables + 1)]
+        for lits in clauses:
+            self.add(lits)
+
+    def add(self, lits):
+        self.lits.append(lits)
+        self.pairs.append(tuple(lits[:2]))
+        if len(lits) > 1:
+            self.watching[lits[0]].append(len(self.lits) - 1)
+            self.watching[lits[1]].append(len(self.lits) - 1)
+        return len(self.lits) - 1
+
+
+class Analysis:
+    """What is learnt from a conflict."""
+
+    def __init__(self, trail, clauses):
+        self.trail, self.clauses = trail, clauses
+
+    def mark_fallen(self, lits):
+        for lit in lits:
+            if self.trail.fell[lit] and lit not in self.marked:
+                self.marked.add(lit)
+                self.touched.append(lit)
+
+    def begin(self, conflict):
+        self.marked, self.touched, self.hints = set(), [], [conflict]
+        self.mark_fallen(self.clauses.lits[conflict])
+
+    def resolve(self, lit):
+        """Puts the other literals of its reason in the place of a marked literal."""
+        reason = self.trail.reason[abs(lit)]
+        self.marked.remove(lit)
+        self.mark_fallen(self.clauses.lits[reason])
+        self.hints.append(reason)
+
+    def reduce(self, start):
+        """Goes back until one literal of the level that begins at an index is left, and gives that."""
+        fell = self.trail.fell
+        place = len(self.trail.lits)
+        left = sum(1 for lit in self.marked if fell[lit] > start)
+        while True:
+            place -= 1
+            lit = -self.trail.lits[place]
+            if lit not in self.marked:
+                continue
+            if left == 1:
+                return lit
+            known = len(self.touched)
+            self.resolve(lit)
+            left += sum(1 for lit in self.touched[known:] if fell[lit] > start) - 1
+
+    def judge(self, lit, depth):
+        """Whether a fallen literal follows from the marked ones. Those that do are gathered."""
+        variable = abs(lit)
+        if variable in self.follows:
+            return self.follows[variable]
+        reason = self.trail.reason[variable]
+        follows = depth > 0 and reason > 0 and all(
+            other == -lit or self.judge(other, depth - 1) or other in self.marked for other in self.clauses.lits[reason]
+        )
+        self.follows[variable] = follows
+        if follows:
+            self.redundant.append(lit)
+        return follows
+
+    def minimise(self, start):
+        """Resolves away what follows from the other literals, of those that fell up to an index."""
+        self.follows, self.redundant = {}, []
+        for lit in self.touched:
+            if lit in self.marked and self.trail.fell[lit] <= start:
+                self.judge(lit, DEPTH)
+        for lit in reversed(self.redundant):
+            if lit in self.marked:
+                self.resolve(lit)
+
+    def learn(self, conflict, start):
+        """The learnt clause, where its others fell last, and the literals that were marked on the way."""
+        fell = self.trail.fell
+        self.begin(conflict)
+        first = self.reduce(start)
+        walked = len(self.touched)
+        self.minimise(start)
+        lower = [lit for lit in self.touched if lit in self.marked and lit != first]
+        back = max((fell[lit] for lit in lower), default=0)
+        if lower:
+            last = next(index for index, lit in enumerate(lower) if fell[lit] == back)
+            lower[0], lower[last] = lower[last], lower[0]
+        return [first, *lower], back, self.touched[:walked]
+
+    def refute(self, conflict):
+        """Goes back over all reasons."""
+        self.begin(conflict)
+        for lit in reversed(self.trail.lits):
+            if -lit in self.marked:
+                self.resolve(-lit)
 
 
 class Solver:
-    def __init__(self, variables, clauses):
-        self.variables, self.clauses = variables, clauses
-        self.trail, self.starts = [], []
-        self.fell, self.reason = {}, {}
-        self.decisions = self.conflicts = self.propagations = self.hints = 0
+    """The state of a search, and what was counted."""
 
-    def push(self, lit, reason):
-        self.trail.append(lit)
-        self.fell[-lit] = len(self.trail)
-        self.reason[lit] = reason
+    def __init__(self, variables, clauses):
+        self.clauses = Clauses(variables, clauses)
+        self.trail = Trail(variables)
+        self.starts, self.head = [], 0
+        self.choice, self.restarts = Choice(variables), Restarts()
+        self.analysis = Analysis(self.trail, self.clauses)
+        self.counts = dict.fromkeys(["conflicts", "hints", "propagations", "visits", "decisions", "restarts"], 0)
+
+    def count(self, what, number=1):
+        self.counts[what] += number
 
     def visit_all(self):
-        """The first falsified clause, after what follows from those before it."""
-        for clause in self.clauses:
-            left = [lit for lit in clause if lit not in self.fell]
+        """Visits each clause once: the id of a falsified one, or 0."""
+        fell = self.trail.fell
+        for id, lits in enumerate(self.clauses.lits[1:], 1):
+            left = [lit for lit in lits if not fell[lit]]
             if not left:
-                return clause
-            if len(left) == 1 and -left[0] not in self.fell:
-                self.push(left[0], clause)
-                self.propagations += 1
-        return None
+                return id
+            if len(left) == 1 and not fell[-left[0]]:
+                self.trail.push(left[0], id)
+        return 0
 
-    def propagate(self):
+    def begin(self):
+        """Makes true what follows before the first decision: the id of a falsified clause, or 0."""
         while True:
-            before = len(self.trail)
+            before = len(self.trail.lits)
             conflict = self.visit_all()
-            if conflict is not None or len(self.trail) == before:
+            if conflict or len(self.trail.lits) == before:
                 return conflict
 
-    def walk(self, conflict, start, stop):
-        """Goes back over reasons until `stop` literals of the level that begins at `start` are left."""
-        marked = set(conflict)
-        self.hints += 1
-        for lit in reversed(self.trail[start:]):
-            level = [m for m in marked if self.fell[m] > start]
-            if len(level) <= stop:
-                break
-            if -lit in marked:
-                marked |= set(self.reason[lit]) - {lit}
-                marked.remove(-lit)
-                self.hints += 1
-        return marked
+    def replacement(self, id, other):
+        """The first literal of a clause that hasn't fallen, besides one; 0 where there is none."""
+        fell = self.trail.fell
+        for lit in self.clauses.lits[id]:
+            if lit != other and not fell[lit]:
+                return lit
+        return 0
+
+    def visit_watching(self, fallen):
+        """Visits the clauses that watch a literal that fell: the id of a falsified one, or 0."""
+        fell, pairs, watching = self.trail.fell, self.clauses.pairs, self.clauses.watching
+        ids = watching[fallen]
+        length, index = len(ids), 0
+        while index < len(ids):
+            id = ids[index]
+            first, second = pairs[id]
+            other = second if first == fallen else first
+            if fell[-other]:
+                index += 1
+            elif to := self.replacement(id, other):
+                watching[to].append(id)
+                ids[index] = ids[-1]
+                ids.pop()
+                pairs[id] = other, to
+            elif fell[other]:
+                self.count("visits", length - len(ids) + index + 1)
+                return id
+            else:
+                self.trail.push(other, id)
+                index += 1
+        self.count("visits", length)
+        return 0
+
+    def propagate(self):
+        """Makes true what follows, by the watched literals: the id of a falsified clause, or 0."""
+        for lit in self.visited():
+            self.count("propagations")
+            if conflict := self.visit_watching(-lit):
+                return conflict
+        self.head = len(self.trail.lits)
+        return 0
+
+    def visited(self):
+        """The literals of the trail from the head on, also those that come meanwhile."""
+        for index in itertools.count(self.head):
+            if index == len(self.trail.lits):
+                return
+            yield self.trail.lits[index]
+
+    def go_back(self, length):
+        self.choice.release(self.trail.lits[length:])
+        self.trail.back_to(length)
+        self.head = length
 
     def jump(self, conflict):
-        start = self.starts[-1]
-        marked = self.walk(conflict, start, 1)
-        first = next(m for m in marked if self.fell[m] > start)
-        clause = [first, *(marked - {first})]
-        self.clauses.append(clause)
-        back = max((self.fell[m] for m in clause[1:]), default=0)
+        """Learns a clause, and goes back to where it is unit."""
+        lits, back, touched = self.analysis.learn(conflict, self.starts[-1])
+        self.choice.bump(touched)
+        id = self.clauses.add(lits)
+        end = self.starts.pop()
         while self.starts and self.starts[-1] >= back:
             end = self.starts.pop()
-        for lit in self.trail[end:]:
-            del self.fell[-lit]
-        del self.trail[end:]
-        self.push(first, clause)
-        self.propagations += 1
+        self.go_back(end)
+        self.trail.push(lits[0], id)
 
-    def solve(self):
+    def restart(self):
+        """Goes back to the bottom where a run of conflicts ends."""
+        if self.restarts.count() and self.starts:
+            self.count("restarts")
+            self.go_back(self.starts[0])
+            self.starts.clear()
+
+    def refute(self, conflict):
+        self.analysis.refute(conflict)
+        self.count("conflicts")
+        self.count("hints", len(self.analysis.hints))
+        return "Refuted"
+
+    def solve(self, most=10_000_000):
+        """What the search comes to; "Open" where a decision is due behind so many conflicts."""
+        if [] in self.clauses.lits:
+            return "Refuted"
+        if conflict := self.begin():
+            return self.refute(conflict)
         while True:
-            while (conflict := self.propagate()) is not None:
-                self.conflicts += 1
+            while conflict := self.propagate():
                 if not self.starts:
-                    self.walk(conflict, 0, 0)
-                    return "Refuted"
+                    return self.refute(conflict)
                 self.jump(conflict)
-            free = next((v for v in range(1, self.variables + 1) if v not in self.fell and -v not in self.fell), None)
-            if free is None:
+                self.count("conflicts")
+                self.count("hints", len(self.analysis.hints))
+                self.restart()
+            lit = self.choice.take_free(self.trail)
+            if lit is None:
                 return "Satisfied"
-            self.starts.append(len(self.trail))
-            self.push(-free, None)
-            self.decisions += 1
+            if self.counts["conflicts"] >= most:
+                return "Open"
+            self.count("decisions")
+            self.starts.append(len(self.trail.lits))
+            self.trail.push(lit, 0)
+
+
+def read(text):
+    """The number of variables, and the clauses."""
+    lines = text.splitlines()
+    return int(lines[0].split()[1]), [[int(word) for word in line.split()[1:-2]] for line in lines[1:]]
 
 
 def main():
-    lines = sys.stdin.read().splitlines()
-    variables = int(lines[0].split()[1])
-    clauses = [[int(word) for word in line.split()[1:-2]] for line in lines[1:]]
-    solver = Solver(variables, clauses)
-    answer = solver.solve()
-    print(
-        f"{answer}, {solver.conflicts} conflicts, {solver.hints} hints, "
-        f"{solver.propagations} propagations, {solver.decisions} decisions"
-    )
+    sys.setrecursionlimit(10_000)
+    most = int(sys.argv[1]) if len(sys.argv) > 1 else 10_000_000
+    solver = Solver(*read(sys.stdin.read()))
+    answer = solver.solve(most)
+    print(", ".join([answer, *(f"{number} {what}" for what, number in solver.counts.items())]))
 
 
-main()
+if __name__ == "__main__":
+    main()
