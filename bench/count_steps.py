@@ -152,11 +152,13 @@ class Trail:
 
 
 class Clauses:
-    """Clauses by their ids, from 1 on. Each of two literals and more watches two of them."""
+    """Clauses by their ids, from 1 on. Each of two literals and more watches two of them, and the search
+    for another one begins at its place in `froms`."""
 
     def __init__(self, variables, clauses):
         self.lits = [None]
         self.pairs = [None]
+        self.froms = [0]
         self.watching = [[] for _ in range(2 * variables + 1)]
         for lits in clauses:
             self.add(lits)
@@ -164,6 +166,7 @@ class Clauses:
     def add(self, lits):
         self.lits.append(lits)
         self.pairs.append(tuple(lits[:2]))
+        self.froms.append(0)
         if len(lits) > 1:
             self.watching[lits[0]].append(len(self.lits) - 1)
             self.watching[lits[1]].append(len(self.lits) - 1)
@@ -289,10 +292,12 @@ class Solver:
                 return conflict
 
     def replacement(self, id, other):
-        """The first literal of a clause that hasn't fallen, besides one; 0 where there is none."""
-        fell = self.trail.fell
-        for lit in self.clauses.lits[id]:
+        """The next literal of a clause that hasn't fallen, besides one; 0 where there is none."""
+        fell, lits, start = self.trail.fell, self.clauses.lits[id], self.clauses.froms[id]
+        for place in itertools.chain(range(start, len(lits)), range(start)):
+            lit = lits[place]
             if lit != other and not fell[lit]:
+                self.clauses.froms[id] = place
                 return lit
         return 0
 
