@@ -272,24 +272,17 @@ class Solver:
     def count(self, what, number=1):
         self.counts[what] += number
 
-    def visit_all(self):
-        """Visits each clause once: the id of a falsified one, or 0."""
+    def begin(self):
+        """Makes the clauses of one literal true: the id of a falsified one, or 0."""
         fell = self.trail.fell
         for id, lits in enumerate(self.clauses.lits[1:], 1):
-            left = [lit for lit in lits if not fell[lit]]
-            if not left:
+            if len(lits) > 1:
+                continue
+            if fell[lits[0]]:
                 return id
-            if len(left) == 1 and not fell[-left[0]]:
-                self.trail.push(left[0], id)
+            if not fell[-lits[0]]:
+                self.trail.push(lits[0], id)
         return 0
-
-    def begin(self):
-        """Makes true what follows before the first decision: the id of a falsified clause, or 0."""
-        while True:
-            before = len(self.trail.lits)
-            conflict = self.visit_all()
-            if conflict or len(self.trail.lits) == before:
-                return conflict
 
     def replacement(self, id, other):
         """The next literal of a clause that hasn't fallen, besides one; 0 where there is none."""

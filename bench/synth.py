@@ -7,15 +7,9 @@ import resource
 import subprocess
 import sys
 
-METHODS = ['ssv', 'select', 'fence', 'plain']
+from functions import SMALL
 
-FUNCTIONS = [
-    ('xor', '0110'),
-    ('median of three', '00010111'),
-    ('full adder', '01101001 00010111'),
-    ('xor of four', '0110100110010110'),
-    ('two bits less than two', '0111001100010000'),
-]
+METHODS = ['ssv', 'select', 'fence', 'plain']
 
 
 def run(words, given, seconds):
@@ -55,7 +49,7 @@ def main():
     program, seconds = sys.argv[1], int(sys.argv[2]) if len(sys.argv) > 2 else 60
     print('| Function | Method | Verdict | Conflicts | Bytes | Find | Recheck |')
     print('|---|---|---|---|---|---|---|')
-    for name, tables in FUNCTIONS:
+    for name, _, tables in SMALL:
         for method in METHODS:
             print(f'| {name} | {method} {measured(program, method, tables.split(), seconds)}', flush=True)
 

@@ -1,0 +1,151 @@
+#!/usr/bin/env python3
+"""solver.py PROGRAM [--steps] [--beside SOLVER]: decides formulas by `PROGRAM solve`, the built program
+`benchmarks`, and prints a table: conflicts, which are the additions to the log, hints, propagations, user
+seconds, conflicts a second, and the peak of memory.
+
+The formulas are pigeons in holes, and functions with their fewest steps and with one less, by the method
+`ssv`. A time is the smallest of three runs, or that of one run which takes longer than a second; a run is
+given up after 100 seconds. With --steps, count_steps.py takes the same steps again, which counts the
+propagations and, where a formula is satisfied and no log is left, the conflicts and hints. SOLVER is a
+program that reads DIMACS and tells its conflicts, such as minisat."""
+import os
+import re
+import resource
+import subprocess
+import sys
+import tempfile
+import time
+from collections import namedtuple
+
+from functions import LARGE, SMALL
+
+HERE = os.path.dirname(os.path.abspath(__file__))
+LONGEST = 100
+MOST_STEPS = 10_000
+
+Run = namedtuple("Run", "text seconds peak")
+
+
+def workloads():
+    """The name of each formula, and the words by which make_formula.py writes it."""
+    yield "pigeons 7", ["pigeons", "7"]
+    for name, least, tables in SMALL + LARGE:
+        for size in (least - 1, least):
+            yield f"{name}, size {size}", ["ssv", str(size), *tables.split()]
+
+
+def script(name, *words):
+    return [sys.executable, os.path.join(HERE, name), *words]
+
+
+def peak_now(pid):
+    """The peak of a process's memory in kilobytes; None where it has ended."""
+    with open(f"/proc/{pid}/status", encoding="ascii", errors="replace") as status:
+        return next((int(line.split()[1]) for line in status if line.startswith("VmHWM")), None)
+
+
+def watch(child):
+    """Waits for the end of a process, and gives the last peak that was seen."""
+    seen, end = 0, time.monotonic() + LONGEST
+    while (peak := peak_now(child.pid)) is not None:
+        seen = peak
+        if time.monotonic() > end:
+            child.kill()
+        time.sleep(0.001)
+    return seen
+
+
+def run(words, path):
+    """What a command prints of a file, its user seconds, and its peak of memory in kilobytes."""
+    with open(path, "rb") as given, tempfile.TemporaryFile() as told:
+        child = subprocess.Popen(words, stdin=given, stdout=told, stderr=subprocess.DEVNULL)
+        seen = watch(child)
+        _, status, used = os.wait4(child.pid, 0)
+        child.returncode = status
+        told.seek(0)
+        text = told.read().decode(errors="replace")
+    # what the system tells at the end counts the memory of this process too
+    own = resource.getrusage(resource.RUSAGE_SELF).ru_maxrss
+    return Run(text, used.ru_utime, used.ru_maxrss if used.ru_maxrss > own else seen)
+
+
+def fastest(words, path):
+    """The least time and the greatest peak of some runs."""
+    runs = [run(words, path)]
+    while len(runs) < 3 and runs[0].seconds < 1:
+        runs.append(run(words, path))
+    return Run(runs[0].text, min(run.seconds for run in runs), max(run.peak for run in runs))
+
+
+def write_formula(words, path):
+    with open(path, "wb") as file:
+        subprocess.run(script("make_formula.py", *words), stdout=file, check=True)
+
+
+def numbers_of(text):
+    """The numbers of a line such as `Refuted, 3 conflicts, 8 hints`, by their names."""
+    return {name: int(number) for number, name in re.findall(r"(\d+) (\w+)", text)}
+
+
+def counted(text, path, steps):
+    """The numbers that the program printed; with those of the steps, where they are to be counted."""
+    told = numbers_of(text)
+    if text.startswith("Satisfied"):
+        told = {}
+    if not steps or told.get("conflicts", 0) > MOST_STEPS:
+        return told
+    again = run(script("count_steps.py", str(MOST_STEPS)), path).text
+    if again.split(",")[0] != text.split(",")[0]:
+        return told
+    numbers = numbers_of(again)
+    return numbers if told.items() <= numbers.items() else {**told, "propagations": "other steps"}
+
+
+def in_words(number):
+    return f"{number:,}" if isinstance(number, int) else number or "-"
+
+
+def columns(program, path, steps):
+    """What the program does with a formula."""
+    with open(path, encoding="ascii") as file:
+        sizes = [in_words(int(word)) for word in file.readline().split()[1:]]
+    first = fastest([program, "solve"], path)
+    answer = first.text.split(",")[0].strip() or f"more than {LONGEST} s"
+    numbers = counted(first.text, path, steps)
+    conflicts = numbers.get("conflicts")
+    rate = f"{conflicts / first.seconds:,.0f}" if conflicts and first.seconds >= 0.01 else "-"
+    peak = f"{first.peak / 1024:.1f} MB" if first.peak else "-"
+    numbers = [in_words(numbers.get(name)) for name in ("conflicts", "hints", "propagations")]
+    return [*sizes, answer, *numbers, f"{first.seconds:.2f} s", rate, peak]
+
+
+def columns_beside(solver, path):
+    """What another solver does with a formula."""
+    other = fastest([solver, path], path)
+    conflicts = re.search(r"conflicts\s*:\s*(\d+)", other.text)
+    return [in_words(conflicts and int(conflicts[1])), f"{other.seconds:.2f} s"]
+
+
+def row(cells):
+    return f"| {' | '.join(cells)} |"
+
+
+def main():
+    program, *options = sys.argv[1:]
+    solver = options[options.index("--beside") + 1] if "--beside" in options else None
+    titles = "Formula,Variables,Clauses,Answer,Conflicts,Hints,Propagations,Time,Conflicts a second,Peak memory".split(",")
+    titles += [f"{solver}: conflicts", "Time"] if solver else []
+    print(row(titles), row(["---"] * len(titles)).replace(" ", ""), sep="\n")
+    with tempfile.TemporaryDirectory() as folder:
+        path = os.path.join(folder, "formula")
+        for name, words in workloads():
+            write_formula(words, path)
+            cells = [name, *columns(program, path, "--steps" in options)]
+            if solver:
+                write_formula(["--dimacs", *words], path)
+                cells += columns_beside(solver, path)
+            print(row(cells), flush=True)
+
+
+if __name__ == "__main__":
+    main()
