@@ -6,7 +6,7 @@
 It reads what `make_formula.py` writes, and gives up behind MOST conflicts, where a number is named. It
 decides, propagates, learns and restarts as `cdcl_core` does, with the same order of all lists, and shares no
 line with it: equal numbers of conflicts and hints say that both take the same steps. Propagations are the
-literals of the trail that were visited, and visits the clauses that watched one of them.
+literals of the trail that were visited, and visits the clauses that were read for them.
 
 In tables by literals, -v stands at the index -v, which counts from the end.
 """
@@ -151,15 +151,23 @@ class Trail:
         del self.lits[length:]
 
 
+def swap_remove(items, index):
+    """Takes an item out, and puts the last one there."""
+    items[index] = items[-1]
+    items.pop()
+
+
 class Clauses:
     """Clauses by their ids, from 1 on. Each of two literals and more watches two of them, and the search
-    for another one begins at its place in `froms`."""
+    for another one begins at its place in `froms`. Beside each id in a list of `watching` stands a literal
+    of its clause in `blockers`."""
 
     def __init__(self, variables, clauses):
         self.lits = [None]
         self.pairs = [None]
         self.froms = [0]
         self.watching = [[] for _ in range(2 * variables + 1)]
+        self.blockers = [[] for _ in range(2 * variables + 1)]
         for lits in clauses:
             self.add(lits)
 
@@ -167,10 +175,15 @@ class Clauses:
         self.lits.append(lits)
         self.pairs.append(tuple(lits[:2]))
         self.froms.append(0)
+        id = len(self.lits) - 1
         if len(lits) > 1:
-            self.watching[lits[0]].append(len(self.lits) - 1)
-            self.watching[lits[1]].append(len(self.lits) - 1)
-        return len(self.lits) - 1
+            self.watch(lits[0], id, lits[1])
+            self.watch(lits[1], id, lits[0])
+        return id
+
+    def watch(self, lit, id, blocker):
+        self.watching[lit].append(id)
+        self.blockers[lit].append(blocker)
 
 
 class Analysis:
@@ -295,29 +308,34 @@ class Solver:
         return 0
 
     def visit_watching(self, fallen):
-        """Visits the clauses that watch a literal that fell: the id of a falsified one, or 0."""
-        fell, pairs, watching = self.trail.fell, self.clauses.pairs, self.clauses.watching
-        ids = watching[fallen]
-        length, index = len(ids), 0
-        while index < len(ids):
+        """Visits the clauses that watch a literal that fell and have no true blocker: the id of a falsified
+        one, or 0."""
+        fell, pairs = self.trail.fell, self.clauses.pairs
+        ids, blockers = self.clauses.watching[fallen], self.clauses.blockers[fallen]
+        index = visits = conflict = 0
+        while index < len(ids) and not conflict:
+            if fell[-blockers[index]]:
+                index += 1
+                continue
+            visits += 1
             id = ids[index]
             first, second = pairs[id]
             other = second if first == fallen else first
             if fell[-other]:
+                blockers[index] = other
                 index += 1
             elif to := self.replacement(id, other):
-                watching[to].append(id)
-                ids[index] = ids[-1]
-                ids.pop()
                 pairs[id] = other, to
+                self.clauses.watch(to, id, other)
+                swap_remove(ids, index)
+                swap_remove(blockers, index)
             elif fell[other]:
-                self.count("visits", length - len(ids) + index + 1)
-                return id
+                conflict = id
             else:
                 self.trail.push(other, id)
                 index += 1
-        self.count("visits", length)
-        return 0
+        self.count("visits", visits)
+        return conflict
 
     def propagate(self):
         """Makes true what follows, by the watched literals: the id of a falsified clause, or 0."""
