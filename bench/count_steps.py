@@ -151,23 +151,16 @@ class Trail:
         del self.lits[length:]
 
 
-def swap_remove(items, index):
-    """Takes an item out, and puts the last one there."""
-    items[index] = items[-1]
-    items.pop()
-
-
 class Clauses:
     """Clauses by their ids, from 1 on. Each of two literals and more watches two of them, and the search
-    for another one begins at its place in `froms`. Beside each id in a list of `watching` stands a literal
-    of its clause in `blockers`."""
+    for another one begins at its place in `froms`. A list of `watching` has the ids, each with a literal of
+    its clause, the blocker."""
 
     def __init__(self, variables, clauses):
         self.lits = [None]
         self.pairs = [None]
         self.froms = [0]
         self.watching = [[] for _ in range(2 * variables + 1)]
-        self.blockers = [[] for _ in range(2 * variables + 1)]
         for lits in clauses:
             self.add(lits)
 
@@ -177,13 +170,9 @@ class Clauses:
         self.froms.append(0)
         id = len(self.lits) - 1
         if len(lits) > 1:
-            self.watch(lits[0], id, lits[1])
-            self.watch(lits[1], id, lits[0])
+            self.watching[lits[0]].append((id, lits[1]))
+            self.watching[lits[1]].append((id, lits[0]))
         return id
-
-    def watch(self, lit, id, blocker):
-        self.watching[lit].append(id)
-        self.blockers[lit].append(blocker)
 
 
 class Analysis:
@@ -300,35 +289,35 @@ class Solver:
     def replacement(self, id, other):
         """The next literal of a clause that hasn't fallen, besides one; 0 where there is none."""
         fell, lits, start = self.trail.fell, self.clauses.lits[id], self.clauses.froms[id]
-        for place in itertools.chain(range(start, len(lits)), range(start)):
+        for place in range(start - len(lits), start):
             lit = lits[place]
             if lit != other and not fell[lit]:
-                self.clauses.froms[id] = place
+                self.clauses.froms[id] = place % len(lits)
                 return lit
         return 0
 
     def visit_watching(self, fallen):
         """Visits the clauses that watch a literal that fell and have no true blocker: the id of a falsified
         one, or 0."""
-        fell, pairs = self.trail.fell, self.clauses.pairs
-        ids, blockers = self.clauses.watching[fallen], self.clauses.blockers[fallen]
+        fell, pairs, watching = self.trail.fell, self.clauses.pairs, self.clauses.watching
+        entries = watching[fallen]
         index = visits = conflict = 0
-        while index < len(ids) and not conflict:
-            if fell[-blockers[index]]:
+        while index < len(entries) and not conflict:
+            id, blocker = entries[index]
+            if fell[-blocker]:
                 index += 1
                 continue
             visits += 1
-            id = ids[index]
             first, second = pairs[id]
             other = second if first == fallen else first
             if fell[-other]:
-                blockers[index] = other
+                entries[index] = id, other
                 index += 1
             elif to := self.replacement(id, other):
                 pairs[id] = other, to
-                self.clauses.watch(to, id, other)
-                swap_remove(ids, index)
-                swap_remove(blockers, index)
+                watching[to].append((id, other))
+                entries[index] = entries[-1]
+                entries.pop()
             elif fell[other]:
                 conflict = id
             else:
