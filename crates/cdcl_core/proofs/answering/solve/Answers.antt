@@ -17,6 +17,9 @@ returns-in_ok-assignment-in-Valued-clause-sat c =
     let valued : IsValued c.args.cnf.now s = subst (λ (e : Ending). Ends c.args.cnf.now c.args.budget s e) c.in-Valued.is (c.in_ok-run.ensures c.args.cnf.now c.in_ok-search.ensures.logged) in
     values_satisfy c.args.cnf.now s.clauses s.trail (line_values s.lines.items) c.in_ok-assignment-in-Valued.field-0 c.has_empty.ensures.whole.formula valued.logged valued.vars valued.values valued.settled c.in_ok-assignment-in-Valued.ensures
 
+pub returns-in-Refuted-clause-unsat : goal.returns-in-Refuted-clause-unsat
+returns-in-Refuted-clause-unsat c = subst (λ (e : Ending). Ends c.args.cnf.now c.args.budget c.run.new.self e) c.in-Refuted.is (c.in_ok-run.ensures c.args.cnf.now c.in_ok-search.ensures.logged)
+
 pub returns-in-Spent-clause-open : goal.returns-in-Spent-clause-open
 returns-in-Spent-clause-open c =
     let s = c.run.new.self in
