@@ -10,42 +10,19 @@ constant. The formulas are made here from their description, and not by the prog
 depth-first search, as in make_log.py.
 """
 
-import itertools
 import sys
 
+from make_formula import Coding, pairs, write_formula
 from make_log import Search
 
 
-def formula(inputs, tables, steps):
+def formula(tables, steps):
     """The number of variables, the clauses, and the variables in the order in which they are decided."""
-    rows = range(1 << inputs)
-    places = range(inputs + 1, inputs + steps + 1)
-    pairs = {i: sorted(itertools.product(range(1, i), repeat=2), key=lambda p: (max(p), p[0] != p[1], min(p), p[0] > p[1])) for i in places}
-    count = itertools.count(1)
-    value = {(i, t): next(count) for i in places for t in rows}
-    output = {(h, i): next(count) for h in range(len(tables)) for i in places}
-    operator = {(i, bc): next(count) for i in places for bc in range(4)}
-    chosen = {(i, p): next(count) for i in places for p in pairs[i]}
-
-    def differs(place, row, bit):
-        """The literals that say that a place's value isn't this bit, or None where it isn't."""
-        if place <= inputs:
-            return [] if row >> (inputs - place) & 1 == bit else None
-        return [-value[place, row] if bit else value[place, row]]
-
-    clauses = [[output[h, i] for i in places] for h in range(len(tables))]
-    for (h, i), t in itertools.product(output, rows):
-        if tables[h][t] != "-":
-            clauses.append([-output[h, i], value[i, t] if tables[h][t] == "1" else -value[i, t]])
-    clauses += [[chosen[i, p] for p in pairs[i]] for i in places]
-    for (i, (j, k)), t, a, b, c in itertools.product(chosen, rows, (0, 1), (0, 1), (0, 1)):
-        left, right = differs(j, t, b), differs(k, t, c)
-        if left is None or right is None or j == k and b != c:
-            continue
-        operands = left if j == k else left + right
-        clauses.append([-chosen[i, (j, k)], *differs(i, t, a), *operands, operator[i, 2 * b + c] if a else -operator[i, 2 * b + c]])
-    order = [v for i in places for v in [*(chosen[i, p] for p in pairs[i]), *(operator[i, bc] for bc in range(4))]]
-    return next(count) - 1, clauses, order + [*output.values(), *value.values()]
+    coding = Coding(tables, steps, pairs)
+    coding.chain()
+    # step by step its pairs and its operator, and then the outputs and the values
+    rank = lambda name: (name[0] in "gx", name[1] if name[0] in "sf" else 0, "sfgx".index(name[0]))
+    return len(coding.numbers), coding.clauses, [coding.numbers[name] for name in sorted(coding.numbers, key=rank)]
 
 
 class Spent(Exception):
@@ -70,9 +47,9 @@ class Log(Search):
         return super().add(lits, hints)
 
 
-def logged(inputs, tables, size, budget):
+def logged(tables, size, budget):
     """The number of variables and the clauses of a size, the lines of its log, and whether they refute it."""
-    variables, clauses, order = formula(inputs, tables, size)
+    variables, clauses, order = formula(tables, size)
     log = Log(variables, clauses, order, budget)
     trail, hints = [], []
     for i, clause in log.clauses.items():
@@ -92,7 +69,7 @@ def write_bundle(inputs, tables, greatest, budget, out):
     out.write(f"basis all\nmethod plain\nconflicts {max(budget, 1)}\nmax {greatest}\n")
     low = None
     for size in range(greatest + 1):
-        _, _, lines, refuted = logged(inputs, tables, size, budget)
+        _, _, lines, refuted = logged(tables, size, budget)
         if not refuted and low is None:
             low = size
         out.write(f"size {size}\n{'refuted' if refuted else 'open'}\n")
@@ -102,10 +79,8 @@ def write_bundle(inputs, tables, greatest, budget, out):
 
 
 def write_log(inputs, tables, size, budget, out):
-    variables, clauses, lines, _ = logged(inputs, tables, size, budget)
-    out.write(f"formula {variables} {len(clauses)}\n")
-    for i, clause in enumerate(clauses):
-        out.write(" ".join(map(str, [i + 1, *clause, 0, 0])) + "\n")
+    variables, clauses, lines, _ = logged(tables, size, budget)
+    write_formula(variables, clauses, out)
     out.writelines(lines)
 
 

@@ -194,7 +194,7 @@ def formula(family, *words):
     return {"plain": plain, "ssv": ssv}[family](int(words[0]), words[1:])
 
 
-def write(variables, clauses, out):
+def write_formula(variables, clauses, out):
     out.write(f"formula {variables} {len(clauses)}\n")
     out.writelines(" ".join(map(str, [i, *clause, 0, 0])) + "\n" for i, clause in enumerate(clauses, 1))
 
@@ -209,7 +209,7 @@ def main():
     if words[0] == "--dimacs":
         write_dimacs(*formula(*words[1:]), sys.stdout)
     else:
-        write(*formula(*words), sys.stdout)
+        write_formula(*formula(*words), sys.stdout)
 
 
 if __name__ == "__main__":
