@@ -154,30 +154,42 @@ fn pigeons(alloc: Global, holes: u32) -> Result<Cnf, AllocError> {
     Ok(cnf)
 }
 
+/// Whether the pigeons are refuted within a budget; None where the answer or its log is wrong.
+fn pigeons_refuted(alloc: Global, holes: u32, budget: u32) -> Result<Option<bool>, Fail> {
+    if budget == 0 || budget > 1000000 {
+        return Ok(None);
+    }
+    let cnf = pigeons(alloc, holes)?;
+    let (log, refuted) = match solve(alloc, &cnf, budget)? {
+        Solved::Sat(_) => return Ok(None),
+        Solved::Unsat(log) => (log, true),
+        Solved::Open(log) => (log, false),
+    };
+    let enough = refuted || log.lines.len() >= budget as usize;
+    if enough && judged(alloc, cnf, &log)? == Some(refuted) {
+        return Ok(Some(refuted));
+    }
+    Ok(None)
+}
+
 #[test]
 fn pigeons_have_no_holes(rt: HostRuntime) -> Result<(), Fail> {
     let alloc = rt.alloc();
-    for (holes, budget, refuted) in [
-        (3, 1, Some(false)),
-        (3, 1000000, Some(true)),
-        (4, 3, Some(false)),
-        (5, 1000000, Some(true)),
-        // either way
-        (9, 20000, None),
+    for (holes, budget, end) in [
+        (3, 1, false),
+        (3, 1000000, true),
+        (4, 3, false),
+        (5, 1000000, true),
     ] {
-        let cnf = pigeons(alloc, holes)?;
-        match solve(alloc, &cnf, budget)? {
-            Solved::Sat(_) => assert!(rt; false, "satisfied"),
-            Solved::Unsat(log) => {
-                assert!(rt; refuted != Some(false));
-                assert!(rt; judged(alloc, cnf, &log)? == Some(true));
-            }
-            Solved::Open(log) => {
-                assert!(rt; refuted != Some(true) && log.lines.len() >= budget as usize);
-                assert!(rt; judged(alloc, cnf, &log)? == Some(false));
-            }
-        }
+        assert_eq!(rt; pigeons_refuted(alloc, holes, budget)?, Some(end));
     }
+    Ok(())
+}
+
+#[test]
+fn ten_pigeons_have_a_log(rt: HostRuntime) -> Result<(), Fail> {
+    // either way
+    assert!(rt; pigeons_refuted(rt.alloc(), 9, 20000)?.is_some());
     Ok(())
 }
 
