@@ -85,7 +85,7 @@ class Choice:
 
     def __init__(self, variables):
         self.heap = Heap(variables)
-        self.signs = [-1] * (variables + 1)
+        self.signs = [1] * (variables + 1)
         self.step = FIRST_STEP
 
     def release(self, lits):

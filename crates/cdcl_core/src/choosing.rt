@@ -38,13 +38,13 @@ pub(crate) struct Choice {
 impl Choice {
     ghost use Rattle.cdcl_core.specs.Choosing.{IsChoosing};
 
-    /// All variables with the same score; each is to be false first.
+    /// All variables with the same score; each is to be true first.
     pub(crate) fn new(alloc: Global, vars: u32) -> Result<Choice, AllocError>
         ensures { IfOk result (λ c. (t : Trailed) → t.vars ≡ vars → IsChoosing t c) }
     {
         Ok(Choice {
             heap: VarHeap::new(alloc, vars)?,
-            signs: vec![in alloc; false; vars as usize + 1]?,
+            signs: vec![in alloc; true; vars as usize + 1]?,
             step: FIRST_STEP,
         })
     }
