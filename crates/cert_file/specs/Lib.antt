@@ -6,4 +6,5 @@ pub use Rattle.cert_theory.specs.Gives
 pub mod Logged
 pub mod Refusals
 pub mod Stages
+pub mod TextLines
 pub mod Titled

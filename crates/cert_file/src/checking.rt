@@ -8,11 +8,13 @@ ghost use Rattle.cert_theory.specs.Bundle.{Bundle};
 ghost use Rattle.cert_theory.specs.Meaning.{Means};
 ghost use Rattle.cert_theory.specs.Spelling.{IsBundle, HasVerdict};
 ghost use Rattle.cert_theory.specs.Judging.{bundle_of};
+ghost use Rattle.cert_file.specs.TextLines.{line_of};
 ghost use Rattle.cert_file.specs.Stages as stages;
 ghost use Rattle.cert_file.specs.Stages.{Answer, IsStage, Stands, Judged};
 
 use crate::ending::{at_end, at_found, at_outs, at_steps};
 use crate::heading::{at_conflicts, at_inputs, at_max, at_method, at_start, at_tables};
+use crate::lines::TextLine;
 use crate::logs::{at_begun, at_within};
 use crate::sections::at_between;
 use crate::stage::Stage;
@@ -22,61 +24,53 @@ use std::alloc::Global;
 use text_core::next_line;
 
 /// Takes the next line.
-fn take(
-    alloc: Global,
-    stage: Stage,
-    text: &[u8],
-    ended: bool,
-    number: u32,
-) -> Result<Stage, BundleError>
-    requires stage { IsStage stage number }
-    requires number { number < 2 ^ 31 }
-    ensures keeps { IfOk result (λ s. IsStage s (number + 1)) }
-    ensures answer { (lines ls : List Line) (answer : Answer) → Stands stage number lines answer → lines ≡ record { text = text.now; ended = ended } ∷ ls → Judged result (number + 1) ls answer }
+fn take(alloc: Global, stage: Stage, line: &TextLine) -> Result<Stage, BundleError>
+    requires stage { IsStage stage line.now.number }
+    requires number { line.now.number < 2 ^ 31 }
+    ensures keeps { IfOk result (λ s. IsStage s (line.now.number + 1)) }
+    ensures answer { (lines ls : List Line) (answer : Answer) → Stands stage line.now.number lines answer → lines ≡ line_of line.now ∷ ls → Judged result (line.now.number + 1) ls answer }
 {
     match stage {
-        Stage::Start => at_start(text, ended),
-        Stage::Inputs => at_inputs(alloc, text, ended),
-        Stage::Tables { n, on, care } => at_tables(alloc, n, on, care, text, ended),
-        Stage::Methods { spec, basis } => at_method(spec, basis, text, ended, number),
+        Stage::Start => at_start(line),
+        Stage::Inputs => at_inputs(alloc, line),
+        Stage::Tables { n, on, care } => at_tables(alloc, n, on, care, line),
+        Stage::Methods { spec, basis } => at_method(spec, basis, line),
         Stage::Conflicts {
             spec,
             basis,
             method,
-        } => at_conflicts(spec, basis, method, text, ended, number),
+        } => at_conflicts(spec, basis, method, line),
         Stage::Sizes {
             spec,
             basis,
             method,
             conflicts,
-        } => at_max(spec, basis, method, conflicts, text, ended, number),
-        Stage::Between { heading, size, low } => {
-            at_between(alloc, heading, size, low, text, ended, number)
-        }
-        Stage::Due { running } => at_due(alloc, running, text, ended, number),
-        Stage::Begun { running } => at_begun(alloc, running, text, ended, number),
+        } => at_max(spec, basis, method, conflicts, line),
+        Stage::Between { heading, size, low } => { at_between(alloc, heading, size, low, line) }
+        Stage::Due { running } => at_due(alloc, running, line),
+        Stage::Begun { running } => at_begun(alloc, running, line),
         Stage::Within {
             running,
             ended: end,
             checker,
             additions,
-        } => at_within(alloc, running, end, checker, additions, text, ended, number),
+        } => at_within(alloc, running, end, checker, additions, line),
         Stage::Steps {
             heading,
             low,
             frame,
             steps,
-        } => at_steps(alloc, heading, low, frame, steps, text, ended, number),
+        } => at_steps(alloc, heading, low, frame, steps, line),
         Stage::Outs {
             heading,
             low,
             frame,
             steps,
             outs,
-        } => at_outs(heading, low, frame, steps, outs, text, ended, number),
-        Stage::Found { size, low } => at_found(size, low, text, ended, number),
-        Stage::End { verdict } => at_end(verdict, text, ended, number),
-        Stage::Done { .. } => Err(BundleError::Syntax(number)),
+        } => at_outs(heading, low, frame, steps, outs, line),
+        Stage::Found { size, low } => at_found(size, low, line),
+        Stage::End { verdict } => at_end(verdict, line),
+        Stage::Done { .. } => Err(BundleError::Syntax(line.number)),
     }
 }
 
@@ -110,7 +104,12 @@ fn judge(alloc: Global, bytes: &[u8]) -> Result<Verdict, BundleError>
     let mut number = 1u32;
     let mut left = bytes;
     while let Some((text, ended, rest)) = next_line(left) {
-        stage = take(alloc, stage, text, ended, number)?;
+        let line = TextLine {
+            text,
+            ended,
+            number,
+        };
+        stage = take(alloc, stage, &line)?;
         number += 1;
         left = rest;
     }

@@ -7,12 +7,12 @@ ghost use Rattle.chain_core.specs.Steps.{step_of, steps_of};
 ghost use Rattle.text_core.specs.Items.{items_of};
 ghost use Rattle.cert_theory.specs.Gives.{Gives};
 ghost use Rattle.cert_theory.specs.Coding.{is_titled};
-ghost use Rattle.cert_theory.specs.Bundle as bundles;
 ghost use Rattle.cert_theory.specs.Judging as judging;
 ghost use Rattle.cert_file.specs.Refusals.{IsRefusal};
+ghost use Rattle.cert_file.specs.TextLines.{line_of};
 ghost use Rattle.cert_file.specs.Stages.{Answer, Judged, IsStage, IsKnown, AreRead, AreNamed, outs_then, steps_then};
 
-use crate::lines::{GREATEST, begins, is_line, number_behind, value_of};
+use crate::lines::{GREATEST, TextLine, begins, is_line, number_behind, value_of};
 use crate::stage::Stage;
 use crate::titles::is_title;
 use cert_theory::{BundleError, Heading, Verdict};
@@ -40,22 +40,16 @@ fn refusal(error: ChainError) -> BundleError
 
 /// The number of steps of a chain block, which is to be that of the sections.
 #[tactic(auto, using(crate::proofs::Refusing::refusing), unfolding(cert_theory::specs::Judging::steps_at))]
-fn steps_at(
-    heading: &Heading,
-    size: u32,
-    text: &[u8],
-    ended: bool,
-    number: u32,
-) -> Result<u32, BundleError>
-    ensures exact { Gives (λ x. x) result (judging.steps_at heading.now number size (record { text = text.now; ended = ended })) }
+fn steps_at(heading: &Heading, size: u32, line: &TextLine) -> Result<u32, BundleError>
+    ensures exact { Gives (λ x. x) result (judging.steps_at heading.now line.now.number size (line_of line.now)) }
     ensures few { IfOk result (λ steps. steps ≤ 16) }
 {
-    let steps = match count_at(number, text, ended) {
+    let steps = match count_at(line.number, line.text, line.ended) {
         Ok(steps) => steps,
         Err(error) => return Err(refusal(error)),
     };
     if steps != size || steps > heading.max {
-        return Err(BundleError::SizeOutOfOrder(number));
+        return Err(BundleError::SizeOutOfOrder(line.number));
     }
     Ok(steps)
 }
@@ -66,20 +60,18 @@ fn at_chain(
     heading: Heading,
     size: u32,
     low: Option<u32>,
-    text: &[u8],
-    ended: bool,
-    number: u32,
+    line: &TextLine,
 ) -> Result<Stage, BundleError>
     requires known { IsKnown heading }
-    requires number { number < 2 ^ 31 }
-    ensures keeps { IfOk result (λ s. IsStage s (number + 1)) }
-    ensures answer { (ls : List Line) (answer : Answer) → answer ≡ judging.chain_at heading number size low (record { text = text.now; ended = ended }) ls → Judged result (number + 1) ls answer }
+    requires number { line.now.number < 2 ^ 31 }
+    ensures keeps { IfOk result (λ s. IsStage s (line.now.number + 1)) }
+    ensures answer { (ls : List Line) (answer : Answer) → answer ≡ judging.chain_at heading line.now.number size low (line_of line.now) ls → Judged result (line.now.number + 1) ls answer }
 {
-    let steps = steps_at(&heading, size, text, ended, number)?;
+    let steps = steps_at(&heading, size, line)?;
     let n = heading.spec.n();
     let outputs = heading.spec.outputs();
     let frame = Frame {
-        first_line: number,
+        first_line: line.number,
         n,
         outputs,
         steps,
@@ -108,17 +100,15 @@ pub(crate) fn at_steps(
     low: Option<u32>,
     frame: Frame,
     steps: Vec<Step>,
-    text: &[u8],
-    ended: bool,
-    number: u32,
+    line: &TextLine,
 ) -> Result<Stage, BundleError>
-    requires number { number < 2 ^ 31 }
-    requires read { AreRead heading frame steps.items number }
-    ensures keeps { IfOk result (λ s. IsStage s (number + 1)) }
-    ensures answer { (ls : List Line) (answer : Answer) → answer ≡ judging.with_block heading frame low (steps_then frame (block.steps_from frame (steps_of steps.items) (record { text = text.now; ended = ended } ∷ ls))) → Judged result (number + 1) ls answer }
+    requires number { line.now.number < 2 ^ 31 }
+    requires read { AreRead heading frame steps.items line.now.number }
+    ensures keeps { IfOk result (λ s. IsStage s (line.now.number + 1)) }
+    ensures answer { (ls : List Line) (answer : Answer) → answer ≡ judging.with_block heading frame low (steps_then frame (block.steps_from frame (steps_of steps.items) (line_of line.now ∷ ls))) → Judged result (line.now.number + 1) ls answer }
 {
     let _inputs = heading.spec.n();
-    let step = match step_at(&frame, steps.len() as u32, text, ended) {
+    let step = match step_at(&frame, steps.len() as u32, line.text, line.ended) {
         Ok(step) => step,
         Err(error) => return Err(refusal(error)),
     };
@@ -165,17 +155,15 @@ pub(crate) fn at_outs(
     frame: Frame,
     steps: Vec<Step>,
     outs: Vec<Out>,
-    text: &[u8],
-    ended: bool,
-    number: u32,
+    line: &TextLine,
 ) -> Result<Stage, BundleError>
-    requires number { number < 2 ^ 31 }
-    requires read { AreNamed heading frame steps.items outs.items number }
-    ensures keeps { IfOk result (λ s. IsStage s (number + 1)) }
-    ensures answer { (ls : List Line) (answer : Answer) → answer ≡ judging.with_block heading frame low (outs_then frame (steps_of steps.items) (block.outs_from frame outs.items (record { text = text.now; ended = ended } ∷ ls))) → Judged result (number + 1) ls answer }
+    requires number { line.now.number < 2 ^ 31 }
+    requires read { AreNamed heading frame steps.items outs.items line.now.number }
+    ensures keeps { IfOk result (λ s. IsStage s (line.now.number + 1)) }
+    ensures answer { (ls : List Line) (answer : Answer) → answer ≡ judging.with_block heading frame low (outs_then frame (steps_of steps.items) (block.outs_from frame outs.items (line_of line.now ∷ ls))) → Judged result (line.now.number + 1) ls answer }
 {
     let _inputs = heading.spec.n();
-    let out = match out_at(&frame, outs.len() as u32, text, ended) {
+    let out = match out_at(&frame, outs.len() as u32, line.text, line.ended) {
         Ok(out) => out,
         Err(error) => return Err(refusal(error)),
     };
@@ -228,86 +216,54 @@ fn bounded_in(text: &[u8]) -> Option<Verdict>
 
 /// The verdict of a line, where a chain stands before it.
 #[tactic(auto, unfolding(cert_theory::specs::Judging::found_in))]
-fn found_in(text: &[u8], ended: bool) -> Option<Verdict>
-    ensures { result ≡ judging.found_in (record { text = text.now; ended = ended }) }
+fn found_in(line: &TextLine) -> Option<Verdict>
+    ensures { result ≡ judging.found_in (line_of line.now) }
 {
-    if begins(b"minimum ", text, ended) {
-        let r = number_behind(b"minimum ", text, ended)?;
+    if begins(b"minimum ", line) {
+        let r = number_behind(b"minimum ", line)?;
         return Some(Verdict::Minimum(r));
     }
-    bounded_in(value_of(b"bounded ", text, ended)?)
+    bounded_in(value_of(b"bounded ", line)?)
 }
 
 /// The verdict of a line, where none does.
 #[tactic(auto, unfolding(cert_theory::specs::Judging::not_found_in))]
-pub(crate) fn not_found_in(text: &[u8], ended: bool) -> Option<Verdict>
-    ensures { result ≡ judging.not_found_in (record { text = text.now; ended = ended }) }
+pub(crate) fn not_found_in(line: &TextLine) -> Option<Verdict>
+    ensures { result ≡ judging.not_found_in (line_of line.now) }
 {
-    if begins(b"none ", text, ended) {
-        let most = number_behind(b"none ", text, ended)?;
+    if begins(b"none ", line) {
+        let most = number_behind(b"none ", line)?;
         return Some(Verdict::NoChain(most));
     }
-    let low = number_behind(b"open ", text, ended)?;
+    let low = number_behind(b"open ", line)?;
     Some(Verdict::Open { low })
-}
-
-/// The verdict with a chain of so many steps, where the first open size is given.
-fn found(size: u32, low: Option<u32>) -> Verdict
-    ensures { result ≡ bundles.found size low }
-{
-    match low {
-        None => Verdict::Minimum(size),
-        Some(low) => Verdict::Bounded { low, r: size },
-    }
-}
-
-/// The verdict without a chain.
-fn not_found(max: u32, low: Option<u32>) -> Verdict
-    ensures { result ≡ bundles.not_found max low }
-{
-    match low {
-        None => Verdict::NoChain(max),
-        Some(low) => Verdict::Open { low },
-    }
 }
 
 /// The verdict behind a chain.
 #[tactic(auto, unfolding(cert_theory::specs::Judging::behind_chain))]
-pub(crate) fn at_found(
-    size: u32,
-    low: Option<u32>,
-    text: &[u8],
-    ended: bool,
-    number: u32,
-) -> Result<Stage, BundleError>
-    ensures keeps { IfOk result (λ s. IsStage s (number + 1)) }
-    ensures answer { (ls : List Line) (answer : Answer) → answer ≡ judging.behind_chain number size low (record { text = text.now; ended = ended } ∷ ls) → Judged result (number + 1) ls answer }
+pub(crate) fn at_found(size: u32, low: Option<u32>, line: &TextLine) -> Result<Stage, BundleError>
+    ensures keeps { IfOk result (λ s. IsStage s (line.now.number + 1)) }
+    ensures answer { (ls : List Line) (answer : Answer) → answer ≡ judging.behind_chain line.now.number size low (line_of line.now ∷ ls) → Judged result (line.now.number + 1) ls answer }
 {
-    let Some(verdict) = found_in(text, ended) else {
-        return Err(BundleError::Syntax(number));
+    let Some(verdict) = found_in(line) else {
+        return Err(BundleError::Syntax(line.number));
     };
-    if !is_same(verdict, found(size, low)) {
-        return Err(BundleError::WrongVerdict(number));
+    if !is_same(verdict, Verdict::found(size, low)) {
+        return Err(BundleError::WrongVerdict(line.number));
     }
     Ok(Stage::End { verdict })
 }
 
 /// The verdict of a line where no chain stands. By fences a title behind a section, where no part is due
 /// any more, is a fault of its own.
-fn verdict_at(
-    method: Method,
-    size: u32,
-    text: &[u8],
-    ended: bool,
-    number: u32,
-) -> Result<Verdict, BundleError>
-    ensures { Gives (λ v. v) result (judging.verdict_at (is_titled method && nat_lt 0 size) number (record { text = text.now; ended = ended })) }
+fn verdict_at(method: Method, size: u32, line: &TextLine) -> Result<Verdict, BundleError>
+    ensures { Gives (λ v. v) result (judging.verdict_at (is_titled method && nat_lt 0 size) line.now.number (line_of line.now)) }
 {
-    if matches!(method, Method::Fence) && size > 0 && is_title(text, ended) {
-        return Err(BundleError::NotRefuted(number));
+    if matches!(method, Method::Fence) && size > 0 && is_title(line) {
+        return Err(BundleError::NotRefuted(line.number));
     }
-    let Some(verdict) = not_found_in(text, ended) else {
-        return Err(BundleError::Syntax(number));
+    let Some(verdict) = not_found_in(line) else {
+        return Err(BundleError::Syntax(line.number));
     };
     Ok(verdict)
 }
@@ -317,17 +273,15 @@ fn at_not_found(
     heading: Heading,
     size: u32,
     low: Option<u32>,
-    text: &[u8],
-    ended: bool,
-    number: u32,
+    line: &TextLine,
 ) -> Result<Stage, BundleError>
     requires { heading.max ≤ 16 }
-    ensures keeps { IfOk result (λ s. IsStage s (number + 1)) }
-    ensures answer { (ls : List Line) (answer : Answer) → answer ≡ judging.no_chain_at heading number size low (record { text = text.now; ended = ended }) ls → Judged result (number + 1) ls answer }
+    ensures keeps { IfOk result (λ s. IsStage s (line.now.number + 1)) }
+    ensures answer { (ls : List Line) (answer : Answer) → answer ≡ judging.no_chain_at heading line.now.number size low (line_of line.now) ls → Judged result (line.now.number + 1) ls answer }
 {
-    let verdict = verdict_at(heading.method, size, text, ended, number)?;
-    if size != heading.max + 1 || !is_same(verdict, not_found(heading.max, low)) {
-        return Err(BundleError::WrongVerdict(number));
+    let verdict = verdict_at(heading.method, size, line)?;
+    if size != heading.max + 1 || !is_same(verdict, Verdict::not_found(heading.max, low)) {
+        return Err(BundleError::WrongVerdict(line.number));
     }
     Ok(Stage::End { verdict })
 }
@@ -338,34 +292,27 @@ pub(crate) fn at_ending(
     heading: Heading,
     size: u32,
     low: Option<u32>,
-    text: &[u8],
-    ended: bool,
-    number: u32,
+    line: &TextLine,
 ) -> Result<Stage, BundleError>
     requires known { IsKnown heading }
-    requires number { number < 2 ^ 31 }
-    ensures keeps { IfOk result (λ s. IsStage s (number + 1)) }
-    ensures answer { (ls : List Line) (answer : Answer) → answer ≡ judging.ending_at heading number size low (record { text = text.now; ended = ended }) ls → Judged result (number + 1) ls answer }
+    requires number { line.now.number < 2 ^ 31 }
+    ensures keeps { IfOk result (λ s. IsStage s (line.now.number + 1)) }
+    ensures answer { (ls : List Line) (answer : Answer) → answer ≡ judging.ending_at heading line.now.number size low (line_of line.now) ls → Judged result (line.now.number + 1) ls answer }
 {
-    if begins(b"chain ", text, ended) {
-        return at_chain(alloc, heading, size, low, text, ended, number);
+    if begins(b"chain ", line) {
+        return at_chain(alloc, heading, size, low, line);
     }
-    at_not_found(heading, size, low, text, ended, number)
+    at_not_found(heading, size, low, line)
 }
 
 /// The last line.
 #[tactic(auto, unfolding(cert_theory::specs::Judging::end_of))]
-pub(crate) fn at_end(
-    verdict: Verdict,
-    text: &[u8],
-    ended: bool,
-    number: u32,
-) -> Result<Stage, BundleError>
-    ensures keeps { IfOk result (λ s. IsStage s (number + 1)) }
-    ensures answer { (ls : List Line) (answer : Answer) → answer ≡ judging.end_of number verdict (record { text = text.now; ended = ended } ∷ ls) → Judged result (number + 1) ls answer }
+pub(crate) fn at_end(verdict: Verdict, line: &TextLine) -> Result<Stage, BundleError>
+    ensures keeps { IfOk result (λ s. IsStage s (line.now.number + 1)) }
+    ensures answer { (ls : List Line) (answer : Answer) → answer ≡ judging.end_of line.now.number verdict (line_of line.now ∷ ls) → Judged result (line.now.number + 1) ls answer }
 {
-    if !is_line(b"end", text, ended) {
-        return Err(BundleError::Syntax(number));
+    if !is_line(b"end", line) {
+        return Err(BundleError::Syntax(line.number));
     }
     Ok(Stage::Done { verdict })
 }

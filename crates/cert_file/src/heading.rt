@@ -4,9 +4,10 @@ ghost use Rattle.text_core.specs.Lines.{Line};
 ghost use Rattle.tt_core.specs.Words.{IsSpec};
 ghost use Rattle.tt_core.specs.Tables as tables;
 ghost use Rattle.cert_theory.specs.Judging as judging;
+ghost use Rattle.cert_file.specs.TextLines.{line_of};
 ghost use Rattle.cert_file.specs.Stages.{Answer, Judged, IsStage};
 
-use crate::lines::{is_line, value_of};
+use crate::lines::{TextLine, is_line, value_of};
 use crate::stage::Stage;
 use cert_theory::{BundleError, Heading};
 use enc_frame::Method;
@@ -17,27 +18,29 @@ use tt_core::{Spec, are_cells, inputs, push_row};
 
 /// The first line.
 #[tactic(auto, unfolding(cert_theory::specs::Judging::bundle_of))]
-pub(crate) fn at_start(text: &[u8], ended: bool) -> Result<Stage, BundleError>
-    ensures keeps { IfOk result (λ s. IsStage s 2) }
-    ensures answer { (ls : List Line) (answer : Answer) → answer ≡ judging.bundle_of (record { text = text.now; ended = ended } ∷ ls) → Judged result 2 ls answer }
+pub(crate) fn at_start(line: &TextLine) -> Result<Stage, BundleError>
+    requires { line.now.number ≡ 1 }
+    ensures keeps { IfOk result (λ s. IsStage s (line.now.number + 1)) }
+    ensures answer { (ls : List Line) (answer : Answer) → answer ≡ judging.bundle_of (line_of line.now ∷ ls) → Judged result (line.now.number + 1) ls answer }
 {
-    if !is_line(b"chains 1", text, ended) {
-        return Err(BundleError::Syntax(1));
+    if !is_line(b"chains 1", line) {
+        return Err(BundleError::Syntax(line.number));
     }
     Ok(Stage::Inputs)
 }
 
 /// The number of inputs.
 #[tactic(auto, unfolding(cert_theory::specs::Judging::with_tables))]
-pub(crate) fn at_inputs(alloc: Global, text: &[u8], ended: bool) -> Result<Stage, BundleError>
-    ensures keeps { IfOk result (λ s. IsStage s 3) }
-    ensures answer { (ls : List Line) (answer : Answer) → answer ≡ judging.with_tables (tables.tables_of (record { text = text.now; ended = ended } ∷ ls)) → Judged result 3 ls answer }
+pub(crate) fn at_inputs(alloc: Global, line: &TextLine) -> Result<Stage, BundleError>
+    requires { line.now.number ≡ 2 }
+    ensures keeps { IfOk result (λ s. IsStage s (line.now.number + 1)) }
+    ensures answer { (ls : List Line) (answer : Answer) → answer ≡ judging.with_tables (tables.tables_of (line_of line.now ∷ ls)) → Judged result (line.now.number + 1) ls answer }
 {
-    let Some(n) = inputs(text, ended) else {
-        return Err(BundleError::Syntax(2));
+    let Some(n) = inputs(line.text, line.ended) else {
+        return Err(BundleError::Syntax(line.number));
     };
     if n > 6 {
-        return Err(BundleError::Syntax(2));
+        return Err(BundleError::Syntax(line.number));
     }
     Ok(Stage::Tables {
         n,
@@ -48,11 +51,11 @@ pub(crate) fn at_inputs(alloc: Global, text: &[u8], ended: bool) -> Result<Stage
 
 /// The basis of a line, where it is spelled as it is written.
 #[tactic(auto, unfolding(cert_theory::specs::Judging::basis_in))]
-fn basis_in(alloc: Global, text: &[u8], ended: bool) -> Result<Option<Basis>, AllocError>
-    ensures exact { IfOk result (λ basis. basis ≡ judging.basis_in (record { text = text.now; ended = ended })) }
+fn basis_in(alloc: Global, line: &TextLine) -> Result<Option<Basis>, AllocError>
+    ensures exact { IfOk result (λ basis. basis ≡ judging.basis_in (line_of line.now)) }
     ensures some { IfOk result (λ basis. IfSome basis (λ b. 0 < b)) }
 {
-    let Some(word) = value_of(b"basis ", text, ended) else {
+    let Some(word) = value_of(b"basis ", line) else {
         return Ok(None);
     };
     let Ok(basis) = read_basis(word) else {
@@ -73,19 +76,18 @@ fn at_basis(
     n: u32,
     on: Vec<u64>,
     care: Vec<u64>,
-    text: &[u8],
-    ended: bool,
+    line: &TextLine,
 ) -> Result<Stage, BundleError>
-    requires { IsSpec (record { n = n; on = on.items; care = care.items }) }
-    ensures keeps { IfOk result (λ s. IsStage s (4 + length on.items)) }
-    ensures answer { (ls : List Line) (answer : Answer) → answer ≡ judging.with_tables (tables.end_of (record { n = n; on = on.items; care = care.items }) (record { text = text.now; ended = ended } ∷ ls)) → Judged result (4 + length on.items) ls answer }
+    requires number { line.now.number ≡ 3 + length on.items }
+    requires tables { IsSpec (record { n = n; on = on.items; care = care.items }) }
+    ensures keeps { IfOk result (λ s. IsStage s (line.now.number + 1)) }
+    ensures answer { (ls : List Line) (answer : Answer) → answer ≡ judging.with_tables (tables.end_of (record { n = n; on = on.items; care = care.items }) (line_of line.now ∷ ls)) → Judged result (line.now.number + 1) ls answer }
 {
-    let number = 3 + on.len() as u32;
     if on.is_empty() {
-        return Err(BundleError::Syntax(number));
+        return Err(BundleError::Syntax(line.number));
     }
-    let Some(basis) = basis_in(alloc, text, ended)? else {
-        return Err(BundleError::Syntax(number));
+    let Some(basis) = basis_in(alloc, line)? else {
+        return Err(BundleError::Syntax(line.number));
     };
     Ok(Stage::Methods {
         spec: Spec::new(n, on, care),
@@ -100,23 +102,27 @@ pub(crate) fn at_tables(
     n: u32,
     on: Vec<u64>,
     care: Vec<u64>,
-    text: &[u8],
-    ended: bool,
+    line: &TextLine,
 ) -> Result<Stage, BundleError>
-    requires { IsSpec (record { n = n; on = on.items; care = care.items }) }
-    ensures keeps { IfOk result (λ s. IsStage s (4 + length on.items)) }
-    ensures answer { (ls : List Line) (answer : Answer) → answer ≡ judging.with_tables (tables.rows_of (record { n = n; on = on.items; care = care.items }) (record { text = text.now; ended = ended } ∷ ls)) → Judged result (4 + length on.items) ls answer }
+    requires number { line.now.number ≡ 3 + length on.items }
+    requires tables { IsSpec (record { n = n; on = on.items; care = care.items }) }
+    ensures keeps { IfOk result (λ s. IsStage s (line.now.number + 1)) }
+    ensures answer { (ls : List Line) (answer : Answer) → answer ≡ judging.with_tables (tables.rows_of (record { n = n; on = on.items; care = care.items }) (line_of line.now ∷ ls)) → Judged result (line.now.number + 1) ls answer }
 {
-    if begins_lower(text) {
-        return at_basis(alloc, n, on, care, text, ended);
+    if begins_lower(line.text) {
+        return at_basis(alloc, n, on, care, line);
     }
-    let number = 3 + on.len() as u32;
-    if on.len() == 8 || !ended || text.is_empty() || !are_cells(text) || text.len() != 1 << n {
-        return Err(BundleError::Syntax(number));
+    if on.len() == 8
+        || !line.ended
+        || line.text.is_empty()
+        || !are_cells(line.text)
+        || line.text.len() != 1 << n
+    {
+        return Err(BundleError::Syntax(line.number));
     }
     let mut on = on;
     let mut care = care;
-    push_row(n, &mut on, &mut care, text)?;
+    push_row(n, &mut on, &mut care, line.text)?;
     Ok(Stage::Tables { n, on, care })
 }
 
@@ -141,28 +147,22 @@ fn method_named(word: &[u8]) -> Option<Method>
 
 /// The method of a line.
 #[tactic(auto, unfolding(cert_theory::specs::Judging::method_in))]
-fn method_in(text: &[u8], ended: bool) -> Option<Method>
-    ensures { result ≡ judging.method_in (record { text = text.now; ended = ended }) }
+fn method_in(line: &TextLine) -> Option<Method>
+    ensures { result ≡ judging.method_in (line_of line.now) }
 {
-    method_named(value_of(b"method ", text, ended)?)
+    method_named(value_of(b"method ", line)?)
 }
 
 /// The method.
 #[tactic(auto, unfolding(cert_theory::specs::Judging::behind_basis))]
-pub(crate) fn at_method(
-    spec: Spec,
-    basis: Basis,
-    text: &[u8],
-    ended: bool,
-    number: u32,
-) -> Result<Stage, BundleError>
+pub(crate) fn at_method(spec: Spec, basis: Basis, line: &TextLine) -> Result<Stage, BundleError>
     requires basis { 0 < basis }
     requires output { 0 < length spec.on }
-    ensures keeps { IfOk result (λ s. IsStage s (number + 1)) }
-    ensures answer { (ls : List Line) (answer : Answer) → answer ≡ judging.behind_basis spec basis number (record { text = text.now; ended = ended } ∷ ls) → Judged result (number + 1) ls answer }
+    ensures keeps { IfOk result (λ s. IsStage s (line.now.number + 1)) }
+    ensures answer { (ls : List Line) (answer : Answer) → answer ≡ judging.behind_basis spec basis line.now.number (line_of line.now ∷ ls) → Judged result (line.now.number + 1) ls answer }
 {
-    let Some(method) = method_in(text, ended) else {
-        return Err(BundleError::Syntax(number));
+    let Some(method) = method_in(line) else {
+        return Err(BundleError::Syntax(line.number));
     };
     Ok(Stage::Conflicts {
         spec,
@@ -173,10 +173,10 @@ pub(crate) fn at_method(
 
 /// The number of conflicts of a line, from 1 to 10,000,000.
 #[tactic(auto, unfolding(cert_theory::specs::Judging::conflicts_in))]
-fn conflicts_in(text: &[u8], ended: bool) -> Option<u32>
-    ensures { result ≡ judging.conflicts_in (record { text = text.now; ended = ended }) }
+fn conflicts_in(line: &TextLine) -> Option<u32>
+    ensures { result ≡ judging.conflicts_in (line_of line.now) }
 {
-    let conflicts = number_up_to(10_000_000, value_of(b"conflicts ", text, ended)?)?;
+    let conflicts = number_up_to(10_000_000, value_of(b"conflicts ", line)?)?;
     if conflicts == 0 {
         return None;
     }
@@ -189,17 +189,15 @@ pub(crate) fn at_conflicts(
     spec: Spec,
     basis: Basis,
     method: Method,
-    text: &[u8],
-    ended: bool,
-    number: u32,
+    line: &TextLine,
 ) -> Result<Stage, BundleError>
     requires basis { 0 < basis }
     requires output { 0 < length spec.on }
-    ensures keeps { IfOk result (λ s. IsStage s (number + 1)) }
-    ensures answer { (ls : List Line) (answer : Answer) → answer ≡ judging.behind_method spec basis method number (record { text = text.now; ended = ended } ∷ ls) → Judged result (number + 1) ls answer }
+    ensures keeps { IfOk result (λ s. IsStage s (line.now.number + 1)) }
+    ensures answer { (ls : List Line) (answer : Answer) → answer ≡ judging.behind_method spec basis method line.now.number (line_of line.now ∷ ls) → Judged result (line.now.number + 1) ls answer }
 {
-    let Some(conflicts) = conflicts_in(text, ended) else {
-        return Err(BundleError::Syntax(number));
+    let Some(conflicts) = conflicts_in(line) else {
+        return Err(BundleError::Syntax(line.number));
     };
     Ok(Stage::Sizes {
         spec,
@@ -211,11 +209,11 @@ pub(crate) fn at_conflicts(
 
 /// The greatest size of a line, at most 16.
 #[tactic(auto, unfolding(cert_theory::specs::Judging::max_in))]
-fn max_in(text: &[u8], ended: bool) -> Option<u32>
-    ensures exact { result ≡ judging.max_in (record { text = text.now; ended = ended }) }
+fn max_in(line: &TextLine) -> Option<u32>
+    ensures exact { result ≡ judging.max_in (line_of line.now) }
     ensures small { IfSome result (λ max. max ≤ 16) }
 {
-    let word = value_of(b"max ", text, ended)?;
+    let word = value_of(b"max ", line)?;
     number_up_to(16, word)
 }
 
@@ -226,17 +224,15 @@ pub(crate) fn at_max(
     basis: Basis,
     method: Method,
     conflicts: u32,
-    text: &[u8],
-    ended: bool,
-    number: u32,
+    line: &TextLine,
 ) -> Result<Stage, BundleError>
     requires basis { 0 < basis }
     requires output { 0 < length spec.on }
-    ensures keeps { IfOk result (λ s. IsStage s (number + 1)) }
-    ensures answer { (ls : List Line) (answer : Answer) → answer ≡ judging.behind_conflicts spec basis method conflicts number (record { text = text.now; ended = ended } ∷ ls) → Judged result (number + 1) ls answer }
+    ensures keeps { IfOk result (λ s. IsStage s (line.now.number + 1)) }
+    ensures answer { (ls : List Line) (answer : Answer) → answer ≡ judging.behind_conflicts spec basis method conflicts line.now.number (line_of line.now ∷ ls) → Judged result (line.now.number + 1) ls answer }
 {
-    let Some(max) = max_in(text, ended) else {
-        return Err(BundleError::Syntax(number));
+    let Some(max) = max_in(line) else {
+        return Err(BundleError::Syntax(line.number));
     };
     let heading = Heading {
         spec,

@@ -2,40 +2,51 @@
 ghost use Rattle.std.specs.Prelude.{◌≡◌};
 ghost use Rattle.std.specs.Option.{option_copied};
 ghost use Rattle.cert_theory.specs.Judging as judging;
+ghost use Rattle.cert_file.specs.TextLines.{line_of};
 
 use text_core::{after, number_up_to};
 
 /// The greatest number of nine digits.
 pub(crate) const GREATEST: u32 = 999_999_999;
 
+/// A line of a text.
+#[derive(Clone, Copy, Debug)]
+pub(crate) struct TextLine<'a> {
+    /// Its bytes, without the LF.
+    pub(crate) text: &'a [u8],
+    /// Whether an LF ends it.
+    pub(crate) ended: bool,
+    /// Which line of the text it is, from 1 on.
+    pub(crate) number: u32,
+}
+
 /// Whether a line is this text.
-pub(crate) fn is_line(word: &[u8], text: &[u8], ended: bool) -> bool
-    ensures { result ≡ judging.is_line word.now (record { text = text.now; ended = ended }) }
+pub(crate) fn is_line(word: &[u8], line: &TextLine) -> bool
+    ensures { result ≡ judging.is_line word.now (line_of line.now) }
 {
-    ended && text == word
+    line.ended && line.text == word
 }
 
 /// Whether a line begins with a word.
-pub(crate) fn begins(word: &[u8], text: &[u8], ended: bool) -> bool
-    ensures { result ≡ judging.begins word.now (record { text = text.now; ended = ended }) }
+pub(crate) fn begins(word: &[u8], line: &TextLine) -> bool
+    ensures { result ≡ judging.begins word.now (line_of line.now) }
 {
-    let _ended = ended;
-    after(word, text).is_some()
+    after(word, line.text).is_some()
 }
 
 /// What stands behind a word, up to the LF.
-pub(crate) fn value_of<'a>(word: &[u8], text: &'a [u8], ended: bool) -> Option<&'a [u8]>
-    ensures { option_copied result ≡ judging.value_of word.now (record { text = text.now; ended = ended }) }
+pub(crate) fn value_of<'a>(word: &[u8], line: &TextLine<'a>) -> Option<&'a [u8]>
+    ensures { option_copied result ≡ judging.value_of word.now (line_of line.now) }
 {
-    if !ended {
+    if !line.ended {
         return None;
     }
-    after(word, text)
+    after(word, line.text)
 }
 
 /// The number behind a word.
-pub(crate) fn number_behind(word: &[u8], text: &[u8], ended: bool) -> Option<u32>
-    ensures { result ≡ judging.number_behind word.now (record { text = text.now; ended = ended }) }
+pub(crate) fn number_behind(word: &[u8], line: &TextLine) -> Option<u32>
+    ensures { result ≡ judging.number_behind word.now (line_of line.now) }
 {
-    number_up_to(GREATEST, value_of(word, text, ended)?)
+    number_up_to(GREATEST, value_of(word, line)?)
 }

@@ -12,10 +12,11 @@ ghost use Rattle.cert_theory.specs.Judging as judging;
 ghost use Rattle.cert_file.specs.Logged.{IsLogged, IsRefusal, MayAdd, added_by, is_new_to};
 ghost use Rattle.cert_theory.specs.Bundle as bundles;
 ghost use Rattle.enc_frame.specs.declared.part.Part.{Part};
+ghost use Rattle.cert_file.specs.TextLines.{line_of};
 ghost use Rattle.cert_file.specs.Stages.{Answer, Judged, Stands, IsStage, IsRunning, IsPart, later_of, IsBegun, IsLogging};
 
 use crate::formulas::formula_of;
-use crate::lines::is_line;
+use crate::lines::{TextLine, is_line};
 use crate::sections::due;
 use crate::stage::{Running, Stage};
 use crate::titles::part_in;
@@ -27,16 +28,16 @@ use std::alloc::{AllocError, Global};
 
 /// How a log ends, by its first line.
 #[tactic(auto, unfolding(cert_theory::specs::Judging::ended_at))]
-fn ended_at(text: &[u8], ended: bool, number: u32) -> Result<Ended, BundleError>
-    ensures { Gives (λ x. x) result (judging.ended_at number (record { text = text.now; ended = ended })) }
+fn ended_at(line: &TextLine) -> Result<Ended, BundleError>
+    ensures { Gives (λ x. x) result (judging.ended_at line.now.number (line_of line.now)) }
 {
-    if is_line(b"refuted", text, ended) {
+    if is_line(b"refuted", line) {
         return Ok(Ended::Refuted);
     }
-    if is_line(b"open", text, ended) {
+    if is_line(b"open", line) {
         return Ok(Ended::Open);
     }
-    Err(BundleError::Syntax(number))
+    Err(BundleError::Syntax(line.number))
 }
 
 /// A checker of a formula. Only an open part asks of each clause whether it is new.
@@ -61,15 +62,13 @@ fn formula_in(alloc: Global, running: &Running) -> Result<Cnf, AllocError>
 pub(crate) fn at_begun(
     alloc: Global,
     running: Running,
-    text: &[u8],
-    ended: bool,
-    number: u32,
+    line: &TextLine,
 ) -> Result<Stage, BundleError>
     requires running { IsRunning running }
-    ensures keeps { IfOk result (λ s. IsStage s (number + 1)) }
-    ensures answer { (lines ls : List lines.Line) (answer : Answer) → IsBegun running number lines answer → lines ≡ record { text = text.now; ended = ended } ∷ ls → Judged result (number + 1) ls answer }
+    ensures keeps { IfOk result (λ s. IsStage s (line.now.number + 1)) }
+    ensures answer { (lines ls : List lines.Line) (answer : Answer) → IsBegun running line.now.number lines answer → lines ≡ line_of line.now ∷ ls → Judged result (line.now.number + 1) ls answer }
 {
-    let end = ended_at(text, ended, number)?;
+    let end = ended_at(line)?;
     let cnf = formula_in(alloc, &running)?;
     let checker = checker_of(alloc, cnf, end)?;
     Ok(Stage::Within {
@@ -82,18 +81,18 @@ pub(crate) fn at_begun(
 
 /// The line of a log that a text spells.
 #[tactic(auto, unfolding(cert_theory::specs::Judging::spelled_at))]
-fn spelled_at(alloc: Global, text: &[u8], ended: bool, number: u32) -> Result<Line, BundleError>
-    ensures exact { Gives line_value result (judging.spelled_at number (record { text = text.now; ended = ended })) }
+fn spelled_at(alloc: Global, line: &TextLine) -> Result<Line, BundleError>
+    ensures exact { Gives line_value result (judging.spelled_at line.now.number (line_of line.now)) }
     ensures is_line { IfOk result (λ l. IsLine (line_value l)) }
     ensures clause { IfOk result (λ l. HasClause (line_value l)) }
 {
-    if !ended {
-        return Err(BundleError::Syntax(number));
+    if !line.ended {
+        return Err(BundleError::Syntax(line.number));
     }
-    match read_line(alloc, text) {
+    match read_line(alloc, line.text) {
         Ok(line) => Ok(line),
         Err(LineError::Memory) => Err(BundleError::Memory),
-        Err(_) => Err(BundleError::Syntax(number)),
+        Err(_) => Err(BundleError::Syntax(line.number)),
     }
 }
 
@@ -143,22 +142,20 @@ fn logged_at(
     alloc: Global,
     checker: &mut Checker,
     end: Ended,
-    text: &[u8],
-    ended: bool,
-    number: u32,
+    line: &TextLine,
 ) -> Result<u32, BundleError>
     ensures one { IfOk result (λ added. added ≤ 1) }
-    ensures log { (f : Formula) (log : List theory.Line) → HasAccepted f log checker.old → IsLogged f number end log (record { text = text.now; ended = ended }) checker.new result }
+    ensures log { (f : Formula) (log : List theory.Line) → HasAccepted f log checker.old → IsLogged f line.now.number end log (line_of line.now) checker.new result }
 {
-    let line = spelled_at(alloc, text, ended, number)?;
-    let allowed = may_add(checker, end, &line);
-    let added = added_by(&line);
-    match checker.feed(line) {
+    let spelled = spelled_at(alloc, line)?;
+    let allowed = may_add(checker, end, &spelled);
+    let added = added_by(&spelled);
+    match checker.feed(spelled) {
         Ok(()) => {}
-        Err(fault) => return Err(refusal(fault, number)),
+        Err(fault) => return Err(refusal(fault, line.number)),
     }
     if !allowed {
-        return Err(BundleError::NotNew(number));
+        return Err(BundleError::NotNew(line.number));
     }
     Ok(added)
 }
@@ -230,28 +227,26 @@ pub(crate) fn at_within(
     end: Ended,
     checker: Checker,
     additions: u32,
-    text: &[u8],
-    ended: bool,
-    number: u32,
+    line: &TextLine,
 ) -> Result<Stage, BundleError>
     requires running { IsRunning running }
-    requires few { additions ≤ number }
-    requires number { number < 2 ^ 31 }
-    ensures keeps { IfOk result (λ s. IsStage s (number + 1)) }
-    ensures answer { (lines ls : List lines.Line) (answer : Answer) → IsLogging running end checker additions number lines answer → lines ≡ record { text = text.now; ended = ended } ∷ ls → Judged result (number + 1) ls answer }
+    requires few { additions ≤ line.now.number }
+    requires number { line.now.number < 2 ^ 31 }
+    ensures keeps { IfOk result (λ s. IsStage s (line.now.number + 1)) }
+    ensures answer { (lines ls : List lines.Line) (answer : Answer) → IsLogging running end checker additions line.now.number lines answer → lines ≡ line_of line.now ∷ ls → Judged result (line.now.number + 1) ls answer }
 {
-    if is_line(b"done", text, ended) {
+    if is_line(b"done", line) {
         closed(
             checker.refuted(),
             additions,
             running.heading.conflicts,
             end,
-            number,
+            line.number,
         )?;
         return Ok(behind(running, end));
     }
     let mut checker = checker;
-    let added = logged_at(alloc, &mut checker, end, text, ended, number)?;
+    let added = logged_at(alloc, &mut checker, end, line)?;
     Ok(Stage::Within {
         running,
         ended: end,

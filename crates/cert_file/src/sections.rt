@@ -4,36 +4,27 @@ ghost use Rattle.text_core.specs.Lines.{Line};
 ghost use Rattle.cert_theory.specs.Gives.{Gives};
 ghost use Rattle.cert_theory.specs.Judging as judging;
 ghost use Rattle.cert_theory.specs.Bundle.{parts_of};
+ghost use Rattle.cert_file.specs.TextLines.{line_of};
 ghost use Rattle.cert_file.specs.Stages.{Answer, Judged, Stands, IsStage, IsKnown};
 
 use crate::ending::at_ending;
 use crate::formulas::parts_of;
-use crate::lines::{begins, value_of};
+use crate::lines::{TextLine, begins, number_behind};
 use crate::stage::{Running, Stage};
 use cert_theory::{BundleError, Heading};
 use std::alloc::Global;
-use text_core::number_up_to;
 
 /// The line of a size, which is to be the next one.
 #[tactic(auto, unfolding(cert_theory::specs::Judging::size_at))]
-fn size_at(
-    heading: &Heading,
-    size: u32,
-    text: &[u8],
-    ended: bool,
-    number: u32,
-) -> Result<(), BundleError>
+fn size_at(heading: &Heading, size: u32, line: &TextLine) -> Result<(), BundleError>
     ensures within { OnOk result (size ≤ heading.now.max) }
-    ensures exact { Gives (λ x. x) result (judging.size_at heading.now number size (record { text = text.now; ended = ended })) }
+    ensures exact { Gives (λ x. x) result (judging.size_at heading.now line.now.number size (line_of line.now)) }
 {
-    let Some(digits) = value_of(b"size ", text, ended) else {
-        return Err(BundleError::Syntax(number));
-    };
-    let Some(stated) = number_up_to(999_999_999, digits) else {
-        return Err(BundleError::Syntax(number));
+    let Some(stated) = number_behind(b"size ", line) else {
+        return Err(BundleError::Syntax(line.number));
     };
     if stated != size || stated > heading.max {
-        return Err(BundleError::SizeOutOfOrder(number));
+        return Err(BundleError::SizeOutOfOrder(line.number));
     }
     Ok(())
 }
@@ -70,19 +61,17 @@ pub(crate) fn at_between(
     heading: Heading,
     size: u32,
     low: Option<u32>,
-    text: &[u8],
-    ended: bool,
-    number: u32,
+    line: &TextLine,
 ) -> Result<Stage, BundleError>
     requires known { IsKnown heading }
-    requires number { number < 2 ^ 31 }
-    ensures keeps { IfOk result (λ s. IsStage s (number + 1)) }
-    ensures answer { (ls : List Line) (answer : Answer) → answer ≡ judging.sections_of heading number (record { size = size; low = low; place = judging.Between }) (record { text = text.now; ended = ended } ∷ ls) → Judged result (number + 1) ls answer }
+    requires number { line.now.number < 2 ^ 31 }
+    ensures keeps { IfOk result (λ s. IsStage s (line.now.number + 1)) }
+    ensures answer { (ls : List Line) (answer : Answer) → answer ≡ judging.sections_of heading line.now.number (record { size = size; low = low; place = judging.Between }) (line_of line.now ∷ ls) → Judged result (line.now.number + 1) ls answer }
 {
-    if !begins(b"size ", text, ended) {
-        return at_ending(alloc, heading, size, low, text, ended, number);
+    if !begins(b"size ", line) {
+        return at_ending(alloc, heading, size, low, line);
     }
-    size_at(&heading, size, text, ended, number)?;
+    size_at(&heading, size, line)?;
     let parts = parts_of(alloc, &heading, size)?;
     Ok(due(Running {
         heading,

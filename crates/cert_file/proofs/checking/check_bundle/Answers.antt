@@ -6,7 +6,7 @@ use Rattle.tt_core.specs.Words.{specification}
 use Rattle.op_basis.specs.Basis.{members}
 use Rattle.cert_theory.specs.declared.data.Verdict.{Verdict}
 use Rattle.cert_theory.specs.declared.data.BundleError.{BundleError}
-use Rattle.cert_theory.specs.CodingLaws.{built_is_coding}
+use Rattle.cert_theory.specs.CodingLaws.{method_is_coding}
 use Rattle.cert_theory.specs.Bundle.{Bundle}
 use Rattle.cert_theory.specs.Meaning.{Means}
 use Rattle.cert_theory.specs.Spelling.{IsBundle, HasVerdict}
@@ -27,7 +27,7 @@ verdict_is bytes v w one two = cc
 true_verdict : (bytes : List ℕ) (r : Result Verdict BundleError) → Gives (λ (v : Verdict). v) r (bundle_of (lines_of bytes)) → IfOk r (λ v. (b : Bundle) → IsBundle bytes b → Means (specification b.heading.spec) (members b.heading.basis) v)
 true_verdict bytes (Ok v) gives = λ b is.
     subst (λ (w : Verdict). Means (specification b.heading.spec) (members b.heading.basis) w) (verdict_is bytes b.verdict v (text_again bytes b is) gives)
-    (verdict_means b (built_is_coding b.heading.method) is.valid)
+    (verdict_means b (method_is_coding b.heading.method) is.valid)
 true_verdict bytes (Err e) gives = tt
 
 pub returns-clause-verdict : goal.returns-clause-verdict

@@ -13,18 +13,18 @@ use Rattle.cert_file.proofs.ending.at_chain.Goals as goal
 
 pub returns-then-steps-eq0-clause-answer : goal.returns-then-steps-eq0-clause-answer
 returns-then-steps-eq0-clause-answer c = λ ls answer is.
-    let f : Frame = record { first_line = c.args.number; n = c.n-n.result; outputs = c.outputs-outputs.result; steps = c.in_ok-steps.steps } in
+    let f : Frame = record { first_line = c.args.line.now.number; n = c.n-n.result; outputs = c.outputs-outputs.result; steps = c.in_ok-steps.steps } in
     is
-    ∙ chain_goes c.args.heading c.args.number c.args.size c.args.low _ ls c.in_ok-steps.steps c.in_ok-steps.ensures.exact
-    ∙ ap (λ (g : Frame). with_block c.args.heading g c.args.low (steps_then g (steps_from g [] ls))) (frame_is c.args.heading c.args.number c.in_ok-steps.steps c.n-n.result c.outputs-outputs.result c.n-n.ensures.value c.outputs-outputs.ensures)
+    ∙ chain_goes c.args.heading c.args.line.now.number c.args.size c.args.low _ ls c.in_ok-steps.steps c.in_ok-steps.ensures.exact
+    ∙ ap (λ (g : Frame). with_block c.args.heading g c.args.low (steps_then g (steps_from g [] ls))) (frame_is c.args.heading c.args.line.now.number c.in_ok-steps.steps c.n-n.result c.outputs-outputs.result c.n-n.ensures.value c.outputs-outputs.ensures)
     ∙ steps_end c.args.heading f c.args.low [] ls (sym c.if-steps-eq0.true)
     ∙ ap (λ (ss : List Step). with_block c.args.heading f c.args.low (outs_then f (steps_of ss) (outs_from f [] ls))) (sym c.new.ensures.items)
     ∙ ap (λ (os : List Out). with_block c.args.heading f c.args.low (outs_then f (steps_of c.new.result.items) (outs_from f os ls))) (sym c.new-then-steps-eq0.ensures.items)
 
 pub returns-clause-answer : goal.returns-clause-answer
 returns-clause-answer c = λ ls answer is.
-    let f : Frame = record { first_line = c.args.number; n = c.n-n.result; outputs = c.outputs-outputs.result; steps = c.in_ok-steps.steps } in
+    let f : Frame = record { first_line = c.args.line.now.number; n = c.n-n.result; outputs = c.outputs-outputs.result; steps = c.in_ok-steps.steps } in
     is
-    ∙ chain_goes c.args.heading c.args.number c.args.size c.args.low _ ls c.in_ok-steps.steps c.in_ok-steps.ensures.exact
-    ∙ ap (λ (g : Frame). with_block c.args.heading g c.args.low (steps_then g (steps_from g [] ls))) (frame_is c.args.heading c.args.number c.in_ok-steps.steps c.n-n.result c.outputs-outputs.result c.n-n.ensures.value c.outputs-outputs.ensures)
+    ∙ chain_goes c.args.heading c.args.line.now.number c.args.size c.args.low _ ls c.in_ok-steps.steps c.in_ok-steps.ensures.exact
+    ∙ ap (λ (g : Frame). with_block c.args.heading g c.args.low (steps_then g (steps_from g [] ls))) (frame_is c.args.heading c.args.line.now.number c.in_ok-steps.steps c.n-n.result c.outputs-outputs.result c.n-n.ensures.value c.outputs-outputs.ensures)
     ∙ ap (λ (ss : List Step). with_block c.args.heading f c.args.low (steps_then f (steps_from f (steps_of ss) ls))) (sym c.new-2.ensures.items)

@@ -58,7 +58,7 @@ pub returns-clause-answer : goal.returns-clause-answer
 returns-clause-answer c = λ ls answer is.
     let lens : c.len.result ≡ length c.args.outs.items = omega arith in
     let full : length c.push.new.self.items ≡ c.args.frame.outputs = omega arith in
-    let next : c.args.frame.first_line + 1 + c.args.frame.steps + c.args.frame.outputs ≡ c.args.number + 1 = omega arith in
+    let next : c.args.frame.first_line + 1 + c.args.frame.steps + c.args.frame.outputs ≡ c.args.line.now.number + 1 = omega arith in
     is
     ∙ out_goes c.args.heading c.args.frame c.args.low (steps_of c.args.steps.items) c.args.outs.items c.len.result _ ls c.in-Ok.out lens c.requires.read.due c.in-Ok.ensures.exact
     ∙ ap (λ (os : List Out). with_block c.args.heading c.args.frame c.args.low (outs_then c.args.frame (steps_of c.args.steps.items) (outs_from c.args.frame os ls))) (sym c.in_ok-push.ensures.items)

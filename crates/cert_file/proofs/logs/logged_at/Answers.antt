@@ -8,27 +8,27 @@ use Rattle.cert_file.proofs.Exits.{logged_err}
 use Rattle.cert_file.proofs.LogLines.{unspelled, refused_line, held_line, added_is}
 use Rattle.cert_file.proofs.logs.logged_at.Goals as goal
 
-pub returns-in_err-line-clause-log : goal.returns-in_err-line-clause-log
-returns-in_err-line-clause-log c = λ f log accepted.
-    logged_err c.from_residual.result c.in_err-line.field-0.0 f c.args.number c.args.end log _ c.args.checker.now c.from_residual.ensures.1
-    (unspelled f c.args.number c.args.end log _ c.in_err-line.field-0.0 c.in_err-line.ensures.exact)
+pub returns-in_err-spelled-clause-log : goal.returns-in_err-spelled-clause-log
+returns-in_err-spelled-clause-log c = λ f log accepted.
+    logged_err c.from_residual.result c.in_err-spelled.field-0.0 f c.args.line.now.number c.args.end log _ c.args.checker.now c.from_residual.ensures.1
+    (unspelled f c.args.line.now.number c.args.end log _ c.in_err-spelled.field-0.0 c.in_err-spelled.ensures.exact)
 
 pub returns-in-Err-clause-log : goal.returns-in-Err-clause-log
 returns-in-Err-clause-log c = λ f log accepted.
-    refused_line f c.args.number c.args.end log _ (line_value c.in_ok-line.line) c.args.checker.now c.in-Err.fault _ c.in_ok-line.ensures.exact accepted c.in-Err.ensures.exact c.refusal.ensures
+    refused_line f c.args.line.now.number c.args.end log _ (line_value c.in_ok-spelled.spelled) c.args.checker.now c.in-Err.fault _ c.in_ok-spelled.ensures.exact accepted c.in-Err.ensures.exact c.refusal.ensures
 
 pub returns-then-not-allowed-clause-log : goal.returns-then-not-allowed-clause-log
 returns-then-not-allowed-clause-log c = λ f log accepted.
-    held_line f c.args.number c.args.end log _ (line_value c.in_ok-line.line) c.args.checker.now c.may_add-allowed.result c.in_ok-line.ensures.exact accepted c.in-Ok.ensures.exact c.may_add-allowed.ensures
-    ∙ ap (λ (b : Bool). let r : Result Line BundleError = cond b (Ok (line_value c.in_ok-line.line)) (Err (NotNew c.args.number)) in r) c.if-not-allowed.true
+    held_line f c.args.line.now.number c.args.end log _ (line_value c.in_ok-spelled.spelled) c.args.checker.now c.may_add-allowed.result c.in_ok-spelled.ensures.exact accepted c.in-Ok.ensures.exact c.may_add-allowed.ensures
+    ∙ ap (λ (b : Bool). let r : Result Line BundleError = cond b (Ok (line_value c.in_ok-spelled.spelled)) (Err (NotNew c.args.line.now.number)) in r) c.if-not-allowed.true
 
 pub returns-clause-log : goal.returns-clause-log
 returns-clause-log c = λ f log accepted. record {
-  line = line_value c.in_ok-line.line;
+  line = line_value c.in_ok-spelled.spelled;
   read =
-      held_line f c.args.number c.args.end log _ (line_value c.in_ok-line.line) c.args.checker.now c.may_add-allowed.result c.in_ok-line.ensures.exact accepted c.in-Ok.ensures.exact c.may_add-allowed.ensures
-      ∙ ap (λ (b : Bool). let r : Result Line BundleError = cond b (Ok (line_value c.in_ok-line.line)) (Err (NotNew c.args.number)) in r) c.if-not-allowed.false;
-  accepted = c.in-Ok.ensures.accepted f log accepted c.in_ok-line.ensures.is_line;
-  count = let sum = added_is log (line_value c.in_ok-line.line) in let one = c.added_by-added.ensures.count in omega (arith, sum, one);
+      held_line f c.args.line.now.number c.args.end log _ (line_value c.in_ok-spelled.spelled) c.args.checker.now c.may_add-allowed.result c.in_ok-spelled.ensures.exact accepted c.in-Ok.ensures.exact c.may_add-allowed.ensures
+      ∙ ap (λ (b : Bool). let r : Result Line BundleError = cond b (Ok (line_value c.in_ok-spelled.spelled)) (Err (NotNew c.args.line.now.number)) in r) c.if-not-allowed.false;
+  accepted = c.in-Ok.ensures.accepted f log accepted c.in_ok-spelled.ensures.is_line;
+  count = let sum = added_is log (line_value c.in_ok-spelled.spelled) in let one = c.added_by-added.ensures.count in omega (arith, sum, one);
   one = c.added_by-added.ensures.count;
 }
