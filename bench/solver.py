@@ -8,13 +8,14 @@ The formulas are pigeons in holes, and functions with their fewest steps and wit
 given up after 100 seconds. With --steps, count_steps.py takes the same steps again, which counts the
 propagations and, where a formula is satisfied and no log is left, the conflicts and hints. SOLVER is a
 program that reads DIMACS and tells its conflicts, such as minisat."""
+import ctypes
 import os
 import re
-import resource
+import signal
 import subprocess
 import sys
 import tempfile
-import time
+import threading
 from collections import namedtuple
 
 from functions import LARGE, SMALL
@@ -22,6 +23,11 @@ from functions import LARGE, SMALL
 HERE = os.path.dirname(os.path.abspath(__file__))
 LONGEST = 100
 MOST_STEPS = 10_000
+
+# what the system tells of a process that has ended counts the memory of the one that began it, so runs are
+# traced up to where they end
+LIBC = ctypes.CDLL(None)
+TRACE_ME, GO_ON, SET_OPTIONS, STOP_AT_EXIT = 0, 7, 0x4200, 0x40
 
 Run = namedtuple("Run", "text seconds peak")
 
@@ -38,35 +44,40 @@ def script(name, *words):
     return [sys.executable, os.path.join(HERE, name), *words]
 
 
-def peak_now(pid):
-    """The peak of a process's memory in kilobytes; None where it has ended."""
+def trace_me():
+    LIBC.ptrace(TRACE_ME, 0, None, None)
+
+
+def peak_of(pid):
+    """The peak of a stopped process's memory, in kilobytes."""
     with open(f"/proc/{pid}/status", encoding="ascii", errors="replace") as status:
-        return next((int(line.split()[1]) for line in status if line.startswith("VmHWM")), None)
+        return next((int(line.split()[1]) for line in status if line.startswith("VmHWM")), 0)
 
 
-def watch(child):
-    """Waits for the end of a process, and gives the last peak that was seen."""
-    seen, end = 0, time.monotonic() + LONGEST
-    while (peak := peak_now(child.pid)) is not None:
-        seen = peak
-        if time.monotonic() > end:
-            child.kill()
-        time.sleep(0.001)
-    return seen
+def finish(pid):
+    """Goes along with a process that is traced, which stops where its program begins and where it ends: the
+    peak of its memory, and what it used."""
+    peak = 0
+    while True:
+        _, status, used = os.wait4(pid, 0)
+        if not os.WIFSTOPPED(status):
+            return peak, used
+        peak = max(peak, peak_of(pid))
+        LIBC.ptrace(SET_OPTIONS, pid, None, ctypes.c_long(STOP_AT_EXIT))
+        LIBC.ptrace(GO_ON, pid, None, None)
 
 
 def run(words, path):
     """What a command prints of a file, its user seconds, and its peak of memory in kilobytes."""
     with open(path, "rb") as given, tempfile.TemporaryFile() as told:
-        child = subprocess.Popen(words, stdin=given, stdout=told, stderr=subprocess.DEVNULL)
-        seen = watch(child)
-        _, status, used = os.wait4(child.pid, 0)
-        child.returncode = status
+        child = subprocess.Popen(words, stdin=given, stdout=told, stderr=subprocess.DEVNULL, preexec_fn=trace_me)
+        limit = threading.Timer(LONGEST, os.kill, (child.pid, signal.SIGKILL))
+        limit.start()
+        peak, used = finish(child.pid)
+        limit.cancel()
+        child.returncode = 0
         told.seek(0)
-        text = told.read().decode(errors="replace")
-    # what the system tells at the end counts the memory of this process too
-    own = resource.getrusage(resource.RUSAGE_SELF).ru_maxrss
-    return Run(text, used.ru_utime, used.ru_maxrss if used.ru_maxrss > own else seen)
+        return Run(told.read().decode(errors="replace"), used.ru_utime, peak)
 
 
 def fastest(words, path):
