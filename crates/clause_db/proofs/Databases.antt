@@ -2,21 +2,57 @@
 use Rattle.std.proofs.Common.{◌≡◌, ℕ, ◌+◌, ◌*◌, ◌<◌, ◌≤◌, ℤ, List, [], ◌∷◌, ◌++◌, length, take, slice_index_or, slice_set, replicate, ◌-◌, ◌⊎◌, inl, Contains, All, Option, Some, refl, pos, sym, ap, ◌∙◌, subst, arith}
 use Rattle.std.proofs.lemmas.List.Elements.{All-contains}
 use Rattle.std.proofs.lemmas.Grind.{common_steps}
+use Rattle.std.proofs.Math.Logic.{⊎_elim}
 use Rattle.sat_theory.specs.Formula.{variable, IsClause, IsWithin}
+use Rattle.sat_theory.specs.State.{by_id}
 use Rattle.cdcl_theory.specs.Codes.{code_of}
 use Rattle.cdcl_theory.specs.CodeLaws.{code_of-room}
+use Rattle.clause_db.specs.declared.watches.Pair.{Pair}
 use Rattle.clause_db.specs.Watching.{Watching, list_of, pair_of, pair_at, watching_more, watching_moved}
-use Rattle.clause_db.specs.Stored.{Stored, Entries, live_in, Watches, IsStored, none_stored, added, all_added, rewatched}
-use Rattle.clause_db.specs.StoredLaws.{all_added-push, all_added-none, live_inside}
+use Rattle.clause_db.specs.Stored.{Stored, Entries, live_in, Watches, IsLong, IsPair, IsStored, none_stored, added, all_added, rewatched}
+use Rattle.clause_db.specs.StoredLaws.{all_added-push, all_added-none, live_in-start, live_added, live_inside}
 use Rattle.std.specs.List.{swap_remove}
-use Rattle.std.proofs.lemmas.List.{length-set, get_or-take, length-take-le}
+use Rattle.std.proofs.lemmas.List.{length_push, length-set, get_or-take, length-take-le}
 use Rattle.std.proofs.lemmas.List.Elements.{Contains-get_or}
 use Rattle.clause_db.specs.Blocking.{row_of, with_row, blocker_at, IsOf, AreBlockers, AreKept, Follows}
-use Rattle.clause_db.specs.WatchingLaws.{list_from, swap_length}
+use Rattle.clause_db.specs.WatchingLaws.{pair_new, pair_old, list_from, swap_length}
 use Rattle.clause_db.proofs.Blocks.{blockers_kept, blockers_none, blockers_set, blockers_added, blockers_moved, row-same}
 use Rattle.clause_db.specs.Moving.{watched_in, IsMovable, movable_watches, watched_variable, stored_none, stored_added, stored_rewatched, rooms}
 
 pub ruleset databases = (common_steps, all_added-push, all_added-none, stored_none, stored_added, stored_rewatched, rooms)
+
+-- each clause watches its first two literals
+abbrev WatchFirst : Stored → Type 0
+WatchFirst s = (id : ℕ) (clause : List ℤ) → live_in s id ≡ Some clause → pair_at s.watches id ≡ pair_of clause
+
+first_added : (s : Stored) (lits : List ℤ) → length s.watches.pairs ≡ length s.clauses → WatchFirst s → WatchFirst (added s lits)
+first_added s lits room first id clause is = ⊎_elim
+    (λ (new : (id ≡ length s.clauses + 1) × (lits ≡ clause)). ap (pair_at (added s lits).watches) new.0 ∙ pair_new s.watches lits (length s.clauses + 1) (ap (λ (n : ℕ). n + 1) room) ∙ ap pair_of new.1)
+    (λ (old : live_in s id ≡ Some clause).
+    let low : (0 < id) × (id ≤ length s.clauses) = live_inside s id clause old in
+    pair_old s.watches lits (length s.clauses + 1) id low.0 (omega (arith, low.1, room)) ∙ first id clause old)
+    (live_added s lits id clause is)
+
+first_all : (s : Stored) (cs : List (List ℤ)) → length s.watches.pairs ≡ length s.clauses → WatchFirst s → WatchFirst (all_added s cs)
+unfolding all_added
+first_all s [] room first = first
+first_all s (c ∷ cs) room first = first_all (added s c) cs (length_push s.watches.pairs (pair_of c) ∙ ap (λ (n : ℕ). n + 1) room ∙ sym (length_push s.clauses (Some c))) (first_added s c room first)
+
+pub first_new : (vars : ℕ) (cs : List (List ℤ)) (s : Stored) → s ≡ all_added (none_stored vars) cs → WatchFirst s
+first_new vars cs s is = rw is (first_all (none_stored vars) cs refl (λ id clause live. absurd (let low : (0 < id) × (id ≤ 0) = live_inside (none_stored vars) id clause live in omega (arith, low.0, low.1))))
+
+pub live_new : (vars : ℕ) (cs : List (List ℤ)) (s : Stored) → s ≡ all_added (none_stored vars) cs → live_in s ≡ by_id cs
+live_new vars cs s is = ap live_in is ∙ live_in-start vars cs
+
+-- the watched literals are literals of the clause
+pub pair_in : (s now : Stored) (id : ℕ) (p : Pair) → s ≡ now → IsStored s → p ≡ pair_at s.watches id → IsLong now id → (clause : List ℤ) → live_in now id ≡ Some clause → Contains clause p.first × Contains clause p.second
+pair_in s now id p view stored p_is long clause is =
+    let here : live_in s id ≡ Some clause = subst (λ (x : Stored). live_in x id ≡ Some clause) (sym view) is in
+    let live : live_in now id ≡ Some long.clause = long.is_live in
+    let same : long.clause ≡ clause = cc in
+    let two : 2 ≤ length clause = subst (λ (c : List ℤ). 2 ≤ length c) same long.long in
+    let pair : IsPair clause (pair_at s.watches id) = stored.pairs id clause here two in
+    rw p_is (pair.first, pair.second)
 
 -- the lists and the id of a clause that can be moved
 pub movable_rooms : (s now : Stored) (from to : ℤ) (index : ℕ) → s ≡ now → IsStored s → IsMovable now (slice_index_or (list_of now.watches from) index 0) from to index → (code_of from < length s.watches.lists) × (code_of to < length s.watches.lists)

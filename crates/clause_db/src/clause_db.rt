@@ -1,6 +1,7 @@
 ghost use Rattle.std.specs.Prelude.{◌≡◌, ◌≢◌, ℕ, ◌+◌, ◌<◌, ◌≤◌, ◌⊎◌, ◌↔◌, length, slice_index_or, Contains, AllPairs, Some, List, ℤ, IsTrue, IsSome, IfOk, OnOk, OnErr};
 ghost use Rattle.sat_theory.specs.Formula.{variable as variable_of, IsClause, IsWithin};
-ghost use Rattle.clause_db.specs.Watching.{list_of, pair_at};
+ghost use Rattle.sat_theory.specs.State.{by_id};
+ghost use Rattle.clause_db.specs.Watching.{list_of, pair_at, pair_of};
 ghost use Rattle.clause_db.specs.Stored.{live_in, Watches as WatchesOf, IsLong, IsStored, none_stored, added, all_added, rewatched};
 ghost use Rattle.clause_db.specs.Moving.{IsMovable};
 ghost use Rattle.clause_db.specs.Blocking.{IsOf};
@@ -38,7 +39,10 @@ impl Model for ClauseDb {
 impl ClauseDb {
     /// The clauses of a formula, under the ids that they have there. Each watches its first two literals.
     pub fn new(alloc: Global, cnf: &Cnf) -> Result<ClauseDb, AllocError>
-        ensures { IfOk result (λ c. c ≡ all_added (none_stored cnf.now.vars) cnf.now.clauses) }
+        ensures all { IfOk result (λ c. c ≡ all_added (none_stored cnf.now.vars) cnf.now.clauses) }
+        ensures clauses { IfOk result (λ c. live_in c ≡ by_id cnf.now.clauses) }
+        ensures watches { IfOk result (λ c. (id : ℕ) (clause : List ℤ) → live_in c id ≡ Some clause → pair_at c.watches id ≡ pair_of clause) }
+        ensures whole { IfOk result (λ c. IsStored c) }
     {
         let mut clauses = ClauseDb::none(alloc, cnf.vars())?;
         for clause in cnf.clauses() {
@@ -138,6 +142,8 @@ impl ClauseDb {
         ensures second { WatchesOf self.now id result.1 }
         ensures differ { result.0 ≢ result.1 }
         ensures only { (l : ℤ) → WatchesOf self.now id l → (l ≡ result.0) ⊎ (l ≡ result.1) }
+        ensures of_clause { (clause : List ℤ) → live_in self.now id ≡ Some clause → Contains clause result.0 × Contains clause result.1 }
+        ensures whole { IsStored self.now }
     {
         let pair = self.watches.pair(id);
         (pair.first, pair.second)
