@@ -3,7 +3,7 @@
 //! true or becomes so, and else watches another literal that hasn't fallen. Beside each clause in a list stands
 //! one of its literals, its blocking literal: while that is true the clause isn't even read (Sörensson and Eén,
 //! "MiniSat 2.1", 2008).
-ghost use Rattle.std.specs.Prelude.{◌≡◌, ◌≢◌, ℕ, ℤ, ◌<◌, ◌≤◌, ◌⊎◌, List, length, slice_index_or, Contains, All, IfOk, IfSome, IfNone};
+ghost use Rattle.std.specs.Prelude.{◌≡◌, ◌≢◌, ℕ, ℤ, ◌<◌, ◌≤◌, ◌⊎◌, List, [], length, slice_index_or, Contains, All, IfOk, IfSome, IfNone};
 ghost use Rattle.sat_theory.specs.Formula.{variable as variable_of, IsClause, IsWithin};
 ghost use Rattle.cdcl_theory.specs.Falling.{AllSettled, IsFalsified};
 ghost use Rattle.cdcl_theory.specs.Trails.{IsTrail, IsGrown, fell as fell_of};
@@ -183,6 +183,7 @@ pub(crate) fn propagate_watched(
         IfOk result (λ found. IfNone found (IsGuarded clauses.new (fell_of trail.new) starts (length trail.new.lits))) }
     ensures some { (starts : List ℕ) → All (λ s. s ≤ from) starts → IsGuarded clauses.old (fell_of trail.old) starts from →
         IfOk result (λ found. IfSome found (λ _. IsGuarded clauses.new (fell_of trail.new) starts from)) }
+    ensures settled { IsGuarded clauses.old (fell_of trail.old) [] from → IfOk result (λ found. IfNone found (AllSettled (live_in clauses.new) (fell_of trail.new))) }
     ensures conflict { IfOk result (λ found. IfSome found (IsFalsified (live_in clauses.new) (fell_of trail.new))) }
 {
     let mut head = from;

@@ -1,8 +1,9 @@
-use Rattle.std.proofs.Common.{◌≡◌, ◌<◌, ◌≤◌, ◌∙◌, ℕ, ℤ, length, slice_index_or, sym, ap, arith, All}
+use Rattle.std.proofs.Common.{◌≡◌, ◌<◌, ◌≤◌, ◌∙◌, ℕ, ℤ, [], length, slice_index_or, sym, ap, subst, arith, All}
 use Rattle.sat_theory.specs.Formula.{opposite}
 use Rattle.cdcl_theory.specs.Trails.{Trailed, fell}
 use Rattle.cdcl_theory.specs.TrailLaws.{place_at}
-use Rattle.cdcl_core.proofs.Guards.{guarded_less}
+use Rattle.cdcl_core.specs.Guarding.{IsGuarded}
+use Rattle.cdcl_core.proofs.Guards.{guarded_less, guarded_settled}
 use Rattle.cdcl_core.proofs.Visits.{rest_trans, guarded_rest, guarded_next}
 use Rattle.cdcl_core.proofs.visiting.propagate_watched.Goals as goal
 
@@ -41,3 +42,10 @@ loop-head-preserved c =
       high = omega (arith, inside, c.in_ok-conflict.ensures.rest.grown.longer);
       guarded = λ starts begun guarded. guarded_next c.loop-head.clauses c.visit_watching.new.clauses t c.visit_watching.new.trail starts c.args.from head fallen c.loop-head.invariant.whole c.in_ok-conflict.ensures.whole c.loop-head.invariant.low inside at begun c.in_ok-conflict.ensures.rest visited (c.loop-head.invariant.guarded starts begun guarded);
     }
+
+pub returns-clause-settled : goal.returns-clause-settled
+returns-clause-settled c = λ guarded.
+    let t : Trailed = c.loop-head.trail in
+    let all : c.loop-head.head ≡ length t.lits = omega (arith, c.loop-head-test.false, c.len.ensures.value, c.loop-head.invariant.high) in
+    guarded_settled c.loop-head.clauses t [] c.loop-head.invariant.stored c.loop-head.invariant.whole
+    (subst (λ (n : ℕ). IsGuarded c.loop-head.clauses (fell t) [] n) all (c.loop-head.invariant.guarded [] (λ k d (low : k < 0). absurd (omega (arith, low))) guarded))
