@@ -1,10 +1,16 @@
 //! The clauses of a solver by their ids: those of a formula, and those that are added. It stands on
-//! `cnf_core` for formulas and literals and on `sat_theory` for what a clause is.
+//! `cnf_core` for formulas and literals, on `sat_theory` for what a clause is, and on `cdcl_theory` for the
+//! codes of literals.
 //!
 //! Contracts see a list with an entry for each id that was given, the clause where it is live; `add`
 //! appends one entry, and `lits` and `live` read. Each clause of two literals and more watches two of them:
 //! `watched` tells which, `watching` gives the clauses that watch a literal, and `rewatch` lets a clause
 //! watch another one (Moskewicz and others, "Chaff", 2001).
+//!
+//! Beside each clause in a list stands one of its literals, its blocking literal: `blockers` gives them, and
+//! `block` puts another one there (Sörensson and Eén, "MiniSat 2.1", 2008). A search for a literal to watch
+//! begins at a place that the clause keeps: `search_from` gives it and `note` sets it (Gent, "Optimal
+//! Implementation of Watched Literals and More General Techniques", 2013).
 //!
 //! ```text
 //! let mut clauses = ClauseDb::new(alloc, &cnf)?;     // the clauses 1 to 4
