@@ -1,6 +1,5 @@
 //! Sections as they are written.
-ghost use Rattle.std.specs.Prelude.{◌≡◌, ◌∷◌, ◌++◌, decimal, OnOk, OnErr};
-ghost use Rattle.std.specs.List.{flat_map};
+ghost use Rattle.std.specs.Prelude.{◌≡◌, ◌++◌, OnOk, OnErr};
 ghost use Rattle.text_core.specs.Lines.{line_bytes};
 ghost use Rattle.lrat_text.specs.Values.{line_values};
 ghost use Rattle.chain_core.specs.Spelling.{line};
@@ -9,32 +8,21 @@ ghost use Rattle.bundle_text.specs.Texts.{log_text, parts_text};
 
 use crate::tables::push_numbered;
 use bundle_core::{Ended, PartLog, Section};
+use cert_theory::title_of;
 use enc_frame::Part;
 use lrat_text::{Line, write_line};
 use std::alloc::AllocError;
-use text_core::push_number;
-
-/// Appends the sizes of levels, each with a blank before it.
-fn push_levels(text: &mut Vec<u8>, levels: &[u32]) -> Result<(), AllocError>
-    ensures { OnOk result (text.new.items ≡ text.old.items ++ flat_map (λ size. 32 ∷ decimal size) levels.now) }
-{
-    for size in levels {
-        text.push(b' ')?;
-        push_number(text, *size)?;
-    }
-    Ok(())
-}
 
 /// Appends the title of a part: the sizes of the levels of a fence, and nothing for the whole.
-#[tactic(auto, unfolding(cert_theory::specs::Spelling::title_lines, cert_theory::specs::Spelling::title_text))]
+#[tactic(auto, unfolding(cert_theory::specs::Spelling::title_lines))]
 fn push_title(text: &mut Vec<u8>, part: &Part) -> Result<(), AllocError>
     ensures { OnOk result (text.new.items ≡ text.old.items ++ spelling.text_of (spelling.title_lines part.now)) }
 {
     let Part::Levels(fence) = part else {
         return Ok(());
     };
-    text.extend_from_slice(b"fence")?;
-    push_levels(text, fence.levels())?;
+    let title = title_of(*text.allocator(), fence.levels())?;
+    text.extend_from_slice(&title)?;
     text.extend_from_slice(b"\n")
 }
 

@@ -1,5 +1,5 @@
 -- Lines of sections.
-use Rattle.std.proofs.Common.{◌≡◌, ℕ, ◌+◌, Bool, true, false, cond, List, [], ◌∷◌, ◌++◌, length, drop, Contains, zero, suc, ◌<◌, ◌≤◌, codes, Option, Result, Ok, Err, refl, arith, sym, ap, ◌∙◌}
+use Rattle.std.proofs.Common.{◌≡◌, ℕ, ◌+◌, Bool, true, false, cond, List, [], ◌∷◌, ◌++◌, length, drop, Contains, zero, suc, ◌≤◌, codes, Option, Result, Ok, Err, refl, arith, sym, ap, ◌∙◌}
 use Rattle.std.specs.Prelude.{IfOk}
 use Rattle.text_core.specs.Lines.{Line}
 use Rattle.sat_theory.specs.Formula.{Formula}

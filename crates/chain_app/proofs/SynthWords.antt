@@ -10,8 +10,6 @@ use Rattle.op_basis.specs.Text.{basis_of, all_set}
 use Rattle.op_basis.specs.declared.error.BasisError.{BasisError}
 use Rattle.op_basis.proofs.Lists.{basis_some}
 use Rattle.enc_theory.specs.declared.data.Method.{Method}
-use Rattle.enc_theory.specs.declared.data.Method.TheVariants.{Plain, Ssv, Select, Fence}
-use Rattle.cert_theory.specs.Coding.{is_built}
 use Rattle.synth_core.specs.Asking.{IsAsked}
 use Rattle.command_line.specs.declared.command.Command.{Command}
 use Rattle.command_line.specs.declared.command.Command.TheVariants.{Agree, Recheck, Synth, Improve}
@@ -24,7 +22,6 @@ use Rattle.command_line.specs.CommandLine.{is_word, method_in, basis_in, max_in,
 -- options in their ranges
 record IsGiven (g : Given) : Type 0 where
   basis : (b : ℕ) → g.basis ≡ Some b → 0 < b
-  method : (m : Method) → g.method ≡ Some m → is_built m ≡ true
   max : (n : ℕ) → g.max ≡ Some n → n ≤ 16
   conflicts_from : (n : ℕ) → g.conflicts ≡ Some n → 1 ≤ n
   conflicts_to : (n : ℕ) → g.conflicts ≡ Some n → n ≤ 10000000
@@ -32,7 +29,6 @@ record IsGiven (g : Given) : Type 0 where
 nothing : IsGiven nothing_given
 nothing = record {
   basis = λ b is. absurd cc;
-  method = λ m is. absurd cc;
   max = λ n is. absurd cc;
   conflicts_from = λ n is. absurd cc;
   conflicts_to = λ n is. absurd cc;
@@ -51,23 +47,6 @@ unless_none false o x e = e
 basis_ok : (r : Result ℕ BasisError) (b : ℕ) → basis_in r ≡ Some b → r ≡ Ok b
 basis_ok (Ok a) b e = ap (λ (n : ℕ). Ok n) (some_is a b e)
 basis_ok (Err e') b e = absurd cc
-
--- a method of one name, or one of the rest
-named : (t : Bool) (a : Method) (rest : Option Method) (m : Method) → is_built a ≡ true → (rest ≡ Some m → is_built m ≡ true) → cond t (Some a) rest ≡ Some m → is_built m ≡ true
-named true a rest m built other e = subst (λ (k : Method). is_built k ≡ true) (some_is a m e) built
-named false a rest m built other e = other e
-
-no_name : (m : Method) → None ≡ Some m → is_built m ≡ true
-no_name m e = absurd cc
-
--- each method that has a name is built
-method_built : (value : List ℕ) (m : Method) → method_in value ≡ Some m → is_built m ≡ true
-method_built value m =
-    named (is_word value (codes "plain")) Plain _ m refl
-    (named (is_word value (codes "ssv")) Ssv _ m refl
-    (named (is_word value (codes "select")) Select _ m refl
-    (named (is_word value (codes "fence")) Fence _ m refl
-    (no_name m))))
 
 from_one : (t : Bool) (n m : ℕ) → (n == 0) ≡ t → cond t None (Some n) ≡ Some m → 1 ≤ m
 from_one true n m is e = absurd cc
@@ -99,7 +78,6 @@ taken set (Some x) more e = (x, refl, some_is (set x) more e)
 is_given : (a b : Given) → a ≡ b → IsGiven a → IsGiven b
 is_given a b e is = record {
   basis = λ n at. is.basis n (ap (λ (g : Given). g.basis) e ∙ at);
-  method = λ m at. is.method m (ap (λ (g : Given). g.method) e ∙ at);
   max = λ n at. is.max n (ap (λ (g : Given). g.max) e ∙ at);
   conflicts_from = λ n at. is.conflicts_from n (ap (λ (g : Given). g.conflicts) e ∙ at);
   conflicts_to = λ n at. is.conflicts_to n (ap (λ (g : Given). g.conflicts) e ∙ at);
@@ -110,28 +88,28 @@ unfolding with_basis
 basis_given g more value is e =
     let t = taken (λ (b : ℕ). let h : Given = record g { basis = Some b } in h) (basis_in (basis_of value)) more (unless_none (is_some g.basis) _ more e) in
     is_given (record g { basis = Some t.0 }) more t.2
-    (record { basis = λ b at. let same : t.0 ≡ b = some_is t.0 b at in basis_some value b (basis_ok (basis_of value) t.0 t.1 ∙ ap (λ (n : ℕ). Ok n) same); method = is.method; max = is.max; conflicts_from = is.conflicts_from; conflicts_to = is.conflicts_to })
+    (record { basis = λ b at. let same : t.0 ≡ b = some_is t.0 b at in basis_some value b (basis_ok (basis_of value) t.0 t.1 ∙ ap (λ (n : ℕ). Ok n) same); max = is.max; conflicts_from = is.conflicts_from; conflicts_to = is.conflicts_to })
 
 method_given : (g more : Given) (value : List ℕ) → IsGiven g → with_method g value ≡ Some more → IsGiven more
 unfolding with_method
 method_given g more value is e =
     let t = taken (λ (m : Method). let h : Given = record g { method = Some m } in h) (method_in value) more (unless_none (is_some g.method) _ more e) in
     is_given (record g { method = Some t.0 }) more t.2
-    (record { basis = is.basis; method = λ m at. method_built value m (t.1 ∙ at); max = is.max; conflicts_from = is.conflicts_from; conflicts_to = is.conflicts_to })
+    (record { basis = is.basis; max = is.max; conflicts_from = is.conflicts_from; conflicts_to = is.conflicts_to })
 
 max_given : (g more : Given) (value : List ℕ) → IsGiven g → with_max g value ≡ Some more → IsGiven more
 unfolding with_max
 max_given g more value is e =
     let t = taken (λ (n : ℕ). let h : Given = record g { max = Some n } in h) (max_in value) more (unless_none (is_some g.max) _ more e) in
     is_given (record g { max = Some t.0 }) more t.2
-    (record { basis = is.basis; method = is.method; max = λ n at. max_within value n (t.1 ∙ at); conflicts_from = is.conflicts_from; conflicts_to = is.conflicts_to })
+    (record { basis = is.basis; max = λ n at. max_within value n (t.1 ∙ at); conflicts_from = is.conflicts_from; conflicts_to = is.conflicts_to })
 
 conflicts_given : (g more : Given) (value : List ℕ) → IsGiven g → with_conflicts g value ≡ Some more → IsGiven more
 unfolding with_conflicts
 conflicts_given g more value is e =
     let t = taken (λ (n : ℕ). let h : Given = record g { conflicts = Some n } in h) (conflicts_in value) more (unless_none (is_some g.conflicts) _ more e) in
     is_given (record g { conflicts = Some t.0 }) more t.2
-    (record { basis = is.basis; method = is.method; max = is.max; conflicts_from = λ n at. conflicts_from_one (number_up_to 10000000 value) n (t.1 ∙ at); conflicts_to = λ n at. conflicts_within value n (t.1 ∙ at) })
+    (record { basis = is.basis; max = is.max; conflicts_from = λ n at. conflicts_from_one (number_up_to 10000000 value) n (t.1 ∙ at); conflicts_to = λ n at. conflicts_within value n (t.1 ∙ at) })
 
 -- ---- all options
 
@@ -166,7 +144,7 @@ options_given (name ∷ value ∷ words) g more is e =
 abbrev IsInRange : Command → Type 0
 IsInRange Agree = Unit {0}
 IsInRange Recheck = Unit {0}
-IsInRange (Synth basis method max conflicts) = (0 < basis) × (is_built method ≡ true) × (max ≤ 16) × (1 ≤ conflicts) × (conflicts ≤ 10000000)
+IsInRange (Synth basis method max conflicts) = (0 < basis) × (max ≤ 16) × (1 ≤ conflicts) × (conflicts ≤ 10000000)
 IsInRange Improve = Unit {0}
 
 in_range : (a b : Command) → a ≡ b → IsInRange a → IsInRange b
@@ -184,15 +162,11 @@ default_from : (o : Option ℕ) (d : ℕ) → 1 ≤ d → ((n : ℕ) → o ≡ S
 default_from None d low is = low
 default_from (Some n) d low is = is n refl
 
-default_method : (o : Option Method) → ((m : Method) → o ≡ Some m → is_built m ≡ true) → is_built (or_else o Ssv) ≡ true
-default_method None is = refl
-default_method (Some m) is = is m refl
-
 then_range : (o : Option Given) (c : Command) → ((g : Given) → o ≡ Some g → IsGiven g) → option_map synth_with o ≡ Some c → IsInRange c
 then_range None c given e = absurd cc
 then_range (Some g) c given e =
     let is : IsGiven g = given g refl in
-    in_range (synth_with g) c (some_is (synth_with g) c e) (default_basis g.basis is.basis, default_method g.method is.method, default_to g.max 16 16 (omega arith) is.max, default_from g.conflicts 100000 (omega arith) is.conflicts_from, default_to g.conflicts 100000 10000000 (omega arith) is.conflicts_to)
+    in_range (synth_with g) c (some_is (synth_with g) c e) (default_basis g.basis is.basis, default_to g.max 16 16 (omega arith) is.max, default_from g.conflicts 100000 (omega arith) is.conflicts_from, default_to g.conflicts 100000 10000000 (omega arith) is.conflicts_to)
 
 synth_range : (words : List (List ℕ)) (c : Command) → synth_in words ≡ Some c → IsInRange c
 unfolding synth_in
@@ -240,7 +214,7 @@ usage_none (Some d) c e = let same : c ≡ d = cc in ap (λ (x : Command). Some 
 pub synth_asked : (words : List (List ℕ)) (basis : ℕ) (method : Method) (max conflicts : ℕ) → Ok (Synth basis method max conflicts) ≡ read words → IsAsked (record { basis = basis; method = method; max = max; conflicts = conflicts })
 synth_asked words basis method max conflicts e =
     let is : IsInRange (Synth basis method max conflicts) = command_range words (Synth basis method max conflicts) (usage_none (command_of words) (Synth basis method max conflicts) e) in
-    record { basis_from = is.0; method_built = is.1; max_to = is.2; conflicts_from = is.3; conflicts_to = is.4 }
+    record { basis_from = is.0; max_to = is.1; conflicts_from = is.2; conflicts_to = is.3 }
 
 -- So is what is to be done.
 pub job_asked : (words : List (List ℕ)) (command : Command) (job : Job) → Ok command ≡ read words → job ≡ job_of command → IsJob job

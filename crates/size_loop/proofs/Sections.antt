@@ -2,13 +2,11 @@
 use Rattle.std.proofs.Common.{◌≡◌, ℕ, suc, ◌+◌, ◌≤◌, List, [], ◌∷◌, ◌++◌, length, Option, None, refl, subst, sym, arith, zero-add, ◌∙◌}
 use Rattle.std.proofs.lemmas.Grind.{common_steps}
 use Rattle.std.proofs.lemmas.List.Elements.{All-push}
-use Rattle.std.specs.List.{find}
-use Rattle.std.specs.Option.{option_map}
 use Rattle.chain_theory.specs.Chain.{Chain}
 use Rattle.cert_theory.specs.declared.data.Heading.{Heading}
 use Rattle.cert_theory.specs.declared.data.Verdict.{Verdict}
-use Rattle.cert_theory.specs.Bundle.{Section, Bundle, IsHeading, IsSection, AreSections, first_open, is_open, size_of, IsEnding, IsValid}
-use Rattle.size_loop.specs.Kept.{IsKeptSection, AreKept}
+use Rattle.cert_theory.specs.Bundle.{Section, IsHeading, IsSection, AreSections, first_open, IsEnding, IsValid}
+use Rattle.size_loop.specs.Kept.{IsKeptSection}
 use Rattle.size_loop.specs.State.{State}
 use Rattle.size_loop.specs.Searched.{HasSearched}
 use Rattle.size_loop.specs.Advancing.{open_with, behind}

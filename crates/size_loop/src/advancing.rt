@@ -1,13 +1,12 @@
-ghost use Rattle.std.specs.Prelude.{◌≡◌, ◌≤◌, ◌<◌, true, None, IfOk};
+ghost use Rattle.std.specs.Prelude.{◌≡◌, ◌≤◌, ◌<◌, None, IfOk};
+ghost use Rattle.cert_theory.specs.Bundle as bundles;
 ghost use Rattle.cert_theory.specs.Bundle.{IsSection, IsEnding};
-ghost use Rattle.cert_theory.specs.Coding.{is_built};
-ghost use Rattle.size_loop.specs.Advancing.{IfSection, IfEnded, behind};
+ghost use Rattle.size_loop.specs.Advancing.{IfSection, IfEnded, behind, open_with};
 ghost use Rattle.size_loop.specs.Kept.{IsKeptSection};
 ghost use Rattle.size_loop.specs.State.{IsState};
 
 use crate::sizes::{SizeOutcome, search_size};
-use crate::verdicts::{first_open, found, not_found};
-use bundle_core::{Heading, Section, Verdict};
+use bundle_core::{Ended, Heading, Section, Verdict};
 use chain_core::Chain;
 use enc_frame::Method;
 use op_basis::Basis;
@@ -50,12 +49,10 @@ pub enum Advance {
 
 impl Search {
     /// A search for a chain over the basis that agrees with the tables, from size 0 on. The basis
-    /// isn't empty, the method is one that is built, `max` is the greatest size, at most 16, and the
-    /// budget, from 1 to 10,000,000, is how many clauses at least the solver adds to a formula before
-    /// it leaves it open.
+    /// isn't empty, `max` is the greatest size, at most 16, and the budget, from 1 to 10,000,000, is how
+    /// many clauses at least the solver adds to a formula before it leaves it open.
     pub fn new(spec: Spec, basis: Basis, method: Method, max: u32, budget: u32) -> Search
         requires basis { 0 < basis }
-        requires method { is_built method ≡ true }
         requires max { max ≤ 16 }
         requires budget_from { 1 ≤ budget }
         requires budget_to { budget ≤ 10000000 }
@@ -92,13 +89,13 @@ impl Search {
         if next > heading.max {
             return Ok(Advance::Ended {
                 chain: None,
-                verdict: not_found(heading.max, low),
+                verdict: Verdict::not_found(heading.max, low),
             });
         }
         match search_size(alloc, &heading, next)? {
             SizeOutcome::Found(chain) => Ok(Advance::Ended {
                 chain: Some(chain),
-                verdict: found(next, low),
+                verdict: Verdict::found(next, low),
             }),
             SizeOutcome::Logged(section) => {
                 let rest = Search {
@@ -110,4 +107,23 @@ impl Search {
             }
         }
     }
+}
+
+/// The first open size, where `low` is that of the sizes before this section's. A size is open where
+/// one of its parts is.
+fn first_open(low: Option<u32>, section: &Section) -> Option<u32>
+    ensures { result ≡ open_with low section.now }
+{
+    match low {
+        Some(low) => Some(low),
+        None if is_open(section) => Some(section.size),
+        None => None,
+    }
+}
+
+/// Whether a part of a section is open.
+fn is_open(section: &Section) -> bool
+    ensures { result ≡ bundles.is_open section.now }
+{
+    section.parts.iter().any(|part| part.ended == Ended::Open)
 }

@@ -15,7 +15,6 @@ mod advancing;
 mod searching;
 mod sizes;
 mod trying;
-mod verdicts;
 
 pub use advancing::{Advance, Search};
 pub use searching::search;

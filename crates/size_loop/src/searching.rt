@@ -1,6 +1,5 @@
-ghost use Rattle.std.specs.Prelude.{◌≡◌, ◌≤◌, ◌<◌, true, IfOk};
+ghost use Rattle.std.specs.Prelude.{◌≡◌, ◌≤◌, ◌<◌, IfOk};
 ghost use Rattle.cert_theory.specs.Bundle.{IsValid};
-ghost use Rattle.cert_theory.specs.Coding.{is_built};
 ghost use Rattle.size_loop.specs.Kept.{AreKept};
 
 use crate::advancing::{Advance, Search};
@@ -12,8 +11,8 @@ use tt_core::Spec;
 
 /// Searches the sizes from 0 to `max` for a chain of the fewest steps over the basis that agrees with
 /// the tables, and answers the certificate of what it found. A part of a size is left open where the
-/// solver has added `budget` clauses to its formula or more. The basis isn't empty, the method is one
-/// that is built, `max` is at most 16, and the budget is from 1 to 10,000,000.
+/// solver has added `budget` clauses to its formula or more. The basis isn't empty, `max` is at most
+/// 16, and the budget is from 1 to 10,000,000.
 #[tactic(auto, using(crate::proofs::Sections::steps))]
 pub fn search(
     alloc: Global,
@@ -24,7 +23,6 @@ pub fn search(
     budget: u32,
 ) -> Result<Bundle, AllocError>
     requires basis { 0 < basis }
-    requires method { is_built method ≡ true }
     requires max { max ≤ 16 }
     requires budget_from { 1 ≤ budget }
     requires budget_to { budget ≤ 10000000 }

@@ -1,6 +1,3 @@
-ghost use Rattle.std.specs.Prelude.{◌≡◌};
-ghost use Rattle.cert_theory.specs.Coding.{is_built};
-
 use super::*;
 use bundle_core::{Bundle, Verdict};
 use enc_frame::Method;
@@ -14,15 +11,6 @@ const ALL: u16 = 65_535;
 /// NAND alone.
 const NAND: u16 = 16_384;
 
-/// Whether a method is built; each is.
-fn is_known(method: Method) -> bool
-    ensures { result ≡ is_built method }
-{
-    match method {
-        Method::Plain | Method::Ssv | Method::Select | Method::Fence => true,
-    }
-}
-
 /// What a search makes of tables, of at most 1,000 bytes.
 fn searched(
     alloc: Global,
@@ -34,9 +22,6 @@ fn searched(
 ) -> Result<Bundle, Fail> {
     if text.len() > 1_000 || basis == 0 || max > 16 || budget == 0 || budget > 10_000_000 {
         return Err(Fail::from("beyond the limits"));
-    }
-    if !is_known(method) {
-        return Err(Fail::from("not built"));
     }
     let tables = read_tables(alloc, text).map_err(|_| Fail::from("refused"))?;
     let found = search(alloc, &tables.spec, Basis::new(basis), method, max, budget);

@@ -1,14 +1,12 @@
 -- What is asked beside the tables.
-use Rattle.std.specs.Prelude.{◌≡◌, ◌≤◌, ◌<◌, true}
+use Rattle.std.specs.Prelude.{◌≤◌, ◌<◌}
 use Rattle.tt_core.specs.Words.{Words}
 use Rattle.cert_theory.specs.declared.data.Heading.{Heading}
-use Rattle.cert_theory.specs.Coding.{is_built}
 use Rattle.synth_core.specs.declared.asked.Asked.{Asked}
 
--- the basis isn't empty, the method is built, and the numbers are in their ranges
+-- the basis isn't empty, and the numbers are in their ranges
 pub record IsAsked (a : Asked) : Type 0 where
   pub basis_from : 0 < a.basis
-  pub method_built : is_built a.method ≡ true
   pub max_to : a.max ≤ 16
   pub conflicts_from : 1 ≤ a.conflicts
   pub conflicts_to : a.conflicts ≤ 10000000

@@ -1,5 +1,5 @@
 -- Tables with nothing behind them.
-use Rattle.std.specs.Prelude.{ℕ, ◌+◌, List, [], ◌∷◌, length, Result, Ok, Err}
+use Rattle.std.specs.Prelude.{◌+◌, List, [], ◌∷◌, length, Result, Ok, Err}
 use Rattle.text_core.specs.Lines.{Line}
 use Rattle.tt_core.specs.declared.error.SpecError.{SpecError}
 use Rattle.tt_core.specs.declared.error.SpecError.TheVariants.{BadRow}

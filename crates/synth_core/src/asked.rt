@@ -6,7 +6,7 @@ use op_basis::Basis;
 pub struct Asked {
     /// The operators that a chain may have; one at least.
     pub basis: Basis,
-    /// How sizes are encoded, by a method that is built.
+    /// How sizes are encoded.
     pub method: Method,
     /// The greatest size, at most 16.
     pub max: u32,

@@ -1,6 +1,3 @@
-ghost use Rattle.std.specs.Prelude.{◌≡◌};
-ghost use Rattle.cert_theory.specs.Coding.{is_built};
-
 use super::*;
 use enc_theory::Method;
 use op_basis::Basis;
@@ -13,15 +10,6 @@ const ALL: u16 = 65_535;
 /// NAND alone.
 const NAND: u16 = 16_384;
 
-/// Whether a method is built; each is.
-fn is_known(method: Method) -> bool
-    ensures { result ≡ is_built method }
-{
-    match method {
-        Method::Plain | Method::Ssv | Method::Select | Method::Fence => true,
-    }
-}
-
 /// What is certified of tables of at most 1,000 bytes.
 fn certified(
     alloc: Global,
@@ -32,9 +20,6 @@ fn certified(
     conflicts: u32,
 ) -> Result<Certificate, SpecError> {
     if text.len() > 1_000 || basis == 0 || max > 16 || conflicts == 0 || conflicts > 10_000_000 {
-        return Err(SpecError::Memory);
-    }
-    if !is_known(method) {
         return Err(SpecError::Memory);
     }
     let asked = Asked {

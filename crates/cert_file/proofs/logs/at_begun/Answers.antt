@@ -1,6 +1,5 @@
 -- The log begins without a line.
-use Rattle.std.proofs.Common.{◌∙◌, ◌≡◌, List, ◌∷◌, ap, subst, refl, []}
-use Rattle.text_core.specs.Lines.{Line}
+use Rattle.std.proofs.Common.{◌∙◌, ap, subst, refl, []}
 use Rattle.sat_theory.specs.Formula.{Formula}
 use Rattle.sat_theory.specs.Log.{added_ids}
 use Rattle.lrat_check.specs.Checked.{HasAccepted}

@@ -1,6 +1,5 @@
 -- A line of a log, or its end.
-use Rattle.std.proofs.Common.{◌≡◌, ◌+◌, ◌∷◌, ◌++◌, [], ◌∙◌, ap, sym, subst, ℕ, List, Bool, Ok, arith}
-use Rattle.text_core.specs.Lines.{Line}
+use Rattle.std.proofs.Common.{◌≡◌, ◌+◌, ◌∷◌, ◌++◌, [], ◌∙◌, ap, sym, subst, Bool, Ok, arith}
 use Rattle.cert_theory.specs.Judging.{closed, sections_of, Within}
 use Rattle.cert_theory.specs.Gives.{Fails}
 use Rattle.cert_theory.proofs.Binds.{fails_is}

@@ -1,5 +1,5 @@
 -- A title that is due was read, is at fault, or there is none.
-use Rattle.std.proofs.Common.{◌≡◌, ◌∙◌, ◌+◌, ◌∷◌, List, ap, sym, refl}
+use Rattle.std.proofs.Common.{◌∙◌, ◌∷◌, List, ap, refl}
 use Rattle.cert_file.specs.TextLines.{line_of}
 use Rattle.enc_frame.specs.declared.part.Part.{Part}
 use Rattle.cert_theory.specs.Judging.{before, sections_of}
