@@ -1,7 +1,7 @@
 //! When a search goes back to the bottom and decides anew: after runs of conflicts whose lengths follow Luby's
 //! sequence (Luby, Sinclair and Zuckerman, "Optimal speedup of Las Vegas algorithms", 1993). The clauses, the
 //! scores and the signs stay, so a restart loses little, and no answer rests on when it comes.
-ghost use Rattle.std.specs.Prelude.{◌≡◌, ℕ, ◌+◌, ◌-◌, ◌*◌, ◌^◌, ◌<◌, IsTrue, IsFalse};
+ghost use Rattle.std.specs.Prelude.{◌≡◌, ℕ, ◌+◌, ◌-◌, ◌*◌, ◌%◌, ◌^◌, ◌<◌, ◌≤◌, IsTrue, IsFalse};
 ghost use Rattle.cdcl_core.specs.Luby.{IsLuby, IsPowerUpTo};
 
 /// How many conflicts the shortest runs have.
@@ -31,6 +31,8 @@ impl Restarts {
     /// Counts a conflict, and tells whether a run ended with it.
     pub(crate) fn count(&mut self) -> bool
         ensures goes_on { IsFalse result → self.new ≡ record self.old { left = self.old.left - 1 } }
+        ensures due { IsTrue result → self.old.left ≤ 1 }
+        ensures next { IsTrue result → self.new.run ≡ self.old.run % RUNS + 1 }
         ensures ends { IsTrue result → (length : ℕ) × IsLuby self.new.run length × (self.new.left ≡ SHORTEST_RUN * length) }
     {
         if self.left > 1 {

@@ -1,3 +1,6 @@
+//! The search: it propagates, learns a clause from each conflict and goes back to where that is unit, and begins
+//! a level with a decision where none is left, until all variables have values, the empty clause follows, or the
+//! budget is spent. What holds all through is `IsSearching`, and what the watches promise is `IsVisited`.
 ghost use Rattle.std.specs.Prelude.{◌≡◌, ◌+◌, ◌*◌, ◌<◌, ◌≤◌, [], length, IfOk, OnOk, IfSome, IfNone};
 ghost use Rattle.sat_theory.specs.Formula.{Formula};
 ghost use Rattle.sat_theory.specs.Log.{Refutes};

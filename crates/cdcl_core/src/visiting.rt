@@ -134,7 +134,8 @@ fn first_open(trail: &Trail, blockers: &[Lit], from: usize) -> Option<usize>
     None
 }
 
-/// Visits all clauses that watch a literal that fell, but those whose blocking literal is true. It stops at a falsified clause.
+/// Visits all clauses that watch a literal that fell, but those whose blocking literal is true. It stops at a
+/// falsified clause.
 fn visit_watching(
     trail: &mut Trail,
     clauses: &mut ClauseDb,

@@ -11,7 +11,7 @@ use Rattle.cert_theory.specs.declared.data.Heading.{Heading}
 use Rattle.cert_theory.specs.declared.data.Verdict.{Verdict}
 use Rattle.cert_theory.specs.declared.data.BundleError.{BundleError}
 use Rattle.cert_theory.specs.Bundle.{Bundle}
-use Rattle.cert_theory.specs.CodingLaws.{built_is_coding}
+use Rattle.cert_theory.specs.CodingLaws.{method_is_coding}
 use Rattle.cert_theory.specs.Meaning.{Means}
 use Rattle.cert_theory.specs.Spelling.{IsBundle}
 use Rattle.cert_theory.specs.Judging.{bundle_of}
@@ -24,7 +24,7 @@ use Rattle.chain_app.specs.RecheckReport.{most_of_bundle, recheck_reply, IsVerdi
 
 -- the verdict of a valid bundle is true
 bundle_means : (b : Bundle) (bytes : List ℕ) → IsBundle bytes b → Means (specification b.heading.spec) (members b.heading.basis) b.verdict
-bundle_means b bytes is = verdict_means b (built_is_coding b.heading.method) is.valid
+bundle_means b bytes is = verdict_means b (method_is_coding b.heading.method) is.valid
 
 means_as : (w x : Words) (a b : ℕ) (u v : Verdict) → w ≡ x → a ≡ b → u ≡ v → Means (specification w) (members a) u → Means (specification x) (members b) v
 means_as w x a b u v same_words same_basis same_verdict means =

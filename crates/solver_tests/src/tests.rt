@@ -88,11 +88,11 @@ fn formulas_are_satisfied(rt: HostRuntime) -> Result<(), Fail> {
         ),
         // no clause, no variable, a variable in no clause
         (0, [].as_slice(), [].as_slice()),
-        (2, [].as_slice(), [false, false].as_slice()),
+        (2, [].as_slice(), [true, true].as_slice()),
         (
             3,
             [b"1 1 0 0" as &[u8], b"2 3 0 0"].as_slice(),
-            [true, false, true].as_slice(),
+            [true, true, true].as_slice(),
         ),
     ] {
         match solve(alloc, &formula(alloc, vars, clauses)?, 1)? {
@@ -121,6 +121,29 @@ fn formulas_are_refuted(rt: HostRuntime) -> Result<(), Fail> {
             }
             _ => assert!(rt; false, "not refuted"),
         }
+    }
+    Ok(())
+}
+
+/// The conflict of the decision 1 leads back to -3, -2 and -1, of which -2 follows from -1.
+const IMPLIED: [&[u8]; 4] = [
+    b"1 -1 2 0 0",
+    b"2 -5 3 0 0",
+    b"3 -1 -2 -3 4 0 0",
+    b"4 -3 -4 0 0",
+];
+
+#[test]
+fn learnt_clauses_lose_what_follows(rt: HostRuntime) -> Result<(), Fail> {
+    let alloc = rt.alloc();
+    match solve(alloc, &formula(alloc, 5, &IMPLIED)?, 1)? {
+        Solved::Open(log) => {
+            assert_eq!(rt; log.lines.len(), 1);
+            let mut text = Vec::new(alloc);
+            write_line(&log.lines[0], &mut text)?;
+            assert!(rt; text.starts_with(b"5 -3 -1 0 "), "{text:?}");
+        }
+        _ => assert!(rt; false, "not open"),
     }
     Ok(())
 }
