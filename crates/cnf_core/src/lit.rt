@@ -1,4 +1,7 @@
-ghost use Rattle.std.specs.Prelude.{◌≡◌, ℤ, pos, ◌<◌, ◌^◌, ◌<ℤ◌, ◌↔◌, IsTrue};
+ghost use Rattle.std.specs.Prelude.{◌≡◌, ℕ, ℤ, pos, ◌<◌, ◌^◌, ◌<ℤ◌, ◌↔◌, IsTrue};
+ghost use Rattle.std.specs.Ordering.{int_eq};
+ghost use Rattle.std.specs.Cmp.Rules.{comparing};
+ghost use Rattle.std.proofs.Common.{rules};
 ghost use Rattle.cnf_core.specs.Bounds.{IsLit};
 ghost use Rattle.cnf_core.specs.Codes.{code_of};
 ghost use Rattle.sat_theory.specs.Formula.{variable as variable_of, opposite as opposite_of};
@@ -6,30 +9,50 @@ ghost use Rattle.sat_theory.specs.Formula.{variable as variable_of, opposite as 
 use std::marker::Model;
 
 /// A literal: a variable from 1 to 2147483647, and a sign. Contracts see it as a number, as DIMACS
-/// writes it: 3 says that variable 3 is true, -3 that it is false.
-#[derive(Clone, Copy, Debug, PartialEq, Eq)]
-pub struct Lit(i32);
+/// writes it: 3 says that variable 3 is true, -3 that it is false. It is kept as the place of its entry in
+/// tables, 6 or 7, so that a look at an entry has nothing to compute.
+#[derive(Clone, Copy, Debug, Eq)]
+pub struct Lit(u32);
 
 impl Model for Lit {
-    ghost use Rattle.std.specs.Prelude.{ℤ};
-    ghost use Rattle.cnf_core.specs.Bounds.{IsLit};
+    ghost use Rattle.std.specs.Prelude.{ℕ, ℤ, ◌≤◌};
+    ghost use Rattle.std.proofs.Common.{ap};
+    ghost use Rattle.cnf_core.specs.Codes.{code_of, literal_of};
+    ghost use Rattle.cnf_core.specs.CodeLaws.{code_of-literal_of};
 
     ghost Value = { ℤ };
 
-    ghost view = { λ l. l.0 };
+    ghost view = { λ l. literal_of l.0 };
 
-    ghost invariant = { λ l. IsLit l.0 };
+    ghost invariant = { λ l. 2 ≤ l.0 };
 
-    ghost inverse = { λ z. record { 0 = z } };
+    ghost inverse = { λ z. record { 0 = code_of z } };
+
+    ghost inverse_ok = { λ a some. ap (λ (n : ℕ). record { 0 = n }) (code_of-literal_of a.0 some) };
 }
 
+#[tactic(auto, using(crate::proofs::Placing::placing))]
+impl PartialEq for Lit {
+    ghost eq = { λ a b. int_eq a b };
+
+    ghost laws = { Prim.search (comparing, rules) };
+
+    fn eq(&self, other: &Lit) -> bool {
+        self.0 == other.0
+    }
+}
+
+#[tactic(auto, using(crate::proofs::Placing::placing))]
 impl Lit {
     /// The literal that a number writes.
     pub fn new(number: i32) -> Lit
         requires { IsLit number }
         ensures { result ≡ number }
     {
-        Lit(number)
+        if number > 0 {
+            return Lit(2 * number.unsigned_abs());
+        }
+        Lit(2 * number.unsigned_abs() + 1)
     }
 
     /// The number that writes it.
@@ -37,7 +60,11 @@ impl Lit {
         ensures value { result ≡ self }
         ensures whole { IsLit self }
     {
-        self.0
+        let number = self.variable() as i32;
+        if self.is_positive() {
+            return number;
+        }
+        -number
     }
 
     /// Its variable.
@@ -46,7 +73,7 @@ impl Lit {
         ensures some { 0 < result }
         ensures small { result < 2 ^ 31 }
     {
-        self.0.unsigned_abs()
+        self.0 / 2
     }
 
     /// The literal of the same variable with the other sign.
@@ -54,14 +81,14 @@ impl Lit {
         ensures value { result ≡ opposite_of self }
         ensures variable { variable_of result ≡ variable_of self }
     {
-        Lit(-self.0)
+        Lit(self.0 ^ 1)
     }
 
     /// Whether it says that its variable is true.
     pub fn is_positive(self) -> bool
         ensures { IsTrue result ↔ (pos 0 <ℤ self) }
     {
-        self.0 > 0
+        self.0 % 2 == 0
     }
 
     /// Where its entry stands in a table with an entry for each literal: at 2 v for the variable v, and
@@ -70,6 +97,6 @@ impl Lit {
         ensures value { result ≡ code_of self }
         ensures small { result < 2 ^ 33 }
     {
-        2 * self.variable() as usize + usize::from(!self.is_positive())
+        self.0 as usize
     }
 }
