@@ -14,12 +14,12 @@ use Rattle.clause_db.specs.declared.windows.Window.{Window}
 use Rattle.clause_db.specs.Windows.{entry_of, entries_of, AreInside}
 
 -- a window within the front of a row
-range_front : (row more : List ℤ) (a b : ℕ) → a ≤ b → b ≤ length row → slice_range (row ++ more) a b ≡ slice_range row a b
+pub range_front : (row more : List ℤ) (a b : ℕ) → a ≤ b → b ≤ length row → slice_range (row ++ more) a b ≡ slice_range row a b
 range_front row more a b low high =
     let room : b - a ≤ length (drop a row) = rw length-drop (omega arith) in
     ap (take (b - a)) (drop-append-le a row more (omega arith)) ∙ take-append-le (b - a) (drop a row) more room
 
-range_behind : (row more : List ℤ) (a b : ℕ) → a ≡ length row → b ≡ length row + length more → slice_range (row ++ more) a b ≡ more
+pub range_behind : (row more : List ℤ) (a b : ℕ) → a ≡ length row → b ≡ length row + length more → slice_range (row ++ more) a b ≡ more
 range_behind row more a b at long = ap (take (b - a)) (drop_at row more a (sym at)) ∙ take_all (b - a) more (omega arith)
 
 same_chosen : {A : Type 0} (b : Bool) (x y z : A) → x ≡ y → (if b then x else z) ≡ (if b then y else z)

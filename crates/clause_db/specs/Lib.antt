@@ -5,3 +5,4 @@ pub mod Watching
 pub mod WatchingLaws
 pub mod Moving
 pub mod Blocking
+pub mod BlockRanges

@@ -20,6 +20,7 @@
 #![tactic(auto)]
 
 mod blockers;
+mod blocks;
 mod clause_db;
 mod store;
 mod watches;

@@ -1,0 +1,178 @@
+-- Lists in one row of literals.
+use Rattle.std.proofs.Common.{◌≡◌, ℕ, suc, ◌+◌, ◌-◌, ◌<◌, ◌≤◌, ℤ, List, [], ◌∷◌, ◌++◌, length, slice_index_or, slice_set, map, All, AllPairs, Option, Some, IsTrue, refl, ap, ◌∙◌, sym, subst, arith, take, drop, length-append}
+use Rattle.std.specs.List.{slice_range, swap}
+use Rattle.std.proofs.Math.Logic.{⊎_elim}
+use Rattle.std.proofs.lemmas.Bool.{cases_eq, cases_lt}
+use Rattle.std.proofs.lemmas.List.{length-drop, length-take, length-take-le, length-map, length-set, map-append, take-map, get_or-take, get_or-drop, get_or-map, get_or-set_same, get_or-set_other, same_lists, get_or_append_left}
+use Rattle.std.proofs.lemmas.List.Elements.{All-weaker, All-push}
+use Rattle.std.proofs.lemmas.List.Edits.{length-swap, swapped_from_swap, Swapped}
+use Rattle.std.proofs.lemmas.List.Quantifiers.{all_pairs_push}
+use Rattle.clause_db.specs.declared.blocks.Range.{Range}
+use Rattle.clause_db.specs.BlockRanges.{list_in, lists_in, AreRanges}
+use Rattle.clause_db.proofs.Rows.{range_front, range_behind}
+
+range_long : (row : List ℤ) (a b : ℕ) → a ≤ b → b ≤ length row → length (slice_range row a b) ≡ b - a
+range_long row a b order inside = length-take-le (b - a) (drop a row) (rw length-drop (omega arith))
+
+range_at : (row : List ℤ) (a b k : ℕ) (d : ℤ) → k < b - a → slice_index_or (slice_range row a b) k d ≡ slice_index_or row (a + k) d
+range_at row a b k d low = get_or-take (b - a) (drop a row) k d low ∙ get_or-drop a row k d
+
+-- Two rows that agree on a range have the same list there.
+range_same : (row new : List ℤ) (a b : ℕ) → a ≤ b → b ≤ length row → b ≤ length new → ((k : ℕ) (d : ℤ) → a ≤ k → k < b → slice_index_or new k d ≡ slice_index_or row k d) → slice_range new a b ≡ slice_range row a b
+range_same row new a b order inside inside_new same =
+    let long : length (slice_range row a b) ≡ b - a = range_long row a b order inside in
+    let long_new : length (slice_range new a b) ≡ b - a = range_long new a b order inside_new in
+    same_lists (slice_range new a b) (slice_range row a b) (long_new ∙ sym long) (λ k d low. let within : k < b - a = omega (arith, low, long_new) in range_at new a b k d within ∙ same (a + k) d (omega arith) (omega (arith, within)) ∙ sym (range_at row a b k d within))
+
+-- Two literals of a range change places.
+range_swapped : (row : List ℤ) (a b low high : ℕ) → a ≤ b → b ≤ length row → low < b - a → high < b - a → slice_range (swap row (a + low) (a + high)) a b ≡ swap (slice_range row a b) low high
+range_swapped row a b low high order inside is_low is_high =
+    same_lists (slice_range new a b) (swap (slice_range row a b) low high) (long_new ∙ sym (length-swap (slice_range row a b) low high ∙ long)) (λ k d at. at_place k d (omega (arith, at, long_new)))
+  where
+    new : List ℤ
+    new = swap row (a + low) (a + high)
+
+    long : length (slice_range row a b) ≡ b - a
+    long = range_long row a b order inside
+
+    long_new : length (slice_range new a b) ≡ b - a
+    long_new = range_long new a b order (let kept : length new ≡ length row = length-swap row (a + low) (a + high) in omega (arith, kept, inside))
+
+    at_place : (k : ℕ) (d : ℤ) → k < b - a → slice_index_or (slice_range new a b) k d ≡ slice_index_or (swap (slice_range row a b) low high) k d
+    at_place k d within =
+        let in_row : Swapped (λ i. slice_index_or row i d) (λ i. slice_index_or new i d) (a + low) (a + high) = swapped_from_swap row new (a + low) (a + high) d (omega (arith, inside, is_low)) (omega (arith, inside, is_high)) refl in
+        let in_list : Swapped (λ i. slice_index_or (slice_range row a b) i d) (λ i. slice_index_or (swap (slice_range row a b) low high) i d) low high = swapped_from_swap (slice_range row a b) (swap (slice_range row a b) low high) low high d (omega (arith, long, is_low)) (omega (arith, long, is_high)) refl in
+        range_at new a b k d within ∙ ⊎_elim
+        (λ (e : k ≡ low). ap (λ (n : ℕ). slice_index_or new (a + n) d) e ∙ in_row.0 ∙ sym (range_at row a b high d is_high) ∙ sym in_list.0 ∙ ap (λ (n : ℕ). slice_index_or (swap (slice_range row a b) low high) n d) (sym e))
+        (λ (not_low : k ≡ low → ⊥). ⊎_elim
+        (λ (e : k ≡ high). ap (λ (n : ℕ). slice_index_or new (a + n) d) e ∙ in_row.1 ∙ sym (range_at row a b low d is_low) ∙ sym in_list.1 ∙ ap (λ (n : ℕ). slice_index_or (swap (slice_range row a b) low high) n d) (sym e))
+        (λ (not_high : k ≡ high → ⊥). in_row.2 (a + k) (λ e. not_low (omega arith)) (λ e. not_high (omega arith)) ∙ sym (range_at row a b k d within) ∙ sym (in_list.2 k not_low not_high))
+        (cases_eq k high))
+        (cases_eq k low)
+
+-- A range that has neither place sees nothing of it.
+range_apart : (row : List ℤ) (a b i j : ℕ) → a ≤ b → b ≤ length row → i < length row → j < length row → ((k : ℕ) → a ≤ k → k < b → k ≡ i → ⊥) → ((k : ℕ) → a ≤ k → k < b → k ≡ j → ⊥) → slice_range (swap row i j) a b ≡ slice_range row a b
+range_apart row a b i j order inside is_i is_j not_i not_j =
+    range_same row (swap row i j) a b order inside (let kept : length (swap row i j) ≡ length row = length-swap row i j in omega (arith, kept, inside))
+    (λ k d low high. let swapped : Swapped (λ n. slice_index_or row n d) (λ n. slice_index_or (swap row i j) n d) i j = swapped_from_swap row (swap row i j) i j d is_i is_j refl in swapped.2 k (not_i k low high) (not_j k low high))
+
+-- Two literals of one list change places, and the other lists stay.
+swapped_in : (row : List ℤ) (ranges : List Range) (index low high : ℕ) (r : Range) → AreRanges row ranges → index < length ranges → r ≡ slice_index_or ranges index r → low < high → high < r.end - r.start → lists_in (swap row (r.start + low) (r.start + high)) ranges ≡ slice_set (lists_in row ranges) index (swap (list_in row r) low high)
+swapped_in row ranges index low high r are inside is order places =
+    same_lists (lists_in new ranges) (slice_set (lists_in row ranges) index list) (length-map ranges (list_in new) ∙ sym (length-set (lists_in row ranges) index list ∙ length-map ranges (list_in row))) (λ k d at. at_index k d (let long : length (lists_in new ranges) ≡ length ranges = length-map ranges (list_in new) in omega (arith, at, long)))
+  where
+    new : List ℤ
+    new = swap row (r.start + low) (r.start + high)
+
+    list : List ℤ
+    list = swap (list_in row r) low high
+
+    fine : (r.start ≤ r.end) × (r.end ≤ length row)
+    fine = subst (λ (s : Range). (s.start ≤ s.end) × (s.end ≤ length row)) (sym is) (are.inside index r inside)
+
+    apart : (k : ℕ) (s : Range) → k < length ranges → (k ≡ index → ⊥) → s ≡ slice_index_or ranges k r → list_in new s ≡ list_in row s
+    apart k s within differ at =
+        let its : (s.start ≤ s.end) × (s.end ≤ length row) = subst (λ (t : Range). (t.start ≤ t.end) × (t.end ≤ length row)) (sym at) (are.inside k r within) in
+        let end : r.end ≤ length row = fine.1 in
+        ⊎_elim
+        (λ (before : k < index).
+        let behind : s.end ≤ r.start = subst (λ (t : Range). t.end ≤ r.start) (sym at) (subst (λ (t : Range). (slice_index_or ranges k r).end ≤ t.start) (sym is) (are.behind k index r before inside)) in
+        range_apart row s.start s.end (r.start + low) (r.start + high) its.0 its.1 (omega (arith, order, places, end)) (omega (arith, places, end)) (λ n from to e. omega (arith, to, e, behind)) (λ n from to e. omega (arith, to, e, behind)))
+        (λ (after : index ≤ k).
+        let behind : r.end ≤ s.start = subst (λ (t : Range). r.end ≤ t.start) (sym at) (subst (λ (t : Range). t.end ≤ (slice_index_or ranges k r).start) (sym is) (are.behind index k r (omega (arith, after, differ)) within)) in
+        range_apart row s.start s.end (r.start + low) (r.start + high) its.0 its.1 (omega (arith, order, places, end)) (omega (arith, places, end)) (λ n from to e. omega (arith, from, e, behind, order, places)) (λ n from to e. omega (arith, from, e, behind, places)))
+        (cases_lt k index)
+
+    at_index : (k : ℕ) (d : List ℤ) → k < length ranges → slice_index_or (lists_in new ranges) k d ≡ slice_index_or (slice_set (lists_in row ranges) index list) k d
+    at_index k d within =
+        get_or-map (list_in new) ranges k r d within ∙ ⊎_elim
+        (λ (e : k ≡ index). ap (λ (n : ℕ). list_in new (slice_index_or ranges n r)) e ∙ ap (list_in new) (sym is) ∙ range_swapped row r.start r.end low high fine.0 fine.1 (omega (arith, order, places)) places ∙ sym (ap (λ (n : ℕ). slice_index_or (slice_set (lists_in row ranges) index list) n d) e ∙ get_or-set_same (lists_in row ranges) index list d (let long : length (lists_in row ranges) ≡ length ranges = length-map ranges (list_in row) in omega (arith, inside, long))))
+        (λ (differ : k ≡ index → ⊥). apart k (slice_index_or ranges k r) within differ refl ∙ sym (get_or-set_other (lists_in row ranges) index k list d differ ∙ get_or-map (list_in row) ranges k r d within))
+        (cases_eq k index)
+
+pub lists_swapped : (lists : List (List ℤ)) (row new : List ℤ) (ranges : List Range) (index low high : ℕ) (r : Range) → lists_in row ranges ≡ lists → AreRanges row ranges → r ≡ slice_index_or ranges index r → index < length lists → low < high → high < length (slice_index_or lists index []) → new ≡ swap row (r.start + low) (r.start + high) → lists_in new ranges ≡ slice_set lists index (swap (slice_index_or lists index []) low high)
+lists_swapped lists row new ranges index low high r view are is within order places new_is =
+    let inside : index < length ranges = (let long : length lists ≡ length ranges = sym (ap length view) ∙ length-map ranges (list_in row) in omega (arith, within, long)) in
+    let list : slice_index_or lists index [] ≡ list_in row r = ap (λ (ls : List (List ℤ)). slice_index_or ls index []) (sym view) ∙ get_or-map (list_in row) ranges index r [] inside ∙ ap (list_in row) (sym is) in
+    let fine : (r.start ≤ r.end) × (r.end ≤ length row) = subst (λ (s : Range). (s.start ≤ s.end) × (s.end ≤ length row)) (sym is) (are.inside index r inside) in
+    let long : length (slice_index_or lists index []) ≡ r.end - r.start = ap length list ∙ range_long row r.start r.end fine.0 fine.1 in
+    ap (λ (xs : List ℤ). lists_in xs ranges) new_is ∙ swapped_in row ranges index low high r are inside is order (omega (arith, places, long)) ∙ ap (λ (ls : List (List ℤ)). slice_set ls index (swap (list_in row r) low high)) view ∙ ap (λ (xs : List ℤ). slice_set lists index (swap xs low high)) (sym list)
+
+-- The lists of some ranges are the same in two rows that agree on each of them.
+lists_same : (row new : List ℤ) (ranges : List Range) → ((k : ℕ) (d : Range) → k < length ranges → list_in new (slice_index_or ranges k d) ≡ list_in row (slice_index_or ranges k d)) → lists_in new ranges ≡ lists_in row ranges
+lists_same row new [] same = refl
+lists_same row new (r ∷ rs) same =
+    let tail : lists_in new rs ≡ lists_in row rs = lists_same row new rs (λ k d low. same (suc k) d (omega arith)) in
+    ap (λ (xs : List ℤ). xs ∷ lists_in new rs) (same 0 r (omega arith)) ∙ ap (λ (ls : List (List ℤ)). list_in row r ∷ ls) tail
+
+-- More literals are written behind the row.
+pub lists_written : (row new lits : List ℤ) (ranges same : List Range) → new ≡ row ++ lits → same ≡ ranges → AreRanges row ranges → lists_in new same ≡ lists_in row ranges
+lists_written row new lits ranges same is kept are = rw (kept, is) (lists_same row (row ++ lits) ranges (λ k d low. let fine = are.inside k d low in range_front row lits (slice_index_or ranges k d).start (slice_index_or ranges k d).end fine.0 fine.1))
+
+pub ranges_written : (row new lits : List ℤ) (ranges same : List Range) → new ≡ row ++ lits → same ≡ ranges → AreRanges row ranges → AreRanges new same
+ranges_written row new lits ranges same is kept are =
+    rw (kept) (record {
+      inside = λ k d low. (let fine = are.inside k d low in (fine.0, (let end : (slice_index_or ranges k d).end ≤ length row = fine.1 in rw (is, length-append) (omega (arith, end)))));
+      behind = are.behind;
+    })
+
+-- And the range of what was written is put behind the others.
+pub ranges_added : (row new lits : List ℤ) (ranges more : List Range) (r : Range) → new ≡ row ++ lits → more ≡ ranges ++ r ∷ [] → r.start ≡ length row → r.end ≡ length row + length lits → AreRanges row ranges → AreRanges new more
+ranges_added row new lits ranges more r is kept at end are =
+    let written : AreRanges new ranges = ranges_written row new lits ranges ranges is refl are in
+    let long : length new ≡ length row + length lits = ap length is ∙ length-append row lits in
+    rw kept (record {
+      inside = All-push (λ (s : Range). (s.start ≤ s.end) × (s.end ≤ length new)) ranges r written.inside (omega (arith, at, end), omega (arith, end, long));
+      behind = all_pairs_push (λ (s t : Range). s.end ≤ t.start) ranges r are.behind (λ k d low. (let fine : (slice_index_or ranges k d).end ≤ length row = (are.inside k d low).1 in omega (arith, fine, at)));
+    })
+
+pub lists_added : (lists : List (List ℤ)) (row new lits : List ℤ) (ranges more : List Range) (r : Range) → lists_in row ranges ≡ lists → new ≡ row ++ lits → more ≡ ranges ++ r ∷ [] → r.start ≡ length row → r.end ≡ length row + length lits → AreRanges row ranges → lists_in new more ≡ lists ++ lits ∷ []
+lists_added lists row new lits ranges more r view is kept at end are =
+    let list : list_in new r ≡ lits = ap (λ (xs : List ℤ). list_in xs r) is ∙ range_behind row lits r.start r.end at end in
+    ap (lists_in new) kept ∙ map-append (list_in new) ranges (r ∷ []) ∙ ap (λ (xs : List ℤ). lists_in new ranges ++ xs ∷ []) list ∙ ap (λ (ls : List (List ℤ)). ls ++ lits ∷ []) (lists_written row new lits ranges ranges is refl are ∙ view)
+
+-- The last range is taken off, and with it what stands in the row from its start on.
+ends_before : (row : List ℤ) (ranges : List Range) (n k : ℕ) (d r : Range) → AreRanges row ranges → n + 1 ≡ length ranges → r ≡ slice_index_or ranges n d → k < n → ((slice_index_or ranges k d).start ≤ (slice_index_or ranges k d).end) × ((slice_index_or ranges k d).end ≤ r.start) × (r.start ≤ length row)
+ends_before row ranges n k d r are all is low =
+    let last : (r.start ≤ r.end) × (r.end ≤ length row) = subst (λ (s : Range). (s.start ≤ s.end) × (s.end ≤ length row)) (sym is) (are.inside n d (omega (arith, all))) in
+    let start : r.start ≤ r.end = last.0 in
+    let end : r.end ≤ length row = last.1 in (
+      (are.inside k d (omega (arith, low, all))).0,
+      subst (λ (s : Range). (slice_index_or ranges k d).end ≤ s.start) (sym is) (are.behind k n d low (omega (arith, all))),
+      omega (arith, start, end),
+    )
+
+front_long : (ranges : List Range) (n : ℕ) → n + 1 ≡ length ranges → length (take n ranges) ≡ n
+front_long ranges n all = length-take-le n ranges (omega (arith, all))
+
+pub ranges_cut : (row new : List ℤ) (ranges front : List Range) (n : ℕ) (r : Range) → AreRanges row ranges → n + 1 ≡ length ranges → ((d : Range) → r ≡ slice_index_or ranges n d) → front ≡ take n ranges → new ≡ take r.start row → AreRanges new front
+ranges_cut row new ranges front n r are all is front_is new_is =
+    rw (front_is, new_is) (record {
+      inside = λ k d at. (
+        let low : k < n = omega (arith, at, front_long ranges n all) in
+        let fine = ends_before row ranges n k d r are all (is d) low in
+        let end : (slice_index_or ranges k d).end ≤ r.start = fine.1 in
+        let long : length (take r.start row) ≡ r.start = length-take-le r.start row fine.2 in
+        subst (λ (s : Range). (s.start ≤ s.end) × (s.end ≤ length (take r.start row))) (sym (get_or-take n ranges k d low)) (fine.0, omega (arith, end, long))
+      );
+      behind = λ i j d order at. (
+        let low : j < n = omega (arith, at, front_long ranges n all) in
+        subst (λ (s : Range). s.end ≤ (slice_index_or (take n ranges) j d).start) (sym (get_or-take n ranges i d (omega (arith, order, low)))) (subst (λ (s : Range). (slice_index_or ranges i d).end ≤ s.start) (sym (get_or-take n ranges j d low)) (are.behind i j d order (omega (arith, low, all))))
+      );
+    })
+
+pub lists_cut : (lists : List (List ℤ)) (row new : List ℤ) (ranges front : List Range) (n : ℕ) (r : Range) → lists_in row ranges ≡ lists → AreRanges row ranges → n + 1 ≡ length ranges → ((d : Range) → r ≡ slice_index_or ranges n d) → front ≡ take n ranges → new ≡ take r.start row → lists_in new front ≡ take (length lists - 1) lists
+lists_cut lists row new ranges front n r view are all is front_is new_is =
+    let long : length lists ≡ length ranges = sym (ap length view) ∙ length-map ranges (list_in row) in
+    let count : n ≡ length lists - 1 = omega (arith, long, all) in
+    rw (front_is, new_is) (lists_same row (take r.start row) (take n ranges) kept) ∙ sym (take-map (list_in row) n ranges) ∙ ap (take n) view ∙ ap (λ (m : ℕ). take m lists) count
+  where
+    kept : (k : ℕ) (d : Range) → k < length (take n ranges) → list_in (take r.start row) (slice_index_or (take n ranges) k d) ≡ list_in row (slice_index_or (take n ranges) k d)
+    kept k d at =
+        let low : k < n = omega (arith, at, front_long ranges n all) in
+        let fine = ends_before row ranges n k d r are all (is d) low in
+        let end : (slice_index_or ranges k d).end ≤ r.start = fine.1 in
+        let room : r.start ≤ length row = fine.2 in
+        let long : length (take r.start row) ≡ r.start = length-take-le r.start row fine.2 in
+        subst (λ (s : Range). list_in (take r.start row) s ≡ list_in row s) (sym (get_or-take n ranges k d low))
+        (range_same row (take r.start row) (slice_index_or ranges k d).start (slice_index_or ranges k d).end fine.0 (omega (arith, end, room)) (omega (arith, end, long)) (λ m z from to. get_or-take r.start row m z (omega (arith, to, end))))

@@ -1,0 +1,16 @@
+-- How blocks hold their lists: all literals in one row, and for each list its range of the row.
+use Rattle.std.specs.Prelude.{◌≤◌, ℤ, List, map, length, All, AllPairs}
+use Rattle.std.specs.List.{slice_range}
+use Rattle.clause_db.specs.declared.blocks.Range.{Range}
+
+-- the list of a range
+abbrev pub list_in : List ℤ → Range → List ℤ
+list_in row r = slice_range row r.start r.end
+
+abbrev pub lists_in : List ℤ → List Range → List (List ℤ)
+lists_in row ranges = map (list_in row) ranges
+
+-- Each range lies within the row, and behind all those before it.
+pub record AreRanges (row : List ℤ) (ranges : List Range) : Type 0 where
+  pub inside : All (λ r. (r.start ≤ r.end) × (r.end ≤ length row)) ranges
+  pub behind : AllPairs (λ r s. r.end ≤ s.start) ranges
