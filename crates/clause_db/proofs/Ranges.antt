@@ -1,10 +1,10 @@
 -- Lists in one row of literals.
-use Rattle.std.proofs.Common.{◌≡◌, ℕ, suc, ◌+◌, ◌-◌, ◌<◌, ◌≤◌, ℤ, List, [], ◌∷◌, ◌++◌, length, slice_index_or, slice_set, map, All, AllPairs, Option, Some, IsTrue, refl, ap, ◌∙◌, sym, subst, arith, take, drop, length-append}
+use Rattle.std.proofs.Common.{◌≡◌, ℕ, suc, ◌+◌, ◌-◌, ◌<◌, ◌≤◌, ℤ, List, [], ◌∷◌, ◌++◌, length, slice_index_or, slice_set, refl, ap, ◌∙◌, sym, subst, arith, take, drop, length-append}
 use Rattle.std.specs.List.{slice_range, swap}
 use Rattle.std.proofs.Math.Logic.{⊎_elim}
 use Rattle.std.proofs.lemmas.Bool.{cases_eq, cases_lt}
-use Rattle.std.proofs.lemmas.List.{length-drop, length-take, length-take-le, length-map, length-set, map-append, take-map, get_or-take, get_or-drop, get_or-map, get_or-set_same, get_or-set_other, same_lists, get_or_append_left}
-use Rattle.std.proofs.lemmas.List.Elements.{All-weaker, All-push}
+use Rattle.std.proofs.lemmas.List.{length-drop, length-take-le, length-map, length-set, map-append, take-map, get_or-take, get_or-drop, get_or-map, get_or-set_same, get_or-set_other, same_lists}
+use Rattle.std.proofs.lemmas.List.Elements.{All-push}
 use Rattle.std.proofs.lemmas.List.Edits.{length-swap, swapped_from_swap, Swapped}
 use Rattle.std.proofs.lemmas.List.Quantifiers.{all_pairs_push}
 use Rattle.clause_db.specs.declared.blocks.Range.{Range}
@@ -146,20 +146,21 @@ front_long : (ranges : List Range) (n : ℕ) → n + 1 ≡ length ranges → len
 front_long ranges n all = length-take-le n ranges (omega (arith, all))
 
 pub ranges_cut : (row new : List ℤ) (ranges front : List Range) (n : ℕ) (r : Range) → AreRanges row ranges → n + 1 ≡ length ranges → ((d : Range) → r ≡ slice_index_or ranges n d) → front ≡ take n ranges → new ≡ take r.start row → AreRanges new front
-ranges_cut row new ranges front n r are all is front_is new_is =
-    rw (front_is, new_is) (record {
-      inside = λ k d at. (
+ranges_cut row new ranges front n r are all is front_is new_is = rw (front_is, new_is) (record { inside = inside; behind = behind })
+  where
+    inside : (k : ℕ) (d : Range) → k < length (take n ranges) → ((slice_index_or (take n ranges) k d).start ≤ (slice_index_or (take n ranges) k d).end) × ((slice_index_or (take n ranges) k d).end ≤ length (take r.start row))
+    inside k d at =
         let low : k < n = omega (arith, at, front_long ranges n all) in
         let fine = ends_before row ranges n k d r are all (is d) low in
         let end : (slice_index_or ranges k d).end ≤ r.start = fine.1 in
         let long : length (take r.start row) ≡ r.start = length-take-le r.start row fine.2 in
         subst (λ (s : Range). (s.start ≤ s.end) × (s.end ≤ length (take r.start row))) (sym (get_or-take n ranges k d low)) (fine.0, omega (arith, end, long))
-      );
-      behind = λ i j d order at. (
+
+    behind : (i j : ℕ) (d : Range) → i < j → j < length (take n ranges) → (slice_index_or (take n ranges) i d).end ≤ (slice_index_or (take n ranges) j d).start
+    behind i j d order at =
         let low : j < n = omega (arith, at, front_long ranges n all) in
-        subst (λ (s : Range). s.end ≤ (slice_index_or (take n ranges) j d).start) (sym (get_or-take n ranges i d (omega (arith, order, low)))) (subst (λ (s : Range). (slice_index_or ranges i d).end ≤ s.start) (sym (get_or-take n ranges j d low)) (are.behind i j d order (omega (arith, low, all))))
-      );
-    })
+        let before : slice_index_or (take n ranges) i d ≡ slice_index_or ranges i d = get_or-take n ranges i d (omega (arith, order, low)) in
+        rw (before, get_or-take n ranges j d low) (are.behind i j d order (omega (arith, low, all)))
 
 pub lists_cut : (lists : List (List ℤ)) (row new : List ℤ) (ranges front : List Range) (n : ℕ) (r : Range) → lists_in row ranges ≡ lists → AreRanges row ranges → n + 1 ≡ length ranges → ((d : Range) → r ≡ slice_index_or ranges n d) → front ≡ take n ranges → new ≡ take r.start row → lists_in new front ≡ take (length lists - 1) lists
 lists_cut lists row new ranges front n r view are all is front_is new_is =

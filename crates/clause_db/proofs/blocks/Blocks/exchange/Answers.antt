@@ -1,4 +1,3 @@
-use Rattle.std.proofs.Common.{◌≡◌, length, rules}
 use Rattle.clause_db.proofs.Ranges.{lists_swapped}
 use Rattle.clause_db.proofs.blocks.Blocks.exchange.Goals as goal
 

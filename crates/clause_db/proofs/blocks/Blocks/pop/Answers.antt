@@ -1,5 +1,4 @@
-use Rattle.std.proofs.Common.{◌≡◌, ◌+◌, ◌-◌, length, slice_index_or, take, ap, arith, rules}
-use Rattle.clause_db.specs.declared.blocks.Range.{Range}
+use Rattle.std.proofs.Common.{◌-◌, length, rules}
 use Rattle.clause_db.proofs.Ranges.{ranges_cut, lists_cut}
 use Rattle.clause_db.proofs.blocks.Blocks.pop.Goals as goal
 
