@@ -16,7 +16,7 @@ use Rattle.std.proofs.lemmas.List.{length_push, length-set, get_or-take, length-
 use Rattle.std.proofs.lemmas.List.Elements.{Contains-get_or}
 use Rattle.clause_db.specs.Blocking.{row_of, with_row, blocker_at, IsOf, AreBlockers, AreKept, Follows}
 use Rattle.clause_db.specs.WatchingLaws.{pair_new, pair_old, list_from, swap_length}
-use Rattle.clause_db.proofs.BlockerRows.{blockers_kept, blockers_none, blockers_set, blockers_added, blockers_moved, row-same}
+use Rattle.clause_db.proofs.Beside.{blockers_kept, blockers_none, blockers_set, blockers_added, blockers_moved, row-same}
 use Rattle.clause_db.specs.Moving.{watched_in, IsMovable, movable_watches, watched_variable, stored_none, stored_added, stored_rewatched, rooms}
 
 pub ruleset databases = (common_steps, all_added-push, all_added-none, stored_none, stored_added, stored_rewatched, rooms)

@@ -6,3 +6,4 @@ pub mod WatchingLaws
 pub mod Moving
 pub mod Blocking
 pub mod BlockRanges
+pub mod Arranging

@@ -1,7 +1,7 @@
 use Rattle.std.proofs.Common.{◌≡◌, ◌∙◌, ◌++◌, ◌∷◌, [], ap, sym, length, take, rules}
 use Rattle.clause_db.specs.Watching.{list_of}
 use Rattle.clause_db.specs.Blocking.{row_of}
-use Rattle.clause_db.proofs.BlockerRows.{kept_cut, kept_end, follows_end, others_same}
+use Rattle.clause_db.proofs.Beside.{kept_cut, kept_end, follows_end, others_same}
 use Rattle.clause_db.proofs.blockers.Blockers.push.Goals as goal
 
 pub returns-clause-kept : goal.returns-clause-kept

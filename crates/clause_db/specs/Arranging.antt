@@ -1,0 +1,31 @@
+-- The literals of each clause in an order of their own, so that the two that it watches stand first.
+use Rattle.std.specs.Prelude.{◌≡◌, ℕ, ◌-◌, ℤ, List, [], ◌∷◌, ◌++◌, map, slice_index_or, Option, Some}
+use Rattle.std.specs.List.Sorted.{IsPermutation}
+use Rattle.clause_db.specs.Watching.{Watching, pair_of, with_ids}
+use Rattle.clause_db.specs.Stored.{live_at}
+
+-- the literals of each id, and for each literal, by its code, the ids of the clauses that watch it
+pub record Arranged : Type 0 where
+  pub blocks : List (List ℤ)
+  pub lists : List (List ℕ)
+
+-- the literals of an id
+abbrev pub block_at : List (List ℤ) → ℕ → List ℤ
+block_at blocks id = slice_index_or blocks (id - 1) []
+
+-- A clause watches the two that stand first.
+-- Example: of the literals 3, 1, 2 it watches 3 and 1.
+abbrev pub watching_of : Arranged → Watching
+watching_of a = record { pairs = map pair_of a.blocks; lists = a.lists }
+
+-- a clause was added, in its own order
+abbrev pub arranged_more : Arranged → List ℤ → ℕ → Arranged
+arranged_more a lits id = record { blocks = a.blocks ++ lits ∷ []; lists = with_ids a.lists lits id }
+
+-- the literals of each id may stand in another order
+pub record ArePermuted (blocks new : List (List ℤ)) : Type 0 where
+  pub each : (id : ℕ) → IsPermutation (block_at blocks id) (block_at new id)
+
+-- the literals of each live clause, in some order
+pub record AreArranged (clauses : List (Option (List ℤ))) (blocks : List (List ℤ)) : Type 0 where
+  pub same : (id : ℕ) (clause : List ℤ) → live_at clauses id ≡ Some clause → IsPermutation clause (block_at blocks id)
