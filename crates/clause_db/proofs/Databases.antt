@@ -1,5 +1,5 @@
 -- The store and what its clauses watch, together.
-use Rattle.std.proofs.Common.{◌≡◌, ℕ, ◌+◌, ◌*◌, ◌<◌, ◌≤◌, ℤ, List, [], ◌∷◌, ◌++◌, length, take, slice_index_or, slice_set, replicate, ◌-◌, ◌⊎◌, inl, Contains, All, Option, Some, refl, pos, sym, ap, ◌∙◌, subst, arith}
+use Rattle.std.proofs.Common.{◌≡◌, ◌≢◌, ℕ, ◌+◌, ◌*◌, ◌<◌, ◌≤◌, ℤ, List, [], ◌∷◌, ◌++◌, length, take, slice_index_or, slice_set, replicate, ◌-◌, ◌⊎◌, inl, Contains, All, Option, Some, None, IsSome, refl, pos, sym, ap, ◌∙◌, subst, arith}
 use Rattle.std.proofs.lemmas.List.Elements.{All-contains}
 use Rattle.std.proofs.lemmas.Grind.{common_steps}
 use Rattle.std.proofs.Math.Logic.{⊎_elim}
@@ -12,11 +12,15 @@ use Rattle.clause_db.specs.Watching.{Watching, list_of, pair_of, pair_at, watchi
 use Rattle.clause_db.specs.Stored.{Stored, Entries, live_in, Watches, IsLong, IsPair, IsStored, none_stored, added, all_added, rewatched}
 use Rattle.clause_db.specs.StoredLaws.{all_added-push, all_added-none, live_in-start, live_added, live_inside}
 use Rattle.std.specs.List.{swap_remove}
-use Rattle.std.proofs.lemmas.List.{length_push, length-set, get_or-take, length-take-le}
+use Rattle.std.proofs.lemmas.List.{length_push, length-set, length-map, get_or-take, length-take-le}
 use Rattle.std.proofs.lemmas.List.Elements.{Contains-get_or}
 use Rattle.clause_db.specs.Blocking.{row_of, with_row, blocker_at, IsOf, AreBlockers, AreKept, Follows}
 use Rattle.clause_db.specs.WatchingLaws.{pair_new, pair_old, list_from, swap_length}
 use Rattle.clause_db.proofs.Beside.{blockers_kept, blockers_none, blockers_set, blockers_added, blockers_moved, row-same}
+use Rattle.clause_db.specs.Arranging.{Arranged, block_at, watching_of, arranged_more, ArePermuted, AreArranged, IsNoneOf}
+use Rattle.clause_db.proofs.Arranging.{pair_block, more_is, clause_permuted, arranged_none, arranged_added, arranged_moved}
+use Rattle.std.specs.List.Sorted.{IsPermutation}
+use Rattle.std.proofs.lemmas.List.Sorted.{IsPermutation-sym, All-permutation, Contains-permutation, length_permutation}
 use Rattle.clause_db.specs.Moving.{watched_in, IsMovable, movable_watches, watched_variable, stored_none, stored_added, stored_rewatched, rooms}
 
 pub ruleset databases = (common_steps, all_added-push, all_added-none, stored_none, stored_added, stored_rewatched, rooms)
@@ -54,6 +58,34 @@ pair_in s now id p view stored p_is long clause is =
     let pair : IsPair clause (pair_at s.watches id) = stored.pairs id clause here two in
     rw p_is (pair.first, pair.second)
 
+-- the store with what its clauses watch
+abbrev pub joined : Entries → Arranged → Stored
+joined e a = record { vars = e.vars; clauses = e.clauses; watches = watching_of a }
+
+-- what the type says of them, with the blocking literals
+abbrev pub AreWhole : Entries → Arranged → List (List ℤ) → Type 0
+AreWhole e a rows = IsStored (joined e a) × AreBlockers (joined e a) rows × AreArranged e.clauses a.blocks
+
+-- and differ
+pub pair_differ : (s now : Stored) (id : ℕ) (p : Pair) → s ≡ now → IsStored s → p ≡ pair_at s.watches id → IsLong now id → p.first ≢ p.second
+pair_differ s now id p view stored p_is long =
+    rw p_is (stored.pairs id long.clause (subst (λ (x : Stored). live_in x id ≡ Some long.clause) (sym view) long.is_live) long.long).differ
+
+-- the literals of a live clause
+pub blocks_room : (e : Entries) (a : Arranged) → IsStored (joined e a) → length a.blocks ≡ length e.clauses
+blocks_room e a stored = sym (length-map a.blocks pair_of) ∙ stored.pairs_room
+
+some_is : (o : Option (List ℤ)) → IsSome o → (clause : List ℤ) × (o ≡ Some clause)
+some_is (Some clause) some = (clause, refl)
+some_is None some = absurd (cc)
+
+pub block_given : (e : Entries) (a : Arranged) (now : Stored) (id : ℕ) → joined e a ≡ now → IsStored (joined e a) → IsSome (live_in now id) → (0 < id) × (id ≤ length a.blocks)
+block_given e a now id view stored live =
+    let some : IsSome (live_in (joined e a) id) = subst (λ (x : Stored). IsSome (live_in x id)) (sym view) live in
+    let found : (clause : List ℤ) × (live_in (joined e a) id ≡ Some clause) = some_is (live_in (joined e a) id) some in
+    let low : (0 < id) × (id ≤ length e.clauses) = live_inside (joined e a) id found.0 found.1 in
+    (low.0, omega (arith, low.1, blocks_room e a stored))
+
 -- the lists and the id of a clause that can be moved
 pub movable_rooms : (s now : Stored) (from to : ℤ) (index : ℕ) → s ≡ now → IsStored s → IsMovable now (slice_index_or (list_of now.watches from) index 0) from to index → (code_of from < length s.watches.lists) × (code_of to < length s.watches.lists)
 movable_rooms s now from to index view stored movable_now =
@@ -62,98 +94,131 @@ movable_rooms s now from to index view stored movable_now =
     let to_low : variable to ≤ s.vars = All-contains (λ m. variable m ≤ s.vars) watches.clause to (stored.variables (slice_index_or (list_of s.watches from) index 0) watches.clause watches.is_live) (movable.there watches.clause watches.is_live) in
     (rw stored.room (code_of-room from s.vars (watched_variable s (slice_index_or (list_of s.watches from) index 0) from stored watches)), rw stored.room (code_of-room to s.vars to_low))
 
-pub movable_given : (s now : Stored) (from to : ℤ) (index : ℕ) → s ≡ now → IsStored s → IsMovable now (slice_index_or (list_of now.watches from) index 0) from to index → (0 < slice_index_or (list_of s.watches from) index 0) × (slice_index_or (list_of s.watches from) index 0 ≤ length s.watches.pairs)
-movable_given s now from to index view stored movable_now =
+pub movable_given : (e : Entries) (a : Arranged) (now : Stored) (from to : ℤ) (index : ℕ) → joined e a ≡ now → IsStored (joined e a) → IsMovable now (slice_index_or (list_of now.watches from) index 0) from to index → (0 < slice_index_or (list_of (watching_of a) from) index 0) × (slice_index_or (list_of (watching_of a) from) index 0 ≤ length a.blocks)
+movable_given e a now from to index view stored movable_now =
+    let s : Stored = joined e a in
     let movable : IsMovable s (slice_index_or (list_of s.watches from) index 0) from to index = subst (λ (x : Stored). IsMovable x (slice_index_or (list_of x.watches from) index 0) from to index) (sym view) movable_now in
     let watches : Watches s (slice_index_or (list_of s.watches from) index 0) from = movable_watches s (slice_index_or (list_of s.watches from) index 0) from to index stored movable in
     let low : (0 < slice_index_or (list_of s.watches from) index 0) × (slice_index_or (list_of s.watches from) index 0 ≤ length s.clauses) = live_inside s (slice_index_or (list_of s.watches from) index 0) watches.clause watches.is_live in
-    let under : slice_index_or (list_of s.watches from) index 0 ≤ length s.clauses = low.1 in
-    let room : length s.watches.pairs ≡ length s.clauses = stored.pairs_room in
-    (low.0, omega (arith, under, room))
+    let room : length a.blocks ≡ length e.clauses = blocks_room e a stored in
+    (low.0, omega (arith, low.1, room))
 
--- the store with what its clauses watch
-abbrev pub joined : Entries → Watching → Stored
-joined e w = record { vars = e.vars; clauses = e.clauses; watches = w }
+pub whole_none : (vars : ℕ) (e : Entries) (a : Arranged) (rows : List (List ℤ)) → e ≡ record { vars = vars; clauses = [] } → a ≡ record { blocks = []; lists = replicate (2 * vars + 2) [] } → rows ≡ replicate (2 * vars + 2) [] → AreWhole e a rows
+whole_none vars e a rows e_is a_is rows_is = rw (e_is, a_is, rows_is) (stored_none vars, blockers_none vars, arranged_none)
 
--- what the type says of both
-abbrev pub AreWhole : Stored → List (List ℤ) → Type 0
-AreWhole s rows = IsStored s × AreBlockers s rows
+pub whole_kept : (e : Entries) (a : Arranged) (rows new : List (List ℤ)) → AreWhole e a rows → AreKept (watching_of a) rows new → AreWhole e a new
+whole_kept e a rows new whole kept = (whole.0, blockers_kept (joined e a) rows new whole.1 kept, whole.2)
 
-pub whole_none : (vars : ℕ) (e : Entries) (w : Watching) (rows : List (List ℤ)) → e ≡ record { vars = vars; clauses = [] } → w ≡ record { pairs = []; lists = replicate (2 * vars + 2) [] } → rows ≡ replicate (2 * vars + 2) [] → AreWhole (joined e w) rows
-whole_none vars e w rows e_is w_is rows_is = rw (e_is, w_is, rows_is) (stored_none vars, blockers_none vars)
-
-pub whole_kept : (s : Stored) (rows new : List (List ℤ)) → AreWhole s rows → AreKept s.watches rows new → AreWhole s new
-whole_kept s rows new whole kept = (whole.0, blockers_kept s rows new whole.1 kept)
-
-pub whole_added : (s now : Stored) (lits : List ℤ) (rows new : List (List ℤ)) (e : Entries) (w : Watching) (id : ℕ) → s ≡ now → AreWhole s rows → IsClause lits → IsWithin now.vars lits → length now.clauses < 4000000000 → AreKept s.watches rows new
-    → (2 ≤ length lits → Follows s.watches new (pair_of lits).first (pair_of lits).second) → (2 ≤ length lits → Follows s.watches new (pair_of lits).second (pair_of lits).first)
-    → e ≡ record { vars = s.vars; clauses = s.clauses ++ Some lits ∷ [] } → w ≡ watching_more s.watches lits id → id ≡ length s.clauses + 1 → AreWhole (joined e w) new
-whole_added s now lits rows new e w id view whole is_clause within_now few_now kept first second e_is w_is id_is =
+pub whole_added : (e : Entries) (a : Arranged) (now : Stored) (lits : List ℤ) (rows new : List (List ℤ)) (e_new : Entries) (a_new : Arranged) (id : ℕ) → joined e a ≡ now → AreWhole e a rows → IsClause lits → IsWithin now.vars lits → length now.clauses < 4000000000 → AreKept (watching_of a) rows new
+    → (2 ≤ length lits → Follows (watching_of a) new (pair_of lits).first (pair_of lits).second) → (2 ≤ length lits → Follows (watching_of a) new (pair_of lits).second (pair_of lits).first)
+    → e_new ≡ record { vars = e.vars; clauses = e.clauses ++ Some lits ∷ [] } → a_new ≡ arranged_more a lits id → id ≡ length e.clauses + 1 → AreWhole e_new a_new new
+whole_added e a now lits rows new e_new a_new id view whole is_clause within_now few_now kept first second e_is a_is id_is =
+    let s : Stored = joined e a in
     let within : IsWithin s.vars lits = subst (λ (x : Stored). IsWithin x.vars lits) (sym view) within_now in
     let few : length s.clauses < 4000000000 = subst (λ (x : Stored). length x.clauses < 4000000000) (sym view) few_now in
-    rw (e_is, w_is, id_is) (stored_added s lits whole.0 is_clause within few, blockers_added s lits new whole.0 is_clause within (blockers_kept s rows new whole.1 kept) first second)
+    let watches : watching_of (arranged_more a lits (length e.clauses + 1)) ≡ watching_more (watching_of a) lits (length e.clauses + 1) = more_is a lits (length e.clauses + 1) in
+    let both : IsStored (added s lits) × AreBlockers (added s lits) new = (stored_added s lits whole.0 is_clause within few, blockers_added s lits new whole.0 is_clause within (blockers_kept s rows new whole.1 kept) first second) in
+    let shown : IsStored (with_watches (watching_of (arranged_more a lits (length e.clauses + 1)))) × AreBlockers (with_watches (watching_of (arranged_more a lits (length e.clauses + 1)))) new = subst (λ (w : Watching). IsStored (with_watches w) × AreBlockers (with_watches w) new) (sym watches) both in
+    rw (e_is, a_is, id_is) (shown.0, shown.1, arranged_added s lits a.blocks (blocks_room e a whole.0) whole.2)
+  where
+    with_watches : Watching → Stored
+    with_watches w = record { vars = e.vars; clauses = e.clauses ++ Some lits ∷ []; watches = w }
 
-pub whole_again : (s : Stored) (lits : List ℤ) (rows new : List (List ℤ)) (e after : Entries) (w : Watching) → AreWhole s rows → AreKept s.watches rows new → e ≡ record { vars = s.vars; clauses = s.clauses ++ Some lits ∷ [] } → after.vars ≡ e.vars → after.clauses ≡ take (length e.clauses - 1) e.clauses → w ≡ s.watches → AreWhole (joined after w) new
-whole_again s lits rows new e after w whole kept e_is vars_is clauses_is w_is =
-    let vars : after.vars ≡ s.vars = vars_is ∙ ap (λ (x : Entries). x.vars) e_is in
-    let back : take (length (s.clauses ++ Some lits ∷ []) - 1) (s.clauses ++ Some lits ∷ []) ≡ s.clauses = grind (arith, common_steps) in
-    let clauses : after.clauses ≡ s.clauses = clauses_is ∙ ap (λ (x : Entries). take (length x.clauses - 1) x.clauses) e_is ∙ back in
-    rw (vars, clauses, w_is) (whole_kept s rows new whole kept)
+pub whole_again : (e : Entries) (a : Arranged) (lits : List ℤ) (rows new : List (List ℤ)) (e_new after : Entries) (a_new : Arranged) → AreWhole e a rows → AreKept (watching_of a) rows new → e_new ≡ record { vars = e.vars; clauses = e.clauses ++ Some lits ∷ [] } → after.vars ≡ e_new.vars → after.clauses ≡ take (length e_new.clauses - 1) e_new.clauses → a_new ≡ a → AreWhole after a_new new
+whole_again e a lits rows new e_new after a_new whole kept e_is vars_is clauses_is a_is =
+    let vars : after.vars ≡ e.vars = vars_is ∙ ap (λ (x : Entries). x.vars) e_is in
+    let back : take (length (e.clauses ++ Some lits ∷ []) - 1) (e.clauses ++ Some lits ∷ []) ≡ e.clauses = grind (arith, common_steps) in
+    let clauses : after.clauses ≡ e.clauses = clauses_is ∙ ap (λ (x : Entries). take (length x.clauses - 1) x.clauses) e_is ∙ back in
+    rw (vars, clauses, a_is) (whole_kept e a rows new whole kept)
 
 -- the rows of the formula's literals
 pub row_room : (s now : Stored) (rows : List (List ℤ)) (l : ℤ) → s ≡ now → AreBlockers s rows → variable l ≤ now.vars → code_of l < length rows
 row_room s now rows l view are low = rw are.room (code_of-room l s.vars (subst (λ (x : Stored). variable l ≤ x.vars) (sym view) low))
 
-pub whole_set : (s now : Stored) (rows new : List (List ℤ)) (l m : ℤ) (index : ℕ) → s ≡ now → AreWhole s rows → variable l ≤ now.vars → index < length (list_of now.watches l) → IsOf now (slice_index_or (list_of now.watches l) index 0) m → new ≡ with_row rows l (slice_set (row_of rows l) index m) → AreWhole s new
-whole_set s now rows new l m index view whole low inside of new_is =
-    (whole.0, subst (AreBlockers s) (sym new_is) (blockers_set s rows l m index whole.1 (row_room s now rows l view whole.1 low) (subst (λ (x : Stored). index < length (list_of x.watches l)) (sym view) inside) (subst (λ (x : Stored). IsOf x (slice_index_or (list_of x.watches l) index 0) m) (sym view) of)))
+pub whole_set : (e : Entries) (a : Arranged) (now : Stored) (rows new : List (List ℤ)) (l m : ℤ) (index : ℕ) → joined e a ≡ now → AreWhole e a rows → variable l ≤ now.vars → index < length (list_of now.watches l) → IsOf now (slice_index_or (list_of now.watches l) index 0) m → new ≡ with_row rows l (slice_set (row_of rows l) index m) → AreWhole e a new
+whole_set e a now rows new l m index view whole low inside of new_is =
+    let s : Stored = joined e a in
+    (whole.0, subst (AreBlockers s) (sym new_is) (blockers_set s rows l m index whole.1 (row_room s now rows l view whole.1 low) (subst (λ (x : Stored). index < length (list_of x.watches l)) (sym view) inside) (subst (λ (x : Stored). IsOf x (slice_index_or (list_of x.watches l) index 0) m) (sym view) of)), whole.2)
 
 -- the blocking literals are literals of the formula
-pub blockers_over : (s now : Stored) (rows : List (List ℤ)) (l : ℤ) (list : List ℕ) (row : List ℤ) → s ≡ now → AreWhole s rows → list ≡ list_of s.watches l → row ≡ row_of rows l → IsWithin now.vars (take (length list) row)
-blockers_over s now rows l list row view whole list_is row_is = rw (list_is, row_is) (subst (λ (x : Stored). IsWithin x.vars (take count (row_of rows l))) view over)
+pub blockers_over : (s now : Stored) (rows : List (List ℤ)) (l : ℤ) (list : List ℕ) (row : List ℤ) → s ≡ now → IsStored s → AreBlockers s rows → list ≡ list_of s.watches l → row ≡ row_of rows l → IsWithin now.vars (take (length list) row)
+blockers_over s now rows l list row view stored are list_is row_is = rw (list_is, row_is) (subst (λ (x : Stored). IsWithin x.vars (take count (row_of rows l))) view over)
   where
     count : ℕ
     count = length (list_of s.watches l)
 
     over : IsWithin s.vars (take count (row_of rows l))
     over k d within =
-        let all : length (take count (row_of rows l)) ≡ count = length-take-le count (row_of rows l) (whole.1.long l) in
+        let all : length (take count (row_of rows l)) ≡ count = length-take-le count (row_of rows l) (are.long l) in
         let low : k < count = omega (arith, within, all) in
         let id : ℕ = slice_index_or (list_of s.watches l) k 0 in
-        let watches : Watches s id l = whole.0.only l id (Contains-get_or (list_of s.watches l) k 0 low) in
-        let there : Contains watches.clause (blocker_at rows l k) = whole.1.there l k low watches.clause watches.is_live in
-        let over_one : variable (blocker_at rows l k) ≤ s.vars = All-contains (λ m. variable m ≤ s.vars) watches.clause (blocker_at rows l k) (whole.0.variables id watches.clause watches.is_live) there in
-        let long : length (list_of s.watches l) ≤ length (row_of rows l) = whole.1.long l in
+        let watches : Watches s id l = stored.only l id (Contains-get_or (list_of s.watches l) k 0 low) in
+        let there : Contains watches.clause (blocker_at rows l k) = are.there l k low watches.clause watches.is_live in
+        let over_one : variable (blocker_at rows l k) ≤ s.vars = All-contains (λ m. variable m ≤ s.vars) watches.clause (blocker_at rows l k) (stored.variables id watches.clause watches.is_live) there in
+        let long : length (list_of s.watches l) ≤ length (row_of rows l) = are.long l in
         let same : slice_index_or (take count (row_of rows l)) k d ≡ blocker_at rows l k = get_or-take count (row_of rows l) k d low ∙ (let e : slice_index_or (row_of rows l) k d ≡ slice_index_or (row_of rows l) k (pos 1) = grind (arith, common_steps, long, low) in e) in
         rw same over_one
 
-pub moved_row : (s now : Stored) (rows : List (List ℤ)) (from to : ℤ) (index : ℕ) → s ≡ now → AreWhole s rows → IsMovable now (slice_index_or (list_of now.watches from) index 0) from to index → code_of to < length rows
-moved_row s now rows from to index view whole movable =
-    let room : code_of to < length s.watches.lists = (movable_rooms s now from to index view whole.0 movable).1 in
-    let lists : length s.watches.lists ≡ 2 * s.vars + 2 = whole.0.room in
-    rw (whole.1.room, sym lists) room
+pub moved_row : (s now : Stored) (rows : List (List ℤ)) (from to : ℤ) (index : ℕ) → s ≡ now → IsStored s → AreBlockers s rows → IsMovable now (slice_index_or (list_of now.watches from) index 0) from to index → code_of to < length rows
+moved_row s now rows from to index view stored are movable =
+    let room : code_of to < length s.watches.lists = (movable_rooms s now from to index view stored movable).1 in
+    let lists : length s.watches.lists ≡ 2 * s.vars + 2 = stored.room in
+    rw (are.room, sym lists) room
 
 -- after a clause left a list the row has one literal more than the list
-pub moved_rooms : (s : Stored) (rows : List (List ℤ)) (w : Watching) (id : ℕ) (from to : ℤ) (index : ℕ) → AreWhole s rows → IsMovable s id from to index → w ≡ watching_moved s.watches id from to index → (code_of from < length rows) × (code_of from < length w.lists) × (length (list_of w from) < length (row_of rows from)) × (index ≤ length (list_of w from))
-moved_rooms s rows w id from to index whole movable w_is =
-    let watches : Watches s id from = movable_watches s id from to index whole.0 movable in
-    let low : variable from ≤ s.vars = watched_variable s id from whole.0 watches in
-    let room : code_of from < length s.watches.lists = rw whole.0.room (code_of-room from s.vars low) in
+pub moved_rooms : (s : Stored) (rows : List (List ℤ)) (w : Watching) (id : ℕ) (from to : ℤ) (index : ℕ) → IsStored s → AreBlockers s rows → IsMovable s id from to index → w ≡ watching_moved s.watches id from to index → (code_of from < length rows) × (code_of from < length w.lists) × (length (list_of w from) < length (row_of rows from)) × (index ≤ length (list_of w from))
+moved_rooms s rows w id from to index stored are movable w_is =
+    let watches : Watches s id from = movable_watches s id from to index stored movable in
+    let low : variable from ≤ s.vars = watched_variable s id from stored watches in
+    let room : code_of from < length s.watches.lists = rw stored.room (code_of-room from s.vars low) in
     let inside : index < length (list_of s.watches from) = movable.inside in
-    let long : length (list_of s.watches from) ≤ length (row_of rows from) = whole.1.long from in
+    let long : length (list_of s.watches from) ≤ length (row_of rows from) = are.long from in
     let less : length (list_of w from) ≡ length (list_of s.watches from) - 1 = ap (λ (x : Watching). length (list_of x from)) w_is ∙ ap length (list_from s.watches id from to index from room refl) ∙ swap_length (list_of s.watches from) index 0 inside in
     let still : length w.lists ≡ length s.watches.lists = ap (λ (x : Watching). length x.lists) w_is ∙ length-set (slice_set s.watches.lists (code_of to) _) (code_of from) _ ∙ length-set s.watches.lists (code_of to) _ in
-    (rw whole.1.room (code_of-room from s.vars low), omega (arith, still, room), omega (arith, less, inside, long), omega (arith, less, inside))
+    (rw are.room (code_of-room from s.vars low), omega (arith, still, room), omega (arith, less, inside, long), omega (arith, less, inside))
 
-pub whole_moved : (s : Stored) (rows rows_1 rows_2 : List (List ℤ)) (w : Watching) (id : ℕ) (from to m : ℤ) (index : ℕ) → AreWhole s rows → IsMovable s id from to index → AreKept s.watches rows rows_1 → Follows s.watches rows_1 to m → ((m ≡ (pair_at s.watches id).first) ⊎ (m ≡ (pair_at s.watches id).second)) → w ≡ watching_moved s.watches id from to index
-    → rows_2 ≡ with_row rows_1 from (slice_set (row_of rows_1 from) index (blocker_at rows_1 from (length (list_of w from)))) → AreWhole (record { vars = s.vars; clauses = s.clauses; watches = w }) rows_2
-whole_moved s rows rows_1 rows_2 w id from to m index whole movable kept follows which w_is rows_is =
+pub whole_moved : (e : Entries) (a : Arranged) (rows rows_1 rows_2 : List (List ℤ)) (a_new : Arranged) (id : ℕ) (from to m : ℤ) (index : ℕ) → AreWhole e a rows → IsMovable (joined e a) id from to index → AreKept (watching_of a) rows rows_1 → Follows (watching_of a) rows_1 to m → ((m ≡ (pair_of (block_at a.blocks id)).first) ⊎ (m ≡ (pair_of (block_at a.blocks id)).second)) → watching_of a_new ≡ watching_moved (watching_of a) id from to index → ArePermuted a.blocks a_new.blocks
+    → rows_2 ≡ with_row rows_1 from (slice_set (row_of rows_1 from) index (blocker_at rows_1 from (length (list_of (watching_of a_new) from)))) → AreWhole e a_new rows_2
+whole_moved e a rows rows_1 rows_2 a_new id from to m index whole movable kept follows which w_is order rows_is =
+    let s : Stored = joined e a in
     let watches : Watches s id from = movable_watches s id from to index whole.0 movable in
     let low : variable from ≤ s.vars = watched_variable s id from whole.0 watches in
     let room : code_of from < length s.watches.lists = rw whole.0.room (code_of-room from s.vars low) in
     let now : AreBlockers s rows_1 = blockers_kept s rows rows_1 whole.1 kept in
     let to_low : variable to ≤ s.vars = All-contains (λ x. variable x ≤ s.vars) watches.clause to (whole.0.variables id watches.clause watches.is_live) (movable.there watches.clause watches.is_live) in
-    let of : IsOf s id m = λ clause is. watched_in s id m clause whole.0 (record { clause = watches.clause; is_live = watches.is_live; long = watches.long; watched = which }) is in
-    let last : length (list_of w from) ≡ length (list_of s.watches from) - 1 = ap (λ (x : Watching). length (list_of x from)) w_is ∙ ap length (list_from s.watches id from to index from room refl) ∙ swap_length (list_of s.watches from) index 0 movable.inside in
+    let watched : (m ≡ (pair_at s.watches id).first) ⊎ (m ≡ (pair_at s.watches id).second) = subst (λ (p : Pair). (m ≡ p.first) ⊎ (m ≡ p.second)) (sym (pair_block a id)) which in
+    let of : IsOf s id m = λ clause is. watched_in s id m clause whole.0 (record { clause = watches.clause; is_live = watches.is_live; long = watches.long; watched = watched }) is in
+    let last : length (list_of (watching_of a_new) from) ≡ length (list_of s.watches from) - 1 = ap (λ (x : Watching). length (list_of x from)) w_is ∙ ap length (list_from s.watches id from to index from room refl) ∙ swap_length (list_of s.watches from) index 0 movable.inside in
     let rows_moved : rows_2 ≡ with_row rows_1 from (slice_set (row_of rows_1 from) index (blocker_at rows_1 from (length (list_of s.watches from) - 1))) = rows_is ∙ ap (λ (n : ℕ). with_row rows_1 from (slice_set (row_of rows_1 from) index (blocker_at rows_1 from n))) last in
-    rw (rows_moved, w_is) (stored_rewatched s id from to index whole.0 movable, blockers_moved s rows_1 id from to m index whole.0 movable now (rw now.room (code_of-room from s.vars low)) (rw whole.0.room (code_of-room to s.vars to_low)) of follows)
+    let both : IsStored (rewatched s id from to index) × AreBlockers (rewatched s id from to index) rows_2 = rw rows_moved (stored_rewatched s id from to index whole.0 movable, blockers_moved s rows_1 id from to m index whole.0 movable now (rw now.room (code_of-room from s.vars low)) (rw whole.0.room (code_of-room to s.vars to_low)) of follows) in
+    let shown : IsStored (joined e a_new) × AreBlockers (joined e a_new) rows_2 = subst (λ (w : Watching). IsStored (with_watches w) × AreBlockers (with_watches w) rows_2) (sym w_is) both in
+    (shown.0, shown.1, arranged_moved e.clauses a.blocks a_new.blocks whole.2 order)
+  where
+    with_watches : Watching → Stored
+    with_watches w = record { vars = e.vars; clauses = e.clauses; watches = w }
+
+-- the literal to take is one of the clause, and isn't watched
+pub movable_block : (e : Entries) (a : Arranged) (now : Stored) (from to : ℤ) (index : ℕ) → joined e a ≡ now → IsStored (joined e a) → AreArranged e.clauses a.blocks → IsMovable now (slice_index_or (list_of now.watches from) index 0) from to index → Contains (block_at a.blocks (slice_index_or (list_of (watching_of a) from) index 0)) to × IsNoneOf (pair_of (block_at a.blocks (slice_index_or (list_of (watching_of a) from) index 0))) to
+movable_block e a now from to index view stored are movable_now =
+    let s : Stored = joined e a in
+    let id : ℕ = slice_index_or (list_of s.watches from) index 0 in
+    let movable : IsMovable s id from to index = subst (λ (x : Stored). IsMovable x (slice_index_or (list_of x.watches from) index 0) from to index) (sym view) movable_now in
+    let watches : Watches s id from = movable_watches s id from to index stored movable in (
+      Contains-permutation watches.clause (block_at a.blocks id) to (are.same id watches.clause watches.is_live) (movable.there watches.clause watches.is_live),
+      λ which. movable.other (record { clause = watches.clause; is_live = watches.is_live; long = watches.long; watched = subst (λ (p : Pair). (to ≡ p.first) ⊎ (to ≡ p.second)) (sym (pair_block a id)) which }),
+    )
+
+-- What `arranged` gives is the clause in another order.
+pub block_order : (e : Entries) (a : Arranged) (now : Stored) (id : ℕ) (block clause : List ℤ) → joined e a ≡ now → AreArranged e.clauses a.blocks → block ≡ block_at a.blocks id → live_in now id ≡ Some clause → IsPermutation clause block
+block_order e a now id block clause view are block_is is = rw block_is (are.same id clause (subst (λ (x : Stored). live_in x id ≡ Some clause) (sym view) is))
+
+pub block_front : (e : Entries) (a : Arranged) (now : Stored) (id : ℕ) (block : List ℤ) → joined e a ≡ now → AreArranged e.clauses a.blocks → block ≡ block_at a.blocks id → IsLong now id → (2 ≤ length block) × (pair_of block ≡ pair_at now.watches id)
+block_front e a now id block view are block_is long =
+    let all : length block ≡ length long.clause = length_permutation long.clause block (block_order e a now id block long.clause view are block_is long.is_live) in
+    (omega (arith, all, long.long), ap pair_of block_is ∙ sym (pair_block a id) ∙ ap (λ (x : Stored). pair_at x.watches id) view)
+
+pub block_clause : (e : Entries) (a : Arranged) (now : Stored) (id : ℕ) (block : List ℤ) → joined e a ≡ now → IsStored now → AreArranged e.clauses a.blocks → block ≡ block_at a.blocks id → IsSome (live_in now id) → IsClause block × IsWithin now.vars block
+block_clause e a now id block view stored are block_is live =
+    let found : (clause : List ℤ) × (live_in now id ≡ Some clause) = some_is (live_in now id) live in
+    let order : IsPermutation found.0 block = block_order e a now id block found.0 view are block_is found.1 in
+    (clause_permuted found.0 block order (stored.clauses id found.0 found.1), All-permutation (λ m. variable m ≤ now.vars) found.0 block order (stored.variables id found.0 found.1))

@@ -117,20 +117,3 @@ entries_front vars row windows front n is low laid =
         few = (let long : length (entries_of row front) ≤ length (entries_of row windows) = rw front_is (rw length-take (omega arith)) in let few : length (entries_of row windows) ≤ 4000000000 = laid.1.few in omega (arith, long, few));
       },
     )
-
--- A window that is written with another place to search from shows the same.
-pub laid_noted : (vars : ℕ) (row : List ℤ) (windows : List Window) (k : ℕ) (old new : Window) → old ≡ slice_index_or windows k old → new.start ≡ old.start → new.end ≡ old.end → new.live ≡ old.live → IsLaid vars row windows → IsLaid vars row (slice_set windows k new) × (shown vars row (slice_set windows k new) ≡ shown vars row windows)
-laid_noted vars row windows k old new at start end live laid =
-    ⊎_elim
-    (λ (low : k < length windows).
-    let entry : entry_of row new ≡ entry_of row (slice_index_or windows k old) = rw (start, end, live) (ap (entry_of row) at) in
-    let same : entries_of row (slice_set windows k new) ≡ entries_of row windows = map-set_same (entry_of row) windows k new old entry in
-    let P : Window → Type 0 = λ v. (v.start ≤ v.end) × (v.end ≤ length row) in
-    let inside : P new = rw (start, end) (subst P (sym at) (laid.0 k old low)) in (
-      (All-set P windows k new inside laid.0, subst (λ (es : List (Option (List ℤ))). AreEntries (record { vars = vars; clauses = es })) (sym same) laid.1),
-      ap (λ (es : List (Option (List ℤ))). let e : Entries = record { vars = vars; clauses = es } in e) same,
-    ))
-    (λ (past : length windows ≤ k).
-    let same : slice_set windows k new ≡ windows = set_past windows k new past in
-    (subst (λ (ws : List Window). IsLaid vars row ws) (sym same) laid, ap (shown vars row) same))
-    (cases_lt k (length windows))

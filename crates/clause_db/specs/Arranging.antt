@@ -1,6 +1,7 @@
 -- The literals of each clause in an order of their own, so that the two that it watches stand first.
-use Rattle.std.specs.Prelude.{◌≡◌, ℕ, ◌-◌, ℤ, List, [], ◌∷◌, ◌++◌, map, slice_index_or, Option, Some}
+use Rattle.std.specs.Prelude.{◌≡◌, ℕ, ◌-◌, ◌⊎◌, ℤ, List, [], ◌∷◌, ◌++◌, map, slice_index_or, Option, Some}
 use Rattle.std.specs.List.Sorted.{IsPermutation}
+use Rattle.clause_db.specs.declared.watches.Pair.{Pair}
 use Rattle.clause_db.specs.Watching.{Watching, pair_of, with_ids}
 use Rattle.clause_db.specs.Stored.{live_at}
 
@@ -21,6 +22,10 @@ watching_of a = record { pairs = map pair_of a.blocks; lists = a.lists }
 -- a clause was added, in its own order
 abbrev pub arranged_more : Arranged → List ℤ → ℕ → Arranged
 arranged_more a lits id = record { blocks = a.blocks ++ lits ∷ []; lists = with_ids a.lists lits id }
+
+-- a literal that isn't watched
+abbrev pub IsNoneOf : Pair → ℤ → Type 0
+IsNoneOf p l = (l ≡ p.first) ⊎ (l ≡ p.second) → ⊥
 
 -- the literals of each id may stand in another order
 pub record ArePermuted (blocks new : List (List ℤ)) : Type 0 where

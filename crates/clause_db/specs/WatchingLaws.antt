@@ -32,24 +32,6 @@ listed_back lists l id room =
     let front : take (length (listed_in (with_id lists l id) l) - 1) (listed_in (with_id lists l id) l) ≡ listed_in lists l = rw is (grind (arith, common_steps)) in
     ap (λ (xs : List ℕ). slice_set (with_id lists l id) (code_of l) xs) front ∙ set-set lists (code_of l) (listed_in lists l ++ id ∷ []) (listed_in lists l) ∙ listed_whole lists l
 
--- an id that was put into a list, and taken off when the next one failed
-pub both_back : (w a b : Watching) (l m : ℤ) (id : ℕ) → a ≡ record w { lists = with_id w.lists l id } → m ≡ l → code_of l < length w.lists → b ≡ record a { lists = slice_set a.lists (code_of m) (take (length (list_of a m) - 1) (list_of a m)) } → b ≡ w
-both_back w a b l m id pushed same room taken =
-    let lists : a.lists ≡ with_id w.lists l id = ap (λ (x : Watching). x.lists) pushed in
-    let pairs : a.pairs ≡ w.pairs = ap (λ (x : Watching). x.pairs) pushed in
-    rw (taken, same, lists, pairs) (ap (λ (xs : List (List ℕ)). (let x : Watching = record { pairs = w.pairs; lists = xs } in x)) (listed_back w.lists l id room))
-
--- the two lists and the pair of a clause that is moved, as the code writes them
-pub moved_is : (w a b inner : Watching) (pair new : Pair) (from to : ℤ) (id place index : ℕ) → a ≡ record w { lists = with_id w.lists to id } → b ≡ record a { lists = slice_set a.lists (code_of from) (swap_remove (list_of a from) index 0) } → inner ≡ b → pair ≡ pair_at b id → new ≡ replaced pair from to → (from ≡ to → ⊥) → place ≡ id → record { pairs = slice_set inner.pairs (id - 1) new; lists = inner.lists } ≡ watching_moved w place from to index
-moved_is w a b inner pair new from to id place index pushed taken view pair_is new_is apart same =
-    let lists : a.lists ≡ with_id w.lists to id = ap (λ (x : Watching). x.lists) pushed in
-    let pairs : a.pairs ≡ w.pairs = ap (λ (x : Watching). x.pairs) pushed in
-    let still : listed_in (with_id w.lists to id) from ≡ listed_in w.lists from = listed-other w.lists to from _ apart in
-    let all_lists : inner.lists ≡ slice_set (with_id w.lists to id) (code_of from) (swap_remove (listed_in w.lists from) index 0) = ap (λ (x : Watching). x.lists) (view ∙ taken) ∙ rw (lists, still) refl in
-    let all_pairs : inner.pairs ≡ w.pairs = ap (λ (x : Watching). x.pairs) (view ∙ taken) ∙ pairs in
-    let pair_was : pair ≡ pair_at w id = pair_is ∙ ap (λ (xs : List Pair). slice_index_or xs (id - 1) (record { first = pos 1; second = pos 1 })) (ap (λ (x : Watching). x.pairs) taken ∙ pairs) in
-    rw (same, all_lists, all_pairs, new_is, pair_was) refl
-
 -- numbers of which no two are the same, and the last one in the place of one of them
 differ_at : (xs : List ℕ) (i j d e : ℕ) → AllPairs (λ a b. a ≢ b) xs → i < length xs → j < length xs → (i ≡ j → ⊥) → slice_index_or xs i d ≡ slice_index_or xs j e → ⊥
 differ_at xs i j d e once low_i low_j apart same =

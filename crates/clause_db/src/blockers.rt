@@ -1,6 +1,7 @@
 ghost use Rattle.std.specs.Prelude.{◌≡◌, ℕ, ℤ, ◌+◌, ◌*◌, ◌<◌, ◌≤◌, ◌∷◌, [], ◌++◌, length, take, pos, All, slice_index_or, slice_set, replicate, IfOk, OnOk, OnErr};
 ghost use Rattle.cdcl_theory.specs.Codes.{code_of};
-ghost use Rattle.clause_db.specs.Watching.{list_of, pair_of};
+ghost use Rattle.clause_db.specs.Watching.{listed_in, pair_of};
+ghost use Rattle.clause_db.specs.Arranging.{watching_of};
 ghost use Rattle.clause_db.specs.Blocking.{row_of, blocker_at, with_row, AreKept, Follows};
 
 use crate::watches::Watches;
@@ -121,10 +122,10 @@ impl Blockers {
     ) -> Result<(), AllocError>
         requires room { code_of lit < length self.old }
         requires list { code_of lit < length watches.now.lists }
-        requires long { length (list_of watches.now lit) ≤ length (row_of self.old lit) }
-        ensures kept { AreKept watches.now self.old self.new }
+        requires long { length (listed_in watches.now.lists lit) ≤ length (row_of self.old lit) }
+        ensures kept { AreKept (watching_of watches.now) self.old self.new }
         ensures others { (l : ℤ) → (l ≡ lit → ⊥) → row_of self.new l ≡ row_of self.old l }
-        ensures follows { OnOk result (Follows watches.now self.new lit blocker) }
+        ensures follows { OnOk result (Follows (watching_of watches.now) self.new lit blocker) }
     {
         self.end(lit, watches.list(lit).len(), blocker)?;
         Ok(())
@@ -134,9 +135,9 @@ impl Blockers {
     pub(crate) fn fill(&mut self, watches: &Watches, lit: Lit, index: usize)
         requires room { code_of lit < length self.old }
         requires list { code_of lit < length watches.now.lists }
-        requires long { length (list_of watches.now lit) < length (row_of self.old lit) }
-        requires inside { index ≤ length (list_of watches.now lit) }
-        ensures { self.new ≡ with_row self.old lit (slice_set (row_of self.old lit) index (blocker_at self.old lit (length (list_of watches.now lit)))) }
+        requires long { length (listed_in watches.now.lists lit) < length (row_of self.old lit) }
+        requires inside { index ≤ length (listed_in watches.now.lists lit) }
+        ensures { self.new ≡ with_row self.old lit (slice_set (row_of self.old lit) index (blocker_at self.old lit (length (listed_in watches.now.lists lit)))) }
     {
         let last = self.row(lit)[watches.list(lit).len()];
         self.set(lit, index, last);
@@ -146,11 +147,11 @@ impl Blockers {
     pub(crate) fn push_both(&mut self, watches: &Watches, lits: &[Lit]) -> Result<(), AllocError>
         requires rooms { All (λ l. code_of l < length self.old) lits.now }
         requires lists { All (λ l. code_of l < length watches.now.lists) lits.now }
-        requires long { (l : ℤ) → length (list_of watches.now l) ≤ length (row_of self.old l) }
+        requires long { (l : ℤ) → length (listed_in watches.now.lists l) ≤ length (row_of self.old l) }
         requires differ { 2 ≤ length lits.now → (pair_of lits.now).first ≡ (pair_of lits.now).second → ⊥ }
-        ensures kept { AreKept watches.now self.old self.new }
-        ensures first { OnOk result (2 ≤ length lits.now → Follows watches.now self.new (pair_of lits.now).first (pair_of lits.now).second) }
-        ensures second { OnOk result (2 ≤ length lits.now → Follows watches.now self.new (pair_of lits.now).second (pair_of lits.now).first) }
+        ensures kept { AreKept (watching_of watches.now) self.old self.new }
+        ensures first { OnOk result (2 ≤ length lits.now → Follows (watching_of watches.now) self.new (pair_of lits.now).first (pair_of lits.now).second) }
+        ensures second { OnOk result (2 ≤ length lits.now → Follows (watching_of watches.now) self.new (pair_of lits.now).second (pair_of lits.now).first) }
     {
         if lits.len() < 2 {
             return Ok(());

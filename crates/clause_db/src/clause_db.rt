@@ -26,13 +26,15 @@ pub struct ClauseDb {
 impl Model for ClauseDb {
     ghost use Rattle.clause_db.specs.Stored.{Stored, IsStored};
     ghost use Rattle.clause_db.specs.Blocking.{AreBlockers};
+    ghost use Rattle.clause_db.specs.Arranging.{watching_of, AreArranged};
 
     ghost Value = { Stored };
 
-    ghost view = { λ c. record { vars = c.store.vars; clauses = c.store.clauses; watches = c.watches } };
+    ghost view = { λ c. record { vars = c.store.vars; clauses = c.store.clauses; watches = watching_of c.watches } };
 
-    ghost invariant = { λ c. IsStored (record { vars = c.store.vars; clauses = c.store.clauses; watches = c.watches })
-        × AreBlockers (record { vars = c.store.vars; clauses = c.store.clauses; watches = c.watches }) c.blockers };
+    ghost invariant = { λ c. IsStored (record { vars = c.store.vars; clauses = c.store.clauses; watches = watching_of c.watches })
+        × AreBlockers (record { vars = c.store.vars; clauses = c.store.clauses; watches = watching_of c.watches }) c.blockers
+        × AreArranged c.store.clauses c.watches.blocks };
 }
 
 #[tactic(auto, using(crate::proofs::Databases::databases))]
@@ -94,22 +96,16 @@ impl ClauseDb {
         self.store.lits(id)
     }
 
-    /// From which literal of a live clause on a search for one to watch begins: the place that `note` was
-    /// given last, or the clause's first literal.
-    pub fn search_from(&self, id: u32) -> usize
+    /// The literals of a live clause in an order of their own: where it watches two, these stand first.
+    pub fn arranged(&self, id: u32) -> &[Lit]
         requires live { IsSome (live_in self.now id) }
-        ensures within { (clause : List ℤ) → live_in self.now id ≡ Some clause → result ≤ length clause }
+        ensures same { (clause : List ℤ) → live_in self.now id ≡ Some clause → (l : ℤ) → Contains result.now l ↔ Contains clause l }
+        ensures front { IsLong self.now id → (2 ≤ length result.now) × (pair_of result.now ≡ pair_at self.now.watches id) }
+        ensures clause { IsClause result.now }
+        ensures over { IsWithin self.now.vars result.now }
+        ensures whole { IsStored self.now }
     {
-        self.store.search_from(id)
-    }
-
-    /// Lets the next search in a live clause begin at a place. Nothing else is changed.
-    pub fn note(&mut self, id: u32, place: usize)
-        requires live { IsSome (live_in self.old id) }
-        ensures same { self.new ≡ self.old }
-        ensures whole { IsStored self.new }
-    {
-        self.store.note(id, place);
+        self.watches.block(id)
     }
 
     /// Whether an id is that of a live clause.
@@ -185,7 +181,15 @@ impl ClauseDb {
 
     /// Lets the clause at an index in the list of `from` watch `to`, another one of its literals, in place of
     /// `from`. In that list the last entry takes its place, and the list of `to` gets it at the end.
-    pub fn rewatch_at(&mut self, from: Lit, index: usize, to: Lit) -> Result<(), AllocError>
+    ///
+    /// place: where `to` stands in `arranged`; with another number it is searched for.
+    pub fn rewatch_at(
+        &mut self,
+        from: Lit,
+        index: usize,
+        to: Lit,
+        place: usize,
+    ) -> Result<(), AllocError>
         requires movable { IsMovable self.old (slice_index_or (list_of self.old.watches from) index 0) from to index }
         ensures ok { OnOk result (self.new ≡ rewatched self.old (slice_index_or (list_of self.old.watches from) index 0) from to index) }
         ensures err { OnErr result (self.new ≡ self.old) }
@@ -193,7 +197,7 @@ impl ClauseDb {
     {
         let blocker = self.watches.other_at(from, index);
         self.blockers.push(&self.watches, to, blocker)?;
-        self.watches.move_to(from, index, to)?;
+        self.watches.move_to(from, index, to, place)?;
         self.blockers.fill(&self.watches, from, index);
         Ok(())
     }
@@ -211,7 +215,7 @@ impl ClauseDb {
         // brings what the type says of the lists
         let _last = self.last();
         let index = find(self.watching(from), id);
-        self.rewatch_at(from, index, to)
+        self.rewatch_at(from, index, to, 0)
     }
 }
 

@@ -54,7 +54,6 @@ impl Store {
             start,
             end: self.row.len(),
             live: true,
-            next: 0,
         })?;
         Ok(self.windows.len() as u32)
     }
@@ -77,23 +76,6 @@ impl Store {
     {
         let window = &self.windows[id as usize - 1];
         &self.row[window.start..window.end]
-    }
-
-    /// From which literal of a live clause on a search for one to watch begins.
-    pub(crate) fn search_from(&self, id: u32) -> usize
-        requires live { IsSome (live_at self.now.clauses id) }
-        ensures within { (clause : List ℤ) → live_at self.now.clauses id ≡ Some clause → result ≤ length clause }
-    {
-        let window = &self.windows[id as usize - 1];
-        (window.next as usize).min(window.end - window.start)
-    }
-
-    /// Lets the next search in a live clause begin at a place, if that is one of 32 bits.
-    pub(crate) fn note(&mut self, id: u32, place: usize)
-        requires live { IsSome (live_at self.old.clauses id) }
-        ensures { self.new ≡ self.old }
-    {
-        self.windows[id as usize - 1].next = u32::try_from(place).unwrap_or(0);
     }
 
     /// Whether an id is that of a live clause.

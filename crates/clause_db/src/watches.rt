@@ -1,8 +1,10 @@
-ghost use Rattle.std.specs.Prelude.{◌≡◌, ◌≢◌, ◌⊎◌, ℕ, ℤ, ◌+◌, ◌-◌, ◌*◌, ◌<◌, ◌≤◌, ◌∷◌, [], ◌++◌, length, take, All, pos, slice_index_or, slice_set, replicate, IfOk, OnOk, OnErr};
+ghost use Rattle.std.specs.Prelude.{◌≡◌, ◌≢◌, ◌⊎◌, ℕ, ℤ, ◌+◌, ◌-◌, ◌*◌, ◌<◌, ◌≤◌, ◌∷◌, [], ◌++◌, map, length, take, All, Contains, pos, slice_index_or, slice_set, replicate, IfOk, OnOk, OnErr};
 ghost use Rattle.std.specs.List.{swap_remove};
 ghost use Rattle.cdcl_theory.specs.Codes.{code_of};
-ghost use Rattle.clause_db.specs.Watching.{HasRoom, list_of, pair_at, pair_of, with_id, with_ids, watching_more, watching_moved, replaced};
+ghost use Rattle.clause_db.specs.Watching.{listed_in, pair_of, with_id, with_ids, watching_moved, replaced};
+ghost use Rattle.clause_db.specs.Arranging.{block_at, watching_of, arranged_more, ArePermuted, IsNoneOf};
 
+use crate::blocks::Blocks;
 use cnf_core::Lit;
 use std::alloc::{AllocError, Global};
 use std::marker::Model;
@@ -68,38 +70,23 @@ impl Ids {
     }
 }
 
-/// Which two literals each clause watches, by its id, and which clauses watch a literal.
+/// The literals of each clause, by its id, of which it watches the first two, and which clauses watch a
+/// literal.
 #[derive(Debug, Drop)]
 pub(crate) struct Watches {
-    pairs: Vec<Pair>,
+    blocks: Blocks,
     lists: Vec<Ids>,
 }
 
 impl Model for Watches {
-    ghost use Rattle.clause_db.specs.Watching.{Watching};
+    ghost use Rattle.clause_db.specs.Arranging.{Arranged};
 
-    ghost Value = { Watching };
+    ghost Value = { Arranged };
 
-    ghost view = { λ w. record { pairs = w.pairs.items; lists = w.lists.items } };
+    ghost view = { λ w. record { blocks = w.blocks; lists = w.lists.items } };
 }
 
 impl Pair {
-    /// The pair with one literal in the place of another.
-    fn with(self, from: Lit, to: Lit) -> Pair
-        ensures { result ≡ replaced self from to }
-    {
-        if self.first == from {
-            return Pair {
-                first: to,
-                second: self.second,
-            };
-        }
-        Pair {
-            first: self.first,
-            second: to,
-        }
-    }
-
     /// The literal of the pair that isn't a given one, or the first if neither is.
     pub(crate) fn besides(self, lit: Lit) -> Lit
         ensures { (result ≡ self.first) ⊎ (result ≡ self.second) }
@@ -113,35 +100,44 @@ impl Pair {
 
 #[tactic(auto, using(crate::specs::WatchingLaws::watching))]
 impl Watches {
-    /// No pairs, and an empty list for each literal of the variables 1 to `vars`.
+    /// No clauses, and an empty list for each literal of the variables 1 to `vars`.
     pub(crate) fn none(alloc: Global, vars: u32) -> Result<Watches, AllocError>
         requires { vars < 1000000000 }
-        ensures { IfOk result (λ w. w ≡ record { pairs = []; lists = replicate (2 * vars + 2) [] }) }
+        ensures { IfOk result (λ w. w ≡ record { blocks = []; lists = replicate (2 * vars + 2) [] }) }
     {
         let mut lists = Vec::with_capacity(alloc, 2 * vars as usize + 2)?;
         for _code in 0..2 * vars as usize + 2 {
             lists.push(Ids::none(alloc))?;
         }
         Ok(Watches {
-            pairs: Vec::new(alloc),
+            blocks: Blocks::none(alloc),
             lists,
         })
     }
 
-    /// The pair of an id.
+    /// The literals of an id: those that it watches stand first.
+    pub(crate) fn block(&self, id: u32) -> &[Lit]
+        requires some { 0 < id }
+        requires given { id ≤ length self.now.blocks }
+        ensures { result.now ≡ block_at self.now.blocks id }
+    {
+        self.blocks.get(id as usize - 1)
+    }
+
+    /// The two literals that an id watches.
     pub(crate) fn pair(&self, id: u32) -> Pair
         requires some { 0 < id }
-        requires given { id ≤ length self.now.pairs }
-        ensures { result ≡ pair_at self.now id }
+        requires given { id ≤ length self.now.blocks }
+        ensures { result ≡ pair_of (block_at self.now.blocks id) }
     {
-        self.pairs[id as usize - 1]
+        first_two(self.block(id))
     }
 
     /// The list of a literal.
     #[tactic(auto, unfolding(crate::specs::Watching::listed_in))]
     pub(crate) fn list(&self, lit: Lit) -> &[u32]
         requires { code_of lit < length self.now.lists }
-        ensures { result.now ≡ list_of self.now lit }
+        ensures { result.now ≡ listed_in self.now.lists lit }
     {
         self.lists[lit.code()].get()
     }
@@ -161,7 +157,7 @@ impl Watches {
     #[tactic(auto, unfolding(crate::specs::Watching::listed_in))]
     fn take_last(&mut self, lit: Lit)
         requires { code_of lit < length self.old.lists }
-        ensures { self.new ≡ record self.old { lists = slice_set self.old.lists (code_of lit) (take (length (list_of self.old lit) - 1) (list_of self.old lit)) } }
+        ensures { self.new ≡ record self.old { lists = slice_set self.old.lists (code_of lit) (take (length (listed_in self.old.lists lit) - 1) (listed_in self.old.lists lit)) } }
     {
         self.lists[lit.code()].take_last();
     }
@@ -185,17 +181,17 @@ impl Watches {
         }
     }
 
-    /// Lets the clause of the next id watch its first two literals.
+    /// Adds the clause of the next id, which watches its first two literals.
     pub(crate) fn add(&mut self, lits: &[Lit], id: u32) -> Result<(), AllocError>
         requires { All (λ l. code_of l < length self.old.lists) lits.now }
-        ensures ok { OnOk result (self.new ≡ watching_more self.old lits.now id) }
+        ensures ok { OnOk result (self.new ≡ arranged_more self.old lits.now id) }
         ensures err { OnErr result (self.new ≡ self.old) }
     {
-        self.pairs.push(first_two(lits))?;
+        self.blocks.push(lits)?;
         match self.push_both(lits, id) {
             Ok(()) => Ok(()),
             Err(error) => {
-                self.pairs.pop();
+                self.blocks.pop();
                 Err(error)
             }
         }
@@ -204,37 +200,63 @@ impl Watches {
     /// What the clause at an index in a literal's list watches besides that literal.
     pub(crate) fn other_at(&self, lit: Lit, index: usize) -> Lit
         requires room { code_of lit < length self.now.lists }
-        requires inside { index < length (list_of self.now lit) }
-        requires id { (0 < slice_index_or (list_of self.now lit) index 0) × (slice_index_or (list_of self.now lit) index 0 ≤ length self.now.pairs) }
-        ensures { (result ≡ (pair_at self.now (slice_index_or (list_of self.now lit) index 0)).first) ⊎ (result ≡ (pair_at self.now (slice_index_or (list_of self.now lit) index 0)).second) }
+        requires inside { index < length (listed_in self.now.lists lit) }
+        requires id { (0 < slice_index_or (listed_in self.now.lists lit) index 0) × (slice_index_or (listed_in self.now.lists lit) index 0 ≤ length self.now.blocks) }
+        ensures { (result ≡ (pair_of (block_at self.now.blocks (slice_index_or (listed_in self.now.lists lit) index 0))).first) ⊎ (result ≡ (pair_of (block_at self.now.blocks (slice_index_or (listed_in self.now.lists lit) index 0))).second) }
     {
         let id = self.list(lit)[index];
         self.pair(id).besides(lit)
     }
 
-    /// Lets a clause watch `to` in place of `from`, in whose list it stands at an index.
-    pub(crate) fn move_to(&mut self, from: Lit, index: usize, to: Lit) -> Result<(), AllocError>
+    /// Lets a clause watch `to`, another one of its literals, in place of `from`, in whose list it stands at an
+    /// index. The two change places, and `place` is where `to` is looked for first.
+    pub(crate) fn move_to(
+        &mut self,
+        from: Lit,
+        index: usize,
+        to: Lit,
+        place: usize,
+    ) -> Result<(), AllocError>
         requires rooms { (code_of from < length self.old.lists) × (code_of to < length self.old.lists) }
-        requires inside { index < length (list_of self.old from) }
-        requires id { (0 < slice_index_or (list_of self.old from) index 0) × (slice_index_or (list_of self.old from) index 0 ≤ length self.old.pairs) }
+        requires inside { index < length (listed_in self.old.lists from) }
+        requires id { (0 < slice_index_or (listed_in self.old.lists from) index 0) × (slice_index_or (listed_in self.old.lists from) index 0 ≤ length self.old.blocks) }
         requires apart { from ≢ to }
-        ensures ok { OnOk result (self.new ≡ watching_moved self.old (slice_index_or (list_of self.old from) index 0) from to index) }
+        requires there { Contains (block_at self.old.blocks (slice_index_or (listed_in self.old.lists from) index 0)) to }
+        requires other { IsNoneOf (pair_of (block_at self.old.blocks (slice_index_or (listed_in self.old.lists from) index 0))) to }
+        ensures ok { OnOk result (watching_of self.new ≡ watching_moved (watching_of self.old) (slice_index_or (listed_in self.old.lists from) index 0) from to index) }
+        ensures order { OnOk result (ArePermuted self.old.blocks self.new.blocks) }
         ensures err { OnErr result (self.new ≡ self.old) }
     {
         let id = self.list(from)[index];
         self.push(to, id)?;
         self.take_out(from, index);
-        let pair = self.pair(id).with(from, to);
-        self.pairs[id as usize - 1] = pair;
+        self.arrange(id, from, to, place);
         Ok(())
+    }
+
+    /// Puts `to` into the place of the first literal of a clause, if that is `from`, and else into that of the
+    /// second one, which takes its place.
+    fn arrange(&mut self, id: u32, from: Lit, to: Lit, place: usize)
+        requires some { 0 < id }
+        requires given { id ≤ length self.old.blocks }
+        requires there { Contains (block_at self.old.blocks id) to }
+        requires other { IsNoneOf (pair_of (block_at self.old.blocks id)) to }
+        ensures lists { self.new.lists ≡ self.old.lists }
+        ensures pairs { map pair_of self.new.blocks ≡ slice_set (map pair_of self.old.blocks) (id - 1) (replaced (pair_of (block_at self.old.blocks id)) from to) }
+        ensures order { ArePermuted self.old.blocks self.new.blocks }
+    {
+        let block = self.block(id);
+        let low = place_of_watch(block, from);
+        let high = place_of(block, to, place);
+        self.blocks.exchange(id as usize - 1, low, high);
     }
 
     /// Takes the id at an index out of a literal's list.
     #[tactic(auto, unfolding(crate::specs::Watching::listed_in))]
     fn take_out(&mut self, lit: Lit, index: usize)
         requires room { code_of lit < length self.old.lists }
-        requires inside { index < length (list_of self.old lit) }
-        ensures { self.new ≡ record self.old { lists = slice_set self.old.lists (code_of lit) (swap_remove (list_of self.old lit) index 0) } }
+        requires inside { index < length (listed_in self.old.lists lit) }
+        ensures { self.new ≡ record self.old { lists = slice_set self.old.lists (code_of lit) (swap_remove (listed_in self.old.lists lit) index 0) } }
     {
         self.lists[lit.code()].take_out(index);
     }
@@ -257,4 +279,40 @@ fn literal_at(lits: &[Lit], index: usize) -> Lit
         Some(lit) => *lit,
         None => Lit::new(1),
     }
+}
+
+/// The place of the watched literal that is a given one: 1, if the first is another one.
+fn place_of_watch(lits: &[Lit], lit: Lit) -> usize
+    requires { 0 < length lits.now }
+    ensures { (result ≡ 0) × ((pair_of lits.now).first ≡ lit) ⊎ (result ≡ 1) × ((pair_of lits.now).first ≢ lit) }
+{
+    if lits[0] == lit {
+        return 0;
+    }
+    1
+}
+
+/// The place of a literal in a list that has it. It is looked for at `hint` first.
+fn place_of(lits: &[Lit], lit: Lit, hint: usize) -> usize
+    requires { Contains lits.now lit }
+    ensures inside { result < length lits.now }
+    ensures there { (d : ℤ) → slice_index_or lits.now result d ≡ lit }
+{
+    if hint < lits.len() && lits[hint] == lit {
+        return hint;
+    }
+    find(lits, lit)
+}
+
+/// The first place of a literal in a list that has it.
+fn find(lits: &[Lit], lit: Lit) -> usize
+    requires { Contains lits.now lit }
+    ensures inside { result < length lits.now }
+    ensures there { (d : ℤ) → slice_index_or lits.now result d ≡ lit }
+{
+    let mut place = 0;
+    while place + 1 < lits.len() && lits[place] != lit {
+        place += 1;
+    }
+    place
 }

@@ -1,8 +1,5 @@
-use Rattle.clause_db.specs.Stored.{Stored}
 use Rattle.clause_db.proofs.Databases.{whole_set}
 use Rattle.clause_db.proofs.clause_db.ClauseDb.block.Goals as goal
 
 pub invariant_of-self : goal.invariant_of-self
-invariant_of-self c =
-    let s : Stored = record { vars = c.self.inside.store.vars; clauses = c.self.inside.store.clauses; watches = c.self.inside.watches } in
-    whole_set s c.args.self.now c.self.inside.blockers c.set.new.self c.args.lit c.args.by c.args.index c.self.view_is c.self.invariant c.requires.over c.requires.inside c.requires.there c.set.ensures
+invariant_of-self c = whole_set c.self.inside.store c.self.inside.watches c.args.self.now c.self.inside.blockers c.set.new.self c.args.lit c.args.by c.args.index c.self.view_is c.self.invariant c.requires.over c.requires.inside c.requires.there c.set.ensures

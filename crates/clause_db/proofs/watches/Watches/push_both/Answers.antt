@@ -1,7 +1,7 @@
 use Rattle.std.proofs.Common.{◌≡◌, ◌<◌, ◌≤◌, ℤ, ℕ, List, length, slice_index_or, subst, ap, sym, ◌∙◌, arith}
 use Rattle.std.proofs.lemmas.List.{get_or_read}
 use Rattle.cdcl_theory.specs.Codes.{code_of}
-use Rattle.clause_db.specs.WatchingLaws.{both_back}
+use Rattle.clause_db.proofs.Arranging.{both_back}
 use Rattle.clause_db.proofs.watches.Watches.push_both.Goals as goal
 
 pub returns-in-Err-clause-err : goal.returns-in-Err-clause-err

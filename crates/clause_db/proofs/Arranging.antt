@@ -1,0 +1,143 @@
+-- The literals of each clause in an order of their own.
+use Rattle.std.proofs.Common.{◌≡◌, ◌≢◌, ℕ, ◌+◌, ◌-◌, ◌<◌, ◌≤◌, ◌⊎◌, ◌==◌, ℤ, pos, List, [], ◌∷◌, ◌++◌, map, length, take, slice_index_or, slice_set, Contains, All, AllPairs, Option, Some, refl, sym, ap, ◌∙◌, subst, arith, inl, inr}
+use Rattle.std.specs.List.{swap, swap_remove, IsDistinct}
+use Rattle.std.specs.List.Sorted.{IsPermutation}
+use Rattle.std.proofs.Math.Logic.{⊎_elim}
+use Rattle.std.proofs.lemmas.Bool.{cases_eq, cases_lt}
+use Rattle.std.proofs.lemmas.Bool.Decides.{Decides-eqb}
+use Rattle.std.proofs.lemmas.Grind.{common_steps}
+use Rattle.std.proofs.lemmas.List.{length_push, length-set, length-map, map-append, map-set, get_or-map, get_or-set_same, get_or-set_other, get_or_push, get_or_append_left, set_past}
+use Rattle.std.proofs.lemmas.List.Edits.{swapped_from_swap, Swapped}
+use Rattle.std.proofs.lemmas.List.Sorted.{IsPermutation-refl, IsPermutation-sym, IsPermutation-trans, IsPermutation-swap, IsPermutation-map, All-permutation, Contains-permutation, length_permutation}
+use Rattle.std.proofs.lemmas.Map.Keys.{IsDistinct-IsPermutation}
+use Rattle.std.proofs.lemmas.Map.Made.{AllPairs-from_IsDistinct, IsDistinct-from_AllPairs}
+use Rattle.sat_theory.specs.Formula.{variable, IsClause, IsWithin}
+use Rattle.cdcl_theory.specs.Codes.{code_of}
+use Rattle.cdcl_theory.specs.CodeLaws.{int_eq-same, int_eq-other}
+use Rattle.clause_db.specs.declared.watches.Pair.{Pair}
+use Rattle.clause_db.specs.Watching.{Watching, listed_in, pair_at, pair_of, with_id, with_ids, watching_more, watching_moved, replaced}
+use Rattle.clause_db.specs.WatchingLaws.{listed-same, listed-other, listed_back}
+use Rattle.clause_db.specs.Stored.{Stored, live_at, live_in, IsStored, added}
+use Rattle.clause_db.specs.StoredLaws.{live_added, live_inside}
+use Rattle.clause_db.specs.Arranging.{Arranged, block_at, watching_of, arranged_more, ArePermuted, AreArranged, IsNoneOf}
+
+-- an id that was put into a list, and taken off when the next one failed
+pub both_back : (w a b : Arranged) (l m : ℤ) (id : ℕ) → a ≡ record w { lists = with_id w.lists l id } → m ≡ l → code_of l < length w.lists → b ≡ record a { lists = slice_set a.lists (code_of m) (take (length (listed_in a.lists m) - 1) (listed_in a.lists m)) } → b ≡ w
+both_back w a b l m id pushed same room taken =
+    let lists : a.lists ≡ with_id w.lists l id = ap (λ (x : Arranged). x.lists) pushed in
+    let blocks : a.blocks ≡ w.blocks = ap (λ (x : Arranged). x.blocks) pushed in
+    rw (taken, same, lists, blocks) (ap (λ (xs : List (List ℕ)). (let x : Arranged = record { blocks = w.blocks; lists = xs } in x)) (listed_back w.lists l id room))
+
+-- the watched pair of an id
+pub pair_block : (a : Arranged) (id : ℕ) → pair_at (watching_of a) id ≡ pair_of (block_at a.blocks id)
+pair_block a id = pair_in_blocks a.blocks (id - 1)
+  where
+    pair_in_blocks : (blocks : List (List ℤ)) (k : ℕ) → slice_index_or (map pair_of blocks) k (record { first = pos 1; second = pos 1 }) ≡ pair_of (slice_index_or blocks k [])
+    pair_in_blocks blocks k = ⊎_elim
+        (λ (low : k < length blocks). get_or-map pair_of blocks k [] (record { first = pos 1; second = pos 1 }) low)
+        (λ (past : length blocks ≤ k). grind (arith, common_steps))
+        (cases_lt k (length blocks))
+
+-- A clause that is added watches its first two literals.
+pub more_is : (a : Arranged) (lits : List ℤ) (id : ℕ) → watching_of (arranged_more a lits id) ≡ watching_more (watching_of a) lits id
+more_is a lits id = ap (λ (ps : List Pair). (let w : Watching = record { pairs = ps; lists = with_ids a.lists lits id } in w)) (map-append pair_of a.blocks (lits ∷ []))
+
+-- where a literal that isn't watched stands
+behind_watched : (lits : List ℤ) (l : ℤ) (k : ℕ) → ((d : ℤ) → slice_index_or lits k d ≡ l) → IsNoneOf (pair_of lits) l → 2 ≤ k
+behind_watched lits l k at other = ⊎_elim
+    (λ (low : k < 2). absurd (⊎_elim
+    (λ (e : k ≡ 0). other (inl (sym (at (pos 1)) ∙ ap (λ (n : ℕ). slice_index_or lits n (pos 1)) e)))
+    (λ (apart : k ≡ 0 → ⊥). other (inr (sym (at (pos 1)) ∙ ap (λ (n : ℕ). slice_index_or lits n (pos 1)) (let e : k ≡ 1 = omega (arith, low, apart) in e))))
+    (cases_eq k 0)))
+    (λ (high : 2 ≤ k). high)
+    (cases_lt k 2)
+
+-- what the place of the literal to give up is, and that of the one to take
+abbrev pub IsFound : List ℤ → ℤ → ℕ → Type 0
+IsFound lits from low = (low ≡ 0) × ((pair_of lits).first ≡ from) ⊎ (low ≡ 1) × ((pair_of lits).first ≢ from)
+
+pub low_high : (lits : List ℤ) (from to : ℤ) (low high : ℕ) → IsFound lits from low → ((d : ℤ) → slice_index_or lits high d ≡ to) → IsNoneOf (pair_of lits) to → low < high
+low_high lits from to low high found at other =
+    let behind : 2 ≤ high = behind_watched lits to high at other in
+    ⊎_elim (λ (first : (low ≡ 0) × ((pair_of lits).first ≡ from)). omega (arith, behind, first.0)) (λ (second : (low ≡ 1) × ((pair_of lits).first ≢ from)). omega (arith, behind, second.0)) found
+
+-- The literal to take stands in the other one's place.
+swapped_pair : (lits : List ℤ) (from to : ℤ) (low high : ℕ) → IsFound lits from low → high < length lits → ((d : ℤ) → slice_index_or lits high d ≡ to) → IsNoneOf (pair_of lits) to → pair_of (swap lits low high) ≡ replaced (pair_of lits) from to
+swapped_pair lits from to low high found inside at other =
+    let behind : 2 ≤ high = behind_watched lits to high at other in
+    let under : low < high = low_high lits from to low high found at other in
+    let swapped : Swapped (λ k. slice_index_or lits k (pos 1)) (λ k. slice_index_or (swap lits low high) k (pos 1)) low high = swapped_from_swap lits (swap lits low high) low high (pos 1) (omega (arith, under, inside)) inside refl in
+    ⊎_elim
+    (λ (first : (low ≡ 0) × ((pair_of lits).first ≡ from)).
+    let taken : slice_index_or (swap lits low high) 0 (pos 1) ≡ to = ap (λ (n : ℕ). slice_index_or (swap lits low high) n (pos 1)) (sym first.0) ∙ swapped.0 ∙ at (pos 1) in
+    let kept : slice_index_or (swap lits low high) 1 (pos 1) ≡ slice_index_or lits 1 (pos 1) = swapped.2 1 (λ e. omega (arith, e, first.0)) (λ e. omega (arith, e, behind)) in
+    rw (int_eq-same (pair_of lits).first from first.1, taken, kept) refl)
+    (λ (second : (low ≡ 1) × ((pair_of lits).first ≢ from)).
+    let taken : slice_index_or (swap lits low high) 1 (pos 1) ≡ to = ap (λ (n : ℕ). slice_index_or (swap lits low high) n (pos 1)) (sym second.0) ∙ swapped.0 ∙ at (pos 1) in
+    let kept : slice_index_or (swap lits low high) 0 (pos 1) ≡ slice_index_or lits 0 (pos 1) = swapped.2 0 (λ e. omega (arith, e, second.0)) (λ e. omega (arith, e, behind)) in
+    rw (int_eq-other (pair_of lits).first from second.1, taken, kept) refl)
+    found
+
+pub arranged_pairs : (blocks new : List (List ℤ)) (id : ℕ) (from to : ℤ) (low high : ℕ) → IsFound (block_at blocks id) from low → high < length (block_at blocks id) → ((d : ℤ) → slice_index_or (block_at blocks id) high d ≡ to) → IsNoneOf (pair_of (block_at blocks id)) to → new ≡ slice_set blocks (id - 1) (swap (block_at blocks id) low high)
+    → map pair_of new ≡ slice_set (map pair_of blocks) (id - 1) (replaced (pair_of (block_at blocks id)) from to)
+arranged_pairs blocks new id from to low high found inside at other is =
+    ap (map pair_of) is ∙ map-set pair_of blocks (id - 1) (swap (block_at blocks id) low high) ∙ ap (slice_set (map pair_of blocks) (id - 1)) (swapped_pair (block_at blocks id) from to low high found inside at other)
+
+-- Only the order changes.
+pub arranged_order : (blocks new : List (List ℤ)) (id low high : ℕ) → id - 1 < length blocks → low < high → high < length (block_at blocks id) → new ≡ slice_set blocks (id - 1) (swap (block_at blocks id) low high) → ArePermuted blocks new
+arranged_order blocks new id low high given under inside is = record { each = λ k. rw is (⊎_elim
+    (λ (e : k - 1 ≡ id - 1). subst (λ (n : ℕ). IsPermutation (slice_index_or blocks n []) (slice_index_or (slice_set blocks (id - 1) (swap (block_at blocks id) low high)) n [])) (sym e)
+    (IsPermutation-swap (block_at blocks id) (slice_index_or (slice_set blocks (id - 1) (swap (block_at blocks id) low high)) (id - 1) []) low high (omega (arith, under, inside)) inside (get_or-set_same blocks (id - 1) (swap (block_at blocks id) low high) [] given)))
+    (λ (apart : k - 1 ≡ id - 1 → ⊥). subst (λ (xs : List ℤ). IsPermutation (block_at blocks k) xs) (sym (get_or-set_other blocks (id - 1) (k - 1) (swap (block_at blocks id) low high) [] apart)) (IsPermutation-refl (block_at blocks k)))
+    (cases_eq (k - 1) (id - 1))) }
+
+-- the two lists and the literals of a clause that is moved, as the code writes them
+pub moved_is : (w a b c : Arranged) (from to : ℤ) (id place index : ℕ) → a ≡ record w { lists = with_id w.lists to id } → b ≡ record a { lists = slice_set a.lists (code_of from) (swap_remove (listed_in a.lists from) index 0) } → c.lists ≡ b.lists → map pair_of c.blocks ≡ slice_set (map pair_of b.blocks) (id - 1) (replaced (pair_of (block_at b.blocks id)) from to) → (from ≡ to → ⊥) → place ≡ id
+    → watching_of c ≡ watching_moved (watching_of w) place from to index
+moved_is w a b c from to id place index pushed taken lists_is pairs_is apart same =
+    let lists : a.lists ≡ with_id w.lists to id = ap (λ (x : Arranged). x.lists) pushed in
+    let blocks : b.blocks ≡ w.blocks = ap (λ (x : Arranged). x.blocks) taken ∙ ap (λ (x : Arranged). x.blocks) pushed in
+    let still : listed_in (with_id w.lists to id) from ≡ listed_in w.lists from = listed-other w.lists to from _ apart in
+    let all_lists : c.lists ≡ slice_set (with_id w.lists to id) (code_of from) (swap_remove (listed_in w.lists from) index 0) = lists_is ∙ ap (λ (x : Arranged). x.lists) taken ∙ rw (lists, still) refl in
+    let all_pairs : map pair_of c.blocks ≡ slice_set (map pair_of w.blocks) (id - 1) (replaced (pair_of (block_at w.blocks id)) from to) = pairs_is ∙ ap (λ (xs : List (List ℤ)). slice_set (map pair_of xs) (id - 1) (replaced (pair_of (block_at xs id)) from to)) blocks in
+    rw (same, all_lists, all_pairs, pair_block w id) refl
+
+pub moved_order : (w a b c : Arranged) (to : ℤ) (id : ℕ) (lists : List (List ℕ)) → a ≡ record w { lists = with_id w.lists to id } → b ≡ record a { lists = lists } → ArePermuted b.blocks c.blocks → ArePermuted w.blocks c.blocks
+moved_order w a b c to id lists pushed taken order = subst (λ (xs : List (List ℤ)). ArePermuted xs c.blocks) (ap (λ (x : Arranged). x.blocks) taken ∙ ap (λ (x : Arranged). x.blocks) pushed) order
+
+-- The same literals in another order are a clause too.
+variables_differ : (lits : List ℤ) → AllPairs (λ l m. variable l ≢ variable m) lits → AllPairs (λ a b. a ≢ b) (map variable lits)
+variables_differ lits differ i j d order within e =
+    let high : j < length lits = rw length-map at within in
+    differ i j (pos 1) order high (sym (get_or-map variable lits i (pos 1) d (omega (arith, order, high))) ∙ e ∙ get_or-map variable lits j (pos 1) d high)
+
+differ_again : (lits : List ℤ) → AllPairs (λ a b. a ≢ b) (map variable lits) → AllPairs (λ l m. variable l ≢ variable m) lits
+differ_again lits differ i j d order high e =
+    differ i j 0 order (rw length-map high) (get_or-map variable lits i d 0 (omega (arith, order, high)) ∙ e ∙ sym (get_or-map variable lits j d 0 high))
+
+pub clause_permuted : (lits new : List ℤ) → IsPermutation lits new → IsClause lits → IsClause new
+clause_permuted lits new order clause = record {
+  literals = All-permutation (λ l. 0 < variable l) lits new order clause.literals;
+  differ = differ_again new (AllPairs-from_IsDistinct Decides-eqb (map variable new) (IsDistinct-IsPermutation (λ a b. a == b) flips (map variable lits) (map variable new) (IsPermutation-map variable lits new order) (IsDistinct-from_AllPairs Decides-eqb (map variable lits) (variables_differ lits clause.differ))));
+}
+  where
+    flips : (a b : ℕ) → (a == b) ≡ (b == a)
+    flips a b = grind (arith, common_steps)
+
+-- Live clauses have their literals.
+pub arranged_none : AreArranged [] []
+arranged_none = record { same = λ id clause is. absurd (none id clause is) }
+  where
+    none : (id : ℕ) (clause : List ℤ) → live_at [] id ≡ Some clause → ⊥
+    none id clause is = (let low : (0 < id) × (id ≤ 0) = live_inside (record { vars = 0; clauses = []; watches = record { pairs = []; lists = [] } }) id clause is in omega (arith, low.0, low.1))
+
+pub arranged_added : (s : Stored) (lits : List ℤ) (blocks : List (List ℤ)) → length blocks ≡ length s.clauses → AreArranged s.clauses blocks → AreArranged (s.clauses ++ Some lits ∷ []) (blocks ++ lits ∷ [])
+arranged_added s lits blocks room are = record { same = λ id clause is. ⊎_elim
+    (λ (new : (id ≡ length s.clauses + 1) × (lits ≡ clause)). subst (λ (c : List ℤ). IsPermutation c (block_at (blocks ++ lits ∷ []) id)) new.1 (subst (λ (xs : List ℤ). IsPermutation lits xs) (sym (get_or_push blocks lits [] (id - 1) (omega (arith, room, new.0)))) (IsPermutation-refl lits)))
+    (λ (old : live_in s id ≡ Some clause).
+    let low : (0 < id) × (id ≤ length s.clauses) = live_inside s id clause old in
+    subst (λ (xs : List ℤ). IsPermutation clause xs) (sym (get_or_append_left blocks (lits ∷ []) [] (id - 1) (omega (arith, room, low.0, low.1)))) (are.same id clause old))
+    (live_added s lits id clause is) }
+
+pub arranged_moved : (clauses : List (Option (List ℤ))) (blocks new : List (List ℤ)) → AreArranged clauses blocks → ArePermuted blocks new → AreArranged clauses new
+arranged_moved clauses blocks new are order = record { same = λ id clause is. IsPermutation-trans clause (block_at blocks id) (block_at new id) (are.same id clause is) (order.each id) }
