@@ -1,13 +1,13 @@
 -- The steps of a visit.
-use Rattle.std.proofs.Common.{◌≡◌, ◌≢◌, ℕ, ◌+◌, ◌-◌, ◌<◌, ◌≤◌, ◌⊎◌, ℤ, List, length, slice_index_or, Contains, All, Option, Some, IsSome, subst, sym, ap, ◌∙◌, arith, inl, inr, refl}
+use Rattle.std.proofs.Common.{◌≡◌, ◌≢◌, ℕ, ◌+◌, ◌-◌, ◌<◌, ◌≤◌, ◌⊎◌, ◌↔◌, ℤ, pos, List, length, slice_index_or, Contains, All, Option, Some, IsSome, subst, sym, ap, ◌∙◌, arith, inl, inr, refl}
 use Rattle.std.proofs.Math.Logic.{⊎_elim}
 use Rattle.std.proofs.lemmas.Bool.{cases_eq, cases_lt}
 use Rattle.std.proofs.lemmas.Grind.{common_steps}
 use Rattle.std.proofs.lemmas.List.Elements.{All-contains, Contains-get_or}
-use Rattle.sat_theory.specs.Formula.{variable, opposite}
-use Rattle.cdcl_theory.specs.Falling.{Implies}
+use Rattle.sat_theory.specs.Formula.{variable, opposite, IsClause}
+use Rattle.cdcl_theory.specs.Falling.{Implies, IsFalsified}
 use Rattle.cdcl_theory.specs.Trails.{Trailed, fell, IsTrail, pushed, IsGrown}
-use Rattle.clause_db.specs.Watching.{list_of}
+use Rattle.clause_db.specs.Watching.{list_of, pair_of, pair_at}
 use Rattle.clause_db.specs.WatchingLaws.{swap_other, swap_length, list_from}
 use Rattle.std.specs.List.{swap_remove}
 use Rattle.cdcl_theory.specs.Codes.{code_of}
@@ -17,7 +17,7 @@ use Rattle.clause_db.specs.Blocking.{IsOf}
 use Rattle.clause_db.specs.Moving.{IsMovable, movable_watches, watched_in, watched_variable, rewatched_old}
 use Rattle.cdcl_core.specs.Guarding.{HasTrue, HasTrueAt, IsGuarded}
 use Rattle.cdcl_core.proofs.Guards.{guarded_moved, guarded_visited}
-use Rattle.cdcl_core.specs.Visiting.{AreTrue, id_at, IsKept, IsMoved, IsRest}
+use Rattle.cdcl_core.specs.Visiting.{AreTrue, AreDown, id_at, IsKept, IsMoved, IsRest}
 use Rattle.trail_core.specs.Values.{IsOver, IsFree}
 use Rattle.cdcl_core.proofs.Growing.{grown_self, grown_trans, grown_pushed}
 use Rattle.cdcl_core.proofs.Jumps.{pushed_on}
@@ -36,14 +36,77 @@ watches_live s id l watches = let is : live_in s id ≡ Some watches.clause = wa
 pub true_at : (s : Stored) (places : ℤ → ℕ) (id : ℕ) (l : ℤ) → IsStored s → Watches s id l → 0 < places (opposite l) → HasTrueAt s places id
 true_at s places id l stored watches on clause is = record { lit = l; there = watched_in s id l clause stored watches is; on = on }
 
--- A literal that hasn't fallen, is in the clause and isn't watched can be watched in place of one that fell.
-pub movable_to : (s : Stored) (places : ℤ → ℕ) (l other to : ℤ) (index id : ℕ) (lits : List ℤ) → IsStored s → index < length (list_of s.watches l) → id ≡ id_at s l index → live_in s id ≡ Some lits → Contains lits to → places to ≡ 0 → 0 < places l → to ≢ other → ((m : ℤ) → Watches s id m → (m ≡ l) ⊎ (m ≡ other)) → IsMovable s (id_at s l index) l to index
-movable_to s places l other to index id lits stored inside id_is is there up down apart only = record {
+-- the literals of a clause that watches l, the watched two in front
+pub record IsFront (s : Stored) (id : ℕ) (l : ℤ) (lits : List ℤ) : Type 0 where
+  pub watches : Watches s id l
+  pub same : (clause : List ℤ) → live_in s id ≡ Some clause → (m : ℤ) → Contains lits m ↔ Contains clause m
+  pub long : 2 ≤ length lits
+  pub pair : pair_of lits ≡ pair_at s.watches id
+  pub is_clause : IsClause lits
+
+pub front_at : (s : Stored) (l : ℤ) (index id : ℕ) (lits : List ℤ) → IsStored s → index < length (list_of s.watches l) → id ≡ id_at s l index → ((clause : List ℤ) → live_in s id ≡ Some clause → (m : ℤ) → Contains lits m ↔ Contains clause m) → (IsLong s id → (2 ≤ length lits) × (pair_of lits ≡ pair_at s.watches id)) → IsClause lits → IsFront s id l lits
+front_at s l index id lits stored inside id_is same front is_clause =
+    let watches : Watches s id l = entry_watches s l index id stored inside id_is in
+    let both : (2 ≤ length lits) × (pair_of lits ≡ pair_at s.watches id) = front (watches_long s id l watches) in
+    record { watches = watches; same = same; long = both.0; pair = both.1; is_clause = is_clause }
+
+pub front_one : (s : Stored) (id : ℕ) (l : ℤ) (lits : List ℤ) → IsFront s id l lits → (l ≡ (pair_of lits).first) ⊎ (l ≡ (pair_of lits).second)
+front_one s id l lits front = subst (λ p. (l ≡ p.first) ⊎ (l ≡ p.second)) (sym front.pair) front.watches.watched
+
+-- the other one of the two
+pub record IsOther (lits : List ℤ) (l other : ℤ) : Type 0 where
+  pub watched : (other ≡ (pair_of lits).first) ⊎ (other ≡ (pair_of lits).second)
+  pub only : (m : ℤ) → (m ≡ (pair_of lits).first) ⊎ (m ≡ (pair_of lits).second) → (m ≡ l) ⊎ (m ≡ other)
+
+pub other_watches : (s : Stored) (id : ℕ) (l other : ℤ) (lits : List ℤ) → IsFront s id l lits → IsOther lits l other → Watches s id other
+other_watches s id l other lits front is = record {
+  clause = front.watches.clause;
+  is_live = front.watches.is_live;
+  long = front.watches.long;
+  watched = subst (λ p. (other ≡ p.first) ⊎ (other ≡ p.second)) front.pair is.watched;
+}
+
+-- a literal behind the two isn't watched
+behind_two : (s : Stored) (id : ℕ) (l to : ℤ) (lits : List ℤ) (place : ℕ) → IsFront s id l lits → 2 ≤ place → place < length lits → ((d : ℤ) → slice_index_or lits place d ≡ to) → Watches s id to → ⊥
+behind_two s id l to lits place front behind inside at watches = ⊎_elim
+    (λ (e : to ≡ (pair_of lits).first). front.is_clause.differ 0 place (pos 1) (omega (arith, behind)) inside (ap variable (sym e ∙ sym (at (pos 1)))))
+    (λ (e : to ≡ (pair_of lits).second). front.is_clause.differ 1 place (pos 1) (omega (arith, behind)) inside (ap variable (sym e ∙ sym (at (pos 1)))))
+    (subst (λ p. (to ≡ p.first) ⊎ (to ≡ p.second)) (sym front.pair) watches.watched)
+
+-- A literal behind the two can be watched in place of one of them.
+pub movable_to : (s : Stored) (l to : ℤ) (index id : ℕ) (lits : List ℤ) (place : ℕ) → index < length (list_of s.watches l) → id ≡ id_at s l index → IsFront s id l lits → 2 ≤ place → place < length lits → ((d : ℤ) → slice_index_or lits place d ≡ to) → IsMovable s (id_at s l index) l to index
+movable_to s l to index id lits place inside id_is front behind within at = record {
   inside = inside;
   at_index = refl;
-  there = λ clause live. (let here : live_in s id ≡ Some clause = ap (live_in s) id_is ∙ live in let same : lits ≡ clause = cc in subst (λ (c : List ℤ). Contains c to) same there);
-  other = λ watches. ⊎_elim (λ (e : to ≡ l). (let h : places to ≡ places l = ap places e in omega (arith, h, up, down))) apart (only to (subst (λ (k : ℕ). Watches s k to) (sym id_is) watches));
+  there = λ clause live. (front.same clause (ap (live_in s) id_is ∙ live) to).0 (place, within, at to);
+  other = λ watches. behind_two s id l to lits place front behind within at (subst (λ (k : ℕ). Watches s k to) (sym id_is) watches);
 }
+
+same_default : (xs : List ℤ) (j : ℕ) (a b : ℤ) → j < length xs → slice_index_or xs j a ≡ slice_index_or xs j b
+same_default xs j a b within = grind (arith, common_steps)
+
+-- a literal is one of the first two, or stands behind them
+first_or_behind : (xs : List ℤ) (m : ℤ) (j : ℕ) → j < length xs → slice_index_or xs j m ≡ m → ((m ≡ (pair_of xs).first) ⊎ (m ≡ (pair_of xs).second)) ⊎ (2 ≤ j)
+first_or_behind xs m j within at =
+    let here : m ≡ slice_index_or xs j (pos 1) = sym at ∙ same_default xs j m (pos 1) within in
+    ⊎_elim
+    (λ (low : j < 2). inl (⊎_elim
+    (λ (e : j ≡ 0). inl (here ∙ ap (λ (n : ℕ). slice_index_or xs n (pos 1)) e))
+    (λ (apart : j ≡ 0 → ⊥). inr (here ∙ ap (λ (n : ℕ). slice_index_or xs n (pos 1)) (let e : j ≡ 1 = omega (arith, low, apart) in e)))
+    (cases_eq j 0)))
+    (λ (high : 2 ≤ j). inr high)
+    (cases_lt j 2)
+
+-- Where all behind the two have fallen, and one of these too, all but the other one have.
+pub all_but : (s : Stored) (t : Trailed) (id : ℕ) (l other : ℤ) (lits clause : List ℤ) → IsFront s id l lits → IsOther lits l other → 0 < fell t l → AreDown t lits 2 (length lits) → live_in s id ≡ Some clause → All (λ m. (m ≡ other) ⊎ (0 < fell t m)) clause
+all_but s t id l other lits clause front is fallen down live k d low =
+    let m : ℤ = slice_index_or clause k d in
+    let there : Contains lits m = (front.same clause live m).1 (Contains-get_or clause k d low) in
+    let within : there.0 < length lits = there.1 in
+    ⊎_elim
+    (λ (watched : (m ≡ (pair_of lits).first) ⊎ (m ≡ (pair_of lits).second)). ⊎_elim (λ (e : m ≡ l). inr (subst (λ (x : ℤ). 0 < fell t x) (sym e) fallen)) (λ (e : m ≡ other). inl e) (is.only m watched))
+    (λ (behind : 2 ≤ there.0). inr (subst (λ (x : ℤ). 0 < fell t x) there.2 (down there.0 m behind within)))
+    (first_or_behind lits m there.0 within there.2)
 
 -- the other watched literal can be the blocking one
 pub blocks : (s : Stored) (l other : ℤ) (index id : ℕ) → IsStored s → id ≡ id_at s l index → Watches s id other → IsOf s (id_at s l index) other
@@ -52,6 +115,13 @@ blocks s l other index id stored id_is watches clause is = watched_in s id other
 -- Where all but one have fallen, that one follows, or the clause is falsified.
 pub left_over : (places : ℤ → ℕ) (lits : List ℤ) (other : ℤ) → 0 < places other → All (λ m. (m ≡ other) ⊎ (0 < places m)) lits → All (λ m. 0 < places m) lits
 left_over places lits other down all k d low = ⊎_elim (λ (e : slice_index_or lits k d ≡ other). subst (λ (x : ℤ). 0 < places x) (sym e) down) (λ (h : 0 < places (slice_index_or lits k d)). h) (all k d low)
+
+pub found_false : (s : Stored) (t : Trailed) (id : ℕ) (l other : ℤ) (lits : List ℤ) → IsFront s id l lits → IsOther lits l other → 0 < fell t l → AreDown t lits 2 (length lits) → 0 < fell t other → IsFalsified (live_in s) (fell t) id
+found_false s t id l other lits front is fallen down off = record {
+  clause = front.watches.clause;
+  is_live = front.watches.is_live;
+  fallen = left_over (fell t) front.watches.clause other off (all_but s t id l other lits front.watches.clause front is fallen down front.watches.is_live);
+}
 
 pub others_imply : (live : ℕ → Option (List ℤ)) (t : Trailed) (id : ℕ) (lits : List ℤ) (other : ℤ) → IsTrail t → live id ≡ Some lits → Contains lits other → All (λ m. (m ≡ other) ⊎ (0 < fell t m)) lits → Implies live (fell t) (length t.lits) other id
 others_imply live t id lits other trail is there all = record {
@@ -137,6 +207,14 @@ moved_shorter b c s t l index stored moved =
 pub watched_over : (s : Stored) (t : Trailed) (id : ℕ) (l : ℤ) → IsStored s → s.vars ≡ t.vars → Watches s id l → IsOver t.vars l
 watched_over s t id l stored vars watches =
     (All-contains (λ m. 0 < variable m) watches.clause l (stored.clauses id watches.clause watches.is_live).literals (watched_in s id l watches.clause stored watches watches.is_live), (let low : variable l ≤ s.vars = watched_variable s id l stored watches in omega (arith, low, vars)))
+
+-- The other watched literal is true.
+pub kept_blocked : (s new : Stored) (t : Trailed) (l other : ℤ) (index id : ℕ) → IsStored s → id ≡ id_at s l index → Watches s id other → 0 < fell t (opposite other) → new ≡ s → IsKept s new t t l index
+kept_blocked s new t l other index id stored id_is watches on new_is = rw new_is (record {
+  same = refl;
+  grown = grown_self (live_in s) t;
+  on = subst (λ (k : ℕ). HasTrueAt s (fell t) k) id_is (true_at s (fell t) id other stored watches on);
+})
 
 -- The other watched literal is made true.
 pub kept_pushed : (s : Stored) (t new : Trailed) (l other : ℤ) (index id : ℕ) (lits : List ℤ) → IsStored s → IsTrail t → s.vars ≡ t.vars → id ≡ id_at s l index → live_in s id ≡ Some lits → Watches s id other → IsFree t other → All (λ m. (m ≡ other) ⊎ (0 < fell t m)) lits → new ≡ pushed t other id → IsKept s s t new l index

@@ -14,9 +14,9 @@ use Rattle.cdcl_core.specs.declared.visiting.Fate.TheVariants.{Kept, Moved, Fals
 abbrev pub id_at : Stored → ℤ → ℕ → ℕ
 id_at s l index = slice_index_or (list_of s.watches l) index 0
 
--- the literals in a range of places have fallen, besides one
-abbrev pub AreDown : Trailed → List ℤ → ℕ → ℕ → ℤ → Type 0
-AreDown t lits low high other = (k : ℕ) (d : ℤ) → low ≤ k → k < high → (slice_index_or lits k d ≡ other) ⊎ (0 < fell t (slice_index_or lits k d))
+-- the literals in a range of places have fallen
+abbrev pub AreDown : Trailed → List ℤ → ℕ → ℕ → Type 0
+AreDown t lits low high = (k : ℕ) (d : ℤ) → low ≤ k → k < high → 0 < fell t (slice_index_or lits k d)
 
 -- the literals in a range of places are true
 abbrev pub AreTrue : Trailed → List ℤ → ℕ → ℕ → Type 0

@@ -1,14 +1,15 @@
 //! Propagation by watched literals: only the clauses that watch a literal which falls are visited
 //! (Moskewicz and others, "Chaff", 2001). A visited clause keeps its watch where its other watched literal is
-//! true or becomes so, and else watches another literal that hasn't fallen. Beside each clause in a list stands
-//! one of its literals, its blocking literal: while that is true the clause isn't even read (Sörensson and Eén,
-//! "MiniSat 2.1", 2008).
-ghost use Rattle.std.specs.Prelude.{◌≡◌, ◌≢◌, ℕ, ℤ, ◌<◌, ◌≤◌, ◌⊎◌, List, [], length, slice_index_or, Contains, All, IfOk, IfSome, IfNone};
+//! true or becomes so, and else watches another literal that hasn't fallen. Its literals are read as
+//! `ClauseDb::arranged` gives them: the two that it watches stand first, and the search for another one goes
+//! over the rest. Beside each clause in a list stands one of its literals, its blocking literal: while that is
+//! true the clause isn't even read (Sörensson and Eén, "MiniSat 2.1", 2008).
+ghost use Rattle.std.specs.Prelude.{◌≡◌, ℕ, ℤ, ◌<◌, ◌≤◌, ◌⊎◌, List, [], length, slice_index_or, All, IfOk, IfSome, IfNone};
 ghost use Rattle.sat_theory.specs.Formula.{variable as variable_of, IsClause, IsWithin};
 ghost use Rattle.cdcl_theory.specs.Falling.{AllSettled, IsFalsified};
 ghost use Rattle.cdcl_theory.specs.Trails.{IsTrail, IsGrown, fell as fell_of};
-ghost use Rattle.clause_db.specs.Watching.{list_of};
-ghost use Rattle.clause_db.specs.Stored.{live_in, Watches, IsLong, IsStored};
+ghost use Rattle.clause_db.specs.Watching.{list_of, pair_of};
+ghost use Rattle.clause_db.specs.Stored.{live_in, Watches, IsStored};
 ghost use Rattle.cdcl_core.specs.Guarding.{HasTrueAt, IsGuarded};
 ghost use Rattle.cdcl_core.specs.Visiting.{AreDown, AreTrue, IsFate, IsRest};
 
@@ -27,62 +28,42 @@ pub(crate) enum Fate {
     Falsified(u32),
 }
 
-/// A literal that a clause can watch, and its place there.
+/// A literal that a clause can watch, and its place in `arranged`.
 #[derive(Clone, Copy)]
 struct Standing {
     place: usize,
     lit: Lit,
 }
 
-/// The other literal that a clause watches.
-fn other_watched(clauses: &ClauseDb, id: u32, fallen: Lit) -> Lit
-    requires { Watches clauses.now id fallen }
-    ensures watches { Watches clauses.now id result }
-    ensures differ { result ≢ fallen }
-    ensures only { (l : ℤ) → Watches clauses.now id l → (l ≡ fallen) ⊎ (l ≡ result) }
+/// The other one of a clause's first two literals.
+fn besides(lits: &[Lit], lit: Lit) -> Lit
+    requires two { 2 ≤ length lits.now }
+    requires one { (lit ≡ (pair_of lits.now).first) ⊎ (lit ≡ (pair_of lits.now).second) }
+    ensures watched { (result ≡ (pair_of lits.now).first) ⊎ (result ≡ (pair_of lits.now).second) }
+    ensures only { (l : ℤ) → (l ≡ (pair_of lits.now).first) ⊎ (l ≡ (pair_of lits.now).second) → (l ≡ lit) ⊎ (l ≡ result) }
 {
-    let (first, second) = clauses.watched(id);
-    if first == fallen {
-        return second;
+    if lits[0] == lit {
+        return lits[1];
     }
-    first
+    lits[0]
 }
 
-/// The first literal of a range of places that hasn't fallen, besides one, with its place.
-fn first_standing(
-    trail: &Trail,
-    lits: &[Lit],
-    low: usize,
-    high: usize,
-    other: Lit,
-) -> Option<Standing>
+/// The first literal from a place on that hasn't fallen, with its place.
+fn first_standing(trail: &Trail, lits: &[Lit], low: usize) -> Option<Standing>
     requires within { IsWithin trail.now.vars lits.now }
-    requires range { (low ≤ high) × (high ≤ length lits.now) }
-    ensures some { IfSome result (λ p. Contains lits.now p.lit × (fell_of trail.now p.lit ≡ 0) × (p.lit ≢ other)) }
-    ensures none { IfNone result (AreDown trail.now lits.now low high other) }
+    requires inside { low ≤ length lits.now }
+    ensures place { IfSome result (λ p. (low ≤ p.place) × (p.place < length lits.now)) }
+    ensures lit { IfSome result (λ p. (d : ℤ) → slice_index_or lits.now p.place d ≡ p.lit) }
+    ensures up { IfSome result (λ p. fell_of trail.now p.lit ≡ 0) }
+    ensures none { IfNone result (AreDown trail.now lits.now low (length lits.now)) }
 {
-    for place in low..high {
+    for place in low..lits.len() {
         let lit = lits[place];
-        if lit != other && trail.fell(lit) == 0 {
+        if trail.fell(lit) == 0 {
             return Some(Standing { place, lit });
         }
     }
     None
-}
-
-/// A literal that hasn't fallen, besides one, with its place: the search begins at a place and goes on at the
-/// clause's front.
-fn replacement(trail: &Trail, lits: &[Lit], from: usize, other: Lit) -> Option<Standing>
-    requires within { IsWithin trail.now.vars lits.now }
-    requires inside { from ≤ length lits.now }
-    ensures some { IfSome result (λ p. Contains lits.now p.lit × (fell_of trail.now p.lit ≡ 0) × (p.lit ≢ other)) }
-    ensures none { IfNone result (All (λ m. (m ≡ other) ⊎ (0 < fell_of trail.now m)) lits.now) }
-{
-    let behind = first_standing(trail, lits, from, lits.len(), other);
-    if behind.is_some() {
-        return behind;
-    }
-    first_standing(trail, lits, 0, from, other)
 }
 
 /// Visits the clause at an index in the list of a literal that fell.
@@ -103,14 +84,14 @@ fn visit(
     ensures visit { IfOk result (IsFate clauses.old clauses.new trail.old trail.new fallen index) }
 {
     let id = clauses.watching(fallen)[index];
-    let other = other_watched(clauses, id, fallen);
+    let lits = clauses.arranged(id);
+    let other = besides(lits, fallen);
     if trail.fell(other.opposite()) > 0 {
         clauses.block(fallen, index, other);
         return Ok(Fate::Kept);
     }
-    if let Some(found) = replacement(trail, clauses.lits(id), clauses.search_from(id), other) {
-        clauses.rewatch_at(fallen, index, found.lit)?;
-        clauses.note(id, found.place);
+    if let Some(found) = first_standing(trail, lits, 2) {
+        clauses.rewatch_at(fallen, index, found.lit, found.place)?;
         return Ok(Fate::Moved);
     }
     if trail.fell(other) > 0 {
