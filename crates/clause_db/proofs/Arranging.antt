@@ -85,11 +85,13 @@ arranged_pairs blocks new id from to low high found inside at other is =
 
 -- Only the order changes.
 pub arranged_order : (blocks new : List (List ℤ)) (id low high : ℕ) → id - 1 < length blocks → low < high → high < length (block_at blocks id) → new ≡ slice_set blocks (id - 1) (swap (block_at blocks id) low high) → ArePermuted blocks new
-arranged_order blocks new id low high given under inside is = record { each = λ k. rw is (⊎_elim
-    (λ (e : k - 1 ≡ id - 1). subst (λ (n : ℕ). IsPermutation (slice_index_or blocks n []) (slice_index_or (slice_set blocks (id - 1) (swap (block_at blocks id) low high)) n [])) (sym e)
-    (IsPermutation-swap (block_at blocks id) (slice_index_or (slice_set blocks (id - 1) (swap (block_at blocks id) low high)) (id - 1) []) low high (omega (arith, under, inside)) inside (get_or-set_same blocks (id - 1) (swap (block_at blocks id) low high) [] given)))
-    (λ (apart : k - 1 ≡ id - 1 → ⊥). subst (λ (xs : List ℤ). IsPermutation (block_at blocks k) xs) (sym (get_or-set_other blocks (id - 1) (k - 1) (swap (block_at blocks id) low high) [] apart)) (IsPermutation-refl (block_at blocks k)))
-    (cases_eq (k - 1) (id - 1))) }
+arranged_order blocks new id low high given under inside is = record {
+  each = λ k. rw is (⊎_elim
+      (λ (e : k - 1 ≡ id - 1). subst (λ (n : ℕ). IsPermutation (slice_index_or blocks n []) (slice_index_or (slice_set blocks (id - 1) (swap (block_at blocks id) low high)) n [])) (sym e)
+      (IsPermutation-swap (block_at blocks id) (slice_index_or (slice_set blocks (id - 1) (swap (block_at blocks id) low high)) (id - 1) []) low high (omega (arith, under, inside)) inside (get_or-set_same blocks (id - 1) (swap (block_at blocks id) low high) [] given)))
+      (λ (apart : k - 1 ≡ id - 1 → ⊥). subst (λ (xs : List ℤ). IsPermutation (block_at blocks k) xs) (sym (get_or-set_other blocks (id - 1) (k - 1) (swap (block_at blocks id) low high) [] apart)) (IsPermutation-refl (block_at blocks k)))
+      (cases_eq (k - 1) (id - 1)));
+}
 
 -- the two lists and the literals of a clause that is moved, as the code writes them
 pub moved_is : (w a b c : Arranged) (from to : ℤ) (id place index : ℕ) → a ≡ record w { lists = with_id w.lists to id } → b ≡ record a { lists = slice_set a.lists (code_of from) (swap_remove (listed_in a.lists from) index 0) } → c.lists ≡ b.lists → map pair_of c.blocks ≡ slice_set (map pair_of b.blocks) (id - 1) (replaced (pair_of (block_at b.blocks id)) from to) → (from ≡ to → ⊥) → place ≡ id
@@ -132,12 +134,14 @@ arranged_none = record { same = λ id clause is. absurd (none id clause is) }
     none id clause is = (let low : (0 < id) × (id ≤ 0) = live_inside (record { vars = 0; clauses = []; watches = record { pairs = []; lists = [] } }) id clause is in omega (arith, low.0, low.1))
 
 pub arranged_added : (s : Stored) (lits : List ℤ) (blocks : List (List ℤ)) → length blocks ≡ length s.clauses → AreArranged s.clauses blocks → AreArranged (s.clauses ++ Some lits ∷ []) (blocks ++ lits ∷ [])
-arranged_added s lits blocks room are = record { same = λ id clause is. ⊎_elim
-    (λ (new : (id ≡ length s.clauses + 1) × (lits ≡ clause)). subst (λ (c : List ℤ). IsPermutation c (block_at (blocks ++ lits ∷ []) id)) new.1 (subst (λ (xs : List ℤ). IsPermutation lits xs) (sym (get_or_push blocks lits [] (id - 1) (omega (arith, room, new.0)))) (IsPermutation-refl lits)))
-    (λ (old : live_in s id ≡ Some clause).
-    let low : (0 < id) × (id ≤ length s.clauses) = live_inside s id clause old in
-    subst (λ (xs : List ℤ). IsPermutation clause xs) (sym (get_or_append_left blocks (lits ∷ []) [] (id - 1) (omega (arith, room, low.0, low.1)))) (are.same id clause old))
-    (live_added s lits id clause is) }
+arranged_added s lits blocks room are = record {
+  same = λ id clause is. ⊎_elim
+      (λ (new : (id ≡ length s.clauses + 1) × (lits ≡ clause)). subst (λ (c : List ℤ). IsPermutation c (block_at (blocks ++ lits ∷ []) id)) new.1 (subst (λ (xs : List ℤ). IsPermutation lits xs) (sym (get_or_push blocks lits [] (id - 1) (omega (arith, room, new.0)))) (IsPermutation-refl lits)))
+      (λ (old : live_in s id ≡ Some clause).
+      let low : (0 < id) × (id ≤ length s.clauses) = live_inside s id clause old in
+      subst (λ (xs : List ℤ). IsPermutation clause xs) (sym (get_or_append_left blocks (lits ∷ []) [] (id - 1) (omega (arith, room, low.0, low.1)))) (are.same id clause old))
+      (live_added s lits id clause is);
+}
 
 pub arranged_moved : (clauses : List (Option (List ℤ))) (blocks new : List (List ℤ)) → AreArranged clauses blocks → ArePermuted blocks new → AreArranged clauses new
 arranged_moved clauses blocks new are order = record { same = λ id clause is. IsPermutation-trans clause (block_at blocks id) (block_at new id) (are.same id clause is) (order.each id) }

@@ -79,13 +79,6 @@ some_is : (o : Option (List ℤ)) → IsSome o → (clause : List ℤ) × (o ≡
 some_is (Some clause) some = (clause, refl)
 some_is None some = absurd (cc)
 
-pub block_given : (e : Entries) (a : Arranged) (now : Stored) (id : ℕ) → joined e a ≡ now → IsStored (joined e a) → IsSome (live_in now id) → (0 < id) × (id ≤ length a.blocks)
-block_given e a now id view stored live =
-    let some : IsSome (live_in (joined e a) id) = subst (λ (x : Stored). IsSome (live_in x id)) (sym view) live in
-    let found : (clause : List ℤ) × (live_in (joined e a) id ≡ Some clause) = some_is (live_in (joined e a) id) some in
-    let low : (0 < id) × (id ≤ length e.clauses) = live_inside (joined e a) id found.0 found.1 in
-    (low.0, omega (arith, low.1, blocks_room e a stored))
-
 -- the lists and the id of a clause that can be moved
 pub movable_rooms : (s now : Stored) (from to : ℤ) (index : ℕ) → s ≡ now → IsStored s → IsMovable now (slice_index_or (list_of now.watches from) index 0) from to index → (code_of from < length s.watches.lists) × (code_of to < length s.watches.lists)
 movable_rooms s now from to index view stored movable_now =

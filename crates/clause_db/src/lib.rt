@@ -7,10 +7,12 @@
 //! `watched` tells which, `watching` gives the clauses that watch a literal, and `rewatch` lets a clause
 //! watch another one (Moskewicz and others, "Chaff", 2001).
 //!
+//! The literals of each clause stand twice: `lits` gives them as they were added, and `arranged` with the
+//! watched two in front, where propagation finds all that it reads of a clause side by side. A clause that
+//! watches another literal puts it there, and the one that it gives up takes its place.
+//!
 //! Beside each clause in a list stands one of its literals, its blocking literal: `blockers` gives them, and
-//! `block` puts another one there (Sörensson and Eén, "MiniSat 2.1", 2008). A search for a literal to watch
-//! begins at a place that the clause keeps: `search_from` gives it and `note` sets it (Gent, "Optimal
-//! Implementation of Watched Literals and More General Techniques", 2013).
+//! `block` puts another one there (Sörensson and Eén, "MiniSat 2.1", 2008).
 //!
 //! ```text
 //! let mut clauses = ClauseDb::new(alloc, &cnf)?;     // the clauses 1 to 4

@@ -102,8 +102,9 @@ fn watches(clauses: &ClauseDb, id: u32, one: i32, other: i32) -> bool {
     first.get() == one && second.get() == other
 }
 
-/// Lets a clause watch its literal at a place in place of its first watched one, if it may.
-fn rewatch(clauses: &mut ClauseDb, id: u32, place: usize) -> Result<bool, AllocError> {
+/// Lets a clause watch its literal at a place in place of a watched one, if it may. That is the second one, if
+/// the first is another literal.
+fn rewatch(clauses: &mut ClauseDb, id: u32, from: i32, place: usize) -> Result<bool, AllocError> {
     if !clauses.live(id) || clauses.lits(id).len() < 2 || clauses.lits(id).len() <= place {
         return Ok(false);
     }
@@ -112,7 +113,11 @@ fn rewatch(clauses: &mut ClauseDb, id: u32, place: usize) -> Result<bool, AllocE
     if first == to || second == to {
         return Ok(false);
     }
-    clauses.rewatch(id, first, to)?;
+    if first.get() == from {
+        clauses.rewatch(id, first, to)?;
+        return Ok(true);
+    }
+    clauses.rewatch(id, second, to)?;
     Ok(true)
 }
 
@@ -133,22 +138,22 @@ fn block(clauses: &mut ClauseDb, number: i32, index: usize, place: usize) -> boo
     true
 }
 
-/// Where the next search in a live clause begins after a place was noted.
-fn noted(clauses: &mut ClauseDb, id: u32, place: usize) -> Option<usize> {
-    if !clauses.live(id) {
-        return None;
-    }
-    clauses.note(id, place);
-    Some(clauses.search_from(id))
+/// Whether the literals of a live clause stand in this order, the watched ones in front.
+fn stands(clauses: &ClauseDb, id: u32, numbers: &[i32]) -> bool {
+    clauses.live(id) && are(clauses.arranged(id), numbers)
 }
 
 #[test]
 fn a_clause_watches_another_literal(rt: HostRuntime) -> Result<(), Fail> {
     let alloc = rt.alloc();
     let mut clauses = three(alloc)?;
-    assert!(rt; rewatch(&mut clauses, 1, 2)?);
-    assert!(rt; !rewatch(&mut clauses, 1, 2)?);
+    assert!(rt; stands(&clauses, 1, &[1, 2, 3]));
+    assert!(rt; rewatch(&mut clauses, 1, 1, 2)?);
+    assert!(rt; !rewatch(&mut clauses, 1, 1, 2)?);
     assert!(rt; watches(&clauses, 1, 3, 2));
+    assert!(rt; holds(&clauses, 1, &[1, 2, 3]));
+    assert!(rt; stands(&clauses, 1, &[3, 2, 1]));
+    assert!(rt; stands(&clauses, 2, &[1, 3]));
     for (number, ids, beside) in [
         (1, [3, 2], [2, 3]),
         (2, [1, 3], [1, 1]),
@@ -160,12 +165,20 @@ fn a_clause_watches_another_literal(rt: HostRuntime) -> Result<(), Fail> {
 }
 
 #[test]
-fn places_and_literals_beside_are_kept(rt: HostRuntime) -> Result<(), Fail> {
+fn a_clause_watches_another_literal_in_place_of_its_second(rt: HostRuntime) -> Result<(), Fail> {
     let alloc = rt.alloc();
     let mut clauses = three(alloc)?;
-    assert!(rt; noted(&mut clauses, 1, 2) == Some(2));
-    assert!(rt; noted(&mut clauses, 1, 4) == Some(3));
-    assert!(rt; noted(&mut clauses, 4, 0).is_none());
+    assert!(rt; rewatch(&mut clauses, 1, 2, 2)?);
+    assert!(rt; stands(&clauses, 1, &[1, 3, 2]));
+    assert!(rt; rewatch(&mut clauses, 1, 1, 1)?);
+    assert!(rt; stands(&clauses, 1, &[2, 3, 1]));
+    Ok(())
+}
+
+#[test]
+fn literals_beside_are_kept(rt: HostRuntime) -> Result<(), Fail> {
+    let alloc = rt.alloc();
+    let mut clauses = three(alloc)?;
     assert!(rt; block(&mut clauses, 1, 0, 2));
     assert!(rt; !block(&mut clauses, 1, 3, 0));
     assert!(rt; watching(&clauses, 1, &[1, 2, 3], &[3, 3, 2]));

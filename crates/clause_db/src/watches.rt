@@ -234,8 +234,8 @@ impl Watches {
         Ok(())
     }
 
-    /// Puts `to` into the place of the first literal of a clause, if that is `from`, and else into that of the
-    /// second one, which takes its place.
+    /// Lets `to` change places with the first literal of a clause, if that is `from`, and else with the second
+    /// one. It is looked for at `place` first.
     fn arrange(&mut self, id: u32, from: Lit, to: Lit, place: usize)
         requires some { 0 < id }
         requires given { id ≤ length self.old.blocks }
