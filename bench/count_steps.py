@@ -152,22 +152,19 @@ class Trail:
 
 
 class Clauses:
-    """Clauses by their ids, from 1 on. Each of two literals and more watches two of them, and the search
-    for another one begins at its place in `froms`. A list of `watching` has the ids, each with a literal of
-    its clause, the blocker."""
+    """Clauses by their ids, from 1 on. In `arranged` stand their literals once more, in an order in which the
+    first two are watched. A list of `watching` has the ids, each with a literal of its clause, the blocker."""
 
     def __init__(self, variables, clauses):
         self.lits = [None]
-        self.pairs = [None]
-        self.froms = [0]
+        self.arranged = [None]
         self.watching = [[] for _ in range(2 * variables + 1)]
         for lits in clauses:
             self.add(lits)
 
     def add(self, lits):
         self.lits.append(lits)
-        self.pairs.append(tuple(lits[:2]))
-        self.froms.append(0)
+        self.arranged.append(list(lits))
         id = len(self.lits) - 1
         if len(lits) > 1:
             self.watching[lits[0]].append((id, lits[1]))
@@ -286,20 +283,15 @@ class Solver:
                 self.trail.push(lits[0], id)
         return 0
 
-    def replacement(self, id, other):
-        """The next literal of a clause that hasn't fallen, besides one; 0 where there is none."""
-        fell, lits, start = self.trail.fell, self.clauses.lits[id], self.clauses.froms[id]
-        for place in range(start - len(lits), start):
-            lit = lits[place]
-            if lit != other and not fell[lit]:
-                self.clauses.froms[id] = place % len(lits)
-                return lit
-        return 0
+    def replacement(self, lits):
+        """The place from 2 on of the first literal that hasn't fallen; 0 where there is none."""
+        fell = self.trail.fell
+        return next((place for place in range(2, len(lits)) if not fell[lits[place]]), 0)
 
     def visit_watching(self, fallen):
         """Visits the clauses that watch a literal that fell and have no true blocker: the id of a falsified
         one, or 0."""
-        fell, pairs, watching = self.trail.fell, self.clauses.pairs, self.clauses.watching
+        fell, arranged, watching = self.trail.fell, self.clauses.arranged, self.clauses.watching
         entries = watching[fallen]
         index = visits = conflict = 0
         while index < len(entries) and not conflict:
@@ -308,14 +300,15 @@ class Solver:
                 index += 1
                 continue
             visits += 1
-            first, second = pairs[id]
-            other = second if first == fallen else first
+            lits = arranged[id]
+            own = 0 if lits[0] == fallen else 1
+            other = lits[1 - own]
             if fell[-other]:
                 entries[index] = id, other
                 index += 1
-            elif to := self.replacement(id, other):
-                pairs[id] = other, to
-                watching[to].append((id, other))
+            elif place := self.replacement(lits):
+                lits[own], lits[place] = lits[place], fallen
+                watching[lits[own]].append((id, other))
                 entries[index] = entries[-1]
                 entries.pop()
             elif fell[other]:
