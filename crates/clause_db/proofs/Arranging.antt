@@ -6,7 +6,7 @@ use Rattle.std.proofs.Math.Logic.{⊎_elim}
 use Rattle.std.proofs.lemmas.Bool.{cases_eq, cases_lt}
 use Rattle.std.proofs.lemmas.Bool.Decides.{Decides-eqb}
 use Rattle.std.proofs.lemmas.Grind.{common_steps}
-use Rattle.std.proofs.lemmas.List.{length_push, length-set, length-map, map-append, map-set, get_or-map, get_or-set_same, get_or-set_other, get_or_push, get_or_append_left, set_past}
+use Rattle.std.proofs.lemmas.List.{length_push, length-set, length-map, map-append, map-set, get_or-map, get_or-set_same, get_or-set_other, get_or_push, get_or_append_left, get_or_read, set_past}
 use Rattle.std.proofs.lemmas.List.Edits.{swapped_from_swap, Swapped}
 use Rattle.std.proofs.lemmas.List.Sorted.{IsPermutation-refl, IsPermutation-sym, IsPermutation-trans, IsPermutation-swap, IsPermutation-map, All-permutation, Contains-permutation, length_permutation}
 use Rattle.std.proofs.lemmas.Map.Keys.{IsDistinct-IsPermutation}
@@ -19,14 +19,21 @@ use Rattle.clause_db.specs.Watching.{Watching, listed_in, pair_at, pair_of, with
 use Rattle.clause_db.specs.WatchingLaws.{listed-same, listed-other, listed_back}
 use Rattle.clause_db.specs.Stored.{Stored, live_at, live_in, IsStored, added}
 use Rattle.clause_db.specs.StoredLaws.{live_added, live_inside}
+use Rattle.clause_db.specs.Blocking.{row_of, with_row, with_blocker, rows_moved, besides}
+use Rattle.clause_db.proofs.Beside.{row-other, row_back}
 use Rattle.clause_db.specs.Arranging.{Arranged, block_at, watching_of, arranged_more, ArePermuted, AreArranged, IsNoneOf}
 
 -- an id that was put into a list, and taken off when the next one failed
-pub both_back : (w a b : Arranged) (l m : ℤ) (id : ℕ) → a ≡ record w { lists = with_id w.lists l id } → m ≡ l → code_of l < length w.lists → b ≡ record a { lists = slice_set a.lists (code_of m) (take (length (listed_in a.lists m) - 1) (listed_in a.lists m)) } → b ≡ w
-both_back w a b l m id pushed same room taken =
+pub both_back : (w a b : Arranged) (l m n : ℤ) (id : ℕ) → a ≡ record w { lists = with_id w.lists l id; rows = with_blocker w.rows l n } → m ≡ l → code_of l < length w.lists
+    → b ≡ record a { lists = slice_set a.lists (code_of m) (take (length (listed_in a.lists m) - 1) (listed_in a.lists m)); rows = with_row a.rows m (take (length (row_of a.rows m) - 1) (row_of a.rows m)) } → b ≡ w
+both_back w a b l m n id pushed same room taken =
     let lists : a.lists ≡ with_id w.lists l id = ap (λ (x : Arranged). x.lists) pushed in
+    let rows : a.rows ≡ with_blocker w.rows l n = ap (λ (x : Arranged). x.rows) pushed in
     let blocks : a.blocks ≡ w.blocks = ap (λ (x : Arranged). x.blocks) pushed in
-    rw (taken, same, lists, blocks) (ap (λ (xs : List (List ℕ)). (let x : Arranged = record { blocks = w.blocks; lists = xs } in x)) (listed_back w.lists l id room))
+    rw (taken, same, lists, rows, blocks) (again (listed_back w.lists l id room) (row_back w.rows l n))
+  where
+    again : {xs : List (List ℕ)} {ys : List (List ℤ)} → xs ≡ w.lists → ys ≡ w.rows → (let x : Arranged = record { blocks = w.blocks; lists = xs; rows = ys } in x) ≡ w
+    again e f = rw (e, f) refl
 
 -- the watched pair of an id
 pub pair_block : (a : Arranged) (id : ℕ) → pair_at (watching_of a) id ≡ pair_of (block_at a.blocks id)
@@ -93,19 +100,61 @@ arranged_order blocks new id low high given under inside is = record {
       (cases_eq (k - 1) (id - 1)));
 }
 
--- the two lists and the literals of a clause that is moved, as the code writes them
-pub moved_is : (w a b c : Arranged) (from to : ℤ) (id place index : ℕ) → a ≡ record w { lists = with_id w.lists to id } → b ≡ record a { lists = slice_set a.lists (code_of from) (swap_remove (listed_in a.lists from) index 0) } → c.lists ≡ b.lists → map pair_of c.blocks ≡ slice_set (map pair_of b.blocks) (id - 1) (replaced (pair_of (block_at b.blocks id)) from to) → (from ≡ to → ⊥) → place ≡ id
-    → watching_of c ≡ watching_moved (watching_of w) place from to index
-moved_is w a b c from to id place index pushed taken lists_is pairs_is apart same =
+-- a clause that is moved, as the code writes it
+pub moved_is : (w a b c : Arranged) (from to m : ℤ) (id index low high : ℕ) → a ≡ record w { lists = with_id w.lists to id; rows = with_blocker w.rows to m } → b ≡ record a { lists = slice_set a.lists (code_of from) (swap_remove (listed_in a.lists from) index 0); rows = with_row a.rows from (swap_remove (row_of a.rows from) index (pos 1)) }
+    → c ≡ record b { blocks = slice_set b.blocks (id - 1) (swap (block_at b.blocks id) low high) } → (from ≡ to → ⊥)
+    → c ≡ record { blocks = slice_set w.blocks (id - 1) (swap (block_at w.blocks id) low high); lists = slice_set (with_id w.lists to id) (code_of from) (swap_remove (listed_in w.lists from) index 0); rows = rows_moved w.rows from to index m }
+moved_is w a b c from to m id index low high pushed taken exchanged apart =
     let lists : a.lists ≡ with_id w.lists to id = ap (λ (x : Arranged). x.lists) pushed in
-    let blocks : b.blocks ≡ w.blocks = ap (λ (x : Arranged). x.blocks) taken ∙ ap (λ (x : Arranged). x.blocks) pushed in
-    let still : listed_in (with_id w.lists to id) from ≡ listed_in w.lists from = listed-other w.lists to from _ apart in
-    let all_lists : c.lists ≡ slice_set (with_id w.lists to id) (code_of from) (swap_remove (listed_in w.lists from) index 0) = lists_is ∙ ap (λ (x : Arranged). x.lists) taken ∙ rw (lists, still) refl in
-    let all_pairs : map pair_of c.blocks ≡ slice_set (map pair_of w.blocks) (id - 1) (replaced (pair_of (block_at w.blocks id)) from to) = pairs_is ∙ ap (λ (xs : List (List ℤ)). slice_set (map pair_of xs) (id - 1) (replaced (pair_of (block_at xs id)) from to)) blocks in
-    rw (same, all_lists, all_pairs, pair_block w id) refl
+    let rows : a.rows ≡ with_blocker w.rows to m = ap (λ (x : Arranged). x.rows) pushed in
+    let blocks : a.blocks ≡ w.blocks = ap (λ (x : Arranged). x.blocks) pushed in
+    let list : listed_in (with_id w.lists to id) from ≡ listed_in w.lists from = listed-other w.lists to from _ apart in
+    let row : row_of (with_blocker w.rows to m) from ≡ row_of w.rows from = row-other w.rows to from _ apart in
+    rw (exchanged, taken, lists, rows, blocks, list, row) refl
 
-pub moved_order : (w a b c : Arranged) (to : ℤ) (id : ℕ) (lists : List (List ℕ)) → a ≡ record w { lists = with_id w.lists to id } → b ≡ record a { lists = lists } → ArePermuted b.blocks c.blocks → ArePermuted w.blocks c.blocks
-moved_order w a b c to id lists pushed taken order = subst (λ (xs : List (List ℤ)). ArePermuted xs c.blocks) (ap (λ (x : Arranged). x.blocks) taken ∙ ap (λ (x : Arranged). x.blocks) pushed) order
+-- what the clauses then watch
+pub moved_watching : (w c : Arranged) (from to : ℤ) (id index low high : ℕ) (rows : List (List ℤ)) → c ≡ record { blocks = slice_set w.blocks (id - 1) (swap (block_at w.blocks id) low high); lists = slice_set (with_id w.lists to id) (code_of from) (swap_remove (listed_in w.lists from) index 0); rows = rows }
+    → IsFound (block_at w.blocks id) from low → high < length (block_at w.blocks id) → ((d : ℤ) → slice_index_or (block_at w.blocks id) high d ≡ to) → IsNoneOf (pair_of (block_at w.blocks id)) to → watching_of c ≡ watching_moved (watching_of w) id from to index
+moved_watching w c from to id index low high rows is found inside at other =
+    let pairs : map pair_of c.blocks ≡ slice_set (map pair_of w.blocks) (id - 1) (replaced (pair_of (block_at w.blocks id)) from to) = arranged_pairs w.blocks c.blocks id from to low high found inside at other (ap (λ (x : Arranged). x.blocks) is) in
+    let lists : c.lists ≡ slice_set (with_id w.lists to id) (code_of from) (swap_remove (listed_in w.lists from) index 0) = ap (λ (x : Arranged). x.lists) is in
+    rw (pairs, lists, pair_block w id) refl
+
+-- the literal that stays watched
+pub besides_is : (lits : List ℤ) (from m : ℤ) (low : ℕ) → IsFound lits from low → 2 ≤ length lits → m ≡ slice_index_or lits (1 - low) m → m ≡ besides (pair_of lits) from
+besides_is lits from m low found two is = ⊎_elim
+    (λ (first : (low ≡ 0) × ((pair_of lits).first ≡ from)).
+    let at : m ≡ slice_index_or lits 1 (pos 1) = get_or_read lits 1 m (omega (arith, two)) (is ∙ ap (λ (k : ℕ). slice_index_or lits (1 - k) m) first.0) (pos 1) in
+    rw (int_eq-same (pair_of lits).first from first.1) at)
+    (λ (second : (low ≡ 1) × ((pair_of lits).first ≢ from)).
+    let at : m ≡ slice_index_or lits 0 (pos 1) = get_or_read lits 0 m (omega (arith, two)) (is ∙ ap (λ (k : ℕ). slice_index_or lits (1 - k) m) second.0) (pos 1) in
+    rw (int_eq-other (pair_of lits).first from second.1) at)
+    found
+
+-- What stands in the list that the clause leaves is as it was.
+pub pushed_list : (w a : Arranged) (from to m : ℤ) (id : ℕ) → a ≡ record w { lists = with_id w.lists to id; rows = with_blocker w.rows to m } → (from ≡ to → ⊥) → listed_in a.lists from ≡ listed_in w.lists from
+pushed_list w a from to m id pushed apart = ap (λ (x : Arranged). listed_in x.lists from) pushed ∙ listed-other w.lists to from _ apart
+
+pub pushed_row : (w a : Arranged) (from to m : ℤ) (id : ℕ) → a ≡ record w { lists = with_id w.lists to id; rows = with_blocker w.rows to m } → (from ≡ to → ⊥) → row_of a.rows from ≡ row_of w.rows from
+pushed_row w a from to m id pushed apart = ap (λ (x : Arranged). row_of x.rows from) pushed ∙ row-other w.rows to from _ apart
+
+pub all_moved : (w a b c : Arranged) (from to m : ℤ) (block : List ℤ) (id place index low high : ℕ) → a ≡ record w { lists = with_id w.lists to id; rows = with_blocker w.rows to m } → b ≡ record a { lists = slice_set a.lists (code_of from) (swap_remove (listed_in a.lists from) index 0); rows = with_row a.rows from (swap_remove (row_of a.rows from) index (pos 1)) }
+    → c ≡ record b { blocks = slice_set b.blocks (id - 1) (swap (block_at b.blocks id) low high) } → (from ≡ to → ⊥) → id ≡ place → (0 < place) × (place ≤ length w.blocks) → block ≡ block_at w.blocks id → IsFound block from low → high < length block → ((d : ℤ) → slice_index_or block high d ≡ to)
+    → 2 ≤ length (block_at w.blocks place) → m ≡ slice_index_or block (1 - low) m → IsNoneOf (pair_of (block_at w.blocks place)) to
+    → (watching_of c ≡ watching_moved (watching_of w) place from to index) × (c.rows ≡ rows_moved w.rows from to index (besides (pair_of (block_at w.blocks place)) from)) × ArePermuted w.blocks c.blocks
+all_moved w a b c from to m block id place index low high pushed taken exchanged apart same given block_is found_in inside_in at_in two m_is other =
+    let block_at_place : block ≡ block_at w.blocks place = block_is ∙ ap (λ (n : ℕ). block_at w.blocks n) same in
+    let found : IsFound (block_at w.blocks place) from low = subst (λ (xs : List ℤ). IsFound xs from low) block_at_place found_in in
+    let inside : high < length (block_at w.blocks place) = subst (λ (xs : List ℤ). high < length xs) block_at_place inside_in in
+    let at : (d : ℤ) → slice_index_or (block_at w.blocks place) high d ≡ to = subst (λ (xs : List ℤ). (d : ℤ) → slice_index_or xs high d ≡ to) block_at_place at_in in
+    let kept : m ≡ slice_index_or (block_at w.blocks place) (1 - low) m = subst (λ (xs : List ℤ). m ≡ slice_index_or xs (1 - low) m) block_at_place m_is in
+    let is : c ≡ record { blocks = slice_set w.blocks (place - 1) (swap (block_at w.blocks place) low high); lists = slice_set (with_id w.lists to place) (code_of from) (swap_remove (listed_in w.lists from) index 0); rows = rows_moved w.rows from to index m } = subst (λ (n : ℕ). c ≡ record { blocks = slice_set w.blocks (n - 1) (swap (block_at w.blocks n) low high); lists = slice_set (with_id w.lists to n) (code_of from) (swap_remove (listed_in w.lists from) index 0); rows = rows_moved w.rows from to index m }) same (moved_is w a b c from to m id index low high pushed taken exchanged apart) in
+    let blocks : c.blocks ≡ slice_set w.blocks (place - 1) (swap (block_at w.blocks place) low high) = ap (λ (x : Arranged). x.blocks) is in
+    let rows : c.rows ≡ rows_moved w.rows from to index m = ap (λ (x : Arranged). x.rows) is in (
+      moved_watching w c from to place index low high _ is found inside at other,
+      rows ∙ ap (λ (x : ℤ). rows_moved w.rows from to index x) (besides_is (block_at w.blocks place) from m low found two kept),
+      arranged_order w.blocks c.blocks place low high (omega (arith, given.0, given.1)) (low_high (block_at w.blocks place) from to low high found at other) inside blocks,
+    )
 
 -- The same literals in another order are a clause too.
 variables_differ : (lits : List ℤ) → AllPairs (λ l m. variable l ≢ variable m) lits → AllPairs (λ a b. a ≢ b) (map variable lits)

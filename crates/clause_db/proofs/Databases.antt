@@ -1,12 +1,12 @@
 -- The store and what its clauses watch, together.
-use Rattle.std.proofs.Common.{◌≡◌, ◌≢◌, ℕ, ◌+◌, ◌*◌, ◌<◌, ◌≤◌, ℤ, List, [], ◌∷◌, ◌++◌, length, take, slice_index_or, slice_set, replicate, ◌-◌, ◌⊎◌, inl, Contains, All, Option, Some, None, IsSome, refl, pos, sym, ap, ◌∙◌, subst, arith}
+use Rattle.std.proofs.Common.{◌≡◌, ◌≢◌, ℕ, ◌+◌, ◌*◌, ◌<◌, ◌≤◌, ℤ, List, [], ◌∷◌, ◌++◌, length, take, slice_index_or, slice_set, replicate, ◌-◌, ◌⊎◌, inl, inr, Contains, All, Option, Some, None, IsSome, refl, pos, sym, ap, ◌∙◌, subst, arith}
 use Rattle.std.proofs.lemmas.List.Elements.{All-contains}
 use Rattle.std.proofs.lemmas.Grind.{common_steps}
 use Rattle.std.proofs.Math.Logic.{⊎_elim}
 use Rattle.sat_theory.specs.Formula.{variable, IsClause, IsWithin}
 use Rattle.sat_theory.specs.State.{by_id}
 use Rattle.cdcl_theory.specs.Codes.{code_of}
-use Rattle.cdcl_theory.specs.CodeLaws.{code_of-room}
+use Rattle.cdcl_theory.specs.CodeLaws.{code_of-room, cases_literal, int_eq-same, int_eq-other}
 use Rattle.clause_db.specs.declared.watches.Pair.{Pair}
 use Rattle.clause_db.specs.Watching.{Watching, list_of, pair_of, pair_at, watching_more, watching_moved}
 use Rattle.clause_db.specs.Stored.{Stored, Entries, live_in, Watches, IsLong, IsPair, IsStored, none_stored, added, all_added, rewatched}
@@ -14,9 +14,9 @@ use Rattle.clause_db.specs.StoredLaws.{all_added-push, all_added-none, live_in-s
 use Rattle.std.specs.List.{swap_remove}
 use Rattle.std.proofs.lemmas.List.{length_push, length-set, length-map, get_or-take, length-take-le}
 use Rattle.std.proofs.lemmas.List.Elements.{Contains-get_or}
-use Rattle.clause_db.specs.Blocking.{row_of, with_row, blocker_at, IsOf, AreBlockers, AreKept, Follows}
+use Rattle.clause_db.specs.Blocking.{row_of, with_row, with_blockers, rows_moved, blocker_at, besides, IsOf, AreBlockers}
 use Rattle.clause_db.specs.WatchingLaws.{pair_new, pair_old, list_from, swap_length}
-use Rattle.clause_db.proofs.Beside.{blockers_kept, blockers_none, blockers_set, blockers_added, blockers_moved, row-same}
+use Rattle.clause_db.proofs.Beside.{blockers_none, blockers_set, blockers_added, blockers_moved}
 use Rattle.clause_db.specs.Arranging.{Arranged, block_at, watching_of, arranged_more, ArePermuted, AreArranged, IsNoneOf}
 use Rattle.clause_db.proofs.Arranging.{pair_block, more_is, clause_permuted, arranged_none, arranged_added, arranged_moved}
 use Rattle.std.specs.List.Sorted.{IsPermutation}
@@ -63,8 +63,8 @@ abbrev pub joined : Entries → Arranged → Stored
 joined e a = record { vars = e.vars; clauses = e.clauses; watches = watching_of a }
 
 -- what the type says of them, with the blocking literals
-abbrev pub AreWhole : Entries → Arranged → List (List ℤ) → Type 0
-AreWhole e a rows = IsStored (joined e a) × AreBlockers (joined e a) rows × AreArranged e.clauses a.blocks
+abbrev pub AreWhole : Entries → Arranged → Type 0
+AreWhole e a = IsStored (joined e a) × AreBlockers (joined e a) a.rows × AreArranged e.clauses a.blocks
 
 -- and differ
 pub pair_differ : (s now : Stored) (id : ℕ) (p : Pair) → s ≡ now → IsStored s → p ≡ pair_at s.watches id → IsLong now id → p.first ≢ p.second
@@ -96,96 +96,73 @@ movable_given e a now from to index view stored movable_now =
     let room : length a.blocks ≡ length e.clauses = blocks_room e a stored in
     (low.0, omega (arith, low.1, room))
 
-pub whole_none : (vars : ℕ) (e : Entries) (a : Arranged) (rows : List (List ℤ)) → e ≡ record { vars = vars; clauses = [] } → a ≡ record { blocks = []; lists = replicate (2 * vars + 2) [] } → rows ≡ replicate (2 * vars + 2) [] → AreWhole e a rows
-whole_none vars e a rows e_is a_is rows_is = rw (e_is, a_is, rows_is) (stored_none vars, blockers_none vars, arranged_none)
+pub whole_none : (vars : ℕ) (e : Entries) (a : Arranged) → e ≡ record { vars = vars; clauses = [] } → a ≡ record { blocks = []; lists = replicate (2 * vars + 2) []; rows = replicate (2 * vars + 2) [] } → AreWhole e a
+whole_none vars e a e_is a_is = rw (e_is, a_is) (stored_none vars, blockers_none vars, arranged_none)
 
-pub whole_kept : (e : Entries) (a : Arranged) (rows new : List (List ℤ)) → AreWhole e a rows → AreKept (watching_of a) rows new → AreWhole e a new
-whole_kept e a rows new whole kept = (whole.0, blockers_kept (joined e a) rows new whole.1 kept, whole.2)
-
-pub whole_added : (e : Entries) (a : Arranged) (now : Stored) (lits : List ℤ) (rows new : List (List ℤ)) (e_new : Entries) (a_new : Arranged) (id : ℕ) → joined e a ≡ now → AreWhole e a rows → IsClause lits → IsWithin now.vars lits → length now.clauses < 4000000000 → AreKept (watching_of a) rows new
-    → (2 ≤ length lits → Follows (watching_of a) new (pair_of lits).first (pair_of lits).second) → (2 ≤ length lits → Follows (watching_of a) new (pair_of lits).second (pair_of lits).first)
-    → e_new ≡ record { vars = e.vars; clauses = e.clauses ++ Some lits ∷ [] } → a_new ≡ arranged_more a lits id → id ≡ length e.clauses + 1 → AreWhole e_new a_new new
-whole_added e a now lits rows new e_new a_new id view whole is_clause within_now few_now kept first second e_is a_is id_is =
+pub whole_added : (e : Entries) (a : Arranged) (now : Stored) (lits : List ℤ) (e_new : Entries) (a_new : Arranged) (id : ℕ) → joined e a ≡ now → AreWhole e a → IsClause lits → IsWithin now.vars lits → length now.clauses < 4000000000
+    → e_new ≡ record { vars = e.vars; clauses = e.clauses ++ Some lits ∷ [] } → a_new ≡ arranged_more a lits id → id ≡ length e.clauses + 1 → AreWhole e_new a_new
+whole_added e a now lits e_new a_new id view whole is_clause within_now few_now e_is a_is id_is =
     let s : Stored = joined e a in
     let within : IsWithin s.vars lits = subst (λ (x : Stored). IsWithin x.vars lits) (sym view) within_now in
     let few : length s.clauses < 4000000000 = subst (λ (x : Stored). length x.clauses < 4000000000) (sym view) few_now in
     let watches : watching_of (arranged_more a lits (length e.clauses + 1)) ≡ watching_more (watching_of a) lits (length e.clauses + 1) = more_is a lits (length e.clauses + 1) in
-    let both : IsStored (added s lits) × AreBlockers (added s lits) new = (stored_added s lits whole.0 is_clause within few, blockers_added s lits new whole.0 is_clause within (blockers_kept s rows new whole.1 kept) first second) in
-    let shown : IsStored (with_watches (watching_of (arranged_more a lits (length e.clauses + 1)))) × AreBlockers (with_watches (watching_of (arranged_more a lits (length e.clauses + 1)))) new = subst (λ (w : Watching). IsStored (with_watches w) × AreBlockers (with_watches w) new) (sym watches) both in
+    let both : IsStored (added s lits) × AreBlockers (added s lits) (with_blockers a.rows lits) = (stored_added s lits whole.0 is_clause within few, blockers_added s lits a.rows whole.0 is_clause within whole.1) in
+    let shown : IsStored (with_watches (watching_of (arranged_more a lits (length e.clauses + 1)))) × AreBlockers (with_watches (watching_of (arranged_more a lits (length e.clauses + 1)))) (with_blockers a.rows lits) = subst (λ (w : Watching). IsStored (with_watches w) × AreBlockers (with_watches w) (with_blockers a.rows lits)) (sym watches) both in
     rw (e_is, a_is, id_is) (shown.0, shown.1, arranged_added s lits a.blocks (blocks_room e a whole.0) whole.2)
   where
     with_watches : Watching → Stored
     with_watches w = record { vars = e.vars; clauses = e.clauses ++ Some lits ∷ []; watches = w }
 
-pub whole_again : (e : Entries) (a : Arranged) (lits : List ℤ) (rows new : List (List ℤ)) (e_new after : Entries) (a_new : Arranged) → AreWhole e a rows → AreKept (watching_of a) rows new → e_new ≡ record { vars = e.vars; clauses = e.clauses ++ Some lits ∷ [] } → after.vars ≡ e_new.vars → after.clauses ≡ take (length e_new.clauses - 1) e_new.clauses → a_new ≡ a → AreWhole after a_new new
-whole_again e a lits rows new e_new after a_new whole kept e_is vars_is clauses_is a_is =
+pub whole_again : (e : Entries) (a : Arranged) (lits : List ℤ) (e_new after : Entries) (a_new : Arranged) → AreWhole e a → e_new ≡ record { vars = e.vars; clauses = e.clauses ++ Some lits ∷ [] } → after.vars ≡ e_new.vars → after.clauses ≡ take (length e_new.clauses - 1) e_new.clauses → a_new ≡ a → AreWhole after a_new
+whole_again e a lits e_new after a_new whole e_is vars_is clauses_is a_is =
     let vars : after.vars ≡ e.vars = vars_is ∙ ap (λ (x : Entries). x.vars) e_is in
     let back : take (length (e.clauses ++ Some lits ∷ []) - 1) (e.clauses ++ Some lits ∷ []) ≡ e.clauses = grind (arith, common_steps) in
     let clauses : after.clauses ≡ e.clauses = clauses_is ∙ ap (λ (x : Entries). take (length x.clauses - 1) x.clauses) e_is ∙ back in
-    rw (vars, clauses, a_is) (whole_kept e a rows new whole kept)
+    rw (vars, clauses, a_is) whole
 
--- the rows of the formula's literals
-pub row_room : (s now : Stored) (rows : List (List ℤ)) (l : ℤ) → s ≡ now → AreBlockers s rows → variable l ≤ now.vars → code_of l < length rows
-row_room s now rows l view are low = rw are.room (code_of-room l s.vars (subst (λ (x : Stored). variable l ≤ x.vars) (sym view) low))
-
-pub whole_set : (e : Entries) (a : Arranged) (now : Stored) (rows new : List (List ℤ)) (l m : ℤ) (index : ℕ) → joined e a ≡ now → AreWhole e a rows → variable l ≤ now.vars → index < length (list_of now.watches l) → IsOf now (slice_index_or (list_of now.watches l) index 0) m → new ≡ with_row rows l (slice_set (row_of rows l) index m) → AreWhole e a new
-whole_set e a now rows new l m index view whole low inside of new_is =
+pub whole_set : (e : Entries) (a : Arranged) (now : Stored) (a_new : Arranged) (l m : ℤ) (index : ℕ) → joined e a ≡ now → AreWhole e a → variable l ≤ now.vars → index < length (list_of now.watches l) → IsOf now (slice_index_or (list_of now.watches l) index 0) m → a_new ≡ record a { rows = with_row a.rows l (slice_set (row_of a.rows l) index m) } → AreWhole e a_new
+whole_set e a now a_new l m index view whole low inside of new_is =
     let s : Stored = joined e a in
-    (whole.0, subst (AreBlockers s) (sym new_is) (blockers_set s rows l m index whole.1 (row_room s now rows l view whole.1 low) (subst (λ (x : Stored). index < length (list_of x.watches l)) (sym view) inside) (subst (λ (x : Stored). IsOf x (slice_index_or (list_of x.watches l) index 0) m) (sym view) of)), whole.2)
+    let room : code_of l < length a.rows = rw whole.1.room (code_of-room l s.vars (subst (λ (x : Stored). variable l ≤ x.vars) (sym view) low)) in
+    rw new_is (whole.0, blockers_set s a.rows l m index whole.1 room (subst (λ (x : Stored). index < length (list_of x.watches l)) (sym view) inside) (subst (λ (x : Stored). IsOf x (slice_index_or (list_of x.watches l) index 0) m) (sym view) of), whole.2)
 
 -- the blocking literals are literals of the formula
-pub blockers_over : (s now : Stored) (rows : List (List ℤ)) (l : ℤ) (list : List ℕ) (row : List ℤ) → s ≡ now → IsStored s → AreBlockers s rows → list ≡ list_of s.watches l → row ≡ row_of rows l → IsWithin now.vars (take (length list) row)
-blockers_over s now rows l list row view stored are list_is row_is = rw (list_is, row_is) (subst (λ (x : Stored). IsWithin x.vars (take count (row_of rows l))) view over)
+pub blockers_over : (s now : Stored) (rows : List (List ℤ)) (l : ℤ) (row : List ℤ) → s ≡ now → IsStored s → AreBlockers s rows → row ≡ row_of rows l → IsWithin now.vars row
+blockers_over s now rows l row view stored are row_is = rw row_is (subst (λ (x : Stored). IsWithin x.vars (row_of rows l)) view over)
   where
-    count : ℕ
-    count = length (list_of s.watches l)
-
-    over : IsWithin s.vars (take count (row_of rows l))
+    over : IsWithin s.vars (row_of rows l)
     over k d within =
-        let all : length (take count (row_of rows l)) ≡ count = length-take-le count (row_of rows l) (are.long l) in
-        let low : k < count = omega (arith, within, all) in
+        let long : length (row_of rows l) ≡ length (list_of s.watches l) = are.long l in
+        let low : k < length (list_of s.watches l) = omega (arith, within, long) in
         let id : ℕ = slice_index_or (list_of s.watches l) k 0 in
         let watches : Watches s id l = stored.only l id (Contains-get_or (list_of s.watches l) k 0 low) in
         let there : Contains watches.clause (blocker_at rows l k) = are.there l k low watches.clause watches.is_live in
         let over_one : variable (blocker_at rows l k) ≤ s.vars = All-contains (λ m. variable m ≤ s.vars) watches.clause (blocker_at rows l k) (stored.variables id watches.clause watches.is_live) there in
-        let long : length (list_of s.watches l) ≤ length (row_of rows l) = are.long l in
-        let same : slice_index_or (take count (row_of rows l)) k d ≡ blocker_at rows l k = get_or-take count (row_of rows l) k d low ∙ (let e : slice_index_or (row_of rows l) k d ≡ slice_index_or (row_of rows l) k (pos 1) = grind (arith, common_steps, long, low) in e) in
+        let same : slice_index_or (row_of rows l) k d ≡ blocker_at rows l k = grind (arith, common_steps, within) in
         rw same over_one
 
-pub moved_row : (s now : Stored) (rows : List (List ℤ)) (from to : ℤ) (index : ℕ) → s ≡ now → IsStored s → AreBlockers s rows → IsMovable now (slice_index_or (list_of now.watches from) index 0) from to index → code_of to < length rows
-moved_row s now rows from to index view stored are movable =
-    let room : code_of to < length s.watches.lists = (movable_rooms s now from to index view stored movable).1 in
-    let lists : length s.watches.lists ≡ 2 * s.vars + 2 = stored.room in
-    rw (are.room, sym lists) room
+-- beside each id of a list stands a literal
+pub movable_beside : (s now : Stored) (rows : List (List ℤ)) (from to : ℤ) (id index : ℕ) → s ≡ now → AreBlockers s rows → IsMovable now id from to index → index < length (row_of rows from)
+movable_beside s now rows from to id index view are movable =
+    let inside : index < length (list_of s.watches from) = subst (λ (x : Stored). index < length (list_of x.watches from)) (sym view) movable.inside in
+    let long : length (row_of rows from) ≡ length (list_of s.watches from) = are.long from in
+    omega (arith, inside, long)
 
--- after a clause left a list the row has one literal more than the list
-pub moved_rooms : (s : Stored) (rows : List (List ℤ)) (w : Watching) (id : ℕ) (from to : ℤ) (index : ℕ) → IsStored s → AreBlockers s rows → IsMovable s id from to index → w ≡ watching_moved s.watches id from to index → (code_of from < length rows) × (code_of from < length w.lists) × (length (list_of w from) < length (row_of rows from)) × (index ≤ length (list_of w from))
-moved_rooms s rows w id from to index stored are movable w_is =
-    let watches : Watches s id from = movable_watches s id from to index stored movable in
-    let low : variable from ≤ s.vars = watched_variable s id from stored watches in
-    let room : code_of from < length s.watches.lists = rw stored.room (code_of-room from s.vars low) in
-    let inside : index < length (list_of s.watches from) = movable.inside in
-    let long : length (list_of s.watches from) ≤ length (row_of rows from) = are.long from in
-    let less : length (list_of w from) ≡ length (list_of s.watches from) - 1 = ap (λ (x : Watching). length (list_of x from)) w_is ∙ ap length (list_from s.watches id from to index from room refl) ∙ swap_length (list_of s.watches from) index 0 inside in
-    let still : length w.lists ≡ length s.watches.lists = ap (λ (x : Watching). length x.lists) w_is ∙ length-set (slice_set s.watches.lists (code_of to) _) (code_of from) _ ∙ length-set s.watches.lists (code_of to) _ in
-    (rw are.room (code_of-room from s.vars low), omega (arith, still, room), omega (arith, less, inside, long), omega (arith, less, inside))
+besides_of : (p : Pair) (l : ℤ) → (besides p l ≡ p.first) ⊎ (besides p l ≡ p.second)
+besides_of p l = ⊎_elim (λ (e : p.first ≡ l). inr (rw (int_eq-same p.first l e) refl)) (λ (apart : p.first ≡ l → ⊥). inl (rw (int_eq-other p.first l apart) refl)) (cases_literal p.first l)
 
-pub whole_moved : (e : Entries) (a : Arranged) (rows rows_1 rows_2 : List (List ℤ)) (a_new : Arranged) (id : ℕ) (from to m : ℤ) (index : ℕ) → AreWhole e a rows → IsMovable (joined e a) id from to index → AreKept (watching_of a) rows rows_1 → Follows (watching_of a) rows_1 to m → ((m ≡ (pair_of (block_at a.blocks id)).first) ⊎ (m ≡ (pair_of (block_at a.blocks id)).second)) → watching_of a_new ≡ watching_moved (watching_of a) id from to index → ArePermuted a.blocks a_new.blocks
-    → rows_2 ≡ with_row rows_1 from (slice_set (row_of rows_1 from) index (blocker_at rows_1 from (length (list_of (watching_of a_new) from)))) → AreWhole e a_new rows_2
-whole_moved e a rows rows_1 rows_2 a_new id from to m index whole movable kept follows which w_is order rows_is =
+pub whole_moved : (e : Entries) (a a_new : Arranged) (id : ℕ) (from to : ℤ) (index : ℕ) → AreWhole e a → IsMovable (joined e a) id from to index → watching_of a_new ≡ watching_moved (watching_of a) id from to index → a_new.rows ≡ rows_moved a.rows from to index (besides (pair_of (block_at a.blocks id)) from) → ArePermuted a.blocks a_new.blocks → AreWhole e a_new
+whole_moved e a a_new id from to index whole movable w_is rows_is order =
     let s : Stored = joined e a in
+    let m : ℤ = besides (pair_of (block_at a.blocks id)) from in
     let watches : Watches s id from = movable_watches s id from to index whole.0 movable in
     let low : variable from ≤ s.vars = watched_variable s id from whole.0 watches in
-    let room : code_of from < length s.watches.lists = rw whole.0.room (code_of-room from s.vars low) in
-    let now : AreBlockers s rows_1 = blockers_kept s rows rows_1 whole.1 kept in
     let to_low : variable to ≤ s.vars = All-contains (λ x. variable x ≤ s.vars) watches.clause to (whole.0.variables id watches.clause watches.is_live) (movable.there watches.clause watches.is_live) in
-    let watched : (m ≡ (pair_at s.watches id).first) ⊎ (m ≡ (pair_at s.watches id).second) = subst (λ (p : Pair). (m ≡ p.first) ⊎ (m ≡ p.second)) (sym (pair_block a id)) which in
+    let watched : (m ≡ (pair_at s.watches id).first) ⊎ (m ≡ (pair_at s.watches id).second) = subst (λ (p : Pair). (m ≡ p.first) ⊎ (m ≡ p.second)) (sym (pair_block a id)) (besides_of (pair_of (block_at a.blocks id)) from) in
     let of : IsOf s id m = λ clause is. watched_in s id m clause whole.0 (record { clause = watches.clause; is_live = watches.is_live; long = watches.long; watched = watched }) is in
-    let last : length (list_of (watching_of a_new) from) ≡ length (list_of s.watches from) - 1 = ap (λ (x : Watching). length (list_of x from)) w_is ∙ ap length (list_from s.watches id from to index from room refl) ∙ swap_length (list_of s.watches from) index 0 movable.inside in
-    let rows_moved : rows_2 ≡ with_row rows_1 from (slice_set (row_of rows_1 from) index (blocker_at rows_1 from (length (list_of s.watches from) - 1))) = rows_is ∙ ap (λ (n : ℕ). with_row rows_1 from (slice_set (row_of rows_1 from) index (blocker_at rows_1 from n))) last in
-    let both : IsStored (rewatched s id from to index) × AreBlockers (rewatched s id from to index) rows_2 = rw rows_moved (stored_rewatched s id from to index whole.0 movable, blockers_moved s rows_1 id from to m index whole.0 movable now (rw now.room (code_of-room from s.vars low)) (rw whole.0.room (code_of-room to s.vars to_low)) of follows) in
-    let shown : IsStored (joined e a_new) × AreBlockers (joined e a_new) rows_2 = subst (λ (w : Watching). IsStored (with_watches w) × AreBlockers (with_watches w) rows_2) (sym w_is) both in
-    (shown.0, shown.1, arranged_moved e.clauses a.blocks a_new.blocks whole.2 order)
+    let both : IsStored (rewatched s id from to index) × AreBlockers (rewatched s id from to index) (rows_moved a.rows from to index m) = (stored_rewatched s id from to index whole.0 movable, blockers_moved s a.rows id from to m index whole.0 movable whole.1 (rw whole.1.room (code_of-room from s.vars low)) (rw whole.1.room (code_of-room to s.vars to_low)) (rw whole.0.room (code_of-room to s.vars to_low)) of) in
+    let shown : IsStored (joined e a_new) × AreBlockers (joined e a_new) (rows_moved a.rows from to index m) = subst (λ (w : Watching). IsStored (with_watches w) × AreBlockers (with_watches w) (rows_moved a.rows from to index m)) (sym w_is) both in
+    (shown.0, subst (AreBlockers (joined e a_new)) (sym rows_is) shown.1, arranged_moved e.clauses a.blocks a_new.blocks whole.2 order)
   where
     with_watches : Watching → Stored
     with_watches w = record { vars = e.vars; clauses = e.clauses; watches = w }
@@ -200,6 +177,17 @@ movable_block e a now from to index view stored are movable_now =
       Contains-permutation watches.clause (block_at a.blocks id) to (are.same id watches.clause watches.is_live) (movable.there watches.clause watches.is_live),
       λ which. movable.other (record { clause = watches.clause; is_live = watches.is_live; long = watches.long; watched = subst (λ (p : Pair). (to ≡ p.first) ⊎ (to ≡ p.second)) (sym (pair_block a id)) which }),
     )
+
+-- it has two literals
+pub movable_two : (e : Entries) (a : Arranged) (now : Stored) (from to : ℤ) (index : ℕ) → joined e a ≡ now → IsStored (joined e a) → AreArranged e.clauses a.blocks → IsMovable now (slice_index_or (list_of now.watches from) index 0) from to index → 2 ≤ length (block_at a.blocks (slice_index_or (list_of (watching_of a) from) index 0))
+movable_two e a now from to index view stored are movable_now =
+    let s : Stored = joined e a in
+    let id : ℕ = slice_index_or (list_of s.watches from) index 0 in
+    let movable : IsMovable s id from to index = subst (λ (x : Stored). IsMovable x (slice_index_or (list_of x.watches from) index 0) from to index) (sym view) movable_now in
+    let watches : Watches s id from = movable_watches s id from to index stored movable in
+    let all : length (block_at a.blocks id) ≡ length watches.clause = length_permutation watches.clause (block_at a.blocks id) (are.same id watches.clause watches.is_live) in
+    let long : 2 ≤ length watches.clause = watches.long in
+    omega (arith, all, long)
 
 -- What `arranged` gives is the clause in another order.
 pub block_order : (e : Entries) (a : Arranged) (now : Stored) (id : ℕ) (block clause : List ℤ) → joined e a ≡ now → AreArranged e.clauses a.blocks → block ≡ block_at a.blocks id → live_in now id ≡ Some clause → IsPermutation clause block

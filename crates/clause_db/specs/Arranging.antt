@@ -4,11 +4,14 @@ use Rattle.std.specs.List.Sorted.{IsPermutation}
 use Rattle.clause_db.specs.declared.watches.Pair.{Pair}
 use Rattle.clause_db.specs.Watching.{Watching, pair_of, with_ids}
 use Rattle.clause_db.specs.Stored.{live_at}
+use Rattle.clause_db.specs.Blocking.{with_blockers}
 
--- the literals of each id, and for each literal, by its code, the ids of the clauses that watch it
+-- the literals of each id, and for each literal, by its code, the ids of the clauses that watch it, and the
+-- literals beside these
 pub record Arranged : Type 0 where
   pub blocks : List (List ℤ)
   pub lists : List (List ℕ)
+  pub rows : List (List ℤ)
 
 -- the literals of an id
 abbrev pub block_at : List (List ℤ) → ℕ → List ℤ
@@ -21,7 +24,7 @@ watching_of a = record { pairs = map pair_of a.blocks; lists = a.lists }
 
 -- a clause was added, in its own order
 abbrev pub arranged_more : Arranged → List ℤ → ℕ → Arranged
-arranged_more a lits id = record { blocks = a.blocks ++ lits ∷ []; lists = with_ids a.lists lits id }
+arranged_more a lits id = record { blocks = a.blocks ++ lits ∷ []; lists = with_ids a.lists lits id; rows = with_blockers a.rows lits }
 
 -- a literal that isn't watched
 abbrev pub IsNoneOf : Pair → ℤ → Type 0

@@ -1,8 +1,11 @@
 -- Beside each entry of a literal's list stands a literal of that clause: while it is true, the clause needs no
 -- visit.
-use Rattle.std.specs.Prelude.{◌≡◌, ℕ, ◌+◌, ◌*◌, ◌<◌, ◌≤◌, ℤ, pos, List, [], length, slice_index_or, slice_set, Contains, Some}
+use Rattle.std.specs.Prelude.{◌≡◌, ℕ, ◌+◌, ◌*◌, ◌<◌, if◌then◌else◌, nat_lt, ℤ, pos, List, [], ◌∷◌, ◌++◌, length, slice_index_or, slice_set, Contains, Some}
+use Rattle.std.specs.List.{swap_remove}
+use Rattle.std.specs.Ordering.{int_eq}
 use Rattle.cdcl_theory.specs.Codes.{code_of}
-use Rattle.clause_db.specs.Watching.{Watching, list_of}
+use Rattle.clause_db.specs.declared.watches.Pair.{Pair}
+use Rattle.clause_db.specs.Watching.{list_of, pair_of}
 use Rattle.clause_db.specs.Stored.{Stored, live_in}
 
 -- the row of a literal
@@ -17,23 +20,28 @@ with_row rows l row = slice_set rows (code_of l) row
 abbrev pub blocker_at : List (List ℤ) → ℤ → ℕ → ℤ
 blocker_at rows l k = slice_index_or (row_of rows l) k (pos 1)
 
+-- one more literal at the end of a literal's row
+abbrev pub with_blocker : List (List ℤ) → ℤ → ℤ → List (List ℤ)
+with_blocker rows l m = with_row rows l (row_of rows l ++ m ∷ [])
+
+-- each of a clause's first two literals at the end of the other one's row, if it has two
+abbrev pub with_blockers : List (List ℤ) → List ℤ → List (List ℤ)
+with_blockers rows lits = if nat_lt (length lits) 2 then rows else with_blocker (with_blocker rows (pair_of lits).first (pair_of lits).second) (pair_of lits).second (pair_of lits).first
+
+-- the literal of a pair that isn't a given one
+abbrev pub besides : Pair → ℤ → ℤ
+besides p l = if int_eq p.first l then p.second else p.first
+
+-- What stood at an index in the row of `from` left it, and a literal came into the row of `to`.
+abbrev pub rows_moved : List (List ℤ) → ℤ → ℤ → ℕ → ℤ → List (List ℤ)
+rows_moved rows from to index m = with_row (with_blocker rows to m) from (swap_remove (row_of rows from) index (pos 1))
+
 -- a literal of the clause of an id
 abbrev pub IsOf : Stored → ℕ → ℤ → Type 0
 IsOf s id l = (clause : List ℤ) → live_in s id ≡ Some clause → Contains clause l
 
--- Each literal has a row, and beside each entry of its list stands a literal of that clause.
+-- Each literal has a row as long as its list, and beside each entry stands a literal of that clause.
 pub record AreBlockers (s : Stored) (rows : List (List ℤ)) : Type 0 where
   pub room : length rows ≡ 2 * s.vars + 2
-  pub long : (l : ℤ) → length (list_of s.watches l) ≤ length (row_of rows l)
+  pub long : (l : ℤ) → length (row_of rows l) ≡ length (list_of s.watches l)
   pub there : (l : ℤ) (k : ℕ) → k < length (list_of s.watches l) → IsOf s (slice_index_or (list_of s.watches l) k 0) (blocker_at rows l k)
-
--- The same stands beside the entries of the lists.
-pub record AreKept (w : Watching) (rows new : List (List ℤ)) : Type 0 where
-  pub room : length new ≡ length rows
-  pub long : (l : ℤ) → length (list_of w l) ≤ length (row_of rows l) → length (list_of w l) ≤ length (row_of new l)
-  pub same : (l : ℤ) (k : ℕ) → length (list_of w l) ≤ length (row_of rows l) → k < length (list_of w l) → blocker_at new l k ≡ blocker_at rows l k
-
--- A literal stands where the next entry of a literal's list comes.
-pub record Follows (w : Watching) (rows : List (List ℤ)) (l blocker : ℤ) : Type 0 where
-  pub long : length (list_of w l) < length (row_of rows l)
-  pub is : blocker_at rows l (length (list_of w l)) ≡ blocker

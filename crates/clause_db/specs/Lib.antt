@@ -4,6 +4,7 @@ pub mod Windows
 pub mod Watching
 pub mod WatchingLaws
 pub mod Moving
+pub mod Lists
 pub mod Blocking
 pub mod BlockRanges
 pub mod Arranging

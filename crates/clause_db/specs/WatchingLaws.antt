@@ -41,14 +41,14 @@ differ_at xs i j d e once low_i low_j apart same =
     (λ (more : j ≤ i). once j i e (omega (arith, more, apart)) low_i (sym same ∙ at_i))
     (cases_lt i j)
 
-pub swap_length : (xs : List ℕ) (i d : ℕ) → i < length xs → length (swap_remove xs i d) ≡ length xs - 1
+pub swap_length : {A : Type 0} (xs : List A) (i : ℕ) (d : A) → i < length xs → length (swap_remove xs i d) ≡ length xs - 1
 swap_length xs i d low = length-take-le (length xs - 1) (slice_set xs i (slice_index_or xs (length xs - 1) d)) (rw length-set (omega arith))
 
-pub swap_at : (xs : List ℕ) (i d k e : ℕ) → i < length xs → k < length xs - 1 → k ≡ i → slice_index_or (swap_remove xs i d) k e ≡ slice_index_or xs (length xs - 1) d
+pub swap_at : {A : Type 0} (xs : List A) (i : ℕ) (d : A) (k : ℕ) (e : A) → i < length xs → k < length xs - 1 → k ≡ i → slice_index_or (swap_remove xs i d) k e ≡ slice_index_or xs (length xs - 1) d
 swap_at xs i d k e low inside same =
     get_or-take (length xs - 1) (slice_set xs i (slice_index_or xs (length xs - 1) d)) k e inside ∙ ap (λ (j : ℕ). slice_index_or (slice_set xs i (slice_index_or xs (length xs - 1) d)) j e) same ∙ get_or-set_same xs i (slice_index_or xs (length xs - 1) d) e low
 
-pub swap_other : (xs : List ℕ) (i d k e : ℕ) → k < length xs - 1 → (k ≡ i → ⊥) → slice_index_or (swap_remove xs i d) k e ≡ slice_index_or xs k e
+pub swap_other : {A : Type 0} (xs : List A) (i : ℕ) (d : A) (k : ℕ) (e : A) → k < length xs - 1 → (k ≡ i → ⊥) → slice_index_or (swap_remove xs i d) k e ≡ slice_index_or xs k e
 swap_other xs i d k e inside apart = get_or-take (length xs - 1) (slice_set xs i (slice_index_or xs (length xs - 1) d)) k e inside ∙ get_or-set_other xs i k (slice_index_or xs (length xs - 1) d) e apart
 
 pub swap_keeps : (xs : List ℕ) (i d y : ℕ) → i < length xs → (y ≡ slice_index_or xs i d → ⊥) → Contains xs y → Contains (swap_remove xs i d) y

@@ -6,7 +6,6 @@ ghost use Rattle.clause_db.specs.Stored.{live_in, Watches as WatchesOf, IsLong, 
 ghost use Rattle.clause_db.specs.Moving.{IsMovable};
 ghost use Rattle.clause_db.specs.Blocking.{IsOf};
 
-use crate::blockers::Blockers;
 use crate::store::Store;
 use crate::watches::Watches;
 use cnf_core::{Cnf, Lit};
@@ -20,7 +19,6 @@ use std::marker::Model;
 pub struct ClauseDb {
     store: Store,
     watches: Watches,
-    blockers: Blockers,
 }
 
 impl Model for ClauseDb {
@@ -33,7 +31,7 @@ impl Model for ClauseDb {
     ghost view = { λ c. record { vars = c.store.vars; clauses = c.store.clauses; watches = watching_of c.watches } };
 
     ghost invariant = { λ c. IsStored (record { vars = c.store.vars; clauses = c.store.clauses; watches = watching_of c.watches })
-        × AreBlockers (record { vars = c.store.vars; clauses = c.store.clauses; watches = watching_of c.watches }) c.blockers
+        × AreBlockers (record { vars = c.store.vars; clauses = c.store.clauses; watches = watching_of c.watches }) c.watches.rows
         × AreArranged c.store.clauses c.watches.blocks };
 }
 
@@ -60,7 +58,6 @@ impl ClauseDb {
         Ok(ClauseDb {
             store: Store::none(alloc, vars),
             watches: Watches::none(alloc, vars)?,
-            blockers: Blockers::none(alloc, vars)?,
         })
     }
 
@@ -75,7 +72,6 @@ impl ClauseDb {
         ensures err { OnErr result (self.new ≡ self.old) }
         ensures whole { IsStored self.new }
     {
-        self.blockers.push_both(&self.watches, lits)?;
         let id = self.store.add(lits)?;
         match self.watches.add(lits, id) {
             Ok(()) => Ok(id),
@@ -164,7 +160,7 @@ impl ClauseDb {
         ensures over { IsWithin self.now.vars result.now }
         ensures whole { IsStored self.now }
     {
-        &self.blockers.row(lit)[..self.watches.list(lit).len()]
+        self.watches.row(lit)
     }
 
     /// Lets a literal of the clause at an index in a literal's list be the one that `blockers` gives. Nothing
@@ -176,7 +172,7 @@ impl ClauseDb {
         ensures same { self.new ≡ self.old }
         ensures whole { IsStored self.new }
     {
-        self.blockers.set(lit, index, by);
+        self.watches.set(lit, index, by);
     }
 
     /// Lets the clause at an index in the list of `from` watch `to`, another one of its literals, in place of
@@ -195,10 +191,7 @@ impl ClauseDb {
         ensures err { OnErr result (self.new ≡ self.old) }
         ensures whole { IsStored self.new }
     {
-        let blocker = self.watches.other_at(from, index);
-        self.blockers.push(&self.watches, to, blocker)?;
         self.watches.move_to(from, index, to, place)?;
-        self.blockers.fill(&self.watches, from, index);
         Ok(())
     }
 

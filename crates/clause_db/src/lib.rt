@@ -21,9 +21,9 @@
 //! ```
 #![tactic(auto)]
 
-mod blockers;
 mod blocks;
 mod clause_db;
+mod lists;
 mod store;
 mod watches;
 mod windows;

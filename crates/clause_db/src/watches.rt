@@ -1,10 +1,12 @@
 ghost use Rattle.std.specs.Prelude.{◌≡◌, ◌≢◌, ◌⊎◌, ℕ, ℤ, ◌+◌, ◌-◌, ◌*◌, ◌<◌, ◌≤◌, ◌∷◌, [], ◌++◌, map, length, take, All, Contains, pos, slice_index_or, slice_set, replicate, IfOk, OnOk, OnErr};
-ghost use Rattle.std.specs.List.{swap_remove};
+ghost use Rattle.std.specs.List.{swap_remove, swap};
 ghost use Rattle.cdcl_theory.specs.Codes.{code_of};
-ghost use Rattle.clause_db.specs.Watching.{listed_in, pair_of, with_id, with_ids, watching_moved, replaced};
+ghost use Rattle.clause_db.specs.Watching.{listed_in, pair_of, with_id, with_ids, watching_moved};
+ghost use Rattle.clause_db.specs.Blocking.{row_of, with_row, with_blocker, with_blockers, rows_moved, besides};
 ghost use Rattle.clause_db.specs.Arranging.{block_at, watching_of, arranged_more, ArePermuted, IsNoneOf};
 
 use crate::blocks::Blocks;
+use crate::lists::WatchList;
 use cnf_core::Lit;
 use std::alloc::{AllocError, Global};
 use std::marker::Model;
@@ -16,66 +18,12 @@ pub(crate) struct Pair {
     pub(crate) second: Lit,
 }
 
-/// Ids in a row. Contracts see the list.
-#[derive(Debug, Drop)]
-pub(crate) struct Ids {
-    ids: Vec<u32>,
-}
-
-impl Model for Ids {
-    ghost use Rattle.std.specs.Prelude.{List, ℕ};
-
-    ghost Value = { List ℕ };
-
-    ghost view = { λ i. i.ids.items };
-}
-
-impl Ids {
-    fn none(alloc: Global) -> Ids
-        ensures { result ≡ [] }
-    {
-        Ids {
-            ids: Vec::new(alloc),
-        }
-    }
-
-    fn get(&self) -> &[u32]
-        ensures { result.now ≡ self.now }
-    {
-        &self.ids
-    }
-
-    fn push(&mut self, id: u32) -> Result<(), AllocError>
-        ensures ok { OnOk result (self.new ≡ self.old ++ id ∷ []) }
-        ensures err { OnErr result (self.new ≡ self.old) }
-    {
-        self.ids.push(id)?;
-        Ok(())
-    }
-
-    /// Takes the last id off.
-    fn take_last(&mut self)
-        ensures { self.new ≡ take (length self.old - 1) self.old }
-    {
-        self.ids.pop();
-    }
-
-    /// Takes the id at an index out, and puts the last one there.
-    fn take_out(&mut self, index: usize) -> u32
-        requires { index < length self.old }
-        ensures id { (d : ℕ) → result ≡ slice_index_or self.old index d }
-        ensures rest { self.new ≡ swap_remove self.old index 0 }
-    {
-        self.ids.swap_remove(index)
-    }
-}
-
-/// The literals of each clause, by its id, of which it watches the first two, and which clauses watch a
-/// literal.
+/// The literals of each clause, by its id, of which it watches the first two, and for each literal, by its
+/// code, which clauses watch it.
 #[derive(Debug, Drop)]
 pub(crate) struct Watches {
     blocks: Blocks,
-    lists: Vec<Ids>,
+    lists: Vec<WatchList>,
 }
 
 impl Model for Watches {
@@ -83,31 +31,21 @@ impl Model for Watches {
 
     ghost Value = { Arranged };
 
-    ghost view = { λ w. record { blocks = w.blocks; lists = w.lists.items } };
+    ghost use Rattle.clause_db.specs.Lists.{lists_of, rows_of};
+
+    ghost view = { λ w. record { blocks = w.blocks; lists = lists_of w.lists.items; rows = rows_of w.lists.items } };
 }
 
-impl Pair {
-    /// The literal of the pair that isn't a given one, or the first if neither is.
-    pub(crate) fn besides(self, lit: Lit) -> Lit
-        ensures { (result ≡ self.first) ⊎ (result ≡ self.second) }
-    {
-        if self.first == lit {
-            return self.second;
-        }
-        self.first
-    }
-}
-
-#[tactic(auto, using(crate::specs::WatchingLaws::watching))]
+#[tactic(auto, using(crate::proofs::Listed::listing))]
 impl Watches {
     /// No clauses, and an empty list for each literal of the variables 1 to `vars`.
     pub(crate) fn none(alloc: Global, vars: u32) -> Result<Watches, AllocError>
         requires { vars < 1000000000 }
-        ensures { IfOk result (λ w. w ≡ record { blocks = []; lists = replicate (2 * vars + 2) [] }) }
+        ensures { IfOk result (λ w. w ≡ record { blocks = []; lists = replicate (2 * vars + 2) []; rows = replicate (2 * vars + 2) [] }) }
     {
         let mut lists = Vec::with_capacity(alloc, 2 * vars as usize + 2)?;
         for _code in 0..2 * vars as usize + 2 {
-            lists.push(Ids::none(alloc))?;
+            lists.push(WatchList::none(alloc))?;
         }
         Ok(Watches {
             blocks: Blocks::none(alloc),
@@ -134,45 +72,51 @@ impl Watches {
     }
 
     /// The list of a literal.
-    #[tactic(auto, unfolding(crate::specs::Watching::listed_in))]
     pub(crate) fn list(&self, lit: Lit) -> &[u32]
         requires { code_of lit < length self.now.lists }
         ensures { result.now ≡ listed_in self.now.lists lit }
     {
-        self.lists[lit.code()].get()
+        self.lists[lit.code()].ids()
     }
 
-    /// Puts an id at the end of a literal's list.
-    #[tactic(auto, unfolding(crate::specs::Watching::listed_in))]
-    fn push(&mut self, lit: Lit, id: u32) -> Result<(), AllocError>
+    /// The literals beside the ids of a literal's list.
+    pub(crate) fn row(&self, lit: Lit) -> &[Lit]
+        requires { code_of lit < length self.now.lists }
+        ensures { result.now ≡ row_of self.now.rows lit }
+    {
+        self.lists[lit.code()].blockers()
+    }
+
+    /// Puts an id at the end of a literal's list, and a literal beside it.
+    fn push(&mut self, lit: Lit, id: u32, blocker: Lit) -> Result<(), AllocError>
         requires { code_of lit < length self.old.lists }
-        ensures ok { OnOk result (self.new ≡ record self.old { lists = with_id self.old.lists lit id }) }
+        ensures ok { OnOk result (self.new ≡ record self.old { lists = with_id self.old.lists lit id; rows = with_blocker self.old.rows lit blocker }) }
         ensures err { OnErr result (self.new ≡ self.old) }
     {
-        self.lists[lit.code()].push(id)?;
+        self.lists[lit.code()].push(id, blocker)?;
         Ok(())
     }
 
-    /// Takes the last id off a literal's list.
-    #[tactic(auto, unfolding(crate::specs::Watching::listed_in))]
+    /// Takes the last id off a literal's list, and what stands beside it.
     fn take_last(&mut self, lit: Lit)
         requires { code_of lit < length self.old.lists }
-        ensures { self.new ≡ record self.old { lists = slice_set self.old.lists (code_of lit) (take (length (listed_in self.old.lists lit) - 1) (listed_in self.old.lists lit)) } }
+        ensures { self.new ≡ record self.old { lists = slice_set self.old.lists (code_of lit) (take (length (listed_in self.old.lists lit) - 1) (listed_in self.old.lists lit)); rows = with_row self.old.rows lit (take (length (row_of self.old.rows lit) - 1) (row_of self.old.rows lit)) } }
     {
         self.lists[lit.code()].take_last();
     }
 
-    /// Puts an id at the ends of the lists of a clause's first two literals, if it has two.
+    /// Puts an id at the ends of the lists of a clause's first two literals, if it has two, and beside it the
+    /// other one of them.
     fn push_both(&mut self, lits: &[Lit], id: u32) -> Result<(), AllocError>
         requires { All (λ l. code_of l < length self.old.lists) lits.now }
-        ensures ok { OnOk result (self.new ≡ record self.old { lists = with_ids self.old.lists lits.now id }) }
+        ensures ok { OnOk result (self.new ≡ record self.old { lists = with_ids self.old.lists lits.now id; rows = with_blockers self.old.rows lits.now }) }
         ensures err { OnErr result (self.new ≡ self.old) }
     {
         if lits.len() < 2 {
             return Ok(());
         }
-        self.push(lits[0], id)?;
-        match self.push(lits[1], id) {
+        self.push(lits[0], id, lits[1])?;
+        match self.push(lits[1], id, lits[0]) {
             Ok(()) => Ok(()),
             Err(error) => {
                 self.take_last(lits[0]);
@@ -197,19 +141,18 @@ impl Watches {
         }
     }
 
-    /// What the clause at an index in a literal's list watches besides that literal.
-    pub(crate) fn other_at(&self, lit: Lit, index: usize) -> Lit
-        requires room { code_of lit < length self.now.lists }
-        requires inside { index < length (listed_in self.now.lists lit) }
-        requires id { (0 < slice_index_or (listed_in self.now.lists lit) index 0) × (slice_index_or (listed_in self.now.lists lit) index 0 ≤ length self.now.blocks) }
-        ensures { (result ≡ (pair_of (block_at self.now.blocks (slice_index_or (listed_in self.now.lists lit) index 0))).first) ⊎ (result ≡ (pair_of (block_at self.now.blocks (slice_index_or (listed_in self.now.lists lit) index 0))).second) }
+    /// Puts a literal beside the id at an index in a literal's list.
+    pub(crate) fn set(&mut self, lit: Lit, index: usize, by: Lit)
+        requires room { code_of lit < length self.old.lists }
+        requires beside { index < length (row_of self.old.rows lit) }
+        ensures { self.new ≡ record self.old { rows = with_row self.old.rows lit (slice_set (row_of self.old.rows lit) index by) } }
     {
-        let id = self.list(lit)[index];
-        self.pair(id).besides(lit)
+        self.lists[lit.code()].set(index, by);
     }
 
     /// Lets a clause watch `to`, another one of its literals, in place of `from`, in whose list it stands at an
-    /// index. The two change places, and `place` is where `to` is looked for first.
+    /// index. The two change places, and `place` is where `to` is looked for first. Beside the clause's id in
+    /// the list of `to` stands the literal that it goes on watching.
     pub(crate) fn move_to(
         &mut self,
         from: Lit,
@@ -219,46 +162,47 @@ impl Watches {
     ) -> Result<(), AllocError>
         requires rooms { (code_of from < length self.old.lists) × (code_of to < length self.old.lists) }
         requires inside { index < length (listed_in self.old.lists from) }
+        requires beside { index < length (row_of self.old.rows from) }
         requires id { (0 < slice_index_or (listed_in self.old.lists from) index 0) × (slice_index_or (listed_in self.old.lists from) index 0 ≤ length self.old.blocks) }
+        requires two { 2 ≤ length (block_at self.old.blocks (slice_index_or (listed_in self.old.lists from) index 0)) }
         requires apart { from ≢ to }
         requires there { Contains (block_at self.old.blocks (slice_index_or (listed_in self.old.lists from) index 0)) to }
         requires other { IsNoneOf (pair_of (block_at self.old.blocks (slice_index_or (listed_in self.old.lists from) index 0))) to }
         ensures ok { OnOk result (watching_of self.new ≡ watching_moved (watching_of self.old) (slice_index_or (listed_in self.old.lists from) index 0) from to index) }
+        ensures rows { OnOk result (self.new.rows ≡ rows_moved self.old.rows from to index (besides (pair_of (block_at self.old.blocks (slice_index_or (listed_in self.old.lists from) index 0))) from)) }
         ensures order { OnOk result (ArePermuted self.old.blocks self.new.blocks) }
         ensures err { OnErr result (self.new ≡ self.old) }
     {
         let id = self.list(from)[index];
-        self.push(to, id)?;
+        let block = self.block(id);
+        let low = place_of_watch(block, from);
+        let other = block[1 - low];
+        let high = place_of(block, to, place);
+        self.push(to, id, other)?;
         self.take_out(from, index);
-        self.arrange(id, from, to, place);
+        self.exchange(id, low, high);
         Ok(())
     }
 
-    /// Lets `to` change places with the first literal of a clause, if that is `from`, and else with the second
-    /// one. It is looked for at `place` first.
-    fn arrange(&mut self, id: u32, from: Lit, to: Lit, place: usize)
-        requires some { 0 < id }
-        requires given { id ≤ length self.old.blocks }
-        requires there { Contains (block_at self.old.blocks id) to }
-        requires other { IsNoneOf (pair_of (block_at self.old.blocks id)) to }
-        ensures lists { self.new.lists ≡ self.old.lists }
-        ensures pairs { map pair_of self.new.blocks ≡ slice_set (map pair_of self.old.blocks) (id - 1) (replaced (pair_of (block_at self.old.blocks id)) from to) }
-        ensures order { ArePermuted self.old.blocks self.new.blocks }
-    {
-        let block = self.block(id);
-        let low = place_of_watch(block, from);
-        let high = place_of(block, to, place);
-        self.blocks.exchange(id as usize - 1, low, high);
-    }
-
-    /// Takes the id at an index out of a literal's list.
-    #[tactic(auto, unfolding(crate::specs::Watching::listed_in))]
+    /// Takes the id at an index out of a literal's list, with what stands beside it.
     fn take_out(&mut self, lit: Lit, index: usize)
         requires room { code_of lit < length self.old.lists }
         requires inside { index < length (listed_in self.old.lists lit) }
-        ensures { self.new ≡ record self.old { lists = slice_set self.old.lists (code_of lit) (swap_remove (listed_in self.old.lists lit) index 0) } }
+        requires beside { index < length (row_of self.old.rows lit) }
+        ensures { self.new ≡ record self.old { lists = slice_set self.old.lists (code_of lit) (swap_remove (listed_in self.old.lists lit) index 0); rows = with_row self.old.rows lit (swap_remove (row_of self.old.rows lit) index (pos 1)) } }
     {
         self.lists[lit.code()].take_out(index);
+    }
+
+    /// Lets two literals of a clause change places.
+    fn exchange(&mut self, id: u32, low: usize, high: usize)
+        requires some { 0 < id }
+        requires given { id ≤ length self.old.blocks }
+        requires order { low < high }
+        requires inside { high < length (block_at self.old.blocks id) }
+        ensures { self.new ≡ record self.old { blocks = slice_set self.old.blocks (id - 1) (swap (block_at self.old.blocks id) low high) } }
+    {
+        self.blocks.exchange(id as usize - 1, low, high);
     }
 }
 
@@ -284,7 +228,8 @@ fn literal_at(lits: &[Lit], index: usize) -> Lit
 /// The place of the watched literal that is a given one: 1, if the first is another one.
 fn place_of_watch(lits: &[Lit], lit: Lit) -> usize
     requires { 0 < length lits.now }
-    ensures { (result ≡ 0) × ((pair_of lits.now).first ≡ lit) ⊎ (result ≡ 1) × ((pair_of lits.now).first ≢ lit) }
+    ensures front { result < 2 }
+    ensures found { (result ≡ 0) × ((pair_of lits.now).first ≡ lit) ⊎ (result ≡ 1) × ((pair_of lits.now).first ≢ lit) }
 {
     if lits[0] == lit {
         return 0;

@@ -1,5 +1,6 @@
-use Rattle.std.proofs.Common.{◌≡◌, [], replicate}
+use Rattle.std.proofs.Common.{◌≡◌, replicate}
+use Rattle.clause_db.specs.Lists.{nothing_listed}
 use Rattle.clause_db.proofs.watches.Watches.none.Given as goal
 
 abbrev pub invariant-loop-code : goal.invariant-loop-code
-invariant-loop-code l = l.lists.items ≡ replicate l._code []
+invariant-loop-code l = l.lists.items ≡ replicate l._code nothing_listed
