@@ -1,36 +1,36 @@
 -- The literals of each clause in an order of their own.
-use Rattle.std.proofs.Common.{◌≡◌, ◌≢◌, ℕ, ◌+◌, ◌-◌, ◌<◌, ◌≤◌, ◌⊎◌, ◌==◌, ℤ, pos, List, [], ◌∷◌, ◌++◌, map, length, take, slice_index_or, slice_set, Contains, All, AllPairs, Option, Some, refl, sym, ap, ◌∙◌, subst, arith, inl, inr}
-use Rattle.std.specs.List.{swap, swap_remove, IsDistinct}
+use Rattle.std.proofs.Common.{◌≡◌, ◌≢◌, ℕ, ◌+◌, ◌-◌, ◌<◌, ◌≤◌, ◌⊎◌, ◌==◌, ℤ, pos, List, [], ◌∷◌, ◌++◌, map, length, take, slice_index_or, slice_set, AllPairs, Option, Some, refl, sym, ap, ◌∙◌, subst, arith, inl, inr}
+use Rattle.std.specs.List.{swap, swap_remove}
 use Rattle.std.specs.List.Sorted.{IsPermutation}
 use Rattle.std.proofs.Math.Logic.{⊎_elim}
 use Rattle.std.proofs.lemmas.Bool.{cases_eq, cases_lt}
 use Rattle.std.proofs.lemmas.Bool.Decides.{Decides-eqb}
 use Rattle.std.proofs.lemmas.Grind.{common_steps}
-use Rattle.std.proofs.lemmas.List.{length_push, length-set, length-map, map-append, map-set, get_or-map, get_or-set_same, get_or-set_other, get_or_push, get_or_append_left, get_or_read, set_past}
+use Rattle.std.proofs.lemmas.List.{length-map, map-append, map-set, get_or-map, get_or-set_same, get_or-set_other, get_or_push, get_or_append_left, get_or_read}
 use Rattle.std.proofs.lemmas.List.Edits.{swapped_from_swap, Swapped}
-use Rattle.std.proofs.lemmas.List.Sorted.{IsPermutation-refl, IsPermutation-sym, IsPermutation-trans, IsPermutation-swap, IsPermutation-map, All-permutation, Contains-permutation, length_permutation}
+use Rattle.std.proofs.lemmas.List.Sorted.{IsPermutation-refl, IsPermutation-trans, IsPermutation-swap, IsPermutation-map, All-permutation}
 use Rattle.std.proofs.lemmas.Map.Keys.{IsDistinct-IsPermutation}
 use Rattle.std.proofs.lemmas.Map.Made.{AllPairs-from_IsDistinct, IsDistinct-from_AllPairs}
-use Rattle.sat_theory.specs.Formula.{variable, IsClause, IsWithin}
+use Rattle.sat_theory.specs.Formula.{variable, IsClause}
 use Rattle.cdcl_theory.specs.Codes.{code_of}
 use Rattle.cdcl_theory.specs.CodeLaws.{int_eq-same, int_eq-other}
 use Rattle.clause_db.specs.declared.watches.Pair.{Pair}
 use Rattle.clause_db.specs.Watching.{Watching, listed_in, pair_at, pair_of, with_id, with_ids, watching_more, watching_moved, replaced}
-use Rattle.clause_db.specs.WatchingLaws.{listed-same, listed-other, listed_back}
-use Rattle.clause_db.specs.Stored.{Stored, live_at, live_in, IsStored, added}
+use Rattle.clause_db.specs.WatchingLaws.{listed-other, listed_back}
+use Rattle.clause_db.specs.Stored.{Stored, live_at, live_in}
 use Rattle.clause_db.specs.StoredLaws.{live_added, live_inside}
 use Rattle.clause_db.specs.Blocking.{row_of, with_row, with_blocker, rows_moved, besides}
 use Rattle.clause_db.proofs.Beside.{row-other, row_back}
 use Rattle.clause_db.specs.Arranging.{Arranged, block_at, watching_of, arranged_more, ArePermuted, AreArranged, IsNoneOf}
 
 -- an id that was put into a list, and taken off when the next one failed
-pub both_back : (w a b : Arranged) (l m n : ℤ) (id : ℕ) → a ≡ record w { lists = with_id w.lists l id; rows = with_blocker w.rows l n } → m ≡ l → code_of l < length w.lists
-    → b ≡ record a { lists = slice_set a.lists (code_of m) (take (length (listed_in a.lists m) - 1) (listed_in a.lists m)); rows = with_row a.rows m (take (length (row_of a.rows m) - 1) (row_of a.rows m)) } → b ≡ w
-both_back w a b l m n id pushed same room taken =
+pub both_back : (w a b : Arranged) (l m : ℤ) (id : ℕ) → a ≡ record w { lists = with_id w.lists l id; rows = with_blocker w.rows l m }
+    → b ≡ record a { lists = slice_set a.lists (code_of l) (take (length (listed_in a.lists l) - 1) (listed_in a.lists l)); rows = with_row a.rows l (take (length (row_of a.rows l) - 1) (row_of a.rows l)) } → b ≡ w
+both_back w a b l m id pushed taken =
     let lists : a.lists ≡ with_id w.lists l id = ap (λ (x : Arranged). x.lists) pushed in
-    let rows : a.rows ≡ with_blocker w.rows l n = ap (λ (x : Arranged). x.rows) pushed in
+    let rows : a.rows ≡ with_blocker w.rows l m = ap (λ (x : Arranged). x.rows) pushed in
     let blocks : a.blocks ≡ w.blocks = ap (λ (x : Arranged). x.blocks) pushed in
-    rw (taken, same, lists, rows, blocks) (again (listed_back w.lists l id room) (row_back w.rows l n))
+    rw (taken, lists, rows, blocks) (again (listed_back w.lists l id) (row_back w.rows l m))
   where
     again : {xs : List (List ℕ)} {ys : List (List ℤ)} → xs ≡ w.lists → ys ≡ w.rows → (let x : Arranged = record { blocks = w.blocks; lists = xs; rows = ys } in x) ≡ w
     again e f = rw (e, f) refl

@@ -1,5 +1,5 @@
 -- The rows of literals that stand beside the lists.
-use Rattle.std.proofs.Common.{◌≡◌, ℕ, ◌+◌, ◌-◌, ◌*◌, ◌<◌, ◌≤◌, ◌⊎◌, ℤ, pos, List, [], ◌∷◌, ◌++◌, length, take, slice_index_or, slice_set, replicate, Contains, All, Option, Some, refl, sym, ap, ◌∙◌, subst, arith, inl, inr}
+use Rattle.std.proofs.Common.{◌≡◌, ℕ, ◌+◌, ◌-◌, ◌*◌, ◌<◌, ◌≤◌, ◌⊎◌, ℤ, pos, List, [], ◌∷◌, ◌++◌, length, take, slice_index_or, slice_set, replicate, Contains, Some, refl, sym, ap, ◌∙◌, subst, arith, inl, inr}
 use Rattle.std.specs.List.{swap_remove}
 use Rattle.std.proofs.Math.Logic.{⊎_elim}
 use Rattle.std.proofs.lemmas.Bool.{cases_eq, cases_lt, lt-ltb, le-ltb}
@@ -9,8 +9,7 @@ use Rattle.std.proofs.lemmas.List.Elements.{All-contains, Contains-get_or}
 use Rattle.sat_theory.specs.Formula.{variable, IsClause, IsWithin}
 use Rattle.cdcl_theory.specs.Codes.{code_of}
 use Rattle.cdcl_theory.specs.CodeLaws.{code_of-same, cases_literal, code_of-room}
-use Rattle.clause_db.specs.declared.watches.Pair.{Pair}
-use Rattle.clause_db.specs.Watching.{Watching, list_of, pair_of, pair_at}
+use Rattle.clause_db.specs.Watching.{list_of, pair_of}
 use Rattle.clause_db.specs.WatchingLaws.{list_from, list_to, list_else, listed_none, swap_length, swap_at, swap_other}
 use Rattle.clause_db.specs.Stored.{Stored, live_in, Watches, IsStored, none_stored, added, rewatched}
 use Rattle.clause_db.specs.StoredLaws.{live_added, next_is_free}

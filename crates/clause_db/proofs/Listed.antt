@@ -1,6 +1,6 @@
 -- Lists and rows of literals, as they lie together.
-use Rattle.std.proofs.Common.{◌≡◌, ℕ, zero, suc, ◌+◌, ◌*◌, ◌-◌, ◌<◌, ℤ, pos, List, [], ◌∷◌, ◌++◌, map, length, take, slice_index_or, slice_set, replicate, refl, sym, ap, ◌∙◌, subst, arith}
-use Rattle.std.proofs.lemmas.List.{length-map, map-set, get_or-map, get_or_read}
+use Rattle.std.proofs.Common.{◌≡◌, ℕ, zero, suc, ◌<◌, ℤ, List, [], ◌∷◌, map, length, slice_index_or, slice_set, replicate, refl, sym, ap, ◌∙◌, subst, arith}
+use Rattle.std.proofs.lemmas.List.{length-map, map-set, get_or-map}
 use Rattle.std.proofs.lemmas.Grind.{common_steps}
 use Rattle.cdcl_theory.specs.Codes.{code_of}
 use Rattle.clause_db.specs.Lists.{Listed, nothing_listed, lists_of, rows_of}
@@ -49,9 +49,6 @@ row_read all l e room is = sym (get_or-map (λ (x : Listed). x.blockers) all (co
 -- what the lists show
 abbrev pub shown_lists : List (List ℤ) → List Listed → Arranged
 shown_lists blocks all = record { blocks = blocks; lists = lists_of all; rows = rows_of all }
-
-pub shown_rows : (blocks : List (List ℤ)) (all : List Listed) (w : Arranged) → shown_lists blocks all ≡ w → length w.rows ≡ length w.lists
-shown_rows blocks all w view = ap (λ (x : Arranged). length x.rows) (sym view) ∙ rows_room all ∙ sym (lists_room all) ∙ ap (λ (x : Arranged). length x.lists) view
 
 -- one of them was written
 pub shown_set : (blocks : List (List ℤ)) (all : List Listed) (w : Arranged) (k : ℕ) (e : Listed) → shown_lists blocks all ≡ w → shown_lists blocks (slice_set all k e) ≡ record w { lists = slice_set w.lists k e.ids; rows = slice_set w.rows k e.blockers }

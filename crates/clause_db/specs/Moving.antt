@@ -1,7 +1,5 @@
 -- A store stays one when a clause is added, and when a clause watches another literal.
-use Rattle.std.specs.Prelude.{◌≡◌, ◌≢◌, ℕ, ◌+◌, ◌-◌, ◌*◌, ◌<◌, ◌≤◌, ◌==◌, ◌⊎◌, if◌then◌else◌, ℤ, pos, Bool, true, false, List, [], ◌∷◌, ◌++◌, length, slice_index_or, slice_set, replicate, Contains, All, AllPairs, Option, Some, refl}
-use Rattle.std.specs.List.{swap_remove}
-use Rattle.std.specs.Ordering.{int_eq}
+use Rattle.std.specs.Prelude.{◌≡◌, ◌≢◌, ℕ, ◌+◌, ◌-◌, ◌*◌, ◌<◌, ◌≤◌, ◌⊎◌, ℤ, pos, List, [], ◌∷◌, ◌++◌, length, slice_index_or, slice_set, replicate, Contains, All, AllPairs, Option, Some, refl}
 use Rattle.std.proofs.Common.{sym, ap, ◌∙◌, subst, arith, inl, inr}
 use Rattle.std.proofs.Math.Logic.{⊎_elim}
 use Rattle.std.proofs.lemmas.Bool.{cases_eq, cases_lt}
@@ -9,11 +7,10 @@ use Rattle.std.proofs.lemmas.List.{length_push, length-set, length-replicate}
 use Rattle.std.proofs.lemmas.List.Elements.{All-contains, Contains-push, Contains-push_cases, Contains-append_left, Contains-get_or}
 use Rattle.std.proofs.lemmas.List.Quantifiers.{all_pairs_push}
 use Rattle.sat_theory.specs.Formula.{variable, IsClause, IsWithin}
-use Rattle.sat_theory.specs.State.{with_clause}
 use Rattle.cdcl_theory.specs.Codes.{code_of}
 use Rattle.cdcl_theory.specs.CodeLaws.{cases_literal, code_of-room, int_eq-same, int_eq-other}
 use Rattle.clause_db.specs.declared.watches.Pair.{Pair}
-use Rattle.clause_db.specs.Watching.{Watching, listed_in, list_of, pair_at, pair_of, with_ids, watching_more, watching_moved, replaced, HasRoom}
+use Rattle.clause_db.specs.Watching.{Watching, list_of, pair_at, pair_of, replaced, HasRoom}
 use Rattle.clause_db.specs.WatchingLaws.{pair_new, pair_old, pair_moved, pair_kept, lists_more, list_from, list_to, list_else, swap_keeps, swap_only, swap_once, listed_none, short_lists, with_ids_room}
 use Rattle.clause_db.specs.Stored.{Stored, live_in, Watches, IsPair, IsStored, none_stored, added, rewatched}
 use Rattle.clause_db.specs.StoredLaws.{live_inside, live_added, added_new, added_old, live_in-add}

@@ -1,7 +1,7 @@
 -- Clauses by their ids, and what they watch.
 use Rattle.std.specs.Prelude.{◌≡◌, ◌≢◌, ℕ, ◌+◌, ◌-◌, ◌*◌, ◌≤◌, ◌==◌, ◌⊎◌, if◌then◌else◌, ℤ, List, [], ◌∷◌, ◌++◌, length, slice_get, replicate, Contains, AllPairs, Option, Some, None}
 use Rattle.std.specs.Option.{option_flatten}
-use Rattle.sat_theory.specs.Formula.{variable, IsClause, IsWithin}
+use Rattle.sat_theory.specs.Formula.{IsClause, IsWithin}
 use Rattle.clause_db.specs.declared.watches.Pair.{Pair}
 use Rattle.clause_db.specs.Watching.{Watching, list_of, pair_at, watching_more, watching_moved, HasRoom}
 

@@ -1,15 +1,13 @@
 -- How the lists of literals change.
-use Rattle.std.specs.Prelude.{◌≡◌, ◌≢◌, ℕ, zero, suc, ◌+◌, ◌-◌, ◌*◌, ◌<◌, ◌≤◌, ◌==◌, ◌⊎◌, if◌then◌else◌, nat_lt, ℤ, pos, Bool, true, false, List, [], ◌∷◌, ◌++◌, length, take, slice_index_or, slice_set, replicate, Contains, All, AllPairs, refl}
+use Rattle.std.specs.Prelude.{◌≡◌, ◌≢◌, ℕ, ◌+◌, ◌-◌, ◌<◌, ◌≤◌, ◌⊎◌, ℤ, pos, List, [], ◌∷◌, ◌++◌, length, take, slice_index_or, slice_set, replicate, Contains, AllPairs, refl}
 use Rattle.std.specs.List.{swap_remove}
-use Rattle.std.specs.Ordering.{int_eq}
-use Rattle.std.proofs.Common.{sym, ap, ◌∙◌, subst, arith, inl, inr}
+use Rattle.std.proofs.Common.{sym, ap, ◌∙◌, arith, inl, inr}
 use Rattle.std.proofs.Math.Logic.{⊎_elim}
-use Rattle.std.proofs.lemmas.Bool.{cases_eq, cases_lt, cases_Bool, lt-ltb, le-ltb}
+use Rattle.std.proofs.lemmas.Bool.{cases_eq, cases_lt, lt-ltb, le-ltb}
 use Rattle.std.proofs.lemmas.Grind.{common_steps}
-use Rattle.std.proofs.lemmas.List.{get_or-set_same, get_or-set_other, length-set, set-set, set-get_or, length-take-le, get_or-take, get_or_push, get_or_append_left}
+use Rattle.std.proofs.lemmas.List.{get_or-set_same, get_or-set_other, length-set, set-set, set-get_or, set_past, length-take-le, get_or-take, get_or_push, get_or_append_left}
 use Rattle.cdcl_theory.specs.Codes.{code_of}
-use Rattle.cdcl_theory.specs.CodeLaws.{code_of-same, cases_literal, int_eq-same, int_eq-other}
-use Rattle.clause_db.specs.declared.watches.Pair.{Pair}
+use Rattle.cdcl_theory.specs.CodeLaws.{code_of-same, cases_literal}
 use Rattle.clause_db.specs.Watching.{Watching, listed_in, list_of, pair_at, pair_of, with_id, with_ids, watching_more, watching_moved, replaced}
 
 -- the list that was written, and the others
@@ -26,11 +24,15 @@ unfolding listed_in
 listed_whole lists l = set-get_or lists (code_of l) []
 
 -- an id that was put at the end of a list, and taken off again
-pub listed_back : (lists : List (List ℕ)) (l : ℤ) (id : ℕ) → code_of l < length lists → slice_set (with_id lists l id) (code_of l) (take (length (listed_in (with_id lists l id) l) - 1) (listed_in (with_id lists l id) l)) ≡ lists
-listed_back lists l id room =
+pub listed_back : (lists : List (List ℕ)) (l : ℤ) (id : ℕ) → slice_set (with_id lists l id) (code_of l) (take (length (listed_in (with_id lists l id) l) - 1) (listed_in (with_id lists l id) l)) ≡ lists
+listed_back lists l id = ⊎_elim
+    (λ (room : code_of l < length lists).
     let is : listed_in (with_id lists l id) l ≡ listed_in lists l ++ id ∷ [] = listed-same lists l l (listed_in lists l ++ id ∷ []) room refl in
     let front : take (length (listed_in (with_id lists l id) l) - 1) (listed_in (with_id lists l id) l) ≡ listed_in lists l = rw is (grind (arith, common_steps)) in
-    ap (λ (xs : List ℕ). slice_set (with_id lists l id) (code_of l) xs) front ∙ set-set lists (code_of l) (listed_in lists l ++ id ∷ []) (listed_in lists l) ∙ listed_whole lists l
+    ap (λ (xs : List ℕ). slice_set (with_id lists l id) (code_of l) xs) front ∙ set-set lists (code_of l) (listed_in lists l ++ id ∷ []) (listed_in lists l) ∙ listed_whole lists l)
+    (λ (past : length lists ≤ code_of l).
+    ap (λ (xs : List (List ℕ)). slice_set xs (code_of l) (take (length (listed_in xs l) - 1) (listed_in xs l))) (set_past lists (code_of l) (listed_in lists l ++ id ∷ []) past) ∙ set_past lists (code_of l) _ past)
+    (cases_lt (code_of l) (length lists))
 
 -- numbers of which no two are the same, and the last one in the place of one of them
 differ_at : (xs : List ℕ) (i j d e : ℕ) → AllPairs (λ a b. a ≢ b) xs → i < length xs → j < length xs → (i ≡ j → ⊥) → slice_index_or xs i d ≡ slice_index_or xs j e → ⊥
@@ -145,5 +147,3 @@ list_to w id from to index l room apart is = listed-other (with_id w.lists to id
 
 pub list_else : (w : Watching) (id : ℕ) (from to : ℤ) (index : ℕ) (l : ℤ) → (l ≡ from → ⊥) → (l ≡ to → ⊥) → list_of (watching_moved w id from to index) l ≡ list_of w l
 list_else w id from to index l apart other = listed-other (with_id w.lists to id) from l _ apart ∙ listed-other w.lists to l _ other
-
-pub ruleset watching = (common_steps, listed-same, listed-other)

@@ -1,4 +1,4 @@
-ghost use Rattle.std.specs.Prelude.{◌≡◌, ◌≢◌, ◌⊎◌, ℕ, ℤ, ◌+◌, ◌-◌, ◌*◌, ◌<◌, ◌≤◌, ◌∷◌, [], ◌++◌, map, length, take, All, Contains, pos, slice_index_or, slice_set, replicate, IfOk, OnOk, OnErr};
+ghost use Rattle.std.specs.Prelude.{◌≡◌, ◌≢◌, ◌⊎◌, ℤ, ◌+◌, ◌-◌, ◌*◌, ◌<◌, ◌≤◌, [], length, take, All, Contains, pos, slice_index_or, slice_set, replicate, IfOk, OnOk, OnErr};
 ghost use Rattle.std.specs.List.{swap_remove, swap};
 ghost use Rattle.cdcl_theory.specs.Codes.{code_of};
 ghost use Rattle.clause_db.specs.Watching.{listed_in, pair_of, with_id, with_ids, watching_moved};
@@ -115,11 +115,13 @@ impl Watches {
         if lits.len() < 2 {
             return Ok(());
         }
-        self.push(lits[0], id, lits[1])?;
-        match self.push(lits[1], id, lits[0]) {
+        let first = lits[0];
+        let second = lits[1];
+        self.push(first, id, second)?;
+        match self.push(second, id, first) {
             Ok(()) => Ok(()),
             Err(error) => {
-                self.take_last(lits[0]);
+                self.take_last(first);
                 Err(error)
             }
         }

@@ -1,4 +1,4 @@
-use Rattle.std.proofs.Common.{◌≡◌, ◌+◌, ◌-◌, ◌<◌, ◌≤◌, ℕ, length, slice_index_or}
+use Rattle.std.proofs.Common.{◌≡◌, ◌-◌, ◌<◌, ℕ, length, slice_index_or}
 use Rattle.clause_db.proofs.clause_db.find.Given as goal
 
 abbrev pub invariant-loop-index : goal.invariant-loop-index

@@ -1,4 +1,4 @@
-use Rattle.std.proofs.Common.{◌≡◌, ◌+◌, ◌-◌, ◌<◌, ℕ, ℤ, length, slice_index_or}
+use Rattle.std.proofs.Common.{◌≡◌, ◌-◌, ◌<◌, ℕ, ℤ, length, slice_index_or}
 use Rattle.clause_db.proofs.watches.find.Given as goal
 
 abbrev pub invariant-loop-place : goal.invariant-loop-place

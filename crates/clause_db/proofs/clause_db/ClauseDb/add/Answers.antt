@@ -1,4 +1,3 @@
-use Rattle.std.proofs.Common.{◌≡◌}
 use Rattle.clause_db.proofs.Databases.{whole_added, whole_again}
 use Rattle.clause_db.proofs.clause_db.ClauseDb.add.Goals as goal
 

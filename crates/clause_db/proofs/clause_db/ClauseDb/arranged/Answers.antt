@@ -1,7 +1,7 @@
-use Rattle.std.proofs.Common.{◌≡◌, List, ℤ, Some, subst}
+use Rattle.std.proofs.Common.{subst}
 use Rattle.std.specs.List.Sorted.{IsPermutation}
 use Rattle.std.proofs.lemmas.List.Sorted.{IsPermutation-sym, Contains-permutation}
-use Rattle.clause_db.specs.Stored.{Stored, IsStored, live_in}
+use Rattle.clause_db.specs.Stored.{IsStored}
 use Rattle.clause_db.proofs.Databases.{block_order, block_front, block_clause}
 use Rattle.clause_db.proofs.clause_db.ClauseDb.arranged.Goals as goal
 

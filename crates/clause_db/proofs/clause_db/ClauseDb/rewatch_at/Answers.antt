@@ -1,4 +1,4 @@
-use Rattle.std.proofs.Common.{◌≡◌, ℕ, slice_index_or, sym, subst}
+use Rattle.std.proofs.Common.{ℕ, slice_index_or, sym, subst}
 use Rattle.clause_db.specs.Watching.{list_of}
 use Rattle.clause_db.specs.Stored.{Stored}
 use Rattle.clause_db.specs.Arranging.{watching_of}

@@ -1,4 +1,4 @@
-use Rattle.std.proofs.Common.{◌≡◌, sym, ◌∙◌}
+use Rattle.std.proofs.Common.{sym, ◌∙◌}
 use Rattle.clause_db.proofs.Arranging.{pair_block}
 use Rattle.clause_db.proofs.Databases.{pair_in, pair_differ}
 use Rattle.clause_db.proofs.clause_db.ClauseDb.watched.Goals as goal

@@ -1,5 +1,4 @@
-use Rattle.std.proofs.Common.{◌≡◌, ℕ, List, Contains, sym, ap, subst, ◌∙◌}
-use Rattle.clause_db.specs.Watching.{list_of}
+use Rattle.std.proofs.Common.{ℕ, List, Contains, sym, subst}
 use Rattle.clause_db.specs.Stored.{Stored, Watches}
 use Rattle.clause_db.proofs.clause_db.ClauseDb.watching.Goals as goal
 

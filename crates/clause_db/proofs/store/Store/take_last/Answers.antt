@@ -1,4 +1,4 @@
-use Rattle.std.proofs.Common.{◌≡◌, ◌-◌, ◌≤◌, length, take, arith, rules}
+use Rattle.std.proofs.Common.{◌≡◌, ◌-◌, length, take, arith, rules}
 use Rattle.clause_db.proofs.Rows.{entries_front}
 use Rattle.clause_db.proofs.store.Store.take_last.Goals as goal
 
