@@ -15,7 +15,6 @@ arranged-lits-requires c =
     let id_is : id ≡ id_at s c.args.fallen c.args.index = ap (λ (xs : List ℕ). slice_index_or xs c.args.index 0) c.watching.ensures.value in
     record { live = watches_live s id c.args.fallen (entry_watches s c.args.fallen c.args.index id c.requires.stored c.requires.inside id_is) }
 
-
 pub besides-other-requires-clause-two : goal.besides-other-requires-clause-two
 besides-other-requires-clause-two c =
     let s : Stored = c.args.clauses.now in
@@ -25,7 +24,6 @@ besides-other-requires-clause-two c =
     let front : IsFront s id c.args.fallen lits = front_at s c.args.fallen c.args.index id lits c.requires.stored c.requires.inside id_is c.arranged-lits.ensures.same c.arranged-lits.ensures.front c.arranged-lits.ensures.clause in
     front.long
 
-
 pub besides-other-requires-clause-one : goal.besides-other-requires-clause-one
 besides-other-requires-clause-one c =
     let s : Stored = c.args.clauses.now in
@@ -34,7 +32,6 @@ besides-other-requires-clause-one c =
     let lits : List ℤ = c.arranged-lits.result.now in
     let front : IsFront s id c.args.fallen lits = front_at s c.args.fallen c.args.index id lits c.requires.stored c.requires.inside id_is c.arranged-lits.ensures.same c.arranged-lits.ensures.front c.arranged-lits.ensures.clause in
     front_one s id c.args.fallen lits front
-
 
 pub block-requires-clause-there : goal.block-requires-clause-there
 block-requires-clause-there c =
@@ -46,7 +43,6 @@ block-requires-clause-there c =
     let other : ℤ = c.besides-other.result in
     let is_other : IsOther lits c.args.fallen other = record { watched = c.besides-other.ensures.watched; only = c.besides-other.ensures.only } in
     blocks s c.args.fallen other c.args.index id c.requires.stored id_is (other_watches s id c.args.fallen other lits front is_other)
-
 
 pub returns-then-fell-gt0-clause-visit : goal.returns-then-fell-gt0-clause-visit
 returns-then-fell-gt0-clause-visit c =
@@ -61,7 +57,6 @@ returns-then-fell-gt0-clause-visit c =
     let on = ap (fell t) c.opposite.ensures.value in
     kept_blocked s c.block.new.self t c.args.fallen other c.args.index id c.requires.stored id_is (other_watches s id c.args.fallen other lits front is_other) (omega (arith, c.fell.ensures.value, on, c.if-fell-gt0.true)) c.block.ensures.same
 
-
 pub first_standing-requires-clause-inside : goal.first_standing-requires-clause-inside
 first_standing-requires-clause-inside c =
     let s : Stored = c.args.clauses.now in
@@ -71,7 +66,6 @@ first_standing-requires-clause-inside c =
     let front : IsFront s id c.args.fallen lits = front_at s c.args.fallen c.args.index id lits c.requires.stored c.requires.inside id_is c.arranged-lits.ensures.same c.arranged-lits.ensures.front c.arranged-lits.ensures.clause in
     front.long
 
-
 pub rewatch_at-requires : goal.rewatch_at-requires
 rewatch_at-requires c =
     let s : Stored = c.args.clauses.now in
@@ -80,7 +74,6 @@ rewatch_at-requires c =
     let lits : List ℤ = c.arranged-lits.result.now in
     let front : IsFront s id c.args.fallen lits = front_at s c.args.fallen c.args.index id lits c.requires.stored c.requires.inside id_is c.arranged-lits.ensures.same c.arranged-lits.ensures.front c.arranged-lits.ensures.clause in
     record { movable = movable_to s c.args.fallen c.in-Some.found.lit c.args.index id lits c.in-Some.found.place c.requires.inside id_is front c.in-Some.ensures.place.0 c.in-Some.ensures.place.1 c.in-Some.ensures.lit }
-
 
 pub returns-in-Some-clause-visit : goal.returns-in-Some-clause-visit
 returns-in-Some-clause-visit c =
@@ -97,7 +90,6 @@ returns-in-Some-clause-visit c =
       is = c.in_ok-rewatch_at.ensures.ok;
     }
 
-
 pub returns-then-fell-gt0-2-clause-visit : goal.returns-then-fell-gt0-2-clause-visit
 returns-then-fell-gt0-2-clause-visit c =
     let s : Stored = c.args.clauses.now in
@@ -110,7 +102,6 @@ returns-then-fell-gt0-2-clause-visit c =
     let t : Trailed = c.args.trail.now in
     let off = c.fell-2.ensures.value in
     record { same = refl; same_trail = refl; falsified = found_false s t id c.args.fallen other lits front is_other c.requires.fallen c.in_default.ensures.none (omega (arith, off, c.if-fell-gt0-2.true)) }
-
 
 pub returns-clause-visit : goal.returns-clause-visit
 returns-clause-visit c =
@@ -127,4 +118,3 @@ returns-clause-visit c =
     let up = c.fell-2.ensures.value in
     kept_pushed s t c.push.new.self c.args.fallen other c.args.index id front.watches.clause c.requires.stored c.requires.whole c.requires.vars id_is front.watches.is_live (other_watches s id c.args.fallen other lits front is_other)
     (omega (arith, up, c.if-fell-gt0-2.false), omega (arith, down, off, c.if-fell-gt0.false)) (all_but s t id c.args.fallen other lits front.watches.clause front is_other c.requires.fallen c.in_default.ensures.none front.watches.is_live) c.in_ok-push.ensures.ok
-
