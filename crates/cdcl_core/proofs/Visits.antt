@@ -145,9 +145,6 @@ up_before live a b l trail grown up =
     (λ (some : fell a l ≡ 0 → ⊥). absurd (let now : 0 < fell b l = (grown.same.there (length a.lits) l (omega arith) (omega (arith, some), trail.places.within l)).0 in omega (arith, now, up)))
     (cases_eq (fell a l) 0)
 
-pub rest_self : (a : Stored) (s : Trailed) → IsRest a a s s
-rest_self a s = record { clauses = refl; vars = refl; grown = grown_self (live_in a) s; moved = λ id w watches. inl watches }
-
 pub rest_kept : (a b c : Stored) (r s t : Trailed) (l : ℤ) (index : ℕ) → IsRest a b r s → IsKept b c s t l index → IsRest a c r t
 rest_kept a b c r s t l index rest kept = record {
   clauses = ap (λ (x : Stored). x.clauses) kept.same ∙ rest.clauses;

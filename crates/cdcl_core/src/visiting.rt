@@ -5,9 +5,9 @@
 //! over the rest. Beside each clause in a list stands one of its literals, its blocking literal: while that is
 //! true the clause isn't even read (Sörensson and Eén, "MiniSat 2.1", 2008).
 ghost use Rattle.std.specs.Prelude.{◌≡◌, ℕ, ℤ, ◌<◌, ◌≤◌, ◌⊎◌, List, [], length, slice_index_or, All, IfOk, IfSome, IfNone};
-ghost use Rattle.sat_theory.specs.Formula.{variable as variable_of, IsClause, IsWithin};
+ghost use Rattle.sat_theory.specs.Formula.{variable as variable_of, IsWithin};
 ghost use Rattle.cdcl_theory.specs.Falling.{AllSettled, IsFalsified};
-ghost use Rattle.cdcl_theory.specs.Trails.{IsTrail, IsGrown, fell as fell_of};
+ghost use Rattle.cdcl_theory.specs.Trails.{IsTrail, fell as fell_of};
 ghost use Rattle.clause_db.specs.Watching.{list_of, pair_of};
 ghost use Rattle.clause_db.specs.Stored.{live_in, Watches, IsStored};
 ghost use Rattle.cdcl_core.specs.Guarding.{HasTrueAt, IsGuarded};

@@ -1,4 +1,4 @@
-ghost use Rattle.std.specs.Prelude.{◌≡◌, ℤ, List, [], ◌∷◌, ◌++◌, ◌<◌, ◌-◌, length, take, slice_index_or, slice_set, OnOk, OnErr};
+ghost use Rattle.std.specs.Prelude.{◌≡◌, [], ◌∷◌, ◌++◌, ◌<◌, ◌-◌, length, take, slice_index_or, slice_set, OnOk, OnErr};
 ghost use Rattle.std.specs.List.{swap};
 
 use cnf_core::Lit;

@@ -37,7 +37,8 @@ impl Model for ClauseDb {
 
 #[tactic(auto, using(crate::proofs::Databases::databases))]
 impl ClauseDb {
-    /// The clauses of a formula, under the ids that they have there. Each watches its first two literals.
+    /// The clauses of a formula, under the ids that they have there. Each watches its first two literals. More
+    /// than 4,294,967,295 literals in all count as want of memory.
     pub fn new(alloc: Global, cnf: &Cnf) -> Result<ClauseDb, AllocError>
         ensures all { IfOk result (λ c. c ≡ all_added (none_stored cnf.now.vars) cnf.now.clauses) }
         ensures clauses { IfOk result (λ c. live_in c ≡ by_id cnf.now.clauses) }
@@ -62,7 +63,7 @@ impl ClauseDb {
     }
 
     /// Adds a clause over the variables of the formula, and gives its id, the one behind all before. It
-    /// watches its first two literals.
+    /// watches its first two literals. More than 4,294,967,295 literals in all count as want of memory.
     pub fn add(&mut self, lits: &[Lit]) -> Result<u32, AllocError>
         requires clause { IsClause lits.now }
         requires variables { IsWithin self.old.vars lits.now }

@@ -9,7 +9,7 @@
 //!
 //! The literals of each clause stand twice: `lits` gives them as they were added, and `arranged` with the
 //! watched two in front, where propagation finds all that it reads of a clause side by side. A clause that
-//! watches another literal puts it there, and the one that it gives up takes its place.
+//! watches another literal puts it in front, and the one that it gives up goes to that literal's place.
 //!
 //! Beside each clause in a list stands one of its literals, its blocking literal: `blockers` gives them, and
 //! `block` puts another one there (Sörensson and Eén, "MiniSat 2.1", 2008).

@@ -40,6 +40,8 @@ fn clauses_have_ids(rt: HostRuntime) -> Result<(), Fail> {
     assert!(rt; holds(&clauses, 1, &[1, -2]));
     assert!(rt; holds(&clauses, 2, &[]));
     assert!(rt; holds(&clauses, 3, &[3]));
+    assert!(rt; stands(&clauses, 2, &[]));
+    assert!(rt; stands(&clauses, 3, &[3]));
     Ok(())
 }
 
