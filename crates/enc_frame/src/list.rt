@@ -137,7 +137,7 @@ impl ClauseList {
         requires { All (IsWithin self.old.vars) raws.now }
         ensures { OnOk result (self.new ≡ record self.old { clauses = self.old.clauses ++ written raws.now }) }
     {
-        let mut lits = Vec::new(alloc);
+        let mut lits = Vec::with_capacity(alloc, raws.len())?;
         let whole = gather(&mut lits, &mut self.seen, raws);
         forget(&mut self.seen, &lits);
         if whole? {

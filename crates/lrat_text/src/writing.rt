@@ -14,8 +14,9 @@ use text_core::push_number;
 fn push_ids(text: &mut Vec<u8>, ids: &[u32]) -> Result<(), AllocError>
     ensures { OnOk result (text.new.items ≡ text.old.items ++ flat_map id_item ids.now) }
 {
+    let mut buffer = Buffer::new();
     for id in ids {
-        push_number(text, *id)?;
+        text.extend_from_slice(buffer.format(*id).as_bytes())?;
         text.push(b' ')?;
     }
     Ok(())
@@ -67,13 +68,22 @@ fn push_line(text: &mut Vec<u8>, line: &Line) -> Result<(), AllocError>
     }
 }
 
+/// How many bytes most lines take at most: eight for a number and its blank.
+fn room(line: &Line) -> usize {
+    let numbers = match line {
+        Line::Add { lits, hints, .. } => lits.len().saturating_add(hints.len()),
+        Line::Delete { ids, .. } => ids.len(),
+    };
+    numbers.saturating_add(4).saturating_mul(8)
+}
+
 /// Appends the one spelling of a line, with its LF. `read_line` reads it again where the ids, literals
 /// and hints are in their ranges and no variable comes twice.
 pub fn write_line(line: &Line, out: &mut Vec<u8>) -> Result<(), AllocError>
     ensures ok { OnOk result (out.new.items ≡ out.old.items ++ line_text (line_value line.now)) }
     ensures err { OnErr result (out.new.items ≡ out.old.items) }
 {
-    let mut text = Vec::new(*out.allocator());
+    let mut text = Vec::with_capacity(*out.allocator(), room(line))?;
     push_line(&mut text, line)?;
     out.extend_from_slice(&text)
 }
