@@ -1,6 +1,7 @@
 pub mod Marking
 pub mod Gathering
 pub mod Walks
+pub mod Shortening
 pub mod Conflicts
 pub mod Raising
 pub mod Starts

@@ -70,6 +70,10 @@ StayBelow t p old new = (m : ℤ) → fell t m ≤ p → marked_in old m ≡ tru
 abbrev pub OnlyBelow : Trailed → ℕ → List Bool → List Bool → Type 0
 OnlyBelow t p old new = (m : ℤ) → marked_in new m ≡ true → (marked_in old m ≡ true) ⊎ (fell t m ≤ p)
 
+-- no others were marked
+abbrev pub AreFewer : List Bool → List Bool → Type 0
+AreFewer old new = (m : ℤ) → marked_in new m ≡ true → marked_in old m ≡ true
+
 -- all literals of the clause of an id are marked
 abbrev pub IsMarkedClause : (ℕ → Option (List ℤ)) → List Bool → ℕ → Type 0
 IsMarkedClause live marks id = (clause : List ℤ) → live id ≡ Some clause → All (λ m. marked_in marks m ≡ true) clause

@@ -92,6 +92,7 @@ impl Analysis {
         let top = self.walk.reduce(trail, clauses, start)?;
         let walked = self.walk.touched.len();
         self.minimise(trail, clauses, starts, start)?;
+        self.walk.shorten(clauses, trail.at(top).opposite())?;
         let first = self.walk.take_others(trail, top, &mut self.lower)?;
         self.walk.touched.truncate(walked);
         let back = last_fallen(trail, &self.lower);

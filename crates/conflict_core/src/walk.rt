@@ -1,10 +1,10 @@
 ghost use Rattle.std.specs.Prelude.{◌≡◌, ℤ, ◌+◌, ◌<◌, ◌≤◌, ◌∷◌, [], false, length, slice_index_or, Contains, AllPairs, IfOk, OnOk, IfSome, IfNone};
 ghost use Rattle.sat_theory.specs.Formula.{variable as variable_of, opposite as opposite_of, IsClause, IsWithin};
 ghost use Rattle.cdcl_theory.specs.Falling.{IsFalsified};
-ghost use Rattle.cdcl_theory.specs.Trails.{IsTrail, IsLayered, HasReason, fell as fell_of};
+ghost use Rattle.cdcl_theory.specs.Trails.{Trailed, IsTrail, IsLayered, HasReason, fell as fell_of};
 ghost use Rattle.clause_db.specs.Stored.{live_in};
 ghost use Rattle.trail_core.specs.Values.{IsOver};
-ghost use Rattle.conflict_core.specs.Walking.{AreMarked, IsListed, IsMarkedClause, NoneMarked, IsLastMarked, IsReplaced, StayBelow, OnlyBelow, HasRoom, IsClear, AreOthers};
+ghost use Rattle.conflict_core.specs.Walking.{AreMarked, IsListed, IsMarkedClause, NoneMarked, IsLastMarked, IsReplaced, StayBelow, OnlyBelow, AreFewer, HasRoom, IsClear, AreOthers};
 ghost use Rattle.conflict_core.specs.Learning.{IsWalkOf, HaveReasons};
 
 use crate::marks::Marks;
@@ -208,6 +208,36 @@ impl Walk {
             return Ok(());
         }
         self.resolve(trail, clauses, place)
+    }
+
+    /// Takes off each marked literal whose opposite makes up a clause with `first`, if that is marked: the
+    /// clause is the hint. Of the clauses that watch `first` only those are read whose blocking literal is
+    /// such an opposite; in a clause of two it nearly always is.
+    pub(crate) fn shorten(&mut self, clauses: &ClauseDb, first: Lit) -> Result<(), AllocError>
+        requires over { variable_of first ≤ clauses.now.vars }
+        requires room { HasRoom clauses.now.vars self.old.marks }
+        ensures walk { (t : Trailed) → IsTrail t → IsWalkOf (live_in clauses.now) t self.old → OnOk result (IsWalkOf (live_in clauses.now) t self.new) }
+        ensures fewer { OnOk result (AreFewer self.old.marks self.new.marks) }
+    {
+        if !self.marks.has(first) {
+            return Ok(());
+        }
+        let blockers = clauses.blockers(first);
+        for index in 0..blockers.len() {
+            let lit = blockers[index].opposite();
+            if !self.marks.has(lit) {
+                continue;
+            }
+            let clause = clauses.watching(first)[index];
+            let lits = clauses.arranged(clause);
+            let count = lits.len();
+            if count != 2 {
+                continue;
+            }
+            self.marks.unset(lit);
+            self.hints.push(clause)?;
+        }
+        Ok(())
     }
 
     /// Takes all marks off, and gathers the marked literals but for the one that fell at an index, which is
