@@ -133,18 +133,45 @@ const IMPLIED: [&[u8]; 4] = [
     b"4 -3 -4 0 0",
 ];
 
+/// The same, and 1 follows from 3, so that -1 goes too.
+const SHORTENED: [&[u8]; 5] = [
+    b"1 -1 2 0 0",
+    b"2 -5 3 0 0",
+    b"3 -1 -2 -3 4 0 0",
+    b"4 -3 -4 0 0",
+    b"5 -3 1 0 0",
+];
+
+/// The same with one literal more, by which it stays.
+const NOT_SHORTENED: [&[u8]; 5] = [
+    b"1 -1 2 0 0",
+    b"2 -5 3 0 0",
+    b"3 -1 -2 -3 4 0 0",
+    b"4 -3 -4 0 0",
+    b"5 -3 1 2 0 0",
+];
+
+/// Whether the one clause that is learnt within a budget of one is written so at first.
+fn is_learnt(alloc: Global, clauses: &[&[u8]], begin: &[u8]) -> Result<bool, Fail> {
+    match solve(alloc, &formula(alloc, 5, clauses)?, 1)? {
+        Solved::Open(log) => {
+            if log.lines.len() != 1 {
+                return Ok(false);
+            }
+            let mut text = Vec::new(alloc);
+            write_line(&log.lines[0], &mut text)?;
+            Ok(text.starts_with(begin))
+        }
+        _ => Ok(false),
+    }
+}
+
 #[test]
 fn learnt_clauses_lose_what_follows(rt: HostRuntime) -> Result<(), Fail> {
     let alloc = rt.alloc();
-    match solve(alloc, &formula(alloc, 5, &IMPLIED)?, 1)? {
-        Solved::Open(log) => {
-            assert_eq!(rt; log.lines.len(), 1);
-            let mut text = Vec::new(alloc);
-            write_line(&log.lines[0], &mut text)?;
-            assert!(rt; text.starts_with(b"5 -3 -1 0 "), "{text:?}");
-        }
-        _ => assert!(rt; false, "not open"),
-    }
+    assert!(rt; is_learnt(alloc, &IMPLIED, b"5 -3 -1 0 ")?);
+    assert!(rt; is_learnt(alloc, &SHORTENED, b"6 -3 0 5 ")?);
+    assert!(rt; is_learnt(alloc, &NOT_SHORTENED, b"6 -3 -1 0 ")?);
     Ok(())
 }
 
