@@ -14,9 +14,9 @@ In tables by literals, -v stands at the index -v, which counts from the end.
 import itertools
 import sys
 
-FIRST_STEP, GREATEST_STEP, STEP_PART = 1 << 40, 1 << 56, 16
+FIRST_STEP, GREATEST_STEP, STEP_PART, REASON_PART = 1 << 40, 1 << 56, 16, 2
 GREATEST_SCORE = (1 << 64) - 1
-SHORTEST_RUN = 64
+SHORTEST_RUN = 80
 DEPTH = 1000
 
 
@@ -93,9 +93,11 @@ class Choice:
             self.signs[abs(lit)] = 1 if lit > 0 else -1
             self.heap.push(abs(lit))
 
-    def bump(self, lits):
+    def bump(self, lits, step):
         for lit in lits:
-            self.heap.bump(abs(lit), self.step)
+            self.heap.bump(abs(lit), step)
+
+    def grow(self):
         self.step = min(self.step + self.step // STEP_PART, GREATEST_SCORE)
         if self.step > GREATEST_STEP:
             self.step //= 2
@@ -235,6 +237,14 @@ class Analysis:
             if lit in self.marked:
                 self.resolve(lit)
 
+    def shorten(self, first):
+        """Takes off what falls by a clause of two literals whose other one is the asserting literal."""
+        for id, blocker in self.clauses.watching[first]:
+            lit = -blocker
+            if lit in self.marked and lit != first and set(self.clauses.lits[id]) == {first, blocker}:
+                self.marked.remove(lit)
+                self.hints.append(id)
+
     def learn(self, conflict, start):
         """The learnt clause, where its others fell last, and the literals that were marked on the way."""
         fell = self.trail.fell
@@ -242,6 +252,7 @@ class Analysis:
         first = self.reduce(start)
         walked = len(self.touched)
         self.minimise(start)
+        self.shorten(first)
         lower = [lit for lit in self.touched if lit in self.marked and lit != first]
         back = max((fell[lit] for lit in lower), default=0)
         if lower:
@@ -340,10 +351,18 @@ class Solver:
         self.trail.back_to(length)
         self.head = length
 
+    def bump_reasons(self, fallen):
+        """Lets the variables of the reasons of fallen literals score a part of the step."""
+        for lit in fallen:
+            if reason := self.trail.reason[abs(lit)]:
+                self.choice.bump(self.clauses.lits[reason], self.choice.step // REASON_PART)
+
     def jump(self, conflict):
         """Learns a clause, and goes back to where it is unit."""
         lits, back, touched = self.analysis.learn(conflict, self.starts[-1])
-        self.choice.bump(touched)
+        self.choice.bump(touched, self.choice.step)
+        self.bump_reasons(lits[1:])
+        self.choice.grow()
         id = self.clauses.add(lits)
         end = self.starts.pop()
         while self.starts and self.starts[-1] >= back:

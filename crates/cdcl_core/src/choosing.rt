@@ -1,7 +1,9 @@
 //! Which variable a search decides on, and with which sign. It is a variable without a value whose score is
 //! greatest, where the variables of late conflicts score high (Moskewicz and others, "Chaff", 2001; Eén and
 //! Sörensson, "An extensible SAT-solver", 2003), and it gets the value that it had last (Pipatsrisawat and
-//! Darwiche, "A lightweight component caching scheme for satisfiability solvers", 2007).
+//! Darwiche, "A lightweight component caching scheme for satisfiability solvers", 2007). The variables of the
+//! reasons of a learnt clause's literals score too, though less (Liang, Ganesh, Poupart and Czarnecki, "Learning
+//! rate based branching heuristic for SAT solvers", 2016).
 //!
 //! Going back puts the variables that lose their values into the heap again, and only decisions take out
 //! any. So a heap that is empty says that all variables have values.
@@ -11,6 +13,7 @@ ghost use Rattle.cdcl_theory.specs.Trails.{Trailed, IsTrail, IsBack, pushed};
 ghost use Rattle.trail_core.specs.Values.{IsOver, IsFree, HaveValues};
 ghost use Rattle.var_heap.specs.Held.{score_of};
 
+use clause_db::ClauseDb;
 use cnf_core::Lit;
 use std::alloc::{AllocError, Global};
 use trail_core::Trail;
@@ -24,6 +27,9 @@ const GREATEST_STEP: u64 = 1 << 56;
 
 /// With each conflict the step grows by this part of itself.
 const STEP_PART: u64 = 16;
+
+/// The variables of a reason score this part of the step.
+const REASON_PART: u64 = 2;
 
 /// The variables to decide on, with their scores and signs.
 #[derive(Debug, Drop)]
@@ -82,13 +88,30 @@ impl Choice {
         }
     }
 
-    /// Adds the step to the scores of the variables of literals.
-    pub(crate) fn bump(&mut self, lits: &[Lit])
+    /// Adds to the scores of the variables of literals.
+    pub(crate) fn bump(&mut self, lits: &[Lit], step: u64)
         requires { IsWithin self.old.heap.vars lits.now }
         ensures { (t : Trailed) → IsChoosing t self.old → IsChoosing t self.new }
     {
         for lit in lits {
-            self.heap.bump(lit.variable(), self.step);
+            self.heap.bump(lit.variable(), step);
+        }
+    }
+
+    /// Adds a part of the step to the scores of the variables of the reasons of fallen literals.
+    pub(crate) fn bump_reasons(&mut self, trail: &Trail, clauses: &ClauseDb, lits: &[Lit])
+        requires vars { clauses.now.vars ≡ trail.now.vars }
+        requires within { IsWithin trail.now.vars lits.now }
+        requires choosing { IsChoosing trail.now self.old }
+        ensures { (t : Trailed) → IsChoosing t self.old → IsChoosing t self.new }
+    {
+        let step = self.step / REASON_PART;
+        for lit in lits {
+            let id = trail.reason(lit.opposite());
+            if !clauses.live(id) {
+                continue;
+            }
+            self.bump(clauses.lits(id), step);
         }
     }
 

@@ -5,7 +5,7 @@ ghost use Rattle.std.specs.Prelude.{◌≡◌, ℕ, ◌+◌, ◌-◌, ◌*◌, �
 ghost use Rattle.cdcl_core.specs.Luby.{IsLuby, IsPowerUpTo};
 
 /// How many conflicts the shortest runs have.
-const SHORTEST_RUN: u64 = 64;
+const SHORTEST_RUN: u64 = 80;
 
 /// Behind so many runs the sequence begins anew.
 const RUNS: u32 = 2147483647;

@@ -128,7 +128,10 @@ impl Search {
             &self.starts,
             start,
         )?;
-        self.choice.bump(self.analysis.touched());
+        let step = self.choice.step;
+        self.choice.bump(self.analysis.touched(), step);
+        self.choice
+            .bump_reasons(&self.trail, &self.clauses, &learnt.lits[1..]);
         self.choice.grow();
         let id = self.clauses.add(&learnt.lits)?;
         let end = drop_levels(&mut self.starts, learnt.back as usize);

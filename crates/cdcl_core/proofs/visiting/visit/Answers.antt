@@ -1,11 +1,8 @@
-use Rattle.std.proofs.Common.{◌≡◌, ◌<◌, ◌∙◌, ℕ, ℤ, List, slice_index_or, refl, ap, subst, sym, arith}
-use Rattle.sat_theory.specs.Formula.{opposite}
+use Rattle.std.proofs.Common.{◌≡◌, ℕ, ℤ, List, slice_index_or, refl, ap, arith}
 use Rattle.cdcl_theory.specs.Trails.{Trailed, fell}
-use Rattle.clause_db.specs.Stored.{Stored, Watches}
-use Rattle.cdcl_core.specs.Guarding.{HasTrueAt}
+use Rattle.clause_db.specs.Stored.{Stored}
 use Rattle.cdcl_core.specs.Visiting.{id_at}
-use Rattle.cdcl_core.proofs.Growing.{grown_self}
-use Rattle.cdcl_core.proofs.Visits.{IsFront, IsOther, entry_watches, watches_live, front_at, front_one, other_watches, blocks, true_at, movable_to, all_but, found_false, kept_pushed, kept_blocked}
+use Rattle.cdcl_core.proofs.Visits.{IsFront, IsOther, entry_watches, watches_live, front_at, front_one, other_watches, blocks, movable_to, all_but, found_false, kept_pushed, kept_blocked}
 use Rattle.cdcl_core.proofs.visiting.visit.Goals as goal
 
 pub arranged-lits-requires : goal.arranged-lits-requires

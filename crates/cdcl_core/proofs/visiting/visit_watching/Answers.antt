@@ -1,4 +1,4 @@
-use Rattle.std.proofs.Common.{◌≡◌, ◌<◌, ◌≤◌, ◌+◌, ℕ, ℤ, List, length, subst, sym, ap, arith}
+use Rattle.std.proofs.Common.{◌≡◌, ◌<◌, ◌≤◌, ◌+◌, ℕ, length, subst, sym, arith}
 use Rattle.cdcl_theory.specs.Trails.{Trailed, fell}
 use Rattle.clause_db.specs.Stored.{Stored}
 use Rattle.clause_db.specs.Watching.{list_of}

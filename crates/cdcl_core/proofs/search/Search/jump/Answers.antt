@@ -32,7 +32,7 @@ pub returns-clause-searching : goal.returns-clause-searching
 returns-clause-searching c =
     let s = c.args.self.now in
     let l = c.in_ok-learnt.learnt in
-    let clauses_are : c.add.new.self ≡ added s.clauses l.lits.items = c.in_ok-id.ensures.ok ∙ ap (λ (xs : List ℤ). added s.clauses xs) c.deref-2.ensures.value in
+    let clauses_are : c.add.new.self ≡ added s.clauses l.lits.items = c.in_ok-id.ensures.ok ∙ ap (λ (xs : List ℤ). added s.clauses xs) c.deref-3.ensures.value in
     let u : c.index.result.now ≡ asserting l.lits.items = get_or_read l.lits.items 0 c.index.result.now c.in_ok-learnt.ensures.learnt.some c.index.ensures (pos 0) in
     let trail_is : c.push.new.self ≡ pushed c.back_to.new.self c.index.result.now c.in_ok-id.id = c.in_ok-push.ensures.ok in
     let vars : c.back_to.new.self.vars ≡ s.trail.vars = c.back_to.ensures.back.vars in
@@ -57,7 +57,7 @@ pub returns-clause-logged : goal.returns-clause-logged
 returns-clause-logged c = λ f log.
     let s = c.args.self.now in
     let l = c.in_ok-learnt.learnt in
-    let clauses_are : c.add.new.self ≡ added s.clauses l.lits.items = c.in_ok-id.ensures.ok ∙ ap (λ (xs : List ℤ). added s.clauses xs) c.deref-2.ensures.value in
+    let clauses_are : c.add.new.self ≡ added s.clauses l.lits.items = c.in_ok-id.ensures.ok ∙ ap (λ (xs : List ℤ). added s.clauses xs) c.deref-3.ensures.value in
     let lines_are = lines_pushed s.lines.items c.push-2.new.self.items _ c.in_ok-push-2.ensures.items in
     let within : IsWithin s.clauses.vars l.lits.items = subst (λ (n : ℕ). IsWithin n l.lits.items) (sym c.requires.searching.vars) c.in_ok-learnt.ensures.learnt.variables in
     let few : s.trail.vars < 1000000000 = c.requires.searching.layered.whole.few in
@@ -74,7 +74,7 @@ returns-clause-visited c =
     let end : ℕ = c.drop_levels-end.result in
     let back : Trailed = c.back_to.new.self in
     let u : c.index.result.now ≡ asserting l.lits.items = get_or_read l.lits.items 0 c.index.result.now c.in_ok-learnt.ensures.learnt.some c.index.ensures (pos 0) in
-    let clauses_are : c.add.new.self ≡ added s.clauses l.lits.items = c.in_ok-id.ensures.ok ∙ ap (λ (xs : List ℤ). added s.clauses xs) c.deref-2.ensures.value in
+    let clauses_are : c.add.new.self ≡ added s.clauses l.lits.items = c.in_ok-id.ensures.ok ∙ ap (λ (xs : List ℤ). added s.clauses xs) c.deref-3.ensures.value in
     let trail_is : c.push.new.self ≡ pushed back c.index.result.now c.in_ok-id.id = c.in_ok-push.ensures.ok in
     let low = dropped_low s.starts.items fewer c.args.start l.back end c.requires.searching.layered.rising c.requires.level.last c.drop_levels-end.ensures in
     let free : IsFree back c.index.result.now = rw u (jumped_free (live_in s.clauses) s.trail back c.args.start end l.back l.lits.items l.hints.items c.requires.searching.layered.whole c.back_to.ensures.whole c.in_ok-learnt.ensures.learnt low c.back_to.ensures.back) in
@@ -99,5 +99,8 @@ back_to-requires c =
 pub bump-requires : goal.bump-requires
 bump-requires c = rw c.requires.searching.choosing.vars (c.touched.ensures.within c.args.self.now.trail.vars c.in_ok-learnt.ensures.ready)
 
+pub bump_reasons-requires-clause-choosing : goal.bump_reasons-requires-clause-choosing
+bump_reasons-requires-clause-choosing c = c.bump.ensures c.args.self.now.trail c.requires.searching.choosing
+
 pub release-requires-clause-choosing : goal.release-requires-clause-choosing
-release-requires-clause-choosing c = c.grow.ensures c.args.self.now.trail (c.bump.ensures c.args.self.now.trail c.requires.searching.choosing)
+release-requires-clause-choosing c = c.grow.ensures c.args.self.now.trail (c.bump_reasons.ensures c.args.self.now.trail (c.bump.ensures c.args.self.now.trail c.requires.searching.choosing))
