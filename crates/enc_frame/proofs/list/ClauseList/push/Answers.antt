@@ -4,8 +4,8 @@ use Rattle.enc_frame.specs.Seen.{HoldsList}
 use Rattle.enc_frame.proofs.Marks.{viewed, list_pushed}
 use Rattle.enc_frame.proofs.list.ClauseList.push.Goals as goal
 
-pub invariant_of-self-in-Continue-branch-2 : goal.invariant_of-self-in-Continue-branch-2
-invariant_of-self-in-Continue-branch-2 c =
+pub invariant_of-self-in-Continue-branch-3 : goal.invariant_of-self-in-Continue-branch-3
+invariant_of-self-in-Continue-branch-3 c =
     let old = c.self.inside.clauses.items in
     let seen = c.forget.new.seen in
     let size : length seen ≡ c.self.inside.seen.len = c.forget.auto.seen ∙ c.deref_mut-2.ensures.len in
