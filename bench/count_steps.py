@@ -238,7 +238,7 @@ class Analysis:
                 self.resolve(lit)
 
     def shorten(self, first):
-        """Takes off what falls by a clause of two literals whose other one is the asserting literal."""
+        """Takes off what is false by a clause of two literals of which the other one is the asserting one."""
         for id, blocker in self.clauses.watching[first]:
             lit = -blocker
             if lit in self.marked and lit != first and set(self.clauses.lits[id]) == {first, blocker}:

@@ -1,13 +1,14 @@
 //! Which variable a search decides on, and with which sign. It is a variable without a value whose score is
 //! greatest, where the variables of late conflicts score high (Moskewicz and others, "Chaff", 2001; Eén and
 //! Sörensson, "An extensible SAT-solver", 2003), and it gets the value that it had last (Pipatsrisawat and
-//! Darwiche, "A lightweight component caching scheme for satisfiability solvers", 2007). The variables of the
-//! reasons of a learnt clause's literals score too, though less (Liang, Ganesh, Poupart and Czarnecki, "Learning
-//! rate based branching heuristic for SAT solvers", 2016).
+//! Darwiche, "A lightweight component caching scheme for satisfiability solvers", 2007). A part of
+//! that score goes to the variables of the reasons of a learnt clause's literals, for each reason that they stand
+//! in (after the reason side rate of Liang, Ganesh, Poupart and Czarnecki, "Learning rate based branching
+//! heuristic for SAT solvers", 2016).
 //!
 //! Going back puts the variables that lose their values into the heap again, and only decisions take out
 //! any. So a heap that is empty says that all variables have values.
-ghost use Rattle.std.specs.Prelude.{◌≡◌, ℕ, ℤ, ◌+◌, ◌<◌, ◌≤◌, length, IfOk, IfSome, IfNone};
+ghost use Rattle.std.specs.Prelude.{◌≡◌, ℕ, ℤ, ◌+◌, ◌<◌, ◌≤◌, IfOk, IfSome, IfNone};
 ghost use Rattle.sat_theory.specs.Formula.{variable as variable_of, IsWithin};
 ghost use Rattle.cdcl_theory.specs.Trails.{Trailed, IsTrail, IsBack, pushed};
 ghost use Rattle.trail_core.specs.Values.{IsOver, IsFree, HaveValues};
@@ -28,7 +29,7 @@ const GREATEST_STEP: u64 = 1 << 56;
 /// With each conflict the step grows by this part of itself.
 const STEP_PART: u64 = 16;
 
-/// The variables of a reason score this part of the step.
+/// For a reason its variables score this part of the step.
 const REASON_PART: u64 = 2;
 
 /// The variables to decide on, with their scores and signs.
@@ -88,14 +89,23 @@ impl Choice {
         }
     }
 
-    /// Adds to the scores of the variables of literals.
-    pub(crate) fn bump(&mut self, lits: &[Lit], step: u64)
+    /// Adds `score` to the scores of the variables of literals.
+    fn add(&mut self, lits: &[Lit], score: u64)
         requires { IsWithin self.old.heap.vars lits.now }
         ensures { (t : Trailed) → IsChoosing t self.old → IsChoosing t self.new }
     {
         for lit in lits {
-            self.heap.bump(lit.variable(), step);
+            self.heap.bump(lit.variable(), score);
         }
+    }
+
+    /// Adds the step to the scores of the variables of literals.
+    pub(crate) fn bump(&mut self, lits: &[Lit])
+        requires { IsWithin self.old.heap.vars lits.now }
+        ensures { (t : Trailed) → IsChoosing t self.old → IsChoosing t self.new }
+    {
+        let step = self.step;
+        self.add(lits, step);
     }
 
     /// Adds a part of the step to the scores of the variables of the reasons of fallen literals.
@@ -105,13 +115,13 @@ impl Choice {
         requires choosing { IsChoosing trail.now self.old }
         ensures { (t : Trailed) → IsChoosing t self.old → IsChoosing t self.new }
     {
-        let step = self.step / REASON_PART;
+        let part = self.step / REASON_PART;
         for lit in lits {
             let id = trail.reason(lit.opposite());
             if !clauses.live(id) {
                 continue;
             }
-            self.bump(clauses.lits(id), step);
+            self.add(clauses.lits(id), part);
         }
     }
 

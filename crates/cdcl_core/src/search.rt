@@ -128,8 +128,7 @@ impl Search {
             &self.starts,
             start,
         )?;
-        let step = self.choice.step;
-        self.choice.bump(self.analysis.touched(), step);
+        self.choice.bump(self.analysis.touched());
         self.choice
             .bump_reasons(&self.trail, &self.clauses, &learnt.lits[1..]);
         self.choice.grow();

@@ -7,10 +7,10 @@
 //! Then it resolves away the literals below the level that follow from the others of the clause by reasons,
 //! also by several behind one another (Sörensson and Biere, "Minimizing learned clauses", 2009). Which
 //! these are is guessed beforehand; each goes by the same step as those of the level, with its hint, so
-//! that a wrong guess makes a longer clause and no wrong one. At last it resolves with the clauses of two
+//! that a wrong guess makes a longer clause and no wrong one. Last, it resolves with the clauses of two
 //! literals of which one is that of the level: where the opposite of the other one is in the learnt clause,
-//! it goes (Audemard and Simon, "Predicting learnt clauses quality in modern SAT solvers", 2009). All this
-//! costs time in the literals of the reasons that it goes over, of the level, and of one list of blocking
+//! that opposite is taken out (as Audemard and Simon's Glucose does). All this takes time linear in the
+//! literals of the level, in those of the reasons that it goes over, and in the length of one list of blocking
 //! literals, and the marks are taken off as they came.
 //!
 //! ```text

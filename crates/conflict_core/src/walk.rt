@@ -210,15 +210,17 @@ impl Walk {
         self.resolve(trail, clauses, place)
     }
 
-    /// Takes off each marked literal whose opposite makes up a clause with `first`, if that is marked: the
-    /// clause is the hint. Of the clauses that watch `first` only those are read whose blocking literal is
-    /// such an opposite; in a clause of two it nearly always is.
+    /// Takes off each marked literal that is false by a clause of two literals of which the other one is
+    /// `first`; that clause is the hint. Only clauses are read whose blocking literal is the opposite of a
+    /// marked one. In a clause of two it is the other literal; contracts don't say so, and only the length
+    /// of the learnt clause rests on it.
     pub(crate) fn shorten(&mut self, clauses: &ClauseDb, first: Lit) -> Result<(), AllocError>
         requires over { variable_of first ≤ clauses.now.vars }
         requires room { HasRoom clauses.now.vars self.old.marks }
         ensures walk { (t : Trailed) → IsTrail t → IsWalkOf (live_in clauses.now) t self.old → OnOk result (IsWalkOf (live_in clauses.now) t self.new) }
         ensures fewer { OnOk result (AreFewer self.old.marks self.new.marks) }
     {
+        // it is marked whenever a walk is reduced
         if !self.marks.has(first) {
             return Ok(());
         }

@@ -3,10 +3,10 @@ use Rattle.sat_theory.specs.Formula.{IsWithin}
 use Rattle.cdcl_core.specs.Choosing.{IsChoosing}
 use Rattle.cdcl_core.proofs.choosing.Choice.bump_reasons.Goals as goal
 
-pub bump-requires : goal.bump-requires
-bump-requires c =
+pub add-requires : goal.add-requires
+add-requires c =
     let choosing : IsChoosing c.args.trail.now c.loop-lit.self = c.loop-lit.invariant c.args.trail.now c.requires.choosing in
     subst (λ (n : ℕ). IsWithin n c.lits.result.now) (c.requires.vars ∙ sym choosing.vars) c.lits.ensures.variables
 
 pub loop-lit-preserved : goal.loop-lit-preserved
-loop-lit-preserved c = λ t before. c.bump.ensures t (c.loop-lit.invariant t before)
+loop-lit-preserved c = λ t before. c.add.ensures t (c.loop-lit.invariant t before)

@@ -1,7 +1,7 @@
 use Rattle.std.proofs.Common.{◌∙◌, ap, refl}
 use Rattle.var_heap.specs.Held.{Held}
 use Rattle.cdcl_core.proofs.Choices.{choosing_scores}
-use Rattle.cdcl_core.proofs.choosing.Choice.bump.Goals as goal
+use Rattle.cdcl_core.proofs.choosing.Choice.add.Goals as goal
 
 pub loop-lit-preserved : goal.loop-lit-preserved
 loop-lit-preserved c = record {
