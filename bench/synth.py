@@ -1,15 +1,26 @@
 #!/usr/bin/env python3
-"""synth.py PROGRAM [SECONDS]: finds the fewest steps of some functions by PROGRAM, by each method,
+"""synth.py PROGRAM [SECONDS] [--beside]: finds the fewest steps of some functions by PROGRAM, by each method,
 rechecks each certificate, and prints a table: the verdict, the conflicts of the solver (each adds a
 clause to a log), the bytes of the certificate, user seconds to find and to recheck. A search that takes
-longer than SECONDS (60) is given up."""
+longer than SECONDS (60) is given up.
+
+With --beside it finds those of larger functions, and prints the user seconds of the methods (of `ssv` the median
+of five runs), the additions in their certificates, and the user seconds of minisat and cadical, which decide the
+`ssv` formulas of the last two sizes alone (each the median of five runs). The last column is the time of `ssv` by
+that of the better of the two."""
+import os
 import resource
+import statistics
 import subprocess
 import sys
+import tempfile
 
-from functions import SMALL
+from functions import LARGE, SMALL
 
+HERE = os.path.dirname(os.path.abspath(__file__))
 METHODS = ['ssv', 'select', 'fence', 'plain']
+PEERS = [['minisat'], ['cadical', '-n']]
+REPEATS = 5
 
 
 def run(words, given, seconds):
@@ -33,20 +44,66 @@ def is_addition(line):
     return line[:1].isdigit() and ' 0' in line and ' d ' not in line
 
 
+def found(program, method, rows, seconds):
+    """A certificate and the user seconds that it takes to find it."""
+    return run([program, 'synth', '--method', method, '--conflicts', '10000000'], tables_of(rows), seconds)
+
+
 def measured(program, method, rows, seconds):
     """The columns of a function and a method."""
-    found, time = run([program, 'synth', '--method', method, '--conflicts', '10000000'], tables_of(rows), seconds)
-    if found is None:
+    text, time = found(program, method, rows, seconds)
+    if text is None:
         return f'| more than {seconds} s | | | | |'
-    lines = found.decode().splitlines()
+    lines = text.decode().splitlines()
     additions = sum(1 for line in lines if is_addition(line))
-    verdict, again = run([program, 'recheck'], found, seconds)
+    verdict, again = run([program, 'recheck'], text, seconds)
     same = verdict is not None and verdict.decode().strip() == lines[-2]
-    return f'| {lines[-2]}{"" if same else " (recheck differs)"} | {additions:,} | {len(found):,} | {time:.2f} s | {again:.2f} s |'
+    return f'| {lines[-2]}{"" if same else " (recheck differs)"} | {additions:,} | {len(text):,} | {time:.2f} s | {again:.2f} s |'
+
+
+def peer_seconds(words, size, tables, seconds):
+    """What another solver takes for the `ssv` formula of so many steps."""
+    made = subprocess.run([sys.executable, os.path.join(HERE, 'make_formula.py'), '--dimacs', 'ssv', str(size),
+                           *tables.split()], stdout=subprocess.PIPE, check=True).stdout
+    with tempfile.NamedTemporaryFile(suffix='.cnf') as file:
+        file.write(made)
+        file.flush()
+        return statistics.median(run([*words, file.name], b'', seconds)[1] for _ in range(REPEATS))
+
+
+def by_method(program, method, rows, seconds, repeats):
+    """The user seconds and the additions of a method; None for both where it takes too long."""
+    runs = [found(program, method, rows, seconds) for _ in range(repeats)]
+    if any(text is None for text, _ in runs):
+        return None, None
+    lines = runs[0][0].decode().splitlines()
+    return statistics.median(time for _, time in runs), sum(map(is_addition, lines))
+
+
+def compared(program, least, tables, seconds):
+    """The columns of a larger function."""
+    ways = [by_method(program, method, tables.split(), seconds, REPEATS if method == 'ssv' else 1)
+            for method in METHODS[:3]]
+    peers = [sum(peer_seconds(words, size, tables, seconds) for size in (least - 1, least)) for words in PEERS]
+    times = [f'more than {seconds} s' if time is None else f'{time:.2f} s' for time, _ in ways]
+    additions = '; '.join('-' if number is None else f'{number:,}' for _, number in ways)
+    ratio = '-' if ways[0][0] is None else f'{ways[0][0] / min(peers):.2f}'
+    return f'| {" | ".join([*times, additions, *(f"{time:.2f} s" for time in peers), ratio])} |'
+
+
+def main_beside(program, seconds):
+    print('| Function | Steps | `ssv` | `select` | `fence` | Conflicts by these | minisat | cadical | `ssv` to the better |')
+    print('|---|---|---|---|---|---|---|---|---|')
+    for name, least, tables in [SMALL[-1], *LARGE]:
+        print(f'| {name} | {least} {compared(program, least, tables, seconds)}', flush=True)
 
 
 def main():
-    program, seconds = sys.argv[1], int(sys.argv[2]) if len(sys.argv) > 2 else 60
+    words = [word for word in sys.argv[1:] if word != '--beside']
+    program, seconds = words[0], int(words[1]) if len(words) > 1 else 60
+    if '--beside' in sys.argv:
+        main_beside(program, seconds)
+        return
     print('| Function | Method | Verdict | Conflicts | Bytes | Find | Recheck |')
     print('|---|---|---|---|---|---|---|')
     for name, _, tables in SMALL:
