@@ -1,13 +1,13 @@
 #!/usr/bin/env python3
 """synth.py PROGRAM [SECONDS] [--beside]: finds the fewest steps of some functions by PROGRAM, by each method,
-rechecks each certificate, and prints a table: the verdict, the conflicts of the solver (each adds a
-clause to a log), the bytes of the certificate, user seconds to find and to recheck. A search that takes
+rechecks each certificate, and prints a table: the verdict, the additions in the certificate (one for each
+conflict of the sizes without a chain), its bytes, user seconds to find and to recheck. A search that takes
 longer than SECONDS (60) is given up.
 
-With --beside it finds those of larger functions, and prints the user seconds of the methods (of `ssv` the median
-of five runs), the additions in their certificates, and the user seconds of minisat and cadical, which decide the
-`ssv` formulas of the last two sizes alone (each the median of five runs). The last column is the time of `ssv` by
-that of the better of the two."""
+With --beside it finds the fewest steps of larger functions and of the last small one, and prints the user
+seconds of the methods (of `ssv` the median of five runs), the additions in their certificates, and the user
+seconds of minisat and cadical, which decide the `ssv` formulas of the last two sizes alone (each the median of
+five runs). The last column is the time of `ssv` by that of the better of the two."""
 import os
 import resource
 import statistics
@@ -62,13 +62,14 @@ def measured(program, method, rows, seconds):
 
 
 def peer_seconds(words, size, tables, seconds):
-    """What another solver takes for the `ssv` formula of so many steps."""
+    """What another solver takes for the `ssv` formula of so many steps; SECONDS where that is too long."""
     made = subprocess.run([sys.executable, os.path.join(HERE, 'make_formula.py'), '--dimacs', 'ssv', str(size),
                            *tables.split()], stdout=subprocess.PIPE, check=True).stdout
     with tempfile.NamedTemporaryFile(suffix='.cnf') as file:
         file.write(made)
         file.flush()
-        return statistics.median(run([*words, file.name], b'', seconds)[1] for _ in range(REPEATS))
+        runs = [run([*words, file.name], b'', seconds) for _ in range(REPEATS)]
+        return statistics.median(seconds if text is None else time for text, time in runs)
 
 
 def by_method(program, method, rows, seconds, repeats):
@@ -92,7 +93,7 @@ def compared(program, least, tables, seconds):
 
 
 def main_beside(program, seconds):
-    print('| Function | Steps | `ssv` | `select` | `fence` | Conflicts by these | minisat | cadical | `ssv` to the better |')
+    print('| Function | Steps | `ssv` | `select` | `fence` | Additions by these | minisat | cadical | `ssv` to the better |')
     print('|---|---|---|---|---|---|---|---|---|')
     for name, least, tables in [SMALL[-1], *LARGE]:
         print(f'| {name} | {least} {compared(program, least, tables, seconds)}', flush=True)
@@ -104,7 +105,7 @@ def main():
     if '--beside' in sys.argv:
         main_beside(program, seconds)
         return
-    print('| Function | Method | Verdict | Conflicts | Bytes | Find | Recheck |')
+    print('| Function | Method | Verdict | Additions | Bytes | Find | Recheck |')
     print('|---|---|---|---|---|---|---|')
     for name, _, tables in SMALL:
         for method in METHODS:

@@ -1,10 +1,10 @@
 //! Which variable a search decides on, and with which sign. It is a variable without a value whose score is
 //! greatest, where the variables of late conflicts score high (Moskewicz and others, "Chaff", 2001; Eén and
 //! Sörensson, "An extensible SAT-solver", 2003), and it gets the value that it had last (Pipatsrisawat and
-//! Darwiche, "A lightweight component caching scheme for satisfiability solvers", 2007). A part of
-//! that score goes to the variables of the reasons of a learnt clause's literals, for each reason that they stand
-//! in (after the reason side rate of Liang, Ganesh, Poupart and Czarnecki, "Learning rate based branching
-//! heuristic for SAT solvers", 2016).
+//! Darwiche, "A lightweight component caching scheme for satisfiability solvers", 2007). Half of
+//! what a conflict adds goes besides to the variables of the reasons of the learnt clause's other literals, once
+//! for each reason (after the reason side rate of Liang, Ganesh, Poupart and Czarnecki, "Learning rate based
+//! branching heuristic for SAT solvers", 2016).
 //!
 //! Going back puts the variables that lose their values into the heap again, and only decisions take out
 //! any. So a heap that is empty says that all variables have values.
@@ -20,7 +20,7 @@ use std::alloc::{AllocError, Global};
 use trail_core::Trail;
 use var_heap::VarHeap;
 
-/// What the variables of the first conflict score.
+/// What the first conflict adds to the scores of the variables that it marks.
 const FIRST_STEP: u64 = 1 << 40;
 
 /// Where all scores are halved, and the step with them.
@@ -29,7 +29,7 @@ const GREATEST_STEP: u64 = 1 << 56;
 /// With each conflict the step grows by this part of itself.
 const STEP_PART: u64 = 16;
 
-/// For a reason its variables score this part of the step.
+/// The variables of a reason score the step divided by this.
 const REASON_PART: u64 = 2;
 
 /// The variables to decide on, with their scores and signs.

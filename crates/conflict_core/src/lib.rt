@@ -9,9 +9,10 @@
 //! these are is guessed beforehand; each goes by the same step as those of the level, with its hint, so
 //! that a wrong guess makes a longer clause and no wrong one. Last, it resolves with the clauses of two
 //! literals of which one is that of the level: where the opposite of the other one is in the learnt clause,
-//! that opposite is taken out (as Audemard and Simon's Glucose does). All this takes time linear in the
-//! literals of the level, in those of the reasons that it goes over, and in the length of one list of blocking
-//! literals, and the marks are taken off as they came.
+//! that opposite is taken out (as Audemard and Simon's Glucose does for short clauses). All this takes time
+//! linear in the literals of the level, in those of the reasons that it goes over, and in the length of one list
+//! of blocking literals, but for a search by halves among the levels for each literal that goes. The marks are
+//! taken off as they came.
 //!
 //! ```text
 //! let learnt = analysis.learn(alloc, &trail, &clauses, conflict, &starts, start)?;

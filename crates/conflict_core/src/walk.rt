@@ -212,8 +212,8 @@ impl Walk {
 
     /// Takes off each marked literal that is false by a clause of two literals of which the other one is
     /// `first`; that clause is the hint. Only clauses are read whose blocking literal is the opposite of a
-    /// marked one. In a clause of two it is the other literal; contracts don't say so, and only the length
-    /// of the learnt clause rests on it.
+    /// marked one. In a clause of two it is the other literal. No contract says so, so that one could be
+    /// missed; none is taken off wrongly.
     pub(crate) fn shorten(&mut self, clauses: &ClauseDb, first: Lit) -> Result<(), AllocError>
         requires over { variable_of first ≤ clauses.now.vars }
         requires room { HasRoom clauses.now.vars self.old.marks }

@@ -10,7 +10,7 @@ use itoa::Buffer;
 use std::alloc::AllocError;
 use text_core::push_number;
 
-/// Appends ids, each with a blank behind it. One buffer does for all of them.
+/// Appends ids, each with a blank behind it.
 fn push_ids(text: &mut Vec<u8>, ids: &[u32]) -> Result<(), AllocError>
     ensures { OnOk result (text.new.items ≡ text.old.items ++ flat_map id_item ids.now) }
 {
@@ -68,8 +68,8 @@ fn push_line(text: &mut Vec<u8>, line: &Line) -> Result<(), AllocError>
     }
 }
 
-/// Room in which most lines stand: eight bytes for each number with its blank, and for the id and what ends
-/// the lists. A longer line grows.
+/// Room for a line whose numbers have seven characters at most: eight bytes for each with its blank, and 32
+/// for the id and what ends the lists. For a longer line the text grows.
 fn room(line: &Line) -> usize {
     let numbers = match line {
         Line::Add { lits, hints, .. } => lits.len().saturating_add(hints.len()),

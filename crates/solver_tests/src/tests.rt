@@ -125,7 +125,7 @@ fn formulas_are_refuted(rt: HostRuntime) -> Result<(), Fail> {
     Ok(())
 }
 
-/// The conflict of the decision 1 leads back to -3, -2 and -1, of which -2 follows from -1.
+/// The conflict behind the decisions 1 and 5 leads back to -3, -2 and -1, of which -2 follows from -1.
 const IMPLIED: [&[u8]; 4] = [
     b"1 -1 2 0 0",
     b"2 -5 3 0 0",
@@ -142,7 +142,7 @@ const SHORTENED: [&[u8]; 5] = [
     b"5 -3 1 0 0",
 ];
 
-/// The same with one literal more, by which it stays.
+/// The same with 2 in the last clause besides, so that -1 stays.
 const NOT_SHORTENED: [&[u8]; 5] = [
     b"1 -1 2 0 0",
     b"2 -5 3 0 0",
@@ -245,8 +245,8 @@ fn pigeons_have_no_holes(rt: HostRuntime) -> Result<(), Fail> {
 #[test]
 fn pigeons_take_so_many_steps(rt: HostRuntime) -> Result<(), Fail> {
     let alloc = rt.alloc();
-    // as many clauses as an independent program learns that takes the same steps: they tell of scores, signs
-    // and restarts, of which no contract speaks
+    // as many clauses as an independent program learns that takes the same steps: they tell of what scores, of
+    // signs and of when restarts come, which no contract says
     for (holes, lines) in [(4, 33), (6, 451)] {
         match solve(alloc, &pigeons(alloc, holes)?, 1000000)? {
             Solved::Unsat(log) => assert_eq!(rt; log.lines.len(), lines),
