@@ -1,6 +1,6 @@
 //! Certificates of the fewest steps as data: what the loop over sizes makes and the writer of
 //! certificates spells. Contracts see them as the values of `cert_theory`, which says when they are
-//! valid; here is no more than what they hold.
+//! valid; here is no more than what they hold, and whether a size is open.
 //!
 //! ```text
 //! let log = Log { lines: Vec::new(alloc) };

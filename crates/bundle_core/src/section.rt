@@ -1,4 +1,8 @@
+ghost use Rattle.std.specs.Prelude.{◌≡◌};
+ghost use Rattle.cert_theory.specs.Bundle as bundles;
+
 use crate::PartLog;
+use cert_theory::Ended;
 use std::marker::Model;
 
 /// The logs of one size, one for each of its parts in their order.
@@ -14,4 +18,13 @@ impl Model for Section {
     ghost Value = { theory.Section };
 
     ghost view = { λ s. record { size = s.size; parts = s.parts.items } };
+}
+
+impl Section {
+    /// Whether a part of the size is open: its log doesn't end with the empty clause, and no chain was found.
+    pub fn is_open(&self) -> bool
+        ensures { result ≡ bundles.is_open self.now }
+    {
+        self.parts.iter().any(|part| part.ended == Ended::Open)
+    }
 }

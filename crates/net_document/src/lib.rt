@@ -10,6 +10,8 @@
 #![tactic(auto)]
 
 mod document;
+mod laws;
 
 pub use document::{Document, LatchLine, Listed, Table};
+pub use laws::{laws_of_counts, laws_of_refusals};
 pub use net_core::{Cover, Cube, Latch, Name, NetError, Trigger};

@@ -1,12 +1,11 @@
 ghost use Rattle.std.specs.Prelude.{◌≡◌, ◌≤◌, ◌<◌, None, IfOk};
-ghost use Rattle.cert_theory.specs.Bundle as bundles;
 ghost use Rattle.cert_theory.specs.Bundle.{IsSection, IsEnding};
 ghost use Rattle.size_loop.specs.Advancing.{IfSection, IfEnded, behind, open_with};
 ghost use Rattle.size_loop.specs.Kept.{IsKeptSection};
 ghost use Rattle.size_loop.specs.State.{IsState};
 
 use crate::sizes::{SizeOutcome, search_size};
-use bundle_core::{Ended, Heading, Section, Verdict};
+use bundle_core::{Heading, Section, Verdict};
 use chain_core::Chain;
 use enc_frame::Method;
 use op_basis::Basis;
@@ -116,14 +115,7 @@ fn first_open(low: Option<u32>, section: &Section) -> Option<u32>
 {
     match low {
         Some(low) => Some(low),
-        None if is_open(section) => Some(section.size),
+        None if section.is_open() => Some(section.size),
         None => None,
     }
-}
-
-/// Whether a part of a section is open.
-fn is_open(section: &Section) -> bool
-    ensures { result ≡ bundles.is_open section.now }
-{
-    section.parts.iter().any(|part| part.ended == Ended::Open)
 }
