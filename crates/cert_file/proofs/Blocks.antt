@@ -8,7 +8,7 @@ use Rattle.chain_core.specs.declared.frame.Frame.{Frame}
 use Rattle.chain_core.specs.declared.error.ChainError.{ChainError}
 use Rattle.chain_core.specs.Block.{◌>>=◌, steps_from, step_at, outs_from, out_at, body_from}
 use Rattle.chain_core.specs.Reading as reading
-use Rattle.chain_core.proofs.BlockLoops.{steps_done}
+use Rattle.chain_core.specs.BlockLaws.{steps_done}
 use Rattle.cert_theory.specs.declared.data.Heading.{Heading}
 use Rattle.cert_theory.specs.declared.data.BundleError.{BundleError}
 use Rattle.cert_theory.specs.Judging.{with_block, frame_of}

@@ -6,7 +6,7 @@ use Rattle.chain_theory.specs.declared.data.Out.{Out}
 use Rattle.chain_core.specs.declared.frame.Frame.{Frame}
 use Rattle.chain_core.specs.declared.error.ChainError.{ChainError}
 use Rattle.chain_core.specs.Block.{steps_from, outs_from, body_from}
-use Rattle.chain_core.proofs.BlockLoops.{outs_done}
+use Rattle.chain_core.specs.BlockLaws.{outs_done}
 use Rattle.cert_theory.specs.declared.data.Heading.{Heading}
 use Rattle.cert_theory.specs.declared.data.BundleError.{BundleError}
 use Rattle.cert_theory.specs.Judging.{◌>>=◌, with_block, steps_at, frame_of, chain_at, chain_judged, behind_chain}

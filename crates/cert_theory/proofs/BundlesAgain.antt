@@ -14,7 +14,7 @@ use Rattle.sat_theory.specs.State.{start}
 use Rattle.tt_core.specs.Words.{Words, specification, cell_of}
 use Rattle.tt_core.specs.Spelling.{character, IsTableLine, SpellsTables}
 use Rattle.tt_core.specs.Tables as tables
-use Rattle.tt_core.proofs.Again.{tables_again}
+use Rattle.tt_core.specs.ReadBack.{tables_again}
 use Rattle.chain_core.specs.Spelling.{line}
 use Rattle.enc_theory.specs.declared.data.Method.{Method}
 use Rattle.cert_theory.specs.declared.data.Heading.{Heading}

@@ -23,9 +23,9 @@ use Rattle.chain_core.specs.Block.{number_in, counted, count_at, body_from, chai
 use Rattle.text_core.specs.Words.{after}
 use Rattle.chain_core.specs.Outside.{outside_from}
 use Rattle.chain_core.specs.Spelling.{line, count_text, chain_lines}
-use Rattle.chain_core.proofs.StepSearch.{judged}
-use Rattle.chain_core.proofs.WrittenBlocks.{lines_spelled}
-use Rattle.chain_core.proofs.WrittenLines.{count_back}
+use Rattle.chain_core.specs.OutsideLaws.{judged}
+use Rattle.chain_core.specs.WrittenBlockLaws.{lines_spelled}
+use Rattle.chain_core.specs.WrittenLineLaws.{count_back}
 use Rattle.cert_theory.specs.declared.data.Heading.{Heading}
 use Rattle.cert_theory.specs.declared.data.Verdict.{Verdict}
 use Rattle.cert_theory.specs.declared.data.Verdict.TheVariants as verdicts

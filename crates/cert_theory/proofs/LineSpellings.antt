@@ -20,11 +20,11 @@ use Rattle.lrat_text.specs.WholeLines.{line_spells}
 use Rattle.op_basis.specs.Text.{basis_of, basis_text, begins_letter, named, listed}
 use Rattle.op_basis.specs.Text as bases
 use Rattle.op_basis.specs.declared.error.BasisError.{BasisError}
-use Rattle.op_basis.proofs.Lists.{basis_some}
-use Rattle.op_basis.proofs.Members.{set_below}
+use Rattle.op_basis.specs.ListLaws.{basis_some}
+use Rattle.op_basis.specs.MemberLaws.{set_below}
 use Rattle.chain_core.specs.Block.{number_in}
 use Rattle.chain_core.specs.Spelling.{line}
-use Rattle.chain_core.proofs.WrittenLists.{line_is}
+use Rattle.chain_core.specs.WrittenListLaws.{line_is}
 use Rattle.enc_theory.specs.declared.data.Method.{Method}
 use Rattle.enc_theory.specs.declared.data.Method.TheVariants.{Plain, Ssv, Select, Fence}
 use Rattle.cert_theory.specs.declared.data.Ended.{Ended}

@@ -15,9 +15,9 @@ use Rattle.tt_core.specs.Spelling.{character, header_line, IsTableLine, SpellsTa
 use Rattle.tt_core.specs.Tables.{Read, row_fault, with_row, end_of, unless_fault, rows_of, behind_inputs, inputs_of, tables_of}
 use Rattle.tt_core.specs.declared.error.SpecError.{SpecError}
 use Rattle.tt_core.specs.declared.error.SpecError.TheVariants.{TooManyInputs, TooManyOutputs}
-use Rattle.tt_core.proofs.Keeps.{kept}
-use Rattle.tt_core.proofs.Spelled.{tables_spelled}
-use Rattle.chain_core.proofs.WrittenLists.{line_is}
+use Rattle.tt_core.specs.KeepLaws.{kept}
+use Rattle.tt_core.specs.SpelledLaws.{tables_spelled}
+use Rattle.chain_core.specs.WrittenListLaws.{line_is}
 use Rattle.cert_theory.specs.Spelling.{table_text, table_line, tables_lines}
 
 -- ---- what is read is a specification

@@ -26,7 +26,7 @@ use Rattle.op_basis.specs.Text.{name_of, list_below, with_word, word_text, text_
 use Rattle.op_basis.specs.Text as bases
 use Rattle.chain_core.specs.Steps.{IsSmallChain}
 use Rattle.chain_core.specs.Spelling.{line, chain_lines}
-use Rattle.chain_core.proofs.WrittenBlocks.{lines_back, block_written}
+use Rattle.chain_core.specs.WrittenBlockLaws.{lines_back, block_written}
 use Rattle.enc_theory.specs.declared.data.Method.{Method}
 use Rattle.enc_theory.specs.declared.data.Method.TheVariants.{Plain, Ssv, Select, Fence}
 use Rattle.cert_theory.specs.declared.data.Heading.{Heading}

@@ -7,15 +7,15 @@ use Rattle.text_core.specs.Lines.{Line, lines_of}
 use Rattle.tt_core.specs.Words.{Words, IsSpec, specification}
 use Rattle.tt_core.specs.Tables as tables
 use Rattle.tt_core.specs.declared.error.SpecError.{SpecError}
-use Rattle.tt_core.proofs.Spelled.{tables_spelled}
-use Rattle.tt_core.proofs.Again.{tables_again}
+use Rattle.tt_core.specs.SpelledLaws.{tables_spelled}
+use Rattle.tt_core.specs.ReadBack.{tables_again}
 use Rattle.chain_theory.specs.Chain.{Chain, IsChain}
 use Rattle.chain_core.specs.Block as block
 use Rattle.chain_core.specs.Steps.{IsSmallChain}
 use Rattle.chain_core.specs.Spelling.{chain_lines}
 use Rattle.chain_core.specs.declared.error.ChainError.{ChainError}
-use Rattle.chain_core.proofs.WrittenBlocks.{lines_read, lines_spelled}
-use Rattle.chain_core.proofs.WrittenLines.{both_true}
+use Rattle.chain_core.specs.WrittenBlockLaws.{lines_read, lines_spelled}
+use Rattle.chain_core.specs.WrittenLineLaws.{both_true}
 use Rattle.chain_app.specs.declared.agree.AgreeError.{AgreeError}
 use Rattle.chain_app.specs.declared.agree.AgreeError.TheVariants.{BadEnd}
 use Rattle.chain_app.specs.Agree.{Question, ◌>>=◌, tables_in, chain_in, nothing_in, end_in, chain_behind, question_in, question_of}

@@ -5,7 +5,7 @@ use Rattle.text_core.specs.Lines.{lines_of}
 use Rattle.tt_core.specs.Words.{Words, IsSpec, specification}
 use Rattle.tt_core.specs.Spelling.{SpellsTables}
 use Rattle.tt_core.specs.declared.error.SpecError.{SpecError}
-use Rattle.tt_core.proofs.Again.{tables_again}
+use Rattle.tt_core.specs.ReadBack.{tables_again}
 use Rattle.op_basis.specs.Basis.{members}
 use Rattle.cert_theory.specs.declared.data.Heading.{Heading}
 use Rattle.cert_theory.specs.declared.data.Verdict.{Verdict}

@@ -2,7 +2,7 @@
 use Rattle.std.proofs.Common.{◌≡◌, ℕ, List, [], ◌∷◌, ◌++◌, length, Option, Some, Result, Ok, Err, refl, sym, ap, subst, ◌∙◌, arith}
 use Rattle.std.specs.Prelude.{OnOk, OnErr, codes}
 use Rattle.std.specs.Borrow.{Bor}
-use Rattle.port_io.proofs.Texts.{appended-none, front_whole}
+use Rattle.port_io.specs.TextLaws.{appended-none, front_whole}
 use Rattle.port_io.specs.Bytes.{appended, Appends, AppendsFront}
 use Rattle.port_io.specs.Faults.{Rose}
 use Rattle.port_io.specs.declared.writing.WriteFault.{WriteFault}

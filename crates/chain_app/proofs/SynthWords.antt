@@ -8,7 +8,7 @@ use Rattle.text_core.specs.Numbers.{number_up_to}
 use Rattle.text_core.specs.ReadBack.{number_spells}
 use Rattle.op_basis.specs.Text.{basis_of, all_set}
 use Rattle.op_basis.specs.declared.error.BasisError.{BasisError}
-use Rattle.op_basis.proofs.Lists.{basis_some}
+use Rattle.op_basis.specs.ListLaws.{basis_some}
 use Rattle.enc_theory.specs.declared.data.Method.{Method}
 use Rattle.synth_core.specs.Asking.{IsAsked}
 use Rattle.command_line.specs.declared.command.Command.{Command}

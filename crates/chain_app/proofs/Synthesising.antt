@@ -10,7 +10,7 @@ use Rattle.tt_core.specs.Spelling.{SpellsTables}
 use Rattle.tt_core.specs.Gives.{Fails}
 use Rattle.tt_core.specs.declared.error.SpecError.{SpecError}
 use Rattle.tt_core.specs.declared.error.SpecError.TheVariants as tables
-use Rattle.tt_core.proofs.Again.{tables_again}
+use Rattle.tt_core.specs.ReadBack.{tables_again}
 use Rattle.cert_theory.specs.declared.data.Verdict.{Verdict}
 use Rattle.cert_theory.specs.declared.data.Verdict.TheVariants as verdicts
 use Rattle.synth_core.specs.declared.asked.Asked.{Asked}

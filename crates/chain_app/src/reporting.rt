@@ -30,7 +30,7 @@ pub(crate) fn send<O: Sink, N: Sink>(out: &mut O, note: &mut N, reply: Reply) ->
 }
 
 /// Writes texts, one after the other.
-#[tactic(auto, unfolding(crate::specs::Outside::joined), using(port_io::proofs::Texts::texts, port_io::proofs::Counts::counts))]
+#[tactic(auto, unfolding(crate::specs::Outside::joined), using(port_io::specs::TextLaws::texts, port_io::specs::CountLaws::counts))]
 fn write_pieces<O: Sink>(sink: &mut O, pieces: &[&[u8]]) -> Result<(), WriteFault>
     ensures all { OnOk result (Appends (O.written sink.old) (O.written sink.new) (joined pieces.now)) }
     ensures front { AppendsFront (O.written sink.old) (O.written sink.new) (joined pieces.now) }

@@ -6,7 +6,7 @@ use Rattle.chain_theory.specs.Value.{extended, step_value, values_after, values_
 use Rattle.chain_theory.specs.Specification.{input}
 use Rattle.std.specs.Prelude.{slice_index_or}
 use Rattle.chain_core.specs.Bits.{bits}
-use Rattle.chain_core.proofs.StepLists.{first_step, other_steps}
+use Rattle.chain_core.specs.StepLaws.{first_step, other_steps}
 
 -- the same at one place
 bits_set_at : (values : List Bool) (place : ℕ) (bit : Bool) (p : ℕ) → place < length values → bits (set values place bit) p ≡ extended (bits values) place bit p

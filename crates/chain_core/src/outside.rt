@@ -28,7 +28,7 @@ fn outside_from(first: u32, steps: &[Step], basis: Basis) -> Option<u32>
 }
 
 /// The first place whose operator isn't in a basis. None where the chain is over the basis.
-#[tactic(auto, using(crate::proofs::StepSearch::judging))]
+#[tactic(auto, using(crate::specs::OutsideLaws::judging))]
 pub fn first_outside(chain: &Chain, basis: Basis) -> Option<u32>
     ensures { IsJudged (members basis) chain.now result }
 {

@@ -18,7 +18,7 @@ use std::alloc::{AllocError, Global};
 use text_core::next_line;
 
 /// Adds a step that stands at the next place to the steps before it.
-#[tactic(auto, using(crate::proofs::BlockLoops::more_steps))]
+#[tactic(auto, using(crate::specs::BlockLaws::more_steps))]
 pub fn add_step(steps: &mut Vec<Step>, n: u32, step: Step) -> Result<(), AllocError>
     requires steps { AreSteps n (steps_of steps.old.items) }
     requires step { IsStepAt (n + 1 + length steps.old.items) (step_of step) }
@@ -30,7 +30,7 @@ pub fn add_step(steps: &mut Vec<Step>, n: u32, step: Step) -> Result<(), AllocEr
 }
 
 /// The steps of the lines, and what stands behind them.
-#[tactic(auto, using(crate::proofs::BlockLoops::steps_loop), unfolding(crate::specs::Block::steps_from))]
+#[tactic(auto, using(crate::specs::BlockLaws::steps_loop), unfolding(crate::specs::Block::steps_from))]
 fn steps_from<'a>(
     alloc: Global,
     frame: &Frame,
@@ -58,7 +58,7 @@ fn steps_from<'a>(
 }
 
 /// The outs of the lines, and what stands behind them.
-#[tactic(auto, using(crate::proofs::BlockLoops::outs_loop), unfolding(crate::specs::Block::outs_from))]
+#[tactic(auto, using(crate::specs::BlockLaws::outs_loop), unfolding(crate::specs::Block::outs_from))]
 fn outs_from<'a>(
     alloc: Global,
     frame: &Frame,
@@ -87,7 +87,7 @@ fn outs_from<'a>(
 }
 
 /// The chain of all lines but the first, and what stands behind them.
-#[tactic(auto, using(crate::proofs::BlockLoops::resting), unfolding(crate::specs::Block::body_from))]
+#[tactic(auto, using(crate::specs::BlockLaws::resting), unfolding(crate::specs::Block::body_from))]
 fn body_from<'a>(
     alloc: Global,
     frame: &Frame,
@@ -113,7 +113,7 @@ fn body_from<'a>(
 /// number that the block's first line has in the whole text.
 ///
 /// Lines are judged in their order, and the first fault is told with its line.
-#[tactic(auto, using(crate::proofs::BlockLoops::resting), unfolding(crate::specs::Block::chain_of))]
+#[tactic(auto, using(crate::specs::BlockLaws::resting), unfolding(crate::specs::Block::chain_of))]
 pub fn read_chain(
     alloc: Global,
     bytes: &[u8],

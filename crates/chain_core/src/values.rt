@@ -23,7 +23,7 @@ fn inputs_into(values: &mut [bool], n: u32, row: u32)
 }
 
 /// The values of the places of the steps, each from those in front of it.
-#[tactic(auto, using(crate::proofs::StepLists::standing), unfolding(chain_theory::specs::Value::values_after))]
+#[tactic(auto, using(crate::specs::StepLaws::standing), unfolding(chain_theory::specs::Value::values_after))]
 fn steps_into(values: &mut [bool], n: u32, steps: &[Step])
     requires steps { AreSteps n (steps_of steps.now) }
     requires room { n + length steps.now < length values.old }

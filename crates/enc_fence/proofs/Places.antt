@@ -7,7 +7,7 @@ use Rattle.std.proofs.lemmas.List.{get_or-set_same, get_or-set_other, get_or-rep
 use Rattle.std.specs.List.{range_with_len}
 use Rattle.enc_frame.proofs.Ranges.{map-turn_from}
 use Rattle.chain_theory.specs.Chain.{Step}
-use Rattle.chain_core.proofs.StepLists.{first_step}
+use Rattle.chain_core.specs.StepLaws.{first_step}
 use Rattle.chain_laws.specs.Follow.{with_own, run, own_has, other_has}
 use Rattle.chain_laws.specs.Levels.{step_level, level_in}
 use Rattle.enc_fence.specs.Heights.{heights}

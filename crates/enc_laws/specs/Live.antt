@@ -15,9 +15,9 @@ use Rattle.chain_theory.specs.declared.data.Out.TheVariants.{Zero, One, Place}
 use Rattle.tt_core.specs.Words.{Words, specification, cell_of}
 use Rattle.tt_core.specs.Live.{trivial_value, fits, trivial_of, IsTrivial, is_none, is_live, live_among, live_outputs, live_words}
 use Rattle.tt_core.specs.Laws.{fits_meets, meets_fits}
-use Rattle.tt_core.proofs.Fits.{part_count, part_cells}
-use Rattle.tt_core.proofs.FirstFit.{none_fits, none_where_none_fits, found_first}
-use Rattle.tt_core.proofs.LiveOutputs.{contained_live}
+use Rattle.tt_core.specs.LiveLaws.{part_count, part_cells}
+use Rattle.tt_core.specs.FirstFitLaws.{none_fits, none_where_none_fits, found_first}
+use Rattle.tt_core.specs.LiveOutputLaws.{contained_live}
 use Rattle.enc_theory.specs.Decode.{restored_out, restored_at, restored}
 
 -- ---- live outputs

@@ -1,4 +1,2 @@
 pub mod Every
 pub mod Items
-pub mod Lists
-pub mod Members

@@ -3,5 +3,7 @@ pub mod Basis
 pub mod Closed
 pub mod Laws
 pub mod Left
+pub mod ListLaws
+pub mod MemberLaws
 pub mod ReadBack
 pub mod Text

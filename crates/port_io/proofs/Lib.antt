@@ -1,3 +1,1 @@
-pub mod Counts
 mod Pieces
-pub mod Texts

@@ -1,4 +1,6 @@
 pub mod Bytes
+pub mod CountLaws
 pub mod Faults
 pub mod Memory
 pub mod Ports
+pub mod TextLaws

@@ -32,7 +32,7 @@ const PIECE: usize = 4096;
 
 /// Reads all bytes to the end of the input. After an error the bytes that were read are lost, and the rest
 /// is left.
-#[tactic(auto, using(crate::proofs::Texts::taking))]
+#[tactic(auto, using(crate::specs::TextLaws::taking))]
 pub fn read_all<S: Source>(
     alloc: Global,
     source: &mut S,

@@ -14,7 +14,7 @@ pub enum WriteFault {
 
 /// Writes all of `bytes`, in as many calls as the sink needs. After an error a front of them may stand
 /// written.
-#[tactic(auto, using(crate::proofs::Texts::writing))]
+#[tactic(auto, using(crate::specs::TextLaws::writing))]
 pub fn write_all<O: Sink>(sink: &mut O, bytes: &[u8]) -> Result<(), WriteFault>
     ensures all { OnOk result (Appends (O.written sink.old) (O.written sink.new) bytes.now) }
     ensures front { AppendsFront (O.written sink.old) (O.written sink.new) bytes.now }

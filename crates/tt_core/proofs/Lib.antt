@@ -1,10 +1,2 @@
-pub mod Again
-pub mod CellWords
 pub mod Exchange
-pub mod FirstFit
-pub mod Fits
 pub mod Judged
-pub mod Keeps
-pub mod LiveOutputs
-pub mod Rows
-pub mod Spelled

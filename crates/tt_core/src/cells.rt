@@ -10,7 +10,7 @@ pub fn are_cells(text: &[u8]) -> bool
 }
 
 /// The words of values and of specified rows that a table line spells.
-#[tactic(auto, using(crate::proofs::CellWords::growing), unfolding(crate::specs::Cells::word_of))]
+#[tactic(auto, using(crate::specs::CellWordLaws::growing), unfolding(crate::specs::Cells::word_of))]
 pub(crate) fn row_words(text: &[u8]) -> (u64, u64)
     requires { length text.now ≤ 64 }
     ensures { result ≡ (word_of on_bit text.now, word_of care_bit text.now) }

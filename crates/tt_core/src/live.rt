@@ -20,7 +20,7 @@ fn trivial_value(n: u32, t: u32, out: Out) -> bool
 }
 
 /// Whether a trivial out meets all cells of output `h`.
-#[tactic(auto, using(crate::proofs::Fits::meeting))]
+#[tactic(auto, using(crate::specs::LiveLaws::meeting))]
 fn fits(spec: &Spec, h: u32, out: Out) -> bool
     requires { (1 ≤ h) × (h ≤ length spec.now.on) }
     ensures { result ≡ fits_of (specification spec.now) h out }
@@ -36,7 +36,7 @@ fn fits(spec: &Spec, h: u32, out: Out) -> bool
 
 /// The first of the outs 0, 1, x1, .., xn that agrees with output `h` wherever it is specified; no
 /// such out where the output is live. Outputs are numbered from 1.
-#[tactic(auto, unfolding(crate::specs::Live::first_fit), using(crate::proofs::Fits::inputs))]
+#[tactic(auto, unfolding(crate::specs::Live::first_fit), using(crate::specs::LiveLaws::inputs))]
 pub fn trivial(spec: &Spec, h: u32) -> Option<Out>
     requires { (1 ≤ h) × (h ≤ length spec.now.on) }
     ensures { result ≡ trivial_of (specification spec.now) h }
@@ -88,7 +88,7 @@ fn push_output(
 }
 
 /// The specification of the live outputs alone, those that are no trivial out, in their order.
-#[tactic(auto, using(crate::proofs::Fits::living))]
+#[tactic(auto, using(crate::specs::LiveLaws::living))]
 pub fn live_part(alloc: Global, spec: &Spec) -> Result<Spec, AllocError>
     ensures words { IfOk result (λ part. part ≡ live_words spec.now) }
     // Its output number i is that of the i-th live output.

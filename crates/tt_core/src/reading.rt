@@ -36,7 +36,7 @@ pub fn inputs(text: &[u8], ended: bool) -> Option<u32>
 }
 
 /// Adds the output that a table line of `0`, `1` and `-` spells to the words of the outputs before it.
-#[tactic(auto, using(crate::proofs::Rows::row_below))]
+#[tactic(auto, using(crate::specs::RowLaws::row_below))]
 pub fn push_row(
     n: u32,
     on: &mut Vec<u64>,
@@ -73,7 +73,7 @@ fn finish(n: u32, on: Vec<u64>, care: Vec<u64>, used: usize) -> Result<Tables, S
 }
 
 /// Reads as the grammar says.
-#[tactic(auto, unfolding(crate::specs::Tables::rows_of), using(crate::proofs::Rows::row_below))]
+#[tactic(auto, unfolding(crate::specs::Tables::rows_of), using(crate::specs::RowLaws::row_below))]
 fn read(alloc: Global, bytes: &[u8]) -> Result<Tables, SpecError>
     ensures exact { Gives (read_of bytes.now) result (tables_of (lines_of bytes.now)) }
     ensures used { IfOk result (λ x. x.used ≤ length bytes.now) }

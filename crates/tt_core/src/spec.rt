@@ -66,7 +66,7 @@ impl Spec {
 }
 
 /// What the specification asks of output `h`, numbered from 1, on row `t`.
-#[tactic(auto, using(crate::proofs::Rows::row_below))]
+#[tactic(auto, using(crate::specs::RowLaws::row_below))]
 pub fn row(spec: &Spec, h: u32, t: u32) -> Cell
     requires output { (1 ≤ h) × (h ≤ length spec.now.on) }
     requires row { t < 2 ^ spec.now.n }

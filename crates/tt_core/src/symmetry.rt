@@ -42,7 +42,7 @@ fn exchanged(n: u32, p: u32, q: u32, t: u32) -> u32
 }
 
 /// Whether output `h` stays the same where `p` and `q` are exchanged.
-#[tactic(auto, using(crate::proofs::Rows::row_below))]
+#[tactic(auto, using(crate::specs::RowLaws::row_below))]
 fn is_symmetric_output(spec: &Spec, p: u32, q: u32, h: u32) -> bool
     requires exchange { (p ≤ spec.now.n) × (q ≤ spec.now.n) }
     requires output { (1 ≤ h) × (h ≤ length spec.now.on) }

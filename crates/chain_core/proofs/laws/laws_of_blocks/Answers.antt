@@ -1,4 +1,4 @@
-use Rattle.chain_core.proofs.WrittenBlocks.{block_back, block_spells}
+use Rattle.chain_core.specs.WrittenBlockLaws.{block_back, block_spells}
 use Rattle.chain_core.proofs.laws.laws_of_blocks.Goals as goal
 
 pub returns : goal.returns

@@ -2,7 +2,7 @@ use Rattle.std.proofs.Common.{◌+◌, ◌<◌, arith, ap, length, ◌∙◌}
 use Rattle.chain_core.specs.Steps.{step_of, steps_of}
 use Rattle.chain_core.specs.Bits.{bits}
 use Rattle.chain_core.proofs.Places.{values_after-set}
-use Rattle.chain_core.proofs.StepLists.{other_steps}
+use Rattle.chain_core.specs.StepLaws.{other_steps}
 use Rattle.chain_core.proofs.values.steps_into.Goals as goal
 
 pub loop-step-preserved : goal.loop-step-preserved

@@ -1,5 +1,5 @@
-use Rattle.op_basis.proofs.Lists.{basis_some}
-use Rattle.op_basis.proofs.Members.{members_among, items_spelled, items_once, set_below}
+use Rattle.op_basis.specs.ListLaws.{basis_some}
+use Rattle.op_basis.specs.MemberLaws.{members_among, items_spelled, items_once, set_below}
 use Rattle.op_basis.proofs.laws.list_is_its_operators.Goals as goal
 
 pub returns-clause-members : goal.returns-clause-members

@@ -1,4 +1,4 @@
-use Rattle.op_basis.proofs.Lists.{read_named, read_listed}
+use Rattle.op_basis.specs.ListLaws.{read_named, read_listed}
 use Rattle.op_basis.proofs.text.read_basis.Goals as goal
 
 pub returns-in-Some-clause-some : goal.returns-in-Some-clause-some

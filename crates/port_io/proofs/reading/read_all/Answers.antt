@@ -1,6 +1,6 @@
 use Rattle.std.proofs.Common.{◌++◌, Ok, take, arith, ap, ◌∙◌}
 use Rattle.std.proofs.lemmas.Grind.{common_steps}
-use Rattle.port_io.proofs.Texts.{all_taken, none_left, length_taken, prepended-none, prepended-twice}
+use Rattle.port_io.specs.TextLaws.{all_taken, none_left, length_taken, prepended-none, prepended-twice}
 use Rattle.port_io.proofs.reading.read_all.Goals as goal
 
 pub returns-in-Ok-eq0-clause-all : goal.returns-in-Ok-eq0-clause-all

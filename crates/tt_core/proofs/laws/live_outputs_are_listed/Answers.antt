@@ -1,4 +1,4 @@
-use Rattle.tt_core.proofs.LiveOutputs.{among_rises, contained_live, live_contained}
+use Rattle.tt_core.specs.LiveOutputLaws.{among_rises, contained_live, live_contained}
 use Rattle.tt_core.proofs.laws.live_outputs_are_listed.Goals as goal
 
 pub returns-clause-rising : goal.returns-clause-rising

@@ -1,4 +1,4 @@
-use Rattle.tt_core.proofs.FirstFit.{none_fits, none_where_none_fits, found_first}
+use Rattle.tt_core.specs.FirstFitLaws.{none_fits, none_where_none_fits, found_first}
 use Rattle.tt_core.proofs.laws.trivial_is_first_fit.Goals as goal
 
 pub returns-clause-none : goal.returns-clause-none

@@ -1,5 +1,5 @@
 use Rattle.std.proofs.Common.{rules}
-use Rattle.tt_core.proofs.Fits.{part_count, part_cells}
+use Rattle.tt_core.specs.LiveLaws.{part_count, part_cells}
 use Rattle.tt_core.proofs.live.live_part.Goals as goal
 
 pub returns-clause-outputs : goal.returns-clause-outputs

@@ -1,5 +1,5 @@
 use Rattle.std.proofs.Common.{rules}
-use Rattle.tt_core.proofs.Fits.{kept_copy}
+use Rattle.tt_core.specs.LiveLaws.{kept_copy}
 use Rattle.tt_core.proofs.live.push_output.Goals as goal
 
 pub returns-clause-spec : goal.returns-clause-spec

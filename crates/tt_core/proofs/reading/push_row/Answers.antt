@@ -1,5 +1,5 @@
 use Rattle.std.proofs.Common.{rules}
-use Rattle.tt_core.proofs.Keeps.{kept}
+use Rattle.tt_core.specs.KeepLaws.{kept}
 use Rattle.tt_core.proofs.reading.push_row.Goals as goal
 
 pub returns-clause-spec : goal.returns-clause-spec

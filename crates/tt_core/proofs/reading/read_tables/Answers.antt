@@ -2,9 +2,9 @@ use Rattle.text_core.specs.Lines.{lines_of}
 use Rattle.tt_core.specs.Spelling.{SpellsTables}
 use Rattle.tt_core.specs.Tables.{Read, tables_of}
 use Rattle.tt_core.specs.Words.{specification}
-use Rattle.tt_core.proofs.Again.{tables_again}
+use Rattle.tt_core.specs.ReadBack.{tables_again}
 use Rattle.tt_core.proofs.Judged.{gives_value, if_given}
-use Rattle.tt_core.proofs.Spelled.{tables_spelled}
+use Rattle.tt_core.specs.SpelledLaws.{tables_spelled}
 use Rattle.tt_core.proofs.reading.read_tables.Goals as goal
 
 pub returns-clause-spelled : goal.returns-clause-spelled

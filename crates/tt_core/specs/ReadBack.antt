@@ -18,9 +18,9 @@ use Rattle.tt_core.specs.Words.{Words, IsSpec, cell_of, specification}
 use Rattle.tt_core.specs.declared.error.SpecError.{SpecError}
 use Rattle.tt_core.specs.Tables.{Read, inputs_of, row_fault, with_row, rows_of, tables_of}
 use Rattle.tt_core.specs.Spelling.{character, header_line, IsTableLine, EndsTables, SpellsTables}
-use Rattle.tt_core.proofs.CellWords.{on_is_bit, care_is_bit}
-use Rattle.tt_core.proofs.Keeps.{word_bit, word_none}
-use Rattle.tt_core.proofs.Spelled.{IsRow, on_word, care_word}
+use Rattle.tt_core.specs.CellWordLaws.{on_is_bit, care_is_bit}
+use Rattle.tt_core.specs.KeepLaws.{word_bit, word_none}
+use Rattle.tt_core.specs.SpelledLaws.{IsRow, on_word, care_word}
 
 -- digits that agree as tests agree as numbers
 same_digit : (a b : ℕ) → a < 2 → b < 2 → (a == 1) ≡ (b == 1) → a ≡ b

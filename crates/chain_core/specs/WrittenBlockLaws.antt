@@ -14,9 +14,9 @@ use Rattle.chain_core.specs.Steps.{IsSmallChain}
 use Rattle.chain_core.specs.Block.{number_in, counted, count_at, steps_from, outs_from, Read, body_from, chain_of}
 use Rattle.chain_core.specs.declared.error.ChainError.TheVariants.{BadCount}
 use Rattle.chain_core.specs.Spelling.{line, count_text, step_lines, out_line, chain_lines, chain_text, Spells}
-use Rattle.chain_core.proofs.StepLists.{first_step, other_steps}
-use Rattle.chain_core.proofs.WrittenLines.{free_step, free_out, count_back, count_spells, free_count}
-use Rattle.chain_core.proofs.WrittenLists.{ok_is, test_ok, bind_ok, line_is, steps_back, steps_spell, outs_back, outs_spell}
+use Rattle.chain_core.specs.StepLaws.{first_step, other_steps}
+use Rattle.chain_core.specs.WrittenLineLaws.{free_step, free_out, count_back, count_spells, free_count}
+use Rattle.chain_core.specs.WrittenListLaws.{ok_is, test_ok, bind_ok, line_is, steps_back, steps_spell, outs_back, outs_spell}
 
 -- ---- the first line
 

@@ -8,7 +8,7 @@ use Rattle.chain_theory.specs.Chain as chain
 use Rattle.chain_theory.specs.Chain.{AreSteps, IsStepAt}
 use Rattle.chain_core.specs.declared.frame.Frame.{Frame}
 use Rattle.chain_core.specs.Block.{steps_from, outs_from}
-use Rattle.chain_core.proofs.StepLists.{steps_push}
+use Rattle.chain_core.specs.StepLaws.{steps_push}
 
 pub ruleset resting = (common_steps, whole_rest, rest_of_rest)
 

@@ -16,7 +16,7 @@ use Rattle.op_basis.specs.Closed.{of_values}
 use Rattle.op_basis.specs.Laws.{operator_values, operator_low}
 use Rattle.op_basis.specs.ReadBack.{operator_back}
 use Rattle.op_basis.specs.Text.{◌>>=◌, same_text, items_of, bit_in, of_bits, operator_in, with_operator, with_item, listed, begins_letter, basis_of, character, word_text}
-use Rattle.op_basis.proofs.Lists.{or_has}
+use Rattle.op_basis.specs.ListLaws.{or_has}
 
 -- ---- sets with one operator more
 

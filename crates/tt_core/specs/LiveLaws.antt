@@ -11,8 +11,8 @@ use Rattle.chain_theory.specs.declared.data.Out.{Out}
 use Rattle.chain_theory.specs.declared.data.Out.TheVariants.{Place}
 use Rattle.tt_core.specs.Words.{Words, IsSpec, specification, cell_of}
 use Rattle.tt_core.specs.Live.{trivial_value, fits_rows, inputs_from, is_live, live_among, live_outputs, words_of, live_words}
-use Rattle.tt_core.proofs.Keeps.{pairs_push}
-use Rattle.tt_core.proofs.Rows.{row_below}
+use Rattle.tt_core.specs.KeepLaws.{pairs_push}
+use Rattle.tt_core.specs.RowLaws.{row_below}
 
 -- no row yet
 pub fits_none : (s : Specification) (h : ℕ) (out : Out) → fits_rows s h out 0 ≡ true

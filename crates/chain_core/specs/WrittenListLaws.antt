@@ -14,9 +14,9 @@ use Rattle.chain_core.specs.Block.{◌>>=◌, step_in, judged_step, step_at, ste
 use Rattle.chain_core.specs.declared.error.ChainError.{ChainError}
 use Rattle.chain_core.specs.declared.error.ChainError.TheVariants.{BadStep, ForwardPlace, BadOut}
 use Rattle.chain_core.specs.Spelling.{line, step_text, step_lines, out_text, out_line}
-use Rattle.chain_core.proofs.StepLists.{first_step, other_steps, no_steps, more_in_front}
-use Rattle.chain_core.proofs.BlockLoops.{steps_done, outs_done}
-use Rattle.chain_core.proofs.WrittenLines.{both_true, step_back, step_spells, out_back, out_spells}
+use Rattle.chain_core.specs.StepLaws.{first_step, other_steps, no_steps, more_in_front}
+use Rattle.chain_core.specs.BlockLaws.{steps_done, outs_done}
+use Rattle.chain_core.specs.WrittenLineLaws.{both_true, step_back, step_spells, out_back, out_spells}
 
 -- ---- tests and steps that did not fail
 

@@ -7,7 +7,7 @@ use Rattle.std.specs.Int.{bit_at}
 use Rattle.chain_theory.specs.Operator.{digit}
 use Rattle.tt_core.specs.Cells.{on_bit, care_bit, word_of}
 use Rattle.tt_core.specs.Words.{IsSpec}
-use Rattle.tt_core.proofs.CellWords.{IsBit, on_is_bit, care_is_bit}
+use Rattle.tt_core.specs.CellWordLaws.{IsBit, on_is_bit, care_is_bit}
 
 -- the digits of a word are the bits of its characters
 pub word_bit : (bit : ℕ → ℕ) → IsBit bit → (xs : List ℕ) (t d : ℕ) → t < length xs → bit_at (word_of bit xs) t ≡ bit (get_or xs t d)

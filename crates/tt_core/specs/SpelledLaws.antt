@@ -15,8 +15,8 @@ use Rattle.tt_core.specs.Words.{Words, specification}
 use Rattle.tt_core.specs.declared.error.SpecError.{SpecError}
 use Rattle.tt_core.specs.Tables.{Read, inputs_of, row_fault, with_row, end_of, unless_fault, rows_of, behind_inputs, tables_of}
 use Rattle.tt_core.specs.Spelling.{character, header_line, IsTableLine, EndsTables, SpellsTables}
-use Rattle.tt_core.proofs.CellWords.{on_is_bit, care_is_bit}
-use Rattle.tt_core.proofs.Keeps.{word_bit}
+use Rattle.tt_core.specs.CellWordLaws.{on_is_bit, care_is_bit}
+use Rattle.tt_core.specs.KeepLaws.{word_bit}
 
 -- a good table line
 pub record IsRow (n : ℕ) (l : Line) : Type 0 where
