@@ -1,0 +1,23 @@
+-- Names of methods.
+use Rattle.std.specs.Prelude.{ℕ, List, codes, nat_eq, Bool, Option, Some, None, if◌then◌else◌}
+use Rattle.std.specs.Cmp.Lexicographic.{pointwise}
+use Rattle.enc_theory.specs.declared.data.Method.{Method}
+use Rattle.enc_theory.specs.declared.data.Method.TheVariants.{Plain, Ssv, Select, Fence}
+
+abbrev pub method_text : Method → List ℕ
+method_text Plain = codes "plain"
+method_text Ssv = codes "ssv"
+method_text Select = codes "select"
+method_text Fence = codes "fence"
+
+abbrev pub is_name : List ℕ → Method → Bool
+is_name word method = pointwise nat_eq word (method_text method)
+
+-- the method of a name
+abbrev pub method_named : List ℕ → Option Method
+method_named word =
+    if is_name word Plain then Some Plain
+    else (if is_name word Ssv then Some Ssv
+    else (if is_name word Select then Some Select
+    else (if is_name word Fence then Some Fence
+    else None)))

@@ -1,0 +1,21 @@
+//! What commands are asked with, as data with ranges and defaults, for whoever reads it from words,
+//! searches by it or writes it into a certificate. It stands on `op_basis` for bases and on
+//! `enc_theory` for the methods, and on nothing that searches or reads.
+//!
+//! `specs/Synth.antt` says which settings are in their ranges (`IsInRange`), and which hold where
+//! nothing is named (`usual`); `specs/Methods.antt` has the name of each method. A name is that of one
+//! method, and each method has one name (`laws::names_are_of_one_method`).
+//!
+//! ```text
+//! let settings = SynthSettings { max: 3, ..SynthSettings::usual() };
+//! method_named(method_name(settings.method)) // Some(Method::Ssv)
+//! ```
+#![tactic(auto)]
+
+pub mod laws;
+mod methods;
+mod synth;
+
+pub use enc_theory::Method;
+pub use methods::{method_name, method_named};
+pub use synth::{MOST_CONFLICTS, MOST_STEPS, SynthSettings};
