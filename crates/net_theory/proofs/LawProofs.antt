@@ -1,5 +1,6 @@
 -- The laws in the words of their contracts.
 use Rattle.std.specs.Prelude.{◌≡◌, ℕ, ◌+◌, ◌≤◌, ◌<◌, ◌^◌, ◌↔◌, Bool, true, slice_get, Some}
+use Rattle.net_theory.specs.declared.data.Sig.TheVariants.{Place}
 use Rattle.net_theory.specs.declared.data.Gate.{Gate}
 use Rattle.net_theory.specs.Net.{Net, IsNet, value, gate_value}
 use Rattle.net_theory.specs.ValueLaws.{value-source, values_after-gate}
@@ -9,8 +10,8 @@ use Rattle.net_theory.specs.NetOf.{source_count, net_in_order}
 use Rattle.net_theory.specs.WellFormed.{IsWellFormed}
 use Rattle.net_theory.specs.Circuit.{Circuit, IsCircuitOf}
 use Rattle.net_theory.specs.CircuitLaws.{circuit_of, circuit_is}
-use Rattle.net_theory.specs.Dead.{IsReached, live}
-use Rattle.net_theory.specs.DeadLaws.{live_reached, reached_live}
+use Rattle.net_theory.specs.Reach.{IsReachedFrom, is_sink, reach}
+use Rattle.net_theory.specs.ReachLaws.{sink_in, in_sinks, marked_reached, reached_marked}
 
 pub value-source_place : (n : Net) (given : ℕ → Bool) (p : ℕ) → p ≤ n.sources → value n given p ≡ given p
 value-source_place n given p low = value-source given n.sources p n.gates low
@@ -23,5 +24,8 @@ well_formed_circuit d well small =
     let order = acyclic_order d well.acyclic in
     (circuit_of d (net_in_order d order.0), circuit_is d order.0 well order.1 small)
 
-pub live_is_reached : (n : Net) (p : ℕ) → IsNet n → ((live n p ≡ true) ↔ IsReached n p)
-live_is_reached n p is = (live_reached n p, reached_live n p is)
+pub marks_reached : (n : Net) (roots : ℕ → Bool) (p : ℕ) → IsNet n → ((reach n roots p ≡ true) ↔ IsReachedFrom n roots p)
+marks_reached n roots p is = (marked_reached n roots p, reached_marked n roots p is)
+
+pub sinks_are : (n : Net) (p : ℕ) → ((is_sink n p ≡ true) ↔ ((i : ℕ) × (slice_get n.sinks i ≡ Some (Place p))))
+sinks_are n p = (in_sinks n p, λ at. sink_in n at.0 p at.1)

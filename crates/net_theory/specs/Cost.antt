@@ -12,7 +12,7 @@ byte_if false b = []
 
 -- the cover of one input with these values at 0 and 1
 abbrev pub unary_cover : Bool → Bool → Cover
-unary_cover at_zero at_one = record { width = 1; cubes = byte_if at_zero 48 ++ byte_if at_one 49; on = true }
+unary_cover at_zero at_one = record { width = 1; cubes = byte_if at_zero 48 ++ byte_if at_one 49; on = true; parity = false }
 
 abbrev pub merged : Table → List Name → Table
 merged t (a ∷ b ∷ []) = if is_same a b then record { inputs = a ∷ []; output = t.output; cover = unary_cover (cover_value t.cover (false ∷ false ∷ [])) (cover_value t.cover (true ∷ true ∷ [])) } else t
@@ -45,10 +45,14 @@ abbrev pub is_not : Bool → List (List ℕ) → Bool
 is_not on (cube ∷ []) = (literal_count cube == 1) && (if on then count_by (λ b. b == 48) cube == 1 else count_by (λ b. b == 48) cube == 0)
 is_not on other = false
 
--- A wider table that isn't constant by its form takes a gate less than it has literals, and one more
+-- A wider cover that isn't constant by its form takes a gate less than it has literals, and one more
 -- where it is NOT of an input.
+unfoldable pub cubes_cost : Cover → ℕ
+cubes_cost c = if is_plain c.cubes then 0 else (literal_sum c.cubes - 1) + (if is_not c.on c.cubes then 1 else 0)
+
+-- A parity takes a gate less than it has inputs.
 unfoldable pub wide_cost : Cover → ℕ
-wide_cost c = if is_plain c.cubes then 0 else (literal_sum c.cubes - 1) + (if is_not c.on c.cubes then 1 else 0)
+wide_cost c = if c.parity then c.width - 1 else cubes_cost c
 
 abbrev pub cover_cost : {A : Type 0} → Cover → List A → ℕ
 cover_cost c [] = 0
@@ -57,7 +61,7 @@ cover_cost c (a ∷ b ∷ []) = binary_cost (binary_word c)
 cover_cost c (a ∷ b ∷ d ∷ inputs) = wide_cost c
 
 -- the number of gates that a table becomes
--- Example: `1-0 1` and `-11 1` cost 3; NOT and XOR cost 1, and a copy costs 0.
+-- Example: `1-0 1` and `-11 1` cost 3; NOT and XOR cost 1, a copy costs 0, and XOR of five inputs 4.
 unfoldable pub table_cost : Table → ℕ
 table_cost t = cover_cost (merged_table t).cover (merged_table t).inputs
 

@@ -1,14 +1,16 @@
--- Covers: tables written as cubes (the Berkeley BLIF manual).
+-- Covers: tables written as cubes (the Berkeley BLIF manual), and parities, which have no short cubes.
 use Rattle.std.specs.Prelude.{◌≡◌, ℕ, Bool, true, false, not, ◌&&◌, ◌||◌, ◌==◌, if◌then◌else◌, List, [], ◌∷◌, length, All}
 use Rattle.std.specs.List.{list_any, list_all}
 
 -- A cube has a byte for each of the inputs, in order: `0`, `1` or `-`. All cubes of a cover say where
--- the table has the one value: 1 where on is true, else 0.
--- Example: `1-0 1` is the cube 49 45 48 of a cover with on = true.
+-- the table has the one value: 1 where on is true, else 0. A parity has no cubes: it has the value 1
+-- where an odd number of its inputs is 1 and on is true, or an even number and on is false.
+-- Examples: `1-0 1` is the cube 49 45 48 of a cover with on = true. XOR is a parity with on = true.
 pub record Cover : Type 0 where
   pub width : ℕ
   pub cubes : List (List ℕ)
   pub on : Bool
+  pub parity : Bool
 
 -- whether a byte is `0`, `1` or `-`
 abbrev pub is_cube_byte : ℕ → Bool
@@ -20,6 +22,7 @@ is_cube width cube = length cube == width && list_all is_cube_byte cube
 
 pub record IsCover (c : Cover) : Type 0 where
   pub cubes : All (λ cube. is_cube c.width cube ≡ true) c.cubes
+  pub parity : c.parity ≡ true → c.cubes ≡ []
 
 -- `1` asks for the bit 1, `0` for the bit 0, and `-` for nothing
 abbrev pub is_asked : ℕ → Bool → Bool
@@ -41,8 +44,16 @@ value_by on [] bits = false
 value_by true (c ∷ cubes) bits = is_matched (c ∷ cubes) bits
 value_by false (c ∷ cubes) bits = not (is_matched (c ∷ cubes) bits)
 
+-- whether an odd number of the bits is 1
+abbrev pub is_odd : List Bool → Bool
+is_odd [] = false
+is_odd (b ∷ bits) = if b then not (is_odd bits) else is_odd bits
+
+abbrev pub parity_value : Bool → List Bool → Bool
+parity_value on bits = if on then is_odd bits else not (is_odd bits)
+
 -- The value of a table. Where its cubes are for the value 1 it is 1 exactly on the rows that some cube
--- matches; where they are for 0 it is 0 exactly there. A table without cubes is 0.
+-- matches; where they are for 0 it is 0 exactly there. A table without cubes is 0, but for a parity.
 -- Example: `00 0` over two inputs is OR.
 unfoldable pub cover_value : Cover → List Bool → Bool
-cover_value c bits = value_by c.on c.cubes bits
+cover_value c bits = if c.parity then parity_value c.on bits else value_by c.on c.cubes bits

@@ -1,5 +1,5 @@
 -- The gates that a table becomes.
-use Rattle.std.specs.Prelude.{ℕ, ◌+◌, ◌*◌, ◌-◌, Bool, true, false, not, ◌&&◌, ◌||◌, ◌==◌, if◌then◌else◌, List, [], ◌∷◌, ◌++◌, length}
+use Rattle.std.specs.Prelude.{ℕ, ◌+◌, ◌*◌, ◌-◌, Bool, true, false, not, ◌&&◌, ◌||◌, ◌==◌, if◌then◌else◌, List, [], ◌∷◌, ◌++◌, length, map}
 use Rattle.std.specs.List.{list_any, list_all}
 use Rattle.net_theory.specs.Cover.{Cover, cover_value}
 use Rattle.net_theory.specs.declared.data.Sig.{Sig}
@@ -75,6 +75,13 @@ or_word true true = 14
 abbrev pub joined : (Bool → Bool → ℕ) → ℕ → Joined → Signed → Joined
 joined word sources j s = record { gates = j.gates ++ gate_of (word j.out.turned s.turned) j.out.sig s.sig ∷ []; out = record { sig = Place (sources + 1 + length j.gates); turned = false } }
 
+-- the word of XOR
+abbrev pub xor_word : Bool → Bool → ℕ
+xor_word false false = 6
+xor_word false true = 9
+xor_word true false = 9
+xor_word true true = 6
+
 -- from the left
 unfoldable pub join_from : (Bool → Bool → ℕ) → ℕ → Joined → List Signed → Joined
 join_from word sources j [] = j
@@ -137,8 +144,19 @@ is_plain cubes = is_none cubes || list_any asks_nothing cubes
 abbrev pub finished_by : ℕ → ℕ → Bool → Joined → Built
 finished_by sources before on j = finished sources before j.gates j.out.sig (if on then j.out.turned else not j.out.turned)
 
+unfoldable pub cover_built : ℕ → List Gate → Cover → List Sig → Built
+cover_built sources gates c inputs = if is_plain c.cubes then record { gates = gates; sig = constant_sig (c.on && not (is_none c.cubes)) } else finished_by sources (length gates) c.on (or_built sources (terms_from sources inputs (record { gates = gates; outs = [] }) c.cubes))
+
+-- the inputs with positive signs
+unfoldable pub unsigned : List Sig → List Signed
+unsigned inputs = map (λ a. signed a false) inputs
+
+-- A parity is XOR of its inputs from the left, and where it is for the value 0 the last gate is XNOR.
+unfoldable pub parity_built : ℕ → List Gate → Bool → List Sig → Built
+parity_built sources gates on inputs = finished_by sources (length gates) on (join_all xor_word sources gates (unsigned inputs))
+
 unfoldable pub wide_built : ℕ → List Gate → Cover → List Sig → Built
-wide_built sources gates c inputs = if is_plain c.cubes then record { gates = gates; sig = constant_sig (c.on && not (is_none c.cubes)) } else finished_by sources (length gates) c.on (or_built sources (terms_from sources inputs (record { gates = gates; outs = [] }) c.cubes))
+wide_built sources gates c inputs = if c.parity then parity_built sources gates c.on inputs else cover_built sources gates c inputs
 
 -- The gates so far and those of the table, and the table's signal, where the inputs are these signals.
 -- The inputs count as different ones, also where two of the signals are equal or one is constant.

@@ -1,9 +1,10 @@
 -- A table's gates are worth what the table is, and are as many as it costs.
-use Rattle.std.specs.Prelude.{◌≡◌, ℕ, ◌+◌, ◌-◌, ◌≤◌, ◌<◌, Bool, true, false, not, ◌&&◌, ◌||◌, ◌==◌, if◌then◌else◌, List, [], ◌∷◌, ◌++◌, length, map, count_by, refl}
+use Rattle.std.specs.Prelude.{◌≡◌, ℕ, suc, ◌+◌, ◌-◌, ◌≤◌, ◌<◌, Bool, true, false, not, ◌&&◌, ◌||◌, ◌==◌, if◌then◌else◌, List, [], ◌∷◌, ◌++◌, length, map, count_by, refl}
 use Rattle.std.specs.List.{list_any, list_all, AllByRecursion}
 use Rattle.std.proofs.Common.{arith, sym, ◌∙◌, ap, subst, ⊎_elim, length-append, ◌≢◌}
 use Rattle.std.proofs.lemmas.Bool.{eqb-true, ne_eqb, cases_lt, and_parts, and_right, or_parts, or_cases, or_left, or_right, not-true}
 use Rattle.std.proofs.lemmas.Bool.Decides.{nat_tests}
+use Rattle.std.proofs.lemmas.List.{length-map}
 use Rattle.std.proofs.lemmas.List.Sums.{sum_by-cons}
 use Rattle.std.proofs.lemmas.List.Elements.{recursion_from_All}
 use Rattle.chain_theory.specs.Operator.{apply}
@@ -12,12 +13,12 @@ use Rattle.net_theory.specs.declared.data.Sig.TheVariants.{Place}
 use Rattle.net_theory.specs.declared.data.Gate.{Gate}
 use Rattle.net_theory.specs.declared.data.Signed.{Signed}
 use Rattle.net_theory.specs.Net.{IsGateAt, AreGates, sig_value, values_of}
-use Rattle.net_theory.specs.Cover.{Cover, IsCover, is_cube_byte, is_cube, matches, is_matched, value_by, cover_value}
-use Rattle.net_theory.specs.Cost.{literal_count, literal_sum, is_not, wide_cost, cover_cost}
-use Rattle.net_theory.specs.Expansion.{Built, Joined, with_not, complemented, last_complemented, finished, finished_by, asks_nothing, is_none, is_plain, wide_built, constant_sig, join_from, join_all, literals, and_word, or_built, terms_from, unary_word, binary_word, expanded}
+use Rattle.net_theory.specs.Cover.{Cover, IsCover, is_cube_byte, is_cube, matches, is_matched, value_by, is_odd, parity_value, cover_value}
+use Rattle.net_theory.specs.Cost.{literal_count, literal_sum, is_not, cubes_cost, wide_cost, cover_cost}
+use Rattle.net_theory.specs.Expansion.{Built, Joined, with_not, complemented, last_complemented, finished, finished_by, asks_nothing, is_none, is_plain, signed, unsigned, cover_built, parity_built, wide_built, constant_sig, join_from, join_all, literals, and_word, xor_word, or_built, terms_from, unary_word, binary_word, expanded}
 use Rattle.net_theory.specs.ValueLaws.{IsGrown, grown_more, gates_push, value-last, value-before, at_front, at_end}
 use Rattle.net_theory.specs.BuiltLaws.{IsBuilt, built_same, built_constant, built_not, by_test, differs, unary_is, binary_is, unary_word_low, unary_word_value, binary_word_low, binary_word_value}
-use Rattle.net_theory.specs.JoinLaws.{turn, IsJoined}
+use Rattle.net_theory.specs.JoinLaws.{turn, signed_value, AreSignedBelow, xor_of, xor_joins, fold_from, IsJoined, joined_all, bit_from}
 use Rattle.net_theory.specs.WideLaws.{AreSigsBelow, AreTerms, turned_count, literals_count, literals_turned, any_matched, no_terms, cover_joined}
 
 -- ---- complements
@@ -229,15 +230,14 @@ not_none (c ∷ cubes) e = omega arith
 abbrev pub bits_of : ℕ → List Gate → List Sig → (ℕ → Bool) → List Bool
 bits_of sources gates inputs given = map (sig_value (values_of given sources gates)) inputs
 
--- a wide table that isn't constant by its form
-wide_some : (sources : ℕ) (old : List Gate) (c : Cover) (inputs : List Sig) → AreGates sources old → AreSigsBelow (sources + 1 + length old) inputs → AreTerms (length inputs) c.cubes → is_none c.cubes ≡ false → IsBuilt sources old ((literal_sum c.cubes - 1) + (if is_not c.on c.cubes then 1 else 0)) (λ given. cover_value c (bits_of sources old inputs given)) (finished_by sources (length old) c.on (or_built sources (terms_from sources inputs (no_terms old) c.cubes)))
-unfolding cover_value
+-- a cover that isn't constant by its form
+wide_some : (sources : ℕ) (old : List Gate) (c : Cover) (inputs : List Sig) → AreGates sources old → AreSigsBelow (sources + 1 + length old) inputs → AreTerms (length inputs) c.cubes → is_none c.cubes ≡ false → IsBuilt sources old ((literal_sum c.cubes - 1) + (if is_not c.on c.cubes then 1 else 0)) (λ given. value_by c.on c.cubes (bits_of sources old inputs given)) (finished_by sources (length old) c.on (or_built sources (terms_from sources inputs (no_terms old) c.cubes)))
 wide_some sources old c inputs are below terms some =
     let j : Joined = or_built sources (terms_from sources inputs (no_terms old) c.cubes) in
     let is : IsJoined sources old (literal_sum c.cubes - 1) (any_matched sources old inputs c.cubes) j = cover_joined sources old inputs c.cubes are below terms (not_none c.cubes some) in
     let e : turn_cost (last_sign c.on j) (literal_sum c.cubes - 1) ≡ (if is_not c.on c.cubes then 1 else 0) = sign_cost sources old c.on c.cubes inputs terms (not_none c.cubes some) in
-    subst (λ (k : ℕ). IsBuilt sources old ((literal_sum c.cubes - 1) + k) (λ given. cover_value c (bits_of sources old inputs given)) (finished_by sources (length old) c.on j)) e
-    (finished_is sources old (literal_sum c.cubes - 1) j (any_matched sources old inputs c.cubes) (λ given. cover_value c (bits_of sources old inputs given)) (last_sign c.on j) is
+    subst (λ (k : ℕ). IsBuilt sources old ((literal_sum c.cubes - 1) + k) (λ given. value_by c.on c.cubes (bits_of sources old inputs given)) (finished_by sources (length old) c.on j)) e
+    (finished_is sources old (literal_sum c.cubes - 1) j (any_matched sources old inputs c.cubes) (λ given. value_by c.on c.cubes (bits_of sources old inputs given)) (last_sign c.on j) is
     (λ given. last_value c.on j.out.turned (sig_value (values_of given sources j.gates) j.out.sig) (any_matched sources old inputs c.cubes given) (is.value given) ∙ sym (value_some c.on c.cubes (bits_of sources old inputs given) some)))
 
 -- a cube that asks for nothing matches
@@ -264,16 +264,92 @@ plain_value false [] bits e = refl
 plain_value true (c ∷ cubes) bits e = sym (any_nothing (c ∷ cubes) bits e)
 plain_value false (c ∷ cubes) bits e = ap not (sym (any_nothing (c ∷ cubes) bits e))
 
-pub wide_is : (sources : ℕ) (old : List Gate) (c : Cover) (inputs : List Sig) → AreGates sources old → AreSigsBelow (sources + 1 + length old) inputs → IsCover c → c.width ≡ length inputs → IsBuilt sources old (wide_cost c) (λ given. cover_value c (bits_of sources old inputs given)) (wide_built sources old c inputs)
-unfolding wide_built wide_cost cover_value
-wide_is sources old c inputs are below is wide =
+-- a cover that has cubes and no parity
+pub cover_is : (sources : ℕ) (old : List Gate) (c : Cover) (inputs : List Sig) → AreGates sources old → AreSigsBelow (sources + 1 + length old) inputs → IsCover c → c.width ≡ length inputs → IsBuilt sources old (cubes_cost c) (λ given. value_by c.on c.cubes (bits_of sources old inputs given)) (cover_built sources old c inputs)
+unfolding cover_built cubes_cost
+cover_is sources old c inputs are below is wide =
     wide_by (is_plain c.cubes) refl where
-      wide_by : (t : Bool) → is_plain c.cubes ≡ t → IsBuilt sources old (if t then 0 else ((literal_sum c.cubes - 1) + (if is_not c.on c.cubes then 1 else 0))) (λ given. cover_value c (bits_of sources old inputs given)) (if t then record { gates = old; sig = constant_sig (c.on && not (is_none c.cubes)) } else finished_by sources (length old) c.on (or_built sources (terms_from sources inputs (no_terms old) c.cubes)))
+      wide_by : (t : Bool) → is_plain c.cubes ≡ t → IsBuilt sources old (if t then 0 else ((literal_sum c.cubes - 1) + (if is_not c.on c.cubes then 1 else 0))) (λ given. value_by c.on c.cubes (bits_of sources old inputs given)) (if t then record { gates = old; sig = constant_sig (c.on && not (is_none c.cubes)) } else finished_by sources (length old) c.on (or_built sources (terms_from sources inputs (no_terms old) c.cubes)))
       wide_by true plain = built_same sources old 0 _ _ _ (λ given. plain_value c.on c.cubes (bits_of sources old inputs given) plain) (built_constant sources old (c.on && not (is_none c.cubes)) are)
       wide_by false some =
           let parts = or_parts (is_none c.cubes) (list_any asks_nothing c.cubes) some in
           let terms : AreTerms c.width c.cubes = all_ask c.width c.cubes (recursion_from_All (λ cube. is_cube c.width cube ≡ true) c.cubes is.cubes) parts.1 in
           wide_some sources old c inputs are below (subst (λ (k : ℕ). AreTerms k c.cubes) wide terms) parts.0
+
+-- ---- parities
+
+-- XOR from the left is the parity.
+fold_xor : (bits : List Bool) (b : Bool) → fold_from xor_of b bits ≡ (if b then not (is_odd bits) else is_odd bits)
+unfolding fold_from
+fold_xor [] true = refl
+fold_xor [] false = refl
+fold_xor (true ∷ bits) true = fold_xor bits false ∙ twice (is_odd bits) where
+  twice : (x : Bool) → x ≡ not (not x)
+  twice true = refl
+  twice false = refl
+fold_xor (true ∷ bits) false = fold_xor bits true
+fold_xor (false ∷ bits) true = fold_xor bits true
+fold_xor (false ∷ bits) false = fold_xor bits false
+
+unsigned_values : (bits : ℕ → Bool) (inputs : List Sig) → map (signed_value bits) (unsigned inputs) ≡ map (sig_value bits) inputs
+unfolding unsigned
+unsigned_values bits [] = refl
+unsigned_values bits (a ∷ inputs) = ap (λ (xs : List Bool). sig_value bits a ∷ xs) (unsigned_values bits inputs)
+
+unsigned_below : (place : ℕ) (inputs : List Sig) → AreSigsBelow place inputs → AreSignedBelow place (unsigned inputs)
+unfolding unsigned
+unsigned_below place [] below = tt
+unsigned_below place (a ∷ inputs) below = (below.0, unsigned_below place inputs below.1)
+
+pub length-unsigned : (inputs : List Sig) → length (unsigned inputs) ≡ length inputs
+unfolding unsigned
+length-unsigned inputs = length-map inputs (λ a. signed a false)
+
+no_turn_cost : (t : Bool) (n : ℕ) → 0 < n → n + turn_cost t n ≡ n
+no_turn_cost true n some = no_cost n (omega arith)
+no_turn_cost false n some = omega arith
+
+parity_joined : (sources : ℕ) (old : List Gate) (a : Sig) (inputs : List Sig) → AreGates sources old → AreSigsBelow (sources + 1 + length old) (a ∷ inputs) → IsJoined sources old (length (unsigned inputs)) (bit_from xor_of sources old (λ given. false) (unsigned (a ∷ inputs))) (join_all xor_word sources old (unsigned (a ∷ inputs)))
+unfolding unsigned
+parity_joined sources old a inputs are below =
+    joined_all xor_word xor_of false sources old (signed a false) (map (λ x. signed x false) inputs) xor_joins false_xor are (below.0, unsigned_below (sources + 1 + length old) inputs below.1) where
+      false_xor : (b : Bool) → xor_of false b ≡ b
+      false_xor true = refl
+      false_xor false = refl
+
+parity_is : (sources : ℕ) (old : List Gate) (on : Bool) (a b : Sig) (inputs : List Sig) → AreGates sources old → AreSigsBelow (sources + 1 + length old) (a ∷ b ∷ inputs) → IsBuilt sources old (suc (length inputs)) (λ given. parity_value on (bits_of sources old (a ∷ b ∷ inputs) given)) (parity_built sources old on (a ∷ b ∷ inputs))
+unfolding parity_built
+parity_is sources old on a b inputs are below =
+    let ins : List Sig = a ∷ b ∷ inputs in
+    let j : Joined = join_all xor_word sources old (unsigned ins) in
+    let is : IsJoined sources old (length (unsigned (b ∷ inputs))) (bit_from xor_of sources old (λ given. false) (unsigned ins)) j = parity_joined sources old a (b ∷ inputs) are below in
+    let more : length (unsigned (b ∷ inputs)) ≡ suc (length inputs) = length-unsigned (b ∷ inputs) in
+    let turned : Bool = last_sign on j in
+    subst (λ (k : ℕ). IsBuilt sources old k (λ given. parity_value on (bits_of sources old ins given)) (finished_by sources (length old) on j))
+    (no_turn_cost turned (length (unsigned (b ∷ inputs))) (omega (arith, more)) ∙ more)
+    (finished_is sources old (length (unsigned (b ∷ inputs))) j (bit_from xor_of sources old (λ given. false) (unsigned ins)) (λ given. parity_value on (bits_of sources old ins given)) turned is
+    (λ given. last_value on j.out.turned (sig_value (values_of given sources j.gates) j.out.sig) (is_odd (bits_of sources old ins given))
+    (is.value given
+    ∙ ap (fold_from xor_of false) (unsigned_values (values_of given sources old) ins)
+    ∙ fold_xor (bits_of sources old ins given) false)))
+
+-- ---- wide tables
+
+wide_parity : (sources : ℕ) (old : List Gate) (c : Cover) (inputs : List Sig) → AreGates sources old → AreSigsBelow (sources + 1 + length old) inputs → c.width ≡ length inputs → 2 ≤ length inputs → IsBuilt sources old (c.width - 1) (λ given. parity_value c.on (bits_of sources old inputs given)) (parity_built sources old c.on inputs)
+wide_parity sources old c [] are below wide two = absurd (omega arith)
+wide_parity sources old c (a ∷ []) are below wide two = absurd (omega arith)
+wide_parity sources old c (a ∷ b ∷ inputs) are below wide two =
+    let e : suc (length inputs) ≡ c.width - 1 = omega (arith, wide) in
+    subst (λ (k : ℕ). IsBuilt sources old k (λ given. parity_value c.on (bits_of sources old (a ∷ b ∷ inputs) given)) (parity_built sources old c.on (a ∷ b ∷ inputs))) e
+    (parity_is sources old c.on a b inputs are below)
+
+pub wide_is : (sources : ℕ) (old : List Gate) (c : Cover) (inputs : List Sig) → AreGates sources old → AreSigsBelow (sources + 1 + length old) inputs → IsCover c → c.width ≡ length inputs → 2 ≤ length inputs → IsBuilt sources old (wide_cost c) (λ given. cover_value c (bits_of sources old inputs given)) (wide_built sources old c inputs)
+unfolding wide_built wide_cost cover_value
+wide_is sources old c inputs are below is wide two =
+    by_kind c.parity where
+      by_kind : (t : Bool) → IsBuilt sources old (if t then c.width - 1 else cubes_cost c) (λ given. if t then parity_value c.on (bits_of sources old inputs given) else value_by c.on c.cubes (bits_of sources old inputs given)) (if t then parity_built sources old c.on inputs else cover_built sources old c inputs)
+      by_kind true = wide_parity sources old c inputs are below wide two
+      by_kind false = cover_is sources old c inputs are below is wide
 
 -- ---- all tables
 
@@ -285,4 +361,5 @@ expanded_is sources old c (a ∷ []) are below is wide =
     built_same sources old _ _ _ _ (λ given. unary_word_value c (sig_value (values_of given sources old) a)) (unary_is sources old (unary_word c) a are below.0 (unary_word_low c))
 expanded_is sources old c (a ∷ b ∷ []) are below is wide =
     built_same sources old _ _ _ _ (λ given. binary_word_value c (sig_value (values_of given sources old) a) (sig_value (values_of given sources old) b)) (binary_is sources old (binary_word c) a b are below.0 below.1.0 (binary_word_low c))
-expanded_is sources old c (a ∷ b ∷ d ∷ inputs) are below is wide = wide_is sources old c (a ∷ b ∷ d ∷ inputs) are below is wide
+expanded_is sources old c (a ∷ b ∷ d ∷ inputs) are below is wide =
+    wide_is sources old c (a ∷ b ∷ d ∷ inputs) are below is wide (omega arith)

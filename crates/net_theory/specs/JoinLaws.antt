@@ -1,12 +1,12 @@
--- Joining signals by gates: cubes as AND of literals, and covers as OR of cubes.
-use Rattle.std.specs.Prelude.{◌≡◌, ℕ, suc, ◌+◌, ◌<◌, Bool, true, false, not, ◌&&◌, ◌||◌, List, [], ◌∷◌, ◌++◌, length, map, ◌⊎◌, refl}
+-- Joining signals by gates: cubes as AND of literals, covers as OR of cubes, and parities as XOR.
+use Rattle.std.specs.Prelude.{◌≡◌, ℕ, suc, ◌+◌, ◌<◌, Bool, true, false, not, ◌&&◌, ◌||◌, if◌then◌else◌, List, [], ◌∷◌, ◌++◌, length, map, ◌⊎◌, refl}
 use Rattle.std.proofs.Common.{arith, sym, ◌∙◌, ap, subst, inl, inr, ⊎_elim, length-append}
 use Rattle.chain_theory.specs.Operator.{apply}
 use Rattle.net_theory.specs.declared.data.Sig.TheVariants.{Place}
 use Rattle.net_theory.specs.declared.data.Gate.{Gate}
 use Rattle.net_theory.specs.declared.data.Signed.{Signed}
 use Rattle.net_theory.specs.Net.{IsSigBelow, IsGateAt, AreGates, sig_value, values_of}
-use Rattle.net_theory.specs.Expansion.{gate_of, Joined, joined, join_from, join_all, and_word, or_word}
+use Rattle.net_theory.specs.Expansion.{gate_of, Joined, joined, join_from, join_all, and_word, or_word, xor_word}
 use Rattle.net_theory.specs.ValueLaws.{IsGrown, grown_none, grown_push, grown_more, grown_sig, grown_below, value-last}
 
 -- ---- signs
@@ -89,6 +89,36 @@ or_same true true true true = refl
 
 pub or_joins : Joins or_word or_of
 or_joins = record { low = or_low; same = or_same }
+
+abbrev pub xor_of : Bool → Bool → Bool
+xor_of a b = if b then not a else a
+
+xor_low : (ta tb : Bool) → xor_word ta tb < 16
+xor_low false false = omega arith
+xor_low false true = omega arith
+xor_low true false = omega arith
+xor_low true true = omega arith
+
+xor_same : (ta tb a b : Bool) → apply (xor_word ta tb) a b ≡ xor_of (turn ta a) (turn tb b)
+xor_same false false false false = refl
+xor_same false false false true = refl
+xor_same false false true false = refl
+xor_same false false true true = refl
+xor_same false true false false = refl
+xor_same false true false true = refl
+xor_same false true true false = refl
+xor_same false true true true = refl
+xor_same true false false false = refl
+xor_same true false false true = refl
+xor_same true false true false = refl
+xor_same true false true true = refl
+xor_same true true false false = refl
+xor_same true true false true = refl
+xor_same true true true false = refl
+xor_same true true true true = refl
+
+pub xor_joins : Joins xor_word xor_of
+xor_joins = record { low = xor_low; same = xor_same }
 
 -- ---- joining
 

@@ -21,8 +21,13 @@ pub mod WellFormed
 pub mod NetLaws
 pub mod Circuit
 pub mod CircuitLaws
+pub mod Reach
+pub mod ReachLaws
+pub mod Moving
+pub mod MovingLaws
+pub mod Answers
+pub mod ExchangeLaws
 pub mod Dead
 pub mod DeadLaws
-pub mod PrunedLaws
 pub mod Naming
 pub mod NamingLaws

@@ -19,16 +19,16 @@ unary_cover_value true true false = refl
 unary_cover_value true true true = refl
 
 unary_cover_is : (at_zero at_one : Bool) → IsCover (unary_cover at_zero at_one)
-unary_cover_is false false = record { cubes = λ k d low. absurd (omega arith) }
-unary_cover_is false true = record { cubes = one } where
+unary_cover_is false false = record { cubes = λ k d low. absurd (omega arith); parity = λ e. absurd cc }
+unary_cover_is false true = record { cubes = one; parity = λ e. absurd cc } where
   one : (k : ℕ) (d : List ℕ) → k < 1 → is_cube 1 (Rattle.std.specs.Prelude.slice_index_or ((49 ∷ []) ∷ []) k d) ≡ true
   one zero d low = refl
   one (suc k) d low = absurd (omega arith)
-unary_cover_is true false = record { cubes = one } where
+unary_cover_is true false = record { cubes = one; parity = λ e. absurd cc } where
   one : (k : ℕ) (d : List ℕ) → k < 1 → is_cube 1 (Rattle.std.specs.Prelude.slice_index_or ((48 ∷ []) ∷ []) k d) ≡ true
   one zero d low = refl
   one (suc k) d low = absurd (omega arith)
-unary_cover_is true true = record { cubes = two } where
+unary_cover_is true true = record { cubes = two; parity = λ e. absurd cc } where
   two : (k : ℕ) (d : List ℕ) → k < 2 → is_cube 1 (Rattle.std.specs.Prelude.slice_index_or ((48 ∷ []) ∷ (49 ∷ []) ∷ []) k d) ≡ true
   two zero d low = refl
   two (suc zero) d low = refl

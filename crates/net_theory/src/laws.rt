@@ -2,9 +2,10 @@
 ghost use Rattle.std.specs.Prelude.{◌≡◌, ℕ, ◌+◌, ◌≤◌, ◌<◌, ◌^◌, ◌↔◌, Bool, true, map, length, slice_get, Some, List, Option};
 ghost use Rattle.net_theory.specs.declared.data.Gate.{Gate};
 ghost use Rattle.net_theory.specs.declared.data.Sig.{Sig};
+ghost use Rattle.net_theory.specs.declared.data.Sig.TheVariants.{Place};
 ghost use Rattle.net_theory.specs.Net.{Net, IsNet, AreGates, value, gate_value, sig_value, values_of};
 ghost use Rattle.net_theory.specs.Cover.{Cover, IsCover, cover_value};
-ghost use Rattle.net_theory.specs.Document.{Document};
+ghost use Rattle.net_theory.specs.Document.{Document, are_distinct, table_output};
 ghost use Rattle.net_theory.specs.Dependence.{IsAcyclic};
 ghost use Rattle.net_theory.specs.Expansion.{expanded};
 ghost use Rattle.net_theory.specs.Cost.{cover_cost};
@@ -14,8 +15,10 @@ ghost use Rattle.net_theory.specs.Visit.{order_of};
 ghost use Rattle.net_theory.specs.NetOf.{graph_of, source_count};
 ghost use Rattle.net_theory.specs.WellFormed.{IsWellFormed};
 ghost use Rattle.net_theory.specs.Circuit.{Circuit, IsProper, Describes, IsCircuitOf};
-ghost use Rattle.net_theory.specs.Dead.{IsReached, live, dropped, IsPruned};
-ghost use Rattle.net_theory.specs.PrunedLaws.{with_net};
+ghost use Rattle.net_theory.specs.Reach.{IsReachedFrom, is_sink, reach};
+ghost use Rattle.net_theory.specs.Answers.{Answers, IsPruned};
+ghost use Rattle.net_theory.specs.Dead.{dropped};
+ghost use Rattle.net_theory.specs.ExchangeLaws.{with_net};
 
 /// The value of a place: a source's is the bit that is given to it, a gate's is its operator on the
 /// values of its operands.
@@ -31,9 +34,11 @@ pub fn covers_become_gates()
         IsBuilt sources gates (cover_cost c inputs) (λ given. cover_value c (map (sig_value (values_of given sources gates)) inputs)) (expanded sources gates c inputs) }
 {}
 
-/// A visit orders the tables where none depends on itself.
+/// A visit orders the tables where none depends on itself, and, where no two tables have one output, only
+/// there.
 pub fn tables_have_an_order()
-    ensures { (d : Document) → IsAcyclic d → (order : List ℕ) × (order_of (graph_of d.tables) ≡ Some order) }
+    ensures some { (d : Document) → IsAcyclic d → (order : List ℕ) × (order_of (graph_of d.tables) ≡ Some order) }
+    ensures only { (d : Document) (order : List ℕ) → are_distinct (map table_output d.tables) ≡ true → order_of (graph_of d.tables) ≡ Some order → IsAcyclic d }
 {}
 
 /// A well-formed document has a circuit: its net is the document's, it is proper, and under every
@@ -42,14 +47,23 @@ pub fn documents_have_circuits()
     ensures { (d : Document) → IsWellFormed d → source_count d + 100000 < 2 ^ 31 → (c : Circuit) × IsCircuitOf d c }
 {}
 
-/// What is kept of a net is what its sinks reach, and the net that is left answers the same.
-pub fn dead_gates_can_be_dropped()
-    ensures live { (n : Net) (p : ℕ) → IsNet n → ((live n p ≡ true) ↔ IsReached n p) }
-    ensures left { (n : Net) → IsNet n → IsPruned n (dropped n) }
+/// What is marked from some roots on is what is reached from them, and the sinks of a net are such roots.
+pub fn marks_are_what_is_reached()
+    ensures marks { (n : Net) (roots : ℕ → Bool) (p : ℕ) → IsNet n → ((reach n roots p ≡ true) ↔ IsReachedFrom n roots p) }
+    ensures sinks { (n : Net) (p : ℕ) → ((is_sink n p ≡ true) ↔ ((i : ℕ) × (slice_get n.sinks i ≡ Some (Place p)))) }
 {}
 
-/// A circuit stays proper, and a document that describes it goes on to do so, where its net is pruned.
-pub fn circuits_can_be_pruned()
-    ensures proper { (c : Circuit) (m : Net) → IsProper c → IsPruned c.net m → IsProper (with_net c m) }
-    ensures describes { (d : Document) (c : Circuit) (m : Net) → IsPruned c.net m → Describes d c → Describes d (with_net c m) }
+/// What is left of a net where its dead gates are dropped answers the same and has no dead gate, and its
+/// gates have operators of the net's gates.
+pub fn dead_gates_can_be_dropped()
+    ensures left { (n : Net) → IsNet n → IsPruned n (dropped n) }
+    ensures operators { (n : Net) (j : ℕ) (h : Gate) → IsNet n → slice_get (dropped n).gates j ≡ Some h → (i : ℕ) × (g : Gate) × (slice_get n.gates i ≡ Some g) × (h.op ≡ g.op) }
+{}
+
+/// A circuit's net can be exchanged for one that answers the same: the circuit stays proper, a document
+/// that describes it goes on to do so, and the net can be exchanged again.
+pub fn nets_can_be_exchanged()
+    ensures proper { (c : Circuit) (m : Net) → IsProper c → Answers c.net m → IsProper (with_net c m) }
+    ensures describes { (d : Document) (c : Circuit) (m : Net) → Answers c.net m → Describes d c → Describes d (with_net c m) }
+    ensures again { (a b c : Net) → Answers a b → Answers b c → Answers a c }
 {}

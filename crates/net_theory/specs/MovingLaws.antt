@@ -1,0 +1,351 @@
+-- Gates that are kept have the values that they had, wherever the old places and the old values come from.
+use Rattle.std.specs.Prelude.{◌≡◌, ℕ, zero, suc, ◌+◌, ◌≤◌, ◌<◌, Bool, true, false, ◌==◌, nat_le, if◌then◌else◌, List, [], ◌∷◌, ◌++◌, length, slice_get, Some, ◌⊎◌, refl}
+use Rattle.std.proofs.Common.{arith, sym, ◌∙◌, ap, subst, inl, inr, ⊎_elim, length-append, ◌≢◌, add-zero}
+use Rattle.std.proofs.lemmas.Bool.{cond_both, cond-true, cond-false, eq-eqb, ne_eqb, le-leb, both_ways, cases_eq, cases_lt, cases_Bool}
+use Rattle.std.proofs.lemmas.Option.{slice_get_within}
+use Rattle.net_theory.specs.declared.data.Sig.{Sig}
+use Rattle.net_theory.specs.declared.data.Sig.TheVariants.{Zero, One, Place}
+use Rattle.net_theory.specs.declared.data.Gate.{Gate}
+use Rattle.net_theory.specs.Net.{Net, IsNet, IsSigBelow, IsGateAt, AreGates, sig_value, gate_value, values_of, value}
+use Rattle.net_theory.specs.ValueLaws.{IsGrown, grown_none, grown_more, grown_push, below_later, sig_value-same, value-source, value-last, values_after-gate, gates_push, at_push, at_front, at_end}
+use Rattle.net_theory.specs.Reach.{ReadsPlace}
+use Rattle.net_theory.specs.Moving.{Kept, moved, moved_gate, put_sig, with_kept, kept_after, marked_count, sources_stay, nothing_kept}
+
+-- ---- places that are written
+
+put_same : (places : ℕ → Sig) (place : ℕ) (s : Sig) → put_sig places place s place ≡ s
+put_same places place s = cond-true (place == place) s (places place) (eq-eqb place place refl)
+
+put_other : (places : ℕ → Sig) (place : ℕ) (s : Sig) (p : ℕ) → p ≢ place → put_sig places place s p ≡ places p
+put_other places place s p other = cond-false (p == place) s (places p) (ne_eqb p place other)
+
+-- places that agree below a place move signals below it alike
+pub moved-same : (f g : ℕ → Sig) (place : ℕ) (s : Sig) → IsSigBelow place s → ((p : ℕ) → p < place → f p ≡ g p) → moved f s ≡ moved g s
+moved-same f g place Zero below same = refl
+moved-same f g place One below same = refl
+moved-same f g place (Place p) below same = same p below.1
+
+pub moved_gate-same : (f g : ℕ → Sig) (place : ℕ) (x : Gate) → IsGateAt place x → ((p : ℕ) → p < place → f p ≡ g p) → moved_gate f x ≡ moved_gate g x
+moved_gate-same f g place x is same =
+    rw (moved-same f g place x.a is.first same, moved-same f g place x.b is.second same) refl
+
+-- ---- what goes where
+
+-- The next step of keeping, and the gates after it.
+abbrev next_kept : (ℕ → Bool) → ℕ → Kept → ℕ → Gate → Kept
+next_kept marks sources k place g = if marks place then with_kept sources k place g else k
+
+next_other : (marks : ℕ → Bool) (sources : ℕ) (k : Kept) (place : ℕ) (g : Gate) (p : ℕ) → p ≢ place → (next_kept marks sources k place g).places p ≡ k.places p
+next_other marks sources k place g p other =
+    cond_both (marks place) (with_kept sources k place g) k (λ (x : Kept). x.places p ≡ k.places p) (λ on. put_other k.places place (Place (sources + 1 + length k.gates)) p other) (λ off. refl)
+
+-- a place below the gates stays where it went
+pub places_low : (marks : ℕ → Bool) (sources : ℕ) (k : Kept) (place : ℕ) (gs : List Gate) (p : ℕ) → p < place → (kept_after marks sources k place gs).places p ≡ k.places p
+unfolding kept_after
+places_low marks sources k place [] p low = refl
+places_low marks sources k place (g ∷ gs) p low =
+    places_low marks sources (next_kept marks sources k place g) (place + 1) gs p (omega arith) ∙ next_other marks sources k place g p (omega arith)
+
+-- and so does one that isn't marked
+pub places_off : (marks : ℕ → Bool) (sources : ℕ) (k : Kept) (place : ℕ) (gs : List Gate) (p : ℕ) → marks p ≡ false → (kept_after marks sources k place gs).places p ≡ k.places p
+unfolding kept_after
+places_off marks sources k place [] p off = refl
+places_off marks sources k place (g ∷ gs) p off =
+    places_off marks sources (next_kept marks sources k place g) (place + 1) gs p off
+    ∙ cond_both (marks place) (with_kept sources k place g) k (λ (x : Kept). x.places p ≡ k.places p)
+    (λ on. put_other k.places place (Place (sources + 1 + length k.gates)) p (λ (same : p ≡ place). both_ways (marks p) off (subst (λ (q : ℕ). marks q ≡ true) (sym same) on)))
+    (λ no. refl)
+
+-- gates that are there stay where they are
+pub gates_stay : (marks : ℕ → Bool) (sources : ℕ) (k : Kept) (place : ℕ) (gs : List Gate) (j : ℕ) (h : Gate) → slice_get k.gates j ≡ Some h → slice_get (kept_after marks sources k place gs).gates j ≡ Some h
+unfolding kept_after
+gates_stay marks sources k place [] j h e = e
+gates_stay marks sources k place (g ∷ gs) j h e =
+    gates_stay marks sources (next_kept marks sources k place g) (place + 1) gs j h
+    (cond_both (marks place) (with_kept sources k place g) k (λ (x : Kept). slice_get x.gates j ≡ Some h) (λ on. at_front k.gates (moved_gate k.places g ∷ []) j h e) (λ off. e))
+
+-- each marked gate is one more
+pub count_kept : (marks : ℕ → Bool) (sources : ℕ) (k : Kept) (place : ℕ) (gs : List Gate) → length (kept_after marks sources k place gs).gates ≡ length k.gates + marked_count marks place gs
+unfolding kept_after marked_count
+count_kept marks sources k place [] = omega arith
+count_kept marks sources k place (g ∷ gs) =
+    count_kept marks sources (next_kept marks sources k place g) (place + 1) gs ∙ one (marks place) where
+      one : (t : Bool) → length (if t then with_kept sources k place g else k).gates + marked_count marks (place + 1) gs ≡ length k.gates + ((if t then 1 else 0) + marked_count marks (place + 1) gs)
+      one true = omega (arith, length-append k.gates (moved_gate k.places g ∷ []))
+      one false = omega arith
+
+pub marked_few : (marks : ℕ → Bool) (place : ℕ) (gs : List Gate) → marked_count marks place gs ≤ length gs
+unfolding marked_count
+marked_few marks place [] = omega arith
+marked_few marks place (g ∷ gs) =
+    cond_both (marks place) 1 0 (λ (x : ℕ). x + marked_count marks (place + 1) gs ≤ suc (length gs)) (λ on. omega (arith, marked_few marks (place + 1) gs)) (λ off. omega (arith, marked_few marks (place + 1) gs))
+
+-- a gate has become a gate
+pub record Goes (sources : ℕ) (k : Kept) (place : ℕ) (g : Gate) : Type 0 where
+  pub j : ℕ
+  pub went : k.places place ≡ Place (sources + 1 + j)
+  pub at : slice_get k.gates j ≡ Some (moved_gate k.places g)
+
+-- a marked gate becomes a gate
+pub kept_goes : (marks : ℕ → Bool) (sources : ℕ) (k : Kept) (place : ℕ) (gs : List Gate) (i : ℕ) (g : Gate) → slice_get gs i ≡ Some g → IsGateAt (place + i) g → marks (place + i) ≡ true → Goes sources (kept_after marks sources k place gs) (place + i) g
+unfolding kept_after
+kept_goes marks sources k place [] i g at is on = absurd cc
+kept_goes marks sources k place (h ∷ gs) zero g at is on =
+    let same : h ≡ g = cc in
+    let own : place + 0 ≡ place = add-zero place in
+    let here : IsGateAt place g = subst (λ (q : ℕ). IsGateAt q g) own is in
+    let next : Kept = next_kept marks sources k place h in
+    let one : next ≡ with_kept sources k place g = cond-true (marks place) (with_kept sources k place h) k (subst (λ (q : ℕ). marks q ≡ true) own on) ∙ ap (with_kept sources k place) same in
+    let last : Kept = kept_after marks sources next (place + 1) gs in
+    let low : (p : ℕ) → p < place → k.places p ≡ last.places p = λ p l. sym (places_low marks sources next (place + 1) gs p (omega arith) ∙ next_other marks sources k place h p (omega arith)) in
+    record {
+      j = length k.gates;
+      went =
+          ap last.places own
+          ∙ places_low marks sources next (place + 1) gs place (omega arith)
+          ∙ ap (λ (x : Kept). x.places place) one
+          ∙ put_same k.places place (Place (sources + 1 + length k.gates));
+      at = gates_stay marks sources next (place + 1) gs (length k.gates) (moved_gate last.places g)
+          (ap (λ (x : Kept). slice_get x.gates (length k.gates)) one ∙ at_end k.gates (moved_gate k.places g) ∙ ap Some (moved_gate-same k.places last.places place g here low));
+    }
+kept_goes marks sources k place (h ∷ gs) (suc i) g at is on =
+    let e : place + suc i ≡ (place + 1) + i = omega arith in
+    let last : Kept = kept_after marks sources (next_kept marks sources k place h) (place + 1) gs in
+    subst (λ (q : ℕ). Goes sources last q g) (sym e)
+    (kept_goes marks sources (next_kept marks sources k place h) (place + 1) gs i g at (subst (λ (q : ℕ). IsGateAt q g) e is) (subst (λ (q : ℕ). marks q ≡ true) e on))
+
+-- a gate is what a marked gate of these has become
+pub record IsMade (marks : ℕ → Bool) (sources place : ℕ) (gs : List Gate) (places : ℕ → Sig) (j : ℕ) (h : Gate) : Type 0 where
+  pub index : ℕ
+  pub gate : Gate
+  pub at : slice_get gs index ≡ Some gate
+  pub mark : marks (place + index) ≡ true
+  pub went : places (place + index) ≡ Place (sources + 1 + j)
+  pub is : h ≡ moved_gate places gate
+
+-- what the marked gates read stands below them
+abbrev pub AreMarkedAt : (ℕ → Bool) → ℕ → List Gate → Type 0
+AreMarkedAt marks place gs = (i : ℕ) (g : Gate) → slice_get gs i ≡ Some g → marks (place + i) ≡ true → IsGateAt (place + i) g
+
+pub tail_marked : (marks : ℕ → Bool) (place : ℕ) (g : Gate) (gs : List Gate) → AreMarkedAt marks place (g ∷ gs) → AreMarkedAt marks (place + 1) gs
+tail_marked marks place g gs are i h at on =
+    let e : place + suc i ≡ (place + 1) + i = omega arith in
+    subst (λ (q : ℕ). IsGateAt q h) e (are (suc i) h at (subst (λ (q : ℕ). marks q ≡ true) (sym e) on))
+
+pub head_marked : (marks : ℕ → Bool) (place : ℕ) (g : Gate) (gs : List Gate) → AreMarkedAt marks place (g ∷ gs) → marks place ≡ true → IsGateAt place g
+head_marked marks place g gs are on =
+    let e : place + 0 ≡ place = add-zero place in
+    subst (λ (q : ℕ). IsGateAt q g) e (are 0 g refl (subst (λ (q : ℕ). marks q ≡ true) (sym e) on))
+
+made_later : (marks : ℕ → Bool) (sources place : ℕ) (g : Gate) (gs : List Gate) (places : ℕ → Sig) (j : ℕ) (h : Gate) → IsMade marks sources (place + 1) gs places j h → IsMade marks sources place (g ∷ gs) places j h
+made_later marks sources place g gs places j h m =
+    let e : (place + 1) + m.index ≡ place + suc m.index = omega arith in
+    record {
+      index = suc m.index;
+      gate = m.gate;
+      at = m.at;
+      mark = subst (λ (q : ℕ). marks q ≡ true) e m.mark;
+      went = subst (λ (q : ℕ). places q ≡ Place (sources + 1 + j)) e m.went;
+      is = m.is;
+    }
+
+-- Each gate was there, or is what a marked one has become.
+pub kept_made : (marks : ℕ → Bool) (sources : ℕ) (k : Kept) (place : ℕ) (gs : List Gate) (j : ℕ) (h : Gate) → AreMarkedAt marks place gs → slice_get (kept_after marks sources k place gs).gates j ≡ Some h → (slice_get k.gates j ≡ Some h) ⊎ IsMade marks sources place gs (kept_after marks sources k place gs).places j h
+unfolding kept_after
+kept_made marks sources k place [] j h are e = inl e
+kept_made marks sources k place (g ∷ gs) j h are e =
+    let next : Kept = next_kept marks sources k place g in
+    let last : Kept = kept_after marks sources next (place + 1) gs in
+    ⊎_elim
+    (λ before. ⊎_elim
+    (λ on.
+    let one : next ≡ with_kept sources k place g = cond-true (marks place) (with_kept sources k place g) k on in
+    let low : (p : ℕ) → p < place → k.places p ≡ last.places p = λ p l. sym (places_low marks sources next (place + 1) gs p (omega arith) ∙ next_other marks sources k place g p (omega arith)) in
+    let own : place + 0 ≡ place = add-zero place in
+    ⊎_elim
+    (λ was. inl was)
+    (λ new. inr (record {
+      index = 0;
+      gate = g;
+      at = refl;
+      mark = ap marks own ∙ on;
+      went =
+          ap last.places own
+          ∙ places_low marks sources next (place + 1) gs place (omega arith)
+          ∙ ap (λ (x : Kept). x.places place) one
+          ∙ put_same k.places place (Place (sources + 1 + length k.gates))
+          ∙ ap (λ (x : ℕ). Place (sources + 1 + x)) (sym new.0);
+      is = sym new.1 ∙ moved_gate-same k.places last.places place g (head_marked marks place g gs are on) low;
+    }))
+    (at_push k.gates (moved_gate k.places g) h j (sym (ap (λ (x : Kept). slice_get x.gates j) one) ∙ before)))
+    (λ off. inl (sym (ap (λ (x : Kept). slice_get x.gates j) (cond-false (marks place) (with_kept sources k place g) k off)) ∙ before))
+    (cases_Bool (marks place)))
+    (λ made. inr (made_later marks sources place g gs last.places j h made))
+    (kept_made marks sources next (place + 1) gs j h (tail_marked marks place g gs are) e)
+
+-- ---- values
+
+-- The gates so far are gates, and the places that are known went to signals that have their old values.
+pub record Moves (sources : ℕ) (old : (ℕ → Bool) → ℕ → Bool) (known : ℕ → Type 0) (k : Kept) : Type 0 where
+  pub gates : AreGates sources k.gates
+  pub below : (p : ℕ) → known p → IsSigBelow (sources + 1 + length k.gates) (k.places p)
+  pub same : (given : ℕ → Bool) (p : ℕ) → known p → sig_value (values_of given sources k.gates) (k.places p) ≡ old given p
+
+pub moves_less : (sources : ℕ) (old : (ℕ → Bool) → ℕ → Bool) (known fewer : ℕ → Type 0) (k : Kept) → ((p : ℕ) → fewer p → known p) → Moves sources old known k → Moves sources old fewer k
+moves_less sources old known fewer k less is =
+    record { gates = is.gates; below = λ p e. is.below p (less p e); same = λ given p e. is.same given p (less p e) }
+
+-- where a known signal went
+pub moved_below : (sources : ℕ) (old : (ℕ → Bool) → ℕ → Bool) (known : ℕ → Type 0) (k : Kept) (s : Sig) → Moves sources old known k → ((p : ℕ) → s ≡ Place p → known p) → IsSigBelow (sources + 1 + length k.gates) (moved k.places s)
+moved_below sources old known k Zero is knows = tt
+moved_below sources old known k One is knows = tt
+moved_below sources old known k (Place p) is knows = is.below p (knows p refl)
+
+pub moved_value : (sources : ℕ) (old : (ℕ → Bool) → ℕ → Bool) (known : ℕ → Type 0) (k : Kept) (s : Sig) (given : ℕ → Bool) → Moves sources old known k → ((p : ℕ) → s ≡ Place p → known p) → sig_value (values_of given sources k.gates) (moved k.places s) ≡ sig_value (old given) s
+moved_value sources old known k Zero given is knows = refl
+moved_value sources old known k One given is knows = refl
+moved_value sources old known k (Place p) given is knows = is.same given p (knows p refl)
+
+-- a gate whose operands are known is kept
+keep_one : (sources : ℕ) (old : (ℕ → Bool) → ℕ → Bool) (known : ℕ → Type 0) (k : Kept) (place : ℕ) (g : Gate) → Moves sources old known k → g.op < 16 → ((p : ℕ) → ReadsPlace g p → known p) → ((given : ℕ → Bool) → old given place ≡ gate_value (old given) g) → Moves sources old (λ p. known p ⊎ (p ≡ place)) (with_kept sources k place g) × IsGrown sources k.gates (with_kept sources k place g).gates
+keep_one sources old known k place g is low knows worth =
+    let h : Gate = moved_gate k.places g in
+    let end : ℕ = sources + 1 + length k.gates in
+    let first : (p : ℕ) → g.a ≡ Place p → known p = λ p e. knows p (inl e) in
+    let second : (p : ℕ) → g.b ≡ Place p → known p = λ p e. knows p (inr e) in
+    let here : IsGateAt end h = record { operator = low; first = moved_below sources old known k g.a is first; second = moved_below sources old known k g.b is second } in
+    let new : List Gate = k.gates ++ h ∷ [] in
+    let size : length new ≡ length k.gates + 1 = length-append k.gates (h ∷ []) in
+    let places : ℕ → Sig = put_sig k.places place (Place end) in
+    let grown : IsGrown sources k.gates new = grown_push sources k.gates h is.gates here in
+    let was : (p : ℕ) → known p ⊎ (p ≡ place) → p ≢ place → known p = λ p e other. ⊎_elim (λ k. k) (λ same. absurd (other same)) e in (
+      record {
+        gates = gates_push sources k.gates h is.gates here;
+        below = λ p e. ⊎_elim
+            (λ own. subst (IsSigBelow (sources + 1 + length new)) (sym (ap places own ∙ put_same k.places place (Place end))) (omega arith, omega (arith, size)))
+            (λ other. subst (IsSigBelow (sources + 1 + length new)) (sym (put_other k.places place (Place end) p other)) (below_later (k.places p) end (sources + 1 + length new) (omega (arith, size)) (is.below p (was p e other))))
+            (cases_eq p place);
+        same = λ given p e. ⊎_elim
+            (λ own.
+            ap (sig_value (values_of given sources new)) (ap places own ∙ put_same k.places place (Place end))
+            ∙ value-last given sources k.gates h
+            ∙ rw (moved_value sources old known k g.a given is first, moved_value sources old known k g.b given is second) refl
+            ∙ sym (worth given)
+            ∙ ap (old given) (sym own))
+            (λ other.
+            ap (sig_value (values_of given sources new)) (put_other k.places place (Place end) p other)
+            ∙ sig_value-same (values_of given sources new) (values_of given sources k.gates) (k.places p) end (is.below p (was p e other)) (grown.same given)
+            ∙ is.same given p (was p e other))
+            (cases_eq p place);
+      },
+      grown,
+    )
+
+-- one of so many places from a place on, and marked
+pub record IsMarked (marks : ℕ → Bool) (place count p : ℕ) : Type 0 where
+  pub low : place ≤ p
+  pub high : p < place + count
+  pub mark : marks p ≡ true
+
+-- What a marked gate reads is known or is a marked gate before it, and its old value is its operator on
+-- the old values of its operands.
+pub record AreMovable (old : (ℕ → Bool) → ℕ → Bool) (known : ℕ → Type 0) (marks : ℕ → Bool) (place : ℕ) (gs : List Gate) : Type 0 where
+  pub operators : (i : ℕ) (g : Gate) → slice_get gs i ≡ Some g → marks (place + i) ≡ true → g.op < 16
+  pub reads : (i p : ℕ) (g : Gate) → slice_get gs i ≡ Some g → marks (place + i) ≡ true → ReadsPlace g p → known p ⊎ IsMarked marks place i p
+  pub values : (given : ℕ → Bool) (i : ℕ) (g : Gate) → slice_get gs i ≡ Some g → marks (place + i) ≡ true → old given (place + i) ≡ gate_value (old given) g
+
+-- known, or the place just passed
+abbrev pub KnownNext : (ℕ → Type 0) → (ℕ → Bool) → ℕ → ℕ → Type 0
+KnownNext known marks place p = known p ⊎ ((p ≡ place) × (marks place ≡ true))
+
+marked_next : (known : ℕ → Type 0) (marks : ℕ → Bool) (place i p : ℕ) → known p ⊎ IsMarked marks place (suc i) p → KnownNext known marks place p ⊎ IsMarked marks (place + 1) i p
+marked_next known marks place i p e =
+    ⊎_elim
+    (λ k. inl (inl k))
+    (λ m. ⊎_elim
+    (λ own. inl (inr (own, ap marks (sym own) ∙ m.mark)))
+    (λ other. inr (record { low = omega (arith, m.low, other); high = omega (arith, m.high); mark = m.mark }))
+    (cases_eq p place))
+    e
+
+tail_movable : (old : (ℕ → Bool) → ℕ → Bool) (known : ℕ → Type 0) (marks : ℕ → Bool) (place : ℕ) (g : Gate) (gs : List Gate) → AreMovable old known marks place (g ∷ gs) → AreMovable old (KnownNext known marks place) marks (place + 1) gs
+tail_movable old known marks place g gs are =
+    let e : (i : ℕ) → (place + 1) + i ≡ place + suc i = λ i. omega arith in
+    record {
+      operators = λ i h at on. are.operators (suc i) h at (subst (λ (q : ℕ). marks q ≡ true) (e i) on);
+      reads = λ i p h at on reads. marked_next known marks place i p (are.reads (suc i) p h at (subst (λ (q : ℕ). marks q ≡ true) (e i) on) reads);
+      values = λ given i h at on. ap (old given) (e i) ∙ are.values given (suc i) h at (subst (λ (q : ℕ). marks q ≡ true) (e i) on);
+    }
+
+no_mark : (marks : ℕ → Bool) (place p : ℕ) → IsMarked marks place 0 p → ⊥
+no_mark marks place p m = omega (arith, m.low, m.high)
+
+-- the first gate is passed
+pass_one : (sources : ℕ) (old : (ℕ → Bool) → ℕ → Bool) (known : ℕ → Type 0) (marks : ℕ → Bool) (k : Kept) (place : ℕ) (g : Gate) (gs : List Gate) → Moves sources old known k → AreMovable old known marks place (g ∷ gs) → Moves sources old (KnownNext known marks place) (next_kept marks sources k place g) × IsGrown sources k.gates (next_kept marks sources k place g).gates
+pass_one sources old known marks k place g gs is are =
+    let e : place + 0 ≡ place = add-zero place in
+    cond_both (marks place) (with_kept sources k place g) k (λ (x : Kept). Moves sources old (KnownNext known marks place) x × IsGrown sources k.gates x.gates)
+    (λ on.
+    let here : marks (place + 0) ≡ true = ap marks e ∙ on in
+    let r = keep_one sources old known k place g is (are.operators 0 g refl here)
+    (λ p reads. ⊎_elim (λ k. k) (λ m. absurd (no_mark marks place p m)) (are.reads 0 p g refl here reads))
+    (λ given. ap (old given) (sym e) ∙ are.values given 0 g refl here) in
+    (moves_less sources old (λ p. known p ⊎ (p ≡ place)) (KnownNext known marks place) (with_kept sources k place g) (λ p x. ⊎_elim (λ k. inl k) (λ own. inr own.0) x) r.0, r.1))
+    (λ off. (moves_less sources old known (KnownNext known marks place) k (λ p x. ⊎_elim (λ k. k) (λ own. absurd (both_ways (marks place) off own.1)) x) is, grown_none sources k.gates is.gates))
+
+-- Keeping leaves what was known and makes the marked places known, and the gates that were there keep
+-- their values.
+pub keep_all : (sources : ℕ) (old : (ℕ → Bool) → ℕ → Bool) (known : ℕ → Type 0) (marks : ℕ → Bool) (k : Kept) (place : ℕ) (gs : List Gate) → Moves sources old known k → AreMovable old known marks place gs → Moves sources old (λ p. known p ⊎ IsMarked marks place (length gs) p) (kept_after marks sources k place gs) × IsGrown sources k.gates (kept_after marks sources k place gs).gates
+unfolding kept_after
+keep_all sources old known marks k place [] is are =
+    (moves_less sources old known (λ p. known p ⊎ IsMarked marks place 0 p) k (λ p e. ⊎_elim (λ k. k) (λ m. absurd (no_mark marks place p m)) e) is, grown_none sources k.gates is.gates)
+keep_all sources old known marks k place (g ∷ gs) is are =
+    let next : Kept = next_kept marks sources k place g in
+    let one = pass_one sources old known marks k place g gs is are in
+    let rest = keep_all sources old (KnownNext known marks place) marks next (place + 1) gs one.0 (tail_movable old known marks place g gs are) in
+    let last : Kept = kept_after marks sources next (place + 1) gs in (
+      moves_less sources old (λ p. KnownNext known marks place p ⊎ IsMarked marks (place + 1) (length gs) p) (λ p. known p ⊎ IsMarked marks place (suc (length gs)) p) last (λ p e. marked_next known marks place (length gs) p e) rest.0,
+      grown_more sources k.gates next.gates last.gates one.1 rest.1,
+    )
+
+-- ---- the gates of a net
+
+abbrev pub IsSourcePlace : ℕ → ℕ → Type 0
+IsSourcePlace sources p = (1 ≤ p) × (p ≤ sources)
+
+pub source_stays : (sources p : ℕ) → p ≤ sources → sources_stay sources p ≡ Place p
+source_stays sources p low = cond-true (nat_le p sources) (Place p) Zero (le-leb p sources low)
+
+-- before any gate is kept the sources are known
+pub moves_start : (n : Net) → Moves n.sources (value n) (IsSourcePlace n.sources) (nothing_kept n.sources)
+moves_start n =
+    record {
+      gates = record { each = λ i g e. absurd cc };
+      below = λ p is. subst (IsSigBelow (n.sources + 1 + 0)) (sym (source_stays n.sources p is.1)) (is.0, omega (arith, is.1));
+      same = λ given p is.
+          ap (sig_value (values_of given n.sources [])) (source_stays n.sources p is.1)
+          ∙ value-source given n.sources p [] is.1
+          ∙ sym (value-source given n.sources p n.gates is.1);
+    }
+
+-- what a gate reads is a place below it
+pub reads_below : (place p : ℕ) (g : Gate) → IsGateAt place g → ReadsPlace g p → (1 ≤ p) × (p < place)
+reads_below place p g is reads =
+    ⊎_elim (λ a. subst (IsSigBelow place) a is.first) (λ b. subst (IsSigBelow place) b is.second) reads
+
+-- Gates of a net can be moved where with each that is marked what it reads is marked or known.
+pub net_movable : (n : Net) (known : ℕ → Type 0) (marks : ℕ → Bool) → IsNet n → ((p : ℕ) → IsSourcePlace n.sources p → known p) → ((i p : ℕ) (g : Gate) → slice_get n.gates i ≡ Some g → ReadsPlace g p → marks (n.sources + 1 + i) ≡ true → known p ⊎ (marks p ≡ true)) → AreMovable (value n) known marks (n.sources + 1) n.gates
+net_movable n known marks net sources closed =
+    record {
+      operators = λ i g at on. (net.gates.each i g at).operator;
+      reads = λ i p g at on reads.
+          let low = reads_below (n.sources + 1 + i) p g (net.gates.each i g at) reads in
+          ⊎_elim
+          (λ k. inl k)
+          (λ m. ⊎_elim
+          (λ (source : p < n.sources + 1). inl (sources p (low.0, omega arith)))
+          (λ (above : n.sources + 1 ≤ p). inr (record { low = above; high = low.1; mark = m }))
+          (cases_lt p (n.sources + 1)))
+          (closed i p g at reads on);
+      values = λ given i g at on. values_after-gate given (n.sources + 1) i n.gates g at (net.gates.each i g at);
+    }
