@@ -1,6 +1,6 @@
 -- Marks and places that are written one by one.
-use Rattle.std.proofs.Common.{◌≡◌, ℕ, zero, suc, ◌+◌, ◌<◌, Bool, true, false, List, [], ◌∷◌, ◌++◌, length, set, get_or, map, replicate, leb, add-zero, refl, ◌∙◌, ap, sym, arith, ⊎_elim, ◌==◌}
-use Rattle.std.specs.List.{slice_get, range_with_len}
+use Rattle.std.proofs.Common.{◌≡◌, ℕ, zero, suc, ◌+◌, ◌<◌, Bool, true, false, List, [], ◌∷◌, ◌++◌, length, set, get_or, map, replicate, leb, add-zero, refl, ◌∙◌, ap, sym, arith, ⊎_elim, ◌==◌, ◌||◌, if◌then◌else◌}
+use Rattle.std.specs.List.{slice_get, range_with_len, list_any}
 use Rattle.std.proofs.lemmas.List.{get_or_past}
 use Rattle.std.proofs.lemmas.List.FromFn.{length-map-range_with_len}
 use Rattle.std.proofs.lemmas.Bool.{cases_eq, cases_lt, lt-leb, cond-true, cond-false, eq-eqb, ne_eqb}
@@ -8,12 +8,14 @@ use Rattle.std.proofs.lemmas.List.{get_or-set_same, get_or-set_other}
 use Rattle.chain_theory.specs.Value.{extended}
 use Rattle.chain_theory.specs.ValueLaws.{extended-same, extended-other}
 use Rattle.net_theory.specs.declared.data.Sig.{Sig}
-use Rattle.net_theory.specs.declared.data.Sig.TheVariants.{Zero, Place}
+use Rattle.net_theory.specs.declared.data.Sig.TheVariants.{Zero, One, Place}
 use Rattle.net_theory.specs.declared.data.Gate.{Gate}
 use Rattle.net_theory.specs.Net.{Net, IsGateAt}
 use Rattle.net_theory.specs.ValueLaws.{at_front, at_end}
-use Rattle.net_theory.specs.Dead.{live, dropped, nothing_kept, kept_gates, no_marks, sources_stay, with_mark, sink_marks, gate_marked, marked, moved, put_sig, Kept, with_kept, kept_after}
-use Rattle.net_core.specs.Marks.{set_of, places_of, kept, AreAt}
+use Rattle.net_theory.specs.Reach.{live, is_place, is_sink, with_mark, gate_marked, marked}
+use Rattle.net_theory.specs.Moving.{nothing_kept, sources_stay, moved, put_sig, Kept, with_kept, kept_after, marked_count}
+use Rattle.net_theory.specs.Dead.{dropped, kept_gates}
+use Rattle.net_core.specs.Marks.{set_of, no_marks, sink_marks, places_of, kept, AreAt}
 
 -- ---- marks
 
@@ -40,6 +42,39 @@ sink_marks-none marks (s ∷ ss) e = absurd (omega arith)
 pub sink_marks-next : (marks : ℕ → Bool) (ss rest : List Sig) (s : Sig) → ss ≡ s ∷ rest → sink_marks (with_mark marks s) rest ≡ sink_marks marks ss
 unfolding sink_marks
 sink_marks-next marks ss rest s e = ap (sink_marks marks) (sym e)
+
+-- a mark is the signal's, or was there
+with_mark-is : (marks : ℕ → Bool) (s : Sig) (p : ℕ) → with_mark marks s p ≡ (is_place p s || marks p)
+with_mark-is marks Zero p = refl
+with_mark-is marks One p = refl
+with_mark-is marks (Place q) p =
+    ⊎_elim
+    (λ (same : p ≡ q). extended-same marks q p true same ∙ ap (λ (b : Bool). b || marks p) (sym (eq-eqb q p (sym same))))
+    (λ other. extended-other marks q p true other ∙ ap (λ (b : Bool). b || marks p) (sym (ne_eqb q p (λ (same : q ≡ p). other (sym same)))))
+    (cases_eq p q)
+
+or_swap : (a b c : Bool) → (a || (b || c)) ≡ ((b || a) || c)
+or_swap true true c = refl
+or_swap true false c = refl
+or_swap false true c = refl
+or_swap false false c = refl
+
+sink_marks-at : (marks : ℕ → Bool) (ss : List Sig) (p : ℕ) → sink_marks marks ss p ≡ (list_any (is_place p) ss || marks p)
+unfolding sink_marks
+sink_marks-at marks [] p = refl
+sink_marks-at marks (s ∷ ss) p =
+    sink_marks-at (with_mark marks s) ss p
+    ∙ ap (λ (b : Bool). list_any (is_place p) ss || b) (with_mark-is marks s p)
+    ∙ or_swap (list_any (is_place p) ss) (is_place p s) (marks p)
+
+or_none : (a : Bool) → (a || false) ≡ a
+or_none true = refl
+or_none false = refl
+
+-- The marks of the sinks are the sinks.
+pub sink_marks-sinks : (n : Net) → sink_marks no_marks n.sinks ≡ is_sink n
+unfolding is_sink
+sink_marks-sinks n = λ i p. (sink_marks-at no_marks n.sinks p ∙ or_none (list_any (is_place p) n.sinks)) i
 
 pub marked-none : (marks : ℕ → Bool) (place : ℕ) (gs : List Gate) → length gs ≡ 0 → marks ≡ marked marks place gs
 unfolding marked
@@ -106,6 +141,17 @@ unfolding kept_after set_of
 kept_after-off marks sources k place gs rest g e off =
     ap (λ (x : Kept). kept_after (set_of marks) sources x (place + 1) rest) (sym (cond-false (get_or marks place false) (with_kept sources k place g) k off))
     ∙ ap (kept_after (set_of marks) sources k place) (sym e)
+
+-- a gate that is marked counts, and one that isn't doesn't
+pub marked_count-on : (marks : List Bool) (place : ℕ) (gs rest : List Gate) (g : Gate) → gs ≡ g ∷ rest → get_or marks place false ≡ true → marked_count (set_of marks) place gs ≡ suc (marked_count (set_of marks) (place + 1) rest)
+unfolding marked_count set_of
+marked_count-on marks place gs rest g e on =
+    omega (arith, ap (marked_count (set_of marks) place) e ∙ ap (λ (b : Bool). (if b then 1 else 0) + marked_count (set_of marks) (place + 1) rest) on)
+
+pub marked_count-off : (marks : List Bool) (place : ℕ) (gs rest : List Gate) (g : Gate) → gs ≡ g ∷ rest → get_or marks place false ≡ false → marked_count (set_of marks) place gs ≡ marked_count (set_of marks) (place + 1) rest
+unfolding marked_count set_of
+marked_count-off marks place gs rest g e off =
+    omega (arith, ap (marked_count (set_of marks) place) e ∙ ap (λ (b : Bool). (if b then 1 else 0) + marked_count (set_of marks) (place + 1) rest) off)
 
 -- where the places start
 start_at : (sources n i : ℕ) (p : ℕ) → p < n → get_or (map (sources_stay sources) (range_with_len i n)) p Zero ≡ sources_stay sources (i + p)

@@ -10,6 +10,9 @@ pub use Rattle.net_theory.specs.Visit
 pub use Rattle.net_theory.specs.NetOf
 pub use Rattle.net_theory.specs.WellFormed
 pub use Rattle.net_theory.specs.Circuit
+pub use Rattle.net_theory.specs.Reach
+pub use Rattle.net_theory.specs.Moving
+pub use Rattle.net_theory.specs.Answers
 pub use Rattle.net_theory.specs.Dead
 pub use Rattle.net_theory.specs.Naming
 pub use Rattle.net_theory.specs.BuiltLaws

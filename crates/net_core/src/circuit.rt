@@ -1,7 +1,8 @@
 ghost use Rattle.std.specs.Prelude.{◌≡◌, IfOk};
 ghost use Rattle.net_theory.specs.Document.{Document};
 ghost use Rattle.net_theory.specs.Circuit.{IsProper, Describes};
-ghost use Rattle.net_theory.specs.Dead.{dropped, IsPruned};
+ghost use Rattle.net_theory.specs.Answers.{IsPruned};
+ghost use Rattle.net_theory.specs.Dead.{dropped};
 
 use crate::dead::drop_dead;
 use crate::name::Name;
@@ -50,7 +51,7 @@ impl Model for Circuit {
 impl Circuit {
     /// The circuit without its dead gates: those that no sink reads, directly or through gates. A
     /// document that describes the circuit describes it still.
-    #[tactic(auto, using(net_theory::specs::PrunedLaws::pruned_proper, net_theory::specs::PrunedLaws::pruned_describes))]
+    #[tactic(auto, using(net_theory::specs::ExchangeLaws::exchanged_proper, net_theory::specs::ExchangeLaws::exchanged_describes))]
     pub fn without_dead_gates(self, alloc: Global) -> Result<Circuit, AllocError>
         requires { IsProper self }
         ensures exact { IfOk result (λ left. left ≡ record self { net = dropped self.net }) }

@@ -40,9 +40,10 @@ pub struct Cover {
 }
 
 impl Model for Cover {
+    ghost use Rattle.std.specs.Prelude.{false};
     ghost use Rattle.net_theory.specs.Cover as cover;
 
     ghost Value = { cover.Cover };
 
-    ghost view = { λ c. record { width = c.width; cubes = c.cubes.items; on = c.on } };
+    ghost view = { λ c. record { width = c.width; cubes = c.cubes.items; on = c.on; parity = false } };
 }

@@ -219,7 +219,7 @@ fn finish(
 }
 
 /// A table of more than two inputs.
-#[tactic(auto, using(crate::proofs::Wide::wide_table), unfolding(net_theory::specs::Expansion::wide_built))]
+#[tactic(auto, using(crate::proofs::Wide::wide_table))]
 fn expand_wide(
     alloc: Global,
     sources: u32,

@@ -1,7 +1,7 @@
 use Rattle.std.proofs.Common.{◌≡◌, ◌+◌, ◌∷◌, [], ◌∙◌, length, length-append, ap, refl, arith}
 use Rattle.net_theory.specs.declared.data.Gate.{Gate}
 use Rattle.net_core.proofs.DeadGates.{marked-none, marked-on, marked-off, front_at}
-use Rattle.net_core.proofs.dead.mark_gates.Goals as goal
+use Rattle.net_core.proofs.marking.mark_gates.Goals as goal
 
 pub loop-gate-preserved-then-marks-sources : goal.loop-gate-preserved-then-marks-sources
 loop-gate-preserved-then-marks-sources c =

@@ -1,6 +1,6 @@
 use Rattle.std.proofs.Common.{refl}
 use Rattle.net_core.specs.Marks.{places_of}
-use Rattle.net_core.proofs.dead.moved.Goals as goal
+use Rattle.net_core.proofs.keeping.moved.Goals as goal
 
 pub returns-in-Place : goal.returns-in-Place
 unfolding places_of

@@ -1,15 +1,15 @@
 use Rattle.std.proofs.Common.{◌≡◌, ◌+◌, ◌<◌, ◌^◌, length, vec_len}
-use Rattle.net_theory.specs.Dead.{kept_after}
+use Rattle.net_theory.specs.Moving.{kept_after, marked_count}
 use Rattle.net_core.specs.Marks.{set_of, kept, AreAt}
-use Rattle.net_core.proofs.dead.keep_gates.Given as goal
+use Rattle.net_core.proofs.keeping.keep_gates.Given as goal
 
 abbrev pub invariant-loop-gate : goal.invariant-loop-gate
 invariant-loop-gate l = record {
-  kept : kept_after (set_of l.marks) l.sources (kept l.places l.new.items) l.place l.left ≡ kept_after (set_of l.marks) l.sources (kept l.initial.places l.initial.new.items) (l.sources + 1) l.gates;
+  kept : kept_after (set_of l.marks) l.sources (kept l.places l.new.items) l.place l.left ≡ kept_after (set_of l.marks) l.sources (kept l.initial.places l.initial.new.items) l.first l.gates;
   stand : AreAt l.place l.left;
   marks : l.place + length l.left ≡ length l.marks;
   places : length l.places ≡ length l.marks;
-  room : l.sources + vec_len l.new + length l.left < 2 ^ 31;
+  room : l.sources + vec_len l.new + marked_count (set_of l.marks) l.place l.left < 2 ^ 31;
 }
 
 abbrev pub decreases-loop-gate : goal.decreases-loop-gate

@@ -3,7 +3,7 @@ use Rattle.std.specs.List.{All}
 use Rattle.std.proofs.lemmas.List.Elements.{All-rest}
 use Rattle.net_theory.specs.Net.{IsSigBelow}
 use Rattle.net_core.proofs.DeadGates.{sink_marks-none, sink_marks-next}
-use Rattle.net_core.proofs.dead.mark_sinks.Goals as goal
+use Rattle.net_core.proofs.marking.mark_sinks.Goals as goal
 
 pub loop-sink-preserved : goal.loop-sink-preserved
 loop-sink-preserved c = record {

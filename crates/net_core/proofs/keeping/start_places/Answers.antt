@@ -1,10 +1,10 @@
 use Rattle.std.proofs.Common.{◌≡◌, ◌∙◌, map, ap, sym, length, vec_len, arith}
 use Rattle.std.specs.List.{range_with_len}
 use Rattle.std.proofs.lemmas.List.FromFn.{map-range_with_len_more, length-map-range_with_len}
-use Rattle.net_theory.specs.Dead.{sources_stay}
+use Rattle.net_theory.specs.Moving.{sources_stay}
 use Rattle.net_core.specs.Marks.{places_of}
 use Rattle.net_core.proofs.DeadGates.{places_of-start}
-use Rattle.net_core.proofs.dead.start_places.Goals as goal
+use Rattle.net_core.proofs.keeping.start_places.Goals as goal
 
 pub loop-place-preserved : goal.loop-place-preserved
 loop-place-preserved c =

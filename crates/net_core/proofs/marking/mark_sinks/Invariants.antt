@@ -1,9 +1,8 @@
 use Rattle.std.proofs.Common.{◌≡◌, length}
 use Rattle.std.specs.List.{All}
 use Rattle.net_theory.specs.Net.{IsSigBelow}
-use Rattle.net_theory.specs.Dead.{sink_marks}
-use Rattle.net_core.specs.Marks.{set_of}
-use Rattle.net_core.proofs.dead.mark_sinks.Given as goal
+use Rattle.net_core.specs.Marks.{set_of, sink_marks}
+use Rattle.net_core.proofs.marking.mark_sinks.Given as goal
 
 abbrev pub invariant-loop-sink : goal.invariant-loop-sink
 invariant-loop-sink l = record {

@@ -1,8 +1,8 @@
 use Rattle.std.proofs.Common.{◌≡◌, suc, ◌∙◌, length, ap, arith}
 use Rattle.net_theory.specs.declared.data.Gate.{Gate}
 use Rattle.net_core.proofs.Evaluations.{first_at, rest_at}
-use Rattle.net_core.proofs.DeadGates.{kept_after-none, kept_after-on, kept_after-off}
-use Rattle.net_core.proofs.dead.keep_gates.Goals as goal
+use Rattle.net_core.proofs.DeadGates.{kept_after-none, kept_after-on, kept_after-off, marked_count-on, marked_count-off}
+use Rattle.net_core.proofs.keeping.keep_gates.Goals as goal
 
 pub keep_gate-requires-clause-gate : goal.keep_gate-requires-clause-gate
 keep_gate-requires-clause-gate c = first_at _ _ _ _ c.in-Some.ensures.cases.0 c.loop-gate.invariant.stand
@@ -15,7 +15,7 @@ loop-gate-preserved-then-marks-place c =
       stand = rest_at _ _ _ _ c.in-Some.ensures.cases.0 c.loop-gate.invariant.stand;
       marks = omega (arith, size);
       places = c.keep_gate.auto.places ∙ c.loop-gate.invariant.places;
-      room = omega (arith, size, c.in_ok-keep_gate.ensures.count);
+      room = omega (arith, marked_count-on c.args.marks.now c.loop-gate.place c.loop-gate.left.now c.in-Some.rest.now c.in-Some.gate.now c.in-Some.ensures.cases.0 c.if-marks-place.true, c.in_ok-keep_gate.ensures.count, c.loop-gate.invariant.room);
     }
 
 pub loop-gate-preserved : goal.loop-gate-preserved
@@ -26,7 +26,7 @@ loop-gate-preserved c =
       stand = rest_at _ _ _ _ c.in-Some.ensures.cases.0 c.loop-gate.invariant.stand;
       marks = omega (arith, size);
       places = c.loop-gate.invariant.places;
-      room = omega (arith, size);
+      room = omega (arith, marked_count-off c.args.marks.now c.loop-gate.place c.loop-gate.left.now c.in-Some.rest.now c.in-Some.gate.now c.in-Some.ensures.cases.0 c.if-marks-place.false, c.loop-gate.invariant.room);
     }
 
 pub returns : goal.returns

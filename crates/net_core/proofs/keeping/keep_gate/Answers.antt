@@ -1,6 +1,6 @@
 use Rattle.std.proofs.Common.{◌≡◌, length, vec_len, refl}
 use Rattle.net_core.proofs.DeadGates.{places_of-set}
-use Rattle.net_core.proofs.dead.keep_gate.Goals as goal
+use Rattle.net_core.proofs.keeping.keep_gate.Goals as goal
 
 pub returns-clause-kept : goal.returns-clause-kept
 returns-clause-kept c =

@@ -1,7 +1,7 @@
 use Rattle.std.proofs.Common.{◌≡◌, ◌+◌, ◌≤◌, length}
-use Rattle.net_theory.specs.Dead.{marked}
+use Rattle.net_theory.specs.Reach.{marked}
 use Rattle.net_core.specs.Marks.{set_of, AreAt}
-use Rattle.net_core.proofs.dead.mark_gates.Given as goal
+use Rattle.net_core.proofs.marking.mark_gates.Given as goal
 
 abbrev pub invariant-loop-gate : goal.invariant-loop-gate
 invariant-loop-gate l = record {
