@@ -18,7 +18,7 @@ row_if true row = row ∷ []
 row_if false row = []
 
 abbrev pub table_with : List Name → List (List ℕ) → Name → Table
-table_with inputs cubes output = record { inputs = inputs; output = output; cover = record { width = length inputs; cubes = cubes; on = true } }
+table_with inputs cubes output = record { inputs = inputs; output = output; cover = record { width = length inputs; cubes = cubes; on = true; parity = false } }
 
 -- a table without inputs
 abbrev pub constant_table : Bool → Name → Table

@@ -73,7 +73,7 @@ last_of w [] = w
 last_of w (v ∷ ws) = last_of v ws
 
 abbrev pub empty_table : List Name → Name → Table
-empty_table inputs output = record { inputs = inputs; output = output; cover = record { width = length inputs; cubes = []; on = true } }
+empty_table inputs output = record { inputs = inputs; output = output; cover = record { width = length inputs; cubes = []; on = true; parity = false } }
 
 -- `.names INPUTS OUTPUT`
 unfoldable pub table_of : ℕ → List (List ℕ) → Result Table NetError

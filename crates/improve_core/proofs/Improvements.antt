@@ -15,7 +15,7 @@ use Rattle.net_theory.specs.NetOf.{source_count}
 use Rattle.net_theory.specs.Circuit.{Circuit, IsProper}
 use Rattle.net_theory.specs.Dead.{dropped}
 use Rattle.net_theory.specs.DeadLaws.{dropped_is}
-use Rattle.net_theory.specs.PrunedLaws.{pruned_proper, pruned_describes}
+use Rattle.net_theory.specs.ExchangeLaws.{exchanged_proper, exchanged_describes}
 use Rattle.net_theory.specs.Naming.{control_of}
 use Rattle.net_core.specs.declared.error.NetError.{NetError}
 use Rattle.net_core.specs.declared.error.NetError.TheVariants.{Syntax, NotSupported, MixedCover, TooWide, TooManyGates, DrivenTwice, Undriven, Cycle, LineTooLong, TooManyRows, NameTooLong, Memory}
@@ -87,7 +87,7 @@ text_room bytes c short is =
 -- ---- improving
 
 pub tidied_proper : (c : Circuit) → IsProper c → IsProper (tidied c)
-tidied_proper c is = pruned_proper c (dropped c.net) is (dropped_is c.net is.net)
+tidied_proper c is = exchanged_proper c (dropped c.net) is (dropped_is c.net is.net).answers
 
 pub text_proper : (bytes : List ℕ) (c : Circuit) → IsCircuitOfText bytes c → IsProper c
 text_proper bytes c is = is.circuit.proper
@@ -101,7 +101,7 @@ pub ruleset tidying = (common_steps, tidied_room)
 improved_is : (bytes : List ℕ) (c : Circuit) → length bytes < 2 ^ 31 → IsCircuitOfText bytes c → IsImproved bytes (circuit_text (tidied c)) (length c.net.gates) (cost (written (tidied c)))
 improved_is bytes c short is =
     let pruned = dropped_is c.net is.circuit.proper.net in
-    let proper = pruned_proper c (dropped c.net) is.circuit.proper pruned in
+    let proper = exchanged_proper c (dropped c.net) is.circuit.proper pruned.answers in
     let room = text_room bytes c short is in
     let text = text_is (tidied c) proper room in
     record {
@@ -117,10 +117,10 @@ improved_is bytes c short is =
       again = text.listed;
       said_again = text.said;
       well_again = text.well;
-      same = describes_same is.listed.document text.listed.document (tidied c) (pruned_describes is.listed.document c (dropped c.net) pruned is.circuit.describes) text.describes;
+      same = describes_same is.listed.document text.listed.document (tidied c) (exchanged_describes is.listed.document c (dropped c.net) pruned.answers is.circuit.describes) text.describes;
       before_is = sym is.circuit.gates;
       after_is = ap cost (sym text.document);
-      fewer = omega (arith, written_cost (tidied c) proper (circuit_named (tidied c) proper room), pruned.fewer);
+      fewer = omega (arith, written_cost (tidied c) proper (circuit_named (tidied c) proper room), pruned.answers.fewer);
     }
 
 pub text_improved : (bytes text report : List ℕ) (c : Circuit) → length bytes < 2 ^ 31 → IsCircuitOfText bytes c → text ≡ circuit_text (tidied c) → report ≡ report_text (length c.net.gates) (cost (written (tidied c))) → IsReported bytes text report

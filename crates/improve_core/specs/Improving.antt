@@ -6,8 +6,9 @@ use Rattle.net_theory.specs.Behaviour.{Same}
 use Rattle.net_theory.specs.Cost.{cost}
 use Rattle.net_theory.specs.NetOf.{net_of}
 use Rattle.net_theory.specs.Circuit.{Circuit, IsProper}
-use Rattle.net_theory.specs.Dead.{IsReached, dropped}
-use Rattle.net_theory.specs.PrunedLaws.{with_net}
+use Rattle.net_theory.specs.Reach.{IsReached}
+use Rattle.net_theory.specs.Dead.{dropped}
+use Rattle.net_theory.specs.ExchangeLaws.{with_net}
 use Rattle.net_core.specs.declared.error.NetError.{NetError}
 use Rattle.net_core.specs.declared.error.NetError.TheVariants.{Memory}
 use Rattle.net_document.specs.Listed.{Listed}

@@ -3,6 +3,8 @@ pub use Rattle.net_theory.specs.Behaviour
 pub use Rattle.net_theory.specs.WellFormed
 pub use Rattle.net_theory.specs.Circuit
 pub use Rattle.net_theory.specs.Cost
+pub use Rattle.net_theory.specs.Reach
+pub use Rattle.net_theory.specs.Answers
 pub use Rattle.net_theory.specs.Dead
 pub use Rattle.net_document.specs.Listed
 pub use Rattle.blif_text.specs.Statements

@@ -283,7 +283,7 @@ table_lines t = names_line t ∷ map row_line t.cover.cubes
 
 -- a table with these cubes, on which it is 1
 abbrev with_cubes : Table → List (List ℕ) → Table
-with_cubes t cubes = record { inputs = t.inputs; output = t.output; cover = record { width = t.cover.width; cubes = cubes; on = true } }
+with_cubes t cubes = record { inputs = t.inputs; output = t.output; cover = record { width = t.cover.width; cubes = cubes; on = true; parity = false } }
 
 front_back : (w : Name) (ws : List Name) (output : Name) → front_of w (ws ++ output ∷ []) ≡ w ∷ ws
 unfolding front_of
@@ -367,7 +367,7 @@ names_said n t s d is has =
 
 table_whole : (t : Table) → IsSpelledTable t → with_cubes (empty_table t.inputs t.output) t.cover.cubes ≡ t
 table_whole t is =
-    ap (λ (w : ℕ). let u : Table = record { inputs = t.inputs; output = t.output; cover = record { width = w; cubes = t.cover.cubes; on = true } } in u) (sym is.table.width)
+    ap (λ (w : ℕ). let u : Table = record { inputs = t.inputs; output = t.output; cover = record { width = w; cubes = t.cover.cubes; on = true; parity = false } } in u) (sym is.table.width)
     ∙ ap (λ (on : Bool). let u : Table = record { inputs = t.inputs; output = t.output; cover = record { width = t.cover.width; cubes = t.cover.cubes; on = on } } in u) (sym is.on)
 
 opened_has : (d : Document) (s : Said) (t : Table) → Has d s → Has (add_tables (t ∷ []) d) (open_table (with_table (closed s) t) t)
