@@ -22,7 +22,8 @@ use Rattle.lrat_text.specs.WholeLines.{text_back}
 use Rattle.tt_core.specs.Words.{Words, cell_of}
 use Rattle.tt_core.specs.Spelling.{character, header_line}
 use Rattle.op_basis.specs.Basis.{members}
-use Rattle.op_basis.specs.Text.{name_of, list_below, with_word, word_text, text_with, basis_text, all_set, u2_set, bench_set, nand_set}
+use Rattle.op_basis.specs.Text.{name_of, list_below, with_word, text_with, basis_text, all_set, u2_set, bench_set, nand_set}
+use Rattle.op_basis.specs.Word.{word_text}
 use Rattle.op_basis.specs.Text as bases
 use Rattle.chain_core.specs.Steps.{IsSmallChain}
 use Rattle.chain_core.specs.Spelling.{line, chain_lines}
@@ -101,7 +102,7 @@ free_bit true = refl
 free_bit false = refl
 
 free_operator : (op : ℕ) → is_free 10 (word_text op) ≡ true
-unfolding is_free
+unfolding is_free word_text
 free_operator op = grind (arith, common_steps)
 
 free_with : (list word : List ℕ) → is_free 10 list ≡ true → is_free 10 word ≡ true → is_free 10 (with_word list word) ≡ true

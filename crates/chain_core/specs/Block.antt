@@ -9,7 +9,7 @@
 -- The first line tells the number of steps. Then comes a line for each step: its own place, the
 -- places of its operands and its operator's word. Then comes a line for each output. A number is
 -- decimal digits with no sign and no 0 in front of others.
-use Rattle.std.specs.Prelude.{ℕ, ◌+◌, ◌-◌, ◌*◌, Bool, true, false, ◌&&◌, ◌||◌, ◌==◌, nat_lt, nat_le, if◌then◌else◌, List, [], ◌∷◌, ◌++◌, length, Option, Some, None, Result, Ok, Err, codes, option_and_then}
+use Rattle.std.specs.Prelude.{ℕ, ◌+◌, Bool, true, false, ◌&&◌, ◌==◌, nat_lt, nat_le, if◌then◌else◌, List, [], ◌∷◌, ◌++◌, length, Option, Some, None, Result, Ok, Err, codes, option_and_then}
 use Rattle.std.specs.Option.{option_map}
 use Rattle.text_core.specs.Lines.{Line}
 use Rattle.text_core.specs.Items.{items_of}
@@ -18,6 +18,7 @@ use Rattle.text_core.specs.Numbers.{number_up_to}
 use Rattle.chain_theory.specs.declared.data.Out.{Out}
 use Rattle.chain_theory.specs.declared.data.Out.TheVariants as outs
 use Rattle.chain_theory.specs.Chain.{Step, Chain}
+use Rattle.op_basis.specs.Word.{operator_in}
 use Rattle.chain_core.specs.declared.error.ChainError.{ChainError}
 use Rattle.chain_core.specs.declared.error.ChainError.TheVariants.{BadStep, ForwardPlace, BadOut, TooManySteps, BadCount}
 use Rattle.chain_core.specs.declared.frame.Frame.{Frame}
@@ -48,15 +49,6 @@ unfoldable pub count_at : ℕ → Line → Result ℕ ChainError
 count_at number l = if l.ended then counted number (option_and_then number_in (after (codes "chain ") l.text)) else Err (BadCount number)
 
 -- ---- steps
-
--- the byte 0 or 1
-abbrev pub is_bit : ℕ → Bool
-is_bit b = b == 48 || b == 49
-
--- the operator of a word of four bits
-unfoldable pub operator_in : List ℕ → Option ℕ
-operator_in (a ∷ b ∷ c ∷ d ∷ []) = if is_bit a && is_bit b && is_bit c && is_bit d then Some ((a - 48) * 8 + (b - 48) * 4 + (c - 48) * 2 + (d - 48)) else None
-operator_in other = None
 
 abbrev pub step_from : Option ℕ → Option ℕ → Option ℕ → Option ℕ → Option (ℕ × Step)
 step_from (Some i) (Some j) (Some k) (Some op) = Some (i, record { j = j; k = k; op = op })

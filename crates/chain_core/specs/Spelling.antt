@@ -3,13 +3,13 @@
 --     chain 1
 --     x3 x1 x2 0110
 --     out x3
-use Rattle.std.specs.Prelude.{◌≡◌, ℕ, ◌+◌, ◌≤◌, Bool, true, false, if◌then◌else◌, List, [], ◌∷◌, ◌++◌, length, map, codes, decimal}
+use Rattle.std.specs.Prelude.{◌≡◌, ℕ, ◌+◌, ◌≤◌, true, List, [], ◌∷◌, ◌++◌, length, map, codes, decimal}
 use Rattle.std.specs.List.{flat_map, join_with_byte}
 use Rattle.text_core.specs.Lines.{Line, line_bytes}
 use Rattle.chain_theory.specs.declared.data.Out.{Out}
 use Rattle.chain_theory.specs.declared.data.Out.TheVariants.{Zero, One, Place}
-use Rattle.chain_theory.specs.Operator.{apply}
 use Rattle.chain_theory.specs.Chain.{Step, Chain, IsChain}
+use Rattle.op_basis.specs.Word.{word_text}
 use Rattle.chain_core.specs.Block.{Read}
 
 -- a line that ends with an LF
@@ -19,16 +19,9 @@ line text = record { text = text; ended = true }
 abbrev pub place_text : ℕ → List ℕ
 place_text place = codes "x" ++ decimal place
 
-abbrev pub bit_text : Bool → ℕ
-bit_text bit = if bit then 49 else 48
-
--- an operator's values at (0,0), (0,1), (1,0) and (1,1)
-unfoldable pub operator_text : ℕ → List ℕ
-operator_text op = bit_text (apply op false false) ∷ bit_text (apply op false true) ∷ bit_text (apply op true false) ∷ bit_text (apply op true true) ∷ []
-
 -- the step at a place, with a blank between each two items
 unfoldable pub step_text : ℕ → Step → List ℕ
-step_text place s = join_with_byte 32 (place_text place ∷ place_text s.j ∷ place_text s.k ∷ operator_text s.op ∷ [])
+step_text place s = join_with_byte 32 (place_text place ∷ place_text s.j ∷ place_text s.k ∷ word_text s.op ∷ [])
 
 -- steps from a place on, a line for each
 unfoldable pub step_lines : ℕ → List Step → List Line

@@ -1,22 +1,22 @@
 -- What is written in a line of a block, and what is read of it.
-use Rattle.std.proofs.Common.{◌≡◌, ℕ, ◌+◌, ◌-◌, ◌*◌, ◌≤◌, ◌<◌, Bool, true, false, List, [], ◌∷◌, ◌++◌, Option, Some, None, refl, sym, ap, ◌∙◌, arith, subst}
+use Rattle.std.proofs.Common.{◌≡◌, ℕ, ◌≤◌, ◌<◌, Bool, true, false, List, [], ◌∷◌, ◌++◌, Option, Some, None, refl, sym, ap, ◌∙◌, arith, subst}
 use Rattle.std.specs.Prelude.{codes, decimal, option_and_then, ◌&&◌, if◌then◌else◌}
 use Rattle.std.specs.Option.{option_map}
 use Rattle.std.proofs.lemmas.Bool.{eqb-true}
-use Rattle.std.specs.Int.{bit_at}
 use Rattle.std.specs.List.{join_with_byte}
 use Rattle.std.proofs.lemmas.Grind.{common_steps}
-use Rattle.std.proofs.lemmas.Option.{option_and_then_some, cond_some}
-use Rattle.std.proofs.lemmas.Nat.Bits.{bit_at-lt}
+use Rattle.std.proofs.lemmas.Option.{option_and_then_some}
 use Rattle.text_core.specs.Items.{items_of}
 use Rattle.text_core.specs.Words.{after, is_free}
 use Rattle.text_core.specs.ReadBack.{item_back, last_item_back, items_spell, word_back, word_spells, number_back, number_spells, free_both, free_decimal}
 use Rattle.chain_theory.specs.declared.data.Out.{Out}
 use Rattle.chain_theory.specs.declared.data.Out.TheVariants as outs
-use Rattle.chain_theory.specs.Operator.{digit}
 use Rattle.chain_theory.specs.Chain.{Step, IsStepAt, NamesPlace}
-use Rattle.chain_core.specs.Block.{number_in, place_in, is_bit, operator_in, step_from, step_in, is_byte, named_in, out_in}
-use Rattle.chain_core.specs.Spelling.{place_text, bit_text, operator_text, step_text, named_text, out_text, count_text}
+use Rattle.op_basis.specs.Word.{operator_in, word_text}
+use Rattle.op_basis.specs.ReadBack.{operator_back}
+use Rattle.op_basis.specs.MemberLaws.{item_spelled}
+use Rattle.chain_core.specs.Block.{number_in, place_in, step_from, step_in, is_byte, named_in, out_in}
+use Rattle.chain_core.specs.Spelling.{place_text, step_text, named_text, out_text, count_text}
 
 -- ---- places
 
@@ -44,72 +44,19 @@ free_place byte p low fits = free_both byte (codes "x") (decimal p) (free_x byte
 
 -- ---- operators
 
--- a bit as a number
-abbrev weight : Bool → ℕ
-weight bit = if bit then 1 else 0
-
--- a binary digit as a number
-weight_digit : (op k : ℕ) → weight (digit op k) ≡ bit_at op k
-weight_digit op k = grind (arith, common_steps, bit_at-lt op k)
-
--- four bits that are written are read as the number that they spell
-four_back : (a b c d : Bool) → operator_in (bit_text a ∷ bit_text b ∷ bit_text c ∷ bit_text d ∷ []) ≡ Some (weight a * 8 + weight b * 4 + weight c * 2 + weight d)
-unfolding operator_in
-four_back a b c d = grind (arith, common_steps)
-
--- an operator that is written is read
-pub operator_back : (op : ℕ) → op < 16 → operator_in (operator_text op) ≡ Some op
-unfolding operator_text
-operator_back op fits =
-    let sum : weight (digit op 3) * 8 + weight (digit op 2) * 4 + weight (digit op 1) * 2 + weight (digit op 0) ≡ op = omega (arith, weight_digit op 3, weight_digit op 2, weight_digit op 1, weight_digit op 0) in
-    four_back (digit op 3) (digit op 2) (digit op 1) (digit op 0) ∙ ap (λ (n : ℕ). Some n) sum
-
--- a character that is a bit was written from it
-bit_spells : (a op k : ℕ) → is_bit a ≡ true → bit_at op k ≡ a - 48 → a ≡ bit_text (digit op k)
-bit_spells a op k bit e = grind (arith, common_steps)
-
--- a character that is a bit has the value 0 or 1
-bit_below : (a : ℕ) → is_bit a ≡ true → a - 48 < 2
-bit_below a bit = grind (arith, common_steps)
-
 -- both of two tests that are true together
 pub both_true : (a b : Bool) → a && b ≡ true → (a ≡ true) × (b ≡ true)
 both_true true true e = (refl, refl)
 both_true true false e = absurd cc
 both_true false b e = absurd cc
 
--- four characters that are bits were written from the number that they spell
-four_spell : (a b c d op : ℕ) → is_bit a ≡ true → is_bit b ≡ true → is_bit c ≡ true → is_bit d ≡ true → (a - 48) * 8 + (b - 48) * 4 + (c - 48) * 2 + (d - 48) ≡ op → (op < 16) × (a ∷ b ∷ c ∷ d ∷ [] ≡ operator_text op)
-unfolding operator_text
-four_spell a b c d op ba bb bc bd sum =
-    let wa = bit_below a ba in
-    let wb = bit_below b bb in
-    let wc = bit_below c bc in
-    let wd = bit_below d bd in
-    let ea = bit_spells a op 3 ba (omega arith) in
-    let eb = bit_spells b op 2 bb (omega arith) in
-    let ec = bit_spells c op 1 bc (omega arith) in
-    let ed = bit_spells d op 0 bd (omega arith) in
-    (omega arith, cc)
-
 -- what reads as an operator was written
-pub operator_spells : (item : List ℕ) (op : ℕ) → operator_in item ≡ Some op → (op < 16) × (item ≡ operator_text op)
-unfolding operator_in
-operator_spells [] op e = absurd cc
-operator_spells (a ∷ []) op e = absurd cc
-operator_spells (a ∷ b ∷ []) op e = absurd cc
-operator_spells (a ∷ b ∷ c ∷ []) op e = absurd cc
-operator_spells (a ∷ b ∷ c ∷ d ∷ []) op e =
-    let parts = cond_some (is_bit a && is_bit b && is_bit c && is_bit d) ((a - 48) * 8 + (b - 48) * 4 + (c - 48) * 2 + (d - 48)) op e in
-    let front = both_true (is_bit a && is_bit b && is_bit c) (is_bit d) parts.0 in
-    let middle = both_true (is_bit a && is_bit b) (is_bit c) front.0 in
-    let first = both_true (is_bit a) (is_bit b) middle.0 in
-    four_spell a b c d op first.0 first.1 middle.1 front.1 parts.1
-operator_spells (a ∷ b ∷ c ∷ d ∷ f ∷ item) op e = absurd cc
+pub operator_spells : (item : List ℕ) (op : ℕ) → operator_in item ≡ Some op → (op < 16) × (item ≡ word_text op)
+operator_spells item op e = let is = item_spelled item op e in (is.low, is.word)
 
 -- a blank or an LF stands in no operator
-pub free_operator : (byte op : ℕ) → byte < 48 → is_free byte (operator_text op) ≡ true
-unfolding is_free operator_text
+pub free_operator : (byte op : ℕ) → byte < 48 → is_free byte (word_text op) ≡ true
+unfolding is_free word_text
 free_operator byte op low = grind (arith, common_steps)
 
 -- ---- steps
@@ -143,7 +90,7 @@ step_back place s fits at =
     let j : s.j < 1000000000 = omega (arith, at.j_below) in
     let k : s.k < 1000000000 = omega (arith, at.k_below) in
     let low : 32 < 48 = omega arith in
-    ap step_in (four_items (place_text place) (place_text s.j) (place_text s.k) (operator_text s.op) (free_place 32 place low fits) (free_place 32 s.j low j) (free_place 32 s.k low k) (free_operator 32 s.op low)) ∙ step_in_four (place_text place) (place_text s.j) (place_text s.k) (operator_text s.op) place s (place_back place fits) (place_back s.j j) (place_back s.k k) (operator_back s.op at.op_below)
+    ap step_in (four_items (place_text place) (place_text s.j) (place_text s.k) (word_text s.op) (free_place 32 place low fits) (free_place 32 s.j low j) (free_place 32 s.k low k) (free_operator 32 s.op low)) ∙ step_in_four (place_text place) (place_text s.j) (place_text s.k) (word_text s.op) place s (place_back place fits) (place_back s.j j) (place_back s.k k) (operator_back s.op at.op_below)
 
 -- an LF stands in no step
 pub free_step : (place : ℕ) (s : Step) → place < 1000000000 → IsStepAt place s → is_free 10 (step_text place s) ≡ true
@@ -152,7 +99,7 @@ free_step place s fits at =
     let j : s.j < 1000000000 = omega (arith, at.j_below) in
     let k : s.k < 1000000000 = omega (arith, at.k_below) in
     let low : 10 < 48 = omega arith in
-    four_free (place_text place) (place_text s.j) (place_text s.k) (operator_text s.op) (free_place 10 place low fits) (free_place 10 s.j low j) (free_place 10 s.k low k) (free_operator 10 s.op low)
+    four_free (place_text place) (place_text s.j) (place_text s.k) (word_text s.op) (free_place 10 place low fits) (free_place 10 s.j low j) (free_place 10 s.k low k) (free_operator 10 s.op low)
 
 -- what the items of a step are
 record Names (i j k o : Option ℕ) (place : ℕ) (s : Step) : Type 0 where
@@ -181,7 +128,7 @@ step_from_some (Some i) (Some j) None o place s e = absurd cc
 step_from_some (Some i) (Some j) (Some k) None place s e = absurd cc
 
 -- items that read as a step's were written so
-step_items : (items : List (List ℕ)) (place : ℕ) (s : Step) → step_in items ≡ Some (place, s) → (s.op < 16) × (items ≡ place_text place ∷ place_text s.j ∷ place_text s.k ∷ operator_text s.op ∷ [])
+step_items : (items : List (List ℕ)) (place : ℕ) (s : Step) → step_in items ≡ Some (place, s) → (s.op < 16) × (items ≡ place_text place ∷ place_text s.j ∷ place_text s.k ∷ word_text s.op ∷ [])
 unfolding step_in
 step_items [] place s e = absurd cc
 step_items (i ∷ []) place s e = absurd cc

@@ -1,3 +1,4 @@
+//! Why no chain was read.
 ghost use Rattle.std.specs.Prelude.{◌≡◌};
 ghost use Rattle.chain_core.specs.declared.error.ChainError.TheVariants.{Memory};
 

@@ -1,3 +1,5 @@
+//! What the lines of a chain block are judged by.
+
 /// What a chain block's lines are judged by: the number of its first line, the numbers of inputs
 /// and outputs, and the number of steps that the first line tells.
 #[derive(Clone, Copy, Debug, PartialEq, Eq)]

@@ -1,4 +1,6 @@
-//! The lines of a chain block, each by itself.
+//! The lines of a chain block, each by itself. A line is judged in three layers, each equal to the
+//! definition of its name: the words of its items, the step or out that they spell, and whether that
+//! may stand there.
 
 ghost use Rattle.std.specs.Prelude.{◌≡◌, ◌+◌, ◌-◌, ◌<◌, ◌≤◌, ◌^◌, if◌then◌else◌, IfSome, IfOk};
 ghost use Rattle.std.specs.Option.{option_map};
@@ -12,7 +14,7 @@ use crate::error::ChainError;
 use crate::frame::Frame;
 use crate::step::Step;
 use chain_theory::Out;
-use op_basis::Op;
+use op_basis::read_operator;
 use text_core::{after, next_item, number_up_to};
 
 /// The greatest number of nine digits.
@@ -24,30 +26,6 @@ fn place_in(item: &[u8]) -> Option<u32>
     ensures { result ≡ block.place_in item.now }
 {
     number_up_to(GREATEST, after(b"x", item)?)
-}
-
-/// A bit that is written as a character.
-fn bit_in(byte: u8) -> Option<u8>
-    ensures { result ≡ (if block.is_bit byte then Some (byte - 48) else None) }
-{
-    match byte {
-        b'0' => Some(0),
-        b'1' => Some(1),
-        _ => None,
-    }
-}
-
-/// The operator of a word of four bits.
-#[tactic(auto, unfolding(crate::specs::Block::operator_in))]
-fn operator_in(item: &[u8]) -> Option<Op>
-    ensures operator { result ≡ block.operator_in item.now }
-    ensures below { IfSome result (λ op. op < 16) }
-{
-    let [a, b, c, d] = item else {
-        return None;
-    };
-    let word = bit_in(*a)? * 8 + bit_in(*b)? * 4 + bit_in(*c)? * 2 + bit_in(*d)?;
-    Some(Op::new(word))
 }
 
 /// The place that a step's line gives the step, and the step.
@@ -72,7 +50,7 @@ fn step_in(text: &[u8]) -> Option<(u32, Step)>
     let step = Step {
         j: place_in(j)?,
         k: place_in(k)?,
-        op: operator_in(op)?,
+        op: read_operator(op)?,
     };
     Some((place, step))
 }

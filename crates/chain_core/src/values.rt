@@ -1,3 +1,6 @@
+//! Values of places on a row. The steps are walked once, each writing the bit of its own place into an
+//! array; the definition's run over the steps gives the same bits at each turn, which is the loop's one
+//! equation.
 ghost use Rattle.std.specs.Prelude.{◌≡◌, ℕ, ◌+◌, ◌^◌, ◌<◌, ◌≤◌, length};
 ghost use Rattle.chain_theory.specs.Chain.{AreSteps};
 ghost use Rattle.chain_theory.specs.Specification.{input};

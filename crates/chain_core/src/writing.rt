@@ -1,4 +1,5 @@
-//! Chain blocks as they are written.
+//! Chain blocks as they are written: into a text of their own, which goes out whole at the end, so that
+//! nothing is left where memory runs out.
 
 ghost use Rattle.std.specs.Prelude.{◌≡◌, ◌+◌, ◌^◌, ◌<◌, ◌++◌, length, map, OnOk, OnErr};
 ghost use Rattle.std.specs.List.{flat_map};
@@ -9,16 +10,9 @@ ghost use Rattle.chain_core.specs.Spelling as spelling;
 use crate::chain::Chain;
 use crate::step::Step;
 use chain_theory::Out;
-use op_basis::Op;
+use op_basis::write_operator;
 use std::alloc::AllocError;
 use text_core::push_number;
-
-/// A bit as it is written.
-fn bit_text(bit: bool) -> u8
-    ensures { result ≡ spelling.bit_text bit }
-{
-    if bit { b'1' } else { b'0' }
-}
 
 /// Writes a place at the end of a text.
 fn push_place(text: &mut Vec<u8>, place: u32) -> Result<(), AllocError>
@@ -26,19 +20,6 @@ fn push_place(text: &mut Vec<u8>, place: u32) -> Result<(), AllocError>
 {
     text.extend_from_slice(b"x")?;
     push_number(text, place)
-}
-
-/// Writes an operator's word at the end of a text.
-#[tactic(auto, unfolding(crate::specs::Spelling::operator_text))]
-fn push_operator(text: &mut Vec<u8>, op: Op) -> Result<(), AllocError>
-    ensures { OnOk result (text.new.items ≡ text.old.items ++ spelling.operator_text op) }
-{
-    text.extend_from_slice(&[
-        bit_text(op.apply(false, false)),
-        bit_text(op.apply(false, true)),
-        bit_text(op.apply(true, false)),
-        bit_text(op.apply(true, true)),
-    ])
 }
 
 /// Writes the line of the step at a place at the end of a text.
@@ -52,7 +33,7 @@ fn push_step(text: &mut Vec<u8>, place: u32, step: Step) -> Result<(), AllocErro
     text.extend_from_slice(b" ")?;
     push_place(text, step.k)?;
     text.extend_from_slice(b" ")?;
-    push_operator(text, step.op)?;
+    write_operator(step.op, text)?;
     text.extend_from_slice(b"\n")
 }
 

@@ -11,7 +11,9 @@ use Rattle.chain_theory.specs.Agreement.{is_met, IsOver, Agrees}
 use Rattle.chain_theory.specs.declared.data.Out.{Out}
 use Rattle.chain_theory.specs.declared.data.Out.TheVariants.{Zero, One, Place}
 use Rattle.chain_laws.specs.Follow.{rebuilt, rebuilt_length, rebuilt_get, rebuilt_at, rebuilt_all, step_at, step_at_get, step_at_all, place_cases, values_are, step_is, input_value}
-use Rattle.chain_laws.specs.Levels.{HasLevels, level_in, level_rises, level_at_most, input_level}
+use Rattle.chain_theory.specs.Levels.{HasLevels, level_in}
+use Rattle.chain_theory.specs.LevelLaws.{level_rises, input_level}
+use Rattle.chain_laws.specs.Levels.{level_at_most}
 
 -- steps by their index, and outs
 pub record Body : Type 0 where

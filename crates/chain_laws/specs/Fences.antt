@@ -14,8 +14,10 @@ use Rattle.op_basis.specs.Closed.{number}
 use Rattle.fence_core.specs.Fence.{IsFence, IsListed}
 use Rattle.chain_laws.specs.Follow.{step_at, step_at_get, place_cases}
 use Rattle.chain_laws.specs.Keys.{larger}
-use Rattle.chain_laws.specs.Levels.{level, HasLevels, input_level, level_step}
-use Rattle.chain_laws.specs.Reduced.{HasChainOfLevels, HasReducedChain}
+use Rattle.chain_theory.specs.Levels.{level, HasLevels}
+use Rattle.chain_theory.specs.LevelLaws.{input_level, level_step}
+use Rattle.chain_theory.specs.Levels.{HasChainOfLevels}
+use Rattle.chain_laws.specs.Reduced.{HasReducedChain}
 use Rattle.chain_laws.specs.Least.{least}
 use Rattle.chain_laws.specs.LevelOrder.{KeysRise, levels_rise, level_of_larger}
 use Rattle.chain_laws.specs.Tallies.{tally, tally_apart, tally_both, tally_none, tally_all, tally_some, front_passes, front_fails, IsFront, number_true, number_false}

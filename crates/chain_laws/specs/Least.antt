@@ -12,8 +12,10 @@ use Rattle.chain_theory.specs.declared.data.Out.TheVariants.{Zero, Place}
 use Rattle.op_basis.specs.Closed.{swap_closed, polarity_closed}
 use Rattle.chain_laws.specs.Follow.{rebuilt, rebuilt_length, rebuilt_at, rebuilt_get, step_at}
 use Rattle.chain_laws.specs.Keys.{ComesBefore}
-use Rattle.chain_laws.specs.Levels.{HasLevels, level, level_at_most}
-use Rattle.chain_laws.specs.Reduced.{HasChainOfLevels, HasReducedChain, IsReduced, IsOut, IsRead, IsNegation, Reads, ReadsWithout, AppliesAgain, IsCopy, IsConstant, CopiesBoth, NegatesBoth}
+use Rattle.chain_theory.specs.Levels.{HasLevels, level}
+use Rattle.chain_laws.specs.Levels.{level_at_most}
+use Rattle.chain_theory.specs.Levels.{HasChainOfLevels}
+use Rattle.chain_laws.specs.Reduced.{HasReducedChain, IsReduced, IsOut, IsRead, IsNegation, Reads, ReadsWithout, AppliesAgain, IsCopy, IsConstant, CopiesBoth, NegatesBoth}
 use Rattle.chain_laws.specs.Bodies.{Body, Fits, chain_of, bits_of, fits_from, is_chain, is_over, agrees, has_levels}
 use Rattle.chain_laws.specs.Decided.{IsDecided, decided_and, decided_not, decided_lt, decided_true}
 use Rattle.chain_laws.specs.Shorter.{HasFewer}

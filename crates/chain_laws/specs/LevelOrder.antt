@@ -5,7 +5,8 @@ use Rattle.std.proofs.lemmas.Option.{slice_get_within}
 use Rattle.std.proofs.lemmas.Bool.{cases_lt}
 use Rattle.chain_theory.specs.Chain.{Step, Chain, IsStepAt, IsChain}
 use Rattle.chain_laws.specs.Follow.{step_at, step_at_get}
-use Rattle.chain_laws.specs.Levels.{level, input_level, level_step}
+use Rattle.chain_theory.specs.Levels.{level}
+use Rattle.chain_theory.specs.LevelLaws.{input_level, level_step}
 use Rattle.chain_laws.specs.Keys.{larger, ComesBefore}
 use Rattle.chain_laws.specs.Reduced.{IsStep}
 

@@ -1,37 +1,10 @@
--- Levels: how many steps lie above one another.
-use Rattle.std.proofs.Common.{◌≡◌, ℕ, zero, suc, ◌+◌, ◌≤◌, ◌<◌, List, length, Some, refl, arith, ⊎_elim}
-use Rattle.std.specs.Prelude.{slice_get, max}
-use Rattle.chain_theory.specs.Chain.{Step, Chain, IsStepAt, AreSteps}
-use Rattle.chain_laws.specs.Follow.{IsLocal, run, run_below, run_follows, step_at, step_at_get, place_cases}
-
--- one more than the larger level of the operands
-abbrev pub step_level : (ℕ → ℕ) → Step → ℕ
-step_level levels s = 1 + max (levels s.j) (levels s.k)
-
--- The level of a place: 0 for an input, and 1 + the larger level of its operands for a step.
--- Example: in x4 = x1 AND x2, x5 = x3 XOR x4 the levels of the places 4 and 5 are 1 and 2.
-abbrev pub level_in : ℕ → List Step → ℕ → ℕ
-level_in n steps = run step_level (λ (p : ℕ). 0) (n + 1) steps
-
-abbrev pub level : Chain → ℕ → ℕ
-level c place = level_in c.n c.steps place
-
--- A chain has at most d levels: no place's level is above d.
-abbrev pub HasLevels : ℕ → Chain → Type 0
-HasLevels d c = (p : ℕ) → 1 ≤ p → p ≤ c.n + length c.steps → level c p ≤ d
-
--- ---- laws
-
-pub level_is_local : IsLocal step_level
-level_is_local = record { same = λ a b s ej ek. rw (ej, ek) refl }
-
--- an input's level is 0
-pub input_level : (n p : ℕ) (steps : List Step) → p ≤ n → level_in n steps p ≡ 0
-input_level n p steps low = run_below step_level (λ (q : ℕ). 0) (n + 1) steps p (omega arith)
-
--- a step's level is one more than the larger level of its operands
-pub level_step : (n : ℕ) (steps : List Step) → AreSteps n steps → (i : ℕ) (s : Step) → slice_get steps i ≡ Some s → level_in n steps (n + 1 + i) ≡ step_level (level_in n steps) s
-level_step n steps are i s at = (run_follows step_level level_is_local (λ (q : ℕ). 0) (n + 1) steps (record { each = are.each })).each i s at
+-- A bound on levels: numbers that rise from operands to steps.
+use Rattle.std.proofs.Common.{◌≡◌, ℕ, zero, suc, ◌+◌, ◌≤◌, ◌<◌, List, length, Some, arith, ⊎_elim}
+use Rattle.std.specs.Prelude.{slice_get}
+use Rattle.chain_theory.specs.Chain.{Step, IsStepAt, AreSteps}
+use Rattle.chain_theory.specs.Levels.{step_level, level_in}
+use Rattle.chain_theory.specs.LevelLaws.{input_level, level_step}
+use Rattle.chain_laws.specs.Follow.{step_at, step_at_get, place_cases}
 
 -- Where each step has a number above those of its operands, no level is above the place's number.
 pub level_at_most : (n : ℕ) (steps : List Step) → AreSteps n steps → (height : ℕ → ℕ) → ((i : ℕ) (s : Step) → slice_get steps i ≡ Some s → (height s.j < height (n + 1 + i)) × (height s.k < height (n + 1 + i))) → (bound p : ℕ) → p < bound → 1 ≤ p → p < n + 1 + length steps → level_in n steps p ≤ height p
@@ -53,7 +26,3 @@ level_at_most n steps are height rises (suc bound) p below from low = ⊎_elim
     let small : level_in n steps (n + 1 + i) ≤ height (n + 1 + i) = omega arith in
     rw here small)
     (place_cases n (length steps) p low)
-
--- a step's level is above those of its operands
-pub level_rises : (n : ℕ) (steps : List Step) → AreSteps n steps → (i : ℕ) (s : Step) → slice_get steps i ≡ Some s → (level_in n steps s.j < level_in n steps (n + 1 + i)) × (level_in n steps s.k < level_in n steps (n + 1 + i))
-level_rises n steps are i s at = let own = level_step n steps are i s at in (omega arith, omega arith)

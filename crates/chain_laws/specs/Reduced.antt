@@ -2,18 +2,17 @@
 -- wasteful chains off (Kojevnikov, Kulikov and Yaroslavtsev, "Finding Efficient Circuits Using
 -- SAT-solvers", 2009; Knuth, TAOCP 7.2.2.2, exercise 477; Haaswijk, Soeken, Mishchenko and De Micheli,
 -- "SAT-Based Exact Synthesis", 2020), each under the test of the basis under which it stands.
-use Rattle.std.specs.Prelude.{◌≡◌, ℕ, ◌+◌, ◌≤◌, ◌<◌, ◌⊎◌, true, false, not, slice_get, Some, length}
+use Rattle.std.specs.Prelude.{◌≡◌, ℕ, ◌+◌, ◌≤◌, ◌<◌, ◌⊎◌, true, false, not, slice_get, Some}
 use Rattle.std.specs.List.{Contains}
 use Rattle.chain_theory.specs.Operator.{apply, Basis}
 use Rattle.chain_theory.specs.Specification.{Specification}
-use Rattle.chain_theory.specs.Chain.{Step, Chain, IsChain}
+use Rattle.chain_theory.specs.Chain.{Step, Chain}
 use Rattle.chain_theory.specs.Value.{value}
-use Rattle.chain_theory.specs.Agreement.{Agrees, IsOver}
+use Rattle.chain_theory.specs.Levels.{HasChainOfLevels}
 use Rattle.chain_theory.specs.declared.data.Out.TheVariants.{Place}
 use Rattle.op_basis.specs.Closed.{operator_of, swap_closed, const_closed, polarity_closed, reapply_closed}
 use Rattle.tt_core.specs.Symmetry.{IsSymmetric}
 use Rattle.chain_laws.specs.Keys.{ComesBefore}
-use Rattle.chain_laws.specs.Levels.{HasLevels}
 
 -- ---- operators
 
@@ -94,18 +93,7 @@ pub record IsReduced (basis : Basis) (s : Specification) (c : Chain) : Type 0 wh
   pub earlier_first : (p q : ℕ) → 1 ≤ p → p < q → q ≤ c.n → IsSymmetric s p q → (k : ℕ) (b : Step) → IsStep c k b → ReadsWithout b q p → (i : ℕ) × (a : Step) × (i < k) × IsStep c i a × ReadsWithout a p q
   pub zero_on_row_0 : polarity_closed basis ≡ true → (i : ℕ) (a : Step) → IsStep c i a → (value c 0 (c.n + 1 + i) ≡ false) ⊎ IsOut c (c.n + 1 + i)
 
--- ---- chains with few levels, and reduced ones
-
--- a chain of r steps and at most d levels over the basis that agrees
-pub record HasChainOfLevels (s : Specification) (basis : Basis) (r d : ℕ) : Type 0 where
-  pub chain : Chain
-  pub is_chain : IsChain chain
-  pub size : length chain.steps ≡ r
-  pub is_over : IsOver basis chain
-  pub agrees : Agrees chain s
-  pub levels : HasLevels d chain
-
--- a reduced one
+-- a reduced chain of r steps and at most d levels over the basis that agrees
 pub record HasReducedChain (s : Specification) (basis : Basis) (r d : ℕ) : Type 0 where
   pub has : HasChainOfLevels s basis r d
   pub reduced : IsReduced basis s has.chain

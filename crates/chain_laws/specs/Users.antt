@@ -8,7 +8,8 @@ use Rattle.chain_theory.specs.declared.data.Out.{Out}
 use Rattle.chain_theory.specs.declared.data.Out.TheVariants.{Zero, One, Place}
 use Rattle.op_basis.specs.Closed.{number}
 use Rattle.chain_laws.specs.Follow.{step_at, step_at_get, step_at_is}
-use Rattle.chain_laws.specs.Levels.{level, level_rises}
+use Rattle.chain_theory.specs.Levels.{level}
+use Rattle.chain_theory.specs.LevelLaws.{level_rises}
 use Rattle.chain_laws.specs.Reduced.{IsStep, IsOut, IsRead, Reads}
 use Rattle.chain_laws.specs.Tallies.{tally, number_or, tally_both, tally_none, tally_one, tally_apart, number_low, number_true, number_false}
 

@@ -1,2 +1,3 @@
 pub mod PlainValues
 pub mod PlainAgreement
+mod PlainLevels

@@ -4,6 +4,8 @@ pub mod Chain
 pub mod Value
 pub mod Agreement
 pub mod Difference
+pub mod Levels
 pub mod Plain
 pub mod ValueLaws
 pub mod DifferenceLaws
+pub mod LevelLaws

@@ -1,3 +1,5 @@
+//! Cells and outs, the two enums on which the definitions stand.
+
 /// What a specification asks of an output on a row.
 #[derive(Clone, Copy, Debug, PartialEq, Eq)]
 pub enum Cell {

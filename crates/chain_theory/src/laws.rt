@@ -1,22 +1,44 @@
 //! What the definitions come to, said without their recursion. Each law is the contract of a
 //! function that does nothing.
-ghost use Rattle.std.specs.Prelude.{◌≡◌, ℕ, ◌+◌, ◌≤◌, ◌<◌, ◌^◌, Some, None, Option, slice_get};
+ghost use Rattle.std.specs.Prelude.{◌≡◌, ℕ, ◌+◌, ◌≤◌, Some, Option, slice_get, max};
 ghost use Rattle.chain_theory.specs.Operator.{apply};
 ghost use Rattle.chain_theory.specs.Specification.{Specification, input};
 ghost use Rattle.chain_theory.specs.Chain.{Step, Chain, IsChain};
 ghost use Rattle.chain_theory.specs.Value.{value};
+ghost use Rattle.chain_theory.specs.Levels.{level, HasLevels, depth};
 ghost use Rattle.chain_theory.specs.Difference.{IsComparison};
-ghost use Rattle.chain_theory.specs.ValueLaws.{value-input, value-step};
-ghost use Rattle.chain_theory.specs.DifferenceLaws.{one_comparison};
 
 /// The value of a place: an input's is its bit of the row, a step's is its operator on the values of
 /// its two operands.
 pub fn values_of_places()
     ensures input { (c : Chain) (t p : ℕ) → p ≤ c.n → value c t p ≡ input c.n t p }
-    ensures step { (c : Chain) (t i : ℕ) (s : Step) → IsChain c → slice_get c.steps i ≡ Some s → value c t (c.n + 1 + i) ≡ apply s.op (value c t s.j) (value c t s.k) }
+    ensures step { (c : Chain) (t i : ℕ) (s : Step) →
+        IsChain c →
+        slice_get c.steps i ≡ Some s →
+        value c t (c.n + 1 + i) ≡ apply s.op (value c t s.j) (value c t s.k) }
+{}
+
+/// The level of a place: an input's is 0, a step's is one more than the larger level of its two
+/// operands.
+pub fn levels_of_places()
+    ensures input { (c : Chain) (p : ℕ) → p ≤ c.n → level c p ≡ 0 }
+    ensures step { (c : Chain) (i : ℕ) (s : Step) →
+        IsChain c →
+        slice_get c.steps i ≡ Some s →
+        level c (c.n + 1 + i) ≡ 1 + max (level c s.j) (level c s.k) }
+{}
+
+/// The depth of a chain is its greatest level: no place has a level above it, and it is the least such
+/// number.
+pub fn depth_is_the_greatest_level()
+    ensures bound { (c : Chain) → HasLevels (depth c) c }
+    ensures least { (c : Chain) (d : ℕ) → HasLevels d c → depth c ≤ d }
 {}
 
 /// A chain and a specification have one first difference, or none.
 pub fn comparison_is_one()
-    ensures { (c : Chain) (s : Specification) (a b : Option (ℕ × ℕ)) → IsComparison c s a → IsComparison c s b → a ≡ b }
+    ensures { (c : Chain) (s : Specification) (a b : Option (ℕ × ℕ)) →
+        IsComparison c s a →
+        IsComparison c s b →
+        a ≡ b }
 {}

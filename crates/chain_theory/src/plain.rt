@@ -1,9 +1,10 @@
 //! The definitions, computed as they stand: recursion over the steps, one place at a time. It is
 //! meant for reading and for small inputs, and takes exponential time.
-ghost use Rattle.std.specs.Prelude.{◌≡◌, ℕ, ◌*◌, ◌^◌, ◌<◌, length, [], true, false};
+ghost use Rattle.std.specs.Prelude.{◌≡◌, ℕ, ◌*◌, ◌^◌, ◌<◌, ◌≤◌, length, [], true, false};
 ghost use Rattle.chain_theory.specs.Operator.{apply as apply_of};
 ghost use Rattle.chain_theory.specs.Specification.{input as input_of};
 ghost use Rattle.chain_theory.specs.Value.{values_on, out_value as out_value_of};
+ghost use Rattle.chain_theory.specs.Levels.{level_in};
 ghost use Rattle.chain_theory.specs.Agreement.{is_met as is_met_of, Agrees};
 ghost use Rattle.chain_theory.specs.Plain.{steps_of, chain_of, MeetsRows, flat_specification};
 
@@ -53,6 +54,25 @@ pub fn place_value(n: u32, steps: &[PlainStep], t: u32, place: u32) -> bool
         apply(last.op, a, b)
     } else {
         place_value(n, before, t, place)
+    }
+}
+
+/// The level of a place, by steps over `n` inputs.
+pub fn place_level(n: u32, steps: &[PlainStep], place: u32) -> u32
+    requires inputs { n < 32 }
+    requires steps { length steps.now < 2 ^ 31 }
+    ensures level { result ≡ level_in n (steps_of steps.now) place }
+    ensures few { result ≤ length steps.now }
+{
+    let Some((last, before)) = steps.split_last() else {
+        return 0;
+    };
+    if place as usize == n as usize + 1 + before.len() {
+        let a = place_level(n, before, last.j);
+        let b = place_level(n, before, last.k);
+        1 + a.max(b)
+    } else {
+        place_level(n, before, place)
     }
 }
 

@@ -2,7 +2,7 @@
 //! does nothing.
 ghost use Rattle.std.specs.Prelude.{ℕ, ◌<◌};
 ghost use Rattle.chain_theory.specs.Agreement.{HasChain};
-ghost use Rattle.chain_laws.specs.Reduced.{HasChainOfLevels};
+ghost use Rattle.chain_theory.specs.Levels.{HasChainOfLevels};
 ghost use Rattle.op_basis.specs.Basis.{members};
 ghost use Rattle.tt_core.specs.Words.{Words, specification};
 ghost use Rattle.enc_laws.specs.Fence.{HasFence};

@@ -3,20 +3,19 @@ ghost use Rattle.std.specs.Prelude.{◌≡◌, ℕ, ◌+◌, ◌<◌, ◌≤◌,
 ghost use Rattle.std.specs.List.{range_with_len};
 ghost use Rattle.chain_theory.specs.Chain.{AreSteps};
 ghost use Rattle.chain_core.specs.Steps.{steps_of};
-ghost use Rattle.chain_laws.specs.Follow.{run};
-ghost use Rattle.chain_laws.specs.Levels.{step_level, level, level_in};
+ghost use Rattle.chain_theory.specs.Levels.{levels_after, level, level_in};
 ghost use Rattle.enc_fence.specs.Heights.{heights, levels_of};
 
 use chain_core::{Chain, Step};
 use std::alloc::{AllocError, Global};
 
 /// The levels of the places of the steps, each from those in front of it. Place p stands at index p.
-#[tactic(auto, using(crate::proofs::Places::standing), unfolding(chain_laws::specs::Follow::run))]
+#[tactic(auto, using(crate::proofs::Places::standing), unfolding(chain_theory::specs::Levels::levels_after))]
 fn levels_into(levels: &mut [u32], n: u32, steps: &[Step])
     requires steps { AreSteps n (steps_of steps.now) }
     requires room { (n + length steps.now < length levels.old) × (length levels.old ≤ 23) }
     requires low { (p : ℕ) → heights levels.old p ≤ n }
-    ensures { heights levels.new ≡ run step_level (heights levels.old) (n + 1) (steps_of steps.now) }
+    ensures { heights levels.new ≡ levels_after (heights levels.old) (n + 1) (steps_of steps.now) }
 {
     let mut last = n as usize;
     let mut left = steps;

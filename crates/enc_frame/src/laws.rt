@@ -4,7 +4,8 @@ ghost use Rattle.std.specs.Prelude.{ℕ, ◌<◌};
 ghost use Rattle.chain_theory.specs.Operator.{Basis};
 ghost use Rattle.chain_theory.specs.Specification.{Specification};
 ghost use Rattle.chain_theory.specs.Agreement.{HasChain};
-ghost use Rattle.chain_laws.specs.Reduced.{HasChainOfLevels, HasReducedChain};
+ghost use Rattle.chain_theory.specs.Levels.{HasChainOfLevels};
+ghost use Rattle.chain_laws.specs.Reduced.{HasReducedChain};
 
 /// Where a chain of r steps and at most d levels over a basis agrees with a specification, and no chain
 /// of fewer steps does, a reduced chain of r steps and at most d levels over the basis agrees. A reduced

@@ -9,9 +9,11 @@ use Rattle.chain_theory.specs.Agreement.{HasChain, IsMinimum}
 use Rattle.op_basis.specs.Basis.{members}
 use Rattle.op_basis.specs.Closed.{swap_closed}
 use Rattle.chain_laws.specs.Follow.{place_cases}
-use Rattle.chain_laws.specs.Levels.{level, input_level, HasLevels}
+use Rattle.chain_theory.specs.Levels.{level, HasLevels}
+use Rattle.chain_theory.specs.LevelLaws.{input_level}
 use Rattle.chain_laws.specs.LevelOrder.{level_of_larger}
-use Rattle.chain_laws.specs.Reduced.{IsReduced, HasChainOfLevels}
+use Rattle.chain_theory.specs.Levels.{HasChainOfLevels}
+use Rattle.chain_laws.specs.Reduced.{IsReduced}
 use Rattle.chain_laws.specs.Least.{levels_at_most_steps}
 use Rattle.fence_core.specs.Fence.{IsFenceOf}
 use Rattle.chain_laws.specs.Fences.{level_by, StandsIn, HasFencedChain, least_in_fence}

@@ -4,7 +4,8 @@ use Rattle.std.proofs.lemmas.Grind.{common_steps}
 use Rattle.std.proofs.lemmas.Nat.{one_shl}
 use Rattle.op_basis.specs.Basis.{members}
 use Rattle.op_basis.specs.ReadBack.{is_item, item_ends, item_last}
-use Rattle.op_basis.specs.Text.{items_of, with_word, word_text, list_below}
+use Rattle.op_basis.specs.Text.{items_of, with_word, list_below}
+use Rattle.op_basis.specs.Word.{word_text}
 
 -- going on by one byte
 item_step : (front left : List ℕ) (b : ℕ) → is_item front ≡ true → b ≢ 44 → is_item (front ++ b ∷ []) ≡ true

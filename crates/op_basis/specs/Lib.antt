@@ -7,3 +7,4 @@ pub mod ListLaws
 pub mod MemberLaws
 pub mod ReadBack
 pub mod Text
+pub mod Word

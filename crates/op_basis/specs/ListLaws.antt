@@ -6,7 +6,8 @@ use Rattle.std.specs.Int.{bit_at}
 use Rattle.op_basis.specs.declared.error.BasisError.{BasisError}
 use Rattle.op_basis.specs.Basis.{members}
 use Rattle.op_basis.specs.ReadBack.{has_item}
-use Rattle.op_basis.specs.Text.{◌>>=◌, all_set, u2_set, bench_set, nand_set, items_of, with_operator, operator_in, with_item, listed, begins_letter, named, basis_of}
+use Rattle.op_basis.specs.Text.{◌>>=◌, all_set, u2_set, bench_set, nand_set, items_of, with_operator, with_item, listed, begins_letter, named, basis_of}
+use Rattle.op_basis.specs.Word.{operator_in}
 
 -- ---- what is read isn't empty
 

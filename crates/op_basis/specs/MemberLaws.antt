@@ -15,7 +15,8 @@ use Rattle.op_basis.specs.Basis.{members}
 use Rattle.op_basis.specs.Closed.{of_values}
 use Rattle.op_basis.specs.Laws.{operator_values, operator_low}
 use Rattle.op_basis.specs.ReadBack.{operator_back}
-use Rattle.op_basis.specs.Text.{◌>>=◌, same_text, items_of, bit_in, of_bits, operator_in, with_operator, with_item, listed, begins_letter, basis_of, character, word_text}
+use Rattle.op_basis.specs.Text.{◌>>=◌, same_text, items_of, with_operator, with_item, listed, begins_letter, basis_of}
+use Rattle.op_basis.specs.Word.{bit_in, of_bits, operator_in, character, word_text}
 use Rattle.op_basis.specs.ListLaws.{or_has}
 
 -- ---- sets with one operator more
@@ -53,7 +54,7 @@ at_each w x y z true false = y
 at_each w x y z true true = z
 
 values_word : (w x y z : Bool) → word_text (of_values w x y z) ≡ character w ∷ character x ∷ character y ∷ character z ∷ []
-unfolding at_each
+unfolding at_each word_text
 values_word w x y z =
     let f : Bool → Bool → Bool = at_each w x y z in
     rw (operator_values f false false, operator_values f false true, operator_values f true false, operator_values f true true) refl
@@ -79,7 +80,8 @@ spelled_by a b c d op (Some x) (Some y) (Some z) (Some w) ea eb ec ed e =
       low = rw is at (values_low x y z w);
     }
 
-item_spelled : (item : List ℕ) (op : ℕ) → operator_in item ≡ Some op → IsWordOf item op
+-- what reads as an operator is its word
+pub item_spelled : (item : List ℕ) (op : ℕ) → operator_in item ≡ Some op → IsWordOf item op
 unfolding operator_in
 item_spelled [] op e = absurd cc
 item_spelled (a ∷ []) op e = absurd cc

@@ -14,7 +14,8 @@ use Rattle.chain_theory.specs.Operator.{digit}
 use Rattle.op_basis.specs.declared.error.BasisError.{BasisError}
 use Rattle.op_basis.specs.Basis.{members}
 use Rattle.op_basis.specs.Closed.{number, of_values}
-use Rattle.op_basis.specs.Text.{◌>>=◌, all_set, u2_set, bench_set, nand_set, is_comma, items_of, word_text, character, bit_in, with_word, text_with, list_below, operator_in, with_item, listed, begins_letter, named, name_of, basis_text, basis_of}
+use Rattle.op_basis.specs.Text.{◌>>=◌, all_set, u2_set, bench_set, nand_set, is_comma, items_of, with_word, text_with, list_below, with_item, listed, begins_letter, named, name_of, basis_text, basis_of}
+use Rattle.op_basis.specs.Word.{word_text, character, bit_in, operator_in}
 
 -- ---- items
 
@@ -35,10 +36,19 @@ unfolding is_item items_of
 item_last [] free = refl
 item_last (b ∷ item) free = grind (arith, common_steps, item_last item, slice_split-cons_no is_comma b item)
 
--- a word of four digits has no comma
-word_is_item : (a b c d : Bool) → is_item (character a ∷ character b ∷ character c ∷ character d ∷ []) ≡ true
+-- an operator's word has no comma
+four_free : (a b c d : Bool) → is_item (character a ∷ character b ∷ character c ∷ character d ∷ []) ≡ true
 unfolding is_item
-word_is_item a b c d = grind (arith, common_steps)
+four_free a b c d = grind (arith, common_steps)
+
+word_is_item : (op : ℕ) → is_item (word_text op) ≡ true
+unfolding word_text
+word_is_item op = four_free _ _ _ _
+
+-- and four characters
+pub word_length : (op : ℕ) → length (word_text op) ≡ 4
+unfolding word_text
+word_length op = refl
 
 onto_push : (b : ℕ) (parts : List (List ℕ)) (item : List ℕ) → 0 < length parts → onto_first b (parts ++ item ∷ []) ≡ onto_first b parts ++ item ∷ []
 onto_push b [] item some = absurd (omega arith)
@@ -93,7 +103,7 @@ bit_back true = refl
 bit_back false = refl
 
 pub operator_back : (op : ℕ) → op < 16 → operator_in (word_text op) ≡ Some op
-unfolding operator_in
+unfolding operator_in word_text
 operator_back op low = rw (bit_back (digit op 3), bit_back (digit op 2), bit_back (digit op 1), bit_back (digit op 0)) (ap (λ (x : ℕ). Some x) (operator_is op low))
 
 -- ---- sets by their members below k
@@ -121,7 +131,7 @@ low_same set k is =
 -- ---- lists of members
 
 item_ok : (set k : ℕ) → k < 16 → with_item (set % 2 ^ k) (word_text k) ≡ Ok (bit_or (set % 2 ^ k) (2 ^ k))
-unfolding with_item
+unfolding with_item word_text
 item_ok set k low = rw (operator_back k low, not_below set k) refl
 
 -- what is read of the words below k
@@ -138,20 +148,21 @@ read_word : (set k : ℕ) (text : List ℕ) → k < 16 → ReadsBelow set k text
 unfolding listed
 read_word set k [] low reads =
     let empty : set % 2 ^ k ≡ 0 = reads.none refl in
-    ap (listed 0) (item_last (word_text k) (word_is_item _ _ _ _)) ∙ listed_push 0 0 [] (word_text k) _ refl (ap (λ (s : ℕ). with_item s (word_text k)) (sym empty) ∙ item_ok set k low)
-read_word set k (b ∷ bs) low reads = ap (listed 0) (item_push (b ∷ bs) (word_text k) (word_is_item _ _ _ _)) ∙ listed_push 0 (set % 2 ^ k) (items_of (b ∷ bs)) (word_text k) _ (reads.some (omega arith)) (item_ok set k low)
+    ap (listed 0) (item_last (word_text k) (word_is_item k)) ∙ listed_push 0 0 [] (word_text k) _ refl (ap (λ (s : ℕ). with_item s (word_text k)) (sym empty) ∙ item_ok set k low)
+read_word set k (b ∷ bs) low reads = ap (listed 0) (item_push (b ∷ bs) (word_text k) (word_is_item k)) ∙ listed_push 0 (set % 2 ^ k) (items_of (b ∷ bs)) (word_text k) _ (reads.some (omega arith)) (item_ok set k low)
 
 with_word_some : (text word : List ℕ) → 0 < length word → length (with_word text word) ≡ 0 → ⊥
 with_word_some [] word some none = omega arith
 with_word_some (b ∷ bs) word some none = omega arith
 
 with_word_digit : (text : List ℕ) (k : ℕ) → begins_letter text ≡ false → begins_letter (with_word text (word_text k)) ≡ false
+unfolding word_text
 with_word_digit [] k e = no_letter (digit k 3)
 with_word_digit (b ∷ bs) k e = e
 
 reads_more : (set k : ℕ) (text : List ℕ) → k < 16 → members set k ≡ true → ReadsBelow set k text → ReadsBelow set (suc k) (with_word text (word_text k))
 reads_more set k text low is reads = record {
-  none = λ empty. absurd (with_word_some text (word_text k) (omega arith) empty);
+  none = λ empty. absurd (with_word_some text (word_text k) (omega (arith, word_length k)) empty);
   some = λ _. read_word set k text low reads ∙ ap (λ (s : ℕ). Ok s) (sym (low_more set k is));
   digit_first = with_word_digit text k reads.digit_first;
 }

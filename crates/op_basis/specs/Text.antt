@@ -1,13 +1,12 @@
 -- Texts of bases: a name, or words of operators with commas between them.
-use Rattle.std.specs.Prelude.{ℕ, zero, suc, ◌+◌, ◌^◌, Bool, false, List, [], ◌∷◌, ◌++◌, length, codes, bit_or, nat_eq, Option, Some, None, Result, Ok, Err, ◌==◌, true, if◌then◌else◌}
+use Rattle.std.specs.Prelude.{ℕ, zero, suc, ◌+◌, ◌^◌, Bool, false, List, [], ◌∷◌, ◌++◌, length, codes, bit_or, nat_eq, Option, Some, None, Result, Ok, Err, ◌==◌, if◌then◌else◌}
 use Rattle.std.specs.List.{slice_split}
 use Rattle.std.specs.Char.{is_ascii_alphabetic}
 use Rattle.std.specs.Cmp.Lexicographic.{pointwise}
-use Rattle.chain_theory.specs.Operator.{apply}
 use Rattle.op_basis.specs.declared.error.BasisError.{BasisError}
 use Rattle.op_basis.specs.declared.error.BasisError.TheVariants.{UnknownName, BadOperator, Empty, Repeated}
 use Rattle.op_basis.specs.Basis.{members}
-use Rattle.op_basis.specs.Closed.{of_values}
+use Rattle.op_basis.specs.Word.{operator_in, word_text}
 
 -- what is done with a value, an error staying as it is
 infixl 10 ◌>>=◌
@@ -63,20 +62,6 @@ is_comma b = b == 44
 unfoldable pub items_of : List ℕ → List (List ℕ)
 items_of word = slice_split is_comma word
 
--- the bit of a character
-abbrev pub bit_in : ℕ → Option Bool
-bit_in c = if c == 48 then Some false else (if c == 49 then Some true else None)
-
--- the operator of four bits, where they are bits
-abbrev pub of_bits : Option Bool → Option Bool → Option Bool → Option Bool → Option ℕ
-of_bits (Some at_00) (Some at_01) (Some at_10) (Some at_11) = Some (of_values at_00 at_01 at_10 at_11)
-of_bits at_00 at_01 at_10 at_11 = None
-
--- the operator of a word of four characters `0` and `1`
-unfoldable pub operator_in : List ℕ → Option ℕ
-operator_in (a ∷ b ∷ c ∷ d ∷ []) = of_bits (bit_in a) (bit_in b) (bit_in c) (bit_in d)
-operator_in other = None
-
 -- the set with one operator more
 abbrev pub with_operator : ℕ → Option ℕ → Result ℕ BasisError
 with_operator set None = Err BadOperator
@@ -101,13 +86,6 @@ abbrev pub basis_of : List ℕ → Result ℕ BasisError
 basis_of word = if begins_letter word then named word else listed 0 (items_of word)
 
 -- ---- how a basis is written
-
-abbrev pub character : Bool → ℕ
-character bit = if bit then 49 else 48
-
--- the values of an operator at (0,0), (0,1), (1,0) and (1,1)
-abbrev pub word_text : ℕ → List ℕ
-word_text op = character (apply op false false) ∷ character (apply op false true) ∷ character (apply op true false) ∷ character (apply op true true) ∷ []
 
 -- a word behind others
 abbrev pub with_word : List ℕ → List ℕ → List ℕ

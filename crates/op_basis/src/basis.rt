@@ -1,3 +1,4 @@
+//! Sets of operators, as the bits of a word.
 ghost use Rattle.std.specs.Prelude.{◌≡◌, ◌<◌};
 ghost use Rattle.op_basis.specs.Basis.{members};
 

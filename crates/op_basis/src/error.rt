@@ -1,3 +1,5 @@
+//! Why a word says no basis.
+
 /// Why a word says no basis. The items of a list are judged from the left.
 #[derive(Clone, Copy, Debug, PartialEq, Eq)]
 pub enum BasisError {

@@ -4,7 +4,8 @@ ghost use Rattle.std.specs.List.{IsDistinct};
 ghost use Rattle.op_basis.specs.Operator.{apply};
 ghost use Rattle.op_basis.specs.Closed.{operator_of, every};
 ghost use Rattle.op_basis.specs.Basis.{members};
-ghost use Rattle.op_basis.specs.Text.{basis_of, basis_text, begins_letter, items_of, same_text, word_text};
+ghost use Rattle.op_basis.specs.Text.{basis_of, basis_text, begins_letter, items_of, same_text};
+ghost use Rattle.op_basis.specs.Word.{word_text};
 
 /// The operator of a function of two bits is the one operator that has the function's values.
 pub fn operators_are_functions()

@@ -26,11 +26,13 @@ pub mod laws;
 mod op;
 mod text;
 mod values;
+mod word;
 
 pub use basis::Basis;
 pub use error::BasisError;
 pub use op::Op;
 pub use text::{read_basis, write_basis};
+pub use word::{read_operator, write_operator};
 
 #[cfg(test)]
 mod tests;

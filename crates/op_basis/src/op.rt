@@ -1,3 +1,4 @@
+//! Operators of two bits, as numbers whose binary digits are their values.
 ghost use Rattle.std.specs.Prelude.{◌≡◌, ◌<◌};
 ghost use Rattle.op_basis.specs.Closed.{of_values};
 ghost use Rattle.op_basis.specs.Operator.{apply as apply_of};
@@ -32,7 +33,8 @@ impl Op {
 
     /// The operator with these values at (0,0), (0,1), (1,0) and (1,1).
     pub fn with_values(at_00: bool, at_01: bool, at_10: bool, at_11: bool) -> Op
-        ensures { result ≡ of_values at_00 at_01 at_10 at_11 }
+        ensures values { result ≡ of_values at_00 at_01 at_10 at_11 }
+        ensures below { result < 16 }
     {
         Op(8 * u8::from(at_00) + 4 * u8::from(at_01) + 2 * u8::from(at_10) + u8::from(at_11))
     }

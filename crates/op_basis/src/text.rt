@@ -1,10 +1,14 @@
+//! Bases as texts: a name, or the words of the operators with commas between them. A list is walked
+//! item by item over the bytes, and each step says how the list of what is left follows, so that the
+//! loop's one equation is with the definition over the whole list.
 ghost use Rattle.std.specs.Prelude.{◌≡◌, ◌+◌, ◌<◌, ℕ, List, ◌∷◌, ◌++◌, length, nat_eq, OnOk, OnErr, IfOk};
 ghost use Rattle.std.specs.Option.{option_map};
 ghost use Rattle.std.specs.Borrow.{Bor};
 ghost use Rattle.op_basis.specs.Left.{items_left, size_left};
 ghost use Rattle.op_basis.specs.Text as spec;
+ghost use Rattle.op_basis.specs.Word.{word_text};
 
-use crate::{Basis, BasisError, Op};
+use crate::{Basis, BasisError, Op, read_operator, write_operator};
 use std::alloc::AllocError;
 
 const ALL: u16 = 0b1111_1111_1111_1111;
@@ -61,28 +65,6 @@ fn next_item(text: &[u8]) -> (&[u8], Option<&[u8]>)
     (text, None)
 }
 
-/// The bit that a character is.
-fn bit_in(character: u8) -> Option<bool>
-    ensures { result ≡ spec.bit_in character }
-{
-    match character {
-        b'0' => Some(false),
-        b'1' => Some(true),
-        _ => None,
-    }
-}
-
-/// The operator of a word of four bits.
-#[tactic(auto, unfolding(crate::specs::Text::operator_in))]
-fn operator_in(item: &[u8]) -> Option<Op>
-    ensures { result ≡ spec.operator_in item.now }
-{
-    let [a, b, c, d] = item else {
-        return None;
-    };
-    Some(Op::with_values(bit_in(*a)?, bit_in(*b)?, bit_in(*c)?, bit_in(*d)?))
-}
-
 /// The set with the operator of one item more.
 #[tactic(auto, unfolding(crate::specs::Text::with_item), using(crate::proofs::Items::shifting))]
 fn with_item(set: Basis, item: &[u8]) -> Result<Basis, BasisError>
@@ -91,7 +73,7 @@ fn with_item(set: Basis, item: &[u8]) -> Result<Basis, BasisError>
     if item.is_empty() {
         return Err(BasisError::Empty);
     }
-    let Some(op) = operator_in(item) else {
+    let Some(op) = read_operator(item) else {
         return Err(BasisError::BadOperator);
     };
     if set.contains(op) {
@@ -147,26 +129,14 @@ fn name_of(set: Basis) -> Option<&'static [u8]>
     }
 }
 
-/// The character that a bit is written as.
-fn character(bit: bool) -> u8
-    ensures { result ≡ spec.character bit }
-{
-    if bit { b'1' } else { b'0' }
-}
-
 /// Appends the word of an operator, with a comma before it where others stand.
 fn push_word(text: &mut Vec<u8>, op: Op) -> Result<(), AllocError>
-    ensures { OnOk result (text.new.items ≡ spec.with_word text.old.items (spec.word_text op)) }
+    ensures { OnOk result (text.new.items ≡ spec.with_word text.old.items (word_text op)) }
 {
     if !text.is_empty() {
         text.push(b',')?;
     }
-    text.extend_from_slice(&[
-        character(op.apply(false, false)),
-        character(op.apply(false, true)),
-        character(op.apply(true, false)),
-        character(op.apply(true, true)),
-    ])
+    write_operator(op, text)
 }
 
 /// Appends the words of the members, to a text that is empty.

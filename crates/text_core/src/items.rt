@@ -1,3 +1,4 @@
+//! Items of a line, one at a time.
 ghost use Rattle.std.specs.Prelude.{◌≡◌, ◌+◌, ◌<◌, ◌∷◌, length};
 ghost use Rattle.text_core.specs.Items.{items_of, items_left, size_left};
 

@@ -1,3 +1,4 @@
+//! Lines of a text, one at a time.
 ghost use Rattle.std.specs.Prelude.{◌≡◌, ◌+◌, ◌<◌, [], ◌∷◌, length, if◌then◌else◌, IfNone, IfSome};
 ghost use Rattle.text_core.specs.Lines.{lines_of};
 ghost use Rattle.text_core.specs.Rest.{IsRest};

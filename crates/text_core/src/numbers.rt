@@ -1,3 +1,4 @@
+//! Decimal numbers, read and written. A number has one spelling: no sign, and no 0 in front of others.
 ghost use Rattle.std.specs.Prelude.{◌≡◌, ◌++◌, OnOk, OnErr, decimal};
 ghost use Rattle.text_core.specs.Numbers as spec;
 

@@ -1,6 +1,9 @@
-ghost use Rattle.std.specs.Prelude.{◌≡◌, ◌≤◌, length};
+//! The cells of a table line, and the two words that hold them.
+ghost use Rattle.std.specs.Prelude.{◌≡◌, ◌≤◌, [], ◌∷◌, ◌++◌, length, OnOk, OnErr};
 ghost use Rattle.std.specs.List.{list_all};
 ghost use Rattle.tt_core.specs.Cells.{is_cell, on_bit, care_bit, word_of};
+
+use std::alloc::AllocError;
 
 /// Whether each character is `0`, `1` or `-`.
 pub fn are_cells(text: &[u8]) -> bool
@@ -26,4 +29,24 @@ pub(crate) fn row_words(text: &[u8]) -> (u64, u64)
         }
     }
     (on, care)
+}
+
+/// Adds a word to each of two lists, or to neither where memory runs out.
+pub(crate) fn push_both(
+    on: &mut Vec<u64>,
+    care: &mut Vec<u64>,
+    values: u64,
+    cares: u64,
+) -> Result<(), AllocError>
+    ensures values { OnOk result (on.new.items ≡ on.old.items ++ values ∷ []) }
+    ensures cares { OnOk result (care.new.items ≡ care.old.items ++ cares ∷ []) }
+    ensures values_unchanged { OnErr result (on.new.items ≡ on.old.items) }
+    ensures cares_unchanged { OnErr result (care.new.items ≡ care.old.items) }
+{
+    on.push(values)?;
+    if let Err(error) = care.push(cares) {
+        on.pop();
+        return Err(AllocError::from(error));
+    }
+    Ok(())
 }

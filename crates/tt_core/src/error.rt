@@ -1,3 +1,4 @@
+//! Why tables are refused.
 use std::alloc::{AllocError, AllocFailed};
 
 /// Why tables are refused. Lines are judged from the top, and numbered from 1; at the end of the

@@ -1,7 +1,11 @@
+//! Outputs that are a constant or an input at no cost, and the others, which are live. An output's
+//! trivial out is the first of 0, 1, x1, .., xn that meets all its cells, found by trying them in this
+//! order; what is found is therefore the definition's, and nothing is found where none fits.
 ghost use Rattle.std.specs.Prelude.{◌≡◌, ℕ, ◌+◌, ◌-◌, ◌<◌, ◌≤◌, List, [], ◌∷◌, ◌++◌, length, slice_index, IfOk, OnOk};
 ghost use Rattle.tt_core.specs.Live.{trivial_value as trivial_value_of, fits as fits_of, trivial_of, is_live as is_live_of, live_outputs, live_words};
 ghost use Rattle.tt_core.specs.Words.{IsSpec, specification};
 
+use crate::cells::push_both;
 use crate::{Spec, row};
 use chain_theory::Out;
 use chain_theory::plain::{input, is_met};
@@ -82,8 +86,8 @@ fn push_output(
     ensures cares { OnOk result (care.new.items ≡ care.old.items ++ slice_index spec.now.care (h - 1) ∷ []) }
     ensures spec { OnOk result (IsSpec (record { n = spec.now.n; on = on.new.items; care = care.new.items })) }
 {
-    on.push(spec.on()[(h - 1) as usize])?;
-    care.push(spec.care()[(h - 1) as usize])?;
+    let output = (h - 1) as usize;
+    push_both(on, care, spec.on()[output], spec.care()[output])?;
     Ok(())
 }
 

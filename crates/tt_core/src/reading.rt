@@ -1,4 +1,7 @@
-ghost use Rattle.std.specs.Prelude.{◌≡◌, ◌+◌, ◌^◌, ◌<◌, ◌≤◌, List, [], ◌∷◌, ◌++◌, length, IfOk, OnOk};
+//! Tables are read line by line: the header, and then rows until the text ends or a line begins with a
+//! lower-case letter. The loop keeps one equation, that the grammar of what is left, given the words of
+//! the rows that were read, is the grammar of the whole; so each refusal is the grammar's first fault.
+ghost use Rattle.std.specs.Prelude.{◌≡◌, ◌+◌, ◌^◌, ◌<◌, ◌≤◌, List, [], ◌∷◌, ◌++◌, length, IfOk, OnOk, OnErr};
 ghost use Rattle.std.proofs.Common.{drop};
 ghost use Rattle.text_core.specs.Lines.{Line, lines_of};
 ghost use Rattle.tt_core.specs.Cells.{on_bit, care_bit, word_of};
@@ -8,7 +11,7 @@ ghost use Rattle.tt_core.specs.Tables.{inputs_of, end_of, tables_of};
 ghost use Rattle.tt_core.specs.Spelling.{SpellsTables};
 ghost use Rattle.tt_core.specs.Words.{Words, IsSpec, specification};
 
-use crate::cells::{are_cells, row_words};
+use crate::cells::{are_cells, push_both, row_words};
 use crate::{Spec, SpecError};
 use std::alloc::{AllocError, Global};
 use text_core::{after, begins_lower, next_line, number_up_to};
@@ -36,6 +39,7 @@ pub fn inputs(text: &[u8], ended: bool) -> Option<u32>
 }
 
 /// Adds the output that a table line of `0`, `1` and `-` spells to the words of the outputs before it.
+/// An error is want of memory, and then nothing is added.
 #[tactic(auto, using(crate::specs::RowLaws::row_below))]
 pub fn push_row(
     n: u32,
@@ -49,10 +53,11 @@ pub fn push_row(
     ensures values { OnOk result (on.new.items ≡ on.old.items ++ word_of on_bit text.now ∷ []) }
     ensures cares { OnOk result (care.new.items ≡ care.old.items ++ word_of care_bit text.now ∷ []) }
     ensures spec { OnOk result (IsSpec (record { n = n; on = on.new.items; care = care.new.items })) }
+    ensures values_unchanged { OnErr result (on.new.items ≡ on.old.items) }
+    ensures cares_unchanged { OnErr result (care.new.items ≡ care.old.items) }
 {
     let (values, cares) = row_words(text);
-    on.push(values)?;
-    care.push(cares)?;
+    push_both(on, care, values, cares)?;
     Ok(())
 }
 

@@ -1,3 +1,5 @@
+//! The tables of a specification as the program holds them: two words for each output, one with its
+//! values and one with the rows on which it is specified.
 ghost use Rattle.std.specs.Prelude.{◌≡◌, ◌^◌, ◌<◌, ◌≤◌, length};
 ghost use Rattle.tt_core.specs.Words.{IsSpec, specification};
 

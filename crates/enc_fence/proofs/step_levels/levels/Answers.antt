@@ -3,7 +3,7 @@ use Rattle.std.specs.List.{range_with_len}
 use Rattle.std.proofs.lemmas.List.{length-map}
 use Rattle.chain_theory.specs.Chain as chain
 use Rattle.chain_core.specs.Steps.{step_of, steps_of}
-use Rattle.chain_laws.specs.Levels.{level_in}
+use Rattle.chain_theory.specs.Levels.{level_in}
 use Rattle.enc_fence.specs.Heights.{heights, levels_of}
 use Rattle.enc_fence.proofs.Places.{none_is_high, levels_are, next_place}
 use Rattle.enc_fence.proofs.step_levels.levels.Goals as goal
