@@ -5,7 +5,6 @@ use Rattle.text_core.specs.Lines.{Line}
 use Rattle.text_core.specs.Rest.{whole_rest, rest_of_rest}
 use Rattle.chain_theory.specs.declared.data.Out.{Out}
 use Rattle.chain_theory.specs.Chain as chain
-use Rattle.chain_theory.specs.Chain.{AreSteps, IsStepAt}
 use Rattle.chain_core.specs.declared.frame.Frame.{Frame}
 use Rattle.chain_core.specs.Block.{steps_from, outs_from}
 use Rattle.chain_core.specs.StepLaws.{steps_push}

@@ -10,6 +10,11 @@ ghost use Rattle.chain_core.specs.Spelling.{chain_text, Spells};
 /// A chain block is read exactly where a chain is written so, byte for byte. A chain that is written
 /// is read back, whatever follows it.
 pub fn laws_of_blocks()
-    ensures back { (first : ℕ) (c : Chain) (rest : List ℕ) → IsSmallChain c → chain_of first c.n (length c.outs) (lines_of (chain_text c ++ rest)) ≡ Ok (record { chain = c; rest = lines_of rest }) }
-    ensures only { (first n m : ℕ) (bytes : List ℕ) (x : Read) → chain_of first n m (lines_of bytes) ≡ Ok x → Spells n m bytes x }
+    ensures back { (first : ℕ) (c : Chain) (rest : List ℕ) →
+        IsSmallChain c →
+        chain_of first c.n (length c.outs) (lines_of (chain_text c ++ rest))
+        ≡ Ok (record { chain = c; rest = lines_of rest }) }
+    ensures only { (first n m : ℕ) (bytes : List ℕ) (x : Read) →
+        chain_of first n m (lines_of bytes) ≡ Ok x →
+        Spells n m bytes x }
 {}

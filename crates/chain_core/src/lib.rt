@@ -47,6 +47,3 @@ pub use reading::{add_step, read_chain};
 pub use step::Step;
 pub use values::{out_value, value};
 pub use writing::write_chain;
-
-#[cfg(test)]
-mod tests;

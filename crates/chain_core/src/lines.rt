@@ -2,7 +2,7 @@
 //! definition of its name: the words of its items, the step or out that they spell, and whether that
 //! may stand there.
 
-ghost use Rattle.std.specs.Prelude.{◌≡◌, ◌+◌, ◌-◌, ◌<◌, ◌≤◌, ◌^◌, if◌then◌else◌, IfSome, IfOk};
+ghost use Rattle.std.specs.Prelude.{◌≡◌, ◌+◌, ◌-◌, ◌<◌, ◌≤◌, ◌^◌, IfSome, IfOk};
 ghost use Rattle.std.specs.Option.{option_map};
 ghost use Rattle.text_core.specs.Items.{items_of};
 ghost use Rattle.chain_theory.specs.Chain.{IsStepAt, NamesPlace};

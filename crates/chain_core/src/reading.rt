@@ -128,7 +128,8 @@ pub fn read_chain(
     requires first_line { first_line < 2 ^ 31 }
     requires inputs { n ≤ 6 }
     requires outputs { outputs ≤ 8 }
-    ensures exact { Gives (λ x. record { chain = x.0; rest = lines_of (drop x.1 bytes.now) }) result (chain_of first_line n outputs (lines_of bytes.now)) }
+    ensures exact { Gives (λ x. record { chain = x.0; rest = lines_of (drop x.1 bytes.now) }) result
+        (chain_of first_line n outputs (lines_of bytes.now)) }
     ensures used { IfOk result (λ x. x.1 ≤ length bytes.now) }
     ensures chain { IfOk result (λ x. IsSmallChain x.0) }
     ensures inputs { IfOk result (λ x. x.0.n ≡ n) }

@@ -16,6 +16,3 @@ pub mod laws;
 pub mod plain;
 
 pub use data::{Cell, Out};
-
-#[cfg(test)]
-mod tests;

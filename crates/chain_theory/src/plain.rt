@@ -1,6 +1,6 @@
 //! The definitions, computed as they stand: recursion over the steps, one place at a time. It is
 //! meant for reading and for small inputs, and takes exponential time.
-ghost use Rattle.std.specs.Prelude.{◌≡◌, ℕ, ◌*◌, ◌^◌, ◌<◌, ◌≤◌, length, [], true, false};
+ghost use Rattle.std.specs.Prelude.{◌≡◌, ◌*◌, ◌^◌, ◌<◌, ◌≤◌, length, [], true, false};
 ghost use Rattle.chain_theory.specs.Operator.{apply as apply_of};
 ghost use Rattle.chain_theory.specs.Specification.{input as input_of};
 ghost use Rattle.chain_theory.specs.Value.{values_on, out_value as out_value_of};

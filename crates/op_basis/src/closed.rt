@@ -2,7 +2,13 @@
 //! goes over all sixteen operators.
 ghost use Rattle.std.specs.Prelude.{◌≡◌};
 ghost use Rattle.op_basis.specs.Basis.{members};
-ghost use Rattle.op_basis.specs.Closed.{swaps as swaps_of, swap_closed as swap_closed_of, has_no_negation_at as has_no_negation_at_of, has_negation as has_negation_of, negates_one as negates_one_of, keeps_constants as keeps_constants_of, const_closed as const_closed_of, has_complements as has_complements_of, polarity_closed as polarity_closed_of, is_allowed as is_allowed_of, reapplies as reapplies_of, reapplies_all as reapplies_all_of, reapply_closed as reapply_closed_of, every};
+ghost use Rattle.op_basis.specs.Closed.{every, swaps as swaps_of, swap_closed as swap_closed_of};
+ghost use Rattle.op_basis.specs.Closed.{has_no_negation_at as has_no_negation_at_of, has_negation as has_negation_of};
+ghost use Rattle.op_basis.specs.Closed.{negates_one as negates_one_of, keeps_constants as keeps_constants_of};
+ghost use Rattle.op_basis.specs.Closed.{const_closed as const_closed_of, polarity_closed as polarity_closed_of};
+ghost use Rattle.op_basis.specs.Closed.{has_complements as has_complements_of, is_allowed as is_allowed_of};
+ghost use Rattle.op_basis.specs.Closed.{reapplies as reapplies_of, reapplies_all as reapplies_all_of};
+ghost use Rattle.op_basis.specs.Closed.{reapply_closed as reapply_closed_of};
 
 use crate::values::{
     complement, first_complemented, left_on_first, left_on_second, right_on_first, right_on_second,

@@ -11,7 +11,10 @@ ghost use Rattle.op_basis.specs.Word.{word_text};
 pub fn operators_are_functions()
     ensures values { (f : Bool → Bool → Bool) (a b : Bool) → apply (operator_of f) a b ≡ f a b }
     ensures below { (f : Bool → Bool → Bool) → operator_of f < 16 }
-    ensures only { (f : Bool → Bool → Bool) (op : ℕ) → op < 16 → ((a b : Bool) → apply op a b ≡ f a b) → op ≡ operator_of f }
+    ensures only { (f : Bool → Bool → Bool) (op : ℕ) →
+        op < 16 →
+        ((a b : Bool) → apply op a b ≡ f a b) →
+        op ≡ operator_of f }
 {}
 
 /// A test of all operators passes exactly where it passes at each of the sixteen.
@@ -29,9 +32,23 @@ pub fn written_basis_is_read()
 /// set has an operator exactly where the operator's word is an item. What is read, a name too, isn't
 /// empty.
 pub fn list_is_its_operators()
-    ensures members { (word : List ℕ) (set op : ℕ) → begins_letter word ≡ false → basis_of word ≡ Ok set → op < 16 → (members set op ≡ true) ↔ Contains (items_of word) (word_text op) }
-    ensures words { (word item : List ℕ) (set : ℕ) → begins_letter word ≡ false → basis_of word ≡ Ok set → Contains (items_of word) item → (op : ℕ) × (op < 16) × (item ≡ word_text op) }
-    ensures once { (word : List ℕ) (set : ℕ) → begins_letter word ≡ false → basis_of word ≡ Ok set → IsDistinct same_text (items_of word) }
+    ensures members { (word : List ℕ) (set op : ℕ) →
+        begins_letter word ≡ false →
+        basis_of word ≡ Ok set →
+        op < 16 →
+        (members set op ≡ true) ↔ Contains (items_of word) (word_text op) }
+    ensures words { (word item : List ℕ) (set : ℕ) →
+        begins_letter word ≡ false →
+        basis_of word ≡ Ok set →
+        Contains (items_of word) item →
+        (op : ℕ) × (op < 16) × (item ≡ word_text op) }
+    ensures once { (word : List ℕ) (set : ℕ) →
+        begins_letter word ≡ false →
+        basis_of word ≡ Ok set →
+        IsDistinct same_text (items_of word) }
     ensures some { (word : List ℕ) (set : ℕ) → basis_of word ≡ Ok set → 0 < set }
-    ensures below { (word : List ℕ) (set : ℕ) → begins_letter word ≡ false → basis_of word ≡ Ok set → set < 65536 }
+    ensures below { (word : List ℕ) (set : ℕ) →
+        begins_letter word ≡ false →
+        basis_of word ≡ Ok set →
+        set < 65536 }
 {}

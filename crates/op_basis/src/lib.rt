@@ -33,6 +33,3 @@ pub use error::BasisError;
 pub use op::Op;
 pub use text::{read_basis, write_basis};
 pub use word::{read_operator, write_operator};
-
-#[cfg(test)]
-mod tests;

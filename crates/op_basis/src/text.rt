@@ -1,7 +1,7 @@
 //! Bases as texts: a name, or the words of the operators with commas between them. A list is walked
 //! item by item over the bytes, and each step says how the list of what is left follows, so that the
 //! loop's one equation is with the definition over the whole list.
-ghost use Rattle.std.specs.Prelude.{◌≡◌, ◌+◌, ◌<◌, ℕ, List, ◌∷◌, ◌++◌, length, nat_eq, OnOk, OnErr, IfOk};
+ghost use Rattle.std.specs.Prelude.{◌≡◌, ◌+◌, ◌<◌, ℕ, List, ◌∷◌, ◌++◌, length, OnOk, OnErr, IfOk};
 ghost use Rattle.std.specs.Option.{option_map};
 ghost use Rattle.std.specs.Borrow.{Bor};
 ghost use Rattle.op_basis.specs.Left.{items_left, size_left};

@@ -1,6 +1,10 @@
 //! Operators made by their values.
 ghost use Rattle.std.specs.Prelude.{◌≡◌};
-ghost use Rattle.op_basis.specs.Closed.{swapped as swapped_of, complement as complement_of, first_complemented as first_complemented_of, second_complemented as second_complemented_of, left_on_first as left_on_first_of, left_on_second as left_on_second_of, right_on_first as right_on_first_of, right_on_second as right_on_second_of};
+ghost use Rattle.op_basis.specs.Closed.{swapped as swapped_of, complement as complement_of};
+ghost use Rattle.op_basis.specs.Closed.{first_complemented as first_complemented_of};
+ghost use Rattle.op_basis.specs.Closed.{second_complemented as second_complemented_of};
+ghost use Rattle.op_basis.specs.Closed.{left_on_first as left_on_first_of, left_on_second as left_on_second_of};
+ghost use Rattle.op_basis.specs.Closed.{right_on_first as right_on_first_of, right_on_second as right_on_second_of};
 
 use crate::Op;
 

@@ -18,8 +18,6 @@ mod memory;
 mod outside;
 mod ports;
 mod reading;
-#[cfg(test)]
-mod tests;
 mod writing;
 
 pub use memory::{MemorySink, MemorySource, SteadySource};

@@ -1,5 +1,6 @@
 //! Sources and sinks in memory, which tell their bytes.
-ghost use Rattle.std.specs.Prelude.{◌≡◌, ℕ, List, [], Some, Ok, IfOk, OnOk, OnErr, is_err, IsTrue, IsErr, length, take, drop, min, ◌<◌, ◌≤◌};
+ghost use Rattle.std.specs.Prelude.{◌≡◌, ℕ, List, [], Some, Ok, IfOk, OnOk, OnErr, is_err, IsTrue, IsErr};
+ghost use Rattle.std.specs.Prelude.{length, take, drop, min, ◌<◌, ◌≤◌};
 ghost use Rattle.port_io.specs.Bytes.{Appends, Consumes, IsAtEnd};
 ghost use Rattle.port_io.specs.Faults.{Rose};
 ghost use Rattle.port_io.specs.Memory.{first_schedule, is_to_fail, after_success, after_failure};

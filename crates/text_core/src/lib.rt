@@ -26,6 +26,3 @@ pub use laws::{laws_of_items, laws_of_lines, laws_of_numbers, laws_of_rests, law
 pub use lines::next_line;
 pub use numbers::{number_up_to, push_number};
 pub use words::{after, begins_lower};
-
-#[cfg(test)]
-mod tests;

@@ -16,8 +16,12 @@ pub fn rows_are_exchanged()
 
 /// An out fits exactly where it meets each cell of the output.
 pub fn fitting_is_meeting()
-    ensures meets { (s : Specification) (h : ℕ) (out : Out) → fits s h out ≡ true → (t : ℕ) → t < 2 ^ s.inputs → is_met (s.cell h t) (trivial_value s.inputs t out) ≡ true }
-    ensures fits { (s : Specification) (h : ℕ) (out : Out) → ((t : ℕ) → t < 2 ^ s.inputs → is_met (s.cell h t) (trivial_value s.inputs t out) ≡ true) → fits s h out ≡ true }
+    ensures meets { (s : Specification) (h : ℕ) (out : Out) →
+        fits s h out ≡ true →
+        (t : ℕ) → t < 2 ^ s.inputs → is_met (s.cell h t) (trivial_value s.inputs t out) ≡ true }
+    ensures fits { (s : Specification) (h : ℕ) (out : Out) →
+        ((t : ℕ) → t < 2 ^ s.inputs → is_met (s.cell h t) (trivial_value s.inputs t out) ≡ true) →
+        fits s h out ≡ true }
 {}
 
 /// The trivial out of an output is the first of 0, 1, x1, .., xn that fits, and there is none

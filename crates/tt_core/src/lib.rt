@@ -37,6 +37,3 @@ pub use live::{live_part, trivial};
 pub use reading::{Tables, inputs, push_row, read_tables};
 pub use spec::{Spec, row};
 pub use symmetry::symmetric;
-
-#[cfg(test)]
-mod tests;

@@ -1,8 +1,9 @@
 //! Outputs that are a constant or an input at no cost, and the others, which are live. An output's
 //! trivial out is the first of 0, 1, x1, .., xn that meets all its cells, found by trying them in this
 //! order; what is found is therefore the definition's, and nothing is found where none fits.
-ghost use Rattle.std.specs.Prelude.{◌≡◌, ℕ, ◌+◌, ◌-◌, ◌<◌, ◌≤◌, List, [], ◌∷◌, ◌++◌, length, slice_index, IfOk, OnOk};
-ghost use Rattle.tt_core.specs.Live.{trivial_value as trivial_value_of, fits as fits_of, trivial_of, is_live as is_live_of, live_outputs, live_words};
+ghost use Rattle.std.specs.Prelude.{◌≡◌, ℕ, ◌+◌, ◌-◌, ◌<◌, ◌≤◌, [], ◌∷◌, ◌++◌, length, slice_index, IfOk, OnOk};
+ghost use Rattle.tt_core.specs.Live.{trivial_value as trivial_value_of, fits as fits_of, trivial_of};
+ghost use Rattle.tt_core.specs.Live.{is_live as is_live_of, live_outputs, live_words};
 ghost use Rattle.tt_core.specs.Words.{IsSpec, specification};
 
 use crate::cells::push_both;
@@ -97,7 +98,11 @@ pub fn live_part(alloc: Global, spec: &Spec) -> Result<Spec, AllocError>
     ensures words { IfOk result (λ part. part ≡ live_words spec.now) }
     // Its output number i is that of the i-th live output.
     ensures outputs { IfOk result (λ part. length part.on ≡ length (live_outputs (specification spec.now))) }
-    ensures cells { IfOk result (λ part. (h t : ℕ) → 1 ≤ h → h ≤ length part.on → (specification part).cell h t ≡ (specification spec.now).cell (slice_index (live_outputs (specification spec.now)) (h - 1)) t) }
+    ensures cells { IfOk result (λ part. (h t : ℕ) →
+        1 ≤ h →
+        h ≤ length part.on →
+        (specification part).cell h t
+        ≡ (specification spec.now).cell (slice_index (live_outputs (specification spec.now)) (h - 1)) t) }
 {
     let n = spec.n();
     let mut on = Vec::new(alloc);

@@ -1,7 +1,8 @@
 //! Whether two inputs may be exchanged: the row with their bits exchanged has the same cell, for every
 //! row and every output. The exchanged row is built bit by bit from its first input on.
-ghost use Rattle.std.specs.Prelude.{◌≡◌, ℕ, ◌^◌, ◌<◌, ◌≤◌, length, true, false};
-ghost use Rattle.tt_core.specs.Symmetry.{exchanged as exchanged_of, exchanged_bit as exchanged_bit_of, renamed as renamed_of, IsSymmetricOutput, IsSymmetric};
+ghost use Rattle.std.specs.Prelude.{◌≡◌, ◌^◌, ◌<◌, ◌≤◌, length, true, false};
+ghost use Rattle.tt_core.specs.Symmetry.{exchanged as exchanged_of, exchanged_bit as exchanged_bit_of};
+ghost use Rattle.tt_core.specs.Symmetry.{renamed as renamed_of, IsSymmetricOutput, IsSymmetric};
 ghost use Rattle.tt_core.specs.Words.{specification};
 
 use crate::{Spec, row};
