@@ -67,7 +67,7 @@ impl Choice {
         ensures none { IfNone result (HaveValues trail.now (1 + trail.now.vars)) }
     {
         while let Some(variable) = self.heap.pop() {
-            let lit = literal(variable, self.signs[variable as usize]);
+            let lit = Lit::of(variable, self.signs[variable as usize]);
             if trail.is_free(lit) {
                 return Some(lit);
             }
@@ -136,17 +136,4 @@ impl Choice {
         self.step /= 2;
         self.heap.halve();
     }
-}
-
-/// The literal of a variable with a sign.
-fn literal(variable: u32, positive: bool) -> Lit
-    requires some { 0 < variable }
-    requires small { variable < 1000000000 }
-    ensures { variable_of result ≡ variable }
-{
-    let number = variable as i32;
-    if positive {
-        return Lit::new(number);
-    }
-    Lit::new(-number)
 }

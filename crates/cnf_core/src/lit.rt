@@ -4,7 +4,7 @@ ghost use Rattle.std.specs.Cmp.Rules.{comparing};
 ghost use Rattle.std.proofs.Common.{rules};
 ghost use Rattle.cnf_core.specs.Bounds.{IsLit};
 ghost use Rattle.cnf_core.specs.Codes.{code_of};
-ghost use Rattle.sat_theory.specs.Formula.{variable as variable_of, opposite as opposite_of};
+ghost use Rattle.sat_theory.specs.Formula.{variable as variable_of, opposite as opposite_of, signed};
 
 use std::marker::Model;
 
@@ -53,6 +53,19 @@ impl Lit {
             return Lit(2 * number.unsigned_abs());
         }
         Lit(2 * number.unsigned_abs() + 1)
+    }
+
+    /// The literal that says of a variable that it is true, where `positive`, or that it is false.
+    pub fn of(variable: u32, positive: bool) -> Lit
+        requires some { 0 < variable }
+        requires small { variable < 2 ^ 31 }
+        ensures value { result ≡ signed variable positive }
+        ensures variable { variable_of result ≡ variable }
+    {
+        if positive {
+            return Lit(2 * variable);
+        }
+        Lit(2 * variable + 1)
     }
 
     /// The number that writes it.

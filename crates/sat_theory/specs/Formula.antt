@@ -10,6 +10,10 @@ variable l = unsigned_abs l
 abbrev pub opposite : ℤ → ℤ
 opposite l = neg_ℤ l
 
+-- the literal of a variable and a sign
+abbrev pub signed : ℕ → Bool → ℤ
+signed v positive = if positive then pos v else neg_ℤ (pos v)
+
 -- A clause is a list of literals of different variables, and says that one of them at least is true.
 -- Example: 1, -2 is a clause. 1, -1 is none, and neither is 1, 0.
 pub record IsClause (lits : List ℤ) : Type 0 where

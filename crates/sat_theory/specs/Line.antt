@@ -28,6 +28,11 @@ abbrev pub IsLine : Line → Type 0
 IsLine (Add id lits hints) = IsAddition id lits hints
 IsLine (Delete id ids) = IsDeletion id ids
 
+-- the line is an addition
+abbrev pub IsAdding : Line → Type 0
+IsAdding (Add id lits hints) = Unit {0}
+IsAdding (Delete id ids) = ⊥
+
 -- the literals of an addition are of different variables
 abbrev pub HasClause : Line → Type 0
 HasClause (Add id lits hints) = IsClause lits

@@ -1,7 +1,7 @@
 -- Whole logs: what they refute, and what they leave open.
 use Rattle.std.specs.Prelude.{◌≡◌, ℕ, ◌*◌, ◌≤◌, ◌⊎◌, ℤ, List, [], ◌∷◌, length, Contains, All, Any, count_by, is_some, Option, Some}
 use Rattle.sat_theory.specs.Formula.{Formula}
-use Rattle.sat_theory.specs.Line.{Line, Add, Delete, IsLine}
+use Rattle.sat_theory.specs.Line.{Line, Add, Delete, IsLine, IsAdding}
 use Rattle.sat_theory.specs.State.{State, start, next}
 use Rattle.sat_theory.specs.Holding.{Holds}
 
@@ -53,14 +53,30 @@ added_ids [] = []
 added_ids (Add id lits hints ∷ ls) = id ∷ added_ids ls
 added_ids (Delete id ids ∷ ls) = added_ids ls
 
+-- how many clauses a log adds
+abbrev pub additions : List Line → ℕ
+additions lines = length (added_ids lines)
+
+-- how many of these are live in a state
+abbrev pub live_additions : State → List Line → ℕ
+live_additions s lines = count_by (λ id. is_some (s.live id)) (added_ids lines)
+
 -- A log has spent a budget on a formula where it holds, doesn't reach the empty clause, and has at
 -- least so many additions, each of a new clause.
 pub record IsSpent (f : Formula) (lines : List Line) (budget : ℕ) : Type 0 where
   pub holds : LogHolds f lines
   pub open_yet : HasEmpty f lines → ⊥
-  pub enough : budget ≤ length (added_ids lines)
+  pub enough : budget ≤ additions lines
   pub fresh : EachLine IsFresh (start f) lines
 
 -- At the end of the log at least half of its additions are live.
 abbrev pub IsKept : Formula → List Line → Type 0
-IsKept f lines = length (added_ids lines) ≤ 2 * count_by (λ id. is_some ((after (start f) lines).live id)) (added_ids lines)
+IsKept f lines = additions lines ≤ 2 * live_additions (after (start f) lines) lines
+
+-- the log deletes nothing
+abbrev pub DeletesNothing : List Line → Type 0
+DeletesNothing lines = All IsAdding lines
+
+-- What a log owes besides what it shows: where it leaves the formula open, it keeps half of its additions.
+pub record IsThrifty (f : Formula) (lines : List Line) : Type 0 where
+  pub kept : (HasEmpty f lines → ⊥) → IsKept f lines

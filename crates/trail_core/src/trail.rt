@@ -168,5 +168,5 @@ fn negative(index: u32) -> Lit
     requires { index < 1000000000 }
     ensures { result ≡ negsuc index }
 {
-    Lit::new(-(index as i32) - 1)
+    Lit::of(index + 1, false)
 }

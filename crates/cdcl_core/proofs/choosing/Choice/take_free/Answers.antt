@@ -6,5 +6,5 @@ use Rattle.cdcl_core.proofs.choosing.Choice.take_free.Goals as goal
 pub returns-then-is_free-clause-choosing : goal.returns-then-is_free-clause-choosing
 returns-then-is_free-clause-choosing c = λ reason.
     let v = c.in-Some.ensures.greatest.variable in
-    let over : IsOver c.args.trail.now.vars c.literal-lit.result = rw c.literal-lit.ensures (v.0, omega (arith, v.1, c.loop-variable.invariant.choosing.vars)) in
-    choosing_decided c.args.trail.now c.loop-variable.self _ c.literal-lit.result c.in-Some.variable reason c.requires.whole c.loop-variable.invariant.choosing c.literal-lit.ensures over (c.is_free.ensures.0 c.if-is_free.true) c.in-Some.ensures.taken refl
+    let over : IsOver c.args.trail.now.vars c.of-lit.result = rw c.of-lit.ensures.variable (v.0, omega (arith, v.1, c.loop-variable.invariant.choosing.vars)) in
+    choosing_decided c.args.trail.now c.loop-variable.self _ c.of-lit.result c.in-Some.variable reason c.requires.whole c.loop-variable.invariant.choosing c.of-lit.ensures.variable over (c.is_free.ensures.0 c.if-is_free.true) c.in-Some.ensures.taken refl
