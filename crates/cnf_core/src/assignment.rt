@@ -1,3 +1,4 @@
+//! Assignments, and what satisfies a formula: each clause has to have a literal that is true.
 ghost use Rattle.std.specs.Prelude.{◌≡◌, ◌↔◌, IsTrue, length};
 ghost use Rattle.sat_theory.specs.Formula.{bits_of, literal_value as literal_value_of, IsTrueClause, Satisfies, variable};
 

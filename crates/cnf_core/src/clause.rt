@@ -1,3 +1,5 @@
+//! Clauses. That their literals are of different variables is an invariant of the type, so whoever builds one shows it
+//! once, and whoever reads one has it.
 ghost use Rattle.std.specs.Prelude.{◌≡◌, ◌↔◌, IsTrue};
 ghost use Rattle.sat_theory.specs.Formula.{IsClause, IsWithin};
 

@@ -1,3 +1,5 @@
+//! Formulas. Their bounds are an invariant of the type, so that ids and variables of 32 bits never run over, not even
+//! with all the clauses that a log adds.
 ghost use Rattle.std.specs.Prelude.{◌≡◌, ◌↔◌, ◌<◌, ◌+◌, [], ◌∷◌, ◌++◌, length, Contains, IsTrue, OnOk, OnErr};
 ghost use Rattle.sat_theory.specs.Formula.{IsWithin};
 ghost use Rattle.cnf_core.specs.Bounds.{IsCnf};

@@ -1,3 +1,5 @@
+//! Literals, kept as places of tables: the opposite is the place beside, and an entry is read without computing.
+//! That a place and a number are one thing told twice rests on the two laws that turn each into the other.
 ghost use Rattle.std.specs.Prelude.{◌≡◌, ℕ, ℤ, pos, ◌<◌, ◌^◌, ◌<ℤ◌, ◌↔◌, IsTrue};
 ghost use Rattle.std.specs.Ordering.{int_eq};
 ghost use Rattle.std.specs.Cmp.Rules.{comparing};

@@ -6,4 +6,7 @@ pub mod HoldingLaws
 pub mod Log
 pub mod LogLaws
 pub mod Soundness
+pub mod Pigeonholes
+pub mod Ternary
+pub mod FewAdditions
 pub mod Plain

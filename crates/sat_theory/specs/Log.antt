@@ -1,5 +1,5 @@
 -- Whole logs: what they refute, and what they leave open.
-use Rattle.std.specs.Prelude.{◌≡◌, ℕ, ◌*◌, ◌≤◌, ◌⊎◌, ℤ, List, [], ◌∷◌, length, Contains, All, Any, count_by, is_some, Option, Some}
+use Rattle.std.specs.Prelude.{◌≡◌, ℕ, ◌+◌, ◌*◌, ◌<◌, ◌≤◌, ◌⊎◌, ℤ, List, [], ◌∷◌, length, Contains, All, Any, count_by, is_some, Option, Some}
 use Rattle.sat_theory.specs.Formula.{Formula}
 use Rattle.sat_theory.specs.Line.{Line, Add, Delete, IsLine, IsAdding}
 use Rattle.sat_theory.specs.State.{State, start, next}
@@ -72,6 +72,17 @@ pub record IsSpent (f : Formula) (lines : List Line) (budget : ℕ) : Type 0 whe
 -- At the end of the log at least half of its additions are live.
 abbrev pub IsKept : Formula → List Line → Type 0
 IsKept f lines = additions lines ≤ 2 * live_additions (after (start f) lines) lines
+
+-- no deletion names a clause of the formula; these have the first ids
+abbrev pub SparesFormula : Formula → Line → Type 0
+SparesFormula f (Add id lits hints) = Unit {0}
+SparesFormula f (Delete id ids) = All (λ k. length f.clauses < k) ids
+
+-- A log is thinned where it deletes additions alone, and at its end about a quarter of them or more: so it stays
+-- cheap to check, however long it is.
+pub record IsThinned (f : Formula) (lines : List Line) : Type 0 where
+  pub spares : All (SparesFormula f) lines
+  pub few : 4 * live_additions (after (start f) lines) lines ≤ 3 * additions lines + 4 * f.vars + 8000
 
 -- the log deletes nothing
 abbrev pub DeletesNothing : List Line → Type 0
