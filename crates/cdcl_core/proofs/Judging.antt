@@ -9,7 +9,7 @@ use Rattle.cdcl_theory.specs.Falling.{Implies, IsSettled, AllSettled, IsFalsifie
 use Rattle.cdcl_theory.specs.Trails.{Trailed, fell, IsTrail}
 use Rattle.clause_db.specs.Stored.{Stored, live_in}
 use Rattle.clause_db.specs.StoredLaws.{live_inside}
-use Rattle.cdcl_core.specs.Propagating.{IsLeft}
+use Rattle.cdcl_core.specs.Verdicts.{IsLeft}
 
 -- the literal at one of the first i indices has no value, and all others there have fallen
 pub record IsOneLeft (places : ℤ → ℕ) (lits : List ℤ) (i : ℕ) (l : ℤ) : Type 0 where

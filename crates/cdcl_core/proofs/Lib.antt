@@ -6,7 +6,6 @@ pub mod Logging
 pub mod Counting
 pub mod Settling
 pub mod Showing
-pub mod Ternary
 pub mod Guards
 pub mod Visits
 pub mod Jumps

@@ -2,7 +2,7 @@
 use Rattle.std.proofs.Common.{◌≡◌, ℕ, zero, suc, ◌<◌, ◌≤◌, ℤ, List, [], length, slice_index_or, Contains, All, Option, ap, ◌∙◌, arith, inr}
 use Rattle.std.proofs.Math.Logic.{⊎_elim}
 use Rattle.std.proofs.lemmas.List.Elements.{All-contains}
-use Rattle.sat_theory.specs.Formula.{variable}
+use Rattle.sat_theory.specs.Formula.{variable, Formula}
 use Rattle.cdcl_theory.specs.FallingLaws.{implies_kept}
 use Rattle.cdcl_theory.specs.Trails.{Trailed, fell, reason_of, IsTrail, HasReason, IsBack, IsLayered}
 use Rattle.clause_db.specs.Stored.{Stored}
@@ -10,7 +10,7 @@ use Rattle.cdcl_core.specs.declared.search.Search.{Search}
 use Rattle.cdcl_core.specs.declared.restarts.Restarts.{Restarts}
 use Rattle.cdcl_core.specs.Levels.{IsFirstStart}
 use Rattle.cdcl_core.specs.Guarding.{IsGuarded}
-use Rattle.cdcl_core.specs.Searching.{IsSearching, IsVisited, HasJumped, HasRestarted}
+use Rattle.cdcl_core.specs.Searching.{IsSearching, IsVisited, IsLogged, HasJumped, HasRestarted}
 use Rattle.cdcl_core.proofs.Guards.{guarded_back}
 
 -- no level begins before the first one
@@ -70,14 +70,20 @@ visited_counted s r visited = record {
   begun = visited.begun;
 }
 
+-- The log of a restart is that before it.
+pub logged_restarted : (f : Formula) (b c : Search) → IsLogged f b → HasRestarted b c → IsLogged f c
+logged_restarted f b c logged restarted = record {
+  log = rw (restarted.clauses, restarted.lines) logged.log;
+  given = restarted.given ∙ logged.given;
+}
+
 -- A jump with a restart behind it is a jump.
 pub jumped_restarted : (a b c : Search) → HasJumped a b → HasRestarted b c → HasJumped a c
 jumped_restarted a b c jumped restarted =
-    let lines : length c.lines.items ≡ length b.lines.items = ap (λ ls. length ls.items) restarted.lines in
     let clauses : length c.clauses.clauses ≡ length b.clauses.clauses = ap (λ (x : Stored). length x.clauses) restarted.clauses in
     record {
       vars = restarted.vars ∙ jumped.vars;
-      lines = lines ∙ jumped.lines;
+      given = restarted.given ∙ jumped.given;
       clauses = clauses ∙ jumped.clauses;
       starts = (let h : length b.starts.items < length a.starts.items = jumped.starts in let g : length c.starts.items ≤ length b.starts.items = restarted.starts in omega (arith, h, g));
     }

@@ -6,16 +6,19 @@ use Rattle.std.proofs.lemmas.Bool.{cases_eq}
 use Rattle.cdcl_theory.specs.Trails.{Trailed, fell, IsTrail, IsGrown, IsLayered}
 use Rattle.clause_db.specs.Stored.{Stored, live_at, live_in, IsStored}
 use Rattle.sat_theory.specs.Formula.{Formula}
+use Rattle.sat_theory.specs.Log.{additions}
+use Rattle.sat_theory.specs.Pigeonholes.{different_below}
 use Rattle.lrat_text.specs.Values.{line_values}
 use Rattle.cdcl_core.specs.Visiting.{IsRest}
 use Rattle.cdcl_core.proofs.Logging.{log_same}
 use Rattle.conflict_core.specs.Learning.{IsReady}
 use Rattle.cdcl_core.specs.declared.search.Search.{Search}
 use Rattle.cdcl_core.specs.Searching.{IsSearching, IsVisited, IsLog, IsLogged, HasBegun, HasPropagated, HasSettled, HasJumped, HasDecided}
+use Rattle.cdcl_core.specs.Endings.{HasSpent}
 use Rattle.cdcl_core.specs.Guarding.{IsGuarded}
 use Rattle.cdcl_core.proofs.Guards.{guarded_settled}
 use Rattle.cdcl_theory.specs.Falling.{AllSettled}
-use Rattle.cdcl_core.proofs.Counting.{different_below, trail_short}
+use Rattle.cdcl_core.proofs.Counting.{trail_short}
 use Rattle.cdcl_core.proofs.Layers.{layered_grown}
 use Rattle.cdcl_core.proofs.Choices.{choosing_grown}
 
@@ -44,7 +47,10 @@ settled_visited s searching visited all = guarded_settled s.clauses s.trail s.st
 
 -- the log after the first propagation
 pub logged_begun : (f : Formula) (a b : Search) → IsLogged f a → HasBegun a b → IsLogged f b
-logged_begun f a b log begun = rw (begun.clauses, begun.lines) log
+logged_begun f a b logged begun = record {
+  log = rw (begun.clauses, begun.lines) logged.log;
+  given = begun.given ∙ logged.given;
+}
 
 -- what is visited when watched literals have made more true
 pub visited_some : (s : Search) (b : Stored) (t : Trailed) → IsVisited s → IsRest s.clauses b s.trail t → ((starts : List ℕ) → All (λ x. x ≤ s.head) starts → IsGuarded s.clauses (fell s.trail) starts s.head → IsGuarded b (fell t) starts s.head) → IsVisited (record s { clauses = b; trail = t })
@@ -63,53 +69,52 @@ visited_all s b t head visited rest kept is = rw is (record {
 
 pub settled_propagated : (a b c : Search) → HasSettled a b → HasPropagated b c → HasSettled a c
 settled_propagated a b c settled propagated =
-    let lines : length c.lines.items ≡ length b.lines.items = ap (λ ls. length ls.items) propagated.lines in
     let starts : length c.starts.items ≡ length b.starts.items = ap (λ ls. length ls.items) propagated.starts in
     let clauses : length c.clauses.clauses ≡ length b.clauses.clauses = ap (λ (xs : List (Option (List ℤ))). length xs) propagated.rest.clauses in
     record {
       vars = propagated.rest.grown.vars ∙ settled.vars;
-      more = (let h : length a.lines.items ≤ length b.lines.items = settled.more in omega (arith, h, lines));
-      starts = (let h : length b.lines.items + length b.starts.items ≤ length a.lines.items + length a.starts.items = settled.starts in omega (arith, h, lines, starts));
-      clauses = (let h : length b.clauses.clauses + length a.lines.items ≡ length a.clauses.clauses + length b.lines.items = settled.clauses in omega (arith, h, lines, clauses));
-      longer = λ same. (let h : length b.lines.items ≡ length a.lines.items → length a.trail.lits ≤ length b.trail.lits = settled.longer in let low : length a.trail.lits ≤ length b.trail.lits = h (omega (arith, same, lines)) in let g : length b.trail.lits ≤ length c.trail.lits = propagated.rest.grown.longer in omega (arith, low, g));
+      given = propagated.given ∙ settled.given;
+      more = (let h : length a.clauses.clauses ≤ length b.clauses.clauses = settled.more in omega (arith, h, clauses));
+      starts = (let h : length b.clauses.clauses + length b.starts.items ≤ length a.clauses.clauses + length a.starts.items = settled.starts in omega (arith, h, clauses, starts));
+      longer = λ same. (let h : length b.clauses.clauses ≡ length a.clauses.clauses → length a.trail.lits ≤ length b.trail.lits = settled.longer in let low : length a.trail.lits ≤ length b.trail.lits = h (omega (arith, same, clauses)) in let g : length b.trail.lits ≤ length c.trail.lits = propagated.rest.grown.longer in omega (arith, low, g));
     }
 
 pub logged_propagated : (f : Formula) (b c : Search) → IsLogged f b → HasPropagated b c → IsLogged f c
-logged_propagated f b c log propagated = subst (λ ls. IsLog f c.clauses (line_values ls.items)) (sym propagated.lines) (log_same f b.clauses c.clauses (line_values b.lines.items) propagated.rest.clauses propagated.rest.vars log)
+logged_propagated f b c logged propagated = record {
+  log = subst (λ ls. IsLog f c.clauses (line_values ls.items)) (sym propagated.lines) (log_same f b.clauses c.clauses (line_values b.lines.items) propagated.rest.clauses propagated.rest.vars logged.log);
+  given = propagated.given ∙ logged.given;
+}
 
 pub settled_self : (s : Search) → HasSettled s s
-settled_self s = record { vars = refl; more = omega arith; starts = omega arith; clauses = refl; longer = λ same. omega arith }
+settled_self s = record { vars = refl; given = refl; more = omega arith; starts = omega arith; longer = λ same. omega arith }
 
 pub settled_grown : (a b : Search) (t : Trailed) → HasSettled a b → IsGrown (live_in b.clauses) b.trail t → HasSettled a (record b { trail = t })
 settled_grown a b t settled grown = record {
   vars = grown.vars ∙ settled.vars;
+  given = settled.given;
   more = settled.more;
   starts = settled.starts;
-  clauses = settled.clauses;
   longer = λ same. (let h : length a.trail.lits ≤ length b.trail.lits = settled.longer same in let g : length b.trail.lits ≤ length t.lits = grown.longer in omega arith);
 }
 
 pub settled_jumped : (a b c : Search) → HasSettled a b → HasJumped b c → HasSettled a c
 settled_jumped a b c settled jumped =
-    let more : length a.lines.items ≤ length b.lines.items = settled.more in
-    let starts : length b.lines.items + length b.starts.items ≤ length a.lines.items + length a.starts.items = settled.starts in
-    let clauses : length b.clauses.clauses + length a.lines.items ≡ length a.clauses.clauses + length b.lines.items = settled.clauses in
-    let lines_now : length c.lines.items ≡ length b.lines.items + 1 = jumped.lines in
+    let more : length a.clauses.clauses ≤ length b.clauses.clauses = settled.more in
+    let starts : length b.clauses.clauses + length b.starts.items ≤ length a.clauses.clauses + length a.starts.items = settled.starts in
     let clauses_now : length c.clauses.clauses ≡ length b.clauses.clauses + 1 = jumped.clauses in
     let starts_now : length c.starts.items < length b.starts.items = jumped.starts in
     record {
       vars = jumped.vars ∙ settled.vars;
+      given = jumped.given ∙ settled.given;
       more = omega arith;
       starts = omega arith;
-      clauses = omega arith;
       longer = λ same. absurd (omega arith);
     }
 
 -- room for one more clause
 pub settled_few : (a b : Search) → HasSettled a b → length a.clauses.clauses + length a.starts.items < 4000000000 → length b.clauses.clauses < 4000000000
 settled_few a b settled few =
-    let starts : length b.lines.items + length b.starts.items ≤ length a.lines.items + length a.starts.items = settled.starts in
-    let clauses : length b.clauses.clauses + length a.lines.items ≡ length a.clauses.clauses + length b.lines.items = settled.clauses in
+    let starts : length b.clauses.clauses + length b.starts.items ≤ length a.clauses.clauses + length a.starts.items = settled.starts in
     omega arith
 
 less_times : (m n k : ℕ) → m + 1 ≤ n → m * k + k ≤ n * k
@@ -129,10 +134,24 @@ falls b0 v la lb lc ta tb tc more longer lines lits under short =
     omega (arith, step, less))
     (cases_eq lb la)
 
+-- the log of a decision is that before it
+pub logged_decided : (f : Formula) (b c : Search) → IsLogged f b → HasDecided b c → IsLogged f c
+logged_decided f b c logged decided = record {
+  log = rw (decided.clauses, decided.lines) logged.log;
+  given = decided.given ∙ logged.given;
+}
+
 -- With each decision the search comes closer to its end.
-pub measure_falls : (budget vars : ℕ) (a b c : Search) → HasSettled a b → length b.lines.items < budget → HasDecided b c → length b.trail.lits ≤ vars + 1 → (budget - length c.lines.items) * (vars + 2) + (vars + 2 - length c.trail.lits) < (budget - length a.lines.items) * (vars + 2) + (vars + 2 - length a.trail.lits)
-measure_falls budget vars a b c settled under decided short =
-    falls budget vars (length a.lines.items) (length b.lines.items) (length c.lines.items) (length a.trail.lits) (length b.trail.lits) (length c.trail.lits) settled.more settled.longer (ap (λ ls. length ls.items) decided.lines) decided.lits under short
+pub measure_falls : (limit vars : ℕ) (a b c : Search) → HasSettled a b → length b.clauses.clauses < limit → HasDecided b c → length b.trail.lits ≤ vars + 1 → (limit - length c.clauses.clauses) * (vars + 2) + (vars + 2 - length c.trail.lits) < (limit - length a.clauses.clauses) * (vars + 2) + (vars + 2 - length a.trail.lits)
+measure_falls limit vars a b c settled under decided short =
+    falls limit vars (length a.clauses.clauses) (length b.clauses.clauses) (length c.clauses.clauses) (length a.trail.lits) (length b.trail.lits) (length c.trail.lits) settled.more settled.longer (ap (λ (s : Stored). length s.clauses) decided.clauses) decided.lits under short
+
+-- The ids behind the formula's are as many as the additions.
+pub spent_now : (f : Formula) (budget : ℕ) (s : Search) → IsLogged f s → s.given + budget ≤ length s.clauses.clauses → HasSpent f budget s
+spent_now f budget s logged enough = record {
+  logged = logged;
+  enough = (let count : length s.clauses.clauses ≡ length f.clauses + additions (line_values s.lines.items) = logged.log.count in let given : s.given ≡ length f.clauses = logged.given in omega arith);
+}
 
 -- there are no more levels than literals on the trail
 pub starts_short : (live : ℕ → Option (List ℤ)) (t : Trailed) (starts : List ℕ) → IsLayered live t starts → length starts ≤ t.vars + 1

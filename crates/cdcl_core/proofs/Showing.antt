@@ -1,21 +1,18 @@
 -- What the endings of a search show of the formula.
-use Rattle.std.proofs.Common.{◌≡◌, ℕ, zero, suc, ◌+◌, ◌-◌, ◌*◌, ◌<◌, ◌≤◌, ◌==◌, ℤ, Bool, true, false, List, [], ◌∷◌, length, slice_index_or, Contains, All, Any, Some, slice_get, is_some, count_by, subst, sym, ap, arith, inl, refl, cond}
+use Rattle.std.proofs.Common.{◌≡◌, ℕ, zero, suc, ◌+◌, ◌-◌, ◌*◌, ◌<◌, ◌≤◌, ◌==◌, ℤ, Bool, false, List, [], ◌∷◌, length, slice_index_or, Contains, All, Any, Some, slice_get, subst, sym, ap, arith, inl, refl}
 use Rattle.std.proofs.Math.Logic.{⊎_elim}
 use Rattle.std.proofs.lemmas.Bool.{cases_lt, ne_eqb}
-use Rattle.std.proofs.lemmas.List.{length-map}
-use Rattle.std.proofs.lemmas.List.Elements.{All-contains, All-cons, All-head, All-tail}
-use Rattle.std.proofs.lemmas.List.Sums.{sum_by-cons}
+use Rattle.std.proofs.lemmas.List.Elements.{All-contains, All-cons}
 use Rattle.sat_theory.specs.Formula.{variable, opposite, Formula, IsFormula, IsClause, IsWithin, bits_of, IsTrueClause, Satisfies}
 use Rattle.sat_theory.specs.Line.{Line, Add, Delete}
 use Rattle.sat_theory.specs.State.{State, by_id, start}
-use Rattle.sat_theory.specs.Log.{EachLine, IsStep, AddsEmpty, added_ids, Refutes, IsSpent, IsKept}
-use Rattle.lrat_text.specs.declared.line.Line as rust
-use Rattle.lrat_text.specs.Values.{line_value, line_values}
+use Rattle.sat_theory.specs.Log.{EachLine, IsStep, AddsEmpty, additions, live_additions, Refutes, IsSpent, IsKept, IsThrifty}
+use Rattle.sat_theory.specs.FewAdditions.{AddsSome}
 use Rattle.cdcl_theory.specs.Falling.{AllSettled, IsSettled}
 use Rattle.cdcl_theory.specs.Trails.{Trailed, fell}
 use Rattle.clause_db.specs.Stored.{Stored, live_in}
 use Rattle.trail_core.specs.Values.{Follows, HaveValues}
-use Rattle.cdcl_core.specs.Searching.{AddsSome, IsLog}
+use Rattle.cdcl_core.specs.Searching.{IsLog}
 
 no_lines : (s : State) → EachLine IsStep s []
 unfolding EachLine
@@ -71,38 +68,21 @@ values_satisfy f s t lines bits formula log vars values settled follows = λ k d
 
 not_both : (line : Line) → AddsSome line → AddsEmpty line → ⊥
 not_both (Add id lits hints) some empty = (let e : length lits ≡ 0 = ap length empty in let h : 0 < length lits = some in omega arith)
-not_both (Delete id ids) some empty = some
-
-added_all : (lines : List Line) → All AddsSome lines → length (added_ids lines) ≡ length lines
-unfolding added_ids
-added_all [] all = refl
-added_all (Add id lits hints ∷ lines) all = ap (λ (n : ℕ). suc n) (added_all lines (All-tail AddsSome (Add id lits hints) lines all))
-added_all (Delete id ids ∷ lines) all = absurd (All-head AddsSome (Delete id ids) lines all)
+not_both (Delete id ids) some empty = empty
 
 -- A log of so many additions has spent the budget.
-pub log_spent : (f : Formula) (s : Stored) (lines : List Line) (budget : ℕ) → IsLog f s lines → (Contains f.clauses [] → ⊥) → budget ≤ length lines → IsSpent f lines budget
+pub log_spent : (f : Formula) (s : Stored) (lines : List Line) (budget : ℕ) → IsLog f s lines → (Contains f.clauses [] → ⊥) → budget ≤ additions lines → IsSpent f lines budget
 log_spent f s lines budget log none enough = record {
   holds = log.holds;
   open_yet = λ has. ⊎_elim (λ (there : Contains f.clauses []). none there) (λ (added : Any AddsEmpty lines). not_both added.1 (All-contains AddsSome lines added.1 log.some (added.0, added.2, added.3)) added.4) has;
-  enough = rw (added_all lines log.some) enough;
+  enough = enough;
   fresh = log.fresh;
 }
 
-count_all : (p : ℕ → Bool) (xs : List ℕ) → All (λ x. p x ≡ true) xs → count_by p xs ≡ length xs
-count_all p [] all = refl
-count_all p (x ∷ xs) all =
-    let first : p x ≡ true = All-head (λ y. p y ≡ true) x xs all in
-    let one : cond {A = ℕ} (p x) 1 0 ≡ 1 = rw first refl in
-    let more : count_by p (x ∷ xs) ≡ cond {A = ℕ} (p x) 1 0 + count_by p xs = sum_by-cons (λ (y : ℕ). cond {A = ℕ} (p y) 1 0) x xs in
-    let ih : count_by p xs ≡ length xs = count_all p xs (All-tail (λ y. p y ≡ true) x xs all) in
-    omega arith
-
--- All that was added is live.
+-- At least half of what was added is live.
 pub log_kept : (f : Formula) (s : Stored) (lines : List Line) → IsLog f s lines → IsKept f lines
-log_kept f s lines log =
-    let all : count_by (λ id. is_some (live_in s id)) (added_ids lines) ≡ length (added_ids lines) = count_all (λ id. is_some (live_in s id)) (added_ids lines) log.added in
-    let kept : length (added_ids lines) ≤ 2 * count_by (λ id. is_some (live_in s id)) (added_ids lines) = omega arith in
-    subst (λ (st : State). length (added_ids lines) ≤ 2 * count_by (λ id. is_some (st.live id)) (added_ids lines)) (sym log.state) kept
+log_kept f s lines log = subst (λ (st : State). additions lines ≤ 2 * live_additions st lines) (sym log.state) log.kept
 
-pub lines_many : (items : List rust.Line) (budget : ℕ) → budget ≤ length items → budget ≤ length (line_values items)
-lines_many items budget enough = rw (length-map items line_value) enough
+-- a log that reaches the empty clause owes nothing more
+pub refuted_thrifty : (f : Formula) (lines : List Line) → Refutes f lines → IsThrifty f lines
+refuted_thrifty f lines refutes = record { kept = λ open_yet. absurd (open_yet refutes.reaches) }

@@ -21,6 +21,11 @@ IfOpen (Sat bits) P = Unit {0}
 IfOpen (Unsat log) P = Unit {0}
 IfOpen (Open log) P = P (line_values log.lines.items)
 
+abbrev pub IfLogged : Solved → (List theory.Line → Type 0) → Type 0
+IfLogged (Sat bits) P = Unit {0}
+IfLogged (Unsat log) P = P (line_values log.lines.items)
+IfLogged (Open log) P = P (line_values log.lines.items)
+
 abbrev pub IsDecided : Solved → Type 0
 IsDecided (Sat bits) = Unit {0}
 IsDecided (Unsat log) = Unit {0}

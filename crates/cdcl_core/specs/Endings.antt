@@ -1,7 +1,7 @@
 -- How a search ends, and what it has then shown.
-use Rattle.std.specs.Prelude.{◌≡◌, ℕ, ◌+◌, ◌≤◌, length}
+use Rattle.std.specs.Prelude.{◌≡◌, ℕ, ◌+◌, ◌≤◌}
 use Rattle.sat_theory.specs.Formula.{Formula}
-use Rattle.sat_theory.specs.Log.{Refutes}
+use Rattle.sat_theory.specs.Log.{Refutes, additions, DeletesNothing}
 use Rattle.lrat_text.specs.Values.{line_values}
 use Rattle.cdcl_theory.specs.Falling.{AllSettled}
 use Rattle.cdcl_theory.specs.Trails.{fell}
@@ -19,12 +19,17 @@ pub record IsValued (f : Formula) (s : Search) : Type 0 where
   pub values : HaveValues s.trail (1 + s.trail.vars)
   pub settled : AllSettled (live_in s.clauses) (fell s.trail)
 
+-- the log refutes the formula, and deletes nothing
+pub record HasRefuted (f : Formula) (s : Search) : Type 0 where
+  pub refutes : Refutes f (line_values s.lines.items)
+  pub adding : DeletesNothing (line_values s.lines.items)
+
 -- the log holds, and adds so many clauses
 pub record HasSpent (f : Formula) (budget : ℕ) (s : Search) : Type 0 where
   pub logged : IsLogged f s
-  pub enough : budget ≤ length s.lines.items
+  pub enough : budget ≤ additions (line_values s.lines.items)
 
 abbrev pub Ends : Formula → ℕ → Search → Ending → Type 0
 Ends f budget s Valued = IsValued f s
-Ends f budget s Refuted = Refutes f (line_values s.lines.items)
+Ends f budget s Refuted = HasRefuted f s
 Ends f budget s Spent = HasSpent f budget s

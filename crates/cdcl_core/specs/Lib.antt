@@ -1,4 +1,4 @@
-pub mod Propagating
+pub mod Verdicts
 pub mod Levels
 pub mod Choosing
 pub mod Luby

@@ -1,10 +1,10 @@
 -- What holds all through a search.
-use Rattle.std.specs.Prelude.{◌≡◌, ℕ, ◌+◌, ◌<◌, ◌≤◌, ℤ, true, List, length, All, Some, is_some}
+use Rattle.std.specs.Prelude.{◌≡◌, ℕ, ◌+◌, ◌*◌, ◌<◌, ◌≤◌, ℤ, List, length, All, count_by, Some, is_some}
 use Rattle.sat_theory.specs.Formula.{Formula}
 use Rattle.sat_theory.specs.Line as theory
-use Rattle.sat_theory.specs.Line.{Add, Delete}
 use Rattle.sat_theory.specs.State.{by_id, start}
-use Rattle.sat_theory.specs.Log.{after, EachLine, IsStep, IsFresh, added_ids}
+use Rattle.sat_theory.specs.Log.{after, EachLine, IsStep, IsFresh, added_ids, additions, DeletesNothing}
+use Rattle.sat_theory.specs.FewAdditions.{AddsSome}
 use Rattle.lrat_text.specs.Values.{line_values}
 use Rattle.cdcl_theory.specs.Trails.{IsLayered, fell}
 use Rattle.clause_db.specs.Stored.{Stored, live_in, IsStored}
@@ -22,13 +22,9 @@ pub record IsSearching (s : Search) : Type 0 where
   pub ready : IsReady s.trail.vars s.analysis
   pub choosing : IsChoosing s.trail s.choice
 
--- the line adds a clause, and not the empty one
-abbrev pub AddsSome : theory.Line → Type 0
-AddsSome (Add id lits hints) = 0 < length lits
-AddsSome (Delete id ids) = ⊥
-
--- The lines are a log over the formula that has come to these clauses: each line holds and adds a new
--- clause with a literal, and all of the formula's clauses and of those that were added are live.
+-- The lines are a log over the formula that has come to these clauses: each line holds, each addition is of a new
+-- clause with a literal, all of the formula's clauses are live and at least half of those that were added. Ids are
+-- given one after another, so the ids behind the formula's are those of the additions.
 pub record IsLog (f : Formula) (clauses : Stored) (lines : List theory.Line) : Type 0 where
   pub vars : clauses.vars ≡ f.vars
   pub holds : EachLine IsStep (start f) lines
@@ -36,10 +32,14 @@ pub record IsLog (f : Formula) (clauses : Stored) (lines : List theory.Line) : T
   pub some : All AddsSome lines
   pub state : after (start f) lines ≡ record { live = live_in clauses; vars = f.vars; greatest = length clauses.clauses }
   pub formula : (id : ℕ) (clause : List ℤ) → by_id f.clauses id ≡ Some clause → live_in clauses id ≡ Some clause
-  pub added : All (λ id. is_some (live_in clauses id) ≡ true) (added_ids lines)
+  pub count : length clauses.clauses ≡ length f.clauses + additions lines
+  pub kept : additions lines ≤ 2 * count_by (λ id. is_some (live_in clauses id)) (added_ids lines)
+  pub adding : DeletesNothing lines
 
-abbrev pub IsLogged : Formula → Search → Type 0
-IsLogged f s = IsLog f s.clauses (line_values s.lines.items)
+-- the search's lines and clauses are such a log
+pub record IsLogged (f : Formula) (s : Search) : Type 0 where
+  pub log : IsLog f s.clauses (line_values s.lines.items)
+  pub given : s.given ≡ length f.clauses
 
 -- The watched literals keep their promise for the literals that are visited.
 pub record IsVisited (s : Search) : Type 0 where
@@ -50,6 +50,7 @@ pub record IsVisited (s : Search) : Type 0 where
 -- The trail went on, and nothing else changed.
 pub record HasBegun (old new : Search) : Type 0 where
   pub vars : new.trail.vars ≡ old.trail.vars
+  pub given : new.given ≡ old.given
   pub lines : new.lines ≡ old.lines
   pub clauses : new.clauses ≡ old.clauses
   pub starts : new.starts ≡ old.starts
@@ -57,19 +58,21 @@ pub record HasBegun (old new : Search) : Type 0 where
 -- The trail went on, and clauses may watch other literals.
 pub record HasPropagated (old new : Search) : Type 0 where
   pub rest : IsRest old.clauses new.clauses old.trail new.trail
+  pub given : new.given ≡ old.given
   pub lines : new.lines ≡ old.lines
   pub starts : new.starts ≡ old.starts
 
 -- One clause was learnt, for which a level at least was taken off.
 pub record HasJumped (old new : Search) : Type 0 where
   pub vars : new.trail.vars ≡ old.trail.vars
-  pub lines : length new.lines.items ≡ length old.lines.items + 1
+  pub given : new.given ≡ old.given
   pub clauses : length new.clauses.clauses ≡ length old.clauses.clauses + 1
   pub starts : length new.starts.items < length old.starts.items
 
 -- Levels may have been taken off, and the clauses and the log are the same.
 pub record HasRestarted (old new : Search) : Type 0 where
   pub vars : new.trail.vars ≡ old.trail.vars
+  pub given : new.given ≡ old.given
   pub lines : new.lines ≡ old.lines
   pub clauses : new.clauses ≡ old.clauses
   pub starts : length new.starts.items ≤ length old.starts.items
@@ -77,14 +80,15 @@ pub record HasRestarted (old new : Search) : Type 0 where
 -- For each clause that was learnt a level at least was taken off, and where none was learnt the trail is no shorter.
 pub record HasSettled (old new : Search) : Type 0 where
   pub vars : new.trail.vars ≡ old.trail.vars
-  pub more : length old.lines.items ≤ length new.lines.items
-  pub starts : length new.lines.items + length new.starts.items ≤ length old.lines.items + length old.starts.items
-  pub clauses : length new.clauses.clauses + length old.lines.items ≡ length old.clauses.clauses + length new.lines.items
-  pub longer : length new.lines.items ≡ length old.lines.items → length old.trail.lits ≤ length new.trail.lits
+  pub given : new.given ≡ old.given
+  pub more : length old.clauses.clauses ≤ length new.clauses.clauses
+  pub starts : length new.clauses.clauses + length new.starts.items ≤ length old.clauses.clauses + length old.starts.items
+  pub longer : length new.clauses.clauses ≡ length old.clauses.clauses → length old.trail.lits ≤ length new.trail.lits
 
 -- A level was begun.
 pub record HasDecided (old new : Search) : Type 0 where
   pub vars : new.trail.vars ≡ old.trail.vars
+  pub given : new.given ≡ old.given
   pub lines : new.lines ≡ old.lines
   pub clauses : new.clauses ≡ old.clauses
   pub starts : length new.starts.items ≡ length old.starts.items + 1

@@ -1,8 +1,8 @@
 //! The answers of the solver, made of how its search ended.
 ghost use Rattle.std.specs.Prelude.{◌≡◌, ◌^◌, ◌<◌, ◌≤◌, length, IfOk};
 ghost use Rattle.sat_theory.specs.Formula.{bits_of, Satisfies};
-ghost use Rattle.sat_theory.specs.Log.{Refutes, IsSpent, IsKept};
-ghost use Rattle.cdcl_core.specs.Answering.{IfSat, IfUnsat, IfOpen, IsDecided};
+ghost use Rattle.sat_theory.specs.Log.{Refutes, IsSpent, IsKept, IsThrifty, DeletesNothing};
+ghost use Rattle.cdcl_core.specs.Answering.{IfSat, IfUnsat, IfOpen, IfLogged, IsDecided};
 
 use crate::search::{Ending, Search};
 use cnf_core::{Assign, Cnf};
@@ -30,6 +30,9 @@ pub fn solve(alloc: Global, cnf: &Cnf, budget: u32) -> Result<Solved, AllocError
     ensures unsat { IfOk result (λ s. IfUnsat s (Refutes cnf.now)) }
     ensures open { IfOk result (λ s. IfOpen s (λ lines. IsSpent cnf.now lines budget)) }
     ensures kept { IfOk result (λ s. IfOpen s (IsKept cnf.now)) }
+    // Of every log. What all logs owe, and that these delete nothing.
+    ensures thrifty { IfOk result (λ s. IfLogged s (IsThrifty cnf.now)) }
+    ensures adding { IfOk result (λ s. IfLogged s DeletesNothing) }
     // A budget of 3 to the number of variables decides every formula.
     ensures decides { 3 ^ cnf.now.vars ≤ budget → IfOk result IsDecided }
 {

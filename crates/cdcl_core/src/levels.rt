@@ -1,3 +1,4 @@
+//! Where levels begin. The starts rise, so those from a place on are the last ones.
 ghost use Rattle.std.specs.Prelude.{ℕ, ◌<◌, ◌≤◌, ◌-◌, length, slice_index_or, AllPairs};
 ghost use Rattle.cdcl_core.specs.Levels.{IsDropped};
 

@@ -8,7 +8,7 @@
 //! ```text
 //! match solve(alloc, &cnf, 100000)? {
 //!     Solved::Sat(assign) => ..,   // satisfied(&cnf, &assign)
-//!     Solved::Unsat(log) => ..,    // the last line adds the empty clause
+//!     Solved::Unsat(log) => ..,    // it adds the empty clause, unless the formula has it
 //!     Solved::Open(log) => ..,     // at least 100000 additions, each of a new clause
 //! }
 //! ```
@@ -16,14 +16,11 @@
 
 mod answering;
 mod choosing;
+mod judgement;
 mod levels;
-mod propagation;
 mod restarts;
 mod search;
 mod units;
 mod visiting;
 
 pub use answering::{Solved, solve};
-
-#[cfg(test)]
-mod tests;

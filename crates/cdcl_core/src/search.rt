@@ -1,10 +1,8 @@
 //! The search: it propagates, learns a clause from each conflict and goes back to where that is unit, and begins
 //! a level with a decision where none is left, until all variables have values, the empty clause follows, or the
 //! budget is spent. What holds all through is `IsSearching`, and what the watches promise is `IsVisited`.
-ghost use Rattle.std.specs.Prelude.{◌≡◌, ◌+◌, ◌*◌, ◌<◌, ◌≤◌, [], length, IfOk, OnOk, IfSome, IfNone};
+ghost use Rattle.std.specs.Prelude.{◌≡◌, ◌+◌, ◌<◌, ◌≤◌, ◌↔◌, [], length, IsTrue, IfOk, OnOk, IfSome, IfNone};
 ghost use Rattle.sat_theory.specs.Formula.{Formula};
-ghost use Rattle.sat_theory.specs.Log.{Refutes};
-ghost use Rattle.lrat_text.specs.Values.{line_values};
 ghost use Rattle.cdcl_theory.specs.Falling.{AllSettled, IsFalsified};
 ghost use Rattle.cdcl_theory.specs.Trails.{fell as fell_of};
 ghost use Rattle.clause_db.specs.Stored.{live_in};
@@ -31,6 +29,8 @@ pub(crate) struct Search {
     pub(crate) starts: Vec<usize>,
     pub(crate) analysis: Analysis,
     pub(crate) lines: Vec<Line>,
+    /// how many clauses the formula has: the ids behind these are of additions
+    pub(crate) given: u32,
     /// how many literals of the trail are visited
     pub(crate) head: usize,
     pub(crate) choice: Choice,
@@ -49,14 +49,14 @@ pub(crate) enum Ending {
 
 impl Search {
     ghost use Rattle.cdcl_core.specs.Searching.{IsSearching, IsVisited, IsLogged, HasBegun, HasPropagated, HasJumped, HasRestarted, HasSettled, HasDecided};
-    ghost use Rattle.cdcl_core.specs.Endings.{Ends};
+    ghost use Rattle.cdcl_core.specs.Endings.{Ends, HasRefuted};
 
     /// A search over a formula, before its first step.
     pub(crate) fn new(alloc: Global, cnf: &Cnf) -> Result<Search, AllocError>
         ensures searching { IfOk result IsSearching }
         ensures logged { IfOk result (IsLogged cnf.now) }
         ensures clauses { IfOk result (λ s. length s.clauses.clauses ≡ length cnf.now.clauses) }
-        ensures lines { IfOk result (λ s. s.lines.items ≡ []) }
+        ensures given { IfOk result (λ s. s.given ≡ length s.clauses.clauses) }
         ensures starts { IfOk result (λ s. s.starts.items ≡ []) }
         ensures head { IfOk result (λ s. s.head ≡ 0) }
     {
@@ -66,6 +66,7 @@ impl Search {
             starts: Vec::new(alloc),
             analysis: Analysis::new(alloc, cnf.vars())?,
             lines: Vec::new(alloc),
+            given: cnf.clauses().len() as u32,
             head: 0,
             choice: Choice::new(alloc, cnf.vars())?,
             restarts: Restarts::new(),
@@ -205,6 +206,13 @@ impl Search {
         Ok(None)
     }
 
+    /// Whether the log has so many additions.
+    fn has_spent(&self, budget: u32) -> bool
+        ensures { IsTrue result ↔ (self.now.given + budget ≤ length self.now.clauses.clauses) }
+    {
+        u64::from(self.clauses.last()) >= u64::from(self.given) + u64::from(budget)
+    }
+
     /// Begins a level with a literal of a variable without a value. There is no such variable at the end of
     /// a search that shows values, and none is decided on when the budget is spent.
     fn decide(&mut self, budget: u32) -> Result<Option<Ending>, AllocError>
@@ -215,13 +223,13 @@ impl Search {
         ensures searching { IfOk result (λ ending. IfNone ending (IsSearching self.new)) }
         ensures visited { IfOk result (λ ending. IfNone ending (IsVisited self.new)) }
         ensures decided { IfOk result (λ ending. IfNone ending (HasDecided self.old self.new)) }
-        ensures under { IfOk result (λ ending. IfNone ending (length self.old.lines.items < budget)) }
+        ensures under { IfOk result (λ ending. IfNone ending (length self.old.clauses.clauses < self.old.given + budget)) }
         ensures ended { (f : Formula) → IsLogged f self.old → IfOk result (λ ending. IfSome ending (Ends f budget self.new)) }
     {
         let Some(lit) = self.choice.take_free(&self.trail) else {
             return Ok(Some(Ending::Valued));
         };
-        if self.lines.len() >= budget as usize {
+        if self.has_spent(budget) {
             return Ok(Some(Ending::Spent));
         }
         self.starts.push(self.trail.len())?;
@@ -234,7 +242,7 @@ impl Search {
         requires searching { IsSearching self.old }
         requires bottom { self.old.starts.items ≡ [] }
         requires conflict { IsFalsified (live_in self.old.clauses) (fell_of self.old.trail) conflict }
-        ensures { (f : Formula) → IsLogged f self.old → OnOk result (Refutes f (line_values self.new.lines.items)) }
+        ensures { (f : Formula) → IsLogged f self.old → OnOk result (HasRefuted f self.new) }
     {
         let alloc = *self.starts.allocator();
         let hints = self
@@ -253,7 +261,7 @@ impl Search {
         requires searching { IsSearching self.old }
         requires budget { budget ≤ 10000000 }
         requires few { length self.old.clauses.clauses < 2000000000 }
-        requires lines { self.old.lines.items ≡ [] }
+        requires given { self.old.given ≡ length self.old.clauses.clauses }
         requires starts { self.old.starts.items ≡ [] }
         requires head { self.old.head ≡ 0 }
         ensures { (f : Formula) → IsLogged f self.old → IfOk result (Ends f budget self.new) }
@@ -271,7 +279,7 @@ impl Search {
         requires visited { IsVisited self.old }
         requires budget { budget ≤ 10000000 }
         requires few { length self.old.clauses.clauses < 2000000000 }
-        requires lines { self.old.lines.items ≡ [] }
+        requires given { self.old.given ≡ length self.old.clauses.clauses }
         requires starts { self.old.starts.items ≡ [] }
         ensures { (f : Formula) → IsLogged f self.old → IfOk result (Ends f budget self.new) }
     {

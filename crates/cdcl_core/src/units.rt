@@ -6,7 +6,7 @@ ghost use Rattle.cdcl_theory.specs.Trails.{IsTrail, IsGrown, fell as fell_of};
 ghost use Rattle.clause_db.specs.Stored.{live_in};
 ghost use Rattle.cdcl_core.specs.Guarding.{IsGuarded};
 
-use crate::propagation::{Verdict, judge};
+use crate::judgement::{Verdict, judge};
 use clause_db::ClauseDb;
 use std::alloc::AllocError;
 use trail_core::Trail;

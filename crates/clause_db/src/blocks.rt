@@ -1,3 +1,5 @@
+//! Lists of literals in one row, one behind another. That the ranges lie in the row and behind each other is the
+//! invariant, and so a change of places in one list leaves all others as they were.
 ghost use Rattle.std.specs.Prelude.{◌≡◌, [], ◌∷◌, ◌++◌, ◌<◌, ◌-◌, length, take, slice_index_or, slice_set, OnOk, OnErr};
 ghost use Rattle.std.specs.List.{swap};
 

@@ -1,3 +1,7 @@
+//! Clauses with their ids and what they watch. Three things are held besides what contracts see: the literals of a
+//! clause in a second order, the watched ones in front; a literal beside each entry of a list; and windows in a row of
+//! literals. The invariant ties all three to the value of contracts, on which every call says its effect as an equation
+//! (`added`, `rewatched`), so that what the solver needs of watches are laws over these.
 ghost use Rattle.std.specs.Prelude.{◌≡◌, ◌≢◌, ℕ, ◌+◌, ◌<◌, ◌≤◌, ◌⊎◌, ◌↔◌, length, slice_index_or, Contains, AllPairs, Some, List, ℤ, IsTrue, IsSome, IfOk, OnOk, OnErr};
 ghost use Rattle.sat_theory.specs.Formula.{variable as variable_of, IsClause, IsWithin};
 ghost use Rattle.sat_theory.specs.State.{by_id};

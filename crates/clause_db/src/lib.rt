@@ -29,6 +29,3 @@ mod watches;
 mod windows;
 
 pub use clause_db::ClauseDb;
-
-#[cfg(test)]
-mod tests;

@@ -1,3 +1,5 @@
+//! The list of a literal: ids, and beside each a literal of its clause. Both are pushed and taken out together, so that
+//! they stay as long as each other.
 ghost use Rattle.std.specs.Prelude.{◌≡◌, ◌-◌, ◌<◌, ◌∷◌, [], ◌++◌, pos, length, take, slice_set, OnOk, OnErr};
 ghost use Rattle.std.specs.List.{swap_remove};
 ghost use Rattle.clause_db.specs.Lists.{nothing_listed};

@@ -1,3 +1,5 @@
+//! The literals of clauses as they were added, in one row, and a window for each id that was ever given. An id is the
+//! number of windows when it was given, so that none is given again, whatever becomes of its clause.
 ghost use Rattle.std.specs.Prelude.{◌≡◌, ◌+◌, ◌<◌, ◌↔◌, ◌∷◌, [], ◌++◌, length, take, ◌-◌, Some, IsTrue, IsSome, IfOk, OnOk, OnErr};
 ghost use Rattle.sat_theory.specs.Formula.{IsClause, IsWithin};
 ghost use Rattle.clause_db.specs.Stored.{live_at};

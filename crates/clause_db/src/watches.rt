@@ -1,3 +1,6 @@
+//! Which clauses watch a literal. What a clause watches are the first two of its literals in an order of their own, so
+//! no pair is kept; moving a watch is a push to one list, a taking out of another, and a change of two places. The push
+//! comes first, since it alone can want memory.
 ghost use Rattle.std.specs.Prelude.{◌≡◌, ◌≢◌, ◌⊎◌, ℤ, ◌+◌, ◌-◌, ◌*◌, ◌<◌, ◌≤◌, [], length, take, All, Contains, pos, slice_index_or, slice_set, replicate, IfOk, OnOk, OnErr};
 ghost use Rattle.std.specs.List.{swap_remove, swap};
 ghost use Rattle.cdcl_theory.specs.Codes.{code_of};

@@ -1,3 +1,4 @@
+//! Windows of the row of literals.
 /// Where the literals of a clause stand in the row of all literals, and whether the clause is live.
 #[derive(Clone, Copy, Debug)]
 pub(crate) struct Window {

@@ -19,6 +19,3 @@ pub use assignment::{Assign, satisfied};
 pub use clause::Clause;
 pub use cnf::Cnf;
 pub use lit::Lit;
-
-#[cfg(test)]
-mod tests;

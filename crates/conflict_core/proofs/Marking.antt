@@ -7,7 +7,7 @@ use Rattle.std.proofs.lemmas.List.{take_more, length-replicate}
 use Rattle.std.proofs.lemmas.List.Elements.{All-push, All-weaker, Contains-push, Contains-push_cases, Contains-append_left}
 use Rattle.std.proofs.lemmas.List.Quantifiers.{all_pairs_push}
 use Rattle.cdcl_theory.specs.Codes.{marked_in, without_literal}
-use Rattle.cdcl_theory.specs.CodeLaws.{code_of-room, cases_literal, marked_in-set, marked_in-unset, marked_in-none, with_literal-cases, with_literal-old, with_literal-new, without_literal-other, without_literal-same}
+use Rattle.cdcl_theory.specs.CodeLaws.{code_of-room, cases_literal, marked_in-set, marked_in-unset, marked_in-none, without_literal-other, without_literal-same}
 use Rattle.conflict_core.specs.Walking.{IsClear, AreTaken}
 
 pub clear_none : (vars : ℕ) → IsClear vars (replicate (2 * vars + 2) false)

@@ -1,10 +1,14 @@
+//! What is learnt from a conflict, and why it is a clause that a log may add. A walk back over the conflict's level
+//! leaves one literal of the level; minimising and shortening take others off by the same kind of step; and what is
+//! left marked is gathered. That it follows by the hints is the invariant of the walk (`IsWalk`); that one literal of
+//! the level is left, and where the others fell, is what the search goes back by (`IsLearnt`).
 ghost use Rattle.std.specs.Prelude.{◌≡◌, ℕ, ◌+◌, ◌<◌, ◌≤◌, ◌∷◌, [], length, reverse, All, IfOk, OnOk};
 ghost use Rattle.sat_theory.specs.Formula.{IsWithin};
 ghost use Rattle.sat_theory.specs.Holding.{among, HintsHold};
 ghost use Rattle.cdcl_theory.specs.Falling.{IsClosed, IsFalsified};
 ghost use Rattle.cdcl_theory.specs.Trails.{IsLayered, fell as fell_of};
 ghost use Rattle.clause_db.specs.Stored.{live_in};
-ghost use Rattle.conflict_core.specs.Walking.{HasFallenAt, OnlyBelow};
+ghost use Rattle.conflict_core.specs.Walking.{HasRoom, HasFallenAt, OnlyBelow};
 ghost use Rattle.conflict_core.specs.Learning.{IsReady, IsWalkOf, HaveReasons, IsRaised, IsLearnt};
 
 use crate::Learnt;
@@ -59,6 +63,7 @@ impl Analysis {
         ensures walk { OnOk result (IsWalkOf (live_in clauses.now) trail.now self.new.walk) }
         ensures below { OnOk result (OnlyBelow trail.now start self.old.walk.marks self.new.walk.marks) }
         ensures room { length self.new.redundancy.verdicts.items ≡ length self.old.redundancy.verdicts.items }
+        ensures marks { length self.new.walk.marks ≡ length self.old.walk.marks }
     {
         self.redundancy.find(trail, clauses, &self.walk.marks, &self.walk.touched, start)?;
         while let Some(lit) = self.redundancy.pop() {
@@ -67,9 +72,17 @@ impl Analysis {
         Ok(())
     }
 
-    /// Learns a clause from one that is falsified in the level that begins at index `start`, by going
-    /// back to the first unique implication point of the level.
-    pub fn learn(
+    /// Takes off what marks are left over.
+    fn clear(&mut self)
+        ensures { (vars : ℕ) → HasRoom vars self.old.walk.marks → length self.old.redundancy.verdicts.items ≡ vars + 1 → IsReady vars self.new }
+    {
+        self.walk.touched.clear();
+        self.walk.marks.clear();
+    }
+
+    /// Goes back from a conflict to the first unique implication point of its level, and gathers the clause that is
+    /// left. Marks are left over where memory is wanting.
+    fn walk_back(
         &mut self,
         alloc: Global,
         trail: &Trail,
@@ -87,6 +100,8 @@ impl Analysis {
         requires conflict { IsFalsified (live_in clauses.now) (fell_of trail.now) conflict }
         ensures learnt { IfOk result (λ l. IsLearnt (live_in clauses.now) trail.now start l.lits.items l.back l.hints.items) }
         ensures ready { OnOk result (IsReady trail.now.vars self.new) }
+        ensures marks { length self.new.walk.marks ≡ length self.old.walk.marks }
+        ensures verdicts { length self.new.redundancy.verdicts.items ≡ length self.old.redundancy.verdicts.items }
     {
         self.walk.begin(trail, clauses, conflict)?;
         let top = self.walk.reduce(trail, clauses, start)?;
@@ -102,6 +117,57 @@ impl Analysis {
         Ok(Learnt { lits, back, hints })
     }
 
+    /// Learns a clause from one that is falsified in the level that begins at index `start`, by going
+    /// back to the first unique implication point of the level. It is ready for the next conflict, whether or
+    /// not there was memory.
+    pub fn learn(
+        &mut self,
+        alloc: Global,
+        trail: &Trail,
+        clauses: &ClauseDb,
+        conflict: u32,
+        starts: &[usize],
+        start: usize,
+    ) -> Result<Learnt, AllocError>
+        requires ready { IsReady trail.now.vars self.old }
+        requires vars { clauses.now.vars ≡ trail.now.vars }
+        requires level { start < length trail.now.lits }
+        requires closed { IsClosed (live_in clauses.now) (fell_of trail.now) start }
+        requires reasons { HaveReasons (live_in clauses.now) trail.now (start + 1) }
+        requires layered { IsLayered (live_in clauses.now) trail.now starts.now }
+        requires conflict { IsFalsified (live_in clauses.now) (fell_of trail.now) conflict }
+        ensures learnt { IfOk result (λ l. IsLearnt (live_in clauses.now) trail.now start l.lits.items l.back l.hints.items) }
+        ensures ready { IsReady trail.now.vars self.new }
+    {
+        let learnt = self.walk_back(alloc, trail, clauses, conflict, starts, start);
+        if learnt.is_err() {
+            self.clear();
+        }
+        learnt
+    }
+
+    /// Goes back over the whole trail from a conflict, and gathers the hints. Marks may be left over.
+    fn walk_down(
+        &mut self,
+        alloc: Global,
+        trail: &Trail,
+        clauses: &ClauseDb,
+        conflict: u32,
+    ) -> Result<Vec<u32>, AllocError>
+        requires ready { IsReady trail.now.vars self.old }
+        requires vars { clauses.now.vars ≡ trail.now.vars }
+        requires reasons { HaveReasons (live_in clauses.now) trail.now 0 }
+        requires conflict { IsFalsified (live_in clauses.now) (fell_of trail.now) conflict }
+        ensures hints { IfOk result (λ hints. HintsHold (live_in clauses.now) (among []) hints.items) }
+        ensures marks { length self.new.walk.marks ≡ length self.old.walk.marks }
+        ensures verdicts { length self.new.redundancy.verdicts.items ≡ length self.old.redundancy.verdicts.items }
+    {
+        let end = trail.len();
+        self.walk.begin(trail, clauses, conflict)?;
+        self.walk.resolve_down(trail, clauses, 0, end)?;
+        turned(alloc, &self.walk.hints)
+    }
+
     /// The hints of the empty clause, from a clause that is falsified while no decision stands.
     pub fn refute(
         &mut self,
@@ -114,12 +180,12 @@ impl Analysis {
         requires vars { clauses.now.vars ≡ trail.now.vars }
         requires reasons { HaveReasons (live_in clauses.now) trail.now 0 }
         requires conflict { IsFalsified (live_in clauses.now) (fell_of trail.now) conflict }
-        ensures { IfOk result (λ hints. HintsHold (live_in clauses.now) (among []) hints.items) }
+        ensures hints { IfOk result (λ hints. HintsHold (live_in clauses.now) (among []) hints.items) }
+        ensures ready { IsReady trail.now.vars self.new }
     {
-        let end = trail.len();
-        self.walk.begin(trail, clauses, conflict)?;
-        self.walk.resolve_down(trail, clauses, 0, end)?;
-        turned(alloc, &self.walk.hints)
+        let hints = self.walk_down(alloc, trail, clauses, conflict);
+        self.clear();
+        hints
     }
 }
 

@@ -1,3 +1,4 @@
+//! What is learnt from a conflict.
 use cnf_core::Lit;
 
 /// A clause that was learnt from a conflict.

@@ -29,6 +29,3 @@ mod walk;
 
 pub use analysis::Analysis;
 pub use learnt::Learnt;
-
-#[cfg(test)]
-mod tests;

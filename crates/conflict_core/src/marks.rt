@@ -1,5 +1,6 @@
-ghost use Rattle.std.specs.Prelude.{◌≡◌, ◌<◌, [], length, All, IfOk, OnOk};
-ghost use Rattle.sat_theory.specs.Formula.{IsWithin};
+//! The set of literals of the clause that is left on a walk, as a mark for each. Every change is told as an equation of
+//! sets, so that the walk is a proof about sets of literals and not about tables.
+ghost use Rattle.std.specs.Prelude.{◌≡◌, ℕ, ◌<◌, [], length, All, IfOk, OnOk};
 ghost use Rattle.sat_theory.specs.Holding.{with_literal};
 ghost use Rattle.cdcl_theory.specs.Codes.{code_of, marked_in, without_literal};
 ghost use Rattle.conflict_core.specs.Walking.{HasRoom, IsClear, AreTaken};
@@ -58,6 +59,13 @@ impl Marks {
         ensures room { length self.new ≡ length self.old }
     {
         self.marks[lit.code()] = false;
+    }
+
+    /// Takes all literals out of the set.
+    pub(crate) fn clear(&mut self)
+        ensures { (vars : ℕ) → HasRoom vars self.old → IsClear vars self.new }
+    {
+        self.marks.fill(false);
     }
 
     /// Takes the literals of a list out of the set, and gathers those that were in it.

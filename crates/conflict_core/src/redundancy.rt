@@ -1,3 +1,5 @@
+//! Which literals of a clause follow from its others, as a guess: the recursion has no contract but that it stays in
+//! bounds. Each literal that it names is then resolved away by a step of the walk, which is right whatever was guessed.
 ghost use Rattle.std.specs.Prelude.{◌≡◌, ◌+◌, ◌<◌, ◌≤◌, length, All, IfOk, IfSome};
 ghost use Rattle.sat_theory.specs.Formula.{variable as variable_of, IsWithin};
 ghost use Rattle.conflict_core.specs.Walking.{HasRoom};

@@ -1,3 +1,8 @@
+//! The walk back over the trail from a conflict. What is marked is the clause that is left, and each step of the walk
+//! resolves it with the reason of one of its literals: `IsWalk` says that the marked literals have all fallen, and that
+//! their clause follows by the ids that were gone over. No step breaks that, wherever it is made, and so the order of
+//! the steps, which literals are tried and when the walk ends are for other facts to say. The literals that were
+//! touched are listed besides, so that the marks are taken off in time linear in the walk.
 ghost use Rattle.std.specs.Prelude.{◌≡◌, ℤ, ◌+◌, ◌<◌, ◌≤◌, ◌∷◌, [], false, length, slice_index_or, Contains, AllPairs, IfOk, OnOk, IfSome, IfNone};
 ghost use Rattle.sat_theory.specs.Formula.{variable as variable_of, opposite as opposite_of, IsClause, IsWithin};
 ghost use Rattle.cdcl_theory.specs.Falling.{IsFalsified};
@@ -44,6 +49,7 @@ impl Walk {
         ensures marked { OnOk result (AreMarked (fell_of trail.now) (lit ∷ []) self.old.marks self.new.marks) }
         ensures listed { OnOk result (IsListed trail.now.vars self.new.marks self.new.touched.items) }
         ensures hints { self.new.hints ≡ self.old.hints }
+        ensures room { length self.new.marks ≡ length self.old.marks }
     {
         if trail.fell(lit) == 0 || self.marks.has(lit) {
             return Ok(());
@@ -62,6 +68,7 @@ impl Walk {
         ensures marked { OnOk result (AreMarked (fell_of trail.now) lits.now self.old.marks self.new.marks) }
         ensures listed { OnOk result (IsListed trail.now.vars self.new.marks self.new.touched.items) }
         ensures hints { self.new.hints ≡ self.old.hints }
+        ensures room { length self.new.marks ≡ length self.old.marks }
     {
         for lit in lits {
             self.mark(trail, *lit)?;
@@ -82,6 +89,7 @@ impl Walk {
         requires conflict { IsFalsified (live_in clauses.now) (fell_of trail.now) conflict }
         ensures walk { OnOk result (IsWalkOf (live_in clauses.now) trail.now self.new) }
         ensures marked { OnOk result (IsMarkedClause (live_in clauses.now) self.new.marks conflict) }
+        ensures room { length self.new.marks ≡ length self.old.marks }
     {
         self.touched.clear();
         self.hints.clear();
@@ -103,6 +111,7 @@ impl Walk {
         requires walk { IsWalkOf (live_in clauses.now) trail.now self.old }
         ensures walk { OnOk result (IsWalkOf (live_in clauses.now) trail.now self.new) }
         ensures replaced { OnOk result (IsReplaced trail.now place self.old.marks self.new.marks) }
+        ensures room { length self.new.marks ≡ length self.old.marks }
     {
         let lit = trail.at(place);
         let id = trail.reason(lit);
@@ -129,6 +138,7 @@ impl Walk {
         ensures walk { OnOk result (IsWalkOf (live_in clauses.now) trail.now self.new) }
         ensures none { OnOk result (NoneMarked trail.now self.new.marks low (length trail.now.lits)) }
         ensures others { OnOk result (StayBelow trail.now low self.old.marks self.new.marks) }
+        ensures room { length self.new.marks ≡ length self.old.marks }
     {
         let mut place = high;
         while place > low {
@@ -173,6 +183,7 @@ impl Walk {
         ensures walk { IfOk result (λ top. IsWalkOf (live_in clauses.now) trail.now self.new) }
         ensures last { IfOk result (IsLastMarked trail.now self.new.marks start (length trail.now.lits)) }
         ensures alone { IfOk result (NoneMarked trail.now self.new.marks start) }
+        ensures room { length self.new.marks ≡ length self.old.marks }
     {
         let Some(mut top) = self.last_marked(trail, start, trail.len()) else {
             unreachable!()
@@ -199,6 +210,7 @@ impl Walk {
         requires walk { IsWalkOf (live_in clauses.now) trail.now self.old }
         ensures walk { OnOk result (IsWalkOf (live_in clauses.now) trail.now self.new) }
         ensures below { OnOk result (OnlyBelow trail.now start self.old.marks self.new.marks) }
+        ensures room { length self.new.marks ≡ length self.old.marks }
     {
         if !self.marks.has(lit) {
             return Ok(());
@@ -219,6 +231,7 @@ impl Walk {
         requires room { HasRoom clauses.now.vars self.old.marks }
         ensures walk { (t : Trailed) → IsTrail t → IsWalkOf (live_in clauses.now) t self.old → OnOk result (IsWalkOf (live_in clauses.now) t self.new) }
         ensures fewer { OnOk result (AreFewer self.old.marks self.new.marks) }
+        ensures room { length self.new.marks ≡ length self.old.marks }
     {
         // it is marked whenever a walk is reduced
         if !self.marks.has(first) {
@@ -258,6 +271,7 @@ impl Walk {
         ensures clear { OnOk result (IsClear trail.now.vars self.new.marks) }
         ensures touched { self.new.touched ≡ self.old.touched }
         ensures hints { self.new.hints ≡ self.old.hints }
+        ensures room { length self.new.marks ≡ length self.old.marks }
     {
         let first = trail.at(top).opposite();
         others.clear();

@@ -1,4 +1,7 @@
-ghost use Rattle.std.specs.Prelude.{◌≡◌, ◌↔◌, ◌||◌, ◌++◌, ◌∷◌, [], List, IsTrue, IsOk, IfOk, OnOk, OnErr, IsOkUnless};
+//! The checker: what it has is the state that a log of the definitions has come to, whether the empty clause was
+//! reached, and marks that are scratch. A line is judged first and taken only where it holds, so that a refusal leaves
+//! all as it was.
+ghost use Rattle.std.specs.Prelude.{◌≡◌, ◌↔◌, ◌||◌, ◌++◌, ◌∷◌, [], List, IsTrue, IfOk, OnOk, OnErr, IsOkUnless};
 ghost use Rattle.sat_theory.specs.Formula.{Formula, IsClause};
 ghost use Rattle.sat_theory.specs.Line as theory;
 ghost use Rattle.sat_theory.specs.Line.{IsLine, HasClause};

@@ -1,3 +1,6 @@
+//! The live clauses by their ids, in a hash map, with an index of literals beside it. Contracts see the map alone: that
+//! each live clause stands in one list of the index, so that a search of one of its literals' lists finds it, is the
+//! invariant of the type.
 ghost use Rattle.std.specs.Prelude.{◌≡◌, ◌<◌, ◌-◌, ◌^◌, ◌↔◌, length, true, false, [], ◌∷◌, IfOk, OnOk, OnErr, IsTrue, All, Any, ℤ};
 ghost use Rattle.std.specs.Option.{option_copied};
 ghost use Rattle.std.specs.FinMap as map;

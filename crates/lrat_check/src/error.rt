@@ -1,3 +1,4 @@
+//! Why a line doesn't hold.
 use std::alloc::{AllocError, AllocFailed};
 
 /// Why a line is refused.

@@ -1,6 +1,7 @@
-ghost use Rattle.std.specs.Prelude.{◌≡◌, ◌≤◌, length};
-ghost use Rattle.sat_theory.specs.Formula.{variable, IsWithin};
-ghost use Rattle.sat_theory.specs.Holding.{among};
+//! Hints are gone through from the left. The falsified set is a mark for each literal, and a hint is judged by how many
+//! literals of its clause are outside: the loop follows the definition `hints_fault` word for word, so that its answer
+//! is exact.
+ghost use Rattle.std.specs.Prelude.{◌≡◌};
 ghost use Rattle.lrat_check.specs.Live.{live_at, AreWithin};
 ghost use Rattle.lrat_check.specs.Marks.{marked, HasRoom};
 ghost use Rattle.lrat_check.specs.Hints.{outside, hints_fault, told};

@@ -1,4 +1,7 @@
-ghost use Rattle.std.specs.Prelude.{◌≡◌, ◌+◌, ◌*◌, ◌<◌, ℤ, [], ◌∷◌, ◌++◌, length, filter, slice_set, slice_index_or, nat_eq, OnOk, OnErr, IfOk, IfSome, Any};
+//! Lists of ids by literals, for the question whether a clause is new. A clause that is contained in another one has
+//! each of its literals there, so it is found in the lists of the other one's literals, wherever it was put. Ids of
+//! clauses that went are swept out from time to time, so that they cost no question more than a constant factor.
+ghost use Rattle.std.specs.Prelude.{◌≡◌, ◌+◌, ◌*◌, ◌<◌, ℤ, [], ◌∷◌, ◌++◌, length, filter, slice_set, slice_index_or, nat_eq, OnOk, OnErr, IfSome, Any};
 ghost use Rattle.std.specs.HashMap.{get};
 ghost use Rattle.cnf_core.specs.Codes.{code_of};
 ghost use Rattle.lrat_check.specs.Index.{ids_of as ids_of_lit, is_live, with_id, IsFound, KeepsFound, KeepsLive, SweepsLists};

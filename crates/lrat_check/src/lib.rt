@@ -25,6 +25,3 @@ mod marks;
 
 pub use checker::Checker;
 pub use error::CheckError;
-
-#[cfg(test)]
-mod tests;

@@ -1,5 +1,6 @@
+//! A set of literals that is emptied in constant time: a literal is in it where its stamp is the present one, so a new
+//! stamp takes all out. When stamps run out, all are set to 0.
 ghost use Rattle.std.specs.Prelude.{◌≡◌, ◌<◌, ℤ, false, length, IfOk};
-ghost use Rattle.sat_theory.specs.Formula.{variable};
 ghost use Rattle.sat_theory.specs.Holding.{with_literal};
 ghost use Rattle.cnf_core.specs.Codes.{code_of};
 ghost use Rattle.lrat_check.specs.Marks.{marked, HasRoom};

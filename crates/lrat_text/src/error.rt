@@ -1,3 +1,4 @@
+//! What can be wrong with a line, as the grammar tells it; want of memory is told beside.
 use std::alloc::{AllocError, AllocFailed};
 
 /// Why a line is refused. Its items are judged from the left, and the first fault is told.

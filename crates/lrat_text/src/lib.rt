@@ -25,6 +25,3 @@ pub use laws::laws_of_lines;
 pub use line::{Line, Log};
 pub use reading::read_line;
 pub use writing::write_line;
-
-#[cfg(test)]
-mod tests;

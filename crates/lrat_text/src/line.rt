@@ -1,3 +1,4 @@
+//! Lines of a log as values. Contracts see them as the lines of the definitions (`line_values`).
 use cnf_core::Lit;
 
 /// A line of a refutation log.

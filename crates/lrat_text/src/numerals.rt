@@ -1,3 +1,4 @@
+//! Numbers within a range, as lines have them: no sign, no 0 in front, no digit too many.
 ghost use Rattle.std.specs.Prelude.{◌≡◌, ◌<◌, ◌^◌, IfSome};
 ghost use Rattle.text_core.specs.Numbers.{number_up_to as number_up_to_of};
 ghost use Rattle.lrat_text.specs.Numerals as spec;

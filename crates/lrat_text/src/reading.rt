@@ -1,3 +1,5 @@
+//! Lines are read by the grammar, which is a definition with the same parts as this code: each part answers what the
+//! definition of its name does, so that the first fault from the left is told.
 ghost use Rattle.std.specs.Prelude.{◌≡◌, [], Ok, IfOk};
 ghost use Rattle.text_core.specs.Items.{items_of, items_left};
 ghost use Rattle.sat_theory.specs.Line as theory;

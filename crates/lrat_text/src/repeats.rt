@@ -1,3 +1,5 @@
+//! Whether a variable comes again among the literals of a line. A short clause is gone over again for each literal, and
+//! a long one goes through a set; both are one test, the definition's.
 ghost use Rattle.std.specs.Prelude.{◌≡◌, false, [], ◌∷◌, ◌++◌, IfOk, OnOk};
 ghost use Rattle.lrat_text.specs.Reading as spec;
 ghost use Rattle.lrat_text.specs.Seen.{IsSeen, HasVariables};

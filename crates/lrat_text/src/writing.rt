@@ -1,3 +1,5 @@
+//! Lines are written as the grammar spells them. A line is made beside and appended at once, so that a text to which
+//! memory was wanting is as it was.
 ghost use Rattle.std.specs.Prelude.{◌≡◌, ◌++◌, OnOk, OnErr};
 ghost use Rattle.std.specs.List.{flat_map};
 ghost use Rattle.sat_theory.specs.Line as theory;

@@ -1,7 +1,7 @@
 -- How many additions of a log can be live: fewer than 3 to the number of variables, where each is of a new clause
 -- and none of the empty one. An addition isn't contained in a later one, as long as both are live, so that all
 -- live additions are different clauses.
-use Rattle.std.specs.Prelude.{◌≡◌, ◌≢◌, ℕ, zero, suc, ◌+◌, ◌*◌, ◌^◌, ◌<◌, ◌≤◌, ◌==◌, if◌then◌else◌, ℤ, Bool, true, false, List, [], ◌∷◌, length, slice_index_or, Contains, All, Any, AllPairs, count_by, cond, Option, Some, None, is_some}
+use Rattle.std.specs.Prelude.{◌≡◌, ◌≢◌, ℕ, suc, ◌+◌, ◌*◌, ◌^◌, ◌<◌, ◌≤◌, ◌==◌, if◌then◌else◌, ℤ, Bool, true, false, List, [], ◌∷◌, length, slice_index_or, Contains, All, Any, AllPairs, count_by, cond, Option, Some, None, is_some}
 use Rattle.std.proofs.Common.{sym, subst, ap, ◌∙◌, arith, inr, refl}
 use Rattle.std.proofs.lemmas.Bool.{ne_eqb, eq-eqb}
 use Rattle.std.proofs.lemmas.List.Elements.{All-cons, All-head, All-tail, All-weaker, All-contains, Contains-get_or}
@@ -9,7 +9,7 @@ use Rattle.std.proofs.lemmas.List.Kept.{AllPairs-cons}
 use Rattle.std.proofs.lemmas.List.Sums.{sum_by-cons}
 use Rattle.sat_theory.specs.Formula.{Formula, IsClause, IsWithin}
 use Rattle.sat_theory.specs.Line.{Line, Add, Delete, IsAdding}
-use Rattle.sat_theory.specs.State.{State, start, next, without, is_listed}
+use Rattle.sat_theory.specs.State.{State, start, next, is_listed}
 use Rattle.sat_theory.specs.Holding.{among}
 use Rattle.sat_theory.specs.Log.{after, EachLine, IsStep, IsFresh, IsNew, AddsEmpty, added_ids, additions, live_additions, IsSpent, IsThrifty, DeletesNothing}
 use Rattle.sat_theory.specs.Pigeonholes.{different_below}
@@ -117,7 +117,7 @@ codes_differ s (id ∷ ids) all = differ_cons s id ids (codes s ids) (s.live id)
 abbrev is_live_in : State → ℕ → Bool
 is_live_in s id = is_some (s.live id)
 
-count_cons : (p : ℕ → Bool) (x : ℕ) (xs : List ℕ) → count_by p (x ∷ xs) ≡ cond {A = ℕ} (p x) 1 0 + count_by p xs
+pub count_cons : (p : ℕ → Bool) (x : ℕ) (xs : List ℕ) → count_by p (x ∷ xs) ≡ cond {A = ℕ} (p x) 1 0 + count_by p xs
 count_cons p x xs = sum_by-cons (λ (y : ℕ). cond {A = ℕ} (p y) 1 0) x xs
 
 long_cons : (v : ℕ) (o : Option (List ℤ)) (ns : List ℕ) → length (with_code v o ns) ≡ cond {A = ℕ} (is_some o) 1 0 + length ns

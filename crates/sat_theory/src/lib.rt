@@ -17,5 +17,3 @@
 
 pub mod laws;
 pub mod plain;
-#[cfg(test)]
-mod tests;

@@ -1,6 +1,6 @@
 //! The definitions, computed as they stand: every clause is looked for from the front, and a set of
 //! literals is a list. It is meant for reading, and for comparing faster checkers with it.
-ghost use Rattle.std.specs.Prelude.{◌≡◌, ℕ, ◌-◌, ◌^◌, ◌<◌, ◌↔◌, ◌++◌, ◌∷◌, [], ℤ, IsTrue, IfOk, OnOk, OnErr, IfSome, IfNone, Some, None, length, Contains, All, AllPairs, IsSome, ◌≢◌, List};
+ghost use Rattle.std.specs.Prelude.{◌≡◌, ℕ, ◌-◌, ◌^◌, ◌<◌, ◌↔◌, [], ℤ, IsTrue, IfOk, OnOk, OnErr, IfSome, IfNone, Some, None, All, List};
 ghost use Rattle.std.specs.Option.{option_map};
 ghost use Rattle.sat_theory.specs.Formula.{bits_of, variable, IsWithin, IsTrueClause, literal_value as literal_value_of, opposite as opposite_of};
 ghost use Rattle.sat_theory.specs.Plain.{live_in, not_listed, Numbered, state_of};

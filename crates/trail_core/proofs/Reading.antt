@@ -5,9 +5,9 @@ use Rattle.std.proofs.lemmas.Bool.{cases_lt, ne_eqb, lt-ltb, le-ltb}
 use Rattle.std.proofs.lemmas.Grind.{common_steps}
 use Rattle.sat_theory.specs.Formula.{variable, opposite, bits_of, literal_value}
 use Rattle.cdcl_theory.specs.Codes.{code_of}
-use Rattle.cdcl_theory.specs.CodeLaws.{code_of-room, same_variable, opposite-opposite, variable-opposite}
+use Rattle.cdcl_theory.specs.CodeLaws.{code_of-room, same_variable}
 use Rattle.cdcl_theory.specs.Trails.{Trailed, fell, IsTrail, IsBack}
-use Rattle.cdcl_theory.specs.TrailLaws.{trail_push, trail_pop, back_pop, back_self, back_trans, trail_none}
+use Rattle.cdcl_theory.specs.TrailLaws.{trail_push, trail_pop, back_pop, back_trans, trail_none}
 use Rattle.trail_core.specs.Values.{IsFree, HaveValues, Follows}
 
 -- the tables as the code writes them

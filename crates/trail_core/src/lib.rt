@@ -16,6 +16,3 @@
 mod trail;
 
 pub use trail::Trail;
-
-#[cfg(test)]
-mod tests;

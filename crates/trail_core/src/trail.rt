@@ -1,5 +1,8 @@
-ghost use Rattle.std.specs.Prelude.{◌≡◌, ℕ, ℤ, pos, negsuc, ◌<ℤ◌, ◌+◌, ◌-◌, ◌<◌, ◌≤◌, ◌↔◌, [], length, slice_index_or, IsTrue, IfOk, OnOk, OnErr, IfSome, IfNone};
-ghost use Rattle.sat_theory.specs.Formula.{variable as variable_of, opposite as opposite_of};
+//! The trail as a row of literals, with two tables beside it: where each literal fell, and the reason of each variable.
+//! That the tables and the row tell the same is the invariant `IsTrail`; going back takes the last literals off one by
+//! one, and their entries with them, so that what fell before stays where it was.
+ghost use Rattle.std.specs.Prelude.{◌≡◌, ℤ, pos, negsuc, ◌<ℤ◌, ◌+◌, ◌-◌, ◌<◌, ◌≤◌, ◌↔◌, [], length, slice_index_or, IsTrue, IfOk, OnOk, OnErr, IfSome, IfNone};
+ghost use Rattle.sat_theory.specs.Formula.{variable as variable_of};
 ghost use Rattle.cdcl_theory.specs.Trails.{IsTrail, IsBack, pushed, fell as fell_of, reason_of};
 ghost use Rattle.trail_core.specs.Values.{IsOver, IsFree, HaveValues, Follows};
 

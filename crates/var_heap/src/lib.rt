@@ -16,6 +16,3 @@ mod row;
 mod var_heap;
 
 pub use var_heap::VarHeap;
-
-#[cfg(test)]
-mod tests;

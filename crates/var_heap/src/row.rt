@@ -1,3 +1,6 @@
+//! The heap itself: a row of variables in which none scores more than the one above it, and the place of each variable.
+//! A variable moves up or down until that holds again; which one, how far and that no other leaves is told by relations
+//! on rows, so that `VarHeap` shows scores and held variables alone.
 ghost use Rattle.std.specs.Prelude.{◌≡◌, ◌≢◌, ◌+◌, ◌-◌, ◌*◌, ◌<◌, ◌≤◌, true, false, length, slice_set, IfOk, IfSome, IfNone};
 ghost use Rattle.var_heap.specs.Entries.{entry, with_entry, marks_of};
 ghost use Rattle.var_heap.specs.Rows.{IsRow, at, place, HasScores, IsOrdered, IsOrderedAbove, IsOrderedBelow, IsGreaterChild, IsMoved, IsFilled};

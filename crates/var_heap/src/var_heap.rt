@@ -1,3 +1,5 @@
+//! Variables with scores, of which some are held. That the first of the row scores most of the held ones follows from
+//! the order of the heap, level by level.
 ghost use Rattle.std.specs.Prelude.{◌≡◌, ℕ, ◌+◌, ◌-◌, ◌/◌, ◌^◌, ◌↔◌, true, false, map, min, slice_set, IsTrue, IfOk, IfSome, IfNone};
 ghost use Rattle.var_heap.specs.Held.{IsHeld, IsVariable, IsWhole, IsGreatest, IsFull, score_of};
 

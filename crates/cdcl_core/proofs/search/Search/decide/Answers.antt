@@ -11,7 +11,7 @@ pub returns-clause-searching : goal.returns-clause-searching
 returns-clause-searching c =
     let old : Trailed = c.args.self.now.trail in
     let is : c.push-2.new.self ≡ pushed old c.in-Some.lit 0 = c.in_ok-push-2.ensures.ok in
-    let starts : c.push.new.self.items ≡ c.args.self.now.starts.items ++ length old.lits ∷ [] = c.in_ok-push.ensures.items ∙ ap (λ (n : ℕ). c.args.self.now.starts.items ++ n ∷ []) c.len-2.ensures.value in
+    let starts : c.push.new.self.items ≡ c.args.self.now.starts.items ++ length old.lits ∷ [] = c.in_ok-push.ensures.items ∙ ap (λ (n : ℕ). c.args.self.now.starts.items ++ n ∷ []) c.len.ensures.value in
     record {
       stored = c.requires.searching.stored;
       vars = c.requires.searching.vars ∙ sym (ap (λ (t : Trailed). t.vars) is);
@@ -25,7 +25,7 @@ returns-clause-visited c =
     let s = c.args.self.now in
     let old : Trailed = s.trail in
     let is : c.push-2.new.self ≡ pushed old c.in-Some.lit 0 = c.in_ok-push-2.ensures.ok in
-    let starts : c.push.new.self.items ≡ s.starts.items ++ length old.lits ∷ [] = c.in_ok-push.ensures.items ∙ ap (λ (n : ℕ). s.starts.items ++ n ∷ []) c.len-2.ensures.value in
+    let starts : c.push.new.self.items ≡ s.starts.items ++ length old.lits ∷ [] = c.in_ok-push.ensures.items ∙ ap (λ (n : ℕ). s.starts.items ++ n ∷ []) c.len.ensures.value in
     let long : length c.push-2.new.self.lits ≡ length old.lits + 1 = ap (λ (t : Trailed). length t.lits) is ∙ length_push old.lits c.in-Some.lit in
     record {
       guarded = rw is (guarded_started s.clauses old s.starts.items c.push.new.self.items s.head c.in-Some.lit 0 c.requires.searching.layered.whole c.in-Some.ensures.over c.in-Some.ensures.free c.requires.all c.requires.visited.begun starts c.requires.visited.guarded);

@@ -3,7 +3,7 @@ use Rattle.clause_db.specs.Stored.{live_in}
 use Rattle.cdcl_core.specs.declared.search.Search.{Search}
 use Rattle.cdcl_core.specs.Searching.{HasDecided}
 use Rattle.cdcl_core.proofs.Counting.{trail_short}
-use Rattle.cdcl_core.proofs.Settling.{measure_falls, starts_short}
+use Rattle.cdcl_core.proofs.Settling.{measure_falls, logged_decided, starts_short}
 use Rattle.cdcl_core.proofs.search.Search.go_on.Goals as goal
 
 pub loop-conflict-smaller : goal.loop-conflict-smaller
@@ -12,10 +12,11 @@ loop-conflict-smaller c =
     let b : Search = c.settle.new.self in
     let d : Search = c.decide.new.self in
     let decided : HasDecided b d = rw c.in_default-2.is at c.in_ok-ending.ensures.decided in
-    let under : length b.lines.items < c.args.budget = rw c.in_default-2.is at c.in_ok-ending.ensures.under in
+    let under : length b.clauses.clauses < b.given + c.args.budget = rw c.in_default-2.is at c.in_ok-ending.ensures.under in
+    let given : b.given ≡ c.args.self.now.given = c.in_ok-conflict.ensures.settled.given ∙ c.loop-conflict.invariant.given in
     let vars : b.trail.vars ≡ c.args.self.now.trail.vars = c.in_ok-conflict.ensures.settled.vars ∙ c.loop-conflict.invariant.vars in
     let short : length b.trail.lits ≤ b.trail.vars + 1 = trail_short b.trail c.in_ok-conflict.ensures.searching.layered.whole in
-    measure_falls c.args.budget c.args.self.now.trail.vars a b c.decide.new.self c.in_ok-conflict.ensures.settled under decided (omega (arith, vars, short))
+    measure_falls (c.args.self.now.given + c.args.budget) c.args.self.now.trail.vars a b c.decide.new.self c.in_ok-conflict.ensures.settled (omega (arith, under, given)) decided (omega (arith, vars, short))
 
 pub loop-conflict-preserved : goal.loop-conflict-preserved
 loop-conflict-preserved c =
@@ -23,19 +24,17 @@ loop-conflict-preserved c =
     let b : Search = c.settle.new.self in
     let d : Search = c.decide.new.self in
     let decided : HasDecided b d = rw c.in_default-2.is at c.in_ok-ending.ensures.decided in
-    let under : length b.lines.items < c.args.budget = rw c.in_default-2.is at c.in_ok-ending.ensures.under in
+    let under : length b.clauses.clauses < b.given + c.args.budget = rw c.in_default-2.is at c.in_ok-ending.ensures.under in
+    let given : b.given ≡ c.args.self.now.given = c.in_ok-conflict.ensures.settled.given ∙ c.loop-conflict.invariant.given in
     let short : length b.starts.items ≤ b.trail.vars + 1 = starts_short (live_in b.clauses) b.trail b.starts.items c.in_ok-conflict.ensures.searching.layered in
-    let lines : length d.lines.items ≡ length b.lines.items = ap (λ ls. length ls.items) decided.lines in
     let clauses : length d.clauses.clauses ≡ length b.clauses.clauses = ap (λ s. length s.clauses) decided.clauses in
     let starts : length d.starts.items ≡ length b.starts.items + 1 = decided.starts in
     let vars : d.trail.vars ≡ b.trail.vars = decided.vars in
-    let settled : length b.clauses.clauses + length a.lines.items ≡ length a.clauses.clauses + length b.lines.items = c.in_ok-conflict.ensures.settled.clauses in
-    let before : length a.clauses.clauses ≡ length c.args.self.now.clauses.clauses + length a.lines.items = c.loop-conflict.invariant.clauses in
     record {
       searching = rw c.in_default-2.is at c.in_ok-ending.ensures.searching;
       visited = rw c.in_default-2.is at c.in_ok-ending.ensures.visited;
-      logged = λ f log. rw (decided.clauses, decided.lines) (c.in_ok-conflict.ensures.logged f (c.loop-conflict.invariant.logged f log));
-      clauses = omega (arith, lines, clauses, settled, before);
-      starts = omega (arith, lines, starts, vars, short, under);
+      logged = λ f log. logged_decided f b d (c.in_ok-conflict.ensures.logged f (c.loop-conflict.invariant.logged f log)) decided;
+      given = decided.given ∙ given;
+      few = omega (arith, clauses, starts, vars, short, under, given);
       vars = vars ∙ c.in_ok-conflict.ensures.settled.vars ∙ c.loop-conflict.invariant.vars;
     }

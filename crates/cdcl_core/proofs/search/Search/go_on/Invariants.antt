@@ -8,10 +8,10 @@ invariant-loop-conflict l = record {
   searching : IsSearching l.self;
   visited : IsVisited l.self;
   logged : (f : Formula) → IsLogged f l.initial.self → IsLogged f l.self;
-  clauses : length l.self.clauses.clauses ≡ length l.initial.self.clauses.clauses + length l.self.lines.items;
-  starts : length l.self.lines.items + length l.self.starts.items ≤ l.budget + l.self.trail.vars + 1;
+  given : l.self.given ≡ l.initial.self.given;
+  few : length l.self.clauses.clauses + length l.self.starts.items ≤ l.initial.self.given + l.budget + l.self.trail.vars + 1;
   vars : l.self.trail.vars ≡ l.initial.self.trail.vars;
 }
 
 abbrev pub decreases-loop-conflict : goal.decreases-loop-conflict
-decreases-loop-conflict l = (l.budget - length l.self.lines.items) * (l.initial.self.trail.vars + 2) + (l.initial.self.trail.vars + 2 - length l.self.trail.lits)
+decreases-loop-conflict l = (l.initial.self.given + l.budget - length l.self.clauses.clauses) * (l.initial.self.trail.vars + 2) + (l.initial.self.trail.vars + 2 - length l.self.trail.lits)

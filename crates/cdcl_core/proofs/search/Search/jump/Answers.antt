@@ -54,7 +54,7 @@ returns-clause-searching c =
     }
 
 pub returns-clause-logged : goal.returns-clause-logged
-returns-clause-logged c = λ f log.
+returns-clause-logged c = λ f logged.
     let s = c.args.self.now in
     let l = c.in_ok-learnt.learnt in
     let clauses_are : c.add.new.self ≡ added s.clauses l.lits.items = c.in_ok-id.ensures.ok ∙ ap (λ (xs : List ℤ). added s.clauses xs) c.deref-3.ensures.value in
@@ -63,8 +63,11 @@ returns-clause-logged c = λ f log.
     let few : s.trail.vars < 1000000000 = c.requires.searching.layered.whole.few in
     let small : s.clauses.vars < 1000000000 = omega (arith, few, c.requires.searching.vars) in
     let closed = closed_last (live_in s.clauses) s.trail s.starts.items c.args.start c.requires.searching.layered c.requires.level in
-    rw (clauses_are, lines_are)
-    (log_added f s.clauses _ c.in_ok-id.id l.lits.items l.hints.items log c.requires.searching.stored c.in_ok-learnt.ensures.learnt.clause within small c.in_ok-id.ensures.id c.in_ok-learnt.ensures.learnt.hold (unit_is_new (live_in s.clauses) (fell s.trail) c.args.start l.lits.items (asserting l.lits.items) closed c.in_ok-learnt.ensures.learnt.unit) c.in_ok-learnt.ensures.learnt.some)
+    record {
+      log = rw (clauses_are, lines_are)
+          (log_added f s.clauses _ c.in_ok-id.id l.lits.items l.hints.items logged.log c.requires.searching.stored c.in_ok-learnt.ensures.learnt.clause within small c.in_ok-id.ensures.id c.in_ok-learnt.ensures.learnt.hold (unit_is_new (live_in s.clauses) (fell s.trail) c.args.start l.lits.items (asserting l.lits.items) closed c.in_ok-learnt.ensures.learnt.unit) c.in_ok-learnt.ensures.learnt.some);
+      given = logged.given;
+    }
 
 pub returns-clause-visited : goal.returns-clause-visited
 returns-clause-visited c =

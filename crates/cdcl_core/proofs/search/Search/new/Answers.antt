@@ -7,7 +7,10 @@ use Rattle.cdcl_core.proofs.Logging.{log_begun}
 use Rattle.cdcl_core.proofs.search.Search.new.Goals as goal
 
 pub returns-clause-logged : goal.returns-clause-logged
-returns-clause-logged c = rw (c.in_ok-new.ensures.all, c.new-5.ensures.items) (log_begun c.args.cnf.now)
+returns-clause-logged c = record {
+  log = rw (c.in_ok-new.ensures.all, c.new-5.ensures.items) (log_begun c.args.cnf.now);
+  given = ap length c.clauses.ensures.value;
+}
 
 pub returns-clause-searching : goal.returns-clause-searching
 returns-clause-searching c =
@@ -24,3 +27,6 @@ returns-clause-searching c =
 
 pub returns-clause-clauses : goal.returns-clause-clauses
 returns-clause-clauses c = ap (λ (s : Stored). length s.clauses) c.in_ok-new.ensures.all ∙ count_begun c.args.cnf.now
+
+pub returns-clause-given : goal.returns-clause-given
+returns-clause-given c = ap length c.clauses.ensures.value ∙ sym (ap (λ (s : Stored). length s.clauses) c.in_ok-new.ensures.all ∙ count_begun c.args.cnf.now)

@@ -1,6 +1,6 @@
 use Rattle.std.proofs.Common.{◌≡◌, length, ap, arith}
 use Rattle.cdcl_core.proofs.Settling.{settled_propagated, logged_propagated, settled_jumped, settled_visited}
-use Rattle.cdcl_core.proofs.Restarting.{jumped_restarted}
+use Rattle.cdcl_core.proofs.Restarting.{logged_restarted, jumped_restarted}
 use Rattle.cdcl_core.proofs.search.Search.settle.Goals as goal
 
 pub returns-in_default-last-clause-logged : goal.returns-in_default-last-clause-logged
@@ -19,7 +19,7 @@ pub loop-conflict-preserved : goal.loop-conflict-preserved
 loop-conflict-preserved c = record {
   searching = c.restart.ensures.searching;
   visited = c.restart.ensures.visited;
-  logged = λ f log. rw (c.restart.ensures.restarted.clauses, c.restart.ensures.restarted.lines) (c.in_ok-jump.ensures.logged f (logged_propagated f c.loop-conflict.self c.propagate.new.self (c.loop-conflict.invariant.logged f log) c.in_ok-conflict.ensures.propagated));
+  logged = λ f log. logged_restarted f c.jump.new.self c.restart.new.self (c.in_ok-jump.ensures.logged f (logged_propagated f c.loop-conflict.self c.propagate.new.self (c.loop-conflict.invariant.logged f log) c.in_ok-conflict.ensures.propagated)) c.restart.ensures.restarted;
   settled = settled_jumped c.args.self.now c.propagate.new.self c.restart.new.self (settled_propagated c.args.self.now c.loop-conflict.self c.propagate.new.self c.loop-conflict.invariant.settled c.in_ok-conflict.ensures.propagated)
       (jumped_restarted c.propagate.new.self c.jump.new.self c.restart.new.self c.in_ok-jump.ensures.jumped c.restart.ensures.restarted);
 }

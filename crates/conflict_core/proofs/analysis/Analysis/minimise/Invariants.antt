@@ -9,6 +9,7 @@ invariant-loop-lit l = record {
   walk : IsWalkOf (live_in l.clauses) l.trail l.self.walk;
   below : OnlyBelow l.trail l.start l.initial.self.walk.marks l.self.walk.marks;
   room : length l.self.redundancy.verdicts.items ≡ length l.initial.self.redundancy.verdicts.items;
+  marks : length l.self.walk.marks ≡ length l.initial.self.walk.marks;
 }
 
 abbrev pub decreases-loop-lit : goal.decreases-loop-lit

@@ -1,13 +1,5 @@
-use Rattle.std.proofs.Common.{◌≡◌, ◌∙◌, [], reverse, ap}
-use Rattle.std.proofs.lemmas.Result.{IfOk-weaker}
-use Rattle.sat_theory.specs.Holding.{among, HintsHold}
-use Rattle.clause_db.specs.Stored.{live_in}
-use Rattle.conflict_core.proofs.Conflicts.{walk_refuted}
+use Rattle.std.proofs.Common.{◌∙◌}
 use Rattle.conflict_core.proofs.analysis.Analysis.refute.Goals as goal
 
-pub returns : goal.returns
-returns c =
-    let walk = c.resolve_down.new.self in
-    IfOk-weaker c.turned.result (λ v. v.items ≡ reverse c.deref.result.now) (λ hints. HintsHold (live_in c.args.clauses.now) (among []) hints.items)
-    (λ hints are. walk_refuted (live_in c.args.clauses.now) c.args.trail.now walk.marks walk.touched.items walk.hints.items hints.items c.len-end.ensures.whole c.in_ok-resolve_down.ensures.walk c.in_ok-resolve_down.ensures.none (are ∙ ap (λ xs. reverse xs) c.deref.ensures.value))
-    c.turned.ensures
+pub returns-clause-ready : goal.returns-clause-ready
+returns-clause-ready c = c.clear.ensures c.args.trail.now.vars (c.walk_down-hints.ensures.marks ∙ c.requires.ready.clear.room) (c.walk_down-hints.ensures.verdicts ∙ c.requires.ready.verdicts)

@@ -1,4 +1,4 @@
-use Rattle.std.proofs.Common.{length}
+use Rattle.std.proofs.Common.{◌≡◌, length}
 use Rattle.clause_db.specs.Stored.{live_in}
 use Rattle.conflict_core.specs.Walking.{IsLastMarked}
 use Rattle.conflict_core.specs.Learning.{IsWalkOf}
@@ -8,6 +8,7 @@ abbrev pub invariant-loop-other : goal.invariant-loop-other
 invariant-loop-other l = record {
   walk : IsWalkOf (live_in l.clauses) l.trail l.self;
   last : IsLastMarked l.trail l.self.marks l.start (length l.trail.lits) l.top;
+  room : length l.self.marks ≡ length l.initial.self.marks;
 }
 
 abbrev pub decreases-loop-other : goal.decreases-loop-other

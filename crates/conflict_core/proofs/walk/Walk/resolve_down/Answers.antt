@@ -19,6 +19,7 @@ loop-place-preserved-then-not-has c =
       walk = c.loop-place.invariant.walk;
       none = none_more t marks (c.loop-place.place - 1) (length t.lits) c.at.result (sym (c.at.ensures.value c.at.result)) within off_here none;
       others = c.loop-place.invariant.others;
+      room = c.loop-place.invariant.room;
     }
 
 pub loop-place-preserved : goal.loop-place-preserved
@@ -33,4 +34,5 @@ loop-place-preserved c =
       walk = c.in_ok-resolve.ensures.walk;
       none = none_replaced t (c.loop-place.place - 1) marks c.resolve.new.self.marks c.at.ensures.whole c.in_ok-resolve.ensures.replaced none;
       others = stay_replaced t c.args.low (c.loop-place.place - 1) c.args.self.now.marks marks c.resolve.new.self.marks (omega arith) c.loop-place.invariant.others c.in_ok-resolve.ensures.replaced;
+      room = c.in_ok-resolve.ensures.room ∙ c.loop-place.invariant.room;
     }

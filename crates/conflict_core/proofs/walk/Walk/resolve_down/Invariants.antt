@@ -1,4 +1,4 @@
-use Rattle.std.proofs.Common.{◌≤◌, length}
+use Rattle.std.proofs.Common.{◌≡◌, ◌≤◌, length}
 use Rattle.clause_db.specs.Stored.{live_in}
 use Rattle.conflict_core.specs.Walking.{NoneMarked, StayBelow}
 use Rattle.conflict_core.specs.Learning.{IsWalkOf}
@@ -11,6 +11,7 @@ invariant-loop-place l = record {
   walk : IsWalkOf (live_in l.clauses) l.trail l.self;
   none : NoneMarked l.trail l.self.marks l.place (length l.trail.lits);
   others : StayBelow l.trail l.low l.initial.self.marks l.self.marks;
+  room : length l.self.marks ≡ length l.initial.self.marks;
 }
 
 abbrev pub decreases-loop-place : goal.decreases-loop-place

@@ -1,6 +1,0 @@
-use Rattle.cdcl_theory.specs.Trails.{fell}
-use Rattle.cdcl_core.proofs.Judging.{HasSeen}
-use Rattle.cdcl_core.proofs.propagation.judge.Given as goal
-
-abbrev pub invariant-loop-lit : goal.invariant-loop-lit
-invariant-loop-lit l = HasSeen (fell l.trail) l.lits l.lit-index l.free

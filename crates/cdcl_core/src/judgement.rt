@@ -1,0 +1,41 @@
+//! What a clause says under the values of a trail. The search asks this of the clauses of one literal alone, since
+//! the others are watched; the definitions are those that watched propagation has to meet.
+ghost use Rattle.sat_theory.specs.Formula.{IsClause, IsWithin};
+ghost use Rattle.cdcl_theory.specs.Trails.{fell as fell_of};
+ghost use Rattle.cdcl_core.specs.Verdicts.{IsVerdict};
+
+use cnf_core::Lit;
+use trail_core::Trail;
+
+/// What a clause says under the values of a trail.
+pub(crate) enum Verdict {
+    /// A literal is true, or two have no value.
+    Settled,
+    /// All but this one are false, and this has no value.
+    Unit(Lit),
+    /// All are false.
+    Falsified,
+}
+
+/// Reads a clause under the values of a trail.
+#[tactic(auto, using(crate::proofs::Judging::judging))]
+pub(crate) fn judge(trail: &Trail, lits: &[Lit]) -> Verdict
+    requires clause { IsClause lits.now }
+    requires within { IsWithin trail.now.vars lits.now }
+    ensures { IsVerdict (fell_of trail.now) lits.now result }
+{
+    let mut free: Option<Lit> = None;
+    for lit in lits {
+        if trail.fell(*lit) > 0 {
+            continue;
+        }
+        if free.is_some() || trail.fell(lit.opposite()) > 0 {
+            return Verdict::Settled;
+        }
+        free = Some(*lit);
+    }
+    match free {
+        None => Verdict::Falsified,
+        Some(lit) => Verdict::Unit(lit),
+    }
+}

@@ -1,0 +1,51 @@
+use Rattle.std.proofs.Common.{◌≡◌, ◌∙◌, ◌∷◌, ap, subst, sym, slice_index_or, reverse, All, List, ℤ, ◌≤◌, ◌<◌}
+use Rattle.std.proofs.lemmas.List.Elements.{All-take}
+use Rattle.sat_theory.specs.Formula.{variable, opposite, IsWithin}
+use Rattle.cdcl_theory.specs.Trails.{fell}
+use Rattle.clause_db.specs.Stored.{live_in}
+use Rattle.conflict_core.specs.Walking.{HasFallenAt}
+use Rattle.conflict_core.proofs.Conflicts.{conflict_in_level, alone_left, alone_less, walk_learnt}
+use Rattle.conflict_core.proofs.Raising.{raised_all, raised_fallen, raised_others, raised_head}
+use Rattle.conflict_core.proofs.analysis.Analysis.walk_back.Goals as goal
+
+pub reduce-requires-clause-some : goal.reduce-requires-clause-some
+reduce-requires-clause-some c = conflict_in_level (live_in c.args.clauses.now) c.args.trail.now c.args.start c.args.conflict c.begin.new.self.marks c.requires.layered.whole c.requires.level c.requires.closed c.requires.conflict c.in_ok-begin.ensures.marked
+
+pub returns-clause-learnt : goal.returns-clause-learnt
+returns-clause-learnt c =
+    let first = c.in_ok-first.first in
+    let t = c.args.trail.now in
+    let places = fell t in
+    let reduced = c.reduce.new.self in
+    let minimised = c.minimise.new.self.walk in
+    let walk = c.shorten.new.self in
+    let walked = c.in_ok-shorten.ensures.walk t c.requires.layered.whole c.in_ok-minimise.ensures.walk in
+    let back = c.last_fallen-back.result in
+    let old = c.take_others.new.others.items in
+    let lower = c.raise.new.lits.items in
+    let at : opposite (slice_index_or t.lits c.in_ok-top.top first) ≡ first = c.in_ok-first.ensures.first first in
+    let low : All (λ m. places m ≤ back) old = subst (λ (xs : List ℤ). All (λ m. places m ≤ back) xs) c.deref.ensures.value c.last_fallen-back.ensures.all in
+    let there = subst (λ (xs : List ℤ). 0 < back → HasFallenAt places xs back) c.deref.ensures.value c.last_fallen-back.ensures.there in
+    let raised = raised_others places t.vars back walk.marks first old lower c.raise.ensures c.in_ok-first.ensures.others in
+    let alone = alone_less t c.args.start reduced.marks minimised.marks first
+    (alone_left (live_in c.args.clauses.now) t c.args.start c.in_ok-top.top first reduced.marks reduced.touched.items reduced.hints.items c.requires.layered.whole at c.in_ok-top.ensures.walk c.in_ok-top.ensures.last c.in_ok-top.ensures.alone)
+    c.in_ok-minimise.ensures.below in
+    walk_learnt (live_in c.args.clauses.now) t c.args.start c.in_ok-top.top back first walk.marks walk.touched.items lower c.in_ok-lits.lits.items walk.hints.items c.in_ok-hints.hints.items
+    c.requires.layered.whole c.in_ok-top.ensures.last.after c.in_ok-top.ensures.last.before at c.in_ok-first.ensures.over walked (λ m is. alone m (c.in_ok-shorten.ensures.fewer m is)) raised
+    (raised_all places back old lower (λ m. places m ≤ back) c.raise.ensures low)
+    (λ some. raised_fallen places back old lower c.raise.ensures (there some))
+    (λ d some. raised_head places back old lower d c.raise.ensures (λ k e within. (walked.resolvent.below (slice_index_or lower k e) (raised.inside k e within).0).0) low there some)
+    (c.in_ok-lits.ensures ∙ ap (λ (xs : List ℤ). first ∷ xs) c.deref-2.ensures.value)
+    (c.in_ok-hints.ensures ∙ ap (λ xs. reverse xs) (c.deref-3.ensures.value ∙ ap (λ h. h.items) c.take_others.ensures.hints))
+
+pub returns-clause-ready : goal.returns-clause-ready
+returns-clause-ready c =
+    let t = c.args.trail.now in
+    let over = (c.in_ok-shorten.ensures.walk t c.requires.layered.whole c.in_ok-minimise.ensures.walk).listed.over in
+    let within : IsWithin t.vars c.shorten.new.self.touched.items = λ k d low. (over k d low).1 in
+    let left : IsWithin t.vars c.take_others.new.self.touched.items = subst (λ h. IsWithin t.vars h.items) (sym c.take_others.ensures.touched) within in
+    record {
+      clear = c.in_ok-first.ensures.clear;
+      touched = subst (λ (xs : List ℤ). IsWithin t.vars xs) (sym c.truncate.ensures.items) (All-take (λ l. variable l ≤ t.vars) _ c.take_others.new.self.touched.items left);
+      verdicts = c.minimise.ensures.room ∙ c.requires.ready.verdicts;
+    }

@@ -1,0 +1,189 @@
+//! Clauses by their ids, and which literals they watch.
+ghost use Rattle.std.specs.Prelude.{◌≤◌, IfSome};
+ghost use Rattle.sat_theory.specs.Formula.{variable as variable_of};
+
+use clause_db::ClauseDb;
+use cnf_core::{Clause, Cnf, Lit};
+use std::alloc::{AllocError, Global};
+use std::test::Fail;
+
+fn are(lits: &[Lit], numbers: &[i32]) -> bool {
+    if lits.len() != numbers.len() {
+        return false;
+    }
+    for place in 0..lits.len() {
+        if lits[place].get() != numbers[place] {
+            return false;
+        }
+    }
+    true
+}
+
+/// Whether a live clause has these literals.
+fn holds(clauses: &ClauseDb, id: u32, numbers: &[i32]) -> bool {
+    clauses.live(id) && are(clauses.lits(id), numbers)
+}
+
+#[test]
+fn clauses_have_ids(rt: HostRuntime) -> Result<(), Fail> {
+    let alloc = rt.alloc();
+    let mut cnf = Cnf::new(alloc, 3);
+    cnf.push(Clause::new(vec![in alloc; Lit::new(1), Lit::new(-2)]?))?;
+    cnf.push(Clause::new(Vec::new(alloc)))?;
+    let mut clauses = ClauseDb::new(alloc, &cnf)?;
+    assert_eq!(rt; clauses.vars(), 3);
+    assert_eq!(rt; clauses.last(), 2);
+    assert_eq!(rt; clauses.add(&[Lit::new(3)])?, 3);
+    assert_eq!(rt; clauses.last(), 3);
+    for id in [0, 4, 4294967295] {
+        assert!(rt; !clauses.live(id));
+    }
+    assert!(rt; holds(&clauses, 1, &[1, -2]));
+    assert!(rt; holds(&clauses, 2, &[]));
+    assert!(rt; holds(&clauses, 3, &[3]));
+    assert!(rt; stands(&clauses, 2, &[]));
+    assert!(rt; stands(&clauses, 3, &[3]));
+    Ok(())
+}
+
+/// The literal of a number, if its variable is one of the formula.
+fn over(clauses: &ClauseDb, number: i32) -> Option<Lit>
+    ensures { IfSome result (λ l. variable_of l ≤ clauses.now.vars) }
+{
+    if !(-9..=9).contains(&number) || number == 0 {
+        return None;
+    }
+    let lit = Lit::new(number);
+    if lit.variable() > clauses.vars() {
+        return None;
+    }
+    Some(lit)
+}
+
+/// Whether the clauses of these ids watch a literal, with these literals beside them.
+fn watching(clauses: &ClauseDb, number: i32, ids: &[u32], beside: &[i32]) -> bool {
+    let Some(lit) = over(clauses, number) else {
+        return false;
+    };
+    clauses.watching(lit) == ids && are(clauses.blockers(lit), beside)
+}
+
+#[test]
+fn clauses_watch_their_first_two_literals(rt: HostRuntime) -> Result<(), Fail> {
+    let alloc = rt.alloc();
+    let mut cnf = Cnf::new(alloc, 3);
+    cnf.push(Clause::new(vec![in alloc; Lit::new(1), Lit::new(-2), Lit::new(3)]?))?;
+    cnf.push(Clause::new(vec![in alloc; Lit::new(2)]?))?;
+    let mut clauses = ClauseDb::new(alloc, &cnf)?;
+    assert_eq!(rt; clauses.vars(), 3);
+    assert_eq!(rt; clauses.last(), 2);
+    clauses.add(&[Lit::new(1), Lit::new(2)])?;
+    assert!(rt; watching(&clauses, 1, &[1, 3], &[-2, 2]));
+    assert!(rt; watching(&clauses, -2, &[1], &[1]));
+    assert!(rt; watching(&clauses, 2, &[3], &[1]));
+    assert!(rt; watching(&clauses, 3, &[], &[]));
+    assert!(rt; over(&clauses, 4).is_none());
+    Ok(())
+}
+
+/// The clauses 1, 2, 3 and 1, 3 and 1, 2.
+fn three(alloc: Global) -> Result<ClauseDb, AllocError> {
+    let (a, b, c) = (Lit::new(1), Lit::new(2), Lit::new(3));
+    let mut cnf = Cnf::new(alloc, 3);
+    cnf.push(Clause::new(vec![in alloc; a, b, c]?))?;
+    cnf.push(Clause::new(vec![in alloc; a, c]?))?;
+    cnf.push(Clause::new(vec![in alloc; a, b]?))?;
+    ClauseDb::new(alloc, &cnf)
+}
+
+/// Whether a clause watches these two literals.
+fn watches(clauses: &ClauseDb, id: u32, one: i32, other: i32) -> bool {
+    if !clauses.live(id) || clauses.lits(id).len() < 2 {
+        return false;
+    }
+    let (first, second) = clauses.watched(id);
+    first.get() == one && second.get() == other
+}
+
+/// Lets a clause watch its literal at a place in place of a watched one, if it may. That is the second one, if
+/// the first is another literal.
+fn rewatch(clauses: &mut ClauseDb, id: u32, from: i32, place: usize) -> Result<bool, AllocError> {
+    if !clauses.live(id) || clauses.lits(id).len() < 2 || clauses.lits(id).len() <= place {
+        return Ok(false);
+    }
+    let to = clauses.lits(id)[place];
+    let (first, second) = clauses.watched(id);
+    if first == to || second == to {
+        return Ok(false);
+    }
+    if first.get() == from {
+        clauses.rewatch(id, first, to)?;
+        return Ok(true);
+    }
+    clauses.rewatch(id, second, to)?;
+    Ok(true)
+}
+
+/// Puts a clause's literal at a place beside its entry in a list, if there is such an entry.
+fn block(clauses: &mut ClauseDb, number: i32, index: usize, place: usize) -> bool {
+    let Some(lit) = over(clauses, number) else {
+        return false;
+    };
+    if index >= clauses.watching(lit).len() {
+        return false;
+    }
+    let id = clauses.watching(lit)[index];
+    if !clauses.live(id) || place >= clauses.lits(id).len() {
+        return false;
+    }
+    let by = clauses.lits(id)[place];
+    clauses.block(lit, index, by);
+    true
+}
+
+/// Whether the literals of a live clause stand in this order, the watched ones in front.
+fn stands(clauses: &ClauseDb, id: u32, numbers: &[i32]) -> bool {
+    clauses.live(id) && are(clauses.arranged(id), numbers)
+}
+
+#[test]
+fn a_clause_watches_another_literal(rt: HostRuntime) -> Result<(), Fail> {
+    let alloc = rt.alloc();
+    let mut clauses = three(alloc)?;
+    assert!(rt; stands(&clauses, 1, &[1, 2, 3]));
+    assert!(rt; rewatch(&mut clauses, 1, 1, 2)?);
+    assert!(rt; !rewatch(&mut clauses, 1, 1, 2)?);
+    assert!(rt; watches(&clauses, 1, 3, 2));
+    assert!(rt; holds(&clauses, 1, &[1, 2, 3]));
+    assert!(rt; stands(&clauses, 1, &[3, 2, 1]));
+    assert!(rt; stands(&clauses, 2, &[1, 3]));
+    for (number, ids, beside) in [
+        (1, [3, 2], [2, 3]),
+        (2, [1, 3], [1, 1]),
+        (3, [2, 1], [1, 2]),
+    ] {
+        assert!(rt; watching(&clauses, number, &ids, &beside));
+    }
+    Ok(())
+}
+
+#[test]
+fn a_clause_watches_another_literal_in_place_of_its_second(rt: HostRuntime) -> Result<(), Fail> {
+    let alloc = rt.alloc();
+    let mut clauses = three(alloc)?;
+    assert!(rt; rewatch(&mut clauses, 1, 2, 2)?);
+    assert!(rt; stands(&clauses, 1, &[1, 3, 2]));
+    assert!(rt; rewatch(&mut clauses, 1, 1, 1)?);
+    assert!(rt; stands(&clauses, 1, &[2, 3, 1]));
+    Ok(())
+}
+
+#[test]
+fn literals_beside_are_kept(rt: HostRuntime) -> Result<(), Fail> {
+    let alloc = rt.alloc();
+    let mut clauses = three(alloc)?;
+    assert!(rt; block(&mut clauses, 1, 0, 2));
+    assert!(rt; !block(&mut clauses, 1, 3, 0));
+    assert!(rt; watching(&clauses, 1, &[1, 2, 3], &[3, 3, 2]));
+    Ok(())
+}

@@ -1,0 +1,341 @@
+//! The solver: formulas against all assignments, formulas in steps of difficulty, and each log fed to the checker.
+use crate::building::{clause, formula, next_random, push_within};
+use cdcl_core::{Solved, solve};
+use cnf_core::{Assign, Cnf, satisfied};
+use lrat_check::Checker;
+use lrat_text::{Log, read_line, write_line};
+use std::alloc::{AllocError, Global};
+use std::test::Fail;
+
+/// Whether the checker takes each line of a log, as it is written and read again; and if so, whether it
+/// has then reached the empty clause.
+fn judged(alloc: Global, cnf: Cnf, log: &Log) -> Result<Option<bool>, Fail> {
+    let mut checker = Checker::new(alloc, cnf)?;
+    for line in &log.lines {
+        let mut text = Vec::new(alloc);
+        write_line(line, &mut text)?;
+        let Some((_, body)) = text.split_last() else {
+            return Ok(None);
+        };
+        if checker.feed(read_line(alloc, body)?).is_err() {
+            return Ok(None);
+        }
+    }
+    Ok(Some(checker.refuted()))
+}
+
+/// The variables 1 and 2, and all four clauses over both.
+const CONTRADICTION: [&[u8]; 4] = [b"1 1 2 0 0", b"2 -1 2 0 0", b"3 1 -2 0 0", b"4 -1 -2 0 0"];
+
+/// A step that negates its input by conjunction alone.
+const NEGATION: [&[u8]; 23] = [
+    b"1 3 0 0",
+    b"1 -3 1 0 0",
+    b"1 -3 -2 0 0",
+    b"1 8 0 0",
+    b"1 -8 1 -4 0 0",
+    b"1 -8 -1 4 0 0",
+    b"1 -8 2 -7 0 0",
+    b"1 -8 -2 7 0 0",
+    b"1 4 5 6 7 0 0",
+    b"1 4 5 -6 7 0 0",
+    b"1 4 5 -6 -7 0 0",
+    b"1 4 -5 6 7 0 0",
+    b"1 4 -5 6 -7 0 0",
+    b"1 4 -5 -6 7 0 0",
+    b"1 4 -5 -6 -7 0 0",
+    b"1 -4 5 6 7 0 0",
+    b"1 -4 5 6 -7 0 0",
+    b"1 -4 5 -6 7 0 0",
+    b"1 -4 5 -6 -7 0 0",
+    b"1 -4 -5 6 7 0 0",
+    b"1 -4 -5 6 -7 0 0",
+    b"1 -4 -5 -6 7 0 0",
+    b"1 -4 -5 -6 -7 0 0",
+];
+
+#[test]
+fn formulas_are_satisfied(rt: HostRuntime) -> Result<(), Fail> {
+    let alloc = rt.alloc();
+    for (vars, clauses, bits) in [
+        (
+            2,
+            [b"1 1 2 0 0" as &[u8], b"2 -1 0 0"].as_slice(),
+            [false, true].as_slice(),
+        ),
+        // no clause, no variable, a variable in no clause
+        (0, [].as_slice(), [].as_slice()),
+        (2, [].as_slice(), [true, true].as_slice()),
+        (
+            3,
+            [b"1 1 0 0" as &[u8], b"2 3 0 0"].as_slice(),
+            [true, true, true].as_slice(),
+        ),
+    ] {
+        match solve(alloc, &formula(alloc, vars, clauses)?, 1)? {
+            Solved::Sat(assign) => assert_eq!(rt; assign.bits(), bits),
+            _ => assert!(rt; false, "not satisfied"),
+        }
+    }
+    Ok(())
+}
+
+#[test]
+fn formulas_are_refuted(rt: HostRuntime) -> Result<(), Fail> {
+    let alloc = rt.alloc();
+    for (vars, clauses, lines) in [
+        (2, CONTRADICTION.as_slice(), Some(2)),
+        (8, NEGATION.as_slice(), None),
+        // units that conflict, and the empty clause
+        (1, [b"1 1 0 0" as &[u8], b"2 -1 0 0"].as_slice(), Some(1)),
+        (2, [b"1 1 2 0 0" as &[u8], b"2 0 0"].as_slice(), Some(0)),
+        (0, [b"1 0 0" as &[u8]].as_slice(), Some(0)),
+    ] {
+        match solve(alloc, &formula(alloc, vars, clauses)?, 1)? {
+            Solved::Unsat(log) => {
+                assert_eq!(rt; log.lines.len(), lines.unwrap_or(log.lines.len()));
+                assert!(rt; judged(alloc, formula(alloc, vars, clauses)?, &log)? == Some(true));
+            }
+            _ => assert!(rt; false, "not refuted"),
+        }
+    }
+    Ok(())
+}
+
+/// The conflict behind the decisions 1 and 5 leads back to -3, -2 and -1, of which -2 follows from -1.
+const IMPLIED: [&[u8]; 4] = [
+    b"1 -1 2 0 0",
+    b"2 -5 3 0 0",
+    b"3 -1 -2 -3 4 0 0",
+    b"4 -3 -4 0 0",
+];
+
+/// The same, and 1 follows from 3, so that -1 goes too.
+const SHORTENED: [&[u8]; 5] = [
+    b"1 -1 2 0 0",
+    b"2 -5 3 0 0",
+    b"3 -1 -2 -3 4 0 0",
+    b"4 -3 -4 0 0",
+    b"5 -3 1 0 0",
+];
+
+/// The same with 2 in the last clause besides, so that -1 stays.
+const NOT_SHORTENED: [&[u8]; 5] = [
+    b"1 -1 2 0 0",
+    b"2 -5 3 0 0",
+    b"3 -1 -2 -3 4 0 0",
+    b"4 -3 -4 0 0",
+    b"5 -3 1 2 0 0",
+];
+
+/// The line of the one clause that is learnt within a budget of one; nothing where it isn't one.
+fn learnt_line(alloc: Global, clauses: &[&[u8]]) -> Result<Vec<u8>, Fail> {
+    let mut text = Vec::new(alloc);
+    if let Solved::Open(log) = solve(alloc, &formula(alloc, 5, clauses)?, 1)? {
+        if log.lines.len() == 1 {
+            write_line(&log.lines[0], &mut text)?;
+        }
+    }
+    Ok(text)
+}
+
+#[test]
+fn learnt_clauses_lose_what_follows(rt: HostRuntime) -> Result<(), Fail> {
+    let text = learnt_line(rt.alloc(), &IMPLIED)?;
+    assert!(rt; text.starts_with(b"5 -3 -1 0 "), "{text:?}");
+    Ok(())
+}
+
+#[test]
+fn clauses_of_two_shorten_learnt_ones(rt: HostRuntime) -> Result<(), Fail> {
+    for (clauses, begin) in [
+        (SHORTENED.as_slice(), b"6 -3 0 5 " as &[u8]),
+        (NOT_SHORTENED.as_slice(), b"6 -3 -1 0 "),
+    ] {
+        let text = learnt_line(rt.alloc(), clauses)?;
+        assert!(rt; text.starts_with(begin), "{text:?}");
+    }
+    Ok(())
+}
+
+/// More pigeons by one than holes, of which each is to have a hole of its own.
+fn pigeons(alloc: Global, holes: u32) -> Result<Cnf, AllocError> {
+    let holes = holes.min(9);
+    let mut cnf = Cnf::new(alloc, holes * (holes + 1));
+    for pigeon in 0..holes + 1 {
+        let mut text = String::from_str(alloc, "1")?;
+        for hole in 1..holes + 1 {
+            text.push_str(format!(in alloc;
+                " {}",
+                u64::from(holes) * u64::from(pigeon) + u64::from(hole)
+            )?
+            .as_str())?;
+        }
+        text.push_str(" 0 0")?;
+        push_within(&mut cnf, clause(alloc, text.as_bytes()))?;
+    }
+    for hole in 1..holes + 1 {
+        for pigeon in 0..holes + 1 {
+            for other in 0..pigeon {
+                let first = u64::from(holes) * u64::from(pigeon) + u64::from(hole);
+                let second = u64::from(holes) * u64::from(other) + u64::from(hole);
+                let text = format!(in alloc; "1 -{first} -{second} 0 0")?;
+                push_within(&mut cnf, clause(alloc, text.as_bytes()))?;
+            }
+        }
+    }
+    Ok(cnf)
+}
+
+/// Whether the pigeons are refuted within a budget; None where the answer or its log is wrong.
+fn pigeons_refuted(alloc: Global, holes: u32, budget: u32) -> Result<Option<bool>, Fail> {
+    if budget == 0 || budget > 1000000 {
+        return Ok(None);
+    }
+    let cnf = pigeons(alloc, holes)?;
+    let (log, refuted) = match solve(alloc, &cnf, budget)? {
+        Solved::Sat(_) => return Ok(None),
+        Solved::Unsat(log) => (log, true),
+        Solved::Open(log) => (log, false),
+    };
+    let enough = refuted || log.lines.len() >= budget as usize;
+    if enough && judged(alloc, cnf, &log)? == Some(refuted) {
+        return Ok(Some(refuted));
+    }
+    Ok(None)
+}
+
+#[test]
+fn pigeons_have_no_holes(rt: HostRuntime) -> Result<(), Fail> {
+    let alloc = rt.alloc();
+    for (holes, budget, end) in [
+        (3, 1, false),
+        (3, 1000000, true),
+        (4, 3, false),
+        (5, 1000000, true),
+    ] {
+        assert_eq!(rt; pigeons_refuted(alloc, holes, budget)?, Some(end));
+    }
+    Ok(())
+}
+
+#[test]
+fn pigeons_take_so_many_steps(rt: HostRuntime) -> Result<(), Fail> {
+    let alloc = rt.alloc();
+    // as many clauses as an independent program learns that takes the same steps: they tell of what scores, of
+    // signs and of when restarts come, which no contract says
+    for (holes, lines) in [(4, 33), (6, 451)] {
+        match solve(alloc, &pigeons(alloc, holes)?, 1000000)? {
+            Solved::Unsat(log) => assert_eq!(rt; log.lines.len(), lines),
+            _ => assert!(rt; false, "not refuted"),
+        }
+    }
+    Ok(())
+}
+
+#[test]
+fn ten_pigeons_have_a_log(rt: HostRuntime) -> Result<(), Fail> {
+    // either way
+    assert!(rt; pigeons_refuted(rt.alloc(), 9, 20000)?.is_some());
+    Ok(())
+}
+
+/// The variables 1 to `vars`, of which the first is true and each follows from the one before. What follows
+/// last is listed first.
+fn implications(alloc: Global, vars: u32) -> Result<Cnf, AllocError> {
+    let vars = vars.min(9000);
+    let mut cnf = Cnf::new(alloc, vars);
+    for left in 1..vars {
+        let text = format!(in alloc; "1 -{} {} 0 0", vars - left, vars - left + 1)?;
+        push_within(&mut cnf, clause(alloc, text.as_bytes()))?;
+    }
+    push_within(&mut cnf, clause(alloc, b"1 1 0 0"))?;
+    Ok(cnf)
+}
+
+#[test]
+fn long_rows_are_followed(rt: HostRuntime) -> Result<(), Fail> {
+    let alloc = rt.alloc();
+    let mut cnf = implications(alloc, 4000)?;
+    match solve(alloc, &cnf, 1)? {
+        Solved::Sat(assign) => assert!(rt; !assign.bits().contains(&false)),
+        _ => assert!(rt; false, "not satisfied"),
+    }
+    push_within(&mut cnf, clause(alloc, b"1 -4000 0 0"))?;
+    match solve(alloc, &cnf, 1)? {
+        Solved::Unsat(log) => {
+            assert_eq!(rt; log.lines.len(), 1);
+            assert!(rt; judged(alloc, cnf, &log)? == Some(true));
+        }
+        _ => assert!(rt; false, "not refuted"),
+    }
+    Ok(())
+}
+
+/// A formula of random clauses over four variables.
+fn random_formula(alloc: Global, seed: u64) -> Result<Cnf, AllocError> {
+    let mut cnf = Cnf::new(alloc, 4);
+    let mut seed = next_random(seed);
+    for _ in 0..8 + (seed >> 33) % 16 {
+        let mut text = String::from_str(alloc, "1")?;
+        for variable in 1..=4u32 {
+            seed = next_random(seed);
+            match (seed >> 33) % 4 {
+                0 => text.push_str(format!(in alloc; " {variable}")?.as_str())?,
+                1 => text.push_str(format!(in alloc; " -{variable}")?.as_str())?,
+                _ => {}
+            }
+        }
+        text.push_str(" 0 0")?;
+        let clause = clause(alloc, text.as_bytes());
+        if !clause.lits().is_empty() {
+            push_within(&mut cnf, clause)?;
+        }
+    }
+    Ok(cnf)
+}
+
+/// Whether one of the sixteen assignments satisfies a formula over four variables.
+fn is_satisfiable(alloc: Global, cnf: &Cnf) -> Result<bool, AllocError> {
+    if cnf.vars() != 4 {
+        return Ok(false);
+    }
+    for number in 0..16u32 {
+        let bits = [
+            number & 1 == 1,
+            number & 2 == 2,
+            number & 4 == 4,
+            number & 8 == 8,
+        ];
+        if satisfied(cnf, &Assign::new(Vec::from_slice(alloc, &bits)?)) {
+            return Ok(true);
+        }
+    }
+    Ok(false)
+}
+
+#[test]
+fn all_assignments_agree(rt: HostRuntime) -> Result<(), Fail> {
+    let alloc = rt.alloc();
+    let mut satisfiable = 0u32;
+    for round in 0..200u64 {
+        let cnf = random_formula(alloc, round)?;
+        let expected = is_satisfiable(alloc, &cnf)?;
+        // 3 to the fourth decides all
+        match solve(alloc, &cnf, 81)? {
+            Solved::Sat(assign) => {
+                assert!(rt; expected && satisfied(&cnf, &assign), "{round}");
+                satisfiable = satisfiable.saturating_add(1);
+            }
+            Solved::Unsat(log) => {
+                assert!(rt;
+                    !expected && judged(alloc, cnf, &log)? == Some(true),
+                    "{round}"
+                );
+            }
+            Solved::Open(_) => assert!(rt; false, "{round}"),
+        }
+    }
+    assert!(rt; satisfiable > 20 && satisfiable < 180, "{satisfiable}");
+    Ok(())
+}

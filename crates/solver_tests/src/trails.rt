@@ -1,0 +1,55 @@
+//! Trails that go on and back.
+use cnf_core::Lit;
+use std::alloc::AllocError;
+use std::test::Fail;
+use trail_core::Trail;
+
+/// Pushes a literal, if its variable is one of the trail's and has no value.
+fn push_free(trail: &mut Trail, number: i32, reason: u32) -> Result<bool, AllocError> {
+    if !(-1000..=1000).contains(&number) || number == 0 {
+        return Ok(false);
+    }
+    let lit = Lit::new(number);
+    if lit.variable() > trail.vars() || !trail.is_free(lit) {
+        return Ok(false);
+    }
+    trail.push(lit, reason)?;
+    Ok(true)
+}
+
+/// Where a literal of the trail's variables fell.
+fn place(trail: &Trail, lit: Lit) -> Option<u32> {
+    if lit.variable() > trail.vars() {
+        return None;
+    }
+    Some(trail.fell(lit))
+}
+
+#[test]
+fn trail_goes_on_and_back(rt: HostRuntime) -> Result<(), Fail> {
+    let alloc = rt.alloc();
+    let mut trail = Trail::new(alloc, 3)?;
+    assert_eq!(rt; trail.vars(), 3);
+    for (number, reason, pushed) in [(2, 0, true), (-1, 7, true), (1, 8, false), (4, 9, false)] {
+        assert_eq!(rt; push_free(&mut trail, number, reason)?, pushed, "{number}");
+    }
+    for (number, fell) in [(1, 2), (-1, 0), (2, 0), (-2, 1), (3, 0), (-3, 0)] {
+        assert_eq!(rt; place(&trail, Lit::new(number)), Some(fell), "{number}");
+    }
+    assert!(rt; trail.free_literal() == Some(Lit::new(-3)));
+    assert_eq!(rt;
+        trail.assignment(alloc)?.bits(),
+        [false, true, false].as_slice()
+    );
+    if trail.len() > 1 {
+        assert!(rt; trail.at(1) == Lit::new(-1));
+        trail.back_to(1);
+    }
+    assert_eq!(rt; trail.len(), 1);
+    assert_eq!(rt; place(&trail, Lit::new(1)), Some(0));
+    assert!(rt; trail.free_literal() == Some(Lit::new(-1)));
+    assert!(rt; push_free(&mut trail, 1, 0)?);
+    assert!(rt; push_free(&mut trail, -3, 0)?);
+    assert!(rt; trail.free_literal().is_none());
+    Ok(())
+}
