@@ -8,3 +8,4 @@ pub mod Firsts
 pub mod Visits
 pub mod CycleLemmas
 pub mod CostLemmas
+pub mod WholeTables

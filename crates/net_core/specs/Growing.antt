@@ -4,9 +4,9 @@ use Rattle.std.proofs.Common.{take}
 use Rattle.net_theory.specs.declared.data.Sig.{Sig}
 use Rattle.net_theory.specs.declared.data.Gate.{Gate}
 use Rattle.net_theory.specs.declared.data.Signed.{Signed}
-use Rattle.net_theory.specs.Expansion.{Built, Joined, Terms, and_word, or_word}
+use Rattle.net_theory.specs.Expansion.{Built, Joined, Terms, and_word, or_word, xor_word}
 use Rattle.net_core.specs.declared.joining.Connective.{Connective}
-use Rattle.net_core.specs.declared.joining.Connective.TheVariants.{And, Or}
+use Rattle.net_core.specs.declared.joining.Connective.TheVariants.{And, Or, Xor}
 
 abbrev pub built : List Gate → Sig → Built
 built gates sig = record { gates = gates; sig = sig }
@@ -17,10 +17,11 @@ joint gates out = record { gates = gates; out = out }
 abbrev pub terms : List Gate → List Signed → Terms
 terms gates outs = record { gates = gates; outs = outs }
 
--- the words of AND and OR on signals with signs
+-- the words of AND, OR and XOR on signals with signs
 abbrev pub word_of : Connective → Bool → Bool → ℕ
 word_of And = and_word
 word_of Or = or_word
+word_of Xor = xor_word
 
 -- what was there is still in front
 pub record IsFront (old new : List Gate) : Type 0 where

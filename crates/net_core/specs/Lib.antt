@@ -5,6 +5,7 @@ pub use Rattle.net_theory.specs.Document
 pub use Rattle.net_theory.specs.Behaviour
 pub use Rattle.net_theory.specs.Dependence
 pub use Rattle.net_theory.specs.Expansion
+pub use Rattle.net_theory.specs.Whole
 pub use Rattle.net_theory.specs.Cost
 pub use Rattle.net_theory.specs.Visit
 pub use Rattle.net_theory.specs.NetOf
@@ -19,6 +20,7 @@ pub use Rattle.net_theory.specs.BuiltLaws
 pub use Rattle.net_theory.specs.VisitLaws
 pub mod Marks
 pub mod Growing
+pub mod Wholes
 pub mod Names
 pub mod Frames
 pub mod Cycles

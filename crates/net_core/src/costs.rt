@@ -9,14 +9,14 @@ use crate::expansion::is_plain;
 use crate::truth::{binary_word, unary_word};
 
 /// The cost of a function of one input.
-fn unary_cost(word: u8) -> u32
+pub fn unary_cost(word: u8) -> u32
     ensures { result ≡ unary_cost_of word }
 {
     if word == 2 { 1 } else { 0 }
 }
 
 /// The cost of a function of two inputs.
-fn binary_cost(word: u8) -> u32
+pub fn binary_cost(word: u8) -> u32
     ensures { result ≡ binary_cost_of word }
 {
     match word {

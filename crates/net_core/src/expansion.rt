@@ -10,11 +10,13 @@ ghost use Rattle.net_theory.specs.BuiltLaws.{IsBuilt};
 ghost use Rattle.net_theory.specs.WideLaws.{AreTerms};
 ghost use Rattle.net_theory.specs.declared.data.Gate.{Gate};
 ghost use Rattle.net_core.specs.Growing.{built, joint, terms, IsFront};
+ghost use Rattle.net_core.specs.Wholes.{cover_of, IsBody};
 
 use crate::cover::{Cover, Cube};
 use crate::joining::{Connective, join_all, push_gate};
 use crate::net::Net;
 use crate::truth::{binary_word, cover_value, unary_word};
+use crate::whole::{Body, body_gates};
 use net_theory::{Gate, Sig, Signed};
 use op_basis::Op;
 use std::alloc::{AllocError, Global};
@@ -45,7 +47,12 @@ fn push_not(sources: u32, gates: &mut Vec<Gate>, a: Sig) -> Result<Sig, AllocErr
 
 /// A table of one input, by the word of its values.
 #[tactic(auto, using(crate::proofs::Fronts::fronts), unfolding(net_theory::specs::Expansion::unary_built))]
-fn expand_unary(sources: u32, gates: &mut Vec<Gate>, word: u8, a: Sig) -> Result<Sig, AllocError>
+pub fn expand_unary(
+    sources: u32,
+    gates: &mut Vec<Gate>,
+    word: u8,
+    a: Sig,
+) -> Result<Sig, AllocError>
     requires { sources + vec_len gates.old ≤ 2 ^ 31 }
     ensures gates { IfOk result (λ sig. built gates.new.items sig ≡ unary_built sources gates.old.items word a) }
     ensures front { IsFront gates.old.items gates.new.items }
@@ -60,7 +67,7 @@ fn expand_unary(sources: u32, gates: &mut Vec<Gate>, word: u8, a: Sig) -> Result
 
 /// A table of two inputs, by the word of its values.
 #[tactic(auto, using(crate::proofs::Fronts::fronts), unfolding(net_theory::specs::Expansion::binary_built))]
-fn expand_binary(
+pub fn expand_binary(
     sources: u32,
     gates: &mut Vec<Gate>,
     word: u8,
@@ -196,7 +203,7 @@ fn complement_last(gates: &mut [Gate])
 /// Puts the sign of what was joined where the cover is for 1 or for 0, behind the gates that were there
 /// before the table.
 #[tactic(auto, using(crate::proofs::Fronts::fronts), unfolding(net_theory::specs::Expansion::finished))]
-fn finish(
+pub fn finish(
     sources: u32,
     gates: &mut Vec<Gate>,
     before: usize,
@@ -244,7 +251,7 @@ fn expand_wide(
 
 /// The gates of a table over any inputs.
 #[tactic(auto, using(crate::proofs::Expansions::tables))]
-fn expand_gates(
+pub fn expand_gates(
     alloc: Global,
     sources: u32,
     gates: &mut Vec<Gate>,
@@ -285,6 +292,32 @@ pub fn expand(
 {
     let before = net.gates.len();
     match expand_gates(alloc, net.sources, &mut net.gates, cover, inputs) {
+        Ok(sig) => Ok(sig),
+        Err(error) => {
+            net.gates.truncate(before);
+            Err(error)
+        }
+    }
+}
+
+/// Puts the gates of a table behind those of the net, as `expand` does for a cover, whatever its body.
+pub fn expand_body(
+    alloc: Global,
+    net: &mut Net,
+    body: &Body,
+    inputs: &[Sig],
+) -> Result<Sig, AllocError>
+    requires body { IsBody body.now }
+    requires width { (cover_of body.now).width ≡ length inputs.now }
+    requires room { net.old.sources + length net.old.gates + cover_cost (cover_of body.now) inputs.now < 2 ^ 31 }
+    requires inputs { All (IsSigBelow (end_of net.old)) inputs.now }
+    ensures gates { IfOk result (λ sig. built net.new.gates sig ≡ expanded net.old.sources net.old.gates (cover_of body.now) inputs.now) }
+    ensures others { OnOk result (net.new ≡ record net.old { gates = net.new.gates }) }
+    ensures value { IfOk result (λ sig. IsBuilt net.old.sources net.old.gates (cover_cost (cover_of body.now) inputs.now) (λ given. cover_value_of (cover_of body.now) (map (sig_value (values_of given net.old.sources net.old.gates)) inputs.now)) (built net.new.gates sig)) }
+    ensures err { OnErr result (net.new ≡ net.old) }
+{
+    let before = net.gates.len();
+    match body_gates(alloc, net.sources, &mut net.gates, body, inputs) {
         Ok(sig) => Ok(sig),
         Err(error) => {
             net.gates.truncate(before);

@@ -1,4 +1,4 @@
-//! Signals are joined by gates: AND or OR of several, from the left.
+//! Signals are joined by gates: AND, OR or XOR of several, from the left.
 
 ghost use Rattle.std.specs.Prelude.{◌≡◌, ℕ, ◌+◌, ◌≤◌, ◌<◌, ◌^◌, length, vec_len, OnOk, IfOk};
 ghost use Rattle.net_theory.specs.Expansion.{with_gate, joined, join_from, join_all as join_all_of};
@@ -13,6 +13,7 @@ use std::alloc::AllocError;
 pub enum Connective {
     And,
     Or,
+    Xor,
 }
 
 /// The operator that joins two signals with these signs.
@@ -32,6 +33,10 @@ fn operator(connective: Connective, first: bool, second: bool) -> Op
             (false, true) => 11,
             (true, false) => 13,
             (true, true) => 14,
+        },
+        Connective::Xor => match (first, second) {
+            (false, false) | (true, true) => 6,
+            (false, true) | (true, false) => 9,
         },
     };
     Op::new(word)

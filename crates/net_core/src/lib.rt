@@ -29,6 +29,7 @@ mod naming;
 mod net;
 mod truth;
 mod visiting;
+mod whole;
 
 pub use circuit::{Circuit, Latch};
 pub use costs::cover_cost;
@@ -37,7 +38,8 @@ pub use cycles::first_cyclic;
 pub use dead::drop_dead;
 pub use error::NetError;
 pub use evaluation::values;
-pub use expansion::expand;
+pub use expansion::{expand, expand_body};
+pub use joining::Connective;
 pub use keeping::{keep_gates, moved, moved_sinks, start_places};
 pub use marking::{mark_reached, mark_sinks};
 pub use name::Name;
@@ -47,6 +49,7 @@ pub use net_theory::{Gate, Sig, Trigger};
 pub use op_basis::Op;
 pub use truth::{binary_word, cover_value, unary_word};
 pub use visiting::{Reads, visit_all};
+pub use whole::{Body, Whole, body_cost, body_value};
 
 #[cfg(test)]
 mod tests;

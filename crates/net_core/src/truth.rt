@@ -60,7 +60,7 @@ pub fn cover_value(cover: &Cover, bits: &[bool]) -> bool
 }
 
 /// A bit as a number.
-fn digit(bit: bool) -> u8
+pub fn digit(bit: bool) -> u8
     ensures digit { result ≡ digit_of bit }
     ensures below { result < 2 }
 {

@@ -9,9 +9,11 @@ pub mod Dependence
 pub mod Expansion
 pub mod Cost
 pub mod BuiltLaws
+pub mod Whole
 pub mod JoinLaws
 pub mod WideLaws
 pub mod ExpansionLaws
+pub mod WholeLaws
 pub mod MergedLaws
 pub mod Visit
 pub mod VisitLaws

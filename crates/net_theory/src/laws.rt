@@ -1,14 +1,16 @@
 //! What the definitions come to. Each law is the contract of a function that does nothing.
-ghost use Rattle.std.specs.Prelude.{◌≡◌, ℕ, ◌+◌, ◌≤◌, ◌<◌, ◌^◌, ◌↔◌, Bool, true, map, length, slice_get, Some, List, Option};
+ghost use Rattle.std.specs.Prelude.{◌≡◌, ℕ, ◌+◌, ◌-◌, ◌≤◌, ◌<◌, ◌^◌, ◌↔◌, Bool, true, map, length, slice_get, Some, List, Option};
+ghost use Rattle.std.specs.List.{list_any, list_all};
 ghost use Rattle.net_theory.specs.declared.data.Gate.{Gate};
 ghost use Rattle.net_theory.specs.declared.data.Sig.{Sig};
 ghost use Rattle.net_theory.specs.declared.data.Sig.TheVariants.{Place};
 ghost use Rattle.net_theory.specs.Net.{Net, IsNet, AreGates, value, gate_value, sig_value, values_of};
-ghost use Rattle.net_theory.specs.Cover.{Cover, IsCover, cover_value};
+ghost use Rattle.net_theory.specs.Cover.{Cover, IsCover, is_odd, cover_value};
 ghost use Rattle.net_theory.specs.Document.{Document, are_distinct, table_output};
 ghost use Rattle.net_theory.specs.Dependence.{IsAcyclic};
 ghost use Rattle.net_theory.specs.Expansion.{expanded};
-ghost use Rattle.net_theory.specs.Cost.{cover_cost};
+ghost use Rattle.net_theory.specs.Cost.{cover_cost, wide_cost};
+ghost use Rattle.net_theory.specs.Whole.{and_cover, or_cover, xor_cover, itself, value_where};
 ghost use Rattle.net_theory.specs.BuiltLaws.{IsBuilt};
 ghost use Rattle.net_theory.specs.WideLaws.{AreSigsBelow};
 ghost use Rattle.net_theory.specs.Visit.{order_of};
@@ -32,6 +34,15 @@ pub fn values_of_places()
 pub fn covers_become_gates()
     ensures { (sources : ℕ) (gates : List Gate) (c : Cover) (inputs : List Sig) → AreGates sources gates → AreSigsBelow (sources + 1 + length gates) inputs → IsCover c → c.width ≡ length inputs →
         IsBuilt sources gates (cover_cost c inputs) (λ given. cover_value c (map (sig_value (values_of given sources gates)) inputs)) (expanded sources gates c inputs) }
+{}
+
+/// AND, OR and XOR of all inputs, and their complements, are what their names say, and where there are
+/// more than two inputs they become one gate less than that, which join the inputs from the left.
+pub fn whole_covers_join_their_inputs()
+    ensures and { (on : Bool) (bits : List Bool) → cover_value (and_cover (length bits) on) bits ≡ value_where on (list_all itself bits) }
+    ensures or { (on : Bool) (bits : List Bool) → 0 < length bits → cover_value (or_cover (length bits) on) bits ≡ value_where on (list_any itself bits) }
+    ensures xor { (on : Bool) (bits : List Bool) → cover_value (xor_cover (length bits) on) bits ≡ value_where on (is_odd bits) }
+    ensures cost { (width : ℕ) (on : Bool) → 2 ≤ width → (wide_cost (and_cover width on) ≡ width - 1) × (wide_cost (or_cover width on) ≡ width - 1) × (wide_cost (xor_cover width on) ≡ width - 1) }
 {}
 
 /// A visit orders the tables where none depends on itself, and, where no two tables have one output, only
