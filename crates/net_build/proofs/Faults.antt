@@ -8,7 +8,7 @@ use Rattle.net_theory.specs.NameLaws.{has_all, distinct_right}
 use Rattle.net_theory.specs.Cost.{cost}
 use Rattle.net_theory.specs.Dependence.{IsAcyclic}
 use Rattle.net_theory.specs.WellFormed.{IsWellFormed}
-use Rattle.net_theory.specs.Visit.{order_of}
+use Rattle.graph_core.specs.Visit.{order_of}
 use Rattle.net_theory.specs.NetOf.{graph_of}
 use Rattle.net_theory.specs.GraphLaws.{order_acyclic}
 use Rattle.net_core.specs.declared.error.NetError.{NetError}

@@ -20,8 +20,8 @@ use Rattle.net_theory.specs.BuiltLaws.{IsBuilt}
 use Rattle.net_theory.specs.WideLaws.{AreSigsBelow}
 use Rattle.net_theory.specs.ExpansionLaws.{expanded_is}
 use Rattle.net_theory.specs.MergedLaws.{IsMerged, merged_is, cover_cost-map}
-use Rattle.net_theory.specs.Visit.{has_ended, order_of}
-use Rattle.net_theory.specs.VisitLaws.{Comes, IsRun, IsOrder}
+use Rattle.graph_core.specs.Visit.{has_ended, order_of}
+use Rattle.graph_core.specs.VisitLaws.{Comes, IsRun, IsOrder}
 use Rattle.net_theory.specs.GraphLaws.{length-graph_of}
 use Rattle.net_theory.specs.NetOf.{Signals, Growth, with_signal, with_sources, signal_of, table_built, grown_by, with_table, with_table_at, with_tables, sources_only, source_count, graph_of, net_in_order}
 use Rattle.net_theory.specs.NetLaws.{IsGrowth, spent, start_growth, tables_grown}

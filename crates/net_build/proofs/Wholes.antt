@@ -8,13 +8,13 @@ use Rattle.net_theory.specs.Cost.{cost}
 use Rattle.net_theory.specs.Document.{Name, Table, Document, are_distinct, table_output, latches_of}
 use Rattle.net_theory.specs.Dependence.{DependsOn, at_once, by_way_of, IsFirstCyclic}
 use Rattle.net_theory.specs.WellFormed.{IsWellFormed}
-use Rattle.net_theory.specs.Visit.{order_of}
-use Rattle.net_theory.specs.VisitLaws.{LeadsTo, IsClosed, IsOrder, order_is, no_order}
+use Rattle.graph_core.specs.Visit.{order_of}
+use Rattle.graph_core.specs.VisitLaws.{LeadsTo, IsClosed, IsOrder, order_is, no_order}
 use Rattle.net_theory.specs.GraphLaws.{graph_closed, length-graph_of, leads_depends, depends_leads, no_order_cyclic}
 use Rattle.net_theory.specs.NetOf.{source_count, graph_of, net_in_order}
 use Rattle.net_theory.specs.Circuit.{Circuit, IsCircuitOf}
 use Rattle.net_theory.specs.CircuitLaws.{circuit_of, circuit_is}
-use Rattle.net_core.specs.Cycles.{IsFirstLeading}
+use Rattle.graph_core.specs.Cycles.{IsFirstLeading}
 use Rattle.net_document.specs.Listed.{Listed, IsListed, AreFree}
 use Rattle.net_document.specs.Refusals.{fault_of}
 use Rattle.net_build.proofs.Faults.{listed_well, outputs_distinct}

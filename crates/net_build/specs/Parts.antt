@@ -12,8 +12,8 @@ use Rattle.net_theory.specs.NetLaws.{IsGrowth}
 use Rattle.net_theory.specs.Dependence.{IsFirstCyclic}
 use Rattle.net_core.specs.declared.error.NetError.{NetError}
 use Rattle.net_core.specs.declared.error.NetError.TheVariants.{Memory, Cycle}
-use Rattle.net_theory.specs.Visit.{Graph}
-use Rattle.net_theory.specs.VisitLaws.{IsRun}
+use Rattle.graph_core.specs.Visit.{Graph}
+use Rattle.graph_core.specs.VisitLaws.{IsRun}
 
 -- a table with another cover of its first input alone, where there is one
 abbrev pub merged_by : Table → Option Cover → Table

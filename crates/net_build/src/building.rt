@@ -5,7 +5,7 @@ ghost use Rattle.indexmap.specs.IndexMap.{get};
 ghost use Rattle.net_theory.specs.Net.{IsNet};
 ghost use Rattle.net_theory.specs.Document.{is_same};
 ghost use Rattle.net_theory.specs.WellFormed.{IsWellFormed};
-ghost use Rattle.net_theory.specs.VisitLaws.{IsOrder};
+ghost use Rattle.graph_core.specs.VisitLaws.{IsOrder};
 ghost use Rattle.net_theory.specs.NetOf.{grown_by, table_built, with_table, with_tables, graph_of, with_sources, source_count, net_in_order};
 ghost use Rattle.net_theory.specs.Document.{source_names};
 ghost use Rattle.net_build.specs.Parts.{growth, AreBelow, Fits, FitsTable, IsBegun};

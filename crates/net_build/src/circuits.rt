@@ -2,7 +2,7 @@
 
 ghost use Rattle.std.specs.Prelude.{◌≡◌, ℕ, ◌+◌, ◌*◌, ◌<◌, ◌^◌, List, map, length, true, Some, None, IfOk, IfErr, OnOk};
 ghost use Rattle.net_theory.specs.Document.{latch_of, are_distinct, table_output};
-ghost use Rattle.net_theory.specs.Visit.{order_of};
+ghost use Rattle.graph_core.specs.Visit.{order_of};
 ghost use Rattle.net_theory.specs.Cost.{cost};
 ghost use Rattle.net_theory.specs.Dependence.{IsFirstCyclic};
 ghost use Rattle.net_theory.specs.WellFormed.{IsWellFormed};
@@ -16,7 +16,8 @@ ghost use Rattle.net_build.specs.Parts.{IsCyclicError};
 use crate::building::{grow, table_at};
 use crate::checks::check;
 use crate::signals::graph_of;
-use net_core::{Circuit, Latch, Name, Net, NetError, Reads, first_cyclic, visit_all};
+use graph_core::{Reads, first_cyclic, visit_all};
+use net_core::{Circuit, Latch, Name, Net, NetError};
 use net_document::{Document, LatchLine, Listed};
 use std::alloc::{AllocError, Global};
 

@@ -9,7 +9,8 @@ ghost use Rattle.net_theory.specs.Document.{latch_of, latch_input, latch_output,
 ghost use Rattle.net_build.specs.Parts.{graph_by as graph_by_drivers, with_driver};
 
 use indexmap::IndexMap;
-use net_core::{Name, Reads, Sig};
+use graph_core::Reads;
+use net_core::{Name, Sig};
 use net_document::{Document, LatchLine, Table};
 use std::alloc::{AllocError, Global};
 

@@ -5,7 +5,5 @@ pub mod Wide
 pub mod Expansions
 pub mod NamingLemmas
 pub mod Firsts
-pub mod Visits
-pub mod CycleLemmas
 pub mod CostLemmas
 pub mod WholeTables

@@ -1,13 +1,13 @@
 -- Tables that join all their inputs.
-use Rattle.std.proofs.Common.{◌≡◌, ℕ, ◌+◌, ◌-◌, ◌≤◌, ◌<◌, Bool, true, false, not, if◌then◌else◌, List, [], ◌∷◌, length, refl, ◌∙◌, ap, sym, subst, arith}
+use Rattle.std.proofs.Common.{◌≡◌, ℕ, ◌-◌, ◌≤◌, ◌<◌, Bool, true, false, not, if◌then◌else◌, List, [], ◌∷◌, length, refl, ◌∙◌, ap, sym, arith}
 use Rattle.std.proofs.lemmas.Grind.{common_steps}
 use Rattle.net_theory.specs.declared.data.Sig.{Sig}
 use Rattle.net_theory.specs.declared.data.Gate.{Gate}
-use Rattle.net_theory.specs.Cover.{Cover, IsCover, is_odd, cover_value}
+use Rattle.net_theory.specs.Cover.{IsCover, is_odd, cover_value}
 use Rattle.net_theory.specs.Cost.{cover_cost, wide_cost}
 use Rattle.net_theory.specs.Expansion.{unsigned, join_all, finished_by, wide_built, expanded}
 use Rattle.net_theory.specs.ExpansionLaws.{length-unsigned}
-use Rattle.net_theory.specs.Whole.{and_cover, or_cover, xor_cover, value_where}
+use Rattle.net_theory.specs.Whole.{value_where}
 use Rattle.net_theory.specs.WholeLaws.{and_cover_is, or_cover_is, xor_cover_is, and_value, or_value, xor_value, and_built, or_built_wide, xor_built, and_cost, or_cost, xor_cost}
 use Rattle.net_core.specs.declared.joining.Connective.{Connective}
 use Rattle.net_core.specs.declared.joining.Connective.TheVariants.{And, Or, Xor}

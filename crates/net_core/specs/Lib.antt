@@ -7,7 +7,6 @@ pub use Rattle.net_theory.specs.Dependence
 pub use Rattle.net_theory.specs.Expansion
 pub use Rattle.net_theory.specs.Whole
 pub use Rattle.net_theory.specs.Cost
-pub use Rattle.net_theory.specs.Visit
 pub use Rattle.net_theory.specs.NetOf
 pub use Rattle.net_theory.specs.WellFormed
 pub use Rattle.net_theory.specs.Circuit
@@ -17,10 +16,7 @@ pub use Rattle.net_theory.specs.Answers
 pub use Rattle.net_theory.specs.Dead
 pub use Rattle.net_theory.specs.Naming
 pub use Rattle.net_theory.specs.BuiltLaws
-pub use Rattle.net_theory.specs.VisitLaws
 pub mod Marks
 pub mod Growing
 pub mod Wholes
 pub mod Names
-pub mod Frames
-pub mod Cycles

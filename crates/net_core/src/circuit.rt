@@ -1,3 +1,5 @@
+//! Circuits: nets whose sources and sinks have names.
+
 ghost use Rattle.std.specs.Prelude.{◌≡◌, IfOk};
 ghost use Rattle.net_theory.specs.Document.{Document};
 ghost use Rattle.net_theory.specs.Circuit.{IsProper, Describes};

@@ -1,3 +1,5 @@
+//! Covers as the Berkeley BLIF manual writes them: cubes, and whether they are for the value 1 or 0.
+
 ghost use Rattle.std.specs.Prelude.{◌≡◌};
 
 use std::marker::Model;

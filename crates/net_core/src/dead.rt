@@ -1,6 +1,6 @@
 //! Dead gates go: what the sinks reach is marked, and the marked gates are kept in their order.
 
-ghost use Rattle.std.specs.Prelude.{◌≡◌, ℕ, ◌+◌, length, IfOk, vec_len};
+ghost use Rattle.std.specs.Prelude.{◌≡◌, ◌+◌, length, IfOk, vec_len};
 ghost use Rattle.net_theory.specs.Net.{end_of};
 ghost use Rattle.net_theory.specs.Reach.{live};
 ghost use Rattle.net_theory.specs.Moving.{nothing_kept, kept_after};

@@ -1,3 +1,5 @@
+//! Why the text of a netlist is refused.
+
 ghost use Rattle.std.specs.Prelude.{◌≡◌};
 ghost use Rattle.net_core.specs.declared.error.NetError.TheVariants.{Memory};
 

@@ -1,6 +1,6 @@
 //! The values of a net's places.
 
-ghost use Rattle.std.specs.Prelude.{◌≡◌, ℕ, ◌+◌, ◌≤◌, ◌<◌, ◌^◌, length};
+ghost use Rattle.std.specs.Prelude.{◌≡◌, ℕ, ◌+◌, ◌≤◌, ◌<◌, length};
 ghost use Rattle.net_theory.specs.Net.{IsSigBelow, AreGates, bit_of, sig_value, values_of, value, end_of};
 
 use crate::net::Net;

@@ -1,11 +1,11 @@
 //! A table becomes gates. What the gates are is said in `specs/Expansion.antt` of `net_theory`.
 
-ghost use Rattle.std.specs.Prelude.{◌≡◌, ℕ, ◌+◌, ◌-◌, ◌≤◌, ◌<◌, ◌^◌, ◌&&◌, not, if◌then◌else◌, [], ◌∷◌, length, map, take, vec_len, All, OnOk, OnErr, IfOk};
+ghost use Rattle.std.specs.Prelude.{◌≡◌, ◌+◌, ◌-◌, ◌≤◌, ◌<◌, ◌^◌, ◌&&◌, [], length, map, vec_len, All, OnOk, OnErr, IfOk};
 ghost use Rattle.std.specs.List.{list_any};
 ghost use Rattle.net_theory.specs.Net.{IsSigBelow, sig_value, values_of, end_of};
 ghost use Rattle.net_theory.specs.Cover.{IsCover, cover_value as cover_value_of};
-ghost use Rattle.net_theory.specs.Cost.{cover_cost, wide_cost, literal_count, literal_sum};
-ghost use Rattle.net_theory.specs.Expansion.{constant_sig, gate_of, with_not, unary_built, binary_built, literals as literals_of, terms_from, or_built, complemented as complemented_of, last_complemented, finished_by, asks_nothing as asks_nothing_of, is_none, is_plain as is_plain_of, wide_built, expanded};
+ghost use Rattle.net_theory.specs.Cost.{cover_cost, wide_cost, literal_sum};
+ghost use Rattle.net_theory.specs.Expansion.{constant_sig, with_not, unary_built, binary_built, literals as literals_of, terms_from, complemented as complemented_of, last_complemented, finished_by, asks_nothing as asks_nothing_of, is_plain as is_plain_of, wide_built, expanded};
 ghost use Rattle.net_theory.specs.BuiltLaws.{IsBuilt};
 ghost use Rattle.net_theory.specs.WideLaws.{AreTerms};
 ghost use Rattle.net_theory.specs.declared.data.Gate.{Gate};

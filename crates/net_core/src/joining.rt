@@ -1,6 +1,6 @@
 //! Signals are joined by gates: AND, OR or XOR of several, from the left.
 
-ghost use Rattle.std.specs.Prelude.{◌≡◌, ℕ, ◌+◌, ◌≤◌, ◌<◌, ◌^◌, length, vec_len, OnOk, IfOk};
+ghost use Rattle.std.specs.Prelude.{◌≡◌, ◌+◌, ◌≤◌, ◌<◌, ◌^◌, length, vec_len, OnOk, IfOk};
 ghost use Rattle.net_theory.specs.Expansion.{with_gate, joined, join_from, join_all as join_all_of};
 ghost use Rattle.net_core.specs.Growing.{built, joint, word_of, IsFront};
 

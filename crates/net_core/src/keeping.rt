@@ -1,7 +1,7 @@
 //! Gates that are kept, in their order, at new places: a table says where each old place went, and the
 //! marked gates are put behind those that are there, with their operands where they went.
 
-ghost use Rattle.std.specs.Prelude.{◌≡◌, ℕ, ◌+◌, ◌<◌, ◌^◌, length, map, All, OnOk, IfOk, vec_len};
+ghost use Rattle.std.specs.Prelude.{◌≡◌, ◌+◌, ◌<◌, ◌^◌, length, map, All, OnOk, IfOk, vec_len};
 ghost use Rattle.net_theory.specs.Net.{IsSigBelow, IsGateAt};
 ghost use Rattle.net_theory.specs.Moving.{sources_stay, moved as moved_of, with_kept, kept_after, marked_count};
 ghost use Rattle.net_core.specs.Marks.{set_of, places_of, kept, AreAt};

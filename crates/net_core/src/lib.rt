@@ -1,6 +1,6 @@
 //! Nets of two-input gates and circuits, which are nets with names: values, gates that nothing reads, the
-//! gates that a table becomes, names for gates where a circuit is written, and the order in which tables
-//! are read. What all of it means is said in the definitions of `net_theory`.
+//! gates that a table becomes, and names for gates where a circuit is written. What all of it means is
+//! said in the definitions of `net_theory`.
 //!
 //! The one theorem: a table that `expand` puts behind a net has a signal whose value is the table's under
 //! every assignment, with as many gates as the table costs, and `drop_dead` keeps exactly the gates that
@@ -13,10 +13,8 @@
 #![tactic(auto)]
 
 mod circuit;
-mod components;
 mod costs;
 mod cover;
-mod cycles;
 mod dead;
 mod error;
 mod evaluation;
@@ -28,13 +26,11 @@ mod name;
 mod naming;
 mod net;
 mod truth;
-mod visiting;
 mod whole;
 
 pub use circuit::{Circuit, Latch};
 pub use costs::cover_cost;
 pub use cover::{Cover, Cube};
-pub use cycles::first_cyclic;
 pub use dead::drop_dead;
 pub use error::NetError;
 pub use evaluation::values;
@@ -48,7 +44,6 @@ pub use net::Net;
 pub use net_theory::{Gate, Sig, Trigger};
 pub use op_basis::Op;
 pub use truth::{binary_word, cover_value, unary_word};
-pub use visiting::{Reads, visit_all};
 pub use whole::{Body, Whole, body_cost, body_value};
 
 #[cfg(test)]

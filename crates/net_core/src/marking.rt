@@ -1,7 +1,7 @@
 //! Marks on the places of a net: the gates that marked gates read are marked from the last to the first,
 //! so that in one pass everything is marked that the first marks reach.
 
-ghost use Rattle.std.specs.Prelude.{◌≡◌, ℕ, ◌+◌, length, All};
+ghost use Rattle.std.specs.Prelude.{◌≡◌, ◌+◌, length, All};
 ghost use Rattle.net_theory.specs.Net.{IsSigBelow, end_of};
 ghost use Rattle.net_theory.specs.Reach.{with_mark, marked as marked_of, reach};
 ghost use Rattle.net_core.specs.Marks.{set_of, sink_marks, AreAt};

@@ -1,6 +1,6 @@
 //! The names of gates where a circuit is written.
 
-ghost use Rattle.std.specs.Prelude.{◌≡◌, ℕ, ◌+◌, ◌-◌, ◌≤◌, ◌<◌, ◌^◌, [], ◌++◌, length, map, slice_get, vec_len, All, OnOk, IfOk};
+ghost use Rattle.std.specs.Prelude.{◌≡◌, ◌+◌, ◌-◌, ◌≤◌, ◌<◌, [], length, map, slice_get, vec_len, All, OnOk, IfOk};
 ghost use Rattle.std.specs.List.{filter_map};
 ghost use Rattle.net_theory.specs.Document.{has, latch_output};
 ghost use Rattle.net_theory.specs.Naming.{control_of, taken_set, numbered as numbered_of, each_once, free_names, first_free, rest_free, named, names_after, names_in, gate_names as gate_names_of, first_spare as first_spare_of, second_spare as second_spare_of};

@@ -1,3 +1,6 @@
+//! Nets of two-input gates. That operands are earlier places is the invariant of the type, so that a walk
+//! over the gates in order meets no place before its value.
+
 ghost use Rattle.std.specs.Prelude.{◌≡◌, All};
 ghost use Rattle.net_theory.specs.Net.{IsNet, IsSigBelow, end_of};
 
@@ -61,6 +64,7 @@ impl Net {
     {
         &self.sinks
     }
+
     /// The net with other sinks.
     pub fn with_sinks(self, sinks: Vec<Sig>) -> Net
         requires { All (IsSigBelow (end_of self)) sinks.items }

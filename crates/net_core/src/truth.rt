@@ -1,6 +1,6 @@
 //! The values of covers, cube by cube.
 
-ghost use Rattle.std.specs.Prelude.{◌≡◌, ◌<◌, [], ◌∷◌, false, true};
+ghost use Rattle.std.specs.Prelude.{◌≡◌, ◌<◌, false, true};
 ghost use Rattle.net_theory.specs.Cover.{is_asked as is_asked_of, matches as matches_of, is_matched as is_matched_of, cover_value as cover_value_of};
 ghost use Rattle.net_theory.specs.Expansion.{digit_of, unary_word as unary_word_of, binary_word as binary_word_of};
 

@@ -2,7 +2,7 @@
 //! covers AND has one cube, OR one for each input and XOR none that is short, so none of them is spelled:
 //! value, cost and gates are worked out from the connective.
 
-ghost use Rattle.std.specs.Prelude.{◌≡◌, ℕ, ◌+◌, ◌≤◌, ◌<◌, ◌^◌, length, vec_len, map, false, true, IfOk, OnErr};
+ghost use Rattle.std.specs.Prelude.{◌≡◌, ◌+◌, ◌≤◌, ◌<◌, ◌^◌, length, vec_len, false, true, IfOk, OnErr};
 ghost use Rattle.std.specs.List.{list_all, list_any};
 ghost use Rattle.net_theory.specs.Whole.{itself};
 ghost use Rattle.net_theory.specs.Cover.{is_odd as is_odd_of, cover_value as cover_value_of};

@@ -14,8 +14,8 @@ use Rattle.net_theory.specs.Document.{Name, has, Latch, LatchLine, Document, lat
 use Rattle.net_theory.specs.NameLaws.{has_place, has_at, has_left, has_right, has_either, has_map_place, distinct_left, all_at, at_all, all_has, has_all, at_map}
 use Rattle.net_theory.specs.Behaviour.{HoldsIn, IsMapOf, HasOneMap}
 use Rattle.net_theory.specs.Cost.{cost}
-use Rattle.net_theory.specs.Visit.{has_ended, order_of}
-use Rattle.net_theory.specs.VisitLaws.{IsOrder, order_is}
+use Rattle.graph_core.specs.Visit.{has_ended, order_of}
+use Rattle.graph_core.specs.VisitLaws.{IsOrder, order_is}
 use Rattle.net_theory.specs.NetOf.{graph_of, signal_of, Growth, with_tables, sources_only, source_count, net_in_order, net_of}
 use Rattle.net_theory.specs.GraphLaws.{graph_closed, length-graph_of}
 use Rattle.net_theory.specs.WellFormed.{IsFreeOf, IsLatch, IsLatchLine, IsWellFormed}

@@ -1,5 +1,5 @@
 -- Dead gates: those that no sink reads, directly or through gates.
-use Rattle.std.specs.Prelude.{ℕ, ◌+◌, map}
+use Rattle.std.specs.Prelude.{◌+◌, map}
 use Rattle.net_theory.specs.Net.{Net}
 use Rattle.net_theory.specs.Reach.{live}
 use Rattle.net_theory.specs.Moving.{Kept, moved, kept_after, nothing_kept}

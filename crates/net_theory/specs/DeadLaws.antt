@@ -1,8 +1,7 @@
 -- Dropping dead gates leaves a net without any that answers the same.
-use Rattle.std.specs.Prelude.{◌≡◌, ℕ, zero, suc, ◌+◌, ◌≤◌, ◌<◌, Bool, true, false, ◌&&◌, List, [], ◌∷◌, length, slice_get, slice_index_or, map, Some, ◌⊎◌, refl}
+use Rattle.std.specs.Prelude.{◌≡◌, ℕ, zero, suc, ◌+◌, ◌≤◌, ◌<◌, Bool, true, ◌&&◌, List, [], ◌∷◌, length, slice_get, slice_index_or, map, Some, ◌⊎◌, refl}
 use Rattle.std.proofs.Common.{arith, sym, ◌∙◌, ap, subst, inl, inr, ⊎_elim}
 use Rattle.std.proofs.lemmas.Bool.{and_parts, and_from, cases_lt}
-use Rattle.std.proofs.lemmas.Option.{slice_get_within}
 use Rattle.std.proofs.lemmas.List.{length-map}
 use Rattle.net_theory.specs.declared.data.Sig.{Sig}
 use Rattle.net_theory.specs.declared.data.Sig.TheVariants.{Zero, One, Place}
@@ -11,7 +10,7 @@ use Rattle.net_theory.specs.Net.{Net, IsNet, IsSigBelow, end_of, sig_value, valu
 use Rattle.net_theory.specs.NameLaws.{all_at, at_all, map_at, at_map}
 use Rattle.net_theory.specs.Reach.{ReadsPlace, IsClosedFrom, IsReached, is_sink, live}
 use Rattle.net_theory.specs.ReachLaws.{sink_in, in_sinks, reach_closed, marked_reached}
-use Rattle.net_theory.specs.Moving.{Kept, moved, moved_gate, nothing_kept}
+use Rattle.net_theory.specs.Moving.{moved, moved_gate, nothing_kept}
 use Rattle.net_theory.specs.MovingLaws.{Goes, IsMade, IsMarked, Moves, IsSourcePlace, moves_less, moved_below, moved_value, moves_start, net_movable, keep_all, count_kept, marked_few, kept_goes, kept_made, places_low, source_stays}
 use Rattle.net_theory.specs.Dead.{kept_gates, dropped}
 use Rattle.net_theory.specs.Answers.{IsStill, Answers, IsPruned}

@@ -9,9 +9,9 @@ use Rattle.std.proofs.lemmas.List.{length-map}
 use Rattle.net_theory.specs.Document.{Name, is_same, has, are_distinct, Table, Document, table_output}
 use Rattle.net_theory.specs.NameLaws.{same_name, same_itself, has_cases, has_none, has_first, has_later, has_map_at, distinct_cons, map_at}
 use Rattle.net_theory.specs.Dependence.{Reads, DependsOn, at_once, by_way_of, IsAcyclic}
-use Rattle.net_theory.specs.Visit.{Graph, reads_of, has_ended, order_of}
-use Rattle.net_theory.specs.VisitLaws as visit
-use Rattle.net_theory.specs.VisitLaws.{IsClosed, IsOrder, LeadsTo, order_is, order_apart, no_order}
+use Rattle.graph_core.specs.Visit.{Graph, reads_of, has_ended, order_of}
+use Rattle.graph_core.specs.VisitLaws as visit
+use Rattle.graph_core.specs.VisitLaws.{IsClosed, LeadsTo, order_is, order_apart, no_order}
 use Rattle.net_theory.specs.NetOf.{driver_from, driver_of, graph_of}
 
 -- ---- drivers

@@ -15,8 +15,6 @@ pub mod WideLaws
 pub mod ExpansionLaws
 pub mod WholeLaws
 pub mod MergedLaws
-pub mod Visit
-pub mod VisitLaws
 pub mod NetOf
 pub mod GraphLaws
 pub mod WellFormed

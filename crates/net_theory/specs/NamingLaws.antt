@@ -1,8 +1,8 @@
--- The names of gates are names, differ from one another and from all that are taken.
-use Rattle.std.specs.Prelude.{◌≡◌, ℕ, zero, suc, ◌+◌, ◌-◌, ◌≤◌, ◌<◌, Bool, true, false, not, ◌==◌, if◌then◌else◌, List, [], ◌∷◌, ◌++◌, length, map, filter, slice_get, slice_index_or, Option, Some, None, decimal, ◌⊎◌, refl}
-use Rattle.std.proofs.Common.{arith, sym, ◌∙◌, ap, subst, inl, inr, ⊎_elim}
+-- The names of gates depend on the outputs that stand on their places, and on no others.
+use Rattle.std.specs.Prelude.{◌≡◌, ℕ, ◌+◌, ◌-◌, ◌≤◌, ◌<◌, List, [], ◌∷◌, length, Option, refl}
+use Rattle.std.proofs.Common.{arith, ◌∙◌, ap}
 use Rattle.net_theory.specs.declared.data.Gate.{Gate}
-use Rattle.net_theory.specs.Document.{Name, has, are_distinct}
+use Rattle.net_theory.specs.Document.{Name}
 use Rattle.net_theory.specs.Naming.{Naming, named, names_after}
 
 -- the names depend on the outputs of the gates' places alone

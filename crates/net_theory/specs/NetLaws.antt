@@ -21,8 +21,8 @@ use Rattle.net_theory.specs.Expansion.{Built}
 use Rattle.net_theory.specs.ExpansionLaws.{expanded_is, bits_of}
 use Rattle.net_theory.specs.Cost.{merged_table, cover_cost, table_cost}
 use Rattle.net_theory.specs.MergedLaws.{IsMerged, merged_is, cover_cost-map}
-use Rattle.net_theory.specs.Visit.{reads_of, has_ended}
-use Rattle.net_theory.specs.VisitLaws.{Comes, IsRun, ended_append, ended_left, ended_last, ended_cases}
+use Rattle.graph_core.specs.Visit.{reads_of, has_ended}
+use Rattle.graph_core.specs.VisitLaws.{Comes, IsRun, ended_append, ended_left, ended_last, ended_cases}
 use Rattle.net_theory.specs.NetOf.{driver_of, graph_of, Signals, with_signal, with_sources, signal_of, Growth, table_built, grown_by, with_table, with_table_at, with_tables, sources_only, source_count}
 use Rattle.net_theory.specs.GraphLaws.{Drives, driver_finds, driver_found, reads_of-graph, kept_in, length-graph_of}
 use Rattle.net_theory.specs.WellFormed.{IsTable, IsWellFormed}

@@ -9,7 +9,7 @@ use Rattle.net_theory.specs.Net.{Net}
 use Rattle.net_theory.specs.Document.{Name, is_same, Table, Document, source_names, sink_names}
 use Rattle.net_theory.specs.Cost.{merged_table}
 use Rattle.net_theory.specs.Expansion.{Built, expanded}
-use Rattle.net_theory.specs.Visit.{Graph, order_of}
+use Rattle.graph_core.specs.Visit.{Graph, order_of}
 
 -- ---- who reads whom
 

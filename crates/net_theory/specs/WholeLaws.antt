@@ -1,17 +1,17 @@
 -- Covers of all inputs at once are what their names say, and become gates that join the inputs from the
 -- left, one less than there are inputs.
-use Rattle.std.specs.Prelude.{◌≡◌, ℕ, zero, suc, ◌+◌, ◌-◌, ◌≤◌, ◌<◌, Bool, true, false, not, ◌&&◌, ◌||◌, ◌==◌, if◌then◌else◌, List, [], ◌∷◌, ◌++◌, length, map, count_by, All, refl}
+use Rattle.std.specs.Prelude.{◌≡◌, ℕ, zero, suc, ◌+◌, ◌-◌, ◌≤◌, ◌<◌, Bool, true, false, not, ◌&&◌, ◌||◌, ◌==◌, if◌then◌else◌, List, [], ◌∷◌, ◌++◌, length, map, count_by, refl}
 use Rattle.std.specs.List.{list_any, list_all, AllByRecursion}
-use Rattle.std.proofs.Common.{arith, sym, ◌∙◌, ap, subst, append-nil, append_assoc, ◌≢◌}
+use Rattle.std.proofs.Common.{arith, sym, ◌∙◌, ap, append-nil, append_assoc}
 use Rattle.std.proofs.lemmas.Bool.{cond-false, eqb-true, eq-eqb, ne_eqb, and_from, and_parts}
 use Rattle.std.proofs.lemmas.List.Elements.{All-from_recursion}
 use Rattle.std.proofs.lemmas.List.Sums.{sum_by-cons}
 use Rattle.net_theory.specs.declared.data.Sig.{Sig}
 use Rattle.net_theory.specs.declared.data.Gate.{Gate}
 use Rattle.net_theory.specs.declared.data.Signed.{Signed}
-use Rattle.net_theory.specs.Cover.{Cover, IsCover, is_cube, is_cube_byte, matches, is_matched, is_odd, value_by, cover_value}
-use Rattle.net_theory.specs.Cost.{literal_count, literal_sum, is_not, cubes_cost, wide_cost}
-use Rattle.net_theory.specs.Expansion.{Joined, Terms, Built, signed, unsigned, literals, join_from, join_all, and_word, or_word, xor_word, terms_from, or_built, asks_nothing, is_none, is_plain, finished_by, cover_built, parity_built, wide_built}
+use Rattle.net_theory.specs.Cover.{IsCover, is_cube, is_cube_byte, matches, is_matched, is_odd, value_by, cover_value}
+use Rattle.net_theory.specs.Cost.{literal_count, literal_sum, cubes_cost, wide_cost}
+use Rattle.net_theory.specs.Expansion.{Joined, Terms, signed, unsigned, literals, join_from, join_all, and_word, or_word, xor_word, terms_from, or_built, asks_nothing, is_plain, finished_by, cover_built, parity_built, wide_built}
 use Rattle.net_theory.specs.Whole.{ones, dashes, single_ones, and_cover, or_cover, xor_cover, itself, value_where}
 
 -- ---- they are covers

@@ -1,3 +1,5 @@
+//! The data of nets: signals, gates, and how latches are triggered.
+
 use op_basis::Op;
 
 /// What an operand of a gate or a sink of a net is.

@@ -1,5 +1,5 @@
 //! What the definitions come to. Each law is the contract of a function that does nothing.
-ghost use Rattle.std.specs.Prelude.{◌≡◌, ℕ, ◌+◌, ◌-◌, ◌≤◌, ◌<◌, ◌^◌, ◌↔◌, Bool, true, map, length, slice_get, Some, List, Option};
+ghost use Rattle.std.specs.Prelude.{◌≡◌, ℕ, ◌+◌, ◌-◌, ◌≤◌, ◌<◌, ◌^◌, ◌↔◌, Bool, true, map, length, slice_get, Some, List};
 ghost use Rattle.std.specs.List.{list_any, list_all};
 ghost use Rattle.net_theory.specs.declared.data.Gate.{Gate};
 ghost use Rattle.net_theory.specs.declared.data.Sig.{Sig};
@@ -13,7 +13,7 @@ ghost use Rattle.net_theory.specs.Cost.{cover_cost, wide_cost};
 ghost use Rattle.net_theory.specs.Whole.{and_cover, or_cover, xor_cover, itself, value_where};
 ghost use Rattle.net_theory.specs.BuiltLaws.{IsBuilt};
 ghost use Rattle.net_theory.specs.WideLaws.{AreSigsBelow};
-ghost use Rattle.net_theory.specs.Visit.{order_of};
+ghost use Rattle.graph_core.specs.Visit.{order_of};
 ghost use Rattle.net_theory.specs.NetOf.{graph_of, source_count};
 ghost use Rattle.net_theory.specs.WellFormed.{IsWellFormed};
 ghost use Rattle.net_theory.specs.Circuit.{Circuit, IsProper, Describes, IsCircuitOf};

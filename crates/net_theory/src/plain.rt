@@ -1,6 +1,6 @@
 //! The definitions, computed as they stand: recursion over cubes and gates. It is meant for reading
 //! and for small inputs, and takes exponential time.
-ghost use Rattle.std.specs.Prelude.{◌≡◌, ℕ, ◌+◌, ◌-◌, ◌<◌, ◌^◌, length, false, slice_index_or};
+ghost use Rattle.std.specs.Prelude.{◌≡◌, ◌+◌, ◌-◌, ◌<◌, ◌^◌, length, false};
 ghost use Rattle.net_theory.specs.Cover.{is_asked as is_asked_of, matches as matches_of};
 ghost use Rattle.net_theory.specs.Net.{bit_of, values_of, sig_value as sig_value_of};
 

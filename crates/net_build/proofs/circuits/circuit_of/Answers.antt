@@ -1,6 +1,6 @@
 use Rattle.std.proofs.Common.{◌≡◌, ℕ, List, Some, sym, subst, ap}
 use Rattle.net_theory.specs.Document.{Document}
-use Rattle.net_theory.specs.Visit.{order_of}
+use Rattle.graph_core.specs.Visit.{order_of}
 use Rattle.net_theory.specs.NetOf.{graph_of}
 use Rattle.net_theory.specs.WellFormed.{IsWellFormed}
 use Rattle.net_document.specs.Listed.{Listed}

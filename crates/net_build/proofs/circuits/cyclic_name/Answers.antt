@@ -1,11 +1,11 @@
 use Rattle.std.proofs.Common.{◌≡◌, ℕ, ◌+◌, ◌<◌, List, length, None, Option, subst, sym, ap, ◌∙◌, arith}
 use Rattle.net_theory.specs.Document.{Table}
-use Rattle.net_theory.specs.Visit.{Graph, order_of}
-use Rattle.net_theory.specs.VisitLaws.{IsClosed}
+use Rattle.graph_core.specs.Visit.{Graph, order_of}
+use Rattle.graph_core.specs.VisitLaws.{IsClosed}
 use Rattle.net_theory.specs.NetOf.{graph_of}
 use Rattle.net_theory.specs.GraphLaws.{graph_closed, length-graph_of}
 use Rattle.net_theory.specs.Dependence.{IsFirstCyclic}
-use Rattle.net_core.specs.Cycles.{IsFirstLeading}
+use Rattle.graph_core.specs.Cycles.{IsFirstLeading}
 use Rattle.net_build.proofs.Wholes.{cyclic_first, cyclic_low, no_cyclic}
 use Rattle.net_build.proofs.circuits.cyclic_name.Goals as goal
 

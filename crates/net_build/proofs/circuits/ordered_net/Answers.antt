@@ -1,6 +1,6 @@
 use Rattle.std.proofs.Common.{◌≡◌, ◌+◌, ◌<◌, ◌^◌, ℕ, List, length, Some, sym, subst, ap, ◌∙◌, arith}
 use Rattle.net_theory.specs.Net.{Net}
-use Rattle.net_theory.specs.Visit.{order_of}
+use Rattle.graph_core.specs.Visit.{order_of}
 use Rattle.net_theory.specs.NetOf.{graph_of}
 use Rattle.net_theory.specs.Circuit.{IsCircuitOf}
 use Rattle.net_theory.specs.CircuitLaws.{circuit_of, circuit_is}

@@ -1,0 +1,33 @@
+-- Nodes that were entered and haven't ended.
+use Rattle.std.specs.Prelude.{ℕ, ◌+◌, zero, suc, Bool, true, false, List, [], ◌∷◌, Option, Some, None, sum_by}
+use Rattle.graph_core.specs.Visit.{Graph, reads_of, each, put_last, visit}
+
+pub record Entered : Type 0 where
+  pub node : ℕ
+  pub left : List ℕ
+  pub depth : ℕ
+
+-- a visit that was told to have ended, and its order
+abbrev pub told : Bool → List ℕ → Option (List ℕ)
+told true order = Some order
+told false order = None
+
+-- what is still to be done for a node
+unfoldable pub ended : Graph → Entered → Option (List ℕ) → Option (List ℕ)
+ended g f order = put_last f.node (each (visit g f.depth) order f.left)
+
+-- and for several, the last one first
+unfoldable pub all_ended : Graph → List Entered → Option (List ℕ) → Option (List ℕ)
+all_ended g [] order = order
+all_ended g (f ∷ fs) order = ended g f (all_ended g fs order)
+
+-- how many turns a visit takes at most
+unfoldable pub turns : Graph → ℕ → ℕ → ℕ
+turns g zero t = 1
+turns g (suc depth) t = 2 + sum_by (turns g depth) (reads_of g t)
+
+unfoldable pub frame_turns : Graph → Entered → ℕ
+frame_turns g f = 1 + sum_by (turns g f.depth) f.left
+
+unfoldable pub all_turns : Graph → List Entered → ℕ
+all_turns g fs = sum_by (frame_turns g) fs

@@ -1,0 +1,4 @@
+pub mod Visit
+pub mod VisitLaws
+pub mod Frames
+pub mod Cycles

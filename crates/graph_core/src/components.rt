@@ -1,0 +1,149 @@
+//! Numbers for nodes that fall from a node to those that it reads, and stay equal round a cycle: the
+//! strongly connected components in the order in which Tarjan's search ends them. Nothing is promised of
+//! them: whoever uses them checks that they fall.
+
+use crate::visiting::{Reads, reads_of};
+use std::alloc::{AllocError, Global};
+
+/// A node that was entered, and which of its reads comes next.
+#[derive(Clone, Copy)]
+struct Call {
+    node: u32,
+    at: usize,
+}
+
+/// The state of the search. An index or a number of 0 says that none was given.
+#[derive(Drop)]
+struct Search {
+    indices: Vec<u32>,
+    lows: Vec<u32>,
+    numbers: Vec<u32>,
+    open: Vec<u32>,
+    calls: Vec<Call>,
+    next_index: u32,
+    next_number: u32,
+}
+
+/// A cell, or 0 where there is none.
+fn cell(cells: &[u32], at: u32) -> u32 {
+    cells.get(at as usize).copied().unwrap_or(0)
+}
+
+/// Writes a cell, where there is one.
+fn write(cells: &mut [u32], at: u32, value: u32) {
+    if (at as usize) < cells.len() {
+        cells[at as usize] = value;
+    }
+}
+
+/// Lowers a cell to a value.
+fn lower(cells: &mut [u32], at: u32, value: u32) {
+    let least = cell(cells, at).min(value);
+    write(cells, at, least);
+}
+
+impl Search {
+    /// Nothing was entered.
+    fn new(alloc: Global, count: usize) -> Result<Search, AllocError> {
+        Ok(Search {
+            indices: vec![in alloc; 0; count]?,
+            lows: vec![in alloc; 0; count]?,
+            numbers: vec![in alloc; 0; count]?,
+            open: Vec::new(alloc),
+            calls: Vec::new(alloc),
+            next_index: 1,
+            next_number: 1,
+        })
+    }
+
+    /// Enters a node.
+    fn enter(&mut self, node: u32) -> Result<(), AllocError> {
+        write(&mut self.indices, node, self.next_index);
+        write(&mut self.lows, node, self.next_index);
+        self.next_index = self.next_index.saturating_add(1);
+        self.open.push(node)?;
+        Ok(())
+    }
+
+    /// Gives a component its number: the open nodes from the last one down to its first.
+    fn close(&mut self, first: u32) {
+        while let Some(node) = self.open.pop() {
+            write(&mut self.numbers, node, self.next_number);
+            if node == first {
+                break;
+            }
+        }
+        self.next_number = self.next_number.saturating_add(1);
+    }
+
+    /// Leaves a node all of whose reads were looked at.
+    fn leave(&mut self, node: u32) {
+        let low = cell(&self.lows, node);
+        if low == cell(&self.indices, node) {
+            self.close(node);
+        }
+        if let Some(caller) = self.calls.last().copied() {
+            lower(&mut self.lows, caller.node, low);
+        }
+    }
+
+    /// Looks at the next read of a node.
+    fn look(&mut self, call: Call, read: u32) -> Result<(), AllocError> {
+        self.calls.push(Call {
+            node: call.node,
+            at: call.at.saturating_add(1),
+        })?;
+        if cell(&self.indices, read) == 0 {
+            self.calls.push(Call { node: read, at: 0 })?;
+        } else if cell(&self.numbers, read) == 0 {
+            lower(&mut self.lows, call.node, cell(&self.indices, read));
+        }
+        Ok(())
+    }
+
+    /// Takes the call that was put last one step on. False where there is none.
+    fn step(&mut self, graph: &[Reads]) -> Result<bool, AllocError> {
+        let Some(call) = self.calls.pop() else {
+            return Ok(false);
+        };
+        if call.at == 0 {
+            self.enter(call.node)?;
+        }
+        match reads_of(graph, call.node).get(call.at) {
+            Some(read) => self.look(call, *read)?,
+            None => self.leave(call.node),
+        }
+        Ok(true)
+    }
+
+    /// Searches from a node that wasn't entered yet.
+    fn search(&mut self, graph: &[Reads], root: u32) -> Result<(), AllocError> {
+        self.calls.push(Call { node: root, at: 0 })?;
+        for _ in 0..u64::MAX {
+            if !self.step(graph)? {
+                break;
+            }
+        }
+        Ok(())
+    }
+}
+
+/// Numbers for the nodes of a graph, one for each.
+pub fn component_numbers(alloc: Global, graph: &[Reads]) -> Result<Vec<u32>, AllocError> {
+    let mut search = Search::new(alloc, graph.len())?;
+    for root in 0..u32::try_from(graph.len()).unwrap_or(0) {
+        if cell(&search.indices, root) == 0 {
+            search.search(graph, root)?;
+        }
+    }
+    let Search {
+        indices: _,
+        lows: _,
+        numbers,
+        open: _,
+        calls: _,
+        next_index: _,
+        next_number: _,
+    } = search;
+    Ok(numbers)
+}

@@ -1,0 +1,139 @@
+//! The order in which a depth-first visit ends the nodes. The stack is on the heap.
+
+ghost use Rattle.std.specs.Prelude.{◌≡◌, ℕ, ◌<◌, ◌^◌, [], length, slice_index_or, Some, None, Option, IfOk};
+ghost use Rattle.std.specs.Option.{option_map};
+ghost use Rattle.graph_core.specs.Visit.{visit, order_of};
+ghost use Rattle.graph_core.specs.Frames.{told};
+
+use indexmap::IndexSet;
+use std::alloc::{AllocError, Global};
+use std::marker::Model;
+
+/// The nodes that a node reads, in the order of its inputs.
+#[derive(Debug, Drop)]
+pub struct Reads(Vec<u32>);
+
+impl Model for Reads {
+    ghost use Rattle.std.specs.Prelude.{List, ℕ};
+
+    ghost Value = { List ℕ };
+
+    ghost view = { λ r. r.0.items };
+}
+
+impl Reads {
+    /// These nodes.
+    pub fn new(nodes: Vec<u32>) -> Reads
+        ensures { result ≡ nodes.items }
+    {
+        Reads(nodes)
+    }
+
+    /// The nodes.
+    pub fn get(&self) -> &[u32]
+        ensures { result.now ≡ self.now }
+    {
+        &self.0
+    }
+}
+
+/// What a node of a graph reads; nothing where the graph has no such node.
+pub fn reads_of(graph: &[Reads], node: u32) -> &[u32]
+    ensures { result.now ≡ slice_index_or graph.now node [] }
+{
+    if (node as usize) < graph.len() {
+        graph[node as usize].get()
+    } else {
+        &[]
+    }
+}
+
+/// A node that was entered: what is left of what it reads, and how many nodes may still be entered
+/// below it.
+#[derive(Drop)]
+struct Frame<'a> {
+    node: u32,
+    left: &'a [u32],
+    depth: usize,
+}
+
+impl<'a> Model for Frame<'a> {
+    ghost use Rattle.graph_core.specs.Frames as frames;
+
+    ghost Value = { frames.Entered };
+
+    ghost view = { λ f. record { node = f.node; left = f.left.now; depth = f.depth } };
+}
+
+/// Visits a node. False where a path of more nodes than `depth` has no end; the order is of no use
+/// then.
+#[tactic(auto, using(crate::proofs::Visits::visits))]
+fn visit_from(
+    alloc: Global,
+    graph: &[Reads],
+    depth: usize,
+    order: &mut IndexSet<u32>,
+    node: u32,
+) -> Result<bool, AllocError>
+    ensures { IfOk result (λ is_done. told is_done order.new.keys ≡ visit graph.now depth order.old.keys node) }
+{
+    if order.contains(&node) {
+        return Ok(true);
+    }
+    if depth == 0 {
+        return Ok(false);
+    }
+    let mut stack = Vec::new(alloc);
+    stack.push(Frame {
+        node,
+        left: reads_of(graph, node),
+        depth: depth - 1,
+    })?;
+    while let Some(frame) = stack.pop() {
+        let Frame { node, left, depth } = frame;
+        let Some((next, rest)) = left.split_first() else {
+            order.insert(node)?;
+            continue;
+        };
+        stack.push(Frame {
+            node,
+            left: rest,
+            depth,
+        })?;
+        if order.contains(next) {
+            continue;
+        }
+        if depth == 0 {
+            return Ok(false);
+        }
+        stack.push(Frame {
+            node: *next,
+            left: reads_of(graph, *next),
+            depth: depth - 1,
+        })?;
+    }
+    Ok(true)
+}
+
+/// The numbers of a set in the order in which they came.
+fn in_order(alloc: Global, set: &IndexSet<u32>) -> Result<Vec<u32>, AllocError>
+    ensures { IfOk result (λ list. list.items ≡ set.now.keys) }
+{
+    set.iter().copied().collect(alloc)
+}
+
+/// All nodes, each behind those that it reads: the order in which a depth-first visit ends them, over
+/// the nodes in their order. None where some node leads to itself.
+#[tactic(auto, using(crate::proofs::Visits::orders))]
+pub fn visit_all(alloc: Global, graph: &[Reads]) -> Result<Option<Vec<u32>>, AllocError>
+    requires { length graph.now < 2 ^ 32 }
+    ensures { IfOk result (λ order. option_map (λ nodes. nodes.items) order ≡ order_of graph.now) }
+{
+    let mut order = IndexSet::new(alloc);
+    for node in 0..graph.len() as u32 {
+        if !visit_from(alloc, graph, graph.len(), &mut order, node)? {
+            return Ok(None);
+        }
+    }
+    Ok(Some(in_order(alloc, &order)?))
+}
