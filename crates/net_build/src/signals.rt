@@ -8,8 +8,8 @@ ghost use Rattle.net_theory.specs.NetOf.{driver_of, graph_of as graph_of_tables,
 ghost use Rattle.net_theory.specs.Document.{latch_of, latch_input, latch_output, sink_names};
 ghost use Rattle.net_build.specs.Parts.{graph_by as graph_by_drivers, with_driver};
 
-use indexmap::IndexMap;
 use graph_core::Reads;
+use indexmap::IndexMap;
 use net_core::{Name, Sig};
 use net_document::{Document, LatchLine, Table};
 use std::alloc::{AllocError, Global};
