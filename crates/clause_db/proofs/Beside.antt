@@ -9,8 +9,9 @@ use Rattle.std.proofs.lemmas.List.Elements.{All-contains, Contains-get_or}
 use Rattle.sat_theory.specs.Formula.{variable, IsClause, IsWithin}
 use Rattle.cdcl_theory.specs.Codes.{code_of}
 use Rattle.cdcl_theory.specs.CodeLaws.{code_of-same, cases_literal, code_of-room}
-use Rattle.clause_db.specs.Watching.{list_of, pair_of}
-use Rattle.clause_db.specs.WatchingLaws.{list_from, list_to, list_else, listed_none, swap_length, swap_at, swap_other}
+use Rattle.clause_db.specs.Deleting.{lists_left, rows_left}
+use Rattle.clause_db.specs.Watching.{listed_in, list_of, pair_of}
+use Rattle.clause_db.specs.WatchingLaws.{listed-same, listed-other, list_from, list_to, list_else, listed_none, swap_length, swap_at, swap_other}
 use Rattle.clause_db.specs.Stored.{Stored, live_in, Watches, IsStored, none_stored, added, rewatched}
 use Rattle.clause_db.specs.StoredLaws.{live_added, next_is_free}
 use Rattle.clause_db.specs.Moving.{IsMovable, movable_watches, watched_variable, added_lists, first_in, second_in, two_differ}
@@ -222,3 +223,40 @@ blockers_moved s rows id from to m index stored movable are room room_to list_ro
         (subst (λ (ys : List ℤ). IsBeside (λ (k : ℕ) (n : ℤ). IsOf s k n) (list_of s.watches l) ys) (sym (row-other (with_blocker rows to m) from l row apart ∙ row-other rows to l _ other)) (blockers_at s rows l are)))
         (cases_literal l to))
         (cases_literal l from)
+
+-- what has to do with one thing has to do with another
+beside_weaker : (P Q : ℕ → ℤ → Type 0) (ids : List ℕ) (row : List ℤ) → ((id : ℕ) (m : ℤ) → P id m → Q id m) → IsBeside P ids row → IsBeside Q ids row
+beside_weaker P Q ids row weaker old = record { long = old.long; there = λ k low. weaker (slice_index_or ids k 0) (slice_index_or row k (pos 1)) (old.there k low) }
+
+-- An id leaves a literal's list, and what stands beside it leaves the row.
+beside_left : (P : ℕ → ℤ → Type 0) (lists : List (List ℕ)) (rows : List (List ℤ)) (l : ℤ) (index : ℕ) → code_of l < length lists → code_of l < length rows → index < length (listed_in lists l) → ((m : ℤ) → IsBeside P (listed_in lists m) (row_of rows m)) → (m : ℤ) → IsBeside P (listed_in (lists_left lists l index) m) (row_of (rows_left rows l index) m)
+beside_left P lists rows l index room room_row inside each m = ⊎_elim
+    (λ (e : m ≡ l). subst (λ (xs : List ℕ). IsBeside P xs (row_of (rows_left rows l index) m)) (sym (listed-same lists l m (swap_remove (listed_in lists l) index 0) room e))
+    (subst (λ (ys : List ℤ). IsBeside P (swap_remove (listed_in lists l) index 0) ys) (sym (row-same rows l m (swap_remove (row_of rows l) index (pos 1)) room_row e)) (beside_swap P (listed_in lists l) (row_of rows l) index inside (each l))))
+    (λ (apart : m ≡ l → ⊥). subst (λ (xs : List ℕ). IsBeside P xs (row_of (rows_left rows l index) m)) (sym (listed-other lists l m (swap_remove (listed_in lists l) index 0) apart))
+    (subst (λ (ys : List ℤ). IsBeside P (listed_in lists m) ys) (sym (row-other rows l m (swap_remove (row_of rows l) index (pos 1)) apart)) (each m)))
+    (cases_literal m l)
+
+-- A clause goes that two literals watch.
+pub blockers_left : (s new : Stored) (rows : List (List ℤ)) (one other : ℤ) (index place : ℕ) → length s.watches.lists ≡ 2 * s.vars + 2 → AreBlockers s rows → new.vars ≡ s.vars → new.watches.lists ≡ lists_left (lists_left s.watches.lists one index) other place → ((k : ℕ) (m : ℤ) → IsOf s k m → IsOf new k m)
+    → code_of one < length s.watches.lists → code_of other < length s.watches.lists → (other ≡ one → ⊥) → index < length (list_of s.watches one) → place < length (list_of s.watches other) → AreBlockers new (rows_left (rows_left rows one index) other place)
+blockers_left s new rows one other index place lists_room are vars lists of room_one room_other apart inside_one inside_other = blockers_from new (rows_left (rows_left rows one index) other place)
+    (length-set (rows_left rows one index) (code_of other) _ ∙ length-set rows (code_of one) _ ∙ are.room ∙ ap (λ (n : ℕ). 2 * n + 2) (sym vars))
+    (λ l. beside_weaker (λ (k : ℕ) (m : ℤ). IsOf s k m) (λ (k : ℕ) (m : ℤ). IsOf new k m) (list_of new.watches l) (row_of (rows_left (rows_left rows one index) other place) l) of
+    (subst (λ (xs : List (List ℕ)). IsBeside (λ (k : ℕ) (m : ℤ). IsOf s k m) (listed_in xs l) (row_of (rows_left (rows_left rows one index) other place) l)) (sym lists) (second l)))
+  where
+    row_room : (m : ℤ) → code_of m < length s.watches.lists → code_of m < length rows
+    row_room m low = rw (are.room ∙ sym lists_room) low
+
+    first : (m : ℤ) → IsBeside (λ (k : ℕ) (n : ℤ). IsOf s k n) (listed_in (lists_left s.watches.lists one index) m) (row_of (rows_left rows one index) m)
+    first m = beside_left (λ (k : ℕ) (n : ℤ). IsOf s k n) s.watches.lists rows one index room_one (row_room one room_one) inside_one (λ n. blockers_at s rows n are) m
+
+    second : (m : ℤ) → IsBeside (λ (k : ℕ) (n : ℤ). IsOf s k n) (listed_in (lists_left (lists_left s.watches.lists one index) other place) m) (row_of (rows_left (rows_left rows one index) other place) m)
+    second m = beside_left (λ (k : ℕ) (n : ℤ). IsOf s k n) (lists_left s.watches.lists one index) (rows_left rows one index) other place (rw length-set room_other) (rw length-set (row_room other room_other))
+        (subst (λ (xs : List ℕ). place < length xs) (sym (listed-other s.watches.lists one other (swap_remove (listed_in s.watches.lists one) index 0) apart)) inside_other) first m
+
+-- and one that watches nothing
+pub blockers_fewer : (s new : Stored) (rows : List (List ℤ)) → AreBlockers s rows → new.vars ≡ s.vars → new.watches.lists ≡ s.watches.lists → ((k : ℕ) (m : ℤ) → IsOf s k m → IsOf new k m) → AreBlockers new rows
+blockers_fewer s new rows are vars lists of = blockers_from new rows (are.room ∙ ap (λ (n : ℕ). 2 * n + 2) (sym vars))
+    (λ l. beside_weaker (λ (k : ℕ) (m : ℤ). IsOf s k m) (λ (k : ℕ) (m : ℤ). IsOf new k m) (list_of new.watches l) (row_of rows l) of
+    (subst (λ (xs : List (List ℕ)). IsBeside (λ (k : ℕ) (m : ℤ). IsOf s k m) (listed_in xs l) (row_of rows l)) (sym lists) (blockers_at s rows l are)))

@@ -1,13 +1,14 @@
 -- One more clause behind the row of literals.
-use Rattle.std.proofs.Common.{◌≡◌, ℕ, zero, suc, ◌+◌, ◌-◌, ◌<◌, ◌≤◌, ◌==◌, ℤ, Bool, true, false, if◌then◌else◌, List, [], ◌∷◌, ◌++◌, length, slice_get, Option, Some, None, refl, ap, ◌∙◌, sym, subst, arith, take, drop, length-append}
+use Rattle.std.proofs.Common.{slice_index_or, slice_set, IsSome, ◌≡◌, ℕ, zero, suc, ◌+◌, ◌-◌, ◌<◌, ◌≤◌, ◌==◌, ℤ, Bool, true, false, if◌then◌else◌, List, [], ◌∷◌, ◌++◌, length, slice_get, Option, Some, None, refl, ap, ◌∙◌, sym, subst, arith, take, drop, length-append}
 use Rattle.std.specs.List.{slice_range}
 use Rattle.std.specs.Option.{option_flatten}
 use Rattle.std.proofs.lemmas.Bool.{ne_eqb}
-use Rattle.std.proofs.lemmas.List.{drop-append-le, drop_at, take-append-le, take_all, length-drop, map-append, take-map, length-take, length-take-le, get_or-take}
-use Rattle.std.proofs.lemmas.List.Elements.{All-head, All-tail, All-weaker, All-push}
+use Rattle.std.proofs.lemmas.List.{drop-append-le, drop_at, take-append-le, take_all, length-drop, map-append, take-map, length-take, length-take-le, get_or-take, length-map, length-set, map-set}
+use Rattle.std.proofs.lemmas.List.Elements.{All-head, All-tail, All-weaker, All-push, All-set}
 use Rattle.sat_theory.specs.Formula.{IsClause, IsWithin}
 use Rattle.clause_db.specs.Stored.{Entries, AreEntries, live_at}
-use Rattle.clause_db.specs.StoredLaws.{entries_add, flatten_some}
+use Rattle.clause_db.specs.StoredLaws.{entries_add, flatten_some, live_within}
+use Rattle.clause_db.specs.DeletingLaws.{was_live, some_live}
 use Rattle.clause_db.specs.declared.windows.Window.{Window}
 use Rattle.clause_db.specs.Windows.{entry_of, entries_of, AreInside}
 
@@ -115,3 +116,38 @@ entries_front vars row windows front n is low laid =
         few = (let long : length (entries_of row front) ≤ length (entries_of row windows) = rw front_is (rw length-take (omega arith)) in let few : length (entries_of row windows) ≤ 4000000000 = laid.1.few in omega (arith, long, few));
       },
     )
+
+-- the entries with none at an id
+abbrev pub entries_without : Entries → ℕ → Entries
+entries_without e id = record { vars = e.vars; clauses = slice_set e.clauses (id - 1) None }
+
+pub entries_deleted : (e : Entries) (id : ℕ) → 0 < id → AreEntries e → AreEntries (entries_without e id)
+entries_deleted e id some are = record {
+  clauses = λ k c is. are.clauses k c (was_live e.clauses id k c some is).0;
+  variables = λ k c is. are.variables k c (was_live e.clauses id k c some is).0;
+  few = (let long : length (slice_set e.clauses (id - 1) None) ≡ length e.clauses = length-set e.clauses (id - 1) None in let few : length e.clauses ≤ 4000000000 = are.few in omega (arith, long, few));
+}
+
+-- a window that isn't live any more
+pub window_deleted : (row : List ℤ) (windows more : List Window) (index : ℕ) (w : Window) → more ≡ slice_set windows index w → w.live ≡ false → entries_of row more ≡ slice_set (entries_of row windows) index None
+window_deleted row windows more index w is dead =
+    let none : entry_of row w ≡ None = rw dead refl in
+    ap (entries_of row) is ∙ map-set (entry_of row) windows index w ∙ ap (λ (x : Option (List ℤ)). slice_set (entries_of row windows) index x) none
+
+-- A window isn't live any more.
+pub laid_deleted : (s : Entries) (vars : ℕ) (row : List ℤ) (windows more : List Window) (id : ℕ) (v w : Window) → shown vars row windows ≡ s → IsSome (live_at s.clauses id) → v ≡ slice_index_or windows (id - 1) v → w.start ≡ v.start → w.end ≡ v.end → w.live ≡ false → more ≡ slice_set windows (id - 1) w → IsLaid vars row windows → IsLaid vars row more
+laid_deleted s vars row windows more id v w view live at start end dead is laid =
+    let P : Window → Type 0 = λ x. (x.start ≤ x.end) × (x.end ≤ length row) in
+    let x = some_live (live_at s.clauses id) live in
+    let given : (0 < id) × (id ≤ length s.clauses) = live_within s.clauses id x.0 x.1 in
+    let long : length windows ≡ length s.clauses = sym (length-map windows (entry_of row)) ∙ ap (λ (t : Entries). length t.clauses) view in
+    let high : id ≤ length s.clauses = given.1 in
+    let old : P v = subst P (sym at) (laid.0 (id - 1) v (omega (arith, given.0, high, long))) in
+    let new : P w = (subst (λ (n : ℕ). n ≤ w.end) (sym start) (subst (λ (n : ℕ). v.start ≤ n) (sym end) old.0), subst (λ (n : ℕ). n ≤ length row) (sym end) old.1) in
+    (rw is (All-set P windows (id - 1) w new laid.0), subst (λ (es : List (Option (List ℤ))). AreEntries (record { vars = vars; clauses = es })) (sym (window_deleted row windows more (id - 1) w is dead)) (entries_deleted (shown vars row windows) id given.0 laid.1))
+
+pub shown_deleted : (s : Entries) (vars : ℕ) (row : List ℤ) (windows more : List Window) (id : ℕ) (w : Window) → shown vars row windows ≡ s → w.live ≡ false → more ≡ slice_set windows (id - 1) w → shown vars row more ≡ record { vars = s.vars; clauses = slice_set s.clauses (id - 1) None }
+shown_deleted s vars row windows more id w view dead is =
+    let vars_same : vars ≡ s.vars = ap (λ (t : Entries). t.vars) view in
+    let entries : entries_of row windows ≡ s.clauses = ap (λ (t : Entries). t.clauses) view in
+    rw (window_deleted row windows more (id - 1) w is dead, vars_same, entries) refl

@@ -8,3 +8,5 @@ pub mod Lists
 pub mod Blocking
 pub mod BlockRanges
 pub mod Arranging
+pub mod Deleting
+pub mod DeletingLaws

@@ -88,7 +88,7 @@ pub flatten_some : (o : Option (Option (List ℤ))) (clause : List ℤ) → opti
 flatten_some None clause is = absurd (cc)
 flatten_some (Some o) clause is = ap (λ (x : Option (List ℤ)). Some x) is
 
-live_within : (clauses : List (Option (List ℤ))) (id : ℕ) (clause : List ℤ) → live_at clauses id ≡ Some clause → (0 < id) × (id ≤ length clauses)
+pub live_within : (clauses : List (Option (List ℤ))) (id : ℕ) (clause : List ℤ) → live_at clauses id ≡ Some clause → (0 < id) × (id ≤ length clauses)
 live_within clauses zero clause is = absurd (cc)
 live_within clauses (suc k) clause is =
     let some : (suc k == 0) ≡ false = ne_eqb (suc k) 0 (λ e. omega arith) in

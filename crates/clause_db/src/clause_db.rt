@@ -2,13 +2,14 @@
 //! clause in a second order, the watched ones in front; a literal beside each entry of a list; and windows in a row of
 //! literals. The invariant ties all three to the value of contracts, on which every call says its effect as an equation
 //! (`added`, `rewatched`), so that what the solver needs of watches are laws over these.
-ghost use Rattle.std.specs.Prelude.{◌≡◌, ◌≢◌, ℕ, ◌+◌, ◌<◌, ◌≤◌, ◌⊎◌, ◌↔◌, length, slice_index_or, Contains, AllPairs, Some, List, ℤ, IsTrue, IsSome, IfOk, OnOk, OnErr};
+ghost use Rattle.std.specs.Prelude.{◌≡◌, ◌≢◌, ℕ, ◌+◌, ◌<◌, ◌≤◌, ◌⊎◌, ◌↔◌, ◌∷◌, [], length, slice_index_or, Contains, AllPairs, Some, List, ℤ, IsTrue, IsSome, IfOk, OnOk, OnErr};
 ghost use Rattle.sat_theory.specs.Formula.{variable as variable_of, IsClause, IsWithin};
-ghost use Rattle.sat_theory.specs.State.{by_id};
+ghost use Rattle.sat_theory.specs.State.{by_id, without};
 ghost use Rattle.clause_db.specs.Watching.{list_of, pair_at, pair_of};
 ghost use Rattle.clause_db.specs.Stored.{live_in, Watches as WatchesOf, IsLong, IsStored, none_stored, added, all_added, rewatched};
 ghost use Rattle.clause_db.specs.Moving.{IsMovable};
 ghost use Rattle.clause_db.specs.Blocking.{IsOf};
+ghost use Rattle.clause_db.specs.Deleting.{IsDeleted};
 
 use crate::store::Store;
 use crate::watches::Watches;
@@ -198,6 +199,25 @@ impl ClauseDb {
     {
         self.watches.move_to(from, index, to, place)?;
         Ok(())
+    }
+
+    /// Lets a live clause go. Its id is no clause's any more, and is never given again. In the lists of the literals
+    /// that the clause watched the last entry takes its place.
+    pub fn delete(&mut self, id: u32)
+        requires { IsSome (live_in self.old id) }
+        ensures live { live_in self.new ≡ without (live_in self.old) (id ∷ []) }
+        ensures deleted { IsDeleted id self.old self.new }
+        ensures whole { IsStored self.new }
+    {
+        if self.lits(id).len() < 2 {
+            self.store.delete(id);
+            return;
+        }
+        let (first, second) = self.watched(id);
+        let index = find(self.watching(first), id);
+        let place = find(self.watching(second), id);
+        self.watches.leave(first, index, second, place);
+        self.store.delete(id);
     }
 
     /// Lets a clause that watches `from` watch `to`, another one of its literals, in place of it: as

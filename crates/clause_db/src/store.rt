@@ -1,6 +1,6 @@
 //! The literals of clauses as they were added, in one row, and a window for each id that was ever given. An id is the
 //! number of windows when it was given, so that none is given again, whatever becomes of its clause.
-ghost use Rattle.std.specs.Prelude.{◌≡◌, ◌+◌, ◌<◌, ◌↔◌, ◌∷◌, [], ◌++◌, length, take, ◌-◌, Some, IsTrue, IsSome, IfOk, OnOk, OnErr};
+ghost use Rattle.std.specs.Prelude.{◌≡◌, ◌+◌, ◌<◌, ◌↔◌, ◌∷◌, [], ◌++◌, length, take, slice_set, ◌-◌, Some, None, IsTrue, IsSome, IfOk, OnOk, OnErr};
 ghost use Rattle.sat_theory.specs.Formula.{IsClause, IsWithin};
 ghost use Rattle.clause_db.specs.Stored.{live_at};
 
@@ -67,6 +67,14 @@ impl Store {
         ensures clauses { self.new.clauses ≡ take (length self.old.clauses - 1) self.old.clauses }
     {
         self.windows.pop();
+    }
+
+    /// Lets the clause of a live id go.
+    pub(crate) fn delete(&mut self, id: u32)
+        requires { IsSome (live_at self.old.clauses id) }
+        ensures { self.new ≡ record self.old { clauses = slice_set self.old.clauses (id - 1) None } }
+    {
+        self.windows[id as usize - 1].live = false;
     }
 
     /// The literals of a live clause.

@@ -7,6 +7,7 @@ ghost use Rattle.cdcl_theory.specs.Codes.{code_of};
 ghost use Rattle.clause_db.specs.Watching.{listed_in, pair_of, with_id, with_ids, watching_moved};
 ghost use Rattle.clause_db.specs.Blocking.{row_of, with_row, with_blocker, with_blockers, rows_moved, besides};
 ghost use Rattle.clause_db.specs.Arranging.{block_at, watching_of, arranged_more, ArePermuted, IsNoneOf};
+ghost use Rattle.clause_db.specs.Deleting.{arranged_left};
 
 use crate::blocks::Blocks;
 use crate::lists::WatchList;
@@ -187,6 +188,18 @@ impl Watches {
         self.take_out(from, index);
         self.exchange(id, low, high);
         Ok(())
+    }
+
+    /// Takes the ids at two places out of the lists of two literals.
+    pub(crate) fn leave(&mut self, one: Lit, index: usize, other: Lit, place: usize)
+        requires rooms { (code_of one < length self.old.lists) × (code_of other < length self.old.lists) }
+        requires apart { one ≢ other }
+        requires inside { (index < length (listed_in self.old.lists one)) × (place < length (listed_in self.old.lists other)) }
+        requires beside { (index < length (row_of self.old.rows one)) × (place < length (row_of self.old.rows other)) }
+        ensures { self.new ≡ arranged_left (arranged_left self.old one index) other place }
+    {
+        self.take_out(one, index);
+        self.take_out(other, place);
     }
 
     /// Takes the id at an index out of a literal's list, with what stands beside it.
