@@ -1,21 +1,19 @@
 -- Tables that join all their inputs.
-use Rattle.std.proofs.Common.{◌≡◌, ℕ, ◌-◌, ◌≤◌, ◌<◌, Bool, true, false, not, if◌then◌else◌, List, [], ◌∷◌, length, refl, ◌∙◌, ap, sym, arith}
+use Rattle.std.proofs.Common.{◌≡◌, ℕ, ◌-◌, ◌<◌, Bool, true, false, not, if◌then◌else◌, List, [], ◌∷◌, length, refl, ◌∙◌, ap, sym, arith}
 use Rattle.std.proofs.lemmas.Grind.{common_steps}
 use Rattle.net_theory.specs.declared.data.Sig.{Sig}
 use Rattle.net_theory.specs.declared.data.Gate.{Gate}
-use Rattle.net_theory.specs.Cover.{IsCover, is_odd, cover_value}
-use Rattle.net_theory.specs.Cost.{cover_cost, wide_cost}
+use Rattle.net_theory.specs.Cover.{is_odd, cover_value}
 use Rattle.net_theory.specs.Expansion.{unsigned, join_all, finished_by, wide_built, expanded}
 use Rattle.net_theory.specs.ExpansionLaws.{length-unsigned}
 use Rattle.net_theory.specs.Whole.{value_where}
-use Rattle.net_theory.specs.WholeLaws.{and_cover_is, or_cover_is, xor_cover_is, and_value, or_value, xor_value, and_built, or_built_wide, xor_built, and_cost, or_cost, xor_cost}
+use Rattle.net_theory.specs.WholeLaws.{and_value, or_value, xor_value, and_built, or_built_wide, xor_built}
 use Rattle.net_core.specs.declared.joining.Connective.{Connective}
 use Rattle.net_core.specs.declared.joining.Connective.TheVariants.{And, Or, Xor}
 use Rattle.net_core.specs.declared.whole.Whole.{Whole}
 use Rattle.net_core.specs.Growing.{word_of}
-use Rattle.net_core.specs.declared.whole.Body.{Body}
-use Rattle.net_core.specs.declared.whole.Body.TheVariants.{Cubes, Joined}
-use Rattle.net_core.specs.Wholes.{joined_cover, whole_cover, cover_of, IsBody, joined_bits}
+use Rattle.net_core.specs.Wholes.{joined_cover, whole_cover, joined_bits}
+use Rattle.net_core.specs.BodyLaws.{whole_cost-wide}
 use Rattle.net_core.proofs.Fronts.{front_itself, front_push, front_more}
 
 -- ---- parity
@@ -52,34 +50,7 @@ pub whole_value-is : (w : Whole) (bits : List Bool) → 0 < w.width → w.width 
 whole_value-is w bits some wide =
     joined_value w.connective w.on bits (omega arith) ∙ ap (λ (n : ℕ). cover_value (joined_cover w.connective n w.on) bits) (sym wide)
 
--- ---- costs and gates
-
-joined_is : (c : Connective) (width : ℕ) (on : Bool) → IsCover (joined_cover c width on)
-joined_is And width on = and_cover_is width on
-joined_is Or width on = or_cover_is width on
-joined_is Xor width on = xor_cover_is width on
-
-pub whole_is : (w : Whole) → IsCover (whole_cover w)
-whole_is w = joined_is w.connective w.width w.on
-
-joined_width : (c : Connective) (width : ℕ) (on : Bool) → (joined_cover c width on).width ≡ width
-joined_width And width on = refl
-joined_width Or width on = refl
-joined_width Xor width on = refl
-
-pub whole_width : (w : Whole) → (whole_cover w).width ≡ w.width
-whole_width w = joined_width w.connective w.width w.on
-
-joined_cost : (c : Connective) (width : ℕ) (on : Bool) → 2 ≤ width → wide_cost (joined_cover c width on) ≡ width - 1
-joined_cost And width on two = and_cost width on two
-joined_cost Or width on two = or_cost width on two
-joined_cost Xor width on two = xor_cost width on
-
-pub whole_cost-wide : {A : Type 0} (w : Whole) (inputs : List A) → w.width ≡ length inputs → 2 < length inputs → cover_cost (whole_cover w) inputs ≡ w.width - 1
-whole_cost-wide w [] wide many = absurd (omega arith)
-whole_cost-wide w (a ∷ []) wide many = absurd (omega arith)
-whole_cost-wide w (a ∷ b ∷ []) wide many = absurd (omega arith)
-whole_cost-wide w (a ∷ b ∷ d ∷ inputs) wide many = joined_cost w.connective w.width w.on (omega arith)
+-- ---- gates
 
 joined_built : (c : Connective) (sources : ℕ) (gates : List Gate) (on : Bool) (inputs : List Sig) → 0 < length inputs → wide_built sources gates (joined_cover c (length inputs) on) inputs ≡ finished_by sources (length gates) on (join_all (word_of c) sources gates (unsigned inputs))
 joined_built And sources gates on inputs some = and_built sources gates on inputs some
@@ -93,9 +64,5 @@ whole_built w sources gates (a ∷ b ∷ []) wide many = absurd (omega arith)
 whole_built w sources gates (a ∷ b ∷ d ∷ inputs) wide many =
     ap (λ (n : ℕ). wide_built sources gates (joined_cover w.connective n w.on) (a ∷ b ∷ d ∷ inputs)) wide
     ∙ joined_built w.connective sources gates w.on (a ∷ b ∷ d ∷ inputs) (omega arith)
-
-pub body_is : (b : Body) → IsBody b → IsCover (cover_of b)
-body_is (Cubes c) is = is
-body_is (Joined w) some = whole_is w
 
 pub ruleset wholes = (common_steps, front_itself, front_push, front_more, whole_value-is, whole_cost-wide, whole_built, length-unsigned)

@@ -19,4 +19,5 @@ pub use Rattle.net_theory.specs.BuiltLaws
 pub mod Marks
 pub mod Growing
 pub mod Wholes
+pub mod BodyLaws
 pub mod Names

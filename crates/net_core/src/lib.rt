@@ -45,6 +45,3 @@ pub use net_theory::{Gate, Sig, Trigger};
 pub use op_basis::Op;
 pub use truth::{binary_word, cover_value, unary_word};
 pub use whole::{Body, Whole, body_cost, body_value};
-
-#[cfg(test)]
-mod tests;

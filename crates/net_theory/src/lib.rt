@@ -16,6 +16,3 @@ pub mod laws;
 pub mod plain;
 
 pub use data::{Gate, Sig, Signed, Trigger};
-
-#[cfg(test)]
-mod tests;

@@ -1,7 +1,7 @@
 use Rattle.net_theory.specs.Net.{Net}
 use Rattle.net_core.specs.Wholes.{cover_of}
 use Rattle.net_core.proofs.Expansions.{expanded_built, expanded_net}
-use Rattle.net_core.proofs.WholeTables.{body_is}
+use Rattle.net_core.specs.BodyLaws.{body_is}
 use Rattle.net_core.proofs.expansion.expand_body.Goals as goal
 
 pub invariant_of-net : goal.invariant_of-net

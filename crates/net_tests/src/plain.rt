@@ -1,5 +1,7 @@
-use crate::plain::{matches_bits, place_value};
-use crate::{Gate, Sig};
+//! Values of cubes and places, computed straight from the definitions.
+
+use net_theory::plain::{matches_bits, place_value};
+use net_theory::{Gate, Sig};
 use op_basis::Op;
 
 #[test]

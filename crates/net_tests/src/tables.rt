@@ -1,12 +1,12 @@
-//! Tables, their gates and the values of these. Names for gates, and tables that lead to themselves, are
-//! tested where circuits are read and written.
+//! Tables, their gates and the values of these.
 
 ghost use Rattle.std.specs.Prelude.{◌≡◌, IsTrue, IfOk};
 ghost use Rattle.std.specs.List.{list_all};
 ghost use Rattle.net_theory.specs.Cover.{IsCover, is_cube as is_cube_of, is_cube_byte};
 
-use crate::{
-    Cover, Cube, Net, Reads, Sig, cover_cost, cover_value, drop_dead, expand, values, visit_all,
+use net_core::{
+    Body, Connective, Cover, Cube, Net, Sig, Whole, body_value, cover_cost, expand, expand_body,
+    values,
 };
 use std::alloc::{AllocError, Global};
 
@@ -27,7 +27,7 @@ fn is_cube(width: u32, bytes: &[u8]) -> bool
 }
 
 /// Whether all cubes are cubes.
-fn is_cover(cover: &Cover) -> bool
+pub fn is_cover(cover: &Cover) -> bool
     ensures { IsTrue result → IsCover cover.now }
 {
     cover
@@ -37,7 +37,7 @@ fn is_cover(cover: &Cover) -> bool
 }
 
 /// A cover of three inputs.
-fn cover(alloc: Global, cubes: &[&[u8]], on: bool) -> Result<Cover, AllocError>
+pub fn cover(alloc: Global, cubes: &[&[u8]], on: bool) -> Result<Cover, AllocError>
     ensures { IfOk result (λ cover. cover.width ≡ 3) }
 {
     let mut all = Vec::new(alloc);
@@ -121,53 +121,39 @@ fn tables_become_gates(rt: HostRuntime) {
     }
 }
 
-#[test]
-fn dead_gates_go(rt: HostRuntime) {
-    let alloc = rt.alloc();
-    let xor = cover(alloc, &[b"01-", b"10-"], true).expect(&rt, "memory");
-    let and = cover(alloc, &[b"11-"], true).expect(&rt, "memory");
-    assert!(rt; is_cover(&xor) && is_cover(&and));
-    assert!(rt; xor.cubes.len() < 9 && and.cubes.len() < 9);
-    let inputs = [Sig::Place(1), Sig::Place(2), Sig::Place(3)];
-    assert!(rt; cover_cost(&xor, &inputs) == 3 && cover_cost(&and, &inputs) == 1);
-    assert!(rt;
-        cover_value(&xor, &[false, true, true]) && !cover_value(&and, &[false, true, true])
-    );
+/// The rows of three inputs that are joined, by the gates, and how many these are.
+#[tactic(auto, using(net_core::specs::BodyLaws::joined_cost))]
+fn joined(alloc: Global, whole: Whole) -> Result<(Vec<u8>, usize), AllocError>
+    requires { whole.width ≡ 3 }
+{
     let mut net = Net::new(3, Vec::new(alloc), Vec::new(alloc));
-    let first = expand(alloc, &mut net, &xor, &inputs).expect(&rt, "memory");
-    let second = expand(alloc, &mut net, &and, &inputs).expect(&rt, "memory");
-    assert!(rt; first == Sig::Place(6) && second == Sig::Place(7));
-    let net = net.with_sinks(Vec::from_slice(
-        alloc,
-        &[Sig::Place(7), Sig::Place(2), Sig::One],
-    ).expect(&rt, "memory"));
-    let left = drop_dead(alloc, &net).expect(&rt, "memory");
-    assert!(rt;
-        left.gates().len() == 1
-            && left.sinks() == [Sig::Place(4), Sig::Place(2), Sig::One].as_slice()
-    );
+    let inputs = [Sig::Place(1), Sig::Place(2), Sig::Place(3)];
+    let sig = expand_body(alloc, &mut net, &Body::Joined(whole), &inputs)?;
+    let count = net.gates().len();
+    Ok((rows(alloc, &net, sig)?, count))
 }
 
 #[test]
-fn tables_are_ordered(rt: HostRuntime) {
-    let alloc = rt.alloc();
-    for (graph, order) in [
-        (
-            &[&[1u32] as &[u32], &[2], &[]] as &[&[u32]],
-            Some(&[2u32, 1, 0] as &[u32]),
-        ),
-        (&[&[2, 1], &[], &[1]], Some(&[1, 2, 0])),
-        (&[&[1], &[0]], None),
-        (&[], Some(&[])),
+fn inputs_are_joined(rt: HostRuntime) {
+    for (connective, on, digits) in [
+        (Connective::And, true, b"00000001"),
+        (Connective::And, false, b"11111110"),
+        (Connective::Or, true, b"01111111"),
+        (Connective::Or, false, b"10000000"),
+        (Connective::Xor, true, b"01101001"),
+        (Connective::Xor, false, b"10010110"),
     ] {
-        let mut reads = Vec::new(alloc);
-        for tables in graph {
-            reads
-                .push(Reads::new(Vec::from_slice(alloc, tables).expect(&rt, "memory")))
-                .expect(&rt, "memory");
-        }
-        assert!(rt; reads.len() < 9);
-        let found = visit_all(alloc, &reads).expect(&rt, "memory");
-        assert!(rt; found.as_ref().map(|tables| tables.as_slice()) == order);
+        let whole = Whole {
+            connective,
+            width: 3,
+            on,
+        };
+        let (rows, count) = joined(rt.alloc(), whole).expect(&rt, "memory");
+        assert!(rt; rows.as_slice() == digits.as_slice());
+        assert_eq!(rt; count, 2);
+        assert_eq!(rt;
+            body_value(&Body::Joined(whole), &[true, true, false]),
+            digits[6] == b'1'
+        );
     }
 }
