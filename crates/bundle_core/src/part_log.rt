@@ -1,5 +1,5 @@
 use cert_theory::Ended;
-use enc_frame::Part;
+use enc_theory::Part;
 use lrat_text::Log;
 use std::marker::Model;
 

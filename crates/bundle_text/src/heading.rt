@@ -5,7 +5,7 @@ ghost use Rattle.cert_theory.specs.Spelling as spelling;
 ghost use Rattle.bundle_text.specs.Texts.{spelled, heading_text};
 
 use crate::tables::{push_numbered, push_tables};
-use enc_frame::Method;
+use enc_theory::Method;
 use op_basis::{Basis, write_basis};
 use std::alloc::AllocError;
 use tt_core::Spec;

@@ -9,7 +9,7 @@ ghost use Rattle.bundle_text.specs.Texts.{log_text, parts_text};
 use crate::tables::push_numbered;
 use bundle_core::{Ended, PartLog, Section};
 use cert_theory::title_of;
-use enc_frame::Part;
+use enc_theory::Part;
 use lrat_text::{Line, write_line};
 use std::alloc::AllocError;
 

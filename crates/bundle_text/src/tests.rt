@@ -1,6 +1,6 @@
 use crate::{write_ending, write_heading, write_section};
 use bundle_core::{Ended, PartLog, Section, Verdict};
-use enc_frame::{Method, Part};
+use enc_theory::{Method, Part};
 use fence_core::Fence;
 use lrat_text::{Log, read_line};
 use op_basis::Basis;

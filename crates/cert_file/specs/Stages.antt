@@ -20,7 +20,7 @@ use Rattle.cert_theory.specs.declared.data.Verdict.{Verdict}
 use Rattle.cert_theory.specs.declared.data.BundleError.{BundleError}
 use Rattle.cert_theory.specs.Gives.{Fails}
 use Rattle.cert_theory.specs.Judging.{with_block, before, Between, Begun, Within, with_tables, behind_basis, behind_method, behind_conflicts, sections_of, behind_chain, end_of, nothing_behind, bundle_of}
-use Rattle.enc_frame.specs.declared.part.Part.{Part}
+use Rattle.enc_theory.specs.declared.part.Part.{Part}
 use Rattle.cert_theory.specs.Bundle.{parts_of, formula_of}
 use Rattle.cert_file.specs.declared.stage.Running.{Running}
 use Rattle.cert_file.specs.declared.stage.Stage.{Stage}

@@ -10,7 +10,7 @@ ghost use Rattle.cert_file.specs.Stages.{Answer, Judged, IsStage};
 use crate::lines::{TextLine, is_line, value_of};
 use crate::stage::Stage;
 use cert_theory::{BundleError, Heading};
-use enc_frame::Method;
+use enc_theory::Method;
 use op_basis::{Basis, read_basis, write_basis};
 use std::alloc::{AllocError, Global};
 use text_core::{begins_lower, number_up_to};

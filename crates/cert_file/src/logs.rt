@@ -11,7 +11,7 @@ ghost use Rattle.cert_theory.specs.Gives.{Gives};
 ghost use Rattle.cert_theory.specs.Judging as judging;
 ghost use Rattle.cert_file.specs.Logged.{IsLogged, IsRefusal, MayAdd, added_by, is_new_to};
 ghost use Rattle.cert_theory.specs.Bundle as bundles;
-ghost use Rattle.enc_frame.specs.declared.part.Part.{Part};
+ghost use Rattle.enc_theory.specs.declared.part.Part.{Part};
 ghost use Rattle.cert_file.specs.TextLines.{line_of};
 ghost use Rattle.cert_file.specs.Stages.{Answer, Judged, Stands, IsStage, IsRunning, IsPart, later_of, IsBegun, IsLogging};
 

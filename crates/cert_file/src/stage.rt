@@ -1,6 +1,6 @@
 use cert_theory::{Ended, Heading, Verdict};
 use chain_core::{Basis, Frame, Out, Step};
-use enc_frame::{Method, Part};
+use enc_theory::{Method, Part};
 use lrat_check::Checker;
 use tt_core::Spec;
 

@@ -12,7 +12,7 @@ use crate::lines::{GREATEST, TextLine, is_line, number_behind, value_of};
 use crate::logs::at_begun;
 use crate::stage::{Running, Stage};
 use cert_theory::{BundleError, title_of};
-use enc_frame::Part;
+use enc_theory::Part;
 use std::alloc::Global;
 use text_core::{next_item, number_up_to};
 

@@ -13,7 +13,7 @@ use Rattle.sat_theory.specs.Log.{Refutes}
 use Rattle.sat_theory.specs.Soundness.{no_assignment}
 use Rattle.tt_core.specs.Words.{specification}
 use Rattle.op_basis.specs.Basis.{members}
-use Rattle.enc_frame.specs.declared.part.Part.{Part}
+use Rattle.enc_theory.specs.declared.part.Part.{Part}
 use Rattle.cert_theory.specs.declared.data.Heading.{Heading}
 use Rattle.cert_theory.specs.declared.data.Ended.{Ended}
 use Rattle.cert_theory.specs.declared.data.Ended.TheVariants as ends
@@ -55,7 +55,7 @@ unsatisfied h size part coding there r v satisfies =
 -- a size that is refuted has no chain, where no smaller one has
 none_at : (h : Heading) (size : ℕ) (s : Section) → IsHeading h → IsCoding (coding_of h.method) → size ≤ 16 → IsSection h size s → is_open s ≡ false → Fewer h size → HasChain (specification h.spec) (members h.basis) size → ⊥
 none_at h size s heading coding few section refuted fewer has =
-    let sat = coding.complete h.spec h.basis size heading.tables few heading.basis_from (record { reached = has; none_fewer = fewer }) in
+    let sat = coding.complete h.spec h.basis size (record { reached = has; none_fewer = fewer }) in
     let named : Contains (map part_of s.parts) sat.0 = subst (λ (parts : List Part). Contains parts sat.0) (sym section.parts_are) sat.1 in
     unsatisfied h size sat.0 coding sat.1 (log_of h size s.parts sat.0 (recursion_from_All (IsPartLog h size) s.parts section.logs) refuted named) sat.2.0 sat.2.1
 

@@ -10,8 +10,8 @@ use Rattle.sat_theory.specs.Line as theory
 use Rattle.sat_theory.specs.State.{start}
 use Rattle.sat_theory.specs.Log.{IsStep, EachLine, after}
 use Rattle.chain_core.specs.Spelling.{line}
-use Rattle.enc_frame.specs.declared.part.Part.{Part}
-use Rattle.enc_frame.specs.declared.part.Part.TheVariants.{Whole, Levels}
+use Rattle.enc_theory.specs.declared.part.Part.{Part}
+use Rattle.enc_theory.specs.declared.part.Part.TheVariants.{Whole, Levels}
 use Rattle.cert_theory.specs.declared.data.Heading.{Heading}
 use Rattle.cert_theory.specs.declared.data.Ended.{Ended}
 use Rattle.cert_theory.specs.declared.data.Ended.TheVariants as ends

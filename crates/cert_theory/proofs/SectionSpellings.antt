@@ -17,8 +17,8 @@ use Rattle.lrat_check.specs.Judging.{line_fault}
 use Rattle.lrat_check.specs.FaultLaws.{line_holds}
 use Rattle.lrat_check.specs.declared.error.CheckError.{CheckError}
 use Rattle.chain_core.specs.Spelling.{line}
-use Rattle.enc_frame.specs.declared.part.Part.{Part}
-use Rattle.enc_frame.specs.declared.part.Part.TheVariants.{Whole, Levels}
+use Rattle.enc_theory.specs.declared.part.Part.{Part}
+use Rattle.enc_theory.specs.declared.part.Part.TheVariants.{Whole, Levels}
 use Rattle.cert_theory.specs.declared.data.Heading.{Heading}
 use Rattle.cert_theory.specs.declared.data.Ended.{Ended}
 use Rattle.cert_theory.specs.declared.data.Ended.TheVariants as ends

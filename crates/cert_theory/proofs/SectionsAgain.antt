@@ -23,7 +23,7 @@ use Rattle.chain_core.specs.Block.{body_from}
 use Rattle.chain_core.specs.Steps.{IsSmallChain}
 use Rattle.chain_core.specs.Spelling.{line, count_text, step_lines, out_line}
 use Rattle.chain_core.specs.WrittenBlockLaws.{count_at_back, lines_read}
-use Rattle.enc_frame.specs.declared.part.Part.{Part}
+use Rattle.enc_theory.specs.declared.part.Part.{Part}
 use Rattle.cert_theory.specs.declared.data.Heading.{Heading}
 use Rattle.cert_theory.specs.declared.data.Ended.{Ended}
 use Rattle.cert_theory.specs.declared.data.Ended.TheVariants as ends

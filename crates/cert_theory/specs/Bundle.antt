@@ -9,7 +9,7 @@ use Rattle.sat_theory.specs.Line.{Line}
 use Rattle.sat_theory.specs.Log.{Refutes, IsSpent}
 use Rattle.tt_core.specs.Words.{IsSpec, specification}
 use Rattle.op_basis.specs.Basis.{members}
-use Rattle.enc_frame.specs.declared.part.Part.{Part}
+use Rattle.enc_theory.specs.declared.part.Part.{Part}
 use Rattle.cert_theory.specs.declared.data.Heading.{Heading}
 use Rattle.cert_theory.specs.declared.data.Ended.{Ended}
 use Rattle.cert_theory.specs.declared.data.Ended.TheVariants as ends

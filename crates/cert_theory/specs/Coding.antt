@@ -6,9 +6,9 @@ use Rattle.enc_theory.specs.Plain.{plain_formula}
 use Rattle.enc_theory.specs.Ssv.{ssv_formula}
 use Rattle.enc_theory.specs.Select.{select_formula}
 use Rattle.enc_theory.specs.Fence.{fence_formula}
-use Rattle.enc_fence.specs.Parts.{parts_for, fence_in}
-use Rattle.enc_frame.specs.declared.part.Part.{Part}
-use Rattle.enc_frame.specs.declared.part.Part.TheVariants.{Whole}
+use Rattle.enc_theory.specs.Parts.{parts_for, fence_in}
+use Rattle.enc_theory.specs.declared.part.Part.{Part}
+use Rattle.enc_theory.specs.declared.part.Part.TheVariants.{Whole}
 use Rattle.enc_theory.specs.declared.data.Method.{Method}
 use Rattle.enc_theory.specs.declared.data.Method.TheVariants.{Plain, Ssv, Select, Fence}
 

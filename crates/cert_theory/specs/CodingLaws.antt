@@ -1,11 +1,11 @@
 -- What the formulas of a method have to mean for its verdicts to be true.
 use Rattle.std.specs.Prelude.{◌≡◌, ℕ, ◌≤◌, ◌<◌, ◌^◌, List, [], ◌∷◌, All, Contains, slice_index_or, sum, length, map, refl}
-use Rattle.std.proofs.Common.{zero, suc, subst, arith, ap}
+use Rattle.std.proofs.Common.{zero, suc, subst, arith, ap, sym}
 use Rattle.chain_theory.specs.Agreement.{IsMinimum}
 use Rattle.sat_theory.specs.Formula.{IsFormula}
 use Rattle.tt_core.specs.Words.{Words, IsSpec, specification}
 use Rattle.op_basis.specs.Basis.{members}
-use Rattle.enc_theory.specs.Clauses.{IsSatisfiable}
+use Rattle.clause_core.specs.Clauses.{IsSatisfiable}
 use Rattle.enc_theory.specs.declared.data.Method.{Method}
 use Rattle.enc_theory.specs.declared.data.Method.TheVariants.{Plain, Ssv, Select, Fence}
 use Rattle.enc_laws.specs.Laws.{plain_complete, plain_is_formula}
@@ -15,12 +15,13 @@ use Rattle.enc_laws.specs.Fence.{fence_is_formula}
 use Rattle.fence_core.specs.Fence.{IsFenceOf, listed_fences}
 use Rattle.fence_core.specs.Listing.{sum-cons, fences_are_listed}
 use Rattle.tt_core.specs.Live.{live_words}
-use Rattle.enc_fence.specs.Parts.{parts_for, fence_in}
-use Rattle.enc_fence.specs.FenceLaws.{is_complete}
+use Rattle.enc_theory.specs.Parts.{parts_for, fence_in}
+use Rattle.enc_laws.specs.FenceLaws.{is_complete}
+use Rattle.enc_laws.specs.WholeLaws.{the_whole, only_whole}
 use Rattle.std.specs.List.{AllByRecursion}
 use Rattle.std.proofs.lemmas.List.Elements.{All-from_recursion, recursion_from_All}
-use Rattle.enc_frame.specs.declared.part.Part.{Part}
-use Rattle.enc_frame.specs.declared.part.Part.TheVariants.{Whole, Levels}
+use Rattle.enc_theory.specs.declared.part.Part.{Part}
+use Rattle.enc_theory.specs.declared.part.Part.TheVariants.{Whole, Levels}
 use Rattle.cert_theory.specs.Coding.{Coding, plain_coding, ssv_coding, select_coding, fence_coding, coding_of}
 
 -- the numbers of a part's title can be read
@@ -33,37 +34,31 @@ HasShortTitle (Levels sizes) = All (λ size. size < 2 ^ 64) sizes
 pub record IsCoding (c : Coding) : Type 0 where
   pub titles : (w : Words) (r : ℕ) (part : Part) → r ≤ 16 → Contains (c.parts w r) part → HasShortTitle part
   pub formulas : (w : Words) (basis r : ℕ) (part : Part) → Contains (c.parts w r) part → IsFormula (c.formula w basis r part)
-  pub complete : (w : Words) (basis r : ℕ) → IsSpec w → r ≤ 16 → 0 < basis → IsMinimum (specification w) (members basis) r → (part : Part) × Contains (c.parts w r) part × IsSatisfiable (c.formula w basis r part)
+  pub complete : (w : Words) (basis r : ℕ) → IsMinimum (specification w) (members basis) r → (part : Part) × Contains (c.parts w r) part × IsSatisfiable (c.formula w basis r part)
 
 whole_title : (part : Part) → Contains (Whole ∷ []) part → HasShortTitle part
 unfolding HasShortTitle
-whole_title part there =
-    let same : Whole ≡ part = sole part there.0 there.1 there.2 in
-    subst (λ (p : Part). HasShortTitle p) same tt
-  where
-    sole : (part : Part) (i : ℕ) → i < 1 → slice_index_or (Whole ∷ []) i part ≡ part → Whole ≡ part
-    sole part zero low at = at
-    sole part (suc i) low at = absurd (omega arith)
+whole_title part there = subst (λ (p : Part). HasShortTitle p) (sym (only_whole part there)) tt
 
 pub plain_is_coding : IsCoding plain_coding
 plain_is_coding = record {
   titles = λ w r part few there. whole_title part there;
   formulas = λ w basis r part there. plain_is_formula w basis r;
-  complete = λ w basis r spec few some minimum. (Whole, (0, omega arith, refl), plain_complete w basis r minimum.reached);
+  complete = λ w basis r minimum. (Whole, the_whole, plain_complete w basis r minimum.reached);
 }
 
 pub ssv_is_coding : IsCoding ssv_coding
 ssv_is_coding = record {
   titles = λ w r part few there. whole_title part there;
   formulas = λ w basis r part there. ssv_is_formula w basis r;
-  complete = λ w basis r spec few some minimum. (Whole, (0, omega arith, refl), ssv_complete w basis r minimum);
+  complete = λ w basis r minimum. (Whole, the_whole, ssv_complete w basis r minimum);
 }
 
 pub select_is_coding : IsCoding select_coding
 select_is_coding = record {
   titles = λ w r part few there. whole_title part there;
   formulas = λ w basis r part there. select_is_formula w basis r;
-  complete = λ w basis r spec few some minimum. (Whole, (0, omega arith, refl), select_complete w basis r minimum);
+  complete = λ w basis r minimum. (Whole, the_whole, select_complete w basis r minimum);
 }
 
 -- the levels of a fence have no more steps than the fence
@@ -96,7 +91,7 @@ pub fence_is_coding : IsCoding fence_coding
 fence_is_coding = record {
   titles = λ w r part few there. fence_title w r part few there;
   formulas = λ w basis r part there. fence_is_formula w basis r (fence_in part);
-  complete = λ w basis r spec few some minimum. is_complete w basis r spec few some minimum;
+  complete = λ w basis r minimum. is_complete w basis r minimum;
 }
 
 -- so each method has true verdicts

@@ -25,8 +25,8 @@ use Rattle.tt_core.specs.Words.{Words, cell_of}
 use Rattle.tt_core.specs.Spelling.{character, header_line}
 use Rattle.op_basis.specs.Text.{basis_text}
 use Rattle.chain_core.specs.Spelling.{line, chain_lines}
-use Rattle.enc_frame.specs.declared.part.Part.{Part}
-use Rattle.enc_frame.specs.declared.part.Part.TheVariants.{Whole, Levels}
+use Rattle.enc_theory.specs.declared.part.Part.{Part}
+use Rattle.enc_theory.specs.declared.part.Part.TheVariants.{Whole, Levels}
 use Rattle.enc_theory.specs.declared.data.Method.{Method}
 use Rattle.cert_theory.specs.declared.data.Heading.{Heading}
 use Rattle.cert_theory.specs.declared.data.Ended.{Ended}

@@ -1,6 +1,6 @@
 //! Laws of Boolean chains: that the values of places follow the steps and are the only ones that do,
 //! how chains are changed without changing what they compute, and that some least chain has a normal
-//! form. The crate has definitions and lemmas alone, in `specs/`, and no function.
+//! form. The crate has definitions and lemmas, in `specs/`, and `laws`, which says the laws of least chains.
 //!
 //! It stands on `chain_theory` for what a chain is, on `op_basis` for how bases are closed, and on
 //! `tt_core` for inputs that may be exchanged. The subject is that of Knuth, The Art of Computer
@@ -18,3 +18,5 @@
 //! have the inputs' bits and follow each step are the values. `Settling` goes down from chain to chain as
 //! long as a rule is broken, which makes the list of keys smaller (`Ranks`) or gives fewer steps.
 #![tactic(auto)]
+
+pub mod laws;

@@ -1,4 +1,2 @@
-pub mod Literals
 pub mod Pieces
 pub mod Walks
-pub mod Chains

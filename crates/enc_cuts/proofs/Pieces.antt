@@ -1,4 +1,4 @@
--- Lists of a few pieces, filters, and the test of inputs.
+-- Filters, and the test of inputs.
 use Rattle.std.proofs.Common.{◌≡◌, ℕ, suc, ◌+◌, ◌-◌, ◌≤◌, Bool, true, false, List, [], ◌∷◌, ◌++◌, refl, sym, arith, append_assoc, append-nil}
 use Rattle.std.specs.List.{flat_map, range_with_len}
 use Rattle.std.proofs.lemmas.Grind.{common_steps}
@@ -8,18 +8,8 @@ use Rattle.tt_core.specs.Symmetry.{IsSymmetric}
 use Rattle.tt_core.specs.Words.{Words, specification}
 use Rattle.enc_theory.specs.Cuts.{may_exchange}
 use Rattle.enc_laws.specs.PairTests.{exchange_symmetric, symmetric_exchange}
-use Rattle.enc_frame.proofs.Ranges.{loops, flat_map-turn_from}
+use Rattle.clause_core.specs.RangeLaws.{loops, flat_map-turn_from}
 use Rattle.enc_cuts.specs.Vars.{steps_have_vars}
-use Rattle.enc_cuts.specs.Counts.{cuts-few}
-
--- one piece behind another
-pub two_pieces : {A : Type 0} (f : ℕ → List A) (xs : List A) (a b : ℕ) → (xs ++ f a) ++ f b ≡ xs ++ flat_map f (a ∷ b ∷ [])
-two_pieces {A} f xs a b = simp (append_assoc, append-nil)
-
-pub four_pieces : {A : Type 0} (f : ℕ → List A) (xs : List A) (a b c d : ℕ) → (((xs ++ f a) ++ f b) ++ f c) ++ f d ≡ xs ++ flat_map f (a ∷ b ∷ c ∷ d ∷ [])
-four_pieces {A} f xs a b c d = simp (append_assoc, append-nil)
-
-pub ruleset pieces = (common_steps, two_pieces, four_pieces)
 
 -- a filter, an element at a time
 pub ruleset keeping = (common_steps, filter_more)
@@ -39,6 +29,3 @@ pub all_inputs : {A : Type 0} (f : ℕ → List A) (p n : ℕ) → p ≤ n → f
 all_inputs {A} f p n low = let e : suc p ≡ p + 1 = omega arith in let l : n - p ≡ n + 1 - (p + 1) = omega arith in rw (e, l) refl
 
 pub ruleset inputs = (loops, all_inputs)
-
--- how many clauses there are
-pub ruleset limits = (common_steps, cuts-few)

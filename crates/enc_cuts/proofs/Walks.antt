@@ -3,7 +3,7 @@ use Rattle.std.proofs.Common.{◌≡◌, ℕ, List, [], ◌∷◌, ◌++◌, ref
 use Rattle.std.specs.Prelude.{ℤ}
 use Rattle.std.specs.List.{flat_map}
 use Rattle.std.proofs.lemmas.Grind.{common_steps}
-use Rattle.enc_theory.specs.declared.data.Raw.{Raw}
+use Rattle.clause_core.specs.declared.raw.Raw.{Raw}
 use Rattle.enc_theory.specs.declared.data.Sizes.{Sizes}
 use Rattle.enc_theory.specs.Pairs.{StepSlots}
 use Rattle.enc_theory.specs.Cuts.{used_by, used, order_slot, order_with, order, again_later, again_all, exchange_slot, readers_without, exchange_steps}

@@ -6,17 +6,18 @@ use Rattle.std.proofs.Math.Nat.{mul-add}
 use Rattle.op_basis.specs.Basis.{members}
 use Rattle.op_basis.specs.Closed.{const_closed, polarity_closed, reapply_closed}
 use Rattle.tt_core.specs.Words.{Words}
-use Rattle.enc_theory.specs.declared.data.Raw.{Raw}
-use Rattle.enc_theory.specs.declared.data.Raw.TheVariants.{Var}
+use Rattle.clause_core.specs.declared.raw.Raw.{Raw}
+use Rattle.clause_core.specs.declared.raw.Raw.TheVariants.{Var}
 use Rattle.enc_theory.specs.declared.data.Sizes.{Sizes}
 use Rattle.enc_theory.specs.declared.data.Slot.{Slot}
-use Rattle.enc_theory.specs.Clauses.{written}
+use Rattle.clause_core.specs.Clauses.{written}
 use Rattle.enc_theory.specs.Numbering.{places, outputs, f_var}
 use Rattle.enc_theory.specs.Pairs.{StepSlots, slot_count}
+use Rattle.enc_theory.specs.Families.{common}
 use Rattle.enc_theory.specs.Cuts.{bears, readers, used_by, used, other_operator, not_idle, equal_raw, equal_slot, negation_raw, negations, not_trivial_at, not_trivial, comes_before, not_both, order_pair, order_slot, order_with, order, applies_again, again_pair, again_slot, has_place, reading, again_later, again_all, again, may_exchange, reads_without, readers_without, exchange_slot, exchange_steps, exchange_pair, exchange_with, exchange, row_0_at, row_0, cuts}
 use Rattle.enc_frame.specs.Room.{IsSmall}
-use Rattle.enc_frame.specs.PairLaws.{flat_map-few}
-use Rattle.enc_frame.specs.Counts.{pieces-few, written-few, times-few}
+use Rattle.enc_frame.specs.Counts.{common-few}
+use Rattle.clause_core.specs.CountLaws.{flat_map-few, pieces-few, written-few, times-few}
 
 -- clauses that are listed under a test
 pub if-few : (test : Bool) (clauses : List (List ℤ)) (k : ℕ) → length clauses ≤ k → length (if test then clauses else []) ≤ k
@@ -144,3 +145,7 @@ unfolding cuts not_trivial again
 cuts-few w basis z steps small inputs few slots =
     rw (length-append, length-append, length-append, length-append, length-append)
     (omega (arith, used-few z steps, trivial-few (const_closed (members basis)) basis z steps, order-few steps slots, if-few (reapply_closed (members basis)) (again_all steps) (slot_count steps * 16000) (again-few steps slots), exchange-few w steps inputs slots, row_0-few basis z small))
+
+-- the clauses of a chain and the cuts together
+pub both-few : (w : Words) (basis : ℕ) (z : Sizes) (steps : List StepSlots) → IsSmall z → w.n ≤ 6 → length steps ≤ 16 → slot_count steps ≤ 16000 → length (common w basis z steps ++ cuts w basis z steps) ≤ 610000000
+both-few w basis z steps small inputs few slots = rw length-append (omega (arith, common-few w basis z steps small few slots, cuts-few w basis z steps small inputs few slots))

@@ -1,2 +1,5 @@
 pub mod Vars
 pub mod Counts
+pub mod ChainLaws
+pub mod LiteralLaws
+pub mod PieceLaws

@@ -5,7 +5,8 @@ ghost use Rattle.enc_theory.specs.Cuts.{applies_again as applies_again_of, again
 ghost use Rattle.enc_cuts.specs.Vars.{HasVar, HaveVars};
 
 use crate::slots::{push_not_both, reads};
-use enc_frame::{ClauseList, StepSlots};
+use clause_core::ClauseList;
+use enc_frame::StepSlots;
 use enc_theory::Slot;
 use op_basis::Basis;
 use std::alloc::{AllocError, Global};
@@ -39,7 +40,7 @@ fn push_again_pair(
 }
 
 /// The clauses of a pair and of those of a later step that have the place.
-#[tactic(auto, using(enc_frame::proofs::Ranges::loops), unfolding(enc_theory::specs::Cuts::again_slot))]
+#[tactic(auto, using(clause_core::specs::RangeLaws::loops), unfolding(enc_theory::specs::Cuts::again_slot))]
 fn push_again_slot(
     alloc: Global,
     list: &mut ClauseList,
@@ -58,7 +59,7 @@ fn push_again_slot(
 }
 
 /// The clauses of all pairs of a step.
-#[tactic(auto, using(enc_frame::proofs::Ranges::loops))]
+#[tactic(auto, using(clause_core::specs::RangeLaws::loops))]
 fn push_again_slots(
     alloc: Global,
     list: &mut ClauseList,
@@ -117,7 +118,7 @@ fn push_again_later(
 }
 
 /// The clauses of a step and all later ones.
-#[tactic(auto, using(enc_frame::proofs::Ranges::loops))]
+#[tactic(auto, using(clause_core::specs::RangeLaws::loops))]
 fn push_again_by(
     alloc: Global,
     list: &mut ClauseList,

@@ -2,12 +2,13 @@
 ghost use Rattle.std.specs.Prelude.{◌≡◌, ◌≤◌, ◌<◌, ◌++◌, [], ◌∷◌, All, OnOk};
 ghost use Rattle.std.specs.List.{flat_map};
 ghost use Rattle.enc_theory.specs.Cuts.{may_exchange as may_exchange_of, reader_without, readers_without, exchange_slot, exchange_steps, exchange_pair, exchange_with, exchange};
-ghost use Rattle.enc_frame.specs.Room.{IsWithin};
+ghost use Rattle.clause_core.specs.Clauses.{IsWithin};
 ghost use Rattle.enc_cuts.specs.Vars.{HasVar, HaveVars};
 
 use crate::slots::reads_without;
-use enc_frame::{ClauseList, StepSlots};
-use enc_theory::{Raw, Slot};
+use clause_core::{ClauseList, Raw};
+use enc_frame::StepSlots;
+use enc_theory::Slot;
 use std::alloc::{AllocError, Global};
 use tt_core::{Spec, symmetric};
 
@@ -33,7 +34,7 @@ fn push_reader_without(raws: &mut Vec<Raw>, p: u32, q: u32, slot: Slot) -> Resul
 }
 
 /// Adds for each pair of a step with `p` and not `q` that the step has it.
-#[tactic(auto, using(enc_frame::proofs::Ranges::loops), unfolding(enc_theory::specs::Cuts::readers_without))]
+#[tactic(auto, using(clause_core::specs::RangeLaws::loops), unfolding(enc_theory::specs::Cuts::readers_without))]
 fn push_readers_without(
     raws: &mut Vec<Raw>,
     p: u32,
@@ -72,7 +73,7 @@ fn push_exchange_slot(
 }
 
 /// The clauses of a step.
-#[tactic(auto, using(enc_frame::proofs::Ranges::loops))]
+#[tactic(auto, using(clause_core::specs::RangeLaws::loops))]
 fn push_exchange_slots(
     alloc: Global,
     list: &mut ClauseList,
@@ -155,7 +156,7 @@ fn push_exchange_with(
 
 /// That of two inputs which may be exchanged the later one is read without the earlier one only
 /// after the earlier one was read without the later one.
-#[tactic(auto, using(enc_frame::proofs::Ranges::loops), unfolding(enc_theory::specs::Cuts::exchange))]
+#[tactic(auto, using(clause_core::specs::RangeLaws::loops), unfolding(enc_theory::specs::Cuts::exchange))]
 pub(crate) fn push_exchange(
     alloc: Global,
     list: &mut ClauseList,

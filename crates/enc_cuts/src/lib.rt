@@ -32,7 +32,8 @@ pub use crate::slots::push_bearers;
 use crate::trivial::push_not_trivial;
 pub use crate::trivial::{push_not_idle, push_operator};
 use crate::used::push_used;
-use enc_frame::{ClauseList, StepSlots};
+use clause_core::ClauseList;
+use enc_frame::StepSlots;
 use enc_theory::Sizes;
 use op_basis::Basis;
 use std::alloc::{AllocError, Global};
@@ -62,6 +63,3 @@ pub fn push_cuts(
     push_exchange(alloc, list, spec, steps)?;
     push_row_0(alloc, list, basis, z)
 }
-
-#[cfg(test)]
-mod tests;

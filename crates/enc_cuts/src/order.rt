@@ -5,7 +5,8 @@ ghost use Rattle.enc_theory.specs.Cuts.{larger as larger_of, smaller as smaller_
 ghost use Rattle.enc_cuts.specs.Vars.{HasVar, HaveVars};
 
 use crate::slots::push_not_both;
-use enc_frame::{ClauseList, StepSlots};
+use clause_core::ClauseList;
+use enc_frame::StepSlots;
 use enc_theory::Slot;
 use std::alloc::{AllocError, Global};
 
@@ -49,7 +50,7 @@ fn push_order_pair(alloc: Global, list: &mut ClauseList, u: Slot, v: Slot) -> Re
 }
 
 /// The clauses of a pair and those of the step behind.
-#[tactic(auto, using(enc_frame::proofs::Ranges::loops), unfolding(enc_theory::specs::Cuts::order_slot))]
+#[tactic(auto, using(clause_core::specs::RangeLaws::loops), unfolding(enc_theory::specs::Cuts::order_slot))]
 fn push_order_slot(
     alloc: Global,
     list: &mut ClauseList,
@@ -67,7 +68,7 @@ fn push_order_slot(
 }
 
 /// The clauses of all pairs of two steps.
-#[tactic(auto, using(enc_frame::proofs::Ranges::loops))]
+#[tactic(auto, using(clause_core::specs::RangeLaws::loops))]
 fn push_order_slots(
     alloc: Global,
     list: &mut ClauseList,

@@ -6,7 +6,8 @@ ghost use Rattle.enc_theory.specs.Cuts.{row_0_at, row_0};
 ghost use Rattle.enc_frame.specs.Room.{HasRoom, IsPlace};
 
 use crate::slots::push_bearers;
-use enc_frame::{ClauseList, x_is};
+use clause_core::ClauseList;
+use enc_frame::x_is;
 use enc_theory::Sizes;
 use op_basis::Basis;
 use std::alloc::{AllocError, Global};
@@ -24,7 +25,7 @@ fn push_row_0_at(alloc: Global, list: &mut ClauseList, z: Sizes, i: u32) -> Resu
 }
 
 /// The clauses of all steps.
-#[tactic(auto, using(enc_frame::proofs::Ranges::loops))]
+#[tactic(auto, using(clause_core::specs::RangeLaws::loops))]
 fn push_rows_0(alloc: Global, list: &mut ClauseList, z: Sizes) -> Result<(), AllocError>
     requires room { HasRoom z list.old.vars }
     ensures { OnOk result (list.new ≡ record list.old { clauses = list.old.clauses ++ flat_map (row_0_at z) (places z) }) }

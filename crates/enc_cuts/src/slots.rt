@@ -5,8 +5,9 @@ ghost use Rattle.enc_theory.specs.Cuts.{bears, reads as reads_of, reads_without 
 ghost use Rattle.enc_cuts.specs.Vars.{HasVar};
 ghost use Rattle.enc_frame.specs.Room.{IsSmall, IsPlace};
 
-use enc_frame::{ClauseList, g_var};
-use enc_theory::{Raw, Sizes, Slot};
+use clause_core::{ClauseList, Raw};
+use enc_frame::g_var;
+use enc_theory::{Sizes, Slot};
 use std::alloc::{AllocError, Global};
 
 /// Whether the pair has the place.
@@ -24,7 +25,7 @@ pub(crate) fn reads_without(p: u32, q: u32, slot: Slot) -> bool
 }
 
 /// Adds for each output that it is the step.
-#[tactic(auto, using(enc_frame::proofs::Ranges::loops), unfolding(enc_theory::specs::Cuts::bears, enc_theory::specs::Families::bearer))]
+#[tactic(auto, using(clause_core::specs::RangeLaws::loops), unfolding(enc_theory::specs::Cuts::bears, enc_theory::specs::Families::bearer))]
 pub fn push_bearers(raws: &mut Vec<Raw>, z: Sizes, place: u32) -> Result<(), AllocError>
     requires small { IsSmall z }
     requires place { IsPlace z place }

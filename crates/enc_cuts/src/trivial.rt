@@ -7,8 +7,9 @@ ghost use Rattle.enc_theory.specs.Families.{operator_raw};
 ghost use Rattle.enc_theory.specs.Cuts.{other_operator, not_idle, equal_raw, equal_slot, equal_pair, negation_raw, negations, not_trivial_at, not_trivial};
 ghost use Rattle.enc_frame.specs.Room.{IsSmall, HasRoom, IsPlace, IsSlot, HasSlots};
 
-use enc_frame::{ClauseList, StepSlots, f_var};
-use enc_theory::{Raw, Sizes, Slot};
+use clause_core::{ClauseList, Raw};
+use enc_frame::{StepSlots, f_var};
+use enc_theory::{Sizes, Slot};
 use op_basis::{Basis, Op};
 use std::alloc::{AllocError, Global};
 
@@ -49,7 +50,7 @@ fn push_other_operator(
 }
 
 /// Writes that step `i` copies no operand, and is no constant, where constants can be left out.
-#[tactic(auto, using(crate::proofs::Pieces::pieces), unfolding(enc_theory::specs::Cuts::not_idle))]
+#[tactic(auto, using(crate::specs::PieceLaws::pieces), unfolding(enc_theory::specs::Cuts::not_idle))]
 pub fn push_not_idle(
     alloc: Global,
     list: &mut ClauseList,
@@ -131,7 +132,7 @@ fn push_equal_pair(raws: &mut Vec<Raw>, slot: Slot) -> Result<(), AllocError>
 }
 
 /// Adds for each pair of equal operands that the step has it.
-#[tactic(auto, using(enc_frame::proofs::Ranges::loops))]
+#[tactic(auto, using(clause_core::specs::RangeLaws::loops))]
 fn push_equal_pairs(raws: &mut Vec<Raw>, slots: &[Slot]) -> Result<(), AllocError>
     ensures { OnOk result (raws.new.items ≡ raws.old.items ++ flat_map equal_pair slots.now) }
 {
@@ -166,7 +167,7 @@ fn push_negation(
 }
 
 /// That negations have equal operands.
-#[tactic(auto, using(crate::proofs::Pieces::pieces), unfolding(enc_theory::specs::Cuts::negations))]
+#[tactic(auto, using(crate::specs::PieceLaws::pieces), unfolding(enc_theory::specs::Cuts::negations))]
 fn push_negations(
     alloc: Global,
     list: &mut ClauseList,
@@ -183,7 +184,7 @@ fn push_negations(
 }
 
 /// What pairs of equal operands ask of the operator.
-#[tactic(auto, using(enc_frame::proofs::Ranges::loops))]
+#[tactic(auto, using(clause_core::specs::RangeLaws::loops))]
 fn push_equal_slots(
     alloc: Global,
     list: &mut ClauseList,
@@ -221,7 +222,7 @@ fn push_not_trivial_at(
 }
 
 /// That no step is trivial.
-#[tactic(auto, using(enc_frame::proofs::Ranges::loops), unfolding(enc_theory::specs::Cuts::not_trivial))]
+#[tactic(auto, using(clause_core::specs::RangeLaws::loops), unfolding(enc_theory::specs::Cuts::not_trivial))]
 pub(crate) fn push_not_trivial(
     alloc: Global,
     list: &mut ClauseList,

@@ -5,8 +5,9 @@ ghost use Rattle.enc_theory.specs.Cuts.{reader, readers, used_by, used};
 ghost use Rattle.enc_frame.specs.Room.{HasRoom, HasSlots};
 
 use crate::slots::{push_bearers, reads};
-use enc_frame::{ClauseList, StepSlots};
-use enc_theory::{Raw, Sizes, Slot};
+use clause_core::{ClauseList, Raw};
+use enc_frame::StepSlots;
+use enc_theory::{Sizes, Slot};
 use std::alloc::{AllocError, Global};
 
 /// Adds that the step has this pair, if it has the place.
@@ -22,7 +23,7 @@ fn push_reader(raws: &mut Vec<Raw>, place: u32, slot: Slot) -> Result<(), AllocE
 }
 
 /// Adds for each pair of a step with the place that the step has it.
-#[tactic(auto, using(enc_frame::proofs::Ranges::loops), unfolding(enc_theory::specs::Cuts::readers))]
+#[tactic(auto, using(clause_core::specs::RangeLaws::loops), unfolding(enc_theory::specs::Cuts::readers))]
 fn push_readers(raws: &mut Vec<Raw>, place: u32, step: &StepSlots) -> Result<(), AllocError>
     ensures { OnOk result (raws.new.items ≡ raws.old.items ++ readers place step.now) }
 {
@@ -33,7 +34,7 @@ fn push_readers(raws: &mut Vec<Raw>, place: u32, step: &StepSlots) -> Result<(),
 }
 
 /// Adds for each pair of some steps with the place that the step has it.
-#[tactic(auto, using(enc_frame::proofs::Ranges::loops))]
+#[tactic(auto, using(clause_core::specs::RangeLaws::loops))]
 fn push_all_readers(raws: &mut Vec<Raw>, place: u32, steps: &[StepSlots]) -> Result<(), AllocError>
     ensures { OnOk result (raws.new.items ≡ raws.old.items ++ flat_map (readers place) steps.now) }
 {

@@ -7,8 +7,8 @@ use Rattle.tt_core.specs.Words.{Words, IsSpec}
 use Rattle.enc_theory.specs.Fence.{fence_formula, fence_decoded}
 use Rattle.enc_theory.specs.Decode.{decoded}
 use Rattle.enc_laws.specs.Fence.{fence_decodes}
-use Rattle.enc_cuts.proofs.Chains.{small_chain}
-use Rattle.enc_ssv.proofs.Formulas.{both-few}
+use Rattle.enc_cuts.specs.ChainLaws.{small_chain}
+use Rattle.enc_cuts.specs.Counts.{both-few}
 
 pub ruleset fence = (common_steps, both-few)
 

@@ -5,7 +5,7 @@ use Rattle.std.proofs.lemmas.Grind.{common_steps}
 use Rattle.std.proofs.lemmas.Bool.{cases_eq, cases_lt}
 use Rattle.std.proofs.lemmas.List.{get_or-set_same, get_or-set_other, get_or-replicate, get_or_past, length-replicate}
 use Rattle.std.specs.List.{range_with_len}
-use Rattle.enc_frame.proofs.Ranges.{map-turn_from}
+use Rattle.clause_core.specs.RangeLaws.{map-turn_from}
 use Rattle.chain_theory.specs.Chain.{Step}
 use Rattle.chain_core.specs.StepLaws.{first_step}
 use Rattle.chain_theory.specs.Levels.{placed, step_level, levels_after, level_in}

@@ -6,7 +6,7 @@ use Rattle.std.proofs.lemmas.Bool.{lt-ltb, le-ltb, cond-true, cond-false}
 use Rattle.std.proofs.lemmas.Grind.{common_steps}
 use Rattle.enc_theory.specs.Pairs.{pairs_with}
 use Rattle.enc_theory.specs.Fence.{places_under, fence_pairs}
-use Rattle.enc_frame.proofs.Ranges.{flat_map-turn_from}
+use Rattle.clause_core.specs.RangeLaws.{flat_map-turn_from}
 use Rattle.enc_fence.specs.StepPairs.{step_pairs, those_of_step, none_of_input}
 
 -- the step stands on the first level, or above it

@@ -1,4 +1,2 @@
 pub mod StepPairs
 pub mod Heights
-pub mod Parts
-pub mod FenceLaws

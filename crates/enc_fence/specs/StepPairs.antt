@@ -10,7 +10,8 @@ use Rattle.enc_theory.specs.Numbering.{s_first}
 use Rattle.enc_theory.specs.Pairs.{pairs_with, StepSlots, numbered, laid, layout}
 use Rattle.enc_theory.specs.Fence.{places_under, fence_pairs}
 use Rattle.enc_frame.specs.Room.{IsPair}
-use Rattle.enc_frame.specs.PairLaws.{flat_map-each, flat_map-few, with-below, with-few}
+use Rattle.clause_core.specs.CountLaws.{flat_map-each, flat_map-few}
+use Rattle.enc_frame.specs.PairLaws.{with-below, with-few}
 
 -- the pairs of the step at a place; an input has none
 unfoldable pub step_pairs : Bool → ℕ → List ℕ → ℕ → List Pair

@@ -5,13 +5,15 @@ ghost use Rattle.enc_theory.specs.Numbering.{sizes_of};
 ghost use Rattle.enc_theory.specs.Pairs.{vars_of, slot_count};
 ghost use Rattle.enc_theory.specs.Fence.{fence_layout, fence_decoded};
 ghost use Rattle.enc_frame.specs.Room.{HasRoom, HasSlots};
-ghost use Rattle.enc_fence.specs.Parts.{fence_in};
+ghost use Rattle.enc_theory.specs.Parts.{fence_in};
 
 use crate::pairs::FencePairs;
 use chain_core::Chain;
 use cnf_core::{Assign, Cnf};
 use enc_cuts::push_cuts;
-use enc_frame::{ClauseList, Encoding, Layout, Part, decode, push_common, sizes};
+use clause_core::ClauseList;
+use enc_frame::{Encoding, Layout, decode, push_common, sizes};
+use enc_theory::Part;
 use fence_core::fences;
 use op_basis::Basis;
 use std::alloc::{AllocError, Global};
@@ -24,7 +26,7 @@ use tt_core::{Spec, live_part};
 pub struct FenceEnc;
 
 /// The levels of a part's fence.
-#[tactic(auto, unfolding(crate::specs::Parts::fence_in))]
+#[tactic(auto, unfolding(enc_theory::specs::Parts::fence_in))]
 fn levels_in(part: &Part) -> &[u32]
     ensures { result.now ≡ fence_in part.now }
 {
@@ -81,8 +83,8 @@ fn decode_in(
 
 impl Encoding for FenceEnc {
     ghost use Rattle.enc_theory.specs.Fence.{fence_formula};
-    ghost use Rattle.enc_fence.specs.Parts.{parts_for, fence_in};
-    ghost use Rattle.enc_fence.specs.FenceLaws.{is_sound, is_complete};
+    ghost use Rattle.enc_theory.specs.Parts.{parts_for, fence_in};
+    ghost use Rattle.enc_laws.specs.FenceLaws.{is_sound, is_complete};
 
     ghost parts_of = { λ encoding w r. parts_for w r };
 
@@ -92,7 +94,7 @@ impl Encoding for FenceEnc {
 
     ghost complete = { λ encoding w basis r. is_complete w basis r };
 
-    #[tactic(auto, unfolding(crate::specs::Parts::parts_for))]
+    #[tactic(auto, unfolding(enc_theory::specs::Parts::parts_for))]
     fn parts(&self, alloc: Global, spec: &Spec, r: u32) -> Result<Vec<Part>, AllocError> {
         let live = live_part(alloc, spec)?;
         let mut parts = Vec::new(alloc);

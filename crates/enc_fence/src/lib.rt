@@ -8,17 +8,12 @@
 //!
 //! - `FenceEnc` is the encoding; its law `complete` is that of the fence of a least chain.
 //! - `levels` tells on which level each step of a chain stands.
-//! - `laws` has the law of least chains of few levels, which the trait doesn't state.
 #![tactic(auto)]
 
 mod encoding;
-pub mod laws;
 mod pairs;
 mod step_levels;
 
 pub use encoding::FenceEnc;
 pub use pairs::FencePairs;
 pub use step_levels::levels;
-
-#[cfg(test)]
-mod tests;

@@ -30,7 +30,7 @@ fn levels_into(levels: &mut [u32], n: u32, steps: &[Step])
 
 /// The level of each step, in the order of their places: one more than the larger level of its
 /// operands, where inputs have the level 0.
-#[tactic(auto, using(enc_frame::proofs::Ranges::loops), unfolding(crate::specs::Heights::levels_of))]
+#[tactic(auto, using(clause_core::specs::RangeLaws::loops), unfolding(crate::specs::Heights::levels_of))]
 pub fn levels(alloc: Global, chain: &Chain) -> Result<Vec<u32>, AllocError>
     ensures { IfOk result (λ levels. levels.items ≡ levels_of chain.now) }
 {

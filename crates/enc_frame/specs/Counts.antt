@@ -7,38 +7,15 @@ use Rattle.chain_theory.specs.declared.data.Cell.{Cell}
 use Rattle.chain_theory.specs.declared.data.Cell.TheVariants.{Zero, One, Free}
 use Rattle.op_basis.specs.Basis.{members}
 use Rattle.tt_core.specs.Words.{Words, cell_of}
-use Rattle.enc_theory.specs.declared.data.Raw.{Raw}
+use Rattle.clause_core.specs.declared.raw.Raw.{Raw}
 use Rattle.enc_theory.specs.declared.data.Sizes.{Sizes}
 use Rattle.enc_theory.specs.declared.data.Slot.{Slot}
-use Rattle.enc_theory.specs.Clauses.{simplified, listed, written}
+use Rattle.clause_core.specs.Clauses.{simplified, listed, written}
 use Rattle.enc_theory.specs.Pairs.{StepSlots, slot_count}
 use Rattle.enc_theory.specs.Families.{out_exists_at, out_exists, out_value_is, out_value_at, out_value, out_values_of, out_values_at, out_values, pair_exists_at, pair_exists, value_raw, value_clause, value_bit, value_row, value_slot, value_step, values, operator_raw, operator_clause, operators_at, operators, common}
 use Rattle.enc_frame.specs.Room.{IsSmall}
-use Rattle.enc_frame.specs.PairLaws.{flat_map-few}
-
--- ---- lists made of pieces
-
-pub pieces-few : {X Y : Type 0} (f : X → List Y) (k : ℕ) (xs : List X) → ((x : X) → length (f x) ≤ k) → length (flat_map f xs) ≤ length xs * k
-pieces-few {X} {Y} f k [] each = omega arith
-pieces-few {X} {Y} f k (x ∷ xs) each =
-    let first : length (f x) ≤ k = each x in
-    let rest : length (flat_map f xs) ≤ length xs * k = pieces-few f k xs each in
-    rw length-append (omega (arith, first, rest))
-
-listed-few : (o : Option (List ℤ)) → length (listed o) ≤ 1
-listed-few None = omega arith
-listed-few (Some lits) = omega arith
-
-pub written-few : (raws : List Raw) → length (written raws) ≤ 1
-unfolding written
-written-few raws = listed-few (simplified [] raws)
-
--- a product of numbers within bounds
-pub times-few : (a b m k : ℕ) → a ≤ m → b ≤ k → a * b ≤ m * k
-times-few a b m k ha hb = let one : a * b ≤ m * b = mul-le-mul_right b ha in let two : m * b ≤ m * k = mul-le-mul_left m hb in omega (arith, one, two)
-
-rows-few : (n : ℕ) → n ≤ 6 → 2 ^ n ≤ 64
-rows-few n low = let most : 2 ^ n ≤ 2 ^ 6 = pow_mono low in omega (arith, most)
+use Rattle.enc_frame.specs.BoundLaws.{rows_few}
+use Rattle.clause_core.specs.CountLaws.{flat_map-few, pieces-few, written-few}
 
 -- ---- the families
 
@@ -58,7 +35,7 @@ out_values_of-few : (w : Words) (z : Sizes) (h i : ℕ) → IsSmall z → length
 unfolding out_values_of out_value
 out_values_of-few w z h i small =
     let all : length (flat_map (out_value w z h i) (range_with_len 0 (2 ^ z.n))) ≤ 2 ^ z.n * 1 = flat_map-few (out_value w z h i) 1 0 (2 ^ z.n) (λ t low high. value_at-few z h i t (cell_of w h t)) in
-    omega (arith, all, rows-few z.n small.inputs)
+    omega (arith, all, rows_few z.n small.inputs)
 
 out_values_at-few : (w : Words) (z : Sizes) (h : ℕ) → IsSmall z → length (out_values_at w z h) ≤ 1024
 unfolding out_values_at
@@ -88,7 +65,7 @@ value_slot-few : (z : Sizes) (i : ℕ) (u : Slot) → IsSmall z → length (valu
 unfolding value_slot
 value_slot-few z i u small =
     let all : length (flat_map (value_row z i u) (range_with_len 0 (2 ^ z.n))) ≤ 2 ^ z.n * 8 = flat_map-few (value_row z i u) 8 0 (2 ^ z.n) (λ t low high. value_row-few z i u t) in
-    omega (arith, all, rows-few z.n small.inputs)
+    omega (arith, all, rows_few z.n small.inputs)
 
 values-few : (z : Sizes) (steps : List StepSlots) → IsSmall z → length (values z steps) ≤ slot_count steps * 512
 unfolding values value_step slot_count

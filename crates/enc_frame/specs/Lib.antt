@@ -4,6 +4,7 @@ pub use Rattle.enc_theory.specs.Pairs
 pub use Rattle.enc_theory.specs.Families
 pub use Rattle.enc_theory.specs.Decode
 pub mod Room
-pub mod Seen
 pub mod PairLaws
 pub mod Counts
+pub mod RoomLaws
+pub mod BoundLaws

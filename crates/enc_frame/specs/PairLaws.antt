@@ -4,22 +4,8 @@ use Rattle.std.specs.List.{range_with_len, flat_map}
 use Rattle.std.proofs.Common.{arith, length-append}
 use Rattle.std.proofs.lemmas.List.Elements.{All-nil, All-cons, All-append}
 use Rattle.enc_theory.specs.Pairs.{pair, pairs_of, pairs_with, pairs_below}
+use Rattle.clause_core.specs.CountLaws.{flat_map-each, flat_map-few}
 use Rattle.enc_frame.specs.Room.{IsPair}
-
--- ---- lists made of pieces over a range
-
--- what holds of each piece's elements holds of all
-pub flat_map-each : {X : Type 0} (P : X → Type 0) (f : ℕ → List X) (a n : ℕ) → ((x : ℕ) → a ≤ x → x < a + n → All P (f x)) → All P (flat_map f (range_with_len a n))
-flat_map-each {X} P f a zero each = All-nil P
-flat_map-each {X} P f a (suc n) each = All-append P (f a) (flat_map f (range_with_len (a + 1) n)) (each a (omega arith) (omega arith)) (flat_map-each P f (a + 1) n (λ x low high. each x (omega arith) (omega arith)))
-
--- pieces of at most k elements make at most k times their number
-pub flat_map-few : {X : Type 0} (f : ℕ → List X) (k a n : ℕ) → ((x : ℕ) → a ≤ x → x < a + n → length (f x) ≤ k) → length (flat_map f (range_with_len a n)) ≤ n * k
-flat_map-few {X} f k a zero each = omega arith
-flat_map-few {X} f k a (suc n) each =
-    let first : length (f a) ≤ k = each a (omega arith) (omega arith) in
-    let rest : length (flat_map f (range_with_len (a + 1) n)) ≤ n * k = flat_map-few f k (a + 1) n (λ x low high. each x (omega arith) (omega arith)) in
-    rw length-append (omega (arith, first, rest))
 
 -- ---- pairs
 

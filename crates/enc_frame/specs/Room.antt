@@ -1,7 +1,5 @@
 -- How large formulas may be, and what their parts are made of.
 use Rattle.std.specs.Prelude.{◌≡◌, length, ℕ, ◌+◌, ◌≤◌, ◌<◌, All}
-use Rattle.enc_theory.specs.declared.data.Raw.{Raw}
-use Rattle.enc_theory.specs.declared.data.Raw.TheVariants.{Fixed, Var}
 use Rattle.enc_theory.specs.declared.data.Sizes.{Sizes}
 use Rattle.tt_core.specs.Words.{Words}
 use Rattle.enc_theory.specs.declared.data.Pair.{Pair}
@@ -25,11 +23,6 @@ pub record HasRoom (z : Sizes) (vars : ℕ) : Type 0 where
 pub record IsPlace (z : Sizes) (i : ℕ) : Type 0 where
   pub from : z.n + 1 ≤ i
   pub below : i < z.n + 1 + z.r
-
--- a listed literal's variable is one of 1 to vars
-unfoldable pub IsWithin : ℕ → Raw → Type 0
-IsWithin vars (Fixed bit) = Unit {0}
-IsWithin vars (Var v bit) = (1 ≤ v) × (v ≤ vars)
 
 -- both operands are places below the step's
 pub record IsPair (place : ℕ) (p : Pair) : Type 0 where

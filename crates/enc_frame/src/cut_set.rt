@@ -1,3 +1,4 @@
+//! Which cuts a basis allows.
 ghost use Rattle.std.specs.Prelude.{◌≡◌};
 ghost use Rattle.op_basis.specs.Basis.{members};
 ghost use Rattle.op_basis.specs.Closed.{swap_closed, const_closed, polarity_closed, reapply_closed};

@@ -111,7 +111,7 @@ fn first_bearer(bits: &[bool], z: Sizes, h: u32) -> u32
 }
 
 /// What the live outputs are.
-#[tactic(auto, using(crate::proofs::Ranges::loops), unfolding(enc_theory::specs::Decode::decoded_out))]
+#[tactic(auto, using(clause_core::specs::RangeLaws::loops), unfolding(enc_theory::specs::Decode::decoded_out))]
 fn live_outs(alloc: Global, bits: &[bool], z: Sizes) -> Result<Vec<Out>, AllocError>
     requires { IsSmall z }
     ensures { IfOk result (λ outs. outs.items ≡ map (decoded_out z (bits_of bits.now)) (outputs z)) }

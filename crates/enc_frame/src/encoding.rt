@@ -1,4 +1,6 @@
-use crate::Part;
+//! What an encoding is: the parts of a size, a formula for each, the chain that a solution spells, and the
+//! two laws by which formulas tell of chains.
+use enc_theory::Part;
 use chain_core::Chain;
 use cnf_core::{Assign, Cnf};
 use op_basis::Basis;
@@ -13,9 +15,9 @@ pub trait Encoding {
     ghost use Rattle.chain_theory.specs.Agreement.{Agrees, IsOver, HasChain, IsMinimum};
     ghost use Rattle.op_basis.specs.Basis.{members};
     ghost use Rattle.sat_theory.specs.Formula.{Formula, Satisfies, bits_of};
-    ghost use Rattle.tt_core.specs.Words.{Words, IsSpec, specification};
-    ghost use Rattle.enc_theory.specs.Clauses.{IsSatisfiable};
-    ghost use Rattle.enc_frame.specs.declared.part.Part.{Part};
+    ghost use Rattle.tt_core.specs.Words.{Words, specification};
+    ghost use Rattle.clause_core.specs.Clauses.{IsSatisfiable};
+    ghost use Rattle.enc_theory.specs.declared.part.Part.{Part};
 
     /// The parts of a size, in their order.
     ghost parts_of: { Self → Words → ℕ → List Part };
@@ -55,7 +57,6 @@ pub trait Encoding {
         requires size { r ≤ 16 }
         requires operators { 0 < basis }
         requires part { Contains (parts_of self.now spec.now r) part.now }
-        requires bits { length assign.now ≡ (formula_of self.now spec.now basis r part.now).vars }
         requires satisfied { Satisfies (bits_of assign.now) (formula_of self.now spec.now basis r part.now) }
         ensures size { IfOk result (λ chain. length chain.steps ≡ r) }
         ensures over { IfOk result (λ chain. IsOver (members basis) chain) }
@@ -63,9 +64,9 @@ pub trait Encoding {
 
     /// Where an assignment satisfies the formula of some part of size r, a chain of r steps over the
     /// basis agrees.
-    ghost sound: { (encoding : Self) (w : Words) (basis r : ℕ) (part : Part) → IsSpec w → r ≤ 16 → 0 < basis → Contains (parts_of encoding w r) part → IsSatisfiable (formula_of encoding w basis r part) → HasChain (specification w) (members basis) r };
+    ghost sound: { (encoding : Self) (w : Words) (basis r : ℕ) (part : Part) → Contains (parts_of encoding w r) part → IsSatisfiable (formula_of encoding w basis r part) → HasChain (specification w) (members basis) r };
 
     /// Where a chain of r steps over the basis agrees and none of fewer steps does, the formula of
     /// some part of size r is satisfiable.
-    ghost complete: { (encoding : Self) (w : Words) (basis r : ℕ) → IsSpec w → r ≤ 16 → 0 < basis → IsMinimum (specification w) (members basis) r → (part : Part) × Contains (parts_of encoding w r) part × IsSatisfiable (formula_of encoding w basis r part) };
+    ghost complete: { (encoding : Self) (w : Words) (basis r : ℕ) → IsMinimum (specification w) (members basis) r → (part : Part) × Contains (parts_of encoding w r) part × IsSatisfiable (formula_of encoding w basis r part) };
 }

@@ -1,20 +1,20 @@
 //! The clauses that say what a chain is.
 ghost use Rattle.std.specs.Prelude.{◌≡◌, ◌+◌, ◌^◌, ◌<◌, ◌≤◌, ◌++◌, length, All, IfOk, OnOk};
 ghost use Rattle.enc_theory.specs.Families.{bearer as bearer_of, out_exists_at, out_exists, out_value_is, out_value, out_values_of, out_values_at, out_values, chosen as chosen_of, pair_exists_at, pair_exists, operator_raw, operator_clause, operators_at, operators, common};
-ghost use Rattle.enc_theory.specs.Clauses.{written};
+ghost use Rattle.clause_core.specs.Clauses.{written};
 ghost use Rattle.enc_frame.specs.Room.{IsSmall, HasRoom, IsPlace, HasSlots, AreFor};
 
-use crate::ClauseList;
+use clause_core::{ClauseList, Raw};
+use enc_theory::Sizes;
 use crate::layout::StepSlots;
 use crate::values::push_values;
 use crate::vars::{f_var, g_var, rows, x_is};
-use enc_theory::{Raw, Sizes};
 use op_basis::{Basis, Op};
 use std::alloc::{AllocError, Global};
 use tt_core::{Cell, Spec, row};
 
 /// The clause that output `h` is some step.
-#[tactic(auto, using(crate::proofs::Ranges::loops), unfolding(enc_theory::specs::Families::out_exists_at, enc_theory::specs::Families::bearer))]
+#[tactic(auto, using(clause_core::specs::RangeLaws::loops), unfolding(enc_theory::specs::Families::out_exists_at, enc_theory::specs::Families::bearer))]
 fn push_out_exists_at(
     alloc: Global,
     list: &mut ClauseList,
@@ -33,7 +33,7 @@ fn push_out_exists_at(
 }
 
 /// Writes that each output is some step.
-#[tactic(auto, using(crate::proofs::Ranges::loops), unfolding(enc_theory::specs::Families::out_exists))]
+#[tactic(auto, using(clause_core::specs::RangeLaws::loops), unfolding(enc_theory::specs::Families::out_exists))]
 pub fn push_out_exists(alloc: Global, list: &mut ClauseList, z: Sizes) -> Result<(), AllocError>
     requires { HasRoom z list.old.vars }
     ensures { OnOk result (list.new ≡ record list.old { clauses = list.old.clauses ++ out_exists z }) }
@@ -93,7 +93,7 @@ fn push_out_value(
 }
 
 /// The clauses of all rows.
-#[tactic(auto, using(crate::proofs::Ranges::loops), unfolding(enc_theory::specs::Families::out_values_of))]
+#[tactic(auto, using(clause_core::specs::RangeLaws::loops), unfolding(enc_theory::specs::Families::out_values_of))]
 fn push_out_values_of(
     alloc: Global,
     list: &mut ClauseList,
@@ -115,7 +115,7 @@ fn push_out_values_of(
 }
 
 /// The clauses of all steps.
-#[tactic(auto, using(crate::proofs::Ranges::loops), unfolding(enc_theory::specs::Families::out_values_at))]
+#[tactic(auto, using(clause_core::specs::RangeLaws::loops), unfolding(enc_theory::specs::Families::out_values_at))]
 fn push_out_values_at(
     alloc: Global,
     list: &mut ClauseList,
@@ -135,7 +135,7 @@ fn push_out_values_at(
 }
 
 /// Writes that a step which is an output has the values of its cells.
-#[tactic(auto, using(crate::proofs::Ranges::loops), unfolding(enc_theory::specs::Families::out_values))]
+#[tactic(auto, using(clause_core::specs::RangeLaws::loops), unfolding(enc_theory::specs::Families::out_values))]
 pub fn push_out_values(
     alloc: Global,
     list: &mut ClauseList,
@@ -153,7 +153,7 @@ pub fn push_out_values(
 }
 
 /// The clause that a step has some pair.
-#[tactic(auto, using(crate::proofs::Ranges::loops), unfolding(enc_theory::specs::Families::pair_exists_at, enc_theory::specs::Families::chosen))]
+#[tactic(auto, using(clause_core::specs::RangeLaws::loops), unfolding(enc_theory::specs::Families::pair_exists_at, enc_theory::specs::Families::chosen))]
 fn push_pair_exists_at(
     alloc: Global,
     list: &mut ClauseList,
@@ -172,7 +172,7 @@ fn push_pair_exists_at(
 }
 
 /// That each step has some pair.
-#[tactic(auto, using(crate::proofs::Ranges::loops), unfolding(enc_theory::specs::Families::pair_exists))]
+#[tactic(auto, using(clause_core::specs::RangeLaws::loops), unfolding(enc_theory::specs::Families::pair_exists))]
 fn push_pair_exists(
     alloc: Global,
     list: &mut ClauseList,
@@ -218,7 +218,7 @@ fn push_operator_clause(
 }
 
 /// The clauses of all operators.
-#[tactic(auto, using(crate::proofs::Ranges::loops), unfolding(enc_theory::specs::Families::operators_at))]
+#[tactic(auto, using(clause_core::specs::RangeLaws::loops), unfolding(enc_theory::specs::Families::operators_at))]
 fn push_operators_at(
     alloc: Global,
     list: &mut ClauseList,
@@ -237,7 +237,7 @@ fn push_operators_at(
 }
 
 /// Writes that each step's operator is a member.
-#[tactic(auto, using(crate::proofs::Ranges::loops), unfolding(enc_theory::specs::Families::operators))]
+#[tactic(auto, using(clause_core::specs::RangeLaws::loops), unfolding(enc_theory::specs::Families::operators))]
 pub fn push_operators(
     alloc: Global,
     list: &mut ClauseList,

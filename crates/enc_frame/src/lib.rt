@@ -7,38 +7,27 @@
 //!   the size, is over the basis and agrees, and two laws: where some assignment satisfies a formula of
 //!   size r, a chain of r steps over the basis agrees (`sound`); and where r is the least size of such
 //!   a chain, some formula of size r is satisfiable (`complete`).
-//! - `ClauseList` writes listed clauses, each with what is false or repeated left out.
 //! - `Layout::new` gives each step its pairs with their variables, in their order.
 //! - `push_common` writes the clauses of any encoding whose steps choose among pairs. Its families of
 //!   outputs and operators, which no pair is in, stand alone too, for encodings of another kind.
 //! - `decode` takes the chain out of an assignment, and `with_outs` puts outs to steps that were taken
 //!   out in another way.
-//! - `cuts` tells which cuts a basis allows, and `laws` why they lose nothing: some least chain meets
-//!   them all.
+//! - `cuts` tells which cuts a basis allows; that they lose nothing is a law of `chain_laws`.
 #![tactic(auto)]
 
 mod cut_set;
 mod decoding;
 mod encoding;
 mod families;
-pub mod laws;
 mod layout;
-mod list;
 mod pairs;
-mod part;
 mod values;
 mod vars;
 
 pub use cut_set::{CutSet, cuts};
 pub use decoding::{bit, decode, operator, with_outs};
-pub use enc_theory::{Method, Pair, Raw, Side, Sizes, Slot};
 pub use encoding::Encoding;
 pub use families::{push_common, push_operators, push_out_exists, push_out_values};
 pub use layout::{Layout, StepSlots};
-pub use list::ClauseList;
 pub use pairs::{AllPairs, Pairs, push_pairs_with};
-pub use part::Part;
 pub use vars::{f_var, g_var, rows, s_first, sizes, x_is};
-
-#[cfg(test)]
-mod tests;

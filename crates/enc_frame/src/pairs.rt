@@ -52,7 +52,7 @@ fn push_pairs_of(
 
 /// Adds the pairs whose larger operand is this place, in their order; where they are ordered, those with
 /// j <= k alone.
-#[tactic(auto, using(crate::proofs::Ranges::loops), unfolding(enc_theory::specs::Pairs::pairs_with))]
+#[tactic(auto, using(clause_core::specs::RangeLaws::loops), unfolding(enc_theory::specs::Pairs::pairs_with))]
 pub fn push_pairs_with(pairs: &mut Vec<Pair>, ordered: bool, large: u32) -> Result<(), AllocError>
     requires { 1 ≤ large }
     ensures { OnOk result (pairs.new.items ≡ pairs.old.items ++ pairs_with ordered large) }
@@ -65,7 +65,7 @@ pub fn push_pairs_with(pairs: &mut Vec<Pair>, ordered: bool, large: u32) -> Resu
 }
 
 /// The pairs of places below one, in their order.
-#[tactic(auto, using(crate::proofs::Ranges::loops), unfolding(enc_theory::specs::Pairs::pairs_below))]
+#[tactic(auto, using(clause_core::specs::RangeLaws::loops), unfolding(enc_theory::specs::Pairs::pairs_below))]
 fn pairs_below(alloc: Global, ordered: bool, place: u32) -> Result<Vec<Pair>, AllocError>
     requires { 1 ≤ place }
     ensures { IfOk result (λ pairs. pairs.items ≡ pairs_below_of ordered place) }

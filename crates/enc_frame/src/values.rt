@@ -3,10 +3,10 @@ ghost use Rattle.std.specs.Prelude.{◌≡◌, ◌+◌, ◌^◌, ◌<◌, ◌≤
 ghost use Rattle.enc_theory.specs.Families.{value_clause, value_bit, value_row, value_slot, value_step, values};
 ghost use Rattle.enc_frame.specs.Room.{HasRoom, IsPlace, IsSlot, HasSlots};
 
-use crate::ClauseList;
+use clause_core::{ClauseList, Raw};
+use enc_theory::{Sizes, Slot};
 use crate::layout::StepSlots;
 use crate::vars::{f_var, rows, x_is};
-use enc_theory::{Raw, Sizes, Slot};
 use std::alloc::{AllocError, Global};
 
 /// A pair that a step may have, on a row.
@@ -81,7 +81,7 @@ fn push_value_row(alloc: Global, list: &mut ClauseList, z: Sizes, at: At) -> Res
 }
 
 /// The clauses of a pair.
-#[tactic(auto, using(crate::proofs::Ranges::loops), unfolding(enc_theory::specs::Families::value_slot))]
+#[tactic(auto, using(clause_core::specs::RangeLaws::loops), unfolding(enc_theory::specs::Families::value_slot))]
 fn push_value_slot(
     alloc: Global,
     list: &mut ClauseList,
@@ -101,7 +101,7 @@ fn push_value_slot(
 }
 
 /// The clauses of a step.
-#[tactic(auto, using(crate::proofs::Ranges::loops), unfolding(enc_theory::specs::Families::value_step))]
+#[tactic(auto, using(clause_core::specs::RangeLaws::loops), unfolding(enc_theory::specs::Families::value_step))]
 fn push_value_step(
     alloc: Global,
     list: &mut ClauseList,
@@ -119,7 +119,7 @@ fn push_value_step(
 }
 
 /// The clauses of all steps.
-#[tactic(auto, using(crate::proofs::Ranges::loops), unfolding(enc_theory::specs::Families::values))]
+#[tactic(auto, using(clause_core::specs::RangeLaws::loops), unfolding(enc_theory::specs::Families::values))]
 pub(crate) fn push_values(
     alloc: Global,
     list: &mut ClauseList,

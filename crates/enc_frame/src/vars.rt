@@ -1,10 +1,12 @@
 //! The variables of a formula, computed from places.
 ghost use Rattle.std.specs.Prelude.{◌≡◌, ℕ, ◌+◌, ◌^◌, ◌<◌, ◌≤◌, length};
 ghost use Rattle.enc_theory.specs.Numbering.{sizes_of, x_var as x_var_of, g_var as g_var_of, f_first as f_first_of, f_var as f_var_of, s_first as s_first_of, x_is as x_is_of};
-ghost use Rattle.enc_frame.specs.Room.{IsSmall, HasRoom, IsPlace, IsWithin};
+ghost use Rattle.enc_frame.specs.Room.{IsSmall, HasRoom, IsPlace};
+ghost use Rattle.clause_core.specs.Clauses.{IsWithin};
 
 use chain_theory::plain::input;
-use enc_theory::{Raw, Sizes};
+use clause_core::Raw;
+use enc_theory::Sizes;
 use tt_core::Spec;
 
 /// The sizes of a formula for these tables with `r` steps.
@@ -21,7 +23,7 @@ pub fn sizes(spec: &Spec, r: u32) -> Sizes
 }
 
 /// How many rows there are.
-#[tactic(auto, using(crate::proofs::Bounds::row_count))]
+#[tactic(auto, using(crate::specs::BoundLaws::row_count))]
 pub fn rows(z: Sizes) -> u32
     requires { IsSmall z }
     ensures value { result ≡ 2 ^ z.n }
@@ -31,7 +33,7 @@ pub fn rows(z: Sizes) -> u32
 }
 
 /// The variable of step `i` on row `t`.
-#[tactic(auto, using(crate::proofs::Bounds::products), unfolding(enc_theory::specs::Numbering::x_var, enc_theory::specs::Numbering::s_first))]
+#[tactic(auto, using(crate::specs::BoundLaws::products), unfolding(enc_theory::specs::Numbering::x_var, enc_theory::specs::Numbering::s_first))]
 pub(crate) fn x_var(z: Sizes, i: u32, t: u32) -> u32
     requires small { IsSmall z }
     requires place { IsPlace z i }
@@ -43,7 +45,7 @@ pub(crate) fn x_var(z: Sizes, i: u32, t: u32) -> u32
 }
 
 /// The variable of output `h` and step `i`.
-#[tactic(auto, using(crate::proofs::Bounds::products), unfolding(enc_theory::specs::Numbering::g_var, enc_theory::specs::Numbering::s_first))]
+#[tactic(auto, using(crate::specs::BoundLaws::products), unfolding(enc_theory::specs::Numbering::g_var, enc_theory::specs::Numbering::s_first))]
 pub fn g_var(z: Sizes, h: u32, i: u32) -> u32
     requires small { IsSmall z }
     requires output { (1 ≤ h) × (h ≤ z.m) }
@@ -55,7 +57,7 @@ pub fn g_var(z: Sizes, h: u32, i: u32) -> u32
 }
 
 /// The first variable of operators.
-#[tactic(auto, using(crate::proofs::Bounds::products))]
+#[tactic(auto, using(crate::specs::BoundLaws::products))]
 pub(crate) fn f_first(z: Sizes) -> u32
     requires { IsSmall z }
     ensures value { result ≡ f_first_of z }
@@ -86,7 +88,7 @@ pub fn s_first(z: Sizes) -> u32
 }
 
 /// That place `j` has the bit on row `t`.
-#[tactic(auto, unfolding(enc_theory::specs::Numbering::x_is, crate::specs::Room::IsWithin))]
+#[tactic(auto, unfolding(enc_theory::specs::Numbering::x_is, clause_core::specs::Clauses::IsWithin))]
 pub fn x_is(z: Sizes, j: u32, t: u32, bit: bool) -> Raw
     requires small { IsSmall z }
     requires place { (1 ≤ j) × (j < z.n + 1 + z.r) }

@@ -9,16 +9,17 @@ use Rattle.tt_core.specs.Words.{Words, specification}
 use Rattle.tt_core.specs.Live.{live_words}
 use Rattle.enc_theory.specs.declared.data.Sizes.{Sizes}
 use Rattle.enc_theory.specs.declared.data.Pair.{Pair}
-use Rattle.enc_theory.specs.Clauses.{IsSatisfiable}
+use Rattle.clause_core.specs.Clauses.{IsSatisfiable}
 use Rattle.enc_theory.specs.Numbering.{sizes_of}
 use Rattle.enc_theory.specs.Pairs.{layout, vars_of}
 use Rattle.enc_theory.specs.Families.{common}
 use Rattle.enc_theory.specs.Cuts.{cuts}
 use Rattle.enc_theory.specs.Decode.{decoded}
-use Rattle.enc_laws.specs.Holds.{holds_both, both_hold, holds_satisfied, satisfied_holds}
+use Rattle.clause_core.specs.Holds.{holds_both, both_hold, holds_satisfied, satisfied_holds}
 use Rattle.enc_laws.specs.Layouts.{AreBelow, layout_is_laid}
 use Rattle.enc_laws.specs.Live.{whole_chain, restored_is_chain, restored_agrees, picked}
-use Rattle.enc_laws.specs.Formulas.{are_formula, clauses_both, common_clauses, layout_has_room}
+use Rattle.clause_core.specs.WrittenLaws.{are_formula, clauses_both}
+use Rattle.enc_laws.specs.Formulas.{common_clauses, layout_has_room}
 use Rattle.enc_laws.specs.CutClauses.{cuts_clauses}
 use Rattle.enc_laws.specs.Decoded.{IsFor, for_is_there, decoded_is_for}
 use Rattle.enc_laws.specs.Complete.{assignment_of}

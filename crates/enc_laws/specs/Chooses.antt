@@ -7,11 +7,11 @@ use Rattle.tt_core.specs.Words.{Words}
 use Rattle.enc_theory.specs.declared.data.Side.{Side}
 use Rattle.enc_theory.specs.declared.data.Side.TheVariants.{First, Second}
 use Rattle.enc_theory.specs.declared.data.Sizes.{Sizes}
-use Rattle.enc_theory.specs.Clauses.{written}
+use Rattle.clause_core.specs.Clauses.{written}
 use Rattle.enc_theory.specs.Numbering.{places, rows, f_var}
 use Rattle.enc_theory.specs.Families.{out_exists, out_values, operators}
 use Rattle.enc_theory.specs.Select.{choice_var, value_var, below, chooses, choice_exists, choices_exist, operands_exist, copy_raw, copy_row, copy_place, copy_step, copies, result_raw, result_clause, result_bit, result_row, result_step, results, chosen_chain}
-use Rattle.enc_laws.specs.Holds.{holds, holds_both, both_hold, holds_each, each_holds, same, raw_value, raws_bit, raws_bit-map, holds-written, positive-map, any_get, any_make, range_contains, range_inside}
+use Rattle.clause_core.specs.Holds.{holds, holds_both, both_hold, holds_each, each_holds, same, raw_value, raws_bit, raws_bit-map, holds-written, positive-map, any_get, any_make, range_contains, range_inside}
 use Rattle.enc_laws.specs.Bounds.{f_positive}
 use Rattle.enc_laws.specs.Layouts.{IsStepPlace}
 use Rattle.enc_laws.specs.Solves.{x_bit, MeetsTables, place_there, there_place, row_there, there_row, x_is_positive, x_is_value, clause_of, clause_gives, gives_clause, meets_from, bearers_hold, outs_hold, operators_hold}

@@ -13,7 +13,7 @@ use Rattle.enc_theory.specs.declared.data.Side.TheVariants.{First, Second}
 use Rattle.enc_theory.specs.declared.data.Sizes.{Sizes}
 use Rattle.enc_theory.specs.Numbering.{sizes_of, places}
 use Rattle.enc_theory.specs.Select.{choice_var, value_first, value_var}
-use Rattle.enc_laws.specs.Holds.{any_get, any_make}
+use Rattle.clause_core.specs.Holds.{any_get, any_make}
 use Rattle.enc_laws.specs.Layouts.{IsStepPlace}
 use Rattle.enc_laws.specs.Solves.{place_there, there_place}
 use Rattle.enc_laws.specs.Decoded.{IsFor}

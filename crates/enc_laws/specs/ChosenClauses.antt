@@ -1,24 +1,24 @@
 -- The clauses of an encoding whose steps choose each operand by itself are clauses of a formula.
-use Rattle.std.proofs.Common.{◌≡◌, ℕ, ◌+◌, ◌-◌, ◌^◌, ◌<◌, ◌≤◌, ◌==◌, Bool, true, false, not, ◌&&◌, List, [], ◌∷◌, ◌++◌, map, Contains, arith, ⊎_elim}
-use Rattle.std.proofs.Common.{◌⊎◌}
+use Rattle.std.proofs.Common.{◌≡◌, ℕ, ◌+◌, ◌-◌, ◌^◌, ◌<◌, ◌≤◌, ◌==◌, Bool, true, false, not, ◌&&◌, List, [], ◌∷◌, ◌++◌, map, Contains, arith, ⊎_elim, ◌⊎◌}
 use Rattle.std.specs.Prelude.{ℤ, if◌then◌else◌, nat_lt}
 use Rattle.std.specs.List.{flat_map, range_with_len}
 use Rattle.op_basis.specs.Basis.{members}
 use Rattle.op_basis.specs.Closed.{swap_closed, const_closed, reapply_closed}
 use Rattle.tt_core.specs.Words.{Words}
-use Rattle.enc_theory.specs.declared.data.Raw.TheVariants.{Var}
+use Rattle.clause_core.specs.declared.raw.Raw.TheVariants.{Var}
 use Rattle.enc_theory.specs.declared.data.Side.{Side}
 use Rattle.enc_theory.specs.declared.data.Side.TheVariants.{First, Second}
 use Rattle.enc_theory.specs.declared.data.Sizes.{Sizes}
-use Rattle.enc_theory.specs.Clauses.{written}
+use Rattle.clause_core.specs.Clauses.{written}
 use Rattle.enc_theory.specs.Numbering.{places, rows, outputs, f_var}
 use Rattle.enc_theory.specs.Families.{out_exists, out_values, operator_raw, operators}
 use Rattle.enc_theory.specs.Cuts.{bears, not_idle, row_0}
 use Rattle.enc_theory.specs.Select.{choice_var, value_var, select_vars, below, above, chooses, choice_exists, choices_exist, operands_exist, copy_raw, copy_row, copy_place, copy_step, copies, result_raw, result_clause, result_bit, result_row, result_step, results, chosen_chain, not_these, rising_pair, rising_from, rising_step, rising, choosers, used_step, used_steps, equal_choice, negation_pair, negation_from, negation_step, trivial_step, trivial_steps, falling_pair, falling_from, falling_step, falling, different, again_operand, again_operands, again_from, again_after, again_step, again_steps, chosen_cuts}
-use Rattle.enc_laws.specs.Holds.{range_inside}
+use Rattle.clause_core.specs.Holds.{range_inside}
 use Rattle.enc_laws.specs.Layouts.{IsStepPlace}
 use Rattle.enc_laws.specs.Solves.{there_place, there_row}
-use Rattle.enc_laws.specs.Formulas.{IsOf, AreOf, are_of-map, AreClauses, no_clauses, written_clauses, clauses_each, clauses_both, HasRoom, room_without_pairs, x_is_of, bearer_clauses, outs_clauses, operators_clauses}
+use Rattle.clause_core.specs.WrittenLaws.{IsOf, AreOf, are_of-map, AreClauses, no_clauses, written_clauses, clauses_each, clauses_both}
+use Rattle.enc_laws.specs.Formulas.{HasRoom, room_without_pairs, x_is_of, bearer_clauses, outs_clauses, operators_clauses}
 use Rattle.enc_laws.specs.CutClauses.{are_of-append, are_of-flat_map, clauses_if, operator_of, raw_of, bears_of, idle_clauses, row_0_clauses}
 use Rattle.enc_laws.specs.SelectVars.{IsBelow, choice_positive, choice_within, value_positive, value_within, first_within}
 use Rattle.enc_laws.specs.Chooses.{there_below, is_below}

@@ -10,18 +10,18 @@ use Rattle.op_basis.specs.Closed.{swap_closed, const_closed, reapply_closed}
 use Rattle.chain_laws.specs.Reduced.{IsStep, IsOut, IsRead, Reads, AppliesAgain, IsReduced, NegatesBoth, IsNegation}
 use Rattle.sat_theory.specs.Formula.{Assignment}
 use Rattle.tt_core.specs.Words.{Words, specification}
-use Rattle.enc_theory.specs.declared.data.Raw.{Raw}
-use Rattle.enc_theory.specs.declared.data.Raw.TheVariants.{Var}
+use Rattle.clause_core.specs.declared.raw.Raw.{Raw}
+use Rattle.clause_core.specs.declared.raw.Raw.TheVariants.{Var}
 use Rattle.enc_theory.specs.declared.data.Side.{Side}
 use Rattle.enc_theory.specs.declared.data.Side.TheVariants.{First, Second}
 use Rattle.enc_theory.specs.declared.data.Sizes.{Sizes}
-use Rattle.enc_theory.specs.Clauses.{written}
+use Rattle.clause_core.specs.Clauses.{written}
 use Rattle.enc_theory.specs.Numbering.{sizes_of, places, outputs, f_var}
 use Rattle.enc_theory.specs.Families.{operator_raw}
 use Rattle.enc_theory.specs.Cuts.{bears, not_idle, row_0}
 use Rattle.enc_theory.specs.Select.{choice_var, below, above, chooses, not_these, rising_pair, rising_from, rising_step, rising, choosers, used_step, used_steps, equal_choice, negation_pair, negation_from, negation_step, trivial_step, trivial_steps, falling_pair, falling_from, falling_step, falling, different, again_operand, again_operands, again_from, again_after, again_step, again_steps, chosen_cuts}
 use Rattle.enc_laws.specs.Bounds.{f_positive}
-use Rattle.enc_laws.specs.Holds.{holds, both_hold, each_holds, same, raw_value, raws_bit, raws_bit-append, raws_make, holds-written, ArePositive, positive-append, positive-flat_map, contains_head, contains_tail, contains_cases, flat_map_make, range_contains, range_inside}
+use Rattle.clause_core.specs.Holds.{holds, both_hold, each_holds, same, raw_value, raws_bit, raws_bit-append, raws_make, holds-written, ArePositive, positive-append, positive-flat_map, contains_head, contains_tail, contains_cases, flat_map_make, range_contains, range_inside}
 use Rattle.enc_laws.specs.Layouts.{IsStepPlace}
 use Rattle.enc_laws.specs.Solves.{there_place, differs_from}
 use Rattle.enc_laws.specs.Decoded.{IsFor}

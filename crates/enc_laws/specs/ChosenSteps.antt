@@ -19,7 +19,7 @@ use Rattle.enc_theory.specs.declared.data.Sizes.{Sizes}
 use Rattle.enc_theory.specs.Numbering.{places, f_var}
 use Rattle.enc_theory.specs.Decode.{first_bearer}
 use Rattle.enc_theory.specs.Select.{choice_var, value_var, below, first_choice, chosen_step}
-use Rattle.enc_laws.specs.Holds.{contains_head, contains_tail, any_make}
+use Rattle.clause_core.specs.Holds.{contains_head, contains_tail, any_make}
 use Rattle.enc_laws.specs.Layouts.{IsStepPlace}
 use Rattle.enc_laws.specs.Solves.{x_bit}
 use Rattle.enc_laws.specs.Sound.{IsSpelled, bearer_place, bearer_met, made_from}

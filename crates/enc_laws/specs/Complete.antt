@@ -21,7 +21,7 @@ use Rattle.enc_theory.specs.declared.data.Slot.{Slot}
 use Rattle.enc_theory.specs.Numbering.{sizes_of, x_var, g_var, f_var, s_first}
 use Rattle.enc_theory.specs.Pairs.{StepSlots}
 use Rattle.enc_theory.specs.Decode.{operator_in}
-use Rattle.enc_laws.specs.Holds.{any_get, any_make}
+use Rattle.clause_core.specs.Holds.{any_get, any_make}
 use Rattle.enc_laws.specs.Layouts.{IsStepPlace, IsSlotOf, IsLaid, HasSlot, IsSameSlot, laid_is_place}
 use Rattle.enc_laws.specs.Live.{out_at, IsStepOut}
 use Rattle.enc_laws.specs.Solves.{x_bit, MeetsTables, Solves}

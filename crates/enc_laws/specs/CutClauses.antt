@@ -6,19 +6,20 @@ use Rattle.std.proofs.lemmas.Nat.{pow_pos}
 use Rattle.op_basis.specs.Basis.{members}
 use Rattle.op_basis.specs.Closed.{const_closed, polarity_closed, reapply_closed}
 use Rattle.tt_core.specs.Words.{Words}
-use Rattle.enc_theory.specs.declared.data.Raw.{Raw}
-use Rattle.enc_theory.specs.declared.data.Raw.TheVariants.{Var}
+use Rattle.clause_core.specs.declared.raw.Raw.{Raw}
+use Rattle.clause_core.specs.declared.raw.Raw.TheVariants.{Var}
 use Rattle.enc_theory.specs.declared.data.Sizes.{Sizes}
 use Rattle.enc_theory.specs.declared.data.Slot.{Slot}
-use Rattle.enc_theory.specs.Clauses.{written}
+use Rattle.clause_core.specs.Clauses.{written}
 use Rattle.enc_theory.specs.Numbering.{places, outputs, f_var, x_is}
 use Rattle.enc_theory.specs.Pairs.{StepSlots}
 use Rattle.enc_theory.specs.Families.{bearer, chosen, operator_raw}
 use Rattle.enc_theory.specs.Cuts.{bears, reads, reader, readers, used_by, used, other_operator, idle_operators, not_idle, equal_raw, equal_slot, equal_pair, negation_raw, negations, not_trivial_at, not_trivial, comes_before, not_both, order_pair, order_slot, order_with, order, applies_again, again_pair, again_slot, has_place, reading, again_later, again_all, again, may_exchange, reads_without, reader_without, readers_without, exchange_slot, exchange_steps, exchange_pair, exchange_with, exchange, row_0_at, row_0, cuts}
 use Rattle.enc_laws.specs.Bounds.{g_positive, f_positive, g_below, f_below}
-use Rattle.enc_laws.specs.Holds.{contains_head, contains_tail, filter_get, range_inside}
+use Rattle.clause_core.specs.Holds.{contains_head, contains_tail, filter_get, range_inside}
 use Rattle.enc_laws.specs.Layouts.{IsStepPlace, IsLaid, laid_is_place}
-use Rattle.enc_laws.specs.Formulas.{IsOf, AreOf, are_of-map, AreClauses, no_clauses, written_clauses, clauses_each, clauses_both, HasRoom, x_is_of}
+use Rattle.clause_core.specs.WrittenLaws.{IsOf, AreOf, are_of-map, AreClauses, no_clauses, written_clauses, clauses_each, clauses_both}
+use Rattle.enc_laws.specs.Formulas.{HasRoom, x_is_of}
 
 pub are_of-append : (vars : ℕ) (xs ys : List Raw) → AreOf vars xs → AreOf vars ys → AreOf vars (xs ++ ys)
 are_of-append vars [] ys one two = two

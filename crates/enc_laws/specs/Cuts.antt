@@ -12,17 +12,17 @@ use Rattle.chain_laws.specs.Reduced.{IsStep, IsOut, IsRead, Reads, AppliesAgain,
 use Rattle.sat_theory.specs.Formula.{Assignment}
 use Rattle.tt_core.specs.Symmetry.{IsSymmetric}
 use Rattle.tt_core.specs.Words.{Words, specification}
-use Rattle.enc_theory.specs.declared.data.Raw.{Raw}
-use Rattle.enc_theory.specs.declared.data.Raw.TheVariants.{Var}
+use Rattle.clause_core.specs.declared.raw.Raw.{Raw}
+use Rattle.clause_core.specs.declared.raw.Raw.TheVariants.{Var}
 use Rattle.enc_theory.specs.declared.data.Sizes.{Sizes}
 use Rattle.enc_theory.specs.declared.data.Slot.{Slot}
-use Rattle.enc_theory.specs.Clauses.{written}
+use Rattle.clause_core.specs.Clauses.{written}
 use Rattle.enc_theory.specs.Numbering.{sizes_of, outputs, f_var}
 use Rattle.enc_theory.specs.Pairs.{StepSlots}
 use Rattle.enc_theory.specs.Families.{chosen, operator_raw}
 use Rattle.enc_theory.specs.Cuts.{bears, reads, reader, readers, used_by, used, not_idle, equal_raw, equal_slot, equal_pair, negation_raw, negations, not_trivial_at, not_trivial, comes_before, not_both, order_pair, order_slot, order_with, order, applies_again, again_pair, again_slot, has_place, reading, again_later, again_all, again, may_exchange, reads_without, reader_without, readers_without, exchange_slot, exchange_steps, exchange_pair, exchange_with, exchange, row_0, cuts}
 use Rattle.enc_laws.specs.Bounds.{f_positive, slot_positive}
-use Rattle.enc_laws.specs.Holds.{holds, both_hold, each_holds, same, raw_value, raws_bit, raws_bit-append, raws_make, holds-written, ArePositive, positive-append, positive-flat_map, contains_head, contains_cases, filter_get, flat_map_make, range_inside}
+use Rattle.clause_core.specs.Holds.{holds, both_hold, each_holds, same, raw_value, raws_bit, raws_bit-append, raws_make, holds-written, ArePositive, positive-append, positive-flat_map, contains_head, contains_cases, filter_get, flat_map_make, range_inside}
 use Rattle.enc_laws.specs.Layouts.{IsStepPlace, IsSlotOf, laid_is_place}
 use Rattle.enc_laws.specs.Solves.{differs_from}
 use Rattle.enc_laws.specs.Complete.{step_at, assignment_of, pair_test, test_pair, slot_true, true_slot, IsOfChain, of_pairs, v_s, step_there, operator_is}

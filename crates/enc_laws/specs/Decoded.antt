@@ -12,7 +12,7 @@ use Rattle.enc_theory.specs.Numbering.{sizes_of, places}
 use Rattle.enc_theory.specs.Pairs.{StepSlots}
 use Rattle.enc_theory.specs.Families.{common}
 use Rattle.enc_theory.specs.Decode.{first_bearer, decoded_step, restored, with_outs, decoded}
-use Rattle.enc_laws.specs.Holds.{holds}
+use Rattle.clause_core.specs.Holds.{holds}
 use Rattle.enc_laws.specs.Layouts.{IsLaid}
 use Rattle.enc_laws.specs.Live.{whole_chain, restored_is_chain, restored_agrees}
 use Rattle.enc_laws.specs.Solves.{Solves, solves_from}

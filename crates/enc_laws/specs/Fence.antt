@@ -3,7 +3,6 @@ use Rattle.std.proofs.Common.{◌≡◌, ℕ, ◌+◌, ◌-◌, ◌<◌, ◌≤�
 use Rattle.std.specs.Prelude.{sum, max, nat_lt, if◌then◌else◌}
 use Rattle.std.specs.List.{range_with_len}
 use Rattle.std.proofs.lemmas.Bool.{cases_lt, lt-ltb, le-ltb, cond-true, cond-false}
-use Rattle.std.proofs.lemmas.List.Sums.{sum_by-cons}
 use Rattle.chain_theory.specs.Chain.{Step, Chain}
 use Rattle.chain_theory.specs.Agreement.{HasChain, IsMinimum}
 use Rattle.op_basis.specs.Basis.{members}
@@ -16,15 +15,16 @@ use Rattle.chain_theory.specs.Levels.{HasChainOfLevels}
 use Rattle.chain_laws.specs.Reduced.{IsReduced}
 use Rattle.chain_laws.specs.Least.{levels_at_most_steps}
 use Rattle.fence_core.specs.Fence.{IsFenceOf}
+use Rattle.fence_core.specs.Listing.{sum-cons}
 use Rattle.chain_laws.specs.Fences.{level_by, StandsIn, HasFencedChain, least_in_fence}
 use Rattle.sat_theory.specs.Formula.{IsFormula, Assignment, Satisfies}
 use Rattle.tt_core.specs.Words.{Words, specification}
 use Rattle.tt_core.specs.Live.{live_words}
-use Rattle.enc_theory.specs.Clauses.{IsSatisfiable}
+use Rattle.clause_core.specs.Clauses.{IsSatisfiable}
 use Rattle.enc_theory.specs.Numbering.{sizes_of}
 use Rattle.enc_theory.specs.Pairs.{pair, pairs_with, StepSlots}
 use Rattle.enc_theory.specs.Fence.{places_under, fence_pairs, fence_layout, fence_live, fence_formula, fence_decoded}
-use Rattle.enc_laws.specs.Holds.{flat_map_get, flat_map_make, range_contains, range_inside}
+use Rattle.clause_core.specs.Holds.{flat_map_get, flat_map_make, range_contains, range_inside}
 use Rattle.enc_laws.specs.Layouts.{AreBelow, pairs_with_below, pair_with_larger}
 use Rattle.enc_laws.specs.Live.{picked}
 use Rattle.enc_laws.specs.Decoded.{IsFor, for_is_there}
@@ -78,9 +78,6 @@ level_here q qs k low = cond-true (nat_lt k q) 1 (1 + level_by qs (k - q)) (lt-l
 level_past : (q : ℕ) (qs : List ℕ) (k : ℕ) → q ≤ k → level_by (q ∷ qs) k ≡ 1 + level_by qs (k - q)
 unfolding level_by
 level_past q qs k past = cond-false (nat_lt k q) 1 (1 + level_by qs (k - q)) (le-ltb k q past)
-
-sum-cons : (q : ℕ) (qs : List ℕ) → sum (q ∷ qs) ≡ q + sum qs
-sum-cons q qs = sum_by-cons (λ (x : ℕ). x) q qs
 
 level_positive : (fence : List ℕ) (k : ℕ) → k < sum fence → 1 ≤ level_by fence k
 level_positive [] k low = absurd (omega arith)

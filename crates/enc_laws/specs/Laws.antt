@@ -8,13 +8,14 @@ use Rattle.tt_core.specs.Words.{Words, specification}
 use Rattle.tt_core.specs.Live.{is_live, live_words}
 use Rattle.enc_theory.specs.declared.data.Sizes.{Sizes}
 use Rattle.enc_theory.specs.declared.data.Pair.{Pair}
-use Rattle.enc_theory.specs.Clauses.{IsSatisfiable}
+use Rattle.clause_core.specs.Clauses.{IsSatisfiable}
 use Rattle.enc_theory.specs.Numbering.{sizes_of}
 use Rattle.enc_theory.specs.Pairs.{pair, pairs_below, layout, vars_of}
 use Rattle.enc_theory.specs.Families.{common}
 use Rattle.enc_theory.specs.Plain.{plain_layout, plain_live, plain_formula, plain_decoded}
-use Rattle.enc_laws.specs.Holds.{holds, holds_satisfied, satisfied_holds}
-use Rattle.enc_laws.specs.Formulas.{are_formula, common_clauses, layout_has_room}
+use Rattle.clause_core.specs.Holds.{holds, holds_satisfied, satisfied_holds}
+use Rattle.clause_core.specs.WrittenLaws.{are_formula}
+use Rattle.enc_laws.specs.Formulas.{common_clauses, layout_has_room}
 use Rattle.enc_laws.specs.Layouts.{IsStepPlace, AreBelow, laid_is_place, layout_is_laid, layout_once, layout_has, pairs_are_below, pair_is_there}
 use Rattle.enc_laws.specs.Live.{part_is_live, live_out_is_step, picked, picked_is_chain, picked_agrees}
 use Rattle.enc_laws.specs.Solves.{solves_to}

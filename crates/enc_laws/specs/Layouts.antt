@@ -9,7 +9,7 @@ use Rattle.enc_theory.specs.declared.data.Pair.{Pair}
 use Rattle.enc_theory.specs.declared.data.Slot.{Slot}
 use Rattle.enc_theory.specs.Numbering.{s_first}
 use Rattle.enc_theory.specs.Pairs.{pair, pairs_of, pairs_with, pairs_below, StepSlots, numbered, laid, layout}
-use Rattle.enc_laws.specs.Holds.{contains_head, contains_tail, contains_cases, range_contains, range_inside, flat_map_get, flat_map_make}
+use Rattle.clause_core.specs.Holds.{contains_head, contains_tail, contains_cases, range_contains, range_inside, flat_map_get, flat_map_make}
 
 -- a place of a step
 pub record IsStepPlace (z : Sizes) (i : ℕ) : Type 0 where

@@ -1,5 +1,4 @@
 pub mod Live
-pub mod Holds
 pub mod Layouts
 pub mod Bounds
 pub mod Solves
@@ -24,3 +23,5 @@ pub mod ChosenBits
 pub mod ChosenCuts
 pub mod ChosenClauses
 pub mod Select
+pub mod FenceLaws
+pub mod WholeLaws

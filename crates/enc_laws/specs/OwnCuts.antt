@@ -14,14 +14,14 @@ use Rattle.op_basis.specs.Closed.{const_closed, polarity_closed}
 use Rattle.chain_laws.specs.Reduced.{IsStep, IsOut, IsReduced}
 use Rattle.sat_theory.specs.Formula.{Assignment}
 use Rattle.tt_core.specs.Words.{Words, specification}
-use Rattle.enc_theory.specs.declared.data.Raw.{Raw}
+use Rattle.clause_core.specs.declared.raw.Raw.{Raw}
 use Rattle.enc_theory.specs.declared.data.Sizes.{Sizes}
-use Rattle.enc_theory.specs.Clauses.{written}
+use Rattle.clause_core.specs.Clauses.{written}
 use Rattle.enc_theory.specs.Numbering.{sizes_of, places, outputs, g_var, x_is}
 use Rattle.enc_theory.specs.Families.{bearer, operator_raw}
 use Rattle.enc_theory.specs.Cuts.{bears, other_operator, not_idle, row_0_at, row_0}
 use Rattle.enc_laws.specs.Bounds.{g_positive}
-use Rattle.enc_laws.specs.Holds.{holds, both_hold, each_holds, same, raw_value, raws_bit, raws_bit-map, any_make, holds-written, ArePositive, positive-map, range_contains}
+use Rattle.clause_core.specs.Holds.{holds, both_hold, each_holds, same, raw_value, raws_bit, raws_bit-map, any_make, holds-written, ArePositive, positive-map, range_contains}
 use Rattle.enc_laws.specs.Layouts.{IsStepPlace}
 use Rattle.enc_laws.specs.Live.{out_at}
 use Rattle.enc_laws.specs.Solves.{x_bit, x_is_value, x_is_positive, there_place, differs_from, has_own}

@@ -11,14 +11,14 @@ use Rattle.chain_theory.specs.declared.data.Cell.{Cell}
 use Rattle.chain_theory.specs.declared.data.Cell.TheVariants as cells
 use Rattle.tt_core.specs.Symmetry.{IsSymmetric, exchanged}
 use Rattle.tt_core.specs.Words.{Words, specification, cell_of}
-use Rattle.enc_theory.specs.declared.data.Raw.{Raw}
+use Rattle.clause_core.specs.declared.raw.Raw.{Raw}
 use Rattle.enc_theory.specs.declared.data.Sizes.{Sizes}
 use Rattle.enc_theory.specs.declared.data.Slot.{Slot}
 use Rattle.enc_theory.specs.Pairs.{StepSlots}
 use Rattle.enc_theory.specs.Families.{operator_raw}
 use Rattle.enc_theory.specs.Cuts.{reads, larger, smaller, comes_before, applies_again, same_cell, same_at, same_output, may_exchange, reads_without}
 use Rattle.enc_laws.specs.Bounds.{f_positive}
-use Rattle.enc_laws.specs.Holds.{all_get, all_make, holds, raws_bit, ArePositive, range_contains, range_inside}
+use Rattle.clause_core.specs.Holds.{all_get, all_make, holds, raws_bit, ArePositive, range_contains, range_inside}
 use Rattle.enc_laws.specs.Layouts.{IsSlotOf}
 
 -- ---- tests of pairs

@@ -7,7 +7,7 @@ use Rattle.tt_core.specs.Words.{Words}
 use Rattle.enc_theory.specs.declared.data.Sizes.{Sizes}
 use Rattle.enc_theory.specs.Numbering.{sizes_of}
 use Rattle.enc_theory.specs.Pairs.{StepSlots}
-use Rattle.enc_laws.specs.Holds.{contains_tail, contains_cases}
+use Rattle.clause_core.specs.Holds.{contains_tail, contains_cases}
 use Rattle.enc_laws.specs.Layouts.{IsLaid}
 use Rattle.enc_laws.specs.Decoded.{IsFor}
 use Rattle.enc_laws.specs.Complete.{HasPairs}

@@ -9,11 +9,11 @@ use Rattle.sat_theory.specs.Formula.{IsFormula, Assignment, Satisfies}
 use Rattle.tt_core.specs.Words.{Words, specification}
 use Rattle.tt_core.specs.Live.{live_words}
 use Rattle.enc_theory.specs.declared.data.Sizes.{Sizes}
-use Rattle.enc_theory.specs.Clauses.{IsSatisfiable}
+use Rattle.clause_core.specs.Clauses.{IsSatisfiable}
 use Rattle.enc_theory.specs.Numbering.{sizes_of, places}
 use Rattle.enc_theory.specs.Select.{select_vars, chosen_chain, chosen_cuts, select_live, select_formula, chosen_step, select_decoded}
-use Rattle.enc_laws.specs.Holds.{holds_both, both_hold, holds_satisfied, satisfied_holds}
-use Rattle.enc_laws.specs.Formulas.{are_formula, clauses_both}
+use Rattle.clause_core.specs.Holds.{holds_both, both_hold, holds_satisfied, satisfied_holds}
+use Rattle.clause_core.specs.WrittenLaws.{are_formula, clauses_both}
 use Rattle.enc_laws.specs.Decoded.{IsFor, for_is_there, spelled_is_for}
 use Rattle.enc_laws.specs.Complete.{chain_bits}
 use Rattle.enc_laws.specs.Laws.{live_outs, part_is_all_live}

@@ -13,15 +13,15 @@ use Rattle.op_basis.specs.Basis.{members}
 use Rattle.op_basis.specs.Laws.{operator_values, operator_low, operator_only}
 use Rattle.sat_theory.specs.Formula.{Assignment}
 use Rattle.tt_core.specs.Words.{Words, cell_of}
-use Rattle.enc_theory.specs.declared.data.Raw.TheVariants.{Fixed, Var}
+use Rattle.clause_core.specs.declared.raw.Raw.TheVariants.{Fixed, Var}
 use Rattle.enc_theory.specs.declared.data.Sizes.{Sizes}
 use Rattle.enc_theory.specs.declared.data.Slot.{Slot}
-use Rattle.enc_theory.specs.Clauses.{written}
+use Rattle.clause_core.specs.Clauses.{written}
 use Rattle.enc_theory.specs.Numbering.{places, rows, outputs, x_var, g_var, f_var, x_is}
 use Rattle.enc_theory.specs.Pairs.{StepSlots}
 use Rattle.enc_theory.specs.Families.{bearer, out_exists_at, out_exists, out_value_is, out_value_at, out_value, out_values_of, out_values_at, out_values, chosen, pair_exists_at, pair_exists, value_raw, value_clause, value_bit, value_row, value_slot, value_step, values, operator_raw, operator_clause, operators_at, operators, common}
 use Rattle.enc_theory.specs.Decode.{operator_in}
-use Rattle.enc_laws.specs.Holds.{holds, holds_both, both_hold, holds_each, each_holds, same, raw_value, raws_bit, raws_bit-map, holds-written, IsPositive, positive-map, any_get, any_make, range_contains, range_inside}
+use Rattle.clause_core.specs.Holds.{holds, holds_both, both_hold, holds_each, each_holds, same, raw_value, raws_bit, raws_bit-map, holds-written, IsPositive, positive-map, any_get, any_make, range_contains, range_inside}
 use Rattle.enc_laws.specs.Bounds.{x_positive, g_positive, f_positive, slot_positive}
 use Rattle.enc_laws.specs.Layouts.{IsStepPlace, IsSlotOf, IsLaid}
 

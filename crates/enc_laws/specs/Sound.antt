@@ -24,7 +24,7 @@ use Rattle.enc_theory.specs.declared.data.Pair.{Pair}
 use Rattle.enc_theory.specs.Numbering.{places, outputs, x_var, g_var, f_var}
 use Rattle.enc_theory.specs.Pairs.{StepSlots, pair}
 use Rattle.enc_theory.specs.Decode.{first_pair, operator_in, decoded_step, first_bearer, decoded_out}
-use Rattle.enc_laws.specs.Holds.{contains_head, contains_tail, any_make, range_contains, range_inside}
+use Rattle.clause_core.specs.Holds.{contains_head, contains_tail, any_make, range_contains, range_inside}
 use Rattle.enc_laws.specs.Layouts.{IsStepPlace, IsSlotOf, IsLaid}
 use Rattle.enc_laws.specs.Solves.{x_bit, MeetsTables, Solves}
 

@@ -9,7 +9,7 @@ use Rattle.chain_laws.specs.Least.{minimum_is_reduced}
 use Rattle.sat_theory.specs.Formula.{IsFormula, Assignment, Satisfies}
 use Rattle.tt_core.specs.Words.{Words, specification}
 use Rattle.tt_core.specs.Live.{live_words}
-use Rattle.enc_theory.specs.Clauses.{IsSatisfiable}
+use Rattle.clause_core.specs.Clauses.{IsSatisfiable}
 use Rattle.enc_theory.specs.Pairs.{pairs_below}
 use Rattle.enc_theory.specs.Ssv.{ssv_live, ssv_formula, ssv_decoded}
 use Rattle.enc_laws.specs.Layouts.{AreBelow, pairs_are_below, pair_is_there}

@@ -6,7 +6,7 @@ use Rattle.sat_theory.specs.Formula.{Assignment}
 use Rattle.enc_theory.specs.declared.data.Side.{Side}
 use Rattle.enc_theory.specs.declared.data.Sizes.{Sizes}
 use Rattle.enc_theory.specs.Select.{choice_var, first_choice}
-use Rattle.enc_frame.proofs.Ranges.{map-turn_from}
+use Rattle.clause_core.specs.RangeLaws.{map-turn_from}
 
 pub choice-none : (z : Sizes) (v : Assignment) (side : Side) (i j last : ℕ) → last ≤ j → first_choice z v side i (range_with_len j (last - j)) ≡ 1
 unfolding first_choice

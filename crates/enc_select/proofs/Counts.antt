@@ -8,14 +8,14 @@ use Rattle.tt_core.specs.Words.{Words}
 use Rattle.enc_theory.specs.declared.data.Side.{Side}
 use Rattle.enc_theory.specs.declared.data.Side.TheVariants.{First, Second}
 use Rattle.enc_theory.specs.declared.data.Sizes.{Sizes}
-use Rattle.enc_theory.specs.Clauses.{written}
-use Rattle.enc_theory.specs.declared.data.Raw.TheVariants.{Var}
+use Rattle.clause_core.specs.Clauses.{written}
+use Rattle.clause_core.specs.declared.raw.Raw.TheVariants.{Var}
 use Rattle.enc_theory.specs.Numbering.{places, rows, f_var}
 use Rattle.enc_theory.specs.Select.{below, above, chooses, not_these, choice_exists, choices_exist, operands_exist, copy_raw, copy_row, copy_place, copy_step, copies, result_raw, result_clause, result_bit, result_row, result_step, results, chosen_chain, rising_pair, rising_from, rising_step, rising, used_step, used_steps, equal_choice, negation_pair, negation_from, negation_step, trivial_step, trivial_steps, falling_pair, falling_from, falling_step, falling, different, again_operand, again_operands, again_from, again_after, again_step, again_steps, chosen_cuts}
 use Rattle.enc_frame.specs.Room.{IsSmall}
-use Rattle.enc_frame.specs.PairLaws.{flat_map-few}
-use Rattle.enc_frame.specs.Counts.{pieces-few, written-few, times-few, out_exists-few, out_values-few, operators-few}
-use Rattle.enc_frame.proofs.Bounds.{rows_few}
+use Rattle.clause_core.specs.CountLaws.{flat_map-few, pieces-few, written-few, times-few}
+use Rattle.enc_frame.specs.Counts.{out_exists-few, out_values-few, operators-few}
+use Rattle.enc_frame.specs.BoundLaws.{rows_few}
 use Rattle.enc_cuts.specs.Counts.{if-few, idle-few, row_0-few}
 
 -- over all places below one, and over all steps

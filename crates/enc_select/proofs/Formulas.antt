@@ -8,7 +8,7 @@ use Rattle.enc_theory.specs.declared.data.Sizes.{Sizes}
 use Rattle.enc_theory.specs.Select.{select_vars, select_formula, select_decoded}
 use Rattle.enc_laws.specs.Select.{select_decodes}
 use Rattle.enc_frame.specs.Room.{HasRoom}
-use Rattle.enc_cuts.proofs.Chains.{small_chain}
+use Rattle.enc_cuts.specs.ChainLaws.{small_chain}
 use Rattle.enc_select.specs.Room.{HasChoices}
 use Rattle.enc_select.proofs.Counts.{both-few}
 

@@ -8,8 +8,8 @@ use Rattle.enc_theory.specs.Numbering.{s_first}
 use Rattle.enc_theory.specs.Select.{operand_count, choice_var, value_var, select_vars}
 use Rattle.enc_laws.specs.SelectVars.{choice_positive, choice_within, value_positive, value_within, first_within}
 use Rattle.enc_frame.specs.Room.{IsPlace}
-use Rattle.enc_frame.specs.Counts.{times-few}
-use Rattle.enc_frame.proofs.Bounds.{products}
+use Rattle.clause_core.specs.CountLaws.{times-few}
+use Rattle.enc_frame.specs.BoundLaws.{products}
 
 -- twice the count, without a division
 count_twice : (n s : ℕ) → 2 * operand_count n s + s ≡ 2 * (n * s) + s * s

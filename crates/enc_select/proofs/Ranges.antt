@@ -3,7 +3,7 @@ use Rattle.std.proofs.Common.{◌≡◌, ℕ, ◌+◌, ◌-◌, ◌<◌, ◌≤�
 use Rattle.std.specs.Prelude.{min, max, if◌then◌else◌, Bool, true, false}
 use Rattle.std.specs.List.{flat_map, range_with_len}
 use Rattle.std.proofs.lemmas.Grind.{common_steps}
-use Rattle.enc_frame.proofs.Ranges as ranges
+use Rattle.clause_core.specs.RangeLaws as ranges
 
 pub two_behind : {A : Type 0} (xs : List A) (a b : A) → (xs ++ a ∷ []) ++ b ∷ [] ≡ xs ++ a ∷ b ∷ []
 two_behind {A} xs a b = simp (append_assoc)

@@ -2,17 +2,18 @@
 use Rattle.std.proofs.Common.{ℕ, ◌+◌, ◌-◌, ◌<◌, ◌≤◌, Bool, true, List, [], ◌∷◌, ◌++◌, map, get_or, All, Contains, arith}
 use Rattle.std.specs.List.{flat_map}
 use Rattle.std.proofs.lemmas.List.Elements.{All-nil, All-cons, All-append, All-map, Contains-get_or}
-use Rattle.enc_theory.specs.declared.data.Raw.{Raw}
-use Rattle.enc_theory.specs.declared.data.Raw.TheVariants.{Var}
+use Rattle.clause_core.specs.declared.raw.Raw.{Raw}
+use Rattle.clause_core.specs.declared.raw.Raw.TheVariants.{Var}
 use Rattle.enc_theory.specs.declared.data.Side.{Side}
 use Rattle.enc_theory.specs.declared.data.Side.TheVariants.{First, Second}
 use Rattle.enc_theory.specs.declared.data.Sizes.{Sizes}
 use Rattle.enc_theory.specs.Select.{choice_var, below, above, chooses, not_these, choosers}
-use Rattle.enc_laws.specs.Holds.{contains_tail, range_inside}
+use Rattle.clause_core.specs.Holds.{contains_tail, range_inside}
 use Rattle.enc_laws.specs.SelectVars.{choice_positive}
 use Rattle.enc_laws.specs.Chooses.{there_below}
-use Rattle.enc_frame.specs.Room.{IsWithin, IsPlace}
-use Rattle.enc_frame.proofs.Within.{within_var, two}
+use Rattle.clause_core.specs.Clauses.{IsWithin}
+use Rattle.enc_frame.specs.Room.{IsPlace}
+use Rattle.clause_core.specs.WithinLaws.{within_var, two}
 use Rattle.enc_select.specs.Room.{HasChoices}
 use Rattle.enc_select.proofs.Numbers.{choice_low}
 

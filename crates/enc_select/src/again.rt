@@ -1,14 +1,15 @@
 //! No step is applied again to one of its operands.
 ghost use Rattle.std.specs.Prelude.{◌≡◌, ◌<◌, ◌≤◌, ◌++◌, OnOk};
 ghost use Rattle.std.specs.List.{flat_map};
-ghost use Rattle.enc_theory.specs.Clauses.{written};
+ghost use Rattle.clause_core.specs.Clauses.{written};
 ghost use Rattle.enc_theory.specs.Numbering.{places};
 ghost use Rattle.enc_theory.specs.Select.{below, above, not_these, different, again_operand, again_operands, again_from, again_after, again_step, again_steps};
 ghost use Rattle.enc_frame.specs.Room.{IsPlace};
 ghost use Rattle.enc_select.specs.Room.{HasChoices};
 
 use crate::literals::choice;
-use enc_frame::{ClauseList, Side, Sizes};
+use clause_core::ClauseList;
+use enc_theory::{Side, Sizes};
 use op_basis::Basis;
 use std::alloc::{AllocError, Global};
 

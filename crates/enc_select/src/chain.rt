@@ -1,15 +1,14 @@
 //! The clauses that say what a chain is.
 ghost use Rattle.std.specs.Prelude.{◌≡◌, ◌+◌, ◌^◌, ◌<◌, ◌≤◌, ◌++◌, OnOk};
-ghost use Rattle.enc_theory.specs.Clauses.{written};
+ghost use Rattle.clause_core.specs.Clauses.{written};
 ghost use Rattle.enc_theory.specs.Select.{choice_exists, choices_exist, operands_exist, copy_raw, copy_row, copy_place, copy_step, copies, result_clause, result_bit, result_row, result_step, results, chosen_chain};
 ghost use Rattle.enc_frame.specs.Room.{IsPlace, AreFor};
 ghost use Rattle.enc_select.specs.Room.{HasChoices};
 
 use crate::literals::{choice, value};
-use enc_frame::{
-    ClauseList, Raw, Side, Sizes, f_var, push_operators, push_out_exists, push_out_values, rows,
-    x_is,
-};
+use clause_core::{ClauseList, Raw};
+use enc_frame::{f_var, push_operators, push_out_exists, push_out_values, rows, x_is};
+use enc_theory::{Side, Sizes};
 use op_basis::Basis;
 use std::alloc::{AllocError, Global};
 use tt_core::Spec;

@@ -9,7 +9,8 @@ ghost use Rattle.enc_frame.specs.Room.{IsSmall, IsPlace};
 use crate::vars::choice_var;
 use chain_core::{Chain, Step};
 use cnf_core::Assign;
-use enc_frame::{Side, Sizes, bit, operator, sizes, with_outs};
+use enc_frame::{bit, operator, sizes, with_outs};
+use enc_theory::{Side, Sizes};
 use std::alloc::{AllocError, Global};
 use tt_core::{Spec, live_part};
 

@@ -26,6 +26,3 @@ mod used;
 mod vars;
 
 pub use select::Select;
-
-#[cfg(test)]
-mod tests;

@@ -1,15 +1,17 @@
 //! The literals of chosen operands.
 ghost use Rattle.std.specs.Prelude.{◌≡◌, ℕ, ◌^◌, ◌<◌, ◌≤◌};
-ghost use Rattle.enc_theory.specs.declared.data.Raw.TheVariants.{Var};
+ghost use Rattle.clause_core.specs.declared.raw.Raw.TheVariants.{Var};
 ghost use Rattle.enc_theory.specs.Select.{choice_var as choice_var_of, value_var as value_var_of};
-ghost use Rattle.enc_frame.specs.Room.{IsSmall, IsPlace, IsWithin};
+ghost use Rattle.enc_frame.specs.Room.{IsSmall, IsPlace};
+ghost use Rattle.clause_core.specs.Clauses.{IsWithin};
 ghost use Rattle.enc_select.specs.Room.{HasChoices};
 
 use crate::vars::{choice_var, value_var};
-use enc_frame::{Raw, Side, Sizes};
+use clause_core::Raw;
+use enc_theory::{Side, Sizes};
 
 /// That an operand of step `i` is place `j`, or isn't.
-#[tactic(auto, unfolding(enc_frame::specs::Room::IsWithin))]
+#[tactic(auto, unfolding(clause_core::specs::Clauses::IsWithin))]
 pub(crate) fn choice(z: Sizes, side: Side, i: u32, j: u32, bit: bool) -> Raw
     requires small { IsSmall z }
     requires place { IsPlace z i }
@@ -21,7 +23,7 @@ pub(crate) fn choice(z: Sizes, side: Side, i: u32, j: u32, bit: bool) -> Raw
 }
 
 /// That an operand of step `i` has the bit on row `t`.
-#[tactic(auto, unfolding(enc_frame::specs::Room::IsWithin))]
+#[tactic(auto, unfolding(clause_core::specs::Clauses::IsWithin))]
 pub(crate) fn value(z: Sizes, side: Side, i: u32, t: u32, bit: bool) -> Raw
     requires small { IsSmall z }
     requires place { IsPlace z i }

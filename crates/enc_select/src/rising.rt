@@ -7,7 +7,8 @@ ghost use Rattle.enc_frame.specs.Room.{IsPlace};
 ghost use Rattle.enc_select.specs.Room.{HasChoices};
 
 use crate::literals::choice;
-use enc_frame::{ClauseList, Side, Sizes};
+use clause_core::ClauseList;
+use enc_theory::{Side, Sizes};
 use op_basis::Basis;
 use std::alloc::{AllocError, Global};
 

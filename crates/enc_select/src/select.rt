@@ -13,7 +13,9 @@ use crate::vars::select_vars;
 use chain_core::Chain;
 use cnf_core::{Assign, Cnf};
 use enc_cuts::push_row_0;
-use enc_frame::{ClauseList, Encoding, Part, Sizes, sizes};
+use clause_core::ClauseList;
+use enc_frame::{Encoding, sizes};
+use enc_theory::{Part, Sizes};
 use op_basis::Basis;
 use std::alloc::{AllocError, Global};
 use tt_core::{Spec, live_part};
@@ -41,17 +43,18 @@ pub struct Select;
 
 impl Encoding for Select {
     ghost use Rattle.std.specs.Prelude.{[], ◌∷◌};
-    ghost use Rattle.enc_frame.specs.declared.part.Part.TheVariants.{Whole};
+    ghost use Rattle.enc_theory.specs.declared.part.Part.TheVariants.{Whole};
     ghost use Rattle.enc_theory.specs.Select.{select_formula};
-    ghost use Rattle.enc_select.specs.SelectLaws.{is_sound, is_complete};
+    ghost use Rattle.enc_laws.specs.Select.{select_sound, select_complete};
+    ghost use Rattle.enc_laws.specs.WholeLaws.{the_whole};
 
     ghost parts_of = { λ select w r. Whole ∷ [] };
 
     ghost formula_of = { λ select w basis r part. select_formula w basis r };
 
-    ghost sound = { λ select w basis r part. is_sound w basis r part };
+    ghost sound = { λ select w basis r part there sat. select_sound w basis r sat };
 
-    ghost complete = { λ select w basis r. is_complete w basis r };
+    ghost complete = { λ select w basis r least. (Whole, the_whole, select_complete w basis r least) };
 
     fn parts(&self, alloc: Global, _spec: &Spec, _r: u32) -> Result<Vec<Part>, AllocError> {
         Ok(vec![in alloc; Part::Whole]?)

@@ -9,7 +9,9 @@ ghost use Rattle.enc_select.specs.Room.{HasChoices};
 
 use crate::literals::choice;
 use enc_cuts::{push_not_idle, push_operator};
-use enc_frame::{ClauseList, Raw, Side, Sizes, f_var};
+use clause_core::{ClauseList, Raw};
+use enc_frame::f_var;
+use enc_theory::{Side, Sizes};
 use op_basis::{Basis, Op};
 use std::alloc::{AllocError, Global};
 
@@ -148,7 +150,7 @@ fn push_negation(
 }
 
 /// That negations have equal operands.
-#[tactic(auto, using(enc_cuts::proofs::Pieces::pieces))]
+#[tactic(auto, using(enc_cuts::specs::PieceLaws::pieces))]
 fn push_negations(
     alloc: Global,
     list: &mut ClauseList,

@@ -7,7 +7,8 @@ ghost use Rattle.enc_select.specs.Room.{HasChoices};
 
 use crate::literals::choice;
 use enc_cuts::push_bearers;
-use enc_frame::{ClauseList, Raw, Side, Sizes};
+use clause_core::{ClauseList, Raw};
+use enc_theory::{Side, Sizes};
 use std::alloc::{AllocError, Global};
 
 /// Adds that one of the operands of step `i` is this place.

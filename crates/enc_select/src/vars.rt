@@ -4,7 +4,8 @@ ghost use Rattle.std.specs.Prelude.{◌≡◌, ℕ, ◌+◌, ◌-◌, ◌*◌, �
 ghost use Rattle.enc_theory.specs.Select.{operand_count as operand_count_of, choice_first as choice_first_of, choice_var as choice_var_of, value_first as value_first_of, value_var as value_var_of, select_vars as select_vars_of};
 ghost use Rattle.enc_frame.specs.Room.{IsSmall, HasRoom, IsPlace};
 
-use enc_frame::{Side, Sizes, rows, s_first};
+use enc_frame::{rows, s_first};
+use enc_theory::{Side, Sizes};
 
 /// How many operands the first steps may have.
 #[tactic(auto, using(crate::proofs::Numbers::counting))]

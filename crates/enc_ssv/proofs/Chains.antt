@@ -12,7 +12,7 @@ use Rattle.enc_theory.specs.Plain.{plain_formula, plain_decoded}
 use Rattle.enc_ssv.specs.Spelled.{spelled}
 use Rattle.enc_theory.specs.Decode.{decoded}
 use Rattle.enc_laws.specs.Decoded.{IsFor}
-use Rattle.enc_cuts.proofs.Chains.{small_chain}
+use Rattle.enc_cuts.specs.ChainLaws.{small_chain}
 use Rattle.enc_laws.specs.Laws.{plain_decodes}
 use Rattle.enc_laws.specs.Ssv.{ssv_decodes}
 use Rattle.enc_theory.specs.Ssv.{ssv_formula, ssv_decoded}

@@ -1,3 +1,1 @@
 pub mod Spelled
-pub mod PlainLaws
-pub mod SsvLaws

@@ -5,13 +5,9 @@
 //! `complete` stands on the law of least chains.
 #![tactic(auto)]
 
-pub mod laws;
 mod pairs;
 mod plain;
 mod ssv;
 
 pub use plain::Plain;
 pub use ssv::Ssv;
-
-#[cfg(test)]
-mod tests;

@@ -1,7 +1,9 @@
 use crate::pairs::decode_pairs;
 use chain_core::Chain;
 use cnf_core::{Assign, Cnf};
-use enc_frame::{AllPairs, ClauseList, Encoding, Layout, Part, push_common, sizes};
+use clause_core::ClauseList;
+use enc_frame::{AllPairs, Encoding, Layout, push_common, sizes};
+use enc_theory::Part;
 use op_basis::Basis;
 use std::alloc::{AllocError, Global};
 use tt_core::{Spec, live_part};
@@ -13,17 +15,18 @@ pub struct Plain;
 
 impl Encoding for Plain {
     ghost use Rattle.std.specs.Prelude.{[], ◌∷◌};
-    ghost use Rattle.enc_frame.specs.declared.part.Part.TheVariants.{Whole};
+    ghost use Rattle.enc_theory.specs.declared.part.Part.TheVariants.{Whole};
     ghost use Rattle.enc_theory.specs.Plain.{plain_formula};
-    ghost use Rattle.enc_ssv.specs.PlainLaws.{is_sound, is_complete};
+    ghost use Rattle.enc_laws.specs.Laws.{plain_sound, plain_complete};
+    ghost use Rattle.enc_laws.specs.WholeLaws.{the_whole};
 
     ghost parts_of = { λ plain w r. Whole ∷ [] };
 
     ghost formula_of = { λ plain w basis r part. plain_formula w basis r };
 
-    ghost sound = { λ plain w basis r part. is_sound w basis r part };
+    ghost sound = { λ plain w basis r part there sat. plain_sound w basis r sat };
 
-    ghost complete = { λ plain w basis r. is_complete w basis r };
+    ghost complete = { λ plain w basis r least. (Whole, the_whole, plain_complete w basis r least.reached) };
 
     fn parts(&self, alloc: Global, _spec: &Spec, _r: u32) -> Result<Vec<Part>, AllocError> {
         Ok(vec![in alloc; Part::Whole]?)

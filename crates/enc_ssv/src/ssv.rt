@@ -2,7 +2,9 @@ use crate::pairs::decode_pairs;
 use chain_core::Chain;
 use cnf_core::{Assign, Cnf};
 use enc_cuts::push_cuts;
-use enc_frame::{AllPairs, ClauseList, Encoding, Layout, Part, push_common, sizes};
+use clause_core::ClauseList;
+use enc_frame::{AllPairs, Encoding, Layout, push_common, sizes};
+use enc_theory::Part;
 use op_basis::Basis;
 use std::alloc::{AllocError, Global};
 use tt_core::{Spec, live_part};
@@ -15,17 +17,18 @@ pub struct Ssv;
 
 impl Encoding for Ssv {
     ghost use Rattle.std.specs.Prelude.{[], ◌∷◌};
-    ghost use Rattle.enc_frame.specs.declared.part.Part.TheVariants.{Whole};
+    ghost use Rattle.enc_theory.specs.declared.part.Part.TheVariants.{Whole};
     ghost use Rattle.enc_theory.specs.Ssv.{ssv_formula};
-    ghost use Rattle.enc_ssv.specs.SsvLaws.{is_sound, is_complete};
+    ghost use Rattle.enc_laws.specs.Ssv.{ssv_sound, ssv_complete};
+    ghost use Rattle.enc_laws.specs.WholeLaws.{the_whole};
 
     ghost parts_of = { λ ssv w r. Whole ∷ [] };
 
     ghost formula_of = { λ ssv w basis r part. ssv_formula w basis r };
 
-    ghost sound = { λ ssv w basis r part. is_sound w basis r part };
+    ghost sound = { λ ssv w basis r part there sat. ssv_sound w basis r sat };
 
-    ghost complete = { λ ssv w basis r. is_complete w basis r };
+    ghost complete = { λ ssv w basis r least. (Whole, the_whole, ssv_complete w basis r least) };
 
     fn parts(&self, alloc: Global, _spec: &Spec, _r: u32) -> Result<Vec<Part>, AllocError> {
         Ok(vec![in alloc; Part::Whole]?)

@@ -7,11 +7,11 @@ use Rattle.chain_theory.specs.declared.data.Cell.{Cell}
 use Rattle.chain_theory.specs.declared.data.Cell.TheVariants.{Zero, One, Free}
 use Rattle.op_basis.specs.Basis.{members}
 use Rattle.tt_core.specs.Words.{Words, cell_of}
-use Rattle.enc_theory.specs.declared.data.Raw.{Raw}
-use Rattle.enc_theory.specs.declared.data.Raw.TheVariants.{Var}
+use Rattle.clause_core.specs.declared.raw.Raw.{Raw}
+use Rattle.clause_core.specs.declared.raw.Raw.TheVariants.{Var}
 use Rattle.enc_theory.specs.declared.data.Sizes.{Sizes}
 use Rattle.enc_theory.specs.declared.data.Slot.{Slot}
-use Rattle.enc_theory.specs.Clauses.{written}
+use Rattle.clause_core.specs.Clauses.{written}
 use Rattle.enc_theory.specs.Numbering.{places, rows, outputs, g_var, f_var, x_is}
 use Rattle.enc_theory.specs.Pairs.{StepSlots}
 

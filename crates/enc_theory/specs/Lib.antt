@@ -1,4 +1,3 @@
-pub mod Clauses
 pub mod Numbering
 pub mod Pairs
 pub mod Families
@@ -13,3 +12,4 @@ pub mod Fence
 pub mod FenceVectors
 pub mod Select
 pub mod SelectVectors
+pub mod Parts

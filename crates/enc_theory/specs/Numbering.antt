@@ -3,8 +3,8 @@ use Rattle.std.specs.Prelude.{ℕ, ◌+◌, ◌-◌, ◌*◌, ◌^◌, leb, Bool
 use Rattle.std.specs.List.{range_with_len}
 use Rattle.chain_theory.specs.Specification.{input}
 use Rattle.tt_core.specs.Words.{Words}
-use Rattle.enc_theory.specs.declared.data.Raw.{Raw}
-use Rattle.enc_theory.specs.declared.data.Raw.TheVariants.{Fixed, Var}
+use Rattle.clause_core.specs.declared.raw.Raw.{Raw}
+use Rattle.clause_core.specs.declared.raw.Raw.TheVariants.{Fixed, Var}
 use Rattle.enc_theory.specs.declared.data.Sizes.{Sizes}
 
 -- a formula for these tables with r steps

@@ -1,7 +1,7 @@
 -- The plain encoding against the independent program.
 use Rattle.std.specs.Prelude.{◌≡◌, List, [], ◌∷◌, map, refl}
 use Rattle.tt_core.specs.Live.{fits_rows, inputs_from, first_fit, is_live, live_among, words_of}
-use Rattle.enc_theory.specs.Clauses.{has, simplified, written}
+use Rattle.clause_core.specs.Clauses.{has, simplified, written}
 use Rattle.enc_theory.specs.Numbering.{x_var, g_var, f_var, s_first, x_is}
 use Rattle.enc_theory.specs.Pairs.{pairs_of, pairs_with, pairs_below, numbered, laid, slot_count}
 use Rattle.enc_theory.specs.Families.{bearer, out_exists_at, out_exists, out_value_is, out_value_at, out_value, out_values_of, out_values_at, out_values, chosen, pair_exists_at, pair_exists, value_raw, value_clause, value_bit, value_row, value_slot, value_step, values, operator_raw, operator_clause, operators_at, operators, common}

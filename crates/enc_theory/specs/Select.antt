@@ -11,12 +11,12 @@ use Rattle.op_basis.specs.Closed.{swap_closed, const_closed, reapply_closed}
 use Rattle.sat_theory.specs.Formula.{Formula, Assignment}
 use Rattle.tt_core.specs.Words.{Words}
 use Rattle.tt_core.specs.Live.{live_words}
-use Rattle.enc_theory.specs.declared.data.Raw.{Raw}
-use Rattle.enc_theory.specs.declared.data.Raw.TheVariants.{Var}
+use Rattle.clause_core.specs.declared.raw.Raw.{Raw}
+use Rattle.clause_core.specs.declared.raw.Raw.TheVariants.{Var}
 use Rattle.enc_theory.specs.declared.data.Side.{Side}
 use Rattle.enc_theory.specs.declared.data.Side.TheVariants.{First, Second}
 use Rattle.enc_theory.specs.declared.data.Sizes.{Sizes}
-use Rattle.enc_theory.specs.Clauses.{written}
+use Rattle.clause_core.specs.Clauses.{written}
 use Rattle.enc_theory.specs.Numbering.{sizes_of, places, rows, outputs, f_var, s_first, x_is}
 use Rattle.enc_theory.specs.Families.{out_exists, out_values, operator_raw, operators}
 use Rattle.enc_theory.specs.Cuts.{bears, not_idle, row_0}

@@ -1,3 +1,5 @@
+//! What formulas are spoken of by: methods, sizes, pairs of operands and their variables.
+
 /// How a size is encoded.
 #[derive(Clone, Copy, Debug, PartialEq, Eq)]
 pub enum Method {
@@ -9,15 +11,6 @@ pub enum Method {
     Select,
     /// As `Ssv`, one formula for each way in which steps may stand in levels.
     Fence,
-}
-
-/// A literal as it is listed, before its clause is written.
-#[derive(Clone, Copy, Debug, PartialEq, Eq)]
-pub enum Raw {
-    /// What is true or false whatever the variables are.
-    Fixed(bool),
-    /// That a variable, numbered from 1, has this bit.
-    Var(u32, bool),
 }
 
 /// What a formula is made for: `n` inputs, `r` steps and `m` outputs.

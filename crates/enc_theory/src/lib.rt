@@ -1,7 +1,8 @@
 //! The clause lists that ask for a chain of so many steps, as definitions. A refutation names the
 //! clauses that it refutes, so each list is fixed here literal by literal; the crates above write it,
 //! and prove what it means for chains. It stands on `chain_theory`, `op_basis` and `tt_core` for
-//! chains, bases and tables, and on `sat_theory` for formulas.
+//! chains, bases and tables, on `fence_core` for fences, and on `sat_theory` and `clause_core` for formulas
+//! and for what is written of a listed clause.
 //!
 //! The subject is that of Knuth, The Art of Computer Programming, volume 4, section 7.2.2.2 (exercise
 //! 477 and its kin): a step chooses its two operands by one variable for each pair of places, has a
@@ -9,7 +10,6 @@
 //! each step that may bear it. The numbering, the order of pairs and the order of clauses are this
 //! project's.
 //!
-//! - `specs/Clauses.antt`: how a listed clause is written, which is the one simplification.
 //! - `specs/Numbering.antt` and `specs/Pairs.antt`: the variables, and the pairs in their order.
 //! - `specs/Families.antt`: the clauses that say what a chain is. An encoding by pairs is these, over
 //!   its own pairs, and it may have more.
@@ -17,6 +17,7 @@
 //!   `specs/Fence.antt`: further clauses that leave a least chain, and the encodings that have them.
 //! - `specs/Select.antt`: the encoding whose steps choose each operand by itself, with its own cuts.
 //! - `specs/Decode.antt`: the chain that an assignment spells.
+//! - `specs/Parts.antt`: the parts of a size by fences.
 //!
 //! `laws` has what an independent program, written from the same description, makes of some two
 //! hundred inputs: numbers of variables, clauses and literals, and checksums.
@@ -24,5 +25,7 @@
 
 mod data;
 pub mod laws;
+mod part;
 
-pub use data::{Method, Pair, Raw, Side, Sizes, Slot};
+pub use data::{Method, Pair, Side, Sizes, Slot};
+pub use part::Part;

@@ -26,17 +26,17 @@ is_listed_of m (q ∷ qs) (few, rest) = and_from (leb q (sum qs + m)) (is_listed
 
 -- ---- elements
 
-pub contains_head : {X : Type 0} (x : X) (xs : List X) → Contains (x ∷ xs) x
+contains_head : {X : Type 0} (x : X) (xs : List X) → Contains (x ∷ xs) x
 contains_head x xs = Contains-get_or (x ∷ xs) 0 x (omega arith)
 
-pub contains_tail : {X : Type 0} (y x : X) (xs : List X) → Contains xs x → Contains (y ∷ xs) x
+contains_tail : {X : Type 0} (y x : X) (xs : List X) → Contains xs x → Contains (y ∷ xs) x
 contains_tail y x xs (k, low, is) = (suc k, omega arith, is)
 
 contains_cases : {X : Type 0} (y x : X) (xs : List X) → Contains (y ∷ xs) x → (y ≡ x) ⊎ Contains xs x
 contains_cases y x xs (zero, low, is) = inl is
 contains_cases y x xs (suc k, low, is) = inr (k, omega arith, is)
 
-pub contains_map : {X Y : Type 0} (f : X → Y) (xs : List X) (x : X) → Contains xs x → Contains (map f xs) (f x)
+contains_map : {X Y : Type 0} (f : X → Y) (xs : List X) (x : X) → Contains xs x → Contains (map f xs) (f x)
 contains_map f [] x c = absurd (omega (arith, c.1))
 contains_map f (y ∷ ys) x c = ⊎_elim
     (λ (here : y ≡ x). subst (Contains (map f (y ∷ ys))) (ap f here) (contains_head (f y) (map f ys)))

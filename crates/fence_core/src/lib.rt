@@ -13,6 +13,3 @@ mod listing;
 
 pub use fence::Fence;
 pub use listing::fences;
-
-#[cfg(test)]
-mod tests;

@@ -2,7 +2,7 @@
 use Rattle.std.specs.Prelude.{◌≡◌, ℕ, List}
 use Rattle.sat_theory.specs.Formula.{Formula}
 use Rattle.tt_core.specs.Words.{Words}
-use Rattle.enc_frame.specs.declared.part.Part.{Part}
+use Rattle.enc_theory.specs.declared.part.Part.{Part}
 use Rattle.cert_theory.specs.Coding.{Coding}
 
 -- the parts and formulas of an encoding are those of a coding

@@ -1,6 +1,6 @@
 -- What a part and a size come to.
 use Rattle.std.specs.Prelude.{◌≡◌, ℕ, List, map, All}
-use Rattle.enc_frame.specs.declared.part.Part.{Part}
+use Rattle.enc_theory.specs.declared.part.Part.{Part}
 use Rattle.cert_theory.specs.declared.data.Heading.{Heading}
 use Rattle.cert_theory.specs.Bundle.{PartLog, IsPartLog, part_of, IsSection, IsFound}
 use Rattle.size_loop.specs.declared.trying.PartOutcome.{PartOutcome}

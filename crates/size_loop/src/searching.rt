@@ -4,7 +4,7 @@ ghost use Rattle.size_loop.specs.Kept.{AreKept};
 
 use crate::advancing::{Advance, Search};
 use bundle_core::{Bundle, Heading};
-use enc_frame::Method;
+use enc_theory::Method;
 use op_basis::Basis;
 use std::alloc::{AllocError, Global};
 use tt_core::Spec;

@@ -1,6 +1,6 @@
 use super::*;
 use bundle_core::{Bundle, Verdict};
-use enc_frame::Method;
+use enc_theory::Method;
 use op_basis::Basis;
 use std::alloc::Global;
 use std::test::Fail;

@@ -7,7 +7,8 @@ ghost use Rattle.size_loop.specs.Coded.{IsCodedBy};
 use bundle_core::{Ended, Heading, PartLog};
 use cdcl_core::{Solved, solve};
 use chain_core::Chain;
-use enc_frame::{Encoding, Part};
+use enc_frame::Encoding;
+use enc_theory::Part;
 use std::alloc::{AllocError, Global};
 
 /// What a part of a size comes to.

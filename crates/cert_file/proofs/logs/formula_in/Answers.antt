@@ -1,6 +1,6 @@
 -- The part is one of the size's, and the only one that stands there.
 use Rattle.std.proofs.Common.{List, Contains, subst}
-use Rattle.enc_frame.specs.declared.part.Part.{Part}
+use Rattle.enc_theory.specs.declared.part.Part.{Part}
 use Rattle.cert_file.specs.Stages.{later_of}
 use Rattle.cert_file.proofs.SectionLines.{first_of, same_first, formula_at}
 use Rattle.cert_file.proofs.logs.formula_in.Goals as goal

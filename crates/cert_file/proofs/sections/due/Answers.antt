@@ -1,6 +1,6 @@
 -- Behind the last part stands the next size.
 use Rattle.std.proofs.Common.{◌∙◌, List, ap, arith}
-use Rattle.enc_frame.specs.declared.part.Part.{Part}
+use Rattle.enc_theory.specs.declared.part.Part.{Part}
 use Rattle.cert_theory.specs.Judging.{before, sections_of}
 use Rattle.cert_file.proofs.SectionLines.{drop_all}
 use Rattle.cert_file.proofs.sections.due.Goals as goal

@@ -1,7 +1,7 @@
 -- A title that is due was read, is at fault, or there is none.
 use Rattle.std.proofs.Common.{◌∙◌, ◌∷◌, List, ap, refl}
 use Rattle.cert_file.specs.TextLines.{line_of}
-use Rattle.enc_frame.specs.declared.part.Part.{Part}
+use Rattle.enc_theory.specs.declared.part.Part.{Part}
 use Rattle.cert_theory.specs.Judging.{before, sections_of}
 use Rattle.cert_theory.proofs.Binds.{fails_is}
 use Rattle.cert_file.specs.Stages.{later_of}

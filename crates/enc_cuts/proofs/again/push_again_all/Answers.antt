@@ -3,7 +3,7 @@ use Rattle.sat_theory.specs.Formula.{Formula}
 use Rattle.enc_cuts.specs.Vars.{HaveVars}
 use Rattle.enc_theory.specs.Cuts.{again_all, again_later}
 use Rattle.std.specs.List.{flat_map}
-use Rattle.enc_frame.proofs.Lists.{all_rest}
+use Rattle.clause_core.specs.ListLaws.{all_rest}
 use Rattle.enc_cuts.proofs.Walks.{walked, again-step}
 use Rattle.enc_cuts.proofs.again.push_again_all.Goals as goal
 

@@ -3,7 +3,7 @@ use Rattle.std.proofs.lemmas.Grind.{common_steps}
 use Rattle.std.proofs.lemmas.List.Elements.{All-same}
 use Rattle.enc_theory.specs.Cuts.{reading}
 use Rattle.enc_cuts.specs.Vars.{HasVar}
-use Rattle.enc_cuts.proofs.Literals.{reading_have}
+use Rattle.enc_cuts.specs.LiteralLaws.{reading_have}
 use Rattle.enc_cuts.proofs.again.push_again_later.Goals as goal
 
 pub push_again_slots-requires-clause-reading : goal.push_again_slots-requires-clause-reading

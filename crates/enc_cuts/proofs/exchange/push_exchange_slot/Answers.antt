@@ -1,9 +1,9 @@
 use Rattle.std.proofs.Common.{◌≡◌, ◌∷◌, false, arith}
 use Rattle.std.proofs.lemmas.Grind.{common_steps}
 use Rattle.std.proofs.lemmas.List.Elements.{All-same, All-cons}
-use Rattle.enc_theory.specs.declared.data.Raw.TheVariants.{Var}
-use Rattle.enc_frame.specs.Room.{IsWithin}
-use Rattle.enc_frame.proofs.Within.{within_var}
+use Rattle.clause_core.specs.declared.raw.Raw.TheVariants.{Var}
+use Rattle.clause_core.specs.Clauses.{IsWithin}
+use Rattle.clause_core.specs.WithinLaws.{within_var}
 use Rattle.enc_cuts.proofs.exchange.push_exchange_slot.Goals as goal
 
 pub push-requires : goal.push-requires

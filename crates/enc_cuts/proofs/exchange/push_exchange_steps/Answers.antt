@@ -1,12 +1,12 @@
 use Rattle.std.proofs.Common.{◌≡◌, ◌++◌, ℕ, All, sym, subst, ◌∙◌, arith}
 use Rattle.std.proofs.lemmas.Grind.{common_steps}
 use Rattle.enc_cuts.specs.Vars.{HaveVars}
-use Rattle.enc_frame.specs.Room.{IsWithin}
+use Rattle.clause_core.specs.Clauses.{IsWithin}
 use Rattle.enc_theory.specs.Cuts.{exchange_slot, readers_without}
 use Rattle.std.specs.List.{flat_map}
 use Rattle.std.proofs.lemmas.List.Elements.{All-same, All-append}
-use Rattle.enc_frame.proofs.Lists.{all_first, all_rest}
-use Rattle.enc_cuts.proofs.Literals.{without_within}
+use Rattle.clause_core.specs.ListLaws.{all_first, all_rest}
+use Rattle.enc_cuts.specs.LiteralLaws.{without_within}
 use Rattle.enc_cuts.proofs.Walks.{exchanged}
 use Rattle.enc_cuts.proofs.exchange.push_exchange_steps.Goals as goal
 

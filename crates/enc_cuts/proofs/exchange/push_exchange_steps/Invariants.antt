@@ -1,5 +1,5 @@
 use Rattle.std.proofs.Common.{◌≡◌, ◌++◌, [], All, length}
-use Rattle.enc_frame.specs.Room.{IsWithin}
+use Rattle.clause_core.specs.Clauses.{IsWithin}
 use Rattle.enc_cuts.specs.Vars.{HaveVars}
 use Rattle.enc_theory.specs.Cuts.{exchange_steps}
 use Rattle.enc_cuts.proofs.exchange.push_exchange_steps.Given as goal

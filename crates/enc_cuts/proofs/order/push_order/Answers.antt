@@ -2,7 +2,7 @@ use Rattle.std.proofs.Common.{ℕ, All, sym, ap, subst, ◌∙◌}
 use Rattle.sat_theory.specs.Formula.{Formula}
 use Rattle.enc_cuts.specs.Vars.{HaveVars}
 use Rattle.enc_theory.specs.Cuts.{order, order_with}
-use Rattle.enc_frame.proofs.Lists.{all_rest}
+use Rattle.clause_core.specs.ListLaws.{all_rest}
 use Rattle.enc_cuts.proofs.Walks.{walked, order-step}
 use Rattle.enc_cuts.proofs.order.push_order.Goals as goal
 

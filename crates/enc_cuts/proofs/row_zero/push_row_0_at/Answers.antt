@@ -1,10 +1,10 @@
 use Rattle.std.proofs.Common.{◌≡◌, ◌∷◌, map, arith}
 use Rattle.std.proofs.lemmas.Grind.{common_steps}
 use Rattle.std.proofs.lemmas.List.Elements.{All-same, All-cons}
-use Rattle.enc_frame.specs.Room.{IsWithin}
+use Rattle.clause_core.specs.Clauses.{IsWithin}
 use Rattle.enc_theory.specs.Numbering.{outputs}
 use Rattle.enc_theory.specs.Cuts.{bears}
-use Rattle.enc_cuts.proofs.Literals.{bearers_within}
+use Rattle.enc_cuts.specs.LiteralLaws.{bearers_within}
 use Rattle.enc_cuts.proofs.row_zero.push_row_0_at.Goals as goal
 
 pub push-requires : goal.push-requires

@@ -1,6 +1,6 @@
-use Rattle.enc_theory.specs.declared.data.Raw.TheVariants.{Var}
-use Rattle.enc_frame.specs.Room.{IsWithin}
-use Rattle.enc_frame.proofs.Within.{within_var, two}
+use Rattle.clause_core.specs.declared.raw.Raw.TheVariants.{Var}
+use Rattle.clause_core.specs.Clauses.{IsWithin}
+use Rattle.clause_core.specs.WithinLaws.{within_var, two}
 use Rattle.enc_cuts.proofs.slots.push_not_both.Goals as goal
 
 pub push-requires : goal.push-requires

@@ -1,9 +1,9 @@
-use Rattle.enc_theory.specs.declared.data.Raw.TheVariants.{Var}
-use Rattle.enc_frame.specs.Room.{IsWithin}
+use Rattle.clause_core.specs.declared.raw.Raw.TheVariants.{Var}
+use Rattle.clause_core.specs.Clauses.{IsWithin}
 use Rattle.std.proofs.Common.{◌≡◌, ap}
 use Rattle.sat_theory.specs.Formula.{Formula}
-use Rattle.enc_frame.proofs.Within.{within_var, within_first, two}
-use Rattle.enc_cuts.proofs.Literals.{three}
+use Rattle.clause_core.specs.WithinLaws.{within_var, two, three}
+use Rattle.enc_frame.specs.RoomLaws.{within_first}
 use Rattle.enc_cuts.proofs.trivial.push_equal.Goals as goal
 
 pub push-requires : goal.push-requires
@@ -30,7 +30,7 @@ push-requires-3 c =
     let vars = c.args.list.now.vars in
     let slot = c.requires.slot in
     let room = c.requires.room in
-    let same : c.push-2.new.self.vars ≡ c.args.list.now.vars = ap (λ (f : Formula). f.vars) c.in_ok-push.ensures in
+    let same : c.push-2.new.self.vars ≡ c.args.list.now.vars = ap (λ (f : Formula). f.vars) c.in_ok-push.ensures.written in
     rw same (two (IsWithin vars) (Var c.args.slot.var _) (Var c.f_var-2.result _)
     (within_var vars c.args.slot.var _ slot.var_from slot.var_within)
     (within_first c.args.z vars c.f_var-2.result _ room c.f_var-2.ensures.within))

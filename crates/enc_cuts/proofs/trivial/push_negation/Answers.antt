@@ -1,12 +1,12 @@
 use Rattle.std.proofs.Common.{◌≡◌, ◌++◌, arith}
 use Rattle.std.proofs.lemmas.Grind.{common_steps}
 use Rattle.std.proofs.lemmas.List.Elements.{All-same, All-append}
-use Rattle.enc_frame.specs.Room.{IsWithin}
+use Rattle.clause_core.specs.Clauses.{IsWithin}
 use Rattle.std.specs.List.{flat_map}
 use Rattle.enc_theory.specs.Families.{operator_raw}
 use Rattle.enc_theory.specs.Cuts.{equal_pair}
 use Rattle.enc_cuts.specs.Vars.{step_has_vars}
-use Rattle.enc_cuts.proofs.Literals.{operator_within, equal_pairs_within}
+use Rattle.enc_cuts.specs.LiteralLaws.{operator_within, equal_pairs_within}
 use Rattle.enc_cuts.proofs.trivial.push_negation.Goals as goal
 
 pub push-requires : goal.push-requires

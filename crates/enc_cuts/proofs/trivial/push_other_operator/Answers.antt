@@ -1,9 +1,9 @@
 use Rattle.std.proofs.Common.{◌≡◌, arith}
 use Rattle.std.proofs.lemmas.Grind.{common_steps}
 use Rattle.std.proofs.lemmas.List.Elements.{All-same}
-use Rattle.enc_frame.specs.Room.{IsWithin}
+use Rattle.clause_core.specs.Clauses.{IsWithin}
 use Rattle.enc_theory.specs.Families.{operator_raw}
-use Rattle.enc_cuts.proofs.Literals.{operator_within}
+use Rattle.enc_cuts.specs.LiteralLaws.{operator_within}
 use Rattle.enc_cuts.proofs.trivial.push_other_operator.Goals as goal
 
 pub push-requires : goal.push-requires

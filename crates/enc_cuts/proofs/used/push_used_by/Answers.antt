@@ -1,11 +1,11 @@
 use Rattle.std.proofs.Common.{◌≡◌, ◌++◌, map, arith}
 use Rattle.std.proofs.lemmas.Grind.{common_steps}
 use Rattle.std.proofs.lemmas.List.Elements.{All-same, All-append}
-use Rattle.enc_frame.specs.Room.{IsWithin}
+use Rattle.clause_core.specs.Clauses.{IsWithin}
 use Rattle.std.specs.List.{flat_map}
 use Rattle.enc_theory.specs.Numbering.{outputs}
 use Rattle.enc_theory.specs.Cuts.{bears, readers}
-use Rattle.enc_cuts.proofs.Literals.{bearers_within, all_readers_within}
+use Rattle.enc_cuts.specs.LiteralLaws.{bearers_within, all_readers_within}
 use Rattle.enc_cuts.proofs.used.push_used_by.Goals as goal
 
 pub push-requires : goal.push-requires

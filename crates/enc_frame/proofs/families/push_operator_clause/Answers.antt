@@ -1,6 +1,7 @@
-use Rattle.enc_theory.specs.declared.data.Raw.TheVariants.{Var}
-use Rattle.enc_frame.specs.Room.{IsWithin}
-use Rattle.enc_frame.proofs.Within.{within_first, four}
+use Rattle.clause_core.specs.declared.raw.Raw.TheVariants.{Var}
+use Rattle.clause_core.specs.Clauses.{IsWithin}
+use Rattle.enc_frame.specs.RoomLaws.{within_first}
+use Rattle.clause_core.specs.WithinLaws.{four}
 use Rattle.enc_frame.proofs.families.push_operator_clause.Goals as goal
 
 pub push-requires : goal.push-requires

@@ -1,9 +1,10 @@
 use Rattle.std.proofs.Common.{arith}
-use Rattle.enc_theory.specs.declared.data.Raw.TheVariants.{Var}
+use Rattle.clause_core.specs.declared.raw.Raw.TheVariants.{Var}
 use Rattle.enc_theory.specs.Families.{bearer}
-use Rattle.enc_frame.specs.Room.{IsWithin}
-use Rattle.enc_frame.proofs.Within.{within_first, all_pushed}
-use Rattle.enc_frame.proofs.Ranges.{loops}
+use Rattle.clause_core.specs.Clauses.{IsWithin}
+use Rattle.enc_frame.specs.RoomLaws.{within_first}
+use Rattle.clause_core.specs.WithinLaws.{all_pushed}
+use Rattle.clause_core.specs.RangeLaws.{loops}
 use Rattle.enc_frame.proofs.families.push_out_exists_at.Goals as goal
 
 pub loop-i-preserved : goal.loop-i-preserved

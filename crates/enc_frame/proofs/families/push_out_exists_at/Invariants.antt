@@ -1,7 +1,7 @@
 use Rattle.std.proofs.Common.{◌≡◌, ◌+◌, ◌-◌, map, All}
 use Rattle.std.specs.List.{range_with_len}
 use Rattle.enc_theory.specs.Families.{bearer}
-use Rattle.enc_frame.specs.Room.{IsWithin}
+use Rattle.clause_core.specs.Clauses.{IsWithin}
 use Rattle.enc_frame.proofs.families.push_out_exists_at.Given as goal
 
 abbrev pub invariant-loop-i : goal.invariant-loop-i

@@ -1,7 +1,7 @@
 use Rattle.std.proofs.Common.{arith}
 use Rattle.enc_theory.specs.Families.{chosen}
-use Rattle.enc_frame.proofs.Within.{slot_pushed}
-use Rattle.enc_frame.proofs.Ranges.{loops}
+use Rattle.enc_frame.specs.RoomLaws.{slot_pushed}
+use Rattle.clause_core.specs.RangeLaws.{loops}
 use Rattle.enc_frame.proofs.families.push_pair_exists_at.Goals as goal
 
 pub loop-slot-preserved : goal.loop-slot-preserved

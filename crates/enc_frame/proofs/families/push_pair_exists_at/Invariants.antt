@@ -1,6 +1,6 @@
 use Rattle.std.proofs.Common.{◌≡◌, map, take, All}
 use Rattle.enc_theory.specs.Families.{chosen}
-use Rattle.enc_frame.specs.Room.{IsWithin}
+use Rattle.clause_core.specs.Clauses.{IsWithin}
 use Rattle.enc_frame.proofs.families.push_pair_exists_at.Given as goal
 
 abbrev pub invariant-loop-slot : goal.invariant-loop-slot

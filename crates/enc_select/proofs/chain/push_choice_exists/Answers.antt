@@ -1,7 +1,7 @@
 use Rattle.std.proofs.Common.{◌≡◌, map, arith}
 use Rattle.std.proofs.lemmas.List.Elements.{All-same}
 use Rattle.enc_theory.specs.Select.{below, chooses}
-use Rattle.enc_frame.specs.Room.{IsWithin}
+use Rattle.clause_core.specs.Clauses.{IsWithin}
 use Rattle.enc_select.proofs.Within.{choices_within}
 use Rattle.enc_select.proofs.Ranges.{loops}
 use Rattle.enc_select.proofs.chain.push_choice_exists.Goals as goal

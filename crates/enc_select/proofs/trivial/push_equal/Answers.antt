@@ -1,9 +1,9 @@
-use Rattle.enc_theory.specs.declared.data.Raw.TheVariants.{Var}
-use Rattle.enc_frame.specs.Room.{IsWithin}
+use Rattle.clause_core.specs.declared.raw.Raw.TheVariants.{Var}
+use Rattle.clause_core.specs.Clauses.{IsWithin}
 use Rattle.std.proofs.Common.{◌≡◌, ap}
 use Rattle.sat_theory.specs.Formula.{Formula}
-use Rattle.enc_frame.proofs.Within.{within_first, four}
-use Rattle.enc_cuts.proofs.Literals.{three}
+use Rattle.enc_frame.specs.RoomLaws.{within_first}
+use Rattle.clause_core.specs.WithinLaws.{four, three}
 use Rattle.enc_select.proofs.trivial.push_equal.Goals as goal
 
 pub push-requires : goal.push-requires
@@ -29,7 +29,7 @@ pub push-requires-3 : goal.push-requires-3
 push-requires-3 c =
     let vars = c.args.list.now.vars in
     let room = c.requires.room in
-    let same : c.push-2.new.self.vars ≡ c.args.list.now.vars = ap (λ (f : Formula). f.vars) c.in_ok-push.ensures in
+    let same : c.push-2.new.self.vars ≡ c.args.list.now.vars = ap (λ (f : Formula). f.vars) c.in_ok-push.ensures.written in
     rw same (three (IsWithin vars) c.choice-first.result c.choice-second.result (Var c.f_var-2.result _)
     (c.choice-first.ensures.within vars room)
     (c.choice-second.ensures.within vars room)

@@ -1,9 +1,9 @@
 use Rattle.std.proofs.Common.{◌≡◌, ◌++◌, arith}
 use Rattle.std.proofs.lemmas.List.Elements.{All-same, All-append}
-use Rattle.enc_frame.specs.Room.{IsWithin}
+use Rattle.clause_core.specs.Clauses.{IsWithin}
 use Rattle.enc_theory.specs.Families.{operator_raw}
 use Rattle.enc_theory.specs.Select.{not_these}
-use Rattle.enc_cuts.proofs.Literals.{operator_within}
+use Rattle.enc_cuts.specs.LiteralLaws.{operator_within}
 use Rattle.enc_select.proofs.Within.{these_within}
 use Rattle.enc_select.proofs.Ranges.{loops}
 use Rattle.enc_select.proofs.trivial.push_negation_pair.Goals as goal

@@ -2,11 +2,11 @@ use Rattle.std.proofs.Common.{◌≡◌, ◌++◌, map, arith}
 use Rattle.std.proofs.lemmas.Grind.{common_steps}
 use Rattle.std.proofs.lemmas.List.Elements.{All-same, All-append}
 use Rattle.std.specs.List.{flat_map}
-use Rattle.enc_frame.specs.Room.{IsWithin}
+use Rattle.clause_core.specs.Clauses.{IsWithin}
 use Rattle.enc_theory.specs.Numbering.{outputs}
 use Rattle.enc_theory.specs.Cuts.{bears}
 use Rattle.enc_theory.specs.Select.{above, choosers}
-use Rattle.enc_cuts.proofs.Literals.{bearers_within}
+use Rattle.enc_cuts.specs.LiteralLaws.{bearers_within}
 use Rattle.enc_select.proofs.Within.{choosers_within}
 use Rattle.enc_select.proofs.used.push_used_step.Goals as goal
 

@@ -6,8 +6,8 @@ use Rattle.sat_theory.specs.Formula.{bits_of}
 use Rattle.tt_core.specs.Words.{specification}
 use Rattle.enc_theory.specs.Fence.{fence_decoded}
 use Rattle.enc_laws.specs.Fence.{fence_decodes}
-use Rattle.enc_cuts.proofs.Chains.{if_ok}
-use Rattle.enc_fence.specs.Parts.{fence_in}
+use Rattle.enc_cuts.specs.ChainLaws.{if_ok}
+use Rattle.enc_theory.specs.Parts.{fence_in}
 use Rattle.enc_fence.proofs.Formulas.{spelled_is_small}
 use Rattle.enc_fence.proofs.encoding.FenceEncEncoding.decode.Goals as goal
 

@@ -1,5 +1,5 @@
 use Rattle.std.proofs.Common.{◌≡◌, map}
-use Rattle.enc_frame.specs.declared.part.Part.TheVariants.{Levels}
+use Rattle.enc_theory.specs.declared.part.Part.TheVariants.{Levels}
 use Rattle.enc_fence.proofs.encoding.FenceEncEncoding.parts.Given as goal
 
 abbrev pub invariant-loop-fence : goal.invariant-loop-fence

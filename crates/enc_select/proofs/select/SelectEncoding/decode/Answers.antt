@@ -6,7 +6,7 @@ use Rattle.sat_theory.specs.Formula.{bits_of}
 use Rattle.tt_core.specs.Words.{specification}
 use Rattle.enc_theory.specs.Select.{select_decoded}
 use Rattle.enc_laws.specs.Select.{select_decodes}
-use Rattle.enc_cuts.proofs.Chains.{if_ok}
+use Rattle.enc_cuts.specs.ChainLaws.{if_ok}
 use Rattle.enc_select.proofs.Formulas.{select_is_small}
 use Rattle.enc_select.proofs.select.SelectEncoding.decode.Goals as goal
 

@@ -6,7 +6,7 @@ use Rattle.sat_theory.specs.Formula.{bits_of}
 use Rattle.tt_core.specs.Words.{specification}
 use Rattle.enc_laws.specs.Decoded.{IsFor}
 use Rattle.enc_ssv.specs.Spelled.{spelled}
-use Rattle.enc_cuts.proofs.Chains.{if_ok}
+use Rattle.enc_cuts.specs.ChainLaws.{if_ok}
 use Rattle.enc_ssv.proofs.Chains.{plain_is_for, plain_is_small}
 use Rattle.enc_ssv.proofs.plain.PlainEncoding.decode.Goals as goal
 

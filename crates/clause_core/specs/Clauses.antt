@@ -1,0 +1,46 @@
+-- How a listed clause is written.
+use Rattle.std.specs.Prelude.{ℕ, ◌≤◌, ℤ, pos, neg_ℤ, Bool, true, false, not, List, [], ◌∷◌, ◌++◌, Option, Some, None, if◌then◌else◌}
+use Rattle.std.specs.List.{list_any}
+use Rattle.std.specs.Ordering.{int_eq}
+use Rattle.sat_theory.specs.Formula.{Formula, Assignment, Satisfies}
+use Rattle.clause_core.specs.declared.raw.Raw.{Raw}
+use Rattle.clause_core.specs.declared.raw.Raw.TheVariants.{Fixed, Var}
+
+-- that the variable has the bit
+-- Example: signed 3 true is 3, and signed 3 false is -3.
+abbrev pub signed : ℕ → Bool → ℤ
+signed v bit = if bit then pos v else neg_ℤ (pos v)
+
+-- the literal is among these
+unfoldable pub has : List ℤ → ℤ → Bool
+has lits lit = list_any (int_eq lit) lits
+
+-- These literals with the listed ones behind them, or nothing where the clause is true whatever the
+-- variables are. What is false is left out, and so is a literal that is there; what is true, and a
+-- literal whose opposite is there, makes the clause true.
+unfoldable pub simplified : List ℤ → List Raw → Option (List ℤ)
+simplified lits [] = Some lits
+simplified lits (Fixed true ∷ raws) = None
+simplified lits (Fixed false ∷ raws) = simplified lits raws
+simplified lits (Var v bit ∷ raws) =
+    if has lits (signed v (not bit)) then None else (if has lits (signed v bit) then simplified lits raws else simplified (lits ++ signed v bit ∷ []) raws)
+
+-- one clause, or none
+abbrev pub listed : Option (List ℤ) → List (List ℤ)
+listed None = []
+listed (Some lits) = lits ∷ []
+
+-- What is written of a listed clause.
+-- Example: of "variable 4 is 1, or false, or variable 2 is 0, or variable 4 is 1" it is the one clause
+-- 4, -2; of "variable 4 is 1, or variable 4 is 0" it is none.
+unfoldable pub written : List Raw → List (List ℤ)
+written raws = listed (simplified [] raws)
+
+-- a listed literal's variable is one of 1 to vars
+unfoldable pub IsWithin : ℕ → Raw → Type 0
+IsWithin vars (Fixed bit) = Unit {0}
+IsWithin vars (Var v bit) = (1 ≤ v) × (v ≤ vars)
+
+-- some assignment satisfies the formula
+abbrev pub IsSatisfiable : Formula → Type 0
+IsSatisfiable f = (v : Assignment) × Satisfies v f

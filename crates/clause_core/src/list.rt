@@ -1,0 +1,178 @@
+//! Clauses as they are written, one at a time. While a clause is written, a table over all variables has
+//! the bit of each that is in it; a literal whose variable is there is a repeat or an opposite, by one look.
+//! When the clause is done its own literals are forgotten, so the table is blank for the next one and a
+//! clause costs time linear in what is listed of it.
+ghost use Rattle.std.specs.Prelude.{◌≡◌, ℕ, ◌<◌, ◌≤◌, ◌-◌, ◌^◌, List, [], ◌∷◌, ◌++◌, length, All, IfOk, OnOk, OnErr};
+ghost use Rattle.sat_theory.specs.Formula.{IsClause};
+ghost use Rattle.clause_core.specs.declared.raw.Raw.{Raw};
+ghost use Rattle.clause_core.specs.declared.raw.Raw.TheVariants.{Var};
+ghost use Rattle.clause_core.specs.Clauses.{signed, simplified, written, IsWithin};
+ghost use Rattle.clause_core.specs.Seen.{IsSeen, IsBlank, going, found};
+
+use crate::Raw;
+use cnf_core::{Clause, Cnf, Lit};
+use std::alloc::{AllocError, Global};
+use std::marker::Model;
+
+/// The literal of a variable that is to have a bit.
+fn literal(variable: u32, bit: bool) -> Lit
+    requires { (1 ≤ variable) × (variable < 2 ^ 31) }
+    ensures { result ≡ signed variable bit }
+{
+    let number = variable as i32;
+    Lit::new(if bit { number } else { -number })
+}
+
+/// Adds a variable's literal to those of a clause, of which `seen` has the bits by their variables. It
+/// gives false where the clause is true.
+fn add_literal(
+    lits: &mut Vec<Lit>,
+    seen: &mut [Option<bool>],
+    variable: u32,
+    bit: bool,
+) -> Result<bool, AllocError>
+    requires clause { IsClause lits.old.items }
+    requires seen { IsSeen seen.old lits.old.items }
+    requires variable { (1 ≤ variable) × (variable < length seen.old) × (length seen.old < 2 ^ 31) }
+    ensures same { IfOk result (λ more. (raws : List Raw) → simplified lits.old.items (Var variable bit ∷ raws) ≡ going more lits.new.items raws) }
+    ensures clause { IsClause lits.new.items }
+    ensures seen { IsSeen seen.new lits.new.items }
+{
+    match seen[variable as usize] {
+        Some(known) => Ok(known == bit),
+        None => {
+            lits.push(literal(variable, bit))?;
+            seen[variable as usize] = Some(bit);
+            Ok(true)
+        }
+    }
+}
+
+/// Adds a listed literal to those of a clause. It gives false where the clause is true.
+#[tactic(auto, using(crate::proofs::Simplified::constants), unfolding(crate::specs::Clauses::IsWithin))]
+fn add(lits: &mut Vec<Lit>, seen: &mut [Option<bool>], raw: Raw) -> Result<bool, AllocError>
+    requires clause { IsClause lits.old.items }
+    requires seen { IsSeen seen.old lits.old.items }
+    requires room { (1 ≤ length seen.old) × (length seen.old < 2 ^ 31) }
+    requires variable { IsWithin (length seen.old - 1) raw }
+    ensures same { IfOk result (λ more. (raws : List Raw) → simplified lits.old.items (raw ∷ raws) ≡ going more lits.new.items raws) }
+    ensures clause { IsClause lits.new.items }
+    ensures seen { IsSeen seen.new lits.new.items }
+{
+    match raw {
+        Raw::Fixed(bit) => Ok(!bit),
+        Raw::Var(variable, bit) => add_literal(lits, seen, variable, bit),
+    }
+}
+
+/// Puts the literals that are written of a listed clause into an empty list. It gives false where
+/// nothing is written, because the clause is true.
+#[tactic(auto, using(crate::proofs::Simplified::constants))]
+fn gather(lits: &mut Vec<Lit>, seen: &mut [Option<bool>], raws: &[Raw]) -> Result<bool, AllocError>
+    requires none { lits.old.items ≡ [] }
+    requires blank { IsBlank seen.old }
+    requires room { (1 ≤ length seen.old) × (length seen.old < 2 ^ 31) }
+    requires within { All (IsWithin (length seen.old - 1)) raws.now }
+    ensures same { IfOk result (λ whole. simplified [] raws.now ≡ found whole lits.new.items) }
+    ensures clause { IsClause lits.new.items }
+    ensures seen { IsSeen seen.new lits.new.items }
+{
+    let mut left = raws;
+    while let Some((raw, rest)) = left.split_first() {
+        if !add(lits, seen, *raw)? {
+            return Ok(false);
+        }
+        left = rest;
+    }
+    Ok(true)
+}
+
+/// Forgets the variables of the literals.
+fn forget(seen: &mut [Option<bool>], lits: &[Lit])
+    requires { IsSeen seen.old lits.now }
+    ensures { IsBlank seen.new }
+{
+    for lit in lits {
+        seen[lit.variable() as usize] = None;
+    }
+}
+
+/// A formula that grows: the variables 1 to `vars`, and clauses over them. Each clause is written in
+/// time linear in what is listed of it.
+#[derive(Debug, Drop)]
+pub struct ClauseList {
+    vars: u32,
+    clauses: Vec<Clause>,
+    // the bits of a clause's variables, while it is written
+    seen: Vec<Option<bool>>,
+}
+
+impl Model for ClauseList {
+    ghost use Rattle.std.specs.Prelude.{◌<◌};
+    ghost use Rattle.sat_theory.specs.Formula.{Formula, IsFormula};
+    ghost use Rattle.clause_core.specs.Seen.{HoldsList};
+
+    ghost Value = { Formula };
+
+    ghost view = { λ f. record { vars = f.vars; clauses = f.clauses.items } };
+
+    ghost invariant = { λ f. HoldsList (record { vars = f.vars; clauses = f.clauses.items }) f.seen.items };
+}
+
+impl ClauseList {
+    /// No clause yet, over the variables 1 to `vars`.
+    pub fn new(alloc: Global, vars: u32) -> Result<ClauseList, AllocError>
+        requires { vars < 1000000000 }
+        ensures { IfOk result (λ list. list ≡ record { vars = vars; clauses = [] }) }
+    {
+        Ok(ClauseList {
+            vars,
+            clauses: Vec::new(alloc),
+            seen: vec![in alloc; None; vars as usize + 1]?,
+        })
+    }
+
+    /// Writes a listed clause: what is false is left out, and so is a literal that is there already;
+    /// where something is true, or a literal and its opposite are there, nothing is written.
+    #[tactic(auto, unfolding(crate::specs::Clauses::written))]
+    pub fn push(&mut self, alloc: Global, raws: &[Raw]) -> Result<(), AllocError>
+        requires { All (IsWithin self.old.vars) raws.now }
+        ensures written { OnOk result (self.new ≡ record self.old { clauses = self.old.clauses ++ written raws.now }) }
+        ensures unchanged { OnErr result (self.new ≡ self.old) }
+    {
+        let mut lits = Vec::with_capacity(alloc, raws.len())?;
+        let whole = gather(&mut lits, &mut self.seen, raws);
+        forget(&mut self.seen, &lits);
+        if whole? {
+            self.clauses.push(Clause::new(lits))?;
+        }
+        Ok(())
+    }
+
+    /// The number of variables.
+    pub fn vars(&self) -> u32
+        ensures value { result ≡ self.now.vars }
+        ensures few { self.now.vars < 1000000000 }
+    {
+        self.vars
+    }
+
+    /// The clauses that were written, in their order.
+    pub fn clauses(&self) -> &[Clause]
+        ensures { result.now ≡ self.now.clauses }
+    {
+        &self.clauses
+    }
+
+    /// The formula of the clauses that were written.
+    pub fn into_cnf(self, alloc: Global) -> Result<Cnf, AllocError>
+        requires { length self.clauses < 2000000000 }
+        ensures { IfOk result (λ cnf. cnf ≡ self) }
+    {
+        let mut cnf = Cnf::new(alloc, self.vars);
+        for clause in self.clauses {
+            cnf.push(clause)?;
+        }
+        Ok(cnf)
+    }
+}

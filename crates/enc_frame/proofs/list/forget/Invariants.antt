@@ -1,5 +1,0 @@
-use Rattle.enc_frame.proofs.Marks.{Forgotten}
-use Rattle.enc_frame.proofs.list.forget.Given as goal
-
-abbrev pub invariant-loop-lit : goal.invariant-loop-lit
-invariant-loop-lit l = Forgotten l.lits l.lit-index l.initial.seen l.seen

@@ -1,0 +1,28 @@
+-- The laws of the encoding by fences, as the trait of encodings states them.
+use Rattle.std.specs.Prelude.{ℕ, length}
+use Rattle.std.specs.List.{Contains}
+use Rattle.chain_theory.specs.Agreement.{HasChain, IsMinimum}
+use Rattle.op_basis.specs.Basis.{members}
+use Rattle.tt_core.specs.Words.{Words, specification}
+use Rattle.tt_core.specs.Live.{live_words}
+use Rattle.fence_core.specs.Fence.{listed_fences}
+use Rattle.clause_core.specs.Holds.{contains_map}
+use Rattle.fence_core.specs.Listing.{fences_are_listed}
+use Rattle.clause_core.specs.Clauses.{IsSatisfiable}
+use Rattle.enc_theory.specs.Fence.{fence_formula}
+use Rattle.enc_laws.specs.Fence.{fence_sound, fence_complete, HasFence}
+use Rattle.enc_theory.specs.declared.part.Part.{Part}
+use Rattle.enc_theory.specs.declared.part.Part.TheVariants.{Levels}
+use Rattle.enc_theory.specs.Parts.{parts_for, fence_in}
+
+-- a formula of size r that is satisfiable has a chain of r steps
+pub is_sound : (w : Words) (basis r : ℕ) (part : Part) → Contains (parts_for w r) part → IsSatisfiable (fence_formula w basis r (fence_in part)) → HasChain (specification w) (members basis) r
+is_sound w basis r part there sat = fence_sound w basis r (fence_in part) sat
+
+-- where r is the least number of steps, the formula of some listed fence of r steps is satisfiable
+pub is_complete : (w : Words) (basis r : ℕ) → IsMinimum (specification w) (members basis) r → (part : Part) × Contains (parts_for w r) part × IsSatisfiable (fence_formula w basis r (fence_in part))
+unfolding parts_for fence_in
+is_complete w basis r least =
+    let found : HasFence w basis r r = fence_complete w basis r least in
+    let m : ℕ = length (live_words w).on in
+    (Levels found.fence, contains_map Levels (listed_fences r m) found.fence ((fences_are_listed r m).all found.fence found.listed), found.satisfiable)

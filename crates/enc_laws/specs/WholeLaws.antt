@@ -1,0 +1,18 @@
+-- The one part of a size that is searched whole.
+use Rattle.std.specs.Prelude.{◌≡◌, ℕ, zero, suc, ◌<◌, [], ◌∷◌, slice_index_or, refl}
+use Rattle.std.specs.List.{Contains}
+use Rattle.std.proofs.Common.{arith, sym}
+use Rattle.enc_theory.specs.declared.part.Part.{Part}
+use Rattle.enc_theory.specs.declared.part.Part.TheVariants.{Whole}
+
+-- it is there
+pub the_whole : Contains (Whole ∷ []) Whole
+the_whole = (0, omega arith, refl)
+
+-- and there is no other
+pub only_whole : (part : Part) → Contains (Whole ∷ []) part → part ≡ Whole
+only_whole part (i, low, at) = sole part i low at
+  where
+    sole : (part : Part) (i : ℕ) → i < 1 → slice_index_or (Whole ∷ []) i part ≡ part → part ≡ Whole
+    sole part zero low at = sym at
+    sole part (suc i) low at = absurd (omega arith)

@@ -1,0 +1,105 @@
+//! Clauses as they are written, which cuts a basis allows, and the pairs of a step.
+ghost use Rattle.std.specs.Prelude.{◌≡◌};
+
+use clause_core::{ClauseList, Raw};
+use enc_frame::{AllPairs, CutSet, Layout, cuts};
+use enc_theory::Sizes;
+use op_basis::read_basis;
+use std::alloc::{AllocError, Global};
+
+/// The one clause "4, -2"; a clause with an opposite and one with a truth are left out, and what has
+/// nothing in it is the empty clause.
+#[tactic(auto, unfolding(clause_core::specs::Clauses::IsWithin))]
+fn write_some(alloc: Global, list: &mut ClauseList) -> Result<(), AllocError>
+    requires { list.old.vars ≡ 4 }
+{
+    list.push(
+        alloc,
+        &[
+            Raw::Var(4, true),
+            Raw::Fixed(false),
+            Raw::Var(2, false),
+            Raw::Var(4, true),
+        ],
+    )?;
+    list.push(
+        alloc,
+        &[Raw::Var(4, true), Raw::Var(1, true), Raw::Var(4, false)],
+    )?;
+    list.push(alloc, &[Raw::Var(3, true), Raw::Fixed(true)])?;
+    list.push(alloc, &[Raw::Fixed(false)])
+}
+
+#[test]
+fn clauses_are_simplified(rt: HostRuntime) {
+    let Ok(mut list) = ClauseList::new(rt.alloc(), 4) else {
+        assert!(rt; false);
+        return;
+    };
+    assert!(rt; write_some(rt.alloc(), &mut list).is_ok());
+    assert_eq!(rt; list.vars(), 4);
+    let [first, second] = list.clauses() else {
+        assert!(rt; false);
+        return;
+    };
+    let [four, two] = first.lits() else {
+        assert!(rt; false);
+        return;
+    };
+    assert_eq!(rt; four.get(), 4);
+    assert_eq!(rt; two.get(), -2);
+    assert!(rt; second.lits().is_empty());
+}
+
+#[test]
+fn bases_allow_cuts(rt: HostRuntime) {
+    for (basis, swap, constants, polarity, reapply) in [
+        (b"all" as &[u8], true, true, true, true),
+        (b"u2", true, true, true, true),
+        (b"bench", true, true, false, false),
+        (b"nand", true, true, false, false),
+        (b"0001", true, true, false, true),
+        (b"0110,1001", true, false, true, false),
+        (b"0010", false, false, false, false),
+        (b"0011", false, true, false, true),
+    ] {
+        let wanted = CutSet {
+            swap,
+            constants,
+            polarity,
+            reapply,
+        };
+        match read_basis(basis) {
+            Ok(basis) => assert_eq!(rt; cuts(basis), wanted),
+            Err(_) => assert!(rt; false),
+        }
+    }
+}
+
+/// Whether one step over two inputs gets these pairs and variables.
+fn are_laid(alloc: Global, ordered: bool, vars: u32, slots: &[(u32, u32, u32)]) -> bool {
+    let z = Sizes { n: 2, r: 1, m: 1 };
+    let Ok(layout) = Layout::new(alloc, &AllPairs { ordered }, z) else {
+        return false;
+    };
+    let [step] = layout.steps.as_slice() else {
+        return false;
+    };
+    if step.place() != 3 || step.slots().len() != slots.len() {
+        return false;
+    }
+    for (slot, wanted) in step.slots().iter().zip(slots) {
+        if (slot.j, slot.k, slot.var) != *wanted {
+            return false;
+        }
+    }
+    layout.vars == vars
+}
+
+#[test]
+fn pairs_are_laid_out(rt: HostRuntime) {
+    let all = [(1, 1, 10), (2, 2, 11), (1, 2, 12), (2, 1, 13)];
+    let ordered = [(1, 1, 10), (2, 2, 11), (1, 2, 12)];
+    assert!(rt; are_laid(rt.alloc(), false, 13, &all));
+    assert!(rt; are_laid(rt.alloc(), true, 12, &ordered));
+}

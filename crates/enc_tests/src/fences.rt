@@ -1,0 +1,150 @@
+//! Which fences are listed, the parts of a size, and the levels of a chain.
+ghost use Rattle.std.specs.Prelude.{◌≤◌};
+
+use chain_core::read_chain;
+use enc_fence::{FenceEnc, levels};
+use enc_frame::Encoding;
+use enc_ssv::Ssv;
+use enc_theory::Part;
+use fence_core::{Fence, fences};
+use std::alloc::Global;
+use tt_core::read_tables;
+
+#[test]
+fn levels_are_kept(rt: HostRuntime) {
+    match Vec::from_slice(rt.alloc(), &[2, 1]) {
+        Ok(levels) => {
+            let fence = Fence::new(levels);
+            assert!(rt; fence.levels() == [2, 1].as_slice());
+        }
+        Err(_) => assert!(rt; false),
+    }
+}
+
+/// Whether these are the fences of a size, each with a 0 behind it.
+fn are_listed(alloc: Global, r: u32, outputs: u32, numbers: &[u32]) -> bool
+    requires { r ≤ 16 }
+{
+    let Ok(listed) = fences(alloc, r, outputs) else {
+        return false;
+    };
+    let mut left = numbers;
+    for fence in &listed {
+        let length = fence.levels().len();
+        if left.len() <= length || fence.levels() != &left[..length] || left[length] != 0 {
+            return false;
+        }
+        left = &left[length + 1..];
+    }
+    left.is_empty()
+}
+
+#[test]
+fn fences_come_in_order(rt: HostRuntime) {
+    assert!(rt; are_listed(rt.alloc(), 0, 1, &[0]));
+    assert!(rt; are_listed(rt.alloc(), 3, 1, &[1, 1, 1, 0, 2, 1, 0]));
+    assert!(rt; are_listed(rt.alloc(), 3, 2, &[1, 1, 1, 0, 1, 2, 0, 2, 1, 0]));
+    assert!(rt; are_listed(rt.alloc(), 4, 1, &[1, 1, 1, 1, 0, 1, 2, 1, 0, 2, 1, 1, 0]));
+    // a step that is no output is read by one above it
+    assert!(rt; are_listed(rt.alloc(), 2, 0, &[]));
+}
+
+/// How many fences a size has; 0 also where there is no memory for them.
+fn count(alloc: Global, r: u32, outputs: u32) -> usize {
+    if r > 16 {
+        return 0;
+    }
+    match fences(alloc, r, outputs) {
+        Ok(fences) => fences.len(),
+        Err(_) => 0,
+    }
+}
+
+#[test]
+fn fences_are_counted(rt: HostRuntime) {
+    // counted by another program, for one output and for three
+    for (r, one, three) in [
+        (4, 3, 7),
+        (5, 6, 14),
+        (6, 11, 27),
+        (7, 22, 54),
+        (8, 42, 106),
+        (9, 84, 212),
+        (10, 165, 420),
+    ] {
+        assert_eq!(rt; count(rt.alloc(), r, 1), one);
+        assert_eq!(rt; count(rt.alloc(), r, 3), three);
+    }
+}
+
+/// How many parts a size has by fences.
+fn parts_of_size(alloc: Global, tables: &[u8], r: u32) -> Option<usize> {
+    if tables.len() > 1000 || r > 16 {
+        return None;
+    }
+    let read = read_tables(alloc, tables).ok()?;
+    let parts = FenceEnc.parts(alloc, &read.spec, r).ok()?;
+    Some(parts.len())
+}
+
+#[test]
+fn live_outputs_decide_the_parts(rt: HostRuntime) {
+    for (tables, r, wanted) in [
+        (b"inputs 2\n0110\n" as &[u8], 3, 2),
+        (b"inputs 2\n0110\n1001\n", 3, 3),
+        // one of two outputs costs nothing
+        (b"inputs 2\n0110\n0011\n", 3, 2),
+        // no step is needed, and none could be listed
+        (b"inputs 2\n0011\n", 0, 1),
+        (b"inputs 2\n0011\n", 1, 0),
+    ] {
+        match parts_of_size(rt.alloc(), tables, r) {
+            Some(count) => assert_eq!(rt; count, wanted),
+            None => assert!(rt; false),
+        }
+    }
+}
+
+#[test]
+fn other_sizes_have_one_part(rt: HostRuntime) {
+    let Ok(read) = read_tables(rt.alloc(), b"inputs 2\n0110\n") else {
+        assert!(rt; false);
+        return;
+    };
+    match Ssv.parts(rt.alloc(), &read.spec, 3) {
+        Ok(parts) => assert!(rt; matches!(parts.as_slice(), [Part::Whole])),
+        Err(_) => assert!(rt; false),
+    }
+}
+
+/// Whether the steps of a chain of three inputs have these levels.
+fn have_levels(alloc: Global, block: &[u8], wanted: &[u32]) -> bool {
+    if block.len() > 1000 {
+        return false;
+    }
+    let Ok((chain, _)) = read_chain(alloc, block, 1, 3, 1) else {
+        return false;
+    };
+    match levels(alloc, &chain) {
+        Ok(levels) => levels.as_slice() == wanted,
+        Err(_) => false,
+    }
+}
+
+#[test]
+fn steps_have_levels(rt: HostRuntime) {
+    // the AND of three inputs; two steps side by side under a third; and no step
+    for (block, wanted) in [
+        (
+            b"chain 2\nx4 x1 x2 0001\nx5 x3 x4 0001\nout x5\n" as &[u8],
+            &[1u32, 2] as &[u32],
+        ),
+        (
+            b"chain 3\nx4 x1 x2 0001\nx5 x3 x3 1100\nx6 x5 x4 0110\nout x6\n",
+            &[1, 1, 2],
+        ),
+        (b"chain 0\nout x2\n", &[]),
+    ] {
+        assert!(rt; have_levels(rt.alloc(), block, wanted));
+    }
+}

@@ -1,0 +1,197 @@
+//! Formulas, literal by literal where they are small, and by their sizes and checksums.
+ghost use Rattle.std.specs.Prelude.{◌≤◌};
+
+use cnf_core::{Cnf, Lit};
+use enc_fence::FenceEnc;
+use enc_frame::Encoding;
+use enc_select::Select;
+use enc_ssv::{Plain, Ssv};
+use enc_theory::Method;
+use op_basis::{Basis, read_basis};
+use std::alloc::{AllocError, Global};
+use tt_core::{Spec, read_tables};
+
+/// The formula of a part of a size.
+fn formula_by<E: Encoding>(
+    alloc: Global,
+    encoding: &E,
+    spec: &Spec,
+    basis: Basis,
+    r: u32,
+    which: usize,
+) -> Option<Cnf>
+    requires { r ≤ 16 }
+{
+    let parts = encoding.parts(alloc, spec, r).ok()?;
+    let part = parts.get(which)?;
+    encoding.formula(alloc, spec, basis, r, part).ok()
+}
+
+/// The formula of a part of a size, for tables and a basis that are given as texts.
+fn formula(
+    alloc: Global,
+    method: Method,
+    tables: &[u8],
+    basis: &[u8],
+    r: u32,
+    which: usize,
+) -> Option<Cnf> {
+    if tables.len() > 1000 || r > 16 {
+        return None;
+    }
+    let (Ok(read), Ok(basis)) = (read_tables(alloc, tables), read_basis(basis)) else {
+        return None;
+    };
+    match method {
+        Method::Plain => formula_by(alloc, &Plain, &read.spec, basis, r, which),
+        Method::Ssv => formula_by(alloc, &Ssv, &read.spec, basis, r, which),
+        Method::Select => formula_by(alloc, &Select, &read.spec, basis, r, which),
+        Method::Fence => formula_by(alloc, &FenceEnc, &read.spec, basis, r, which),
+    }
+}
+
+/// Adds the numbers of a clause, and a 0 behind them.
+fn push_clause(numbers: &mut Vec<i32>, lits: &[Lit]) -> Result<(), AllocError> {
+    for lit in lits {
+        numbers.push(lit.get())?;
+    }
+    numbers.push(0)?;
+    Ok(())
+}
+
+/// The clauses as numbers, with a 0 behind each.
+fn numbers_of(alloc: Global, cnf: &Cnf) -> Result<Vec<i32>, AllocError> {
+    let mut numbers = Vec::new(alloc);
+    for clause in cnf.clauses() {
+        push_clause(&mut numbers, clause.lits())?;
+    }
+    Ok(numbers)
+}
+
+/// Whether there is a formula of so many variables whose last clauses are these, the first of them being
+/// the formula's first where all is asked for.
+fn ends_with(alloc: Global, formula: &Option<Cnf>, vars: u32, all: bool, wanted: &[i32]) -> bool {
+    let Some(cnf) = formula else {
+        return false;
+    };
+    let Ok(numbers) = numbers_of(alloc, cnf) else {
+        return false;
+    };
+    if cnf.vars() != vars || numbers.len() < wanted.len() {
+        return false;
+    }
+    let front = numbers.len() - wanted.len();
+    (front == 0 || !all) && numbers[front..] == *wanted
+}
+
+/// A sum over numbers.
+fn sum_of(numbers: &[i32]) -> u32 {
+    let mut sum = 0u32;
+    for number in numbers {
+        sum = sum.wrapping_mul(31).wrapping_add_signed(*number);
+    }
+    sum
+}
+
+/// Whether there is a formula of so many variables and clauses, with this sum over its clauses.
+fn is_like(alloc: Global, formula: &Option<Cnf>, vars: u32, clauses: usize, sum: u32) -> bool {
+    let Some(cnf) = formula else {
+        return false;
+    };
+    let Ok(numbers) = numbers_of(alloc, cnf) else {
+        return false;
+    };
+    cnf.vars() == vars && cnf.clauses().len() == clauses && sum_of(&numbers) == sum
+}
+
+const LIGHTS: &[u8] = b"inputs 4\n0001011101111110\n";
+const THREE: &[u8] = b"inputs 4\n0110100110010110\n0000000000000001\n0---------------\n";
+
+#[test]
+fn formulas_are_those_of_another_program(rt: HostRuntime) {
+    for (method, tables, basis, r, which, vars, clauses, sum) in [
+        (Method::Plain, LIGHTS, b"all" as &[u8], 3, 0, 140, 3572, 599009576),
+        (Method::Ssv, LIGHTS, b"all", 3, 0, 109, 2433, 2276029920),
+        (Method::Plain, THREE, b"0001,0110,1000", 3, 0, 143, 3660, 2724648464),
+        (Method::Ssv, THREE, b"0001,0110,1000", 3, 0, 112, 2443, 3735524217),
+        (Method::Fence, b"inputs 1\n10\n", b"0001", 0, 0, 0, 1, 0),
+        (Method::Fence, LIGHTS, b"all", 3, 0, 84, 1231, 1713344511),
+        (Method::Fence, LIGHTS, b"all", 3, 1, 94, 1629, 2901222639),
+        (Method::Fence, THREE, b"0001,0110,1000", 3, 0, 87, 1273, 1473757573),
+        (Method::Fence, THREE, b"0001,0110,1000", 3, 1, 86, 1155, 1444629802),
+        (Method::Fence, THREE, b"0001,0110,1000", 3, 2, 97, 1664, 768145087),
+    ] {
+        let formula = formula(rt.alloc(), method, tables, basis, r, which);
+        assert!(rt; is_like(rt.alloc(), &formula, vars, clauses, sum), "{r} steps");
+    }
+}
+
+/// The clauses for NOT over AND with one step: that it is the output and has its values, that it has
+/// a pair and its operator's values, and that it is no other operator; behind these the cuts.
+const NOT_BY_AND: [i32; 109] = [
+    3, 0, -3, 1, 0, -3, -2, 0, 8, 0, -8, 1, -4, 0, -8, -1, 4, 0, -8, 2, -7, 0, -8, -2, 7, 0, 4, 5,
+    6, 7, 0, 4, 5, -6, 7, 0, 4, 5, -6, -7, 0, 4, -5, 6, 7, 0, 4, -5, 6, -7, 0, 4, -5, -6, 7, 0, 4,
+    -5, -6, -7, 0, -4, 5, 6, 7, 0, -4, 5, 6, -7, 0, -4, 5, -6, 7, 0, -4, 5, -6, -7, 0, -4, -5, 6,
+    7, 0, -4, -5, 6, -7, 0, -4, -5, -6, 7, 0, -4, -5, -6, -7, 0, 3, 0, -8, 4, 0, -8, -7, 0,
+];
+
+/// The same where the step chooses each operand by itself: that it has operands and they have values,
+/// in place of that it has a pair.
+const NOT_BY_AND_SELECTED: [i32; 189] = [
+    3, 0, -3, 1, 0, -3, -2, 0, 8, 0, 9, 0, -8, -10, 0, -8, 11, 0, -9, -12, 0, -9, 13, 0, 1, 10, 12,
+    -4, 0, 1, 10, -12, -5, 0, 1, -10, 12, -6, 0, 1, -10, -12, -7, 0, -1, 10, 12, 4, 0, -1, 10, -12,
+    5, 0, -1, -10, 12, 6, 0, -1, -10, -12, 7, 0, 2, 11, 13, -4, 0, 2, 11, -13, -5, 0, 2, -11, 13,
+    -6, 0, 2, -11, -13, -7, 0, -2, 11, 13, 4, 0, -2, 11, -13, 5, 0, -2, -11, 13, 6, 0, -2, -11,
+    -13, 7, 0, 4, 5, 6, 7, 0, 4, 5, -6, 7, 0, 4, 5, -6, -7, 0, 4, -5, 6, 7, 0, 4, -5, 6, -7, 0, 4,
+    -5, -6, 7, 0, 4, -5, -6, -7, 0, -4, 5, 6, 7, 0, -4, 5, 6, -7, 0, -4, 5, -6, 7, 0, -4, 5, -6,
+    -7, 0, -4, -5, 6, 7, 0, -4, -5, 6, -7, 0, -4, -5, -6, 7, 0, -4, -5, -6, -7, 0, 3, 0, -8, -9, 4,
+    0, -8, -9, -7, 0,
+];
+
+/// The clauses for one step without inputs, where no output needs it: that it has operands, of which
+/// there are none, its operator's values of their values, and the cuts: that it is read, that its
+/// operator is no copy and no constant, and that it is 0.
+const NO_INPUT: [i32; 65] = [
+    0, 0, 1, 6, 7, -2, 0, 1, 6, -7, -3, 0, 1, -6, 7, -4, 0, 1, -6, -7, -5, 0, -1, 6, 7, 2, 0, -1,
+    6, -7, 3, 0, -1, -6, 7, 4, 0, -1, -6, -7, 5, 0, 0, 2, 3, 4, 5, 0, 2, 3, -4, -5, 0, 2, -3, 4,
+    -5, 0, -2, -3, -4, -5, 0, -1, 0,
+];
+
+/// The cuts of XOR over all operators: besides that no operator is a copy or a constant, x2 is not read
+/// twice where x1 was not, and row 0 is 0.
+const XOR_CUTS: [i32; 53] = [
+    5, 0, 6, 7, 8, 9, 0, 6, 7, -8, -9, 0, 6, -7, 8, -9, 0, -6, -7, -8, -9, 0, -10, 6, 0, -10, -9, 0,
+    -11, 6, 0, -11, -9, 0, -6, 7, -8, 9, 10, 11, 0, -6, -7, 8, 9, 10, 11, 0, -11, 0, -1, 5, 0,
+];
+
+/// Those of two outputs over an operator and its complement, whose operands can't be exchanged: each step
+/// is read or is an output, equal operands are no copy, and pairs never fall.
+const TWO_CUTS: [i32; 46] = [
+    9, 11, 29, 30, 31, 32, 33, 0, 10, 12, 0, -21, 13, -16, 0, -22, 13, -16, 0, -25, 17, -20, 0, -26,
+    17, -20, 0, -29, 17, -20, 0, -22, -25, 0, -23, -25, 0, -23, -26, 0, -24, -25, 0, -24, -26, 0,
+];
+
+#[test]
+fn formulas_are_written(rt: HostRuntime) {
+    for (method, tables, basis, r, vars, all, numbers) in [
+        (Method::Plain, b"inputs 1\n10\n" as &[u8], b"0001" as &[u8], 1, 8, true, &NOT_BY_AND[..101]),
+        (Method::Ssv, b"inputs 1\n10\n", b"0001", 1, 8, true, &NOT_BY_AND),
+        (Method::Select, b"inputs 1\n10\n", b"0001", 1, 13, true, &NOT_BY_AND_SELECTED),
+        // no input: without steps there is no clause, and a step has no pair and no operands
+        (Method::Plain, b"inputs 0\n1\n", b"all", 0, 0, true, &[]),
+        (Method::Plain, b"inputs 0\n1\n", b"all", 1, 5, true, &[0]),
+        (Method::Select, b"inputs 0\n1\n", b"all", 1, 7, true, &NO_INPUT),
+        // live outputs are no steps where there are none
+        (Method::Plain, b"inputs 2\n0110\n1001\n", b"all", 0, 0, true, &[0, 0]),
+        (Method::Select, b"inputs 2\n0110\n1001\n", b"all", 0, 0, true, &[0, 0]),
+        // outputs that cost nothing ask for nothing
+        (Method::Ssv, b"inputs 2\n0011\n0--1\n----\n", b"nand", 0, 0, true, &[]),
+        (Method::Select, b"inputs 2\n0011\n0--1\n----\n", b"nand", 0, 0, true, &[]),
+        // the cuts stand behind all else
+        (Method::Ssv, b"inputs 2\n0110\n", b"all", 1, 12, false, &XOR_CUTS),
+        (Method::Ssv, b"inputs 2\n0-10\n1100\n", b"0010,1101", 2, 33, false, &TWO_CUTS),
+    ] {
+        let formula = formula(rt.alloc(), method, tables, basis, r, 0);
+        assert!(rt; ends_with(rt.alloc(), &formula, vars, all, numbers), "{r} steps");
+    }
+}
