@@ -18,6 +18,7 @@ pub trait Encoding {
     ghost use Rattle.tt_core.specs.Words.{Words, specification};
     ghost use Rattle.clause_core.specs.Clauses.{IsSatisfiable};
     ghost use Rattle.enc_theory.specs.declared.part.Part.{Part};
+    ghost use Rattle.enc_theory.specs.Parts.{FitsPart};
 
     /// The parts of a size, in their order.
     ghost parts_of: { Self → Words → ℕ → List Part };
@@ -44,7 +45,7 @@ pub trait Encoding {
         requires part { Contains (parts_of self.now spec.now r) part.now }
         ensures { IfOk result (λ cnf. cnf ≡ formula_of self.now spec.now basis r part.now) };
 
-    /// The chain that a satisfying assignment of that formula spells.
+    /// The chain that a satisfying assignment of that formula spells: it agrees, and is as the part asks.
     fn decode(
         &self,
         alloc: Global,
@@ -60,7 +61,8 @@ pub trait Encoding {
         requires satisfied { Satisfies (bits_of assign.now) (formula_of self.now spec.now basis r part.now) }
         ensures size { IfOk result (λ chain. length chain.steps ≡ r) }
         ensures over { IfOk result (λ chain. IsOver (members basis) chain) }
-        ensures agrees { IfOk result (λ chain. Agrees chain (specification spec.now)) };
+        ensures agrees { IfOk result (λ chain. Agrees chain (specification spec.now)) }
+        ensures fits { IfOk result (λ chain. FitsPart part.now chain) };
 
     /// Where an assignment satisfies the formula of some part of size r, a chain of r steps over the
     /// basis agrees.

@@ -1,6 +1,7 @@
 -- What the encodings by pairs with cuts have in common, whatever pairs the steps may have.
-use Rattle.std.proofs.Common.{ℕ, ◌++◌, List}
-use Rattle.chain_theory.specs.Chain.{Chain}
+use Rattle.std.proofs.Common.{◌≡◌, ℕ, ◌+◌, ◌++◌, List, Some, map, Contains, sym, subst}
+use Rattle.std.specs.Prelude.{slice_get}
+use Rattle.chain_theory.specs.Chain.{Step, Chain}
 use Rattle.chain_theory.specs.Agreement.{HasChain, IsMinimum}
 use Rattle.op_basis.specs.Basis.{members}
 use Rattle.chain_laws.specs.Reduced.{IsReduced}
@@ -10,13 +11,15 @@ use Rattle.tt_core.specs.Live.{live_words}
 use Rattle.enc_theory.specs.declared.data.Sizes.{Sizes}
 use Rattle.enc_theory.specs.declared.data.Pair.{Pair}
 use Rattle.clause_core.specs.Clauses.{IsSatisfiable}
-use Rattle.enc_theory.specs.Numbering.{sizes_of}
-use Rattle.enc_theory.specs.Pairs.{layout, vars_of}
+use Rattle.enc_theory.specs.Numbering.{sizes_of, s_first}
+use Rattle.enc_theory.specs.Pairs.{pair, layout, vars_of}
 use Rattle.enc_theory.specs.Families.{common}
 use Rattle.enc_theory.specs.Cuts.{cuts}
-use Rattle.enc_theory.specs.Decode.{decoded}
+use Rattle.enc_theory.specs.Decode.{decoded_step, decoded}
 use Rattle.clause_core.specs.Holds.{holds_both, both_hold, holds_satisfied, satisfied_holds}
-use Rattle.enc_laws.specs.Layouts.{AreBelow, layout_is_laid}
+use Rattle.enc_laws.specs.Layouts.{AreBelow, layout_is_laid, laid_slot}
+use Rattle.enc_laws.specs.Solves.{solves_from}
+use Rattle.enc_laws.specs.Sound.{decoded_is}
 use Rattle.enc_laws.specs.Live.{whole_chain, restored_is_chain, restored_agrees, picked}
 use Rattle.clause_core.specs.WrittenLaws.{are_formula, clauses_both}
 use Rattle.enc_laws.specs.Formulas.{common_clauses, layout_has_room}
@@ -62,6 +65,17 @@ module _ (pairs : ℕ → List Pair) (w : Words) (basis r : ℕ) (below : AreBel
       let z : Sizes = sizes_of (live_words w) r in
       let (chain, cut) = holds_both v (common (live_words w) basis z (layout pairs z)) (cuts (live_words w) basis z (layout pairs z)) (holds_satisfied v (formula_by pairs (live_words w) basis r) satisfies) in
       decoded_is_for w basis r (layout pairs z) v (layout_is_laid pairs z below) chain
+
+  -- Each step that is spelled has one of the pairs that it may have.
+  pub by_pairs_has_pair : (v : Assignment) → Satisfies v (formula_by pairs (live_words w) basis r) → (i : ℕ) (d : Step)
+      → slice_get (map (decoded_step (sizes_of (live_words w) r) v) (layout pairs (sizes_of (live_words w) r))) i ≡ Some d → Contains (pairs (w.n + 1 + i)) (pair d.j d.k)
+  by_pairs_has_pair v satisfies i d at =
+      let z : Sizes = sizes_of (live_words w) r in
+      let laid = layout_is_laid pairs z below in
+      let (chain, cut) = holds_both v (common (live_words w) basis z (layout pairs z)) (cuts (live_words w) basis z (layout pairs z)) (holds_satisfied v (formula_by pairs (live_words w) basis r) satisfies) in
+      let is = decoded_is (live_words w) basis z (layout pairs z) v i d laid (solves_from (live_words w) basis z (layout pairs z) v laid chain) at in
+      let slot = laid_slot pairs (s_first z) (z.n + 1) z.r is.from is.slot is.has in
+      subst (λ (place : ℕ). Contains (pairs place) (pair d.j d.k)) is.place (subst (λ (s : Step). Contains (pairs is.from.place) (pair s.j s.k)) (sym is.is) slot.has)
 
   -- What a reduced chain makes of the variables satisfies the formula.
   pub reduced_satisfies : (c : Chain) → IsFor (live_words w) basis r c → IsReduced (members basis) (specification (live_words w)) c → IsAllowed pairs (live_words w) r c → IsSatisfiable (formula_by pairs (live_words w) basis r)

@@ -35,7 +35,7 @@ use Rattle.enc_laws.specs.ByPairs.{whole_has, by_pairs_decodes, reduced_satisfie
 -- ---- the places of the level below
 
 -- they are places below
-under_low : (first count : ℕ) (fence : List ℕ) (k p : ℕ) → Contains (places_under first count fence k) p → (first ≤ p) × (p < first + count + k)
+pub under_low : (first count : ℕ) (fence : List ℕ) (k p : ℕ) → Contains (places_under first count fence k) p → (first ≤ p) × (p < first + count + k)
 unfolding places_under
 under_low first count [] k p c = absurd (omega (arith, c.1))
 under_low first count (q ∷ qs) k p c = ⊎_elim
@@ -62,20 +62,20 @@ fence_pairs_are_below ordered n fence = record {
 }
 
 -- the level of a place, where the level below the fence's first has so many places from `first` on
-abbrev level_from : ℕ → ℕ → List ℕ → ℕ → ℕ
+abbrev pub level_from : ℕ → ℕ → List ℕ → ℕ → ℕ
 level_from first count fence p = if nat_lt p (first + count) then 0 else level_by fence (p - (first + count))
 
-level_from_low : (first count : ℕ) (fence : List ℕ) (p : ℕ) → p < first + count → level_from first count fence p ≡ 0
+pub level_from_low : (first count : ℕ) (fence : List ℕ) (p : ℕ) → p < first + count → level_from first count fence p ≡ 0
 level_from_low first count fence p low = cond-true (nat_lt p (first + count)) 0 (level_by fence (p - (first + count))) (lt-ltb p (first + count) low)
 
-level_from_high : (first count : ℕ) (fence : List ℕ) (p : ℕ) → first + count ≤ p → level_from first count fence p ≡ level_by fence (p - (first + count))
+pub level_from_high : (first count : ℕ) (fence : List ℕ) (p : ℕ) → first + count ≤ p → level_from first count fence p ≡ level_by fence (p - (first + count))
 level_from_high first count fence p high = cond-false (nat_lt p (first + count)) 0 (level_by fence (p - (first + count))) (le-ltb p (first + count) high)
 
-level_here : (q : ℕ) (qs : List ℕ) (k : ℕ) → k < q → level_by (q ∷ qs) k ≡ 1
+pub level_here : (q : ℕ) (qs : List ℕ) (k : ℕ) → k < q → level_by (q ∷ qs) k ≡ 1
 unfolding level_by
 level_here q qs k low = cond-true (nat_lt k q) 1 (1 + level_by qs (k - q)) (lt-ltb k q low)
 
-level_past : (q : ℕ) (qs : List ℕ) (k : ℕ) → q ≤ k → level_by (q ∷ qs) k ≡ 1 + level_by qs (k - q)
+pub level_past : (q : ℕ) (qs : List ℕ) (k : ℕ) → q ≤ k → level_by (q ∷ qs) k ≡ 1 + level_by qs (k - q)
 unfolding level_by
 level_past q qs k past = cond-false (nat_lt k q) 1 (1 + level_by qs (k - q)) (le-ltb k q past)
 

@@ -8,12 +8,14 @@ use Rattle.tt_core.specs.Live.{live_words}
 use Rattle.fence_core.specs.Fence.{listed_fences}
 use Rattle.clause_core.specs.Holds.{contains_map}
 use Rattle.fence_core.specs.Listing.{fences_are_listed}
+use Rattle.sat_theory.specs.Formula.{Assignment, Satisfies}
 use Rattle.clause_core.specs.Clauses.{IsSatisfiable}
-use Rattle.enc_theory.specs.Fence.{fence_formula}
+use Rattle.enc_theory.specs.Fence.{fence_formula, fence_decoded}
 use Rattle.enc_laws.specs.Fence.{fence_sound, fence_complete, HasFence}
 use Rattle.enc_theory.specs.declared.part.Part.{Part}
-use Rattle.enc_theory.specs.declared.part.Part.TheVariants.{Levels}
-use Rattle.enc_theory.specs.Parts.{parts_for, fence_in}
+use Rattle.enc_theory.specs.declared.part.Part.TheVariants.{Whole, Levels}
+use Rattle.enc_theory.specs.Parts.{parts_for, fence_in, FitsPart}
+use Rattle.enc_laws.specs.FenceLevels.{fence_has_levels}
 
 -- a formula of size r that is satisfiable has a chain of r steps
 pub is_sound : (w : Words) (basis r : ℕ) (part : Part) → Contains (parts_for w r) part → IsSatisfiable (fence_formula w basis r (fence_in part)) → HasChain (specification w) (members basis) r
@@ -26,3 +28,9 @@ is_complete w basis r least =
     let found : HasFence w basis r r = fence_complete w basis r least in
     let m : ℕ = length (live_words w).on in
     (Levels found.fence, contains_map Levels (listed_fences r m) found.fence ((fences_are_listed r m).all found.fence found.listed), found.satisfiable)
+
+-- what a satisfying assignment of a part's formula spells is as the part asks
+pub spelled_fits : (w : Words) (basis r : ℕ) (part : Part) (v : Assignment) → Satisfies v (fence_formula w basis r (fence_in part)) → FitsPart part (fence_decoded w basis r (fence_in part) v)
+unfolding fence_in FitsPart
+spelled_fits w basis r Whole v satisfies = tt
+spelled_fits w basis r (Levels fence) v satisfies = fence_has_levels w basis r fence v satisfies

@@ -25,3 +25,4 @@ pub mod ChosenClauses
 pub mod Select
 pub mod FenceLaws
 pub mod WholeLaws
+pub mod FenceLevels

@@ -161,7 +161,7 @@ with_pair : (z : Sizes) (v : Assignment) (s : StepSlots) (d : Step) → d ≡ de
 unfolding decoded_step
 with_pair z v s d is u first = is ∙ ap (λ (p : Pair). record { j = p.j; k = p.k; op = operator_in z v s.place }) first
 
-decoded_is : (w : Words) (basis : ℕ) (z : Sizes) (steps : List StepSlots) (v : Assignment) (i : ℕ) (d : Step) → IsLaid z steps → Solves w basis z steps v → slice_get (map (decoded_step z v) steps) i ≡ Some d → IsDecoded z steps v i d
+pub decoded_is : (w : Words) (basis : ℕ) (z : Sizes) (steps : List StepSlots) (v : Assignment) (i : ℕ) (d : Step) → IsLaid z steps → Solves w basis z steps v → slice_get (map (decoded_step z v) steps) i ≡ Some d → IsDecoded z steps v i d
 decoded_is w basis z steps v i d laid solves at =
     let made = made_from (decoded_step z v) (slice_get steps i) d (sym (slice_get-map (decoded_step z v) steps i) ∙ at) in
     let inside : Contains steps made.from = (i, slice_get_within steps i made.from made.at, get_or_from_slice_get steps i made.from made.from made.at) in

@@ -36,11 +36,12 @@ pub fn select_asks_for_a_least_chain()
     ensures complete { (w : Words) (basis r : ℕ) → IsMinimum (specification w) (members basis) r → IsSatisfiable (select_formula w basis r) }
 {}
 
-/// The same of the formulas by fences: one of a listed fence of r steps is satisfiable where r is the least
-/// size.
+/// The same of the formulas by fences: where one is satisfiable, a chain of r steps and at most the fence's
+/// levels agrees, and one of a listed fence of r steps is satisfiable where r is the least size.
 pub fn fences_ask_for_a_least_chain()
     ensures formula { (w : Words) (basis r : ℕ) (fence : List ℕ) → IsFormula (fence_formula w basis r fence) }
     ensures sound { (w : Words) (basis r : ℕ) (fence : List ℕ) → IsSatisfiable (fence_formula w basis r fence) → HasChain (specification w) (members basis) r }
+    ensures low { (w : Words) (basis r : ℕ) (fence : List ℕ) → IsSatisfiable (fence_formula w basis r fence) → HasChainOfLevels (specification w) (members basis) r (length fence) }
     ensures complete { (w : Words) (basis r : ℕ) → IsMinimum (specification w) (members basis) r → HasFence w basis r r }
 {}
 

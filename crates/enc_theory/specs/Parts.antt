@@ -1,5 +1,7 @@
--- The parts of a size by fences.
-use Rattle.std.specs.Prelude.{ℕ, List, [], map, length}
+-- The parts of a size by fences, and what a part asks of a chain.
+use Rattle.std.specs.Prelude.{ℕ, ⊤, List, [], map, length}
+use Rattle.chain_theory.specs.Chain.{Chain}
+use Rattle.chain_theory.specs.Levels.{HasLevels}
 use Rattle.tt_core.specs.Words.{Words}
 use Rattle.tt_core.specs.Live.{live_words}
 use Rattle.fence_core.specs.Fence.{listed_fences}
@@ -14,3 +16,10 @@ parts_for w r = map Levels (listed_fences r (length (live_words w).on))
 unfoldable pub fence_in : Part → List ℕ
 fence_in Whole = []
 fence_in (Levels fence) = fence
+
+-- What a part asks of a chain besides its size: nothing where the size is searched whole, and by a fence
+-- that the chain has at most the fence's levels.
+-- Example: the fence 2, 1 asks for at most two levels.
+unfoldable pub FitsPart : Part → Chain → Type 0
+FitsPart Whole c = ⊤
+FitsPart (Levels fence) c = HasLevels (length fence) c

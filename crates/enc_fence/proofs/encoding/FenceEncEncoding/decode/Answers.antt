@@ -6,8 +6,9 @@ use Rattle.sat_theory.specs.Formula.{bits_of}
 use Rattle.tt_core.specs.Words.{specification}
 use Rattle.enc_theory.specs.Fence.{fence_decoded}
 use Rattle.enc_laws.specs.Fence.{fence_decodes}
+use Rattle.enc_laws.specs.FenceLaws.{spelled_fits}
 use Rattle.enc_cuts.specs.ChainLaws.{if_ok}
-use Rattle.enc_theory.specs.Parts.{fence_in}
+use Rattle.enc_theory.specs.Parts.{fence_in, FitsPart}
 use Rattle.enc_fence.proofs.Formulas.{spelled_is_small}
 use Rattle.enc_fence.proofs.encoding.FenceEncEncoding.decode.Goals as goal
 
@@ -28,3 +29,8 @@ pub returns-clause-agrees : goal.returns-clause-agrees
 returns-clause-agrees c =
     let is = fence_decodes c.args.spec.now c.args.basis c.args.r (fence_in c.args.part.now) (bits_of c.args.assign.now) c.requires.satisfied in
     if_ok (λ (chain : Chain). chain ≡ fence_decoded c.args.spec.now c.args.basis c.args.r (fence_in c.args.part.now) (bits_of c.args.assign.now)) (λ (chain : Chain). Agrees chain (specification c.args.spec.now)) c.decode_in.result (λ chain e. subst (λ (d : Chain). Agrees d (specification c.args.spec.now)) (sym e) is.agrees) c.decode_in.ensures
+
+pub returns-clause-fits : goal.returns-clause-fits
+returns-clause-fits c =
+    let fits = spelled_fits c.args.spec.now c.args.basis c.args.r c.args.part.now (bits_of c.args.assign.now) c.requires.satisfied in
+    if_ok (λ (chain : Chain). chain ≡ fence_decoded c.args.spec.now c.args.basis c.args.r (fence_in c.args.part.now) (bits_of c.args.assign.now)) (λ (chain : Chain). FitsPart c.args.part.now chain) c.decode_in.result (λ chain e. subst (λ (d : Chain). FitsPart c.args.part.now d) (sym e) fits) c.decode_in.ensures

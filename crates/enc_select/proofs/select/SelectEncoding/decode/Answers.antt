@@ -6,6 +6,8 @@ use Rattle.sat_theory.specs.Formula.{bits_of}
 use Rattle.tt_core.specs.Words.{specification}
 use Rattle.enc_theory.specs.Select.{select_decoded}
 use Rattle.enc_laws.specs.Select.{select_decodes}
+use Rattle.enc_theory.specs.Parts.{FitsPart}
+use Rattle.enc_laws.specs.WholeLaws.{whole_fits}
 use Rattle.enc_cuts.specs.ChainLaws.{if_ok}
 use Rattle.enc_select.proofs.Formulas.{select_is_small}
 use Rattle.enc_select.proofs.select.SelectEncoding.decode.Goals as goal
@@ -27,3 +29,6 @@ pub returns-clause-agrees : goal.returns-clause-agrees
 returns-clause-agrees c =
     let is = select_decodes c.args.spec.now c.args._basis c.args.r (bits_of c.args.assign.now) c.requires.satisfied in
     if_ok (λ (chain : Chain). chain ≡ select_decoded c.args.spec.now c.args.r (bits_of c.args.assign.now)) (λ (chain : Chain). Agrees chain (specification c.args.spec.now)) c.decode_chosen.result (λ chain e. subst (λ (d : Chain). Agrees d (specification c.args.spec.now)) (sym e) is.agrees) c.decode_chosen.ensures
+
+pub returns-clause-fits : goal.returns-clause-fits
+returns-clause-fits c = if_ok (λ (chain : Chain). chain ≡ select_decoded c.args.spec.now c.args.r (bits_of c.args.assign.now)) (λ (chain : Chain). FitsPart c.args._part.now chain) c.decode_chosen.result (λ chain e. whole_fits c.args._part.now chain c.requires.part) c.decode_chosen.ensures
