@@ -119,4 +119,3 @@ are_formula f are = record {
   clauses = λ k d low. (are.each (get_or f.clauses k d) (Contains-get_or f.clauses k d low)).clause;
   variables = λ k d low. (are.each (get_or f.clauses k d) (Contains-get_or f.clauses k d low)).within;
 }
-

@@ -2,7 +2,7 @@
 //! the bit of each that is in it; a literal whose variable is there is a repeat or an opposite, by one look.
 //! When the clause is done its own literals are forgotten, so the table is blank for the next one and a
 //! clause costs time linear in what is listed of it.
-ghost use Rattle.std.specs.Prelude.{◌≡◌, ℕ, ◌<◌, ◌≤◌, ◌-◌, ◌^◌, List, [], ◌∷◌, ◌++◌, length, All, IfOk, OnOk, OnErr};
+ghost use Rattle.std.specs.Prelude.{◌≡◌, ◌<◌, ◌≤◌, ◌-◌, ◌^◌, List, [], ◌∷◌, ◌++◌, length, All, IfOk, OnOk, OnErr};
 ghost use Rattle.sat_theory.specs.Formula.{IsClause};
 ghost use Rattle.clause_core.specs.declared.raw.Raw.{Raw};
 ghost use Rattle.clause_core.specs.declared.raw.Raw.TheVariants.{Var};
@@ -109,7 +109,7 @@ pub struct ClauseList {
 
 impl Model for ClauseList {
     ghost use Rattle.std.specs.Prelude.{◌<◌};
-    ghost use Rattle.sat_theory.specs.Formula.{Formula, IsFormula};
+    ghost use Rattle.sat_theory.specs.Formula.{Formula};
     ghost use Rattle.clause_core.specs.Seen.{HoldsList};
 
     ghost Value = { Formula };

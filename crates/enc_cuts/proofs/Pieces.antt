@@ -1,5 +1,5 @@
 -- Filters, and the test of inputs.
-use Rattle.std.proofs.Common.{◌≡◌, ℕ, suc, ◌+◌, ◌-◌, ◌≤◌, Bool, true, false, List, [], ◌∷◌, ◌++◌, refl, sym, arith, append_assoc, append-nil}
+use Rattle.std.proofs.Common.{◌≡◌, ℕ, suc, ◌+◌, ◌-◌, ◌≤◌, Bool, true, false, List, refl, sym, arith}
 use Rattle.std.specs.List.{flat_map, range_with_len}
 use Rattle.std.proofs.lemmas.Grind.{common_steps}
 use Rattle.std.proofs.lemmas.Bool.{false_from_ne_true}
@@ -8,7 +8,7 @@ use Rattle.tt_core.specs.Symmetry.{IsSymmetric}
 use Rattle.tt_core.specs.Words.{Words, specification}
 use Rattle.enc_theory.specs.Cuts.{may_exchange}
 use Rattle.enc_laws.specs.PairTests.{exchange_symmetric, symmetric_exchange}
-use Rattle.clause_core.specs.RangeLaws.{loops, flat_map-turn_from}
+use Rattle.clause_core.specs.RangeLaws.{loops}
 use Rattle.enc_cuts.specs.Vars.{steps_have_vars}
 
 -- a filter, an element at a time

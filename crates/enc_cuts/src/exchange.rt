@@ -1,5 +1,5 @@
 //! Inputs that may be exchanged are read in their order.
-ghost use Rattle.std.specs.Prelude.{◌≡◌, ◌≤◌, ◌<◌, ◌++◌, [], ◌∷◌, All, OnOk};
+ghost use Rattle.std.specs.Prelude.{◌≡◌, ◌≤◌, ◌<◌, ◌++◌, [], All, OnOk};
 ghost use Rattle.std.specs.List.{flat_map};
 ghost use Rattle.enc_theory.specs.Cuts.{may_exchange as may_exchange_of, reader_without, readers_without, exchange_slot, exchange_steps, exchange_pair, exchange_with, exchange};
 ghost use Rattle.clause_core.specs.Clauses.{IsWithin};

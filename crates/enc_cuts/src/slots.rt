@@ -1,5 +1,5 @@
 //! What the cuts ask of pairs, and the literals that are made of them.
-ghost use Rattle.std.specs.Prelude.{◌≡◌, ℕ, ◌≤◌, ◌++◌, [], ◌∷◌, map, All, OnOk};
+ghost use Rattle.std.specs.Prelude.{◌≡◌, ◌++◌, map, OnOk};
 ghost use Rattle.enc_theory.specs.Numbering.{outputs};
 ghost use Rattle.enc_theory.specs.Cuts.{bears, reads as reads_of, reads_without as reads_without_of, not_both};
 ghost use Rattle.enc_cuts.specs.Vars.{HasVar};

@@ -1,6 +1,5 @@
 //! No step is trivial.
-ghost use Rattle.std.specs.Prelude.{◌≡◌, ℕ, ◌<◌, ◌++◌, All, OnOk};
-ghost use Rattle.op_basis.specs.Basis.{members};
+ghost use Rattle.std.specs.Prelude.{◌≡◌, ◌<◌, ◌++◌, All, OnOk};
 ghost use Rattle.op_basis.specs.Closed.{const_closed};
 ghost use Rattle.std.specs.List.{flat_map};
 ghost use Rattle.enc_theory.specs.Families.{operator_raw};

@@ -1,3 +1,5 @@
+//! The encoding by fences. It is the encoding by pairs with cuts, over the pairs that a fence leaves; its laws
+//! rest on this: some least chain stands level by level, in a listed fence, and a fence's pairs rise by levels.
 ghost use Rattle.std.specs.Prelude.{◌≡◌, ◌≤◌, length, All, IfOk};
 ghost use Rattle.chain_core.specs.Steps.{IsSmallChain};
 ghost use Rattle.sat_theory.specs.Formula.{bits_of};
@@ -9,9 +11,9 @@ ghost use Rattle.enc_theory.specs.Parts.{fence_in};
 
 use crate::pairs::FencePairs;
 use chain_core::Chain;
+use clause_core::ClauseList;
 use cnf_core::{Assign, Cnf};
 use enc_cuts::push_cuts;
-use clause_core::ClauseList;
 use enc_frame::{Encoding, Layout, decode, push_common, sizes};
 use enc_theory::Part;
 use fence_core::fences;

@@ -1,9 +1,8 @@
 //! On which levels the steps of a chain stand.
-ghost use Rattle.std.specs.Prelude.{◌≡◌, ℕ, ◌+◌, ◌<◌, ◌≤◌, length, map, IfOk};
-ghost use Rattle.std.specs.List.{range_with_len};
+ghost use Rattle.std.specs.Prelude.{◌≡◌, ℕ, ◌+◌, ◌<◌, ◌≤◌, length, IfOk};
 ghost use Rattle.chain_theory.specs.Chain.{AreSteps};
 ghost use Rattle.chain_core.specs.Steps.{steps_of};
-ghost use Rattle.chain_theory.specs.Levels.{levels_after, level, level_in};
+ghost use Rattle.chain_theory.specs.Levels.{levels_after};
 ghost use Rattle.enc_fence.specs.Heights.{heights, levels_of};
 
 use chain_core::{Chain, Step};

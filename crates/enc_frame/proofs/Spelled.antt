@@ -11,7 +11,7 @@ use Rattle.enc_theory.specs.declared.data.Slot.{Slot}
 use Rattle.enc_theory.specs.Pairs.{pair}
 use Rattle.enc_theory.specs.Numbering.{g_var}
 use Rattle.enc_theory.specs.Decode.{first_pair, first_bearer}
-use Rattle.clause_core.specs.RangeLaws.{flat_map-turn, flat_map-turn_from, map-turn_from}
+use Rattle.clause_core.specs.RangeLaws.{map-turn_from}
 
 -- ---- the first pair
 

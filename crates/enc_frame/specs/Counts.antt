@@ -1,8 +1,7 @@
 -- How many clauses the families have at most, within the program's limits.
-use Rattle.std.specs.Prelude.{ℕ, ◌+◌, ◌*◌, ◌^◌, ◌≤◌, ℤ, Bool, true, false, List, [], ◌∷◌, length, Some, None, Option, if◌then◌else◌}
+use Rattle.std.specs.Prelude.{ℕ, ◌+◌, ◌*◌, ◌^◌, ◌≤◌, Bool, true, false, List, [], ◌∷◌, length, if◌then◌else◌}
 use Rattle.std.specs.List.{range_with_len, flat_map}
-use Rattle.std.proofs.Common.{arith, length-append, pow_mono}
-use Rattle.std.proofs.Math.Nat.{mul-le-mul_left, mul-le-mul_right}
+use Rattle.std.proofs.Common.{arith, length-append}
 use Rattle.chain_theory.specs.declared.data.Cell.{Cell}
 use Rattle.chain_theory.specs.declared.data.Cell.TheVariants.{Zero, One, Free}
 use Rattle.op_basis.specs.Basis.{members}
@@ -10,7 +9,7 @@ use Rattle.tt_core.specs.Words.{Words, cell_of}
 use Rattle.clause_core.specs.declared.raw.Raw.{Raw}
 use Rattle.enc_theory.specs.declared.data.Sizes.{Sizes}
 use Rattle.enc_theory.specs.declared.data.Slot.{Slot}
-use Rattle.clause_core.specs.Clauses.{simplified, listed, written}
+use Rattle.clause_core.specs.Clauses.{written}
 use Rattle.enc_theory.specs.Pairs.{StepSlots, slot_count}
 use Rattle.enc_theory.specs.Families.{out_exists_at, out_exists, out_value_is, out_value_at, out_value, out_values_of, out_values_at, out_values, pair_exists_at, pair_exists, value_raw, value_clause, value_bit, value_row, value_slot, value_step, values, operator_raw, operator_clause, operators_at, operators, common}
 use Rattle.enc_frame.specs.Room.{IsSmall}

@@ -1,8 +1,8 @@
 -- Pairs are of places below the step, and few.
-use Rattle.std.specs.Prelude.{ℕ, zero, suc, ◌+◌, ◌-◌, ◌*◌, ◌≤◌, ◌<◌, Bool, true, false, List, [], ◌∷◌, All, length}
+use Rattle.std.specs.Prelude.{ℕ, ◌-◌, ◌*◌, ◌≤◌, ◌<◌, Bool, true, false, [], ◌∷◌, All, length}
 use Rattle.std.specs.List.{range_with_len, flat_map}
-use Rattle.std.proofs.Common.{arith, length-append}
-use Rattle.std.proofs.lemmas.List.Elements.{All-nil, All-cons, All-append}
+use Rattle.std.proofs.Common.{arith}
+use Rattle.std.proofs.lemmas.List.Elements.{All-nil, All-cons}
 use Rattle.enc_theory.specs.Pairs.{pair, pairs_of, pairs_with, pairs_below}
 use Rattle.clause_core.specs.CountLaws.{flat_map-each, flat_map-few}
 use Rattle.enc_frame.specs.Room.{IsPair}

@@ -1,8 +1,8 @@
 //! What an encoding is: the parts of a size, a formula for each, the chain that a solution spells, and the
 //! two laws by which formulas tell of chains.
-use enc_theory::Part;
 use chain_core::Chain;
 use cnf_core::{Assign, Cnf};
+use enc_theory::Part;
 use op_basis::Basis;
 use std::alloc::{AllocError, Global};
 use tt_core::Spec;

@@ -1,14 +1,13 @@
 //! The clauses that say what a chain is.
-ghost use Rattle.std.specs.Prelude.{◌≡◌, ◌+◌, ◌^◌, ◌<◌, ◌≤◌, ◌++◌, length, All, IfOk, OnOk};
-ghost use Rattle.enc_theory.specs.Families.{bearer as bearer_of, out_exists_at, out_exists, out_value_is, out_value, out_values_of, out_values_at, out_values, chosen as chosen_of, pair_exists_at, pair_exists, operator_raw, operator_clause, operators_at, operators, common};
-ghost use Rattle.clause_core.specs.Clauses.{written};
-ghost use Rattle.enc_frame.specs.Room.{IsSmall, HasRoom, IsPlace, HasSlots, AreFor};
+ghost use Rattle.std.specs.Prelude.{◌≡◌, ◌+◌, ◌^◌, ◌<◌, ◌≤◌, ◌++◌, All, OnOk};
+ghost use Rattle.enc_theory.specs.Families.{out_exists_at, out_exists, out_value_is, out_value, out_values_of, out_values_at, out_values, pair_exists_at, pair_exists, operator_raw, operator_clause, operators_at, operators, common};
+ghost use Rattle.enc_frame.specs.Room.{HasRoom, IsPlace, HasSlots, AreFor};
 
-use clause_core::{ClauseList, Raw};
-use enc_theory::Sizes;
 use crate::layout::StepSlots;
 use crate::values::push_values;
 use crate::vars::{f_var, g_var, rows, x_is};
+use clause_core::{ClauseList, Raw};
+use enc_theory::Sizes;
 use op_basis::{Basis, Op};
 use std::alloc::{AllocError, Global};
 use tt_core::{Cell, Spec, row};

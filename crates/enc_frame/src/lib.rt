@@ -4,7 +4,7 @@
 //! them literal by literal.
 //!
 //! - `Encoding` promises that a formula is exactly its definition, that a chain which is decoded has
-//!   the size, is over the basis and agrees, and two laws: where some assignment satisfies a formula of
+//!   the size, is over the basis, agrees and is as its part asks, and two laws: where some assignment satisfies a formula of
 //!   size r, a chain of r steps over the basis agrees (`sound`); and where r is the least size of such
 //!   a chain, some formula of size r is satisfiable (`complete`).
 //! - `Layout::new` gives each step its pairs with their variables, in their order.
@@ -13,6 +13,9 @@
 //! - `decode` takes the chain out of an assignment, and `with_outs` puts outs to steps that were taken
 //!   out in another way.
 //! - `cuts` tells which cuts a basis allows; that they lose nothing is a law of `chain_laws`.
+//!
+//! A call that writes several clauses into a list, or several pairs, may have written some of them where it
+//! refuses for want of memory; `ClauseList::push` alone leaves the list as it was.
 #![tactic(auto)]
 
 mod cut_set;
@@ -26,6 +29,7 @@ mod vars;
 
 pub use cut_set::{CutSet, cuts};
 pub use decoding::{bit, decode, operator, with_outs};
+pub use enc_theory::{Method, Part};
 pub use encoding::Encoding;
 pub use families::{push_common, push_operators, push_out_exists, push_out_values};
 pub use layout::{Layout, StepSlots};

@@ -1,12 +1,12 @@
 //! The clauses that give each step its operator's value of its pair.
-ghost use Rattle.std.specs.Prelude.{◌≡◌, ◌+◌, ◌^◌, ◌<◌, ◌≤◌, ◌++◌, All, OnOk};
+ghost use Rattle.std.specs.Prelude.{◌≡◌, ◌+◌, ◌^◌, ◌<◌, ◌++◌, All, OnOk};
 ghost use Rattle.enc_theory.specs.Families.{value_clause, value_bit, value_row, value_slot, value_step, values};
 ghost use Rattle.enc_frame.specs.Room.{HasRoom, IsPlace, IsSlot, HasSlots};
 
-use clause_core::{ClauseList, Raw};
-use enc_theory::{Sizes, Slot};
 use crate::layout::StepSlots;
 use crate::vars::{f_var, rows, x_is};
+use clause_core::{ClauseList, Raw};
+use enc_theory::{Sizes, Slot};
 use std::alloc::{AllocError, Global};
 
 /// A pair that a step may have, on a row.

@@ -1,5 +1,5 @@
 //! The variables of a formula, computed from places.
-ghost use Rattle.std.specs.Prelude.{◌≡◌, ℕ, ◌+◌, ◌^◌, ◌<◌, ◌≤◌, length};
+ghost use Rattle.std.specs.Prelude.{◌≡◌, ℕ, ◌+◌, ◌^◌, ◌<◌, ◌≤◌};
 ghost use Rattle.enc_theory.specs.Numbering.{sizes_of, x_var as x_var_of, g_var as g_var_of, f_first as f_first_of, f_var as f_var_of, s_first as s_first_of, x_is as x_is_of};
 ghost use Rattle.enc_frame.specs.Room.{IsSmall, HasRoom, IsPlace};
 ghost use Rattle.clause_core.specs.Clauses.{IsWithin};

@@ -1,7 +1,7 @@
 -- What a solution of a fence's formula spells has at most the fence's levels: the fence gives each place a
 -- level, a step may have the pairs alone whose places have lower ones, and no step's level is above that.
-use Rattle.std.proofs.Common.{◌≡◌, ℕ, ◌+◌, ◌-◌, ◌<◌, ◌≤◌, Bool, List, [], ◌∷◌, length, map, Some, Contains, sym, ap, ◌∙◌, subst, arith, ⊎_elim}
-use Rattle.std.specs.Prelude.{nat_lt, slice_get}
+use Rattle.std.proofs.Common.{◌≡◌, ℕ, ◌+◌, ◌-◌, ◌<◌, ◌≤◌, Bool, List, [], ◌∷◌, length, map, Contains, ap, ◌∙◌, subst, arith, ⊎_elim}
+use Rattle.std.specs.Prelude.{nat_lt}
 use Rattle.std.specs.List.{range_with_len}
 use Rattle.std.proofs.lemmas.Bool.{cases_lt, lt-ltb, le-ltb, cond-true, cond-false}
 use Rattle.chain_theory.specs.Chain.{Step}
@@ -107,10 +107,10 @@ fence_has_levels w basis r fence v satisfies =
     let steps : List Step = map (decoded_step z v) (layout (fence_pairs ordered w.n fence) z) in
     let is : IsFor w basis r (fence_decoded w basis r fence v) = fence_decodes w basis r fence v satisfies in
     λ p from to.
-        let low = level_at_most w.n steps is.is_chain.steps (level_from 1 w.n fence)
-        (λ i s at. pair_rises ordered w.n fence (w.n + 1 + i) (pair s.j s.k) (omega arith) (by_pairs_has_pair (fence_pairs ordered w.n fence) w basis r (fence_pairs_are_below ordered w.n fence) v satisfies i s at))
-        (p + 1) p (omega arith) from (omega arith) in
-        omega (arith, low, from_low w.n fence p)
+    let low = level_at_most w.n steps is.is_chain.steps (level_from 1 w.n fence)
+    (λ i s at. pair_rises ordered w.n fence (w.n + 1 + i) (pair s.j s.k) (omega arith) (by_pairs_has_pair (fence_pairs ordered w.n fence) w basis r (fence_pairs_are_below ordered w.n fence) v satisfies i s at))
+    (p + 1) p (omega arith) from (omega arith) in
+    omega (arith, low, from_low w.n fence p)
 
 -- Where the formula of a fence is satisfiable, a chain of at most its levels agrees with the tables.
 pub fence_sound_at : (w : Words) (basis r : ℕ) (fence : List ℕ) → IsSatisfiable (fence_formula w basis r fence) → HasChainOfLevels (specification w) (members basis) r (length fence)

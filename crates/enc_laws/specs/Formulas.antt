@@ -1,28 +1,22 @@
 -- The clauses are clauses of a formula: different variables, all within the number of variables.
-use Rattle.std.proofs.Common.{◌≡◌, ◌≢◌, ◌⊎◌, ℕ, zero, suc, ◌+◌, ◌^◌, ◌<◌, ◌≤◌, Bool, true, false, not, List, [], ◌∷◌, ◌++◌, length, map, get_or, Option, Some, None, Contains, refl, sym, ap, ◌∙◌, subst, arith, inl, inr, ⊎_elim}
-use Rattle.std.specs.Prelude.{ℤ, pos, negsuc, if◌then◌else◌}
-use Rattle.std.specs.List.{flat_map, range_with_len}
-use Rattle.std.specs.Ordering.{int_eq}
-use Rattle.std.proofs.lemmas.Bool.{cases_Bool, cases_lt, both_ways, le-leb, lt-leb}
-use Rattle.std.proofs.lemmas.Bool.Decides.{Decides-int_eq}
-use Rattle.std.proofs.lemmas.List.Elements.{All-nil, All-push, Contains-get_or, Contains-append_cases}
-use Rattle.std.proofs.lemmas.List.Quantifiers.{all_pairs_push}
+use Rattle.std.proofs.Common.{◌≡◌, ◌⊎◌, ℕ, zero, suc, ◌+◌, ◌^◌, ◌<◌, ◌≤◌, Bool, true, false, not, List, [], ◌∷◌, length, map, Contains, refl, sym, ap, subst, arith, ⊎_elim}
+use Rattle.std.specs.Prelude.{if◌then◌else◌}
+use Rattle.std.specs.List.{range_with_len}
+use Rattle.std.proofs.lemmas.Bool.{cases_lt, le-leb, lt-leb}
 use Rattle.chain_theory.specs.declared.data.Cell.{Cell}
 use Rattle.chain_theory.specs.declared.data.Cell.TheVariants.{Zero, One, Free}
 use Rattle.op_basis.specs.Basis.{members}
-use Rattle.sat_theory.specs.Formula.{variable, IsClause, IsWithin, Formula, IsFormula}
 use Rattle.tt_core.specs.Words.{Words, cell_of}
-use Rattle.clause_core.specs.declared.raw.Raw.{Raw}
-use Rattle.clause_core.specs.declared.raw.Raw.TheVariants.{Fixed, Var}
+use Rattle.clause_core.specs.declared.raw.Raw.TheVariants.{Var}
 use Rattle.enc_theory.specs.declared.data.Sizes.{Sizes}
 use Rattle.enc_theory.specs.declared.data.Pair.{Pair}
 use Rattle.enc_theory.specs.declared.data.Slot.{Slot}
-use Rattle.clause_core.specs.Clauses.{signed, has, simplified, listed, written}
+use Rattle.clause_core.specs.Clauses.{written}
 use Rattle.enc_theory.specs.Numbering.{places, rows, outputs, g_var, f_var, s_first, x_is}
 use Rattle.enc_theory.specs.Pairs.{StepSlots, numbered, laid, layout, slot_count, vars_of}
 use Rattle.enc_theory.specs.Families.{bearer, out_exists_at, out_exists, out_value_is, out_value_at, out_value, out_values_of, out_values_at, out_values, chosen, pair_exists_at, pair_exists, value_raw, value_clause, value_bit, value_row, value_slot, value_step, values, operator_raw, operator_clause, operators_at, operators, common}
-use Rattle.clause_core.specs.WrittenLaws.{IsOf, are_of-map, AreClauses, no_clauses, written_clauses, clauses_each, clauses_both, are_formula}
-use Rattle.clause_core.specs.Holds.{any_make, contains_head, contains_tail, contains_cases, flat_map_get, range_inside}
+use Rattle.clause_core.specs.WrittenLaws.{IsOf, are_of-map, AreClauses, no_clauses, written_clauses, clauses_each, clauses_both}
+use Rattle.clause_core.specs.Holds.{contains_cases, range_inside}
 use Rattle.enc_laws.specs.Bounds.{x_positive, g_positive, f_positive, s_positive, slot_positive, x_below, g_below, f_below}
 use Rattle.enc_laws.specs.Layouts.{IsStepPlace, IsSlotOf, IsLaid, AreBelow, numbered_slot, laid_is_place, layout_is_laid}
 

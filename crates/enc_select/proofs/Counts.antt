@@ -1,5 +1,5 @@
 -- How many clauses there are at most, within the program's limits.
-use Rattle.std.specs.Prelude.{◌≡◌, ℕ, ◌+◌, ◌-◌, ◌*◌, ◌^◌, ◌≤◌, ◌<◌, ◌==◌, ◌&&◌, ℤ, Bool, true, false, List, [], ◌∷◌, ◌++◌, map, length, nat_lt, min, max, if◌then◌else◌}
+use Rattle.std.specs.Prelude.{ℕ, ◌+◌, ◌-◌, ◌*◌, ◌^◌, ◌≤◌, ◌<◌, ◌==◌, ◌&&◌, ℤ, Bool, true, false, List, [], ◌∷◌, ◌++◌, map, length, nat_lt, min, max, if◌then◌else◌}
 use Rattle.std.specs.List.{range_with_len, flat_map}
 use Rattle.std.proofs.Common.{arith, length-append}
 use Rattle.op_basis.specs.Basis.{members}
@@ -11,7 +11,7 @@ use Rattle.enc_theory.specs.declared.data.Sizes.{Sizes}
 use Rattle.clause_core.specs.Clauses.{written}
 use Rattle.clause_core.specs.declared.raw.Raw.TheVariants.{Var}
 use Rattle.enc_theory.specs.Numbering.{places, rows, f_var}
-use Rattle.enc_theory.specs.Select.{below, above, chooses, not_these, choice_exists, choices_exist, operands_exist, copy_raw, copy_row, copy_place, copy_step, copies, result_raw, result_clause, result_bit, result_row, result_step, results, chosen_chain, rising_pair, rising_from, rising_step, rising, used_step, used_steps, equal_choice, negation_pair, negation_from, negation_step, trivial_step, trivial_steps, falling_pair, falling_from, falling_step, falling, different, again_operand, again_operands, again_from, again_after, again_step, again_steps, chosen_cuts}
+use Rattle.enc_theory.specs.Select.{below, chooses, not_these, choice_exists, choices_exist, operands_exist, copy_raw, copy_row, copy_place, copy_step, copies, result_raw, result_clause, result_bit, result_row, result_step, results, chosen_chain, rising_pair, rising_from, rising_step, rising, used_step, used_steps, equal_choice, negation_pair, negation_from, negation_step, trivial_step, trivial_steps, falling_pair, falling_from, falling_step, falling, different, again_operand, again_operands, again_from, again_after, again_step, again_steps, chosen_cuts}
 use Rattle.enc_frame.specs.Room.{IsSmall}
 use Rattle.clause_core.specs.CountLaws.{flat_map-few, pieces-few, written-few, times-few}
 use Rattle.enc_frame.specs.Counts.{out_exists-few, out_values-few, operators-few}

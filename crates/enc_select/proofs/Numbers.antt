@@ -1,10 +1,8 @@
 -- The numbers of variables, as they are computed, and how large they are.
-use Rattle.std.proofs.Common.{◌≡◌, ℕ, zero, suc, ◌+◌, ◌-◌, ◌*◌, ◌/◌, ◌^◌, ◌<◌, ◌≤◌, refl, arith}
-use Rattle.std.proofs.Math.Nat.{mul_comm, mul-add}
+use Rattle.std.proofs.Common.{◌≡◌, ℕ, zero, suc, ◌+◌, ◌-◌, ◌*◌, ◌/◌, ◌^◌, ◌<◌, ◌≤◌, arith}
 use Rattle.std.proofs.lemmas.Grind.{common_steps}
 use Rattle.enc_theory.specs.declared.data.Side.{Side}
 use Rattle.enc_theory.specs.declared.data.Sizes.{Sizes}
-use Rattle.enc_theory.specs.Numbering.{s_first}
 use Rattle.enc_theory.specs.Select.{operand_count, choice_var, value_var, select_vars}
 use Rattle.enc_laws.specs.SelectVars.{choice_positive, choice_within, value_positive, value_within, first_within}
 use Rattle.enc_frame.specs.Room.{IsPlace}

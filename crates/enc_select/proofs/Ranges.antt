@@ -1,6 +1,6 @@
 -- Comprehensions over ranges and over a few elements, in the spelling of loops.
-use Rattle.std.proofs.Common.{◌≡◌, ℕ, ◌+◌, ◌-◌, ◌<◌, ◌≤◌, ◌==◌, List, [], ◌∷◌, ◌++◌, refl, ap, arith, append_assoc, append-nil}
-use Rattle.std.specs.Prelude.{min, max, if◌then◌else◌, Bool, true, false}
+use Rattle.std.proofs.Common.{◌≡◌, ℕ, ◌+◌, ◌-◌, ◌<◌, ◌≤◌, ◌==◌, List, [], ◌∷◌, ◌++◌, refl, arith, append_assoc, append-nil}
+use Rattle.std.specs.Prelude.{min, max, if◌then◌else◌}
 use Rattle.std.specs.List.{flat_map, range_with_len}
 use Rattle.std.proofs.lemmas.Grind.{common_steps}
 use Rattle.clause_core.specs.RangeLaws as ranges

@@ -3,7 +3,7 @@ ghost use Rattle.std.specs.Prelude.{◌≡◌, ◌<◌, ◌≤◌, ◌++◌, OnO
 ghost use Rattle.std.specs.List.{flat_map};
 ghost use Rattle.clause_core.specs.Clauses.{written};
 ghost use Rattle.enc_theory.specs.Numbering.{places};
-ghost use Rattle.enc_theory.specs.Select.{below, above, not_these, different, again_operand, again_operands, again_from, again_after, again_step, again_steps};
+ghost use Rattle.enc_theory.specs.Select.{not_these, different, again_operand, again_operands, again_from, again_after, again_step, again_steps};
 ghost use Rattle.enc_frame.specs.Room.{IsPlace};
 ghost use Rattle.enc_select.specs.Room.{HasChoices};
 

@@ -1,3 +1,5 @@
+//! The encoding by selection of operands. Its laws rest on those properties of an assignment that it shares
+//! with encodings by pairs, and on the law of least chains.
 ghost use Rattle.std.specs.Prelude.{◌≡◌, ◌++◌, OnOk};
 ghost use Rattle.enc_theory.specs.Select.{chosen_cuts};
 ghost use Rattle.enc_select.specs.Room.{HasChoices};
@@ -11,9 +13,9 @@ use crate::trivial::push_trivial;
 use crate::used::push_used;
 use crate::vars::select_vars;
 use chain_core::Chain;
+use clause_core::ClauseList;
 use cnf_core::{Assign, Cnf};
 use enc_cuts::push_row_0;
-use clause_core::ClauseList;
 use enc_frame::{Encoding, sizes};
 use enc_theory::{Part, Sizes};
 use op_basis::Basis;

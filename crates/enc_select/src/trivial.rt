@@ -1,15 +1,14 @@
 //! No step is trivial.
 ghost use Rattle.std.specs.Prelude.{◌≡◌, ◌<◌, ◌≤◌, ◌++◌, [], ◌∷◌, OnOk};
 ghost use Rattle.std.specs.List.{flat_map};
-ghost use Rattle.op_basis.specs.Basis.{members};
 ghost use Rattle.op_basis.specs.Closed.{const_closed};
 ghost use Rattle.enc_theory.specs.Select.{below, equal_choice, negation_pair, negation_from, negation_step, trivial_step, trivial_steps};
 ghost use Rattle.enc_frame.specs.Room.{IsPlace};
 ghost use Rattle.enc_select.specs.Room.{HasChoices};
 
 use crate::literals::choice;
-use enc_cuts::{push_not_idle, push_operator};
 use clause_core::{ClauseList, Raw};
+use enc_cuts::{push_not_idle, push_operator};
 use enc_frame::f_var;
 use enc_theory::{Side, Sizes};
 use op_basis::{Basis, Op};

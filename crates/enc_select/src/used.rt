@@ -6,8 +6,8 @@ ghost use Rattle.enc_frame.specs.Room.{IsSmall, IsPlace};
 ghost use Rattle.enc_select.specs.Room.{HasChoices};
 
 use crate::literals::choice;
-use enc_cuts::push_bearers;
 use clause_core::{ClauseList, Raw};
+use enc_cuts::push_bearers;
 use enc_theory::{Side, Sizes};
 use std::alloc::{AllocError, Global};
 

@@ -1,13 +1,9 @@
 -- Chains that are decoded.
-use Rattle.std.proofs.Common.{Bool, false, ◌≡◌, ℕ, ◌≤◌, List, Result, Ok, Err, IfOk, length, subst, sym, ap, ◌∙◌, refl, arith}
-use Rattle.chain_theory.specs.Chain.{Chain, IsChain}
+use Rattle.std.proofs.Common.{Bool, false, ◌≡◌, ℕ, ◌≤◌, subst, sym, refl}
+use Rattle.chain_theory.specs.Chain.{Chain}
 use Rattle.chain_core.specs.Steps.{IsSmallChain}
 use Rattle.sat_theory.specs.Formula.{Assignment, Satisfies}
-use Rattle.tt_core.specs.Words.{Words, IsSpec, specification}
-use Rattle.tt_core.specs.Live.{live_words}
-use Rattle.enc_theory.specs.declared.data.Sizes.{Sizes}
-use Rattle.enc_theory.specs.Numbering.{sizes_of}
-use Rattle.enc_theory.specs.Pairs.{StepSlots}
+use Rattle.tt_core.specs.Words.{Words, IsSpec}
 use Rattle.enc_theory.specs.Plain.{plain_formula, plain_decoded}
 use Rattle.enc_ssv.specs.Spelled.{spelled}
 use Rattle.enc_theory.specs.Decode.{decoded}

@@ -1,7 +1,9 @@
+//! The plain encoding. Its laws rest on one equivalence, of the clauses and the properties of an assignment
+//! that spells a chain; no chain is cut off.
 use crate::pairs::decode_pairs;
 use chain_core::Chain;
-use cnf_core::{Assign, Cnf};
 use clause_core::ClauseList;
+use cnf_core::{Assign, Cnf};
 use enc_frame::{AllPairs, Encoding, Layout, push_common, sizes};
 use enc_theory::Part;
 use op_basis::Basis;

@@ -1,8 +1,10 @@
+//! The encoding by pairs with cuts. The formula is made of the live part alone, whose outputs are all steps;
+//! its laws rest on the law of least chains: some least chain meets every cut.
 use crate::pairs::decode_pairs;
 use chain_core::Chain;
+use clause_core::ClauseList;
 use cnf_core::{Assign, Cnf};
 use enc_cuts::push_cuts;
-use clause_core::ClauseList;
 use enc_frame::{AllPairs, Encoding, Layout, push_common, sizes};
 use enc_theory::Part;
 use op_basis::Basis;

@@ -66,8 +66,11 @@ fn is_chain(chain: &Option<Chain>, j: u32, k: u32, op: u8, outs: &[Out]) -> bool
 }
 
 const O: bool = false;
+
 const I: bool = true;
+
 const XOR: &[u8] = b"inputs 2\n0110\n";
+
 const AND_NOT: &[u8] = b"inputs 2\n0100\n";
 /// XOR, with outputs that cost nothing before and behind it.
 const THREE: &[u8] = b"inputs 2\n0011\n0110\n----\n";

@@ -105,24 +105,82 @@ fn is_like(alloc: Global, formula: &Option<Cnf>, vars: u32, clauses: usize, sum:
 }
 
 const LIGHTS: &[u8] = b"inputs 4\n0001011101111110\n";
+
 const THREE: &[u8] = b"inputs 4\n0110100110010110\n0000000000000001\n0---------------\n";
 
 #[test]
 fn formulas_are_those_of_another_program(rt: HostRuntime) {
     for (method, tables, basis, r, which, vars, clauses, sum) in [
-        (Method::Plain, LIGHTS, b"all" as &[u8], 3, 0, 140, 3572, 599009576),
+        (
+            Method::Plain,
+            LIGHTS,
+            b"all" as &[u8],
+            3,
+            0,
+            140,
+            3572,
+            599009576,
+        ),
         (Method::Ssv, LIGHTS, b"all", 3, 0, 109, 2433, 2276029920),
-        (Method::Plain, THREE, b"0001,0110,1000", 3, 0, 143, 3660, 2724648464),
-        (Method::Ssv, THREE, b"0001,0110,1000", 3, 0, 112, 2443, 3735524217),
+        (
+            Method::Plain,
+            THREE,
+            b"0001,0110,1000",
+            3,
+            0,
+            143,
+            3660,
+            2724648464,
+        ),
+        (
+            Method::Ssv,
+            THREE,
+            b"0001,0110,1000",
+            3,
+            0,
+            112,
+            2443,
+            3735524217,
+        ),
         (Method::Fence, b"inputs 1\n10\n", b"0001", 0, 0, 0, 1, 0),
         (Method::Fence, LIGHTS, b"all", 3, 0, 84, 1231, 1713344511),
         (Method::Fence, LIGHTS, b"all", 3, 1, 94, 1629, 2901222639),
-        (Method::Fence, THREE, b"0001,0110,1000", 3, 0, 87, 1273, 1473757573),
-        (Method::Fence, THREE, b"0001,0110,1000", 3, 1, 86, 1155, 1444629802),
-        (Method::Fence, THREE, b"0001,0110,1000", 3, 2, 97, 1664, 768145087),
+        (
+            Method::Fence,
+            THREE,
+            b"0001,0110,1000",
+            3,
+            0,
+            87,
+            1273,
+            1473757573,
+        ),
+        (
+            Method::Fence,
+            THREE,
+            b"0001,0110,1000",
+            3,
+            1,
+            86,
+            1155,
+            1444629802,
+        ),
+        (
+            Method::Fence,
+            THREE,
+            b"0001,0110,1000",
+            3,
+            2,
+            97,
+            1664,
+            768145087,
+        ),
     ] {
         let formula = formula(rt.alloc(), method, tables, basis, r, which);
-        assert!(rt; is_like(rt.alloc(), &formula, vars, clauses, sum), "{r} steps");
+        assert!(rt;
+            is_like(rt.alloc(), &formula, vars, clauses, sum),
+            "{r} steps"
+        );
     }
 }
 
@@ -160,38 +218,122 @@ const NO_INPUT: [i32; 65] = [
 /// The cuts of XOR over all operators: besides that no operator is a copy or a constant, x2 is not read
 /// twice where x1 was not, and row 0 is 0.
 const XOR_CUTS: [i32; 53] = [
-    5, 0, 6, 7, 8, 9, 0, 6, 7, -8, -9, 0, 6, -7, 8, -9, 0, -6, -7, -8, -9, 0, -10, 6, 0, -10, -9, 0,
-    -11, 6, 0, -11, -9, 0, -6, 7, -8, 9, 10, 11, 0, -6, -7, 8, 9, 10, 11, 0, -11, 0, -1, 5, 0,
+    5, 0, 6, 7, 8, 9, 0, 6, 7, -8, -9, 0, 6, -7, 8, -9, 0, -6, -7, -8, -9, 0, -10, 6, 0, -10, -9,
+    0, -11, 6, 0, -11, -9, 0, -6, 7, -8, 9, 10, 11, 0, -6, -7, 8, 9, 10, 11, 0, -11, 0, -1, 5, 0,
 ];
 
 /// Those of two outputs over an operator and its complement, whose operands can't be exchanged: each step
 /// is read or is an output, equal operands are no copy, and pairs never fall.
 const TWO_CUTS: [i32; 46] = [
-    9, 11, 29, 30, 31, 32, 33, 0, 10, 12, 0, -21, 13, -16, 0, -22, 13, -16, 0, -25, 17, -20, 0, -26,
-    17, -20, 0, -29, 17, -20, 0, -22, -25, 0, -23, -25, 0, -23, -26, 0, -24, -25, 0, -24, -26, 0,
+    9, 11, 29, 30, 31, 32, 33, 0, 10, 12, 0, -21, 13, -16, 0, -22, 13, -16, 0, -25, 17, -20, 0,
+    -26, 17, -20, 0, -29, 17, -20, 0, -22, -25, 0, -23, -25, 0, -23, -26, 0, -24, -25, 0, -24, -26,
+    0,
 ];
 
 #[test]
 fn formulas_are_written(rt: HostRuntime) {
     for (method, tables, basis, r, vars, all, numbers) in [
-        (Method::Plain, b"inputs 1\n10\n" as &[u8], b"0001" as &[u8], 1, 8, true, &NOT_BY_AND[..101]),
-        (Method::Ssv, b"inputs 1\n10\n", b"0001", 1, 8, true, &NOT_BY_AND),
-        (Method::Select, b"inputs 1\n10\n", b"0001", 1, 13, true, &NOT_BY_AND_SELECTED),
+        (
+            Method::Plain,
+            b"inputs 1\n10\n" as &[u8],
+            b"0001" as &[u8],
+            1,
+            8,
+            true,
+            &NOT_BY_AND[..101],
+        ),
+        (
+            Method::Ssv,
+            b"inputs 1\n10\n",
+            b"0001",
+            1,
+            8,
+            true,
+            &NOT_BY_AND,
+        ),
+        (
+            Method::Select,
+            b"inputs 1\n10\n",
+            b"0001",
+            1,
+            13,
+            true,
+            &NOT_BY_AND_SELECTED,
+        ),
         // no input: without steps there is no clause, and a step has no pair and no operands
         (Method::Plain, b"inputs 0\n1\n", b"all", 0, 0, true, &[]),
         (Method::Plain, b"inputs 0\n1\n", b"all", 1, 5, true, &[0]),
-        (Method::Select, b"inputs 0\n1\n", b"all", 1, 7, true, &NO_INPUT),
+        (
+            Method::Select,
+            b"inputs 0\n1\n",
+            b"all",
+            1,
+            7,
+            true,
+            &NO_INPUT,
+        ),
         // live outputs are no steps where there are none
-        (Method::Plain, b"inputs 2\n0110\n1001\n", b"all", 0, 0, true, &[0, 0]),
-        (Method::Select, b"inputs 2\n0110\n1001\n", b"all", 0, 0, true, &[0, 0]),
+        (
+            Method::Plain,
+            b"inputs 2\n0110\n1001\n",
+            b"all",
+            0,
+            0,
+            true,
+            &[0, 0],
+        ),
+        (
+            Method::Select,
+            b"inputs 2\n0110\n1001\n",
+            b"all",
+            0,
+            0,
+            true,
+            &[0, 0],
+        ),
         // outputs that cost nothing ask for nothing
-        (Method::Ssv, b"inputs 2\n0011\n0--1\n----\n", b"nand", 0, 0, true, &[]),
-        (Method::Select, b"inputs 2\n0011\n0--1\n----\n", b"nand", 0, 0, true, &[]),
+        (
+            Method::Ssv,
+            b"inputs 2\n0011\n0--1\n----\n",
+            b"nand",
+            0,
+            0,
+            true,
+            &[],
+        ),
+        (
+            Method::Select,
+            b"inputs 2\n0011\n0--1\n----\n",
+            b"nand",
+            0,
+            0,
+            true,
+            &[],
+        ),
         // the cuts stand behind all else
-        (Method::Ssv, b"inputs 2\n0110\n", b"all", 1, 12, false, &XOR_CUTS),
-        (Method::Ssv, b"inputs 2\n0-10\n1100\n", b"0010,1101", 2, 33, false, &TWO_CUTS),
+        (
+            Method::Ssv,
+            b"inputs 2\n0110\n",
+            b"all",
+            1,
+            12,
+            false,
+            &XOR_CUTS,
+        ),
+        (
+            Method::Ssv,
+            b"inputs 2\n0-10\n1100\n",
+            b"0010,1101",
+            2,
+            33,
+            false,
+            &TWO_CUTS,
+        ),
     ] {
         let formula = formula(rt.alloc(), method, tables, basis, r, 0);
-        assert!(rt; ends_with(rt.alloc(), &formula, vars, all, numbers), "{r} steps");
+        assert!(rt;
+            ends_with(rt.alloc(), &formula, vars, all, numbers),
+            "{r} steps"
+        );
     }
 }

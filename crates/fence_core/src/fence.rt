@@ -1,3 +1,4 @@
+//! A fence as a value: how many steps stand on each level, and one at least on each.
 ghost use Rattle.std.specs.Prelude.{◌≡◌};
 ghost use Rattle.fence_core.specs.Fence.{IsFence};
 

@@ -4,7 +4,6 @@ use Rattle.chain_theory.specs.Agreement.{IsOver, Agrees}
 use Rattle.op_basis.specs.Basis.{members}
 use Rattle.sat_theory.specs.Formula.{bits_of}
 use Rattle.tt_core.specs.Words.{specification}
-use Rattle.enc_laws.specs.Decoded.{IsFor}
 use Rattle.enc_ssv.specs.Spelled.{spelled}
 use Rattle.enc_theory.specs.Parts.{FitsPart}
 use Rattle.enc_laws.specs.WholeLaws.{whole_fits}
