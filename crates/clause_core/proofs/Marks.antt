@@ -11,10 +11,10 @@ use Rattle.std.proofs.lemmas.List.Elements.{All-nil, All-push}
 use Rattle.std.proofs.lemmas.List.Folds.{list_any-append, Any-from_list_any}
 use Rattle.std.specs.Ordering.{int_eq}
 use Rattle.std.specs.List.{list_any}
-use Rattle.sat_theory.specs.Formula.{variable, IsClause, IsWithin, IsFormula}
+use Rattle.sat_theory.specs.Formula.{signed, variable, IsClause, IsWithin, IsFormula}
 use Rattle.clause_core.specs.declared.raw.Raw.{Raw}
 use Rattle.clause_core.specs.declared.raw.Raw.TheVariants.{Var}
-use Rattle.clause_core.specs.Clauses.{signed, has, simplified}
+use Rattle.clause_core.specs.Clauses.{has, simplified}
 use Rattle.clause_core.specs.Seen.{going, same_bit, is_known, IsSeen, IsBlank, HoldsList}
 use Rattle.clause_core.proofs.Simplified.{simplified-opposite, simplified-again, simplified-new, variable-signed, clause_push}
 

@@ -7,10 +7,10 @@ use Rattle.std.proofs.lemmas.List.Folds.{list_any_at}
 use Rattle.std.proofs.lemmas.List.Quantifiers.{all_pairs_push}
 use Rattle.std.proofs.lemmas.Grind.{common_steps}
 use Rattle.std.specs.Ordering.{int_eq}
-use Rattle.sat_theory.specs.Formula.{variable, IsClause}
+use Rattle.sat_theory.specs.Formula.{signed, variable, IsClause}
 use Rattle.clause_core.specs.declared.raw.Raw.{Raw}
 use Rattle.clause_core.specs.declared.raw.Raw.TheVariants.{Fixed, Var}
-use Rattle.clause_core.specs.Clauses.{signed, has, simplified}
+use Rattle.clause_core.specs.Clauses.{has, simplified}
 
 pub simplified-none : (lits : List ℤ) → simplified lits [] ≡ Some lits
 unfolding simplified

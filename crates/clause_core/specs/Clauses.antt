@@ -1,15 +1,10 @@
 -- How a listed clause is written.
-use Rattle.std.specs.Prelude.{ℕ, ◌≤◌, ℤ, pos, neg_ℤ, Bool, true, false, not, List, [], ◌∷◌, ◌++◌, Option, Some, None, if◌then◌else◌}
+use Rattle.std.specs.Prelude.{ℕ, ◌≤◌, ℤ, Bool, true, false, not, List, [], ◌∷◌, ◌++◌, Option, Some, None, if◌then◌else◌}
 use Rattle.std.specs.List.{list_any}
 use Rattle.std.specs.Ordering.{int_eq}
-use Rattle.sat_theory.specs.Formula.{Formula, Assignment, Satisfies}
+use Rattle.sat_theory.specs.Formula.{Formula, Assignment, Satisfies, signed}
 use Rattle.clause_core.specs.declared.raw.Raw.{Raw}
 use Rattle.clause_core.specs.declared.raw.Raw.TheVariants.{Fixed, Var}
-
--- that the variable has the bit
--- Example: signed 3 true is 3, and signed 3 false is -3.
-abbrev pub signed : ℕ → Bool → ℤ
-signed v bit = if bit then pos v else neg_ℤ (pos v)
 
 -- the literal is among these
 unfoldable pub has : List ℤ → ℤ → Bool

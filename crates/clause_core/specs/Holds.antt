@@ -9,10 +9,10 @@ use Rattle.std.proofs.lemmas.Bool.Decides.{Decides-int_eq}
 use Rattle.std.proofs.lemmas.List.Folds.{list_all-append, list_any-append, Any-from_list_any, list_any-from_Any}
 use Rattle.std.proofs.lemmas.List.Elements.{Contains-get_or, All-contains, Contains-append_left, Contains-append_right, Contains-append_cases}
 use Rattle.std.proofs.lemmas.List.FromFn.{length-range_with_len, get_or-range_with_len}
-use Rattle.sat_theory.specs.Formula.{Formula, Assignment, literal_value, IsTrueClause, Satisfies}
+use Rattle.sat_theory.specs.Formula.{signed, Formula, Assignment, literal_value, IsTrueClause, Satisfies}
 use Rattle.clause_core.specs.declared.raw.Raw.{Raw}
 use Rattle.clause_core.specs.declared.raw.Raw.TheVariants.{Fixed, Var}
-use Rattle.clause_core.specs.Clauses.{signed, has, simplified, listed, written}
+use Rattle.clause_core.specs.Clauses.{has, simplified, listed, written}
 
 -- ---- lists
 

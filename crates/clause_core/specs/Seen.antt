@@ -1,8 +1,8 @@
 -- A clause that is written: its literals, and the bits of its variables by their numbers.
 use Rattle.std.specs.Prelude.{◌≡◌, ℕ, ◌+◌, ◌≤◌, ◌<◌, ℤ, Bool, true, false, not, List, Option, Some, None, All, length, slice_index_or, if◌then◌else◌}
-use Rattle.sat_theory.specs.Formula.{variable, Formula, IsFormula}
+use Rattle.sat_theory.specs.Formula.{signed, variable, Formula, IsFormula}
 use Rattle.clause_core.specs.declared.raw.Raw.{Raw}
-use Rattle.clause_core.specs.Clauses.{signed, has, simplified}
+use Rattle.clause_core.specs.Clauses.{has, simplified}
 
 -- what is written of the literals so far and of what is listed behind them, or nothing where the
 -- clause is found to be true

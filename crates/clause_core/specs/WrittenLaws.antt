@@ -7,10 +7,10 @@ use Rattle.std.proofs.lemmas.Bool.{cases_Bool, both_ways}
 use Rattle.std.proofs.lemmas.Bool.Decides.{Decides-int_eq}
 use Rattle.std.proofs.lemmas.List.Elements.{All-nil, All-push, Contains-get_or, Contains-append_cases}
 use Rattle.std.proofs.lemmas.List.Quantifiers.{all_pairs_push}
-use Rattle.sat_theory.specs.Formula.{variable, IsClause, IsWithin, Formula, IsFormula}
+use Rattle.sat_theory.specs.Formula.{signed, variable, IsClause, IsWithin, Formula, IsFormula}
 use Rattle.clause_core.specs.declared.raw.Raw.{Raw}
 use Rattle.clause_core.specs.declared.raw.Raw.TheVariants.{Fixed, Var}
-use Rattle.clause_core.specs.Clauses.{signed, has, simplified, listed, written}
+use Rattle.clause_core.specs.Clauses.{has, simplified, listed, written}
 use Rattle.clause_core.specs.Holds.{any_make, contains_head, contains_tail, contains_cases, flat_map_get}
 
 -- a listed literal's variable is one of 1 to vars

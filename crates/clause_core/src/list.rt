@@ -6,22 +6,13 @@ ghost use Rattle.std.specs.Prelude.{◌≡◌, ◌<◌, ◌≤◌, ◌-◌, ◌^
 ghost use Rattle.sat_theory.specs.Formula.{IsClause};
 ghost use Rattle.clause_core.specs.declared.raw.Raw.{Raw};
 ghost use Rattle.clause_core.specs.declared.raw.Raw.TheVariants.{Var};
-ghost use Rattle.clause_core.specs.Clauses.{signed, simplified, written, IsWithin};
+ghost use Rattle.clause_core.specs.Clauses.{simplified, written, IsWithin};
 ghost use Rattle.clause_core.specs.Seen.{IsSeen, IsBlank, going, found};
 
 use crate::Raw;
 use cnf_core::{Clause, Cnf, Lit};
 use std::alloc::{AllocError, Global};
 use std::marker::Model;
-
-/// The literal of a variable that is to have a bit.
-fn literal(variable: u32, bit: bool) -> Lit
-    requires { (1 ≤ variable) × (variable < 2 ^ 31) }
-    ensures { result ≡ signed variable bit }
-{
-    let number = variable as i32;
-    Lit::new(if bit { number } else { -number })
-}
 
 /// Adds a variable's literal to those of a clause, of which `seen` has the bits by their variables. It
 /// gives false where the clause is true.
@@ -41,7 +32,7 @@ fn add_literal(
     match seen[variable as usize] {
         Some(known) => Ok(known == bit),
         None => {
-            lits.push(literal(variable, bit))?;
+            lits.push(Lit::of(variable, bit))?;
             seen[variable as usize] = Some(bit);
             Ok(true)
         }
