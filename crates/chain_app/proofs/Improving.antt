@@ -17,7 +17,7 @@ use Rattle.chain_app.specs.Jobs.{IsLine}
 use Rattle.chain_app.specs.ImproveReport.{most_of_netlist, net_status, named_net, improve_reply, improve_refusal, ImproveTells, HasNetlistFault, ImproveRefuses, improve_task}
 use Rattle.chain_app.specs.Told.{Reply, Refusal}
 use Rattle.chain_app.specs.Run.{Run, Reports, ReportsFront}
-use Rattle.chain_app.specs.Promise.{IsAnswerStatus, IsRefusalStatus, memory_refusal, IsTask, NothingFailed, GetsReply, IsCutShort, IsReportCut, GetsRefusal, IsTooLong, Promise}
+use Rattle.chain_app.specs.Promise.{IsAnswerStatus, IsRefusalStatus, memory_refusal, IsTask, IsAnswerable, NothingFailed, GetsReply, IsCutShort, IsReportCut, GetsRefusal, IsTooLong, Promise}
 use Rattle.chain_app.specs.ImprovePromise.{IsImprove, GetsNetlist, IsNetlistReportCut, IsNetlistCut, HasNetlistCause, ImprovePromise}
 
 -- ---- what is answered
@@ -92,9 +92,9 @@ report_told r input told cut =
       reported = subst (λ (bytes : List ℕ). IsReported bytes cut.tells.text cut.tells.report) (cut.whole input told) cut.tells.reported;
       status_is = cut.status_is;
       on_out = subst (λ (x : Reply). Appends r.out.bytes r.out'.bytes x.text) same cut.on_out;
+      rose = cut.rose;
       between = cut.between;
       front = front.0;
-      rose = front.1;
       line = cut.line;
     }
 
@@ -108,12 +108,19 @@ netlist_cut r input told cut = record {
   line = cut.on_note;
 }
 
-complete : (r : Run) (input : List ℕ) → Promise improve_task r → r.source.bytes ≡ Some input → length input ≤ most_of_netlist → IsNetlist input → NothingFailed r → GetsNetlist r input ⊎ IsNetlistReportCut r input
-complete r input promise told within netlist quiet =
+-- a netlist has no fault
+answerable : (input : List ℕ) → length input ≤ most_of_netlist → IsNetlist input → IsAnswerable improve_task input
+answerable input within netlist = record {
+  within = λ long. omega arith;
+  sound = λ refusal cause. fault_never input cause.error netlist cause.fault.fault;
+}
+
+answered : (r : Run) (input : List ℕ) → Promise improve_task r → r.source.bytes ≡ Some input → length input ≤ most_of_netlist → IsNetlist input → NothingFailed r → GetsNetlist r input ⊎ IsNetlistReportCut r input
+answered r input promise told within netlist quiet =
     ⊎_elim
     (λ (got : GetsReply improve_task r). inl (stands r input told got))
     (λ (cut : IsReportCut improve_task r). inr (report_told r input told cut))
-    (promise.answered input told (record { within = λ long. omega arith; sound = λ refusal cause. fault_never input cause.error netlist cause.fault.fault }) quiet)
+    (promise.answered input told (answerable input within netlist) quiet)
 
 cause_told : (r : Run) (input : List ℕ) (status : Status) → r.source.bytes ≡ Some input → GetsRefusal improve_task r → r.status ≡ status → HasNetlistCause input status
 cause_told r input status told none is = record {
@@ -167,6 +174,13 @@ write_told r input promise told is =
     (λ (cut : IsReportCut improve_task r). inr (report_told r input told cut))
     (promise.write_fault_only is)
 
+write_rose : (r : Run) → Promise improve_task r → r.status ≡ WriteFault → Rose r.out.faults r.out'.faults ⊎ Rose r.note.faults r.note'.faults
+write_rose r promise is =
+    ⊎_elim
+    (λ (cut : IsCutShort improve_task r). inl cut.rose)
+    (λ (cut : IsReportCut improve_task r). inr cut.rose)
+    (promise.write_fault_only is)
+
 -- the output of the other statuses
 unchanged : (r : Run) (s : Status) → Promise improve_task r → (r.status ≡ Usage → ⊥) → r.status ≡ s → (s ≡ Done → ⊥) → (s ≡ WriteFault → ⊥) → r.out' ≡ r.out
 unchanged r Done promise usage is done cut = absurd (done refl)
@@ -182,7 +196,8 @@ unchanged r Refused promise usage is done cut = absurd (never_refused r promise 
 -- All that `improve` promises.
 pub improve_promised : (r : Run) → (IsLine r.words Improve → Promise improve_task r) → (IsLine r.words Improve → r.status ≡ Usage → ⊥) → ImprovePromise r
 improve_promised r keeps used = record {
-  complete = λ input is within netlist quiet. complete r input (keeps is.line) is.told within netlist quiet;
+  complete = λ input is within netlist steady. stands r input is.told ((keeps is.line).complete input is.told (answerable input within netlist) steady);
+  answered = λ input is within netlist quiet. answered r input (keeps is.line) is.told within netlist quiet;
   done_only = λ input is status. stands r input is.told ((keeps is.line).done_only status);
   refused = λ input e is fault heard. (keeps is.line).refused input (improve_refusal e) is.told (record { error = e; fault = fault; is = refl }) heard;
   too_long = λ input is long heard. ((keeps is.line).too_long input is.told long heard).told;
@@ -190,6 +205,7 @@ improve_promised r keeps used = record {
   limit_only = λ input is status. limit_told r input (keeps is.line) is.told status;
   decided = λ line status. decided r (keeps line) status;
   never_refused = λ line status. never_refused r (keeps line) status;
-  write_fault = λ input is status. write_told r input (keeps is.line) is.told status;
+  write_fault = λ line status. write_rose r (keeps line) status;
+  cut_short = λ input is status. write_told r input (keeps is.line) is.told status;
   unchanged = λ line done cut. unchanged r r.status (keeps line) (used line) refl done cut;
 }

@@ -1,13 +1,15 @@
 -- What the outcome of a command's run says to its caller.
-use Rattle.std.specs.Prelude.{◌≡◌, ℕ, ◌<◌, ◌⊎◌, List, length, Option, Some, None}
+use Rattle.std.specs.Prelude.{◌≡◌, ℕ, ◌<◌, ◌≤◌, ◌⊎◌, List, length, Option, Some, None}
 use Rattle.std.proofs.Common.{sym, ◌∙◌, ap, subst, refl, inl, inr}
 use Rattle.std.proofs.Math.Logic.{⊎_elim}
+use Rattle.port_io.specs.Faults.{Rose}
+use Rattle.port_io.specs.CountLaws.{rose_later}
 use Rattle.chain_app.specs.declared.status.Status.{Status}
 use Rattle.chain_app.specs.declared.status.Status.TheVariants as statuses
 use Rattle.chain_app.specs.Outside.{Side, Writes}
 use Rattle.chain_app.specs.Told.{Reply, Refusal, error_line, read_fault, write_fault, too_long, memory}
-use Rattle.chain_app.specs.Run.{Task, Outcome, ReadFault, TooLong, Memory, Answered, CutShort, ReportCut, Refused, status_of, Run, IsRun, Reports}
-use Rattle.chain_app.specs.Promise.{IsAnswerStatus, IsRefusalStatus, memory_refusal, IsTask, IsAnswerable, IsHeard, NothingFailed, GetsReply, IsCutShort, IsReportCut, IsRefused, GetsRefusal, IsTooLong, Promise}
+use Rattle.chain_app.specs.Run.{Task, Outcome, ReadFault, TooLong, Memory, Answered, CutShort, ReportCut, Refused, status_of, Run, IsRun, Reports, ReportsFront}
+use Rattle.chain_app.specs.Promise.{IsAnswerStatus, IsRefusalStatus, memory_refusal, IsTask, IsAnswerable, IsHeard, NothingFailed, AllSteady, GetsReply, IsCutShort, IsReportCut, IsRefused, GetsRefusal, IsTooLong, Promise}
 
 -- ---- each outcome
 
@@ -38,6 +40,11 @@ cut_short task r reply run = record {
   on_note = line_alone r.note run.on_note.between r.note' (error_line write_fault) run.on_note.report run.on_note.line;
 }
 
+-- a report that was cut met a fault of the notes
+report_rose : (old between new : Side) (report : Option (List ℕ)) → old.faults ≤ between.faults → ReportsFront old between report → between.faults ≤ new.faults → Rose old.faults new.faults
+report_rose old between new None first front then = absurd front
+report_rose old between new (Some text) first front then = rose_later old.faults between.faults new.faults first front.1 then
+
 report_cut : (task : Task) (r : Run) (reply : Reply) → IsRun task r (ReportCut reply) → IsReportCut task r
 report_cut task r reply run = record {
   bytes = run.bytes;
@@ -46,6 +53,7 @@ report_cut task r reply run = record {
   tells = run.judged.1;
   status_is = run.status_is;
   on_out = run.on_out;
+  rose = report_rose r.note run.on_note.between r.note' reply.report run.on_note.first run.on_note.report run.on_note.then;
   between = run.on_note.between;
   front = run.on_note.report;
   line = run.on_note.line;
@@ -85,6 +93,13 @@ answered task r (Answered reply) input run told may quiet = inl (got task r repl
 answered task r (CutShort reply) input run told may quiet = absurd (quiet.out_steady run.on_out.1)
 answered task r (ReportCut reply) input run told may quiet = inr (report_cut task r reply run)
 answered task r (Refused refusal) input run told may quiet = absurd (may.sound refusal (subst (λ (bytes : List ℕ). task.Refuses bytes refusal) (run.judged.0 input told) run.judged.1))
+
+complete : (task : Task) (r : Run) (o : Outcome) (input : List ℕ) → IsRun task r o → r.source.bytes ≡ Some input → IsAnswerable task input → AllSteady r → GetsReply task r
+complete task r o input run told may steady =
+    ⊎_elim
+    (λ (got : GetsReply task r). got)
+    (λ (cut : IsReportCut task r). absurd (steady.note_steady cut.rose))
+    (answered task r o input run told may steady.out_held)
 
 -- bytes that have a refusal have no answer
 replied : {A : Type 0} (task : Task) (input bytes : List ℕ) (reply : Reply) (refusal : Refusal) → IsTask task → bytes ≡ input → task.Tells bytes reply → task.Refuses input refusal → A
@@ -231,6 +246,7 @@ not_usage task r (Refused refusal) is_task run is = no_refusal task r refusal st
 -- All that is promised follows from a run's having an outcome.
 pub promised : (task : Task) (r : Run) (o : Outcome) → IsTask task → IsRun task r o → Promise task r
 promised task r o is_task run = record {
+  complete = λ input told may steady. complete task r o input run told may steady;
   answered = λ input told may quiet. answered task r o input run told may quiet;
   refused = λ input refusal told cause heard. refused task r o input refusal is_task run told cause heard;
   too_long = λ input told long heard. too_long_told task r o input is_task run told long heard;

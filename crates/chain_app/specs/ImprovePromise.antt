@@ -12,7 +12,7 @@ use Rattle.chain_app.specs.ImproveReport.{most_of_netlist, net_status, improve_r
 use Rattle.chain_app.specs.Outside.{Side, Writes}
 use Rattle.chain_app.specs.Told.{error_line, write_fault, too_long}
 use Rattle.chain_app.specs.Run.{Run}
-use Rattle.chain_app.specs.Promise.{IsHeard, NothingFailed, IsRefused as GetsRefused}
+use Rattle.chain_app.specs.Promise.{IsHeard, NothingFailed, AllSteady, IsRefused as GetsRefused}
 
 -- `improve` was asked, of a source that told these bytes.
 pub record IsImprove (r : Run) (input : List ℕ) : Type 0 where
@@ -37,9 +37,9 @@ pub record IsNetlistReportCut (r : Run) (input : List ℕ) : Type 0 where
   pub reported : IsReported input text report
   pub status_is : r.status ≡ WriteFault
   pub on_out : Appends r.out.bytes r.out'.bytes text
+  pub rose : Rose r.note.faults r.note'.faults
   pub between : Side
   pub front : AppendsFront r.note.bytes between.bytes report
-  pub rose : Rose r.note.faults between.faults
   pub line : Writes between r.note' (error_line write_fault)
 
 -- The output failed: a front of the netlist stands on it, and the fault is told.
@@ -58,8 +58,10 @@ pub record HasNetlistCause (input : List ℕ) (status : Status) : Type 0 where
   pub tells : net_status error ≡ status
 
 pub record ImprovePromise (r : Run) : Type 0 where
-  -- A netlist gets one that does the same with no more gates, and its report, or the notes fail in it.
-  pub complete : (input : List ℕ) → IsImprove r input → length input ≤ most_of_netlist → IsNetlist input → NothingFailed r → GetsNetlist r input ⊎ IsNetlistReportCut r input
+  -- Where no call failed at all, a netlist gets one that does the same with no more gates, and its report.
+  pub complete : (input : List ℕ) → IsImprove r input → length input ≤ most_of_netlist → IsNetlist input → AllSteady r → GetsNetlist r input
+  -- Where the notes may have failed, it does, or the notes failed in the report.
+  pub answered : (input : List ℕ) → IsImprove r input → length input ≤ most_of_netlist → IsNetlist input → NothingFailed r → GetsNetlist r input ⊎ IsNetlistReportCut r input
   -- The status 0 comes with it alone.
   pub done_only : (input : List ℕ) → IsImprove r input → r.status ≡ Done → GetsNetlist r input
   -- Other bytes are refused with their first fault, its status and its error line.
@@ -71,8 +73,9 @@ pub record ImprovePromise (r : Run) : Type 0 where
   pub limit_only : (input : List ℕ) → IsImprove r input → r.status ≡ Limit → HasNetlistCause input Limit ⊎ (most_of_netlist < length input)
   pub decided : IsLine r.words Improve → r.status ≡ Undecided → ⊥
   pub never_refused : IsLine r.words Improve → r.status ≡ Refused → ⊥
-  -- A fault of writing is told, and comes only where the count of faults rose of the output, or of the
-  -- notes while the report was written.
-  pub write_fault : (input : List ℕ) → IsImprove r input → r.status ≡ WriteFault → IsNetlistCut r input ⊎ IsNetlistReportCut r input
+  -- A fault of writing comes only where the count of faults of the output rose, or of the notes. It is told,
+  -- behind a front of the netlist, or of its report.
+  pub write_fault : IsLine r.words Improve → r.status ≡ WriteFault → Rose r.out.faults r.out'.faults ⊎ Rose r.note.faults r.note'.faults
+  pub cut_short : (input : List ℕ) → IsImprove r input → r.status ≡ WriteFault → IsNetlistCut r input ⊎ IsNetlistReportCut r input
   -- Without a netlist the output is as before.
   pub unchanged : IsLine r.words Improve → (r.status ≡ Done → ⊥) → (r.status ≡ WriteFault → ⊥) → r.out' ≡ r.out

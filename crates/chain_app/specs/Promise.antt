@@ -46,6 +46,11 @@ pub record NothingFailed (r : Run) : Type 0 where
   pub heard : IsHeard r
   pub out_steady : Rose r.out.faults r.out'.faults → ⊥
 
+-- No call failed at all, and memory sufficed.
+pub record AllSteady (r : Run) : Type 0 where
+  pub out_held : NothingFailed r
+  pub note_steady : Rose r.note.faults r.note'.faults → ⊥
+
 -- What was read has an answer, and the reply stands outside, whole and alone.
 pub record GetsReply (task : Task) (r : Run) : Type 0 where
   pub bytes : List ℕ
@@ -76,6 +81,7 @@ pub record IsReportCut (task : Task) (r : Run) : Type 0 where
   pub tells : task.Tells bytes reply
   pub status_is : r.status ≡ WriteFault
   pub on_out : Appends r.out.bytes r.out'.bytes reply.text
+  pub rose : Rose r.note.faults r.note'.faults
   pub between : Side
   pub front : ReportsFront r.note between reply.report
   pub line : Writes between r.note' (error_line write_fault)
@@ -102,7 +108,9 @@ pub record IsTooLong (task : Task) (r : Run) : Type 0 where
 -- ---- the promise
 
 pub record Promise (task : Task) (r : Run) : Type 0 where
-  -- Bytes that have no refusal get an answer, or the notes fail in its report.
+  -- Where no call failed at all, bytes that have no refusal get an answer.
+  pub complete : (input : List ℕ) → r.source.bytes ≡ Some input → IsAnswerable task input → AllSteady r → GetsReply task r
+  -- Where the notes may have failed, they get an answer, or the notes failed in its report.
   pub answered : (input : List ℕ) → r.source.bytes ≡ Some input → IsAnswerable task input → NothingFailed r → GetsReply task r ⊎ IsReportCut task r
   -- Bytes that have a refusal get it, and so do bytes beyond the limit.
   pub refused : (input : List ℕ) (refusal : Refusal) → r.source.bytes ≡ Some input → task.Refuses input refusal → IsHeard r → IsRefused r refusal

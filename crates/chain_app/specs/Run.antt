@@ -1,5 +1,5 @@
 -- What a run comes to, for every command.
-use Rattle.std.specs.Prelude.{◌≡◌, ℕ, ◌<◌, List, [], length, Option, Some, None, Vec, String}
+use Rattle.std.specs.Prelude.{◌≡◌, ℕ, ◌<◌, ◌≤◌, List, [], length, Option, Some, None, Vec, String}
 use Rattle.std.specs.Global.{Global}
 use Rattle.port_io.specs.Bytes.{Appends, AppendsFront}
 use Rattle.port_io.specs.Faults.{Rose}
@@ -121,11 +121,14 @@ abbrev pub LineAfter : Side → Side → Option Named → Type 0
 LineAfter old new None = new ≡ old
 LineAfter old new (Some named) = Writes old new (error_line named)
 
--- the report, and then the error line
+-- The report, and then the error line. The count of faults between them is between the counts before and
+-- behind.
 pub record NoteAfter (old new : Side) (outcome : Outcome) : Type 0 where
   pub between : Side
   pub report : ReportAfter old between outcome
   pub line : LineAfter between new (line_of outcome)
+  pub first : old.faults ≤ between.faults
+  pub then : between.faults ≤ new.faults
 
 -- what a caller sees of a run: the words, and each side before and after it
 pub record Run : Type 0 where

@@ -16,6 +16,7 @@ pub(crate) fn send<O: Sink, N: Sink>(out: &mut O, note: &mut N, reply: Reply) ->
     ensures sent { IsSent (reply_value reply) (outcome_of result) }
     ensures out { OutAfter (side O.written O.faults out.old) (side O.written O.faults out.new) (outcome_of result) }
     ensures report { ReportAfter (side N.written N.faults note.old) (side N.written N.faults note.new) (outcome_of result) }
+    ensures never_falls { N.faults note.old ≤ N.faults note.new }
 {
     if let Err(WriteFault::WriteFault) = write_all(out, &reply.text) {
         return Ended::CutShort(reply);
@@ -71,7 +72,8 @@ fn tell_parts<'a, N: Sink>(
     word: &'a [u8],
     last: &'a [u8],
 )
-    ensures { Writes (side N.written N.faults note.old) (side N.written N.faults note.new) (line_text name.now number.now word.now last.now) }
+    ensures line { Writes (side N.written N.faults note.old) (side N.written N.faults note.new) (line_text name.now number.now word.now last.now) }
+    ensures never_falls { N.faults note.old ≤ N.faults note.new }
 {
     let number_blank: &'a [u8] = blank(number);
     let word_blank: &'a [u8] = blank(word);
@@ -93,7 +95,8 @@ fn tell_parts<'a, N: Sink>(
 /// Writes an error line. It takes no memory, so that it also tells of its want.
 #[tactic(auto, unfolding(crate::specs::Told::error_line))]
 pub(crate) fn tell_error<N: Sink>(note: &mut N, line: &ErrorLine)
-    ensures { Writes (side N.written N.faults note.old) (side N.written N.faults note.new) (error_line (line_value line.now)) }
+    ensures line { Writes (side N.written N.faults note.old) (side N.written N.faults note.new) (error_line (line_value line.now)) }
+    ensures never_falls { N.faults note.old ≤ N.faults note.new }
 {
     let mut first = Buffer::new();
     let mut last = Buffer::new();
@@ -109,7 +112,8 @@ pub(crate) fn tell_error<N: Sink>(note: &mut N, line: &ErrorLine)
 /// Writes the error line of a run that has one.
 #[tactic(auto, unfolding(crate::specs::Told::too_long, crate::specs::Told::memory))]
 pub(crate) fn tell<N: Sink>(note: &mut N, ended: &Ended)
-    ensures { LineAfter (side N.written N.faults note.old) (side N.written N.faults note.new) (line_of (outcome_of ended.now)) }
+    ensures line { LineAfter (side N.written N.faults note.old) (side N.written N.faults note.new) (line_of (outcome_of ended.now)) }
+    ensures never_falls { N.faults note.old ≤ N.faults note.new }
 {
     match ended {
         Ended::ReadFault => tell_error(note, &ErrorLine::plain(b"ReadFault")),

@@ -59,6 +59,7 @@ fn perform<S: Source, O: Sink, N: Sink>(
     ensures source { SourceAfter (side S.left S.faults source.old) (side S.left S.faults source.new) (outcome_of result) }
     ensures out { OutAfter (side O.written O.faults out.old) (side O.written O.faults out.new) (outcome_of result) }
     ensures report { ReportAfter (side N.written N.faults note.old) (side N.written N.faults note.new) (outcome_of result) }
+    ensures never_falls { N.faults note.old ≤ N.faults note.new }
 {
     let bytes = match read_all(alloc, source, most_bytes(job)) {
         Ok(bytes) => bytes,

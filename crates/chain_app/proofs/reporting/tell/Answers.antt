@@ -4,14 +4,14 @@ use Rattle.chain_app.specs.Views.{line_value}
 use Rattle.chain_app.proofs.Pieces.{told_as}
 use Rattle.chain_app.proofs.reporting.tell.Goals as goal
 
-pub returns-in-ReadFault : goal.returns-in-ReadFault
+pub returns-in-ReadFault-clause-line : goal.returns-in-ReadFault-clause-line
 unfolding read_fault
-returns-in-ReadFault g c = told_as _ _ _ _ (line_value c.plain.result) read_fault c.in-ReadFault.is refl c.plain.ensures c.tell_error.ensures
+returns-in-ReadFault-clause-line g c = told_as _ _ _ _ (line_value c.plain.result) read_fault c.in-ReadFault.is refl c.plain.ensures c.tell_error.ensures.line
 
-pub returns-in-CutShort : goal.returns-in-CutShort
+pub returns-in-CutShort-clause-line : goal.returns-in-CutShort-clause-line
 unfolding write_fault
-returns-in-CutShort g c = told_as _ _ _ _ (line_value c.plain-in-CutShort.result) write_fault c.in-CutShort.is refl c.plain-in-CutShort.ensures c.tell_error-in-CutShort.ensures
+returns-in-CutShort-clause-line g c = told_as _ _ _ _ (line_value c.plain-in-CutShort.result) write_fault c.in-CutShort.is refl c.plain-in-CutShort.ensures c.tell_error-in-CutShort.ensures.line
 
-pub returns-in-ReportCut : goal.returns-in-ReportCut
+pub returns-in-ReportCut-clause-line : goal.returns-in-ReportCut-clause-line
 unfolding write_fault
-returns-in-ReportCut g c = told_as _ _ _ _ (line_value c.plain-in-ReportCut.result) write_fault c.in-ReportCut.is refl c.plain-in-ReportCut.ensures c.tell_error-in-ReportCut.ensures
+returns-in-ReportCut-clause-line g c = told_as _ _ _ _ (line_value c.plain-in-ReportCut.result) write_fault c.in-ReportCut.is refl c.plain-in-ReportCut.ensures c.tell_error-in-ReportCut.ensures.line

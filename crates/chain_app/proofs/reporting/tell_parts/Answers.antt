@@ -2,8 +2,8 @@ use Rattle.std.proofs.Common.{refl}
 use Rattle.chain_app.proofs.Pieces.{parts_are, told_parts}
 use Rattle.chain_app.proofs.reporting.tell_parts.Goals as goal
 
-pub returns : goal.returns
-returns g c =
+pub returns-clause-line : goal.returns-clause-line
+returns-clause-line g c =
     told_parts _ _ _ _ c.write_pieces.result
     c.write_pieces.ensures.front
     c.write_pieces.ensures.all

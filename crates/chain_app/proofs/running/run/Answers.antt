@@ -18,7 +18,7 @@ returns-in_default-clause-ending g c = (
     status_is = refl;
     on_source = refl;
     on_out = refl;
-    on_note = named_as _ _ (line_value c.plain.result) usage c.plain.ensures c.tell_error.ensures;
+    on_note = named_as _ _ (line_value c.plain.result) usage c.plain.ensures c.tell_error.ensures.line;
   },
 )
 
@@ -63,7 +63,9 @@ returns-clause-ending g c = (
       on_note = record {
         between = side g.N.Sink.written g.N.Sink.faults c.perform-ended.new.note;
         report = c.perform-ended.ensures.report;
-        line = c.tell.ensures;
+        line = c.tell.ensures.line;
+        first = c.perform-ended.ensures.never_falls;
+        then = c.tell.ensures.never_falls;
       };
     },
   ),
