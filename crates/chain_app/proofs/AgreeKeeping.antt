@@ -15,19 +15,18 @@ use Rattle.chain_app.specs.declared.agree.Answer.TheVariants.{Agrees, Differs}
 use Rattle.chain_app.specs.declared.agree.AgreeError.{AgreeError}
 use Rattle.chain_app.specs.declared.agree.AgreeError.TheVariants as errors
 use Rattle.chain_app.specs.declared.status.Status.{Status}
-use Rattle.chain_app.specs.declared.status.Status.TheVariants.{Done, Usage, Malformed, Limit, Undecided, ReadFault, WriteFault, Memory, Refused}
-use Rattle.chain_app.specs.declared.jobs.Job.TheVariants.{Agree}
-use Rattle.chain_app.specs.Jobs.{IsLine}
-use Rattle.chain_app.specs.Agree.{Question, IsQuestion, HasFault, IsCause, most_bytes, IsAnswer, HasAnswer}
-use Rattle.chain_app.specs.AgreeReport.{answer_text, answer_status, error_status, spec_status, chain_status, named_error, agree_reply, agree_refusal, AgreeTells, AgreeRefuses, agree_task}
-use Rattle.chain_app.specs.Outside.{Writes}
-use Rattle.chain_app.specs.Told.{Reply, Refusal, error_line, write_fault}
-use Rattle.chain_app.specs.Run.{Run, Reports, ReportsFront}
-use Rattle.chain_app.specs.Promise.{IsAnswerable, IsHeard, NothingFailed, GetsReply, IsCutShort, IsReportCut, GetsRefusal, IsTooLong, Promise}
-use Rattle.chain_app.specs.AgreePromise.{IsAsked, Says, GetsAnswer, IsRefused, HasCause, TellsDifference, IsCut, AgreePromise}
-use Rattle.text_core.specs.Lines.{lines_of}
+use Rattle.chain_app.specs.declared.status.Status.TheVariants.{Done, Undecided, Refused}
+use Rattle.command_line.specs.declared.command.Command.TheVariants.{Agree}
+use Rattle.command_line.specs.CommandLine.{IsLine as AsksFor}
+use Rattle.chain_app.specs.Agree.{Question, IsQuestion, HasFault, most_of_tables, IsAnswer, HasAnswer}
+use Rattle.chain_app.specs.AgreeReport.{answer_status, error_status, spec_status, chain_status, agree_reply, agree_refusal, agree_task}
+use Rattle.chain_app.specs.Task.{IsAnswerable}
+use Rattle.chain_app.specs.Run.{Run}
+use Rattle.chain_app.specs.Promise.{InputHeld, OutputHeld, Stands, TellsError, Replies, Faults, CommandPromise}
+use Rattle.chain_app.specs.AgreePromise.{TellsDifference, AgreePromise}
 use Rattle.chain_app.proofs.Agreeing.{one_question, no_question}
-use Rattle.chain_app.proofs.Faults.{never_long}
+use Rattle.chain_app.proofs.Keeping.{of_input}
+use Rattle.chain_app.proofs.ReadOff.{gets}
 
 -- ---- a question has one answer
 
@@ -51,66 +50,35 @@ one_answer : (question : Question) (a b : Answer) → IsAnswer question a → Is
 one_answer question a b p q =
     answer_from a b (one_comparison question.chain question.tables (difference_of a) (difference_of b) (comparison_of question a p) (comparison_of question b q))
 
--- ---- replies
+-- ---- what is read off
 
--- an answer that stands outside
-record Stands (r : Run) (input : List ℕ) : Type 0 where
-  answer : Answer
-  has : HasAnswer input answer
-  status_is : r.status ≡ answer_status answer
-  says : Says r (answer_text answer)
-
-stands : (r : Run) (input : List ℕ) → r.source.bytes ≡ Some input → GetsReply agree_task r → Stands r input
-stands r input told got =
-    let same : got.reply ≡ agree_reply got.tells.answer = got.tells.is in
-    record {
-      answer = got.tells.answer;
-      has = subst (λ (bytes : List ℕ). HasAnswer bytes got.tells.answer) (got.whole input told) got.tells.has;
-      status_is = got.status_is ∙ ap (λ (x : Reply). x.status) same;
-      says = record {
-        on_out = subst (λ (x : Reply). Appends r.out.bytes r.out'.bytes x.text) same got.on_out;
-        on_note = subst (λ (x : Reply). Reports r.note r.note' x.report) same got.on_note;
-      };
-    }
-
--- `agree` has no report that could be cut
-no_report : {A : Type 0} (r : Run) → IsReportCut agree_task r → A
-no_report r cut = absurd (subst (λ (x : Reply). ReportsFront r.note cut.between x.report) cut.tells.is cut.front)
-
+-- a question has no fault
 answerable : (input : List ℕ) (question : Question) → IsQuestion input question → IsAnswerable agree_task input
 answerable input question is = record {
   within = λ long. let within = is.within in omega arith;
-  sound = λ refusal cause. no_question input question cause.error is cause.fault;
+  sound = λ error fault. no_question input question error is fault;
 }
 
-answered : (r : Run) (input : List ℕ) (question : Question) → Promise agree_task r → r.source.bytes ≡ Some input → IsQuestion input question → NothingFailed r → Stands r input
-answered r input question promise told is quiet =
-    ⊎_elim (λ (got : GetsReply agree_task r). stands r input told got) (λ (cut : IsReportCut agree_task r). no_report r cut) (promise.answered input told (answerable input question is) quiet)
+complete : (r : Run) (input : List ℕ) (question : Question) → CommandPromise agree_task r → r.source.bytes ≡ Some input → IsQuestion input question → OutputHeld r → Replies agree_task r input
+complete r input question promise told is held =
+    gets agree_task r input (λ answer. refl) promise told (answerable input question is) held
 
-complete : (r : Run) (input : List ℕ) (question : Question) → Promise agree_task r → r.source.bytes ≡ Some input → IsQuestion input question → NothingFailed r → GetsAnswer r question
-complete r input question promise told is quiet =
-    let s : Stands r input = answered r input question promise told is quiet in
-    record {
-      answer = s.answer;
-      is_answer = subst (λ (q : Question). IsAnswer q s.answer) (one_question input s.has.question question s.has.asked is) s.has.is_answer;
-      status_is = s.status_is;
-      says = s.says;
-    }
-
-told_answer : (r : Run) (input : List ℕ) (question : Question) (answer : Answer) → Promise agree_task r → r.source.bytes ≡ Some input → IsQuestion input question → IsAnswer question answer → NothingFailed r → (r.status ≡ answer_status answer) × Says r (answer_text answer)
-told_answer r input question answer promise told is is_answer quiet =
-    let got : GetsAnswer r question = complete r input question promise told is quiet in
-    subst (λ (a : Answer). (r.status ≡ answer_status a) × Says r (answer_text a)) (one_answer question got.answer answer got.is_answer is_answer) (got.status_is, got.says)
+answers : (r : Run) (input : List ℕ) (question : Question) (answer : Answer) → CommandPromise agree_task r → r.source.bytes ≡ Some input → IsQuestion input question → IsAnswer question answer → OutputHeld r → Stands r (agree_reply answer)
+answers r input question answer promise told is is_answer held =
+    let got : Replies agree_task r input = complete r input question promise told is held in
+    let has : HasAnswer input got.answer = got.has in
+    let found : IsAnswer question got.answer = subst (λ (q : Question). IsAnswer q got.answer) (one_question input has.question question has.asked is) has.is_answer in
+    subst (λ (a : Answer). Stands r (agree_reply a)) (one_answer question got.answer answer found is_answer) got.stands
 
 -- ---- statuses
 
-agrees_by : (r : Run) (input : List ℕ) (answer : Answer) → HasAnswer input answer → answer_status answer ≡ Done → Says r (answer_text answer) → HasAnswer input Agrees × Says r (answer_text Agrees)
-agrees_by r input Agrees has is says = (has, says)
-agrees_by r input (Differs h t) has is says = absurd cc
+agrees_by : (r : Run) (input : List ℕ) (answer : Answer) → HasAnswer input answer → answer_status answer ≡ Done → Stands r (agree_reply answer) → HasAnswer input Agrees × Stands r (agree_reply Agrees)
+agrees_by r input Agrees has is stands = (has, stands)
+agrees_by r input (Differs h t) has is stands = absurd cc
 
-differs_by : (r : Run) (input : List ℕ) (answer : Answer) → HasAnswer input answer → answer_status answer ≡ Refused → Says r (answer_text answer) → TellsDifference r input
-differs_by r input Agrees has is says = absurd cc
-differs_by r input (Differs h t) has is says = record { output = h; row = t; has = has; says = says }
+differs_by : (r : Run) (input : List ℕ) (answer : Answer) → HasAnswer input answer → answer_status answer ≡ Refused → Stands r (agree_reply answer) → TellsDifference r input
+differs_by r input Agrees has is stands = absurd cc
+differs_by r input (Differs h t) has is stands = record { output = h; row = t; has = has; stands = stands }
 
 decided_by : (answer : Answer) → answer_status answer ≡ Undecided → ⊥
 decided_by Agrees is = cc
@@ -141,82 +109,30 @@ not_refused (errors.Chained e) is = chains_apart e is
 not_refused (errors.BadEnd line) is = cc
 not_refused errors.Memory is = cc
 
-agrees_only : (r : Run) (input : List ℕ) → Promise agree_task r → r.source.bytes ≡ Some input → r.status ≡ Done → HasAnswer input Agrees × Says r (answer_text Agrees)
+agrees_only : (r : Run) (input : List ℕ) → CommandPromise agree_task r → r.source.bytes ≡ Some input → r.status ≡ Done → HasAnswer input Agrees × Stands r (agree_reply Agrees)
 agrees_only r input promise told is =
-    let s : Stands r input = stands r input told (promise.done_only is) in
-    agrees_by r input s.answer s.has (sym s.status_is ∙ is) s.says
+    let got : Replies agree_task r input = of_input agree_task r (Replies agree_task r) input (promise.done_only is) told in
+    agrees_by r input got.answer got.has (sym got.stands.status_is ∙ is) got.stands
 
-differs_only : (r : Run) (input : List ℕ) → Promise agree_task r → r.source.bytes ≡ Some input → r.status ≡ Refused → TellsDifference r input
+differs_only : (r : Run) (input : List ℕ) → CommandPromise agree_task r → r.source.bytes ≡ Some input → r.status ≡ Refused → TellsDifference r input
 differs_only r input promise told is =
     ⊎_elim
-    (λ (got : GetsReply agree_task r). let s : Stands r input = stands r input told got in differs_by r input s.answer s.has (sym s.status_is ∙ is) s.says)
-    (λ (none : GetsRefusal agree_task r). absurd (not_refused none.cause.error (sym (ap (λ (x : Refusal). x.status) none.cause.is) ∙ sym none.told.status_is ∙ is)))
-    (promise.refused_only is)
+    (λ (got : Replies agree_task r input). differs_by r input got.answer got.has (sym got.stands.status_is ∙ is) got.stands)
+    (λ (none : Faults agree_task r input). absurd (not_refused none.fault (sym none.told.status_is ∙ is)))
+    (of_input agree_task r (λ bytes. Replies agree_task r bytes ⊎ Faults agree_task r bytes) input (promise.refused_only is) told)
 
-undecided : (r : Run) → Promise agree_task r → r.status ≡ Undecided → ⊥
+undecided : (r : Run) → CommandPromise agree_task r → r.status ≡ Undecided → ⊥
 undecided r promise is =
-    let got : GetsReply agree_task r = promise.undecided_only is in
-    decided_by got.tells.answer (sym (ap (λ (x : Reply). x.status) got.tells.is) ∙ sym got.status_is ∙ is)
+    let got = promise.undecided_only is in
+    decided_by got.holds.answer (sym got.holds.stands.status_is ∙ is)
 
--- an error that is told is the cause
-fault_is : (input : List ℕ) (error : AgreeError) → HasFault input error → IsCause input error
-fault_is input errors.TooLong fault = absurd (never_long (lines_of input) fault.fault)
-fault_is input (errors.Tables e) fault = fault
-fault_is input (errors.Chained e) fault = fault
-fault_is input (errors.BadEnd line) fault = fault
-fault_is input errors.Memory fault = tt
-
-cause_told : (r : Run) (input : List ℕ) (status : Status) → r.source.bytes ≡ Some input → GetsRefusal agree_task r → r.status ≡ status → HasCause input status
-cause_told r input status told none is = record {
-  error = none.cause.error;
-  cause = fault_is input none.cause.error (subst (λ (bytes : List ℕ). HasFault bytes none.cause.error) (none.whole input told) none.cause.fault);
-  tells = sym (ap (λ (x : Refusal). x.status) none.cause.is) ∙ sym none.told.status_is ∙ is;
-}
-
-limit_cause : (r : Run) (input : List ℕ) → r.source.bytes ≡ Some input → IsTooLong agree_task r → HasCause input Limit
-limit_cause r input told long = record { error = errors.TooLong; cause = long.beyond input told; tells = refl }
-
-cut_by : (r : Run) → IsCutShort agree_task r ⊎ IsReportCut agree_task r → IsCutShort agree_task r
-cut_by r either = ⊎_elim (λ (cut : IsCutShort agree_task r). cut) (λ (cut : IsReportCut agree_task r). no_report r cut) either
-
-cut_told : (r : Run) (input : List ℕ) → r.source.bytes ≡ Some input → IsCutShort agree_task r → IsCut r input
-cut_told r input told cut = record {
-  answer = cut.tells.answer;
-  has = subst (λ (bytes : List ℕ). HasAnswer bytes cut.tells.answer) (cut.whole input told) cut.tells.has;
-  front = subst (λ (x : Reply). AppendsFront r.out.bytes r.out'.bytes x.text) cut.tells.is cut.on_out;
-}
-
--- what is too long is refused so
-long_refused : (r : Run) → IsTooLong agree_task r → IsRefused r errors.TooLong
-unfolding named_error
-long_refused r long = long.told
-
--- the output of the other statuses
-unchanged : (r : Run) (s : Status) → Promise agree_task r → (r.status ≡ Usage → ⊥) → r.status ≡ s → (s ≡ Done → ⊥) → (s ≡ Refused → ⊥) → (s ≡ WriteFault → ⊥) → r.out' ≡ r.out
-unchanged r Done promise usage is done refused cut = absurd (done refl)
-unchanged r Usage promise usage is done refused cut = absurd (usage is)
-unchanged r Malformed promise usage is done refused cut = (promise.malformed_only is).told.on_out
-unchanged r Limit promise usage is done refused cut = ⊎_elim (λ (none : GetsRefusal agree_task r). none.told.on_out) (λ (long : IsTooLong agree_task r). long.told.on_out) (promise.limit_only is)
-unchanged r Undecided promise usage is done refused cut = absurd (undecided r promise is)
-unchanged r ReadFault promise usage is done refused cut = (promise.read_fault_only is).1.on_out
-unchanged r WriteFault promise usage is done refused cut = absurd (cut refl)
-unchanged r Memory promise usage is done refused cut = (promise.memory_only is).on_out
-unchanged r Refused promise usage is done refused cut = absurd (refused refl)
-
--- All that `agree` promises.
-pub agree_promised : (r : Run) → (IsLine r.words Agree → Promise agree_task r) → (IsLine r.words Agree → r.status ≡ Usage → ⊥) → AgreePromise r
-agree_promised r keeps used = record {
-  agrees = λ input question asked is agrees quiet. told_answer r input question Agrees (keeps asked.asked) asked.told is agrees quiet;
-  differs = λ input question h t asked is differs quiet. told_answer r input question (Differs h t) (keeps asked.asked) asked.told is differs quiet;
-  complete = λ input question asked is quiet. complete r input question (keeps asked.asked) asked.told is quiet;
-  agrees_only = λ input asked is. agrees_only r input (keeps asked.asked) asked.told is;
-  differs_only = λ input asked is. differs_only r input (keeps asked.asked) asked.told is;
-  refused = λ input error asked fault heard. (keeps asked.asked).refused input (agree_refusal error) asked.told (record { error = error; fault = fault; is = refl }) heard;
-  too_long = λ input asked long heard. long_refused r ((keeps asked.asked).too_long input asked.told long heard);
-  malformed_only = λ input asked is. cause_told r input Malformed asked.told ((keeps asked.asked).malformed_only is) is;
-  limit_only = λ input asked is. ⊎_elim (λ (none : GetsRefusal agree_task r). cause_told r input Limit asked.told none is) (λ (long : IsTooLong agree_task r). limit_cause r input asked.told long) ((keeps asked.asked).limit_only is);
-  write_fault = λ line is. let cut = cut_by r ((keeps line).write_fault_only is) in (cut.rose, cut.on_note);
-  cut_short = λ input asked is. cut_told r input asked.told (cut_by r ((keeps asked.asked).write_fault_only is));
-  unchanged = λ line done refused cut. unchanged r r.status (keeps line) (used line) refl done refused cut;
-  decided = λ line is. undecided r (keeps line) is;
+-- All that `agree` promises besides.
+pub agree_promised : (r : Run) → (AsksFor r.words Agree → CommandPromise agree_task r) → AgreePromise r
+agree_promised r keeps = record {
+  complete = λ input question run is held. complete r input question (keeps run.asks) run.told is held;
+  answers = λ input question answer run is is_answer held. answers r input question answer (keeps run.asks) run.told is is_answer held;
+  agrees_only = λ input run is. agrees_only r input (keeps run.asks) run.told is;
+  differs_only = λ input run is. differs_only r input (keeps run.asks) run.told is;
+  decided = λ asks is. undecided r (keeps asks) is;
+  refused = λ input error run fault held. (keeps run.asks).refused input error run.told fault held;
 }

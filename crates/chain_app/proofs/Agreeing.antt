@@ -12,13 +12,14 @@ use Rattle.chain_app.specs.declared.agree.AgreeError.{AgreeError}
 use Rattle.chain_app.specs.declared.agree.AgreeError.TheVariants as errors
 use Rattle.chain_app.specs.declared.status.Status.{Status}
 use Rattle.chain_app.specs.declared.status.Status.TheVariants.{Done, Malformed, Limit, Memory, Refused}
-use Rattle.chain_app.specs.Agree.{Question, IsQuestion, HasFault, question_of, IsCause, Fails, most_bytes, HasAnswer}
-use Rattle.chain_app.specs.AgreeReport.{answer_status, error_status, spec_status, chain_status, agree_reply, named_spec, named_chain, named_error, agree_refusal, AgreeTells, AgreeRefuses, agree_task}
-use Rattle.chain_app.specs.Told.{Reply, Refusal}
-use Rattle.chain_app.specs.Promise.{IsAnswerStatus, IsRefusalStatus, memory_refusal, IsTask}
+use Rattle.chain_app.specs.Agree.{Question, IsQuestion, HasFault, question_of, IsCause, Fails, most_of_tables, HasAnswer}
+use Rattle.chain_app.specs.AgreeReport.{answer_status, error_status, spec_status, chain_status, agree_reply, named_spec, named_chain, named_error, agree_refusal, agree_task}
+use Rattle.chain_app.specs.Told.{Reply, Refusal, memory_refusal}
+use Rattle.chain_app.specs.Task.{IsAnswerStatus, IsRefusalStatus, IsTask, Tells, Refuses}
+use Rattle.chain_app.proofs.TaskKinds.{at_once_task}
 
 -- What the readers answer within the limit is the cause of their error.
-pub cause_of : (bytes : List ℕ) (error : AgreeError) → length bytes ≤ most_bytes → Fails error (question_of bytes) → IsCause bytes error
+pub cause_of : (bytes : List ℕ) (error : AgreeError) → length bytes ≤ most_of_tables → Fails error (question_of bytes) → IsCause bytes error
 cause_of bytes errors.TooLong within fails = absurd fails
 cause_of bytes (errors.Tables e) within fails = record { within = within; fault = fails }
 cause_of bytes (errors.Chained e) within fails = record { within = within; fault = fails }
@@ -26,18 +27,18 @@ cause_of bytes (errors.BadEnd line) within fails = record { within = within; fau
 cause_of bytes errors.Memory within fails = tt
 
 -- A cause within the limit that isn't want of memory is a fault.
-pub fault_of : (bytes : List ℕ) (error : AgreeError) → length bytes ≤ most_bytes → IsCause bytes error → (error ≡ errors.Memory → ⊥) → HasFault bytes error
+pub fault_of : (bytes : List ℕ) (error : AgreeError) → length bytes ≤ most_of_tables → IsCause bytes error → (error ≡ errors.Memory → ⊥) → HasFault bytes error
 fault_of bytes errors.TooLong within cause other = absurd (omega arith)
 fault_of bytes (errors.Tables e) within cause other = cause
 fault_of bytes (errors.Chained e) within cause other = cause
 fault_of bytes (errors.BadEnd line) within cause other = cause
 fault_of bytes errors.Memory within cause other = absurd (other refl)
 
-pub tells : (bytes : List ℕ) (answer : Answer) (reply : Reply) → HasAnswer bytes answer → reply ≡ agree_reply answer → AgreeTells bytes reply
+pub tells : (bytes : List ℕ) (answer : Answer) (reply : Reply) → HasAnswer bytes answer → reply ≡ agree_reply answer → Tells agree_task bytes reply
 tells bytes answer reply has is = record { answer = answer; has = has; is = is }
 
-pub refuses : (bytes : List ℕ) (error : AgreeError) (refusal : Refusal) → HasFault bytes error → refusal ≡ agree_refusal error → AgreeRefuses bytes refusal
-refuses bytes error refusal fault is = record { error = error; fault = fault; is = is }
+pub refuses : (bytes : List ℕ) (error : AgreeError) (refusal : Refusal) → HasFault bytes error → refusal ≡ agree_refusal error → Refuses agree_task bytes refusal
+refuses bytes error refusal fault is = record { fault = error; meets = fault; is = is }
 
 pub ruleset telling = (common_steps, tells)
 
@@ -87,11 +88,11 @@ unfolding IsStatus
 statuses_of e = statuses e
 
 pub agree_is_task : IsTask agree_task
-agree_is_task = record {
-  replies = λ bytes reply told. subst (λ (s : Status). IsAnswerStatus s) (sym (ap (λ (x : Reply). x.status) told.is)) (answer_statuses told.answer);
-  refusals = λ bytes refusal cause. subst (λ (x : Refusal). IsRefusalStatus x.status ⊎ (x ≡ memory_refusal)) (sym cause.is) (statuses_of cause.error);
-  apart = λ bytes reply refusal told cause. no_question bytes told.has.question cause.error told.has.asked cause.fault;
-  one = λ bytes a b p q. p.is ∙ ap agree_refusal (one_fault bytes p.error q.error p.fault q.fault) ∙ sym q.is;
-  reply_within = λ bytes reply told long. let within : length bytes ≤ most_bytes = told.has.asked.within in omega arith;
-  refusal_within = λ bytes refusal cause long. let within : length bytes ≤ most_bytes = cause.fault.within in omega arith;
-}
+agree_is_task =
+    at_once_task most_of_tables Answer HasAnswer agree_reply AgreeError HasFault agree_refusal
+    answer_statuses
+    statuses_of
+    (λ bytes answer error has fault. no_question bytes has.question error has.asked fault)
+    (λ bytes a b x y. ap agree_refusal (one_fault bytes a b x y))
+    (λ bytes answer has. has.asked.within)
+    (λ bytes error fault. fault.within)

@@ -7,6 +7,9 @@ pub mod Faults
 pub mod Improving
 pub mod Keeping
 pub mod Pieces
+pub mod ReadOff
 pub mod Rechecking
+pub mod Sending
 pub mod SynthWords
 pub mod Synthesising
+pub mod TaskKinds

@@ -3,7 +3,6 @@ use Rattle.std.specs.Prelude.{◌≡◌, ℕ, ◌<◌, ◌≤◌, ◌⊎◌, Lis
 use Rattle.std.proofs.Common.{arith, sym, ◌∙◌, ap, subst, refl, inl, inr}
 use Rattle.std.proofs.Math.Logic.{⊎_elim}
 use Rattle.std.proofs.lemmas.Grind.{common_steps}
-use Rattle.port_io.specs.Bytes.{Appends, AppendsFront}
 use Rattle.text_core.specs.Lines.{lines_of}
 use Rattle.tt_core.specs.Words.{specification}
 use Rattle.op_basis.specs.Basis.{members}
@@ -15,16 +14,19 @@ use Rattle.cert_theory.specs.Meaning.{Means}
 use Rattle.cert_theory.specs.Spelling.{IsBundle, HasVerdict}
 use Rattle.cert_theory.specs.Judging.{bundle_of}
 use Rattle.cert_theory.specs.Gives.{Gives, Fails}
-use Rattle.chain_app.specs.declared.replies.Stop.{Stop}
+use Rattle.command_line.specs.declared.command.Command.TheVariants.{Recheck}
+use Rattle.command_line.specs.CommandLine.{IsLine as AsksFor}
 use Rattle.chain_app.specs.declared.status.Status.{Status}
-use Rattle.chain_app.specs.declared.status.Status.TheVariants.{Done, Usage, Malformed, Limit, Undecided, ReadFault, WriteFault, Memory, Refused}
-use Rattle.chain_app.specs.declared.jobs.Job.TheVariants.{Recheck}
-use Rattle.chain_app.specs.Jobs.{IsLine}
-use Rattle.chain_app.specs.RecheckReport.{most_of_bundle, verdict_text, bundle_status, named_bundle, recheck_reply, recheck_refusal, IsVerdict, HasBundleFault, RecheckTells, RecheckRefuses, recheck_task}
-use Rattle.chain_app.specs.Told.{Reply, Refusal}
-use Rattle.chain_app.specs.Run.{Run, Reports, ReportsFront}
-use Rattle.chain_app.specs.Promise.{IsAnswerStatus, IsRefusalStatus, memory_refusal, IsTask, IsAnswerable, NothingFailed, GetsReply, IsCutShort, IsReportCut, GetsRefusal, IsTooLong, Promise}
-use Rattle.chain_app.specs.RecheckPromise.{IsRechecked, SaysVerdict, TellsVerdict, HasBundleCause, IsVerdictCut, RecheckPromise}
+use Rattle.chain_app.specs.declared.status.Status.TheVariants.{Done, Limit, Undecided, Refused}
+use Rattle.chain_app.specs.RecheckReport.{most_of_bundle, bundle_status, named_bundle, recheck_reply, recheck_refusal, GivesVerdict, HasBundleFault, recheck_task}
+use Rattle.chain_app.specs.Told.{Reply, Refusal, memory_refusal}
+use Rattle.chain_app.specs.Task.{IsRefusalStatus, IsTask, Tells, Refuses}
+use Rattle.chain_app.specs.Run.{Run}
+use Rattle.chain_app.specs.Promise.{OutputHeld, Stands, Replies, Faults, OfInput, IsTooLong, CommandPromise}
+use Rattle.chain_app.specs.RecheckPromise.{RecheckPromise}
+use Rattle.chain_app.proofs.TaskKinds.{at_once_task}
+use Rattle.chain_app.proofs.Keeping.{of_input}
+use Rattle.chain_app.proofs.ReadOff.{gets}
 
 -- ---- what the judge of bundles answers
 
@@ -57,19 +59,21 @@ told_fault (bundles.WrongVerdict line) read fails other = fails
 told_fault bundles.Memory read fails other = absurd (other refl)
 
 -- So an answer is a verdict that the bytes have, or a fault.
-pub tells : (bytes : List ℕ) (v : Verdict) (reply : Reply) → length bytes ≤ most_of_bundle → HasVerdict bytes v → ((b : Bundle) → IsBundle bytes b → Gives (λ (x : Verdict). x) (Ok v) (Ok b.verdict)) → Gives (λ (x : Verdict). x) (Ok v) (bundle_of (lines_of bytes)) → ((b : Bundle) → IsBundle bytes b → Means (specification b.heading.spec) (members b.heading.basis) v) → reply ≡ recheck_reply v → RecheckTells bytes reply
+pub tells : (bytes : List ℕ) (v : Verdict) (reply : Reply) → length bytes ≤ most_of_bundle → HasVerdict bytes v → ((b : Bundle) → IsBundle bytes b → Gives (λ (x : Verdict). x) (Ok v) (Ok b.verdict)) → Gives (λ (x : Verdict). x) (Ok v) (bundle_of (lines_of bytes)) → ((b : Bundle) → IsBundle bytes b → Means (specification b.heading.spec) (members b.heading.basis) v) → reply ≡ recheck_reply v → Tells recheck_task bytes reply
 tells bytes v reply within has accepted exact means is = record {
-  within = within;
-  verdict = v;
-  read = exact;
-  is_verdict = record { has = has; only = λ b is_bundle. same_verdict v b.verdict (accepted b is_bundle); means = means };
+  answer = v;
+  has = record {
+    within = within;
+    read = exact;
+    is_verdict = record { has = has; only = λ b is_bundle. same_verdict v b.verdict (accepted b is_bundle); means = means };
+  };
   is = is;
 }
 
-pub refuses : (bytes : List ℕ) (e : BundleError) (refusal : Refusal) → length bytes ≤ most_of_bundle → (e ≡ bundles.Memory → ⊥) → ((b : Bundle) → IsBundle bytes b → Gives {X = Verdict} (λ (x : Verdict). x) (Err e) (Ok b.verdict)) → Gives {X = Verdict} (λ (x : Verdict). x) (Err e) (bundle_of (lines_of bytes)) → refusal ≡ recheck_refusal e → RecheckRefuses bytes refusal
+pub refuses : (bytes : List ℕ) (e : BundleError) (refusal : Refusal) → length bytes ≤ most_of_bundle → (e ≡ bundles.Memory → ⊥) → ((b : Bundle) → IsBundle bytes b → Gives {X = Verdict} (λ (x : Verdict). x) (Err e) (Ok b.verdict)) → Gives {X = Verdict} (λ (x : Verdict). x) (Err e) (bundle_of (lines_of bytes)) → refusal ≡ recheck_refusal e → Refuses recheck_task bytes refusal
 refuses bytes e refusal within other accepted exact is = record {
-  error = e;
-  fault = record { within = within; none = λ b is_bundle. other (no_fault e b.verdict (accepted b is_bundle)); fault = told_fault e (bundle_of (lines_of bytes)) exact other };
+  fault = e;
+  meets = record { within = within; none = λ b is_bundle. other (no_fault e b.verdict (accepted b is_bundle)); fault = told_fault e (bundle_of (lines_of bytes)) exact other };
   is = is;
 }
 
@@ -104,56 +108,25 @@ one_error : (read : Result Verdict BundleError) (d e : BundleError) → read ≡
 one_error read d e is other = cc
 
 pub recheck_is_task : IsTask recheck_task
-recheck_is_task = record {
-  replies = λ bytes reply told. subst (λ (s : Status). IsAnswerStatus s) (sym (ap (λ (x : Reply). x.status) told.is)) (inl refl);
-  refusals = λ bytes refusal cause. subst (λ (x : Refusal). IsRefusalStatus x.status ⊎ (x ≡ memory_refusal)) (sym cause.is) (statuses_of cause.error);
-  apart = λ bytes reply refusal told cause. not_both (bundle_of (lines_of bytes)) told.verdict cause.error told.read cause.fault.fault;
-  one = λ bytes a b p q. p.is ∙ ap recheck_refusal (one_error (bundle_of (lines_of bytes)) p.error q.error p.fault.fault q.fault.fault) ∙ sym q.is;
-  reply_within = λ bytes reply told long. let within : length bytes ≤ most_of_bundle = told.within in omega arith;
-  refusal_within = λ bytes refusal cause long. let within : length bytes ≤ most_of_bundle = cause.fault.within in omega arith;
-}
+recheck_is_task =
+    at_once_task most_of_bundle Verdict GivesVerdict recheck_reply BundleError HasBundleFault recheck_refusal
+    (λ verdict. inl refl)
+    statuses_of
+    (λ bytes verdict error gives fault. not_both (bundle_of (lines_of bytes)) verdict error gives.read fault.fault)
+    (λ bytes a b x y. ap recheck_refusal (one_error (bundle_of (lines_of bytes)) a b x.fault y.fault))
+    (λ bytes verdict gives. gives.within)
+    (λ bytes error fault. fault.within)
 
--- ---- what it promises
+-- ---- what it promises besides
 
-stands : (r : Run) (input : List ℕ) → r.source.bytes ≡ Some input → GetsReply recheck_task r → TellsVerdict r input
-stands r input told got =
-    let same : got.reply ≡ recheck_reply got.tells.verdict = got.tells.is in
-    record {
-      verdict = got.tells.verdict;
-      is_verdict = subst (λ (bytes : List ℕ). IsVerdict bytes got.tells.verdict) (got.whole input told) got.tells.is_verdict;
-      says = record {
-        on_out = subst (λ (x : Reply). Appends r.out.bytes r.out'.bytes x.text) same got.on_out;
-        on_note = subst (λ (x : Reply). Reports r.note r.note' x.report) same got.on_note;
-      };
-    }
+accepted : (r : Run) (input : List ℕ) (b : Bundle) → CommandPromise recheck_task r → r.source.bytes ≡ Some input → length input ≤ most_of_bundle → IsBundle input b → OutputHeld r → Stands r (recheck_reply b.verdict)
+accepted r input b promise told within is held =
+    let got : Replies recheck_task r input = gets recheck_task r input (λ verdict. refl) promise told (record { within = λ long. omega arith; sound = λ error fault. fault.none b is }) held in
+    let gives : GivesVerdict input got.answer = got.has in
+    subst (λ (v : Verdict). Stands r (recheck_reply v)) (sym (gives.is_verdict.only b is)) got.stands
 
--- the status of a verdict is 0
-done : (r : Run) → GetsReply recheck_task r → r.status ≡ Done
-done r got = got.status_is ∙ ap (λ (x : Reply). x.status) got.tells.is
-
--- there is no report that could be cut
-no_report : {A : Type 0} (r : Run) → IsReportCut recheck_task r → A
-no_report r cut = absurd (subst (λ (x : Reply). ReportsFront r.note cut.between x.report) cut.tells.is cut.front)
-
-accepted : (r : Run) (input : List ℕ) (b : Bundle) → Promise recheck_task r → r.source.bytes ≡ Some input → length input ≤ most_of_bundle → IsBundle input b → NothingFailed r → (r.status ≡ Done) × SaysVerdict r b.verdict
-accepted r input b promise told within is quiet =
-    ⊎_elim
-    (λ (got : GetsReply recheck_task r).
-    let t : TellsVerdict r input = stands r input told got in
-    (done r got, subst (λ (v : Verdict). SaysVerdict r v) (sym (t.is_verdict.only b is)) t.says))
-    (λ (cut : IsReportCut recheck_task r). no_report r cut)
-    (promise.answered input told (record { within = λ long. omega arith; sound = λ refusal cause. cause.fault.none b is }) quiet)
-
--- a status that isn't that of a verdict
-apart_from_done : {A : Type 0} (r : Run) (s : Status) → GetsReply recheck_task r → r.status ≡ s → (Done ≡ s → ⊥) → A
-apart_from_done r s got is other = absurd (other (sym (done r got) ∙ is))
-
-cause_told : (r : Run) (input : List ℕ) (status : Status) → r.source.bytes ≡ Some input → GetsRefusal recheck_task r → r.status ≡ status → HasBundleCause input status
-cause_told r input status told none is = record {
-  error = none.cause.error;
-  fault = subst (λ (bytes : List ℕ). HasBundleFault bytes none.cause.error) (none.whole input told) none.cause.fault;
-  tells = sym (ap (λ (x : Refusal). x.status) none.cause.is) ∙ sym none.told.status_is ∙ is;
-}
+accepted_only : (r : Run) (input : List ℕ) → CommandPromise recheck_task r → r.source.bytes ≡ Some input → r.status ≡ Done → Replies recheck_task r input
+accepted_only r input promise told is = of_input recheck_task r (Replies recheck_task r) input (promise.done_only is) told
 
 -- no fault has the status of a limit
 no_limit : (e : BundleError) → bundle_status e ≡ Limit → ⊥
@@ -168,61 +141,36 @@ no_limit (bundles.NotNew line) is = cc
 no_limit (bundles.WrongVerdict line) is = cc
 no_limit bundles.Memory is = cc
 
-limit_only : (r : Run) (input : List ℕ) → Promise recheck_task r → r.source.bytes ≡ Some input → r.status ≡ Limit → most_of_bundle < length input
+limit_only : (r : Run) (input : List ℕ) → CommandPromise recheck_task r → r.source.bytes ≡ Some input → r.status ≡ Limit → most_of_bundle < length input
 limit_only r input promise told is =
     ⊎_elim
-    (λ (none : GetsRefusal recheck_task r). absurd (no_limit none.cause.error (sym (ap (λ (x : Refusal). x.status) none.cause.is) ∙ sym none.told.status_is ∙ is)))
+    (λ (none : OfInput recheck_task r (Faults recheck_task r)). absurd (no_limit none.holds.fault (sym none.holds.told.status_is ∙ is)))
     (λ (long : IsTooLong recheck_task r). long.beyond input told)
     (promise.limit_only is)
 
-refused_only : (r : Run) (input : List ℕ) → Promise recheck_task r → r.source.bytes ≡ Some input → r.status ≡ Refused → HasBundleCause input Refused
+-- a verdict has the status 0
+not_done : {A : Type 0} (r : Run) (s : Status) (verdict : Verdict) → Stands r (recheck_reply verdict) → r.status ≡ s → (Done ≡ s → ⊥) → A
+not_done r s verdict stands is other = absurd (other (sym stands.status_is ∙ is))
+
+refused_only : (r : Run) (input : List ℕ) → CommandPromise recheck_task r → r.source.bytes ≡ Some input → r.status ≡ Refused → Faults recheck_task r input
 refused_only r input promise told is =
     ⊎_elim
-    (λ (got : GetsReply recheck_task r). apart_from_done r Refused got is (λ e. cc))
-    (λ (none : GetsRefusal recheck_task r). cause_told r input Refused told none is)
-    (promise.refused_only is)
+    (λ (got : Replies recheck_task r input). not_done r Refused got.answer got.stands is (λ e. cc))
+    (λ (none : Faults recheck_task r input). none)
+    (of_input recheck_task r (λ bytes. Replies recheck_task r bytes ⊎ Faults recheck_task r bytes) input (promise.refused_only is) told)
 
-cut_by : (r : Run) → IsCutShort recheck_task r ⊎ IsReportCut recheck_task r → IsCutShort recheck_task r
-cut_by r either = ⊎_elim (λ (cut : IsCutShort recheck_task r). cut) (λ (cut : IsReportCut recheck_task r). no_report r cut) either
+decided : (r : Run) → CommandPromise recheck_task r → r.status ≡ Undecided → ⊥
+decided r promise is =
+    let got = promise.undecided_only is in
+    not_done r Undecided got.holds.answer got.holds.stands is (λ e. cc)
 
-cut_told : (r : Run) (input : List ℕ) → r.source.bytes ≡ Some input → IsCutShort recheck_task r → IsVerdictCut r input
-cut_told r input told cut = record {
-  verdict = cut.tells.verdict;
-  is_verdict = subst (λ (bytes : List ℕ). IsVerdict bytes cut.tells.verdict) (cut.whole input told) cut.tells.is_verdict;
-  front = subst (λ (x : Reply). AppendsFront r.out.bytes r.out'.bytes x.text) cut.tells.is cut.on_out;
-}
-
-undecided : (r : Run) → Promise recheck_task r → r.status ≡ Undecided → ⊥
-undecided r promise is = apart_from_done r Undecided (promise.undecided_only is) is (λ e. cc)
-
--- the output of the other statuses
-unchanged : (r : Run) (s : Status) → Promise recheck_task r → (r.status ≡ Usage → ⊥) → r.status ≡ s → (s ≡ Done → ⊥) → (s ≡ WriteFault → ⊥) → r.out' ≡ r.out
-unchanged r Done promise usage is done' cut = absurd (done' refl)
-unchanged r Usage promise usage is done' cut = absurd (usage is)
-unchanged r Malformed promise usage is done' cut = (promise.malformed_only is).told.on_out
-unchanged r Limit promise usage is done' cut = ⊎_elim (λ (none : GetsRefusal recheck_task r). none.told.on_out) (λ (long : IsTooLong recheck_task r). long.told.on_out) (promise.limit_only is)
-unchanged r Undecided promise usage is done' cut = absurd (undecided r promise is)
-unchanged r ReadFault promise usage is done' cut = (promise.read_fault_only is).1.on_out
-unchanged r WriteFault promise usage is done' cut = absurd (cut refl)
-unchanged r Memory promise usage is done' cut = (promise.memory_only is).on_out
-unchanged r Refused promise usage is done' cut =
-    ⊎_elim
-    (λ (got : GetsReply recheck_task r). apart_from_done r Refused got is (λ e. cc))
-    (λ (none : GetsRefusal recheck_task r). none.told.on_out)
-    (promise.refused_only is)
-
--- All that `recheck` promises.
-pub recheck_promised : (r : Run) → (IsLine r.words Recheck → Promise recheck_task r) → (IsLine r.words Recheck → r.status ≡ Usage → ⊥) → RecheckPromise r
-recheck_promised r keeps used = record {
-  accepted = λ input b asked within is quiet. accepted r input b (keeps asked.asked) asked.told within is quiet;
-  accepted_only = λ input asked is. stands r input asked.told ((keeps asked.asked).done_only is);
-  refused = λ input e asked fault heard. (keeps asked.asked).refused input (recheck_refusal e) asked.told (record { error = e; fault = fault; is = refl }) heard;
-  too_long = λ input asked long heard. ((keeps asked.asked).too_long input asked.told long heard).told;
-  malformed_only = λ input asked is. cause_told r input Malformed asked.told ((keeps asked.asked).malformed_only is) is;
-  refused_only = λ input asked is. refused_only r input (keeps asked.asked) asked.told is;
-  limit_only = λ input asked is. limit_only r input (keeps asked.asked) asked.told is;
-  write_fault = λ line is. let cut = cut_by r ((keeps line).write_fault_only is) in (cut.rose, cut.on_note);
-  cut_short = λ input asked is. cut_told r input asked.told (cut_by r ((keeps asked.asked).write_fault_only is));
-  unchanged = λ line done' cut. unchanged r r.status (keeps line) (used line) refl done' cut;
-  decided = λ line is. undecided r (keeps line) is;
+-- All that `recheck` promises besides.
+pub recheck_promised : (r : Run) → (AsksFor r.words Recheck → CommandPromise recheck_task r) → RecheckPromise r
+recheck_promised r keeps = record {
+  accepted = λ input b run within is held. accepted r input b (keeps run.asks) run.told within is held;
+  accepted_only = λ input run is. accepted_only r input (keeps run.asks) run.told is;
+  refused = λ input error run fault held. (keeps run.asks).refused input error run.told fault held;
+  refused_only = λ input run is. refused_only r input (keeps run.asks) run.told is;
+  limit_only = λ input run is. limit_only r input (keeps run.asks) run.told is;
+  decided = λ asks is. decided r (keeps asks) is;
 }

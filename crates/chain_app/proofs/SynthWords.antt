@@ -15,8 +15,7 @@ use Rattle.command_line.specs.declared.command.Command.{Command}
 use Rattle.command_line.specs.declared.command.Command.TheVariants.{Agree, Recheck, Synth, Improve}
 use Rattle.command_line.specs.declared.command.Given.{Given}
 use Rattle.command_line.specs.declared.command.WordsError.{WordsError}
-use Rattle.chain_app.specs.declared.jobs.Job.{Job}
-use Rattle.chain_app.specs.Jobs.{job_of, IsJob}
+use Rattle.chain_app.specs.Tasks.{IsInRange}
 use Rattle.command_line.specs.CommandLine.{is_word, method_in, basis_in, max_in, some_conflicts, conflicts_in, nothing_given, with_basis, with_method, with_max, with_conflicts, with_option, options_in, or_else, synth_with, synth_in, alone, is_cap, is_format, improve_in, command_of, or_usage, read}
 
 -- options in their ranges
@@ -141,14 +140,14 @@ options_given (name ∷ value ∷ words) g more is e =
 -- ---- the command
 
 -- a command that is `synth` with values in their ranges, or another
-abbrev IsInRange : Command → Type 0
-IsInRange Agree = Unit {0}
-IsInRange Recheck = Unit {0}
-IsInRange (Synth basis method max conflicts) = (0 < basis) × (max ≤ 16) × (1 ≤ conflicts) × (conflicts ≤ 10000000)
-IsInRange Improve = Unit {0}
+abbrev IsRanged : Command → Type 0
+IsRanged Agree = Unit {0}
+IsRanged Recheck = Unit {0}
+IsRanged (Synth basis method max conflicts) = (0 < basis) × (max ≤ 16) × (1 ≤ conflicts) × (conflicts ≤ 10000000)
+IsRanged Improve = Unit {0}
 
-in_range : (a b : Command) → a ≡ b → IsInRange a → IsInRange b
-in_range a b e is = subst (λ (c : Command). IsInRange c) e is
+in_range : (a b : Command) → a ≡ b → IsRanged a → IsRanged b
+in_range a b e is = subst (λ (c : Command). IsRanged c) e is
 
 default_basis : (o : Option ℕ) → ((b : ℕ) → o ≡ Some b → 0 < b) → 0 < or_else o all_set
 default_basis None is = omega arith
@@ -162,32 +161,32 @@ default_from : (o : Option ℕ) (d : ℕ) → 1 ≤ d → ((n : ℕ) → o ≡ S
 default_from None d low is = low
 default_from (Some n) d low is = is n refl
 
-then_range : (o : Option Given) (c : Command) → ((g : Given) → o ≡ Some g → IsGiven g) → option_map synth_with o ≡ Some c → IsInRange c
+then_range : (o : Option Given) (c : Command) → ((g : Given) → o ≡ Some g → IsGiven g) → option_map synth_with o ≡ Some c → IsRanged c
 then_range None c given e = absurd cc
 then_range (Some g) c given e =
     let is : IsGiven g = given g refl in
     in_range (synth_with g) c (some_is (synth_with g) c e) (default_basis g.basis is.basis, default_to g.max 16 16 (omega arith) is.max, default_from g.conflicts 100000 (omega arith) is.conflicts_from, default_to g.conflicts 100000 10000000 (omega arith) is.conflicts_to)
 
-synth_range : (words : List (List ℕ)) (c : Command) → synth_in words ≡ Some c → IsInRange c
+synth_range : (words : List (List ℕ)) (c : Command) → synth_in words ≡ Some c → IsRanged c
 unfolding synth_in
 synth_range words c e = then_range (options_in nothing_given words) c (λ g is. options_given words nothing_given g nothing is) e
 
-alone_range : (d : Command) (words : List (List ℕ)) (c : Command) → IsInRange d → alone d words ≡ Some c → IsInRange c
+alone_range : (d : Command) (words : List (List ℕ)) (c : Command) → IsRanged d → alone d words ≡ Some c → IsRanged c
 unfolding alone
 alone_range d [] c is e = in_range d c (some_is d c e) is
 alone_range d (w ∷ ws) c is e = absurd cc
 
-way : (t : Bool) (p q : Option Command) (c : Command) → (p ≡ Some c → IsInRange c) → (q ≡ Some c → IsInRange c) → cond t p q ≡ Some c → IsInRange c
+way : (t : Bool) (p q : Option Command) (c : Command) → (p ≡ Some c → IsRanged c) → (q ≡ Some c → IsRanged c) → cond t p q ≡ Some c → IsRanged c
 way true p q c first second e = first e
 way false p q c first second e = second e
 
-improved : (c : Command) → Some Improve ≡ Some c → IsInRange c
+improved : (c : Command) → Some Improve ≡ Some c → IsRanged c
 improved c e = in_range Improve c (some_is Improve c e) tt
 
-no_command : (c : Command) → None ≡ Some c → IsInRange c
+no_command : (c : Command) → None ≡ Some c → IsRanged c
 no_command c e = absurd cc
 
-improve_range : (words : List (List ℕ)) (c : Command) → improve_in words ≡ Some c → IsInRange c
+improve_range : (words : List (List ℕ)) (c : Command) → improve_in words ≡ Some c → IsRanged c
 unfolding improve_in
 improve_range [] c e = no_command c e
 improve_range (a ∷ []) c e = no_command c e
@@ -196,7 +195,7 @@ improve_range (a ∷ b ∷ d ∷ []) c e = no_command c e
 improve_range (a ∷ b ∷ d ∷ f ∷ []) c e = way ((is_cap a b && is_format d f) || (is_format a b && is_cap d f)) (Some Improve) None c (improved c) (no_command c) e
 improve_range (a ∷ b ∷ d ∷ f ∷ h ∷ ws) c e = no_command c e
 
-pub command_range : (words : List (List ℕ)) (c : Command) → command_of words ≡ Some c → IsInRange c
+pub command_range : (words : List (List ℕ)) (c : Command) → command_of words ≡ Some c → IsRanged c
 unfolding command_of
 command_range [] c e = no_command c e
 command_range (name ∷ words) c e =
@@ -213,14 +212,14 @@ usage_none (Some d) c e = let same : c ≡ d = cc in ap (λ (x : Command). Some 
 -- What was read is in its ranges.
 pub synth_asked : (words : List (List ℕ)) (basis : ℕ) (method : Method) (max conflicts : ℕ) → Ok (Synth basis method max conflicts) ≡ read words → IsAsked (record { basis = basis; method = method; max = max; conflicts = conflicts })
 synth_asked words basis method max conflicts e =
-    let is : IsInRange (Synth basis method max conflicts) = command_range words (Synth basis method max conflicts) (usage_none (command_of words) (Synth basis method max conflicts) e) in
+    let is : IsRanged (Synth basis method max conflicts) = command_range words (Synth basis method max conflicts) (usage_none (command_of words) (Synth basis method max conflicts) e) in
     record { basis_from = is.0; max_to = is.1; conflicts_from = is.2; conflicts_to = is.3 }
 
--- So is what is to be done.
-pub job_asked : (words : List (List ℕ)) (command : Command) (job : Job) → Ok command ≡ read words → job ≡ job_of command → IsJob job
-job_asked words Agree job e is = subst (λ (j : Job). IsJob j) (sym is) tt
-job_asked words Recheck job e is = subst (λ (j : Job). IsJob j) (sym is) tt
-job_asked words (Synth basis method max conflicts) job e is = subst (λ (j : Job). IsJob j) (sym is) (synth_asked words basis method max conflicts e)
-job_asked words Improve job e is = subst (λ (j : Job). IsJob j) (sym is) tt
+-- So is every command that was read.
+pub command_asked : (words : List (List ℕ)) (command : Command) → Ok command ≡ read words → IsInRange command
+command_asked words Agree e = tt
+command_asked words Recheck e = tt
+command_asked words (Synth basis method max conflicts) e = synth_asked words basis method max conflicts e
+command_asked words Improve e = tt
 
-pub ruleset asking = (common_steps, job_asked)
+pub ruleset asking = (common_steps, command_asked)

@@ -62,23 +62,23 @@ question_in ls = do
 abbrev pub question_of : List ℕ → Result Question AgreeError
 question_of bytes = question_in (lines_of bytes)
 
--- the most bytes of a question
-abbrev pub most_bytes : ℕ
-most_bytes = 65536
+-- the most bytes of tables, and of a question
+abbrev pub most_of_tables : ℕ
+most_of_tables = 65536
 
 -- The bytes ask this question.
 pub record IsQuestion (bytes : List ℕ) (question : Question) : Type 0 where
-  pub within : length bytes ≤ most_bytes
+  pub within : length bytes ≤ most_of_tables
   pub read : question_of bytes ≡ Ok question
 
 -- The bytes have this fault, though they are no more than are read.
 pub record HasFault (bytes : List ℕ) (error : AgreeError) : Type 0 where
-  pub within : length bytes ≤ most_bytes
+  pub within : length bytes ≤ most_of_tables
   pub fault : question_of bytes ≡ Err error
 
 -- the cause of an error; want of memory has none
 abbrev pub IsCause : List ℕ → AgreeError → Type 0
-IsCause bytes TooLong = most_bytes < length bytes
+IsCause bytes TooLong = most_of_tables < length bytes
 IsCause bytes Memory = Unit {0}
 IsCause bytes error = HasFault bytes error
 

@@ -10,9 +10,9 @@ use Rattle.chain_app.specs.declared.agree.AgreeError.{AgreeError}
 use Rattle.chain_app.specs.declared.agree.AgreeError.TheVariants as errors
 use Rattle.chain_app.specs.declared.status.Status.{Status}
 use Rattle.chain_app.specs.declared.status.Status.TheVariants.{Done, Malformed, Limit, Memory, Refused}
-use Rattle.chain_app.specs.Agree.{HasAnswer, HasFault, most_bytes}
+use Rattle.chain_app.specs.Agree.{HasAnswer, HasFault, most_of_tables}
 use Rattle.chain_app.specs.Told.{Reply, Named, Refusal, plain, at, too_long, memory}
-use Rattle.chain_app.specs.Run.{Task}
+use Rattle.chain_app.specs.Task.{Task, at_once}
 
 -- An answer that the chain differs is a refusal.
 abbrev pub answer_status : Answer → Status
@@ -81,16 +81,5 @@ agree_reply answer = record { text = answer_text answer; report = None; status =
 abbrev pub agree_refusal : AgreeError → Refusal
 agree_refusal error = record { status = error_status error; named = named_error error }
 
-pub record AgreeTells (bytes : List ℕ) (reply : Reply) : Type 0 where
-  pub answer : Answer
-  pub has : HasAnswer bytes answer
-  pub is : reply ≡ agree_reply answer
-
--- want of memory is no fault of the bytes
-pub record AgreeRefuses (bytes : List ℕ) (refusal : Refusal) : Type 0 where
-  pub error : AgreeError
-  pub fault : HasFault bytes error
-  pub is : refusal ≡ agree_refusal error
-
 abbrev pub agree_task : Task
-agree_task = record { most = most_bytes; Tells = AgreeTells; Refuses = AgreeRefuses }
+agree_task = at_once most_of_tables Answer HasAnswer agree_reply AgreeError HasFault agree_refusal

@@ -1,8 +1,8 @@
 -- How a run ends, whatever its words are.
 use Rattle.std.specs.Prelude.{◌≡◌}
+use Rattle.command_line.specs.declared.command.Command.{Command}
+use Rattle.command_line.specs.CommandLine.{IsLine as AsksFor}
 use Rattle.chain_app.specs.declared.status.Status.TheVariants.{Usage}
-use Rattle.chain_app.specs.declared.jobs.Job.{Job}
-use Rattle.chain_app.specs.Jobs.{IsLine}
 use Rattle.chain_app.specs.Outside.{Writes}
 use Rattle.chain_app.specs.Told.{error_line, usage}
 use Rattle.chain_app.specs.Run.{Outcome, Run, IsRun}
@@ -11,11 +11,11 @@ use Rattle.chain_app.specs.Tasks.{task_of}
 -- the words asked for nothing, or for a command, whose run had an outcome
 pub data Ending : Type 0 where
   Idle : Ending
-  Ran : (job : Job) (outcome : Outcome) → Ending
+  Ran : (command : Command) (outcome : Outcome) → Ending
 
 -- Words that are no command line are told so, and nothing else is touched.
 pub record IsIdle (r : Run) : Type 0 where
-  pub no_line : (job : Job) → IsLine r.words job → ⊥
+  pub no_line : (command : Command) → AsksFor r.words command → ⊥
   pub status_is : r.status ≡ Usage
   pub on_source : r.source' ≡ r.source
   pub on_out : r.out' ≡ r.out
@@ -23,4 +23,4 @@ pub record IsIdle (r : Run) : Type 0 where
 
 abbrev pub IsEnding : Run → Ending → Type 0
 IsEnding r Idle = IsIdle r
-IsEnding r (Ran job outcome) = IsLine r.words job × IsRun (task_of job) r outcome
+IsEnding r (Ran command outcome) = AsksFor r.words command × IsRun (task_of command) r outcome

@@ -6,7 +6,7 @@ use Rattle.improve_core.specs.Improving.{IsReported, HasNetFault}
 use Rattle.chain_app.specs.declared.status.Status.{Status}
 use Rattle.chain_app.specs.declared.status.Status.TheVariants.{Done, Malformed, Limit, Memory}
 use Rattle.chain_app.specs.Told.{Reply, Named, Refusal, at, memory}
-use Rattle.chain_app.specs.Run.{Task}
+use Rattle.chain_app.specs.Task.{Task, at_once}
 
 -- the most bytes of a netlist that are read
 abbrev pub most_of_netlist : ℕ
@@ -49,31 +49,28 @@ named_net (nets.TooManyRows line) = at (codes "TooManyRows") line
 named_net (nets.NameTooLong line) = at (codes "NameTooLong") line
 named_net nets.Memory = memory
 
--- a netlist and its report as a reply, and a fault as a refusal
-abbrev pub improve_reply : List ℕ → List ℕ → Reply
-improve_reply text report = record { text = text; report = Some report; status = Done }
+-- a netlist's text, and the report on it
+pub record Improvement : Type 0 where
+  pub text : List ℕ
+  pub report : List ℕ
+
+-- that as a reply, and a fault as a refusal
+abbrev pub improve_reply : Improvement → Reply
+improve_reply i = record { text = i.text; report = Some i.report; status = Done }
 
 abbrev pub improve_refusal : NetError → Refusal
 improve_refusal error = record { status = net_status error; named = named_net error }
 
 -- The bytes are a netlist, the text is one that does the same with no more gates, and the report says
 -- what both cost.
-pub record ImproveTells (bytes : List ℕ) (reply : Reply) : Type 0 where
+pub record IsImprovement (bytes : List ℕ) (i : Improvement) : Type 0 where
   pub within : length bytes ≤ most_of_netlist
-  pub text : List ℕ
-  pub report : List ℕ
-  pub reported : IsReported bytes text report
-  pub is : reply ≡ improve_reply text report
+  pub reported : IsReported bytes i.text i.report
 
 -- The bytes are no netlist, and this is their first fault.
 pub record HasNetlistFault (bytes : List ℕ) (error : NetError) : Type 0 where
   pub within : length bytes ≤ most_of_netlist
   pub fault : HasNetFault bytes error
 
-pub record ImproveRefuses (bytes : List ℕ) (refusal : Refusal) : Type 0 where
-  pub error : NetError
-  pub fault : HasNetlistFault bytes error
-  pub is : refusal ≡ improve_refusal error
-
 abbrev pub improve_task : Task
-improve_task = record { most = most_of_netlist; Tells = ImproveTells; Refuses = ImproveRefuses }
+improve_task = at_once most_of_netlist Improvement IsImprovement improve_reply NetError HasNetlistFault improve_refusal

@@ -1,126 +1,147 @@
 -- What every command promises, for every source and every sink.
-use Rattle.std.specs.Prelude.{◌≡◌, ◌≢◌, ℕ, ◌<◌, ◌⊎◌, List, length, Option, Some}
-use Rattle.port_io.specs.Bytes.{Appends, AppendsFront}
+use Rattle.std.specs.Prelude.{◌≡◌, ◌≢◌, ℕ, ◌⊎◌, List, [], true, false, Option, Some, None}
+use Rattle.port_io.specs.Bytes.{Appends}
 use Rattle.port_io.specs.Faults.{Rose}
-use Rattle.chain_app.specs.declared.status.Status.{Status}
 use Rattle.chain_app.specs.declared.status.Status.TheVariants.{Done, Malformed, Limit, Undecided, ReadFault, WriteFault, Memory, Refused}
 use Rattle.chain_app.specs.Outside.{Side, Writes}
-use Rattle.chain_app.specs.Told.{Reply, Refusal, error_line, read_fault, write_fault, too_long, memory}
-use Rattle.chain_app.specs.Run.{Task, Run, IsWhole, Reports, ReportsFront}
+use Rattle.chain_app.specs.Told.{Reply, Refusal, error_line, write_fault, memory, too_long_refusal, read_fault_refusal, memory_refusal}
+use Rattle.chain_app.specs.Task.{Task, IsBeyond, IsAnswerable}
+use Rattle.chain_app.specs.Run.{Run, IsInput, HasInput, Reports, ReportsFront}
 
--- ---- what a task keeps to
+-- ---- what didn't fail
 
-abbrev pub IsAnswerStatus : Status → Type 0
-IsAnswerStatus s = (s ≡ Done) ⊎ ((s ≡ Undecided) ⊎ (s ≡ Refused))
-
-abbrev pub IsRefusalStatus : Status → Type 0
-IsRefusalStatus s = (s ≡ Malformed) ⊎ ((s ≡ Limit) ⊎ (s ≡ Refused))
-
--- want of memory, as a refusal
-abbrev pub memory_refusal : Refusal
-memory_refusal = record { status = Memory; named = memory }
-
--- Bytes have answers or one refusal, and none beyond the limit.
-pub record IsTask (task : Task) : Type 0 where
-  pub replies : (bytes : List ℕ) (reply : Reply) → task.Tells bytes reply → IsAnswerStatus reply.status
-  pub refusals : (bytes : List ℕ) (refusal : Refusal) → task.Refuses bytes refusal → IsRefusalStatus refusal.status ⊎ (refusal ≡ memory_refusal)
-  pub apart : (bytes : List ℕ) (reply : Reply) (refusal : Refusal) → task.Tells bytes reply → task.Refuses bytes refusal → ⊥
-  pub one : (bytes : List ℕ) (a b : Refusal) → task.Refuses bytes a → task.Refuses bytes b → a ≡ b
-  pub reply_within : (bytes : List ℕ) (reply : Reply) → task.Tells bytes reply → task.most < length bytes → ⊥
-  pub refusal_within : (bytes : List ℕ) (refusal : Refusal) → task.Refuses bytes refusal → task.most < length bytes → ⊥
-
--- bytes within the limit that have no refusal
-pub record IsAnswerable (task : Task) (input : List ℕ) : Type 0 where
-  pub within : task.most < length input → ⊥
-  pub sound : (refusal : Refusal) → task.Refuses input refusal → ⊥
-
--- ---- what a caller sees
+-- No call on it failed.
+abbrev pub IsSteady : Side → Side → Type 0
+IsSteady old new = Rose old.faults new.faults → ⊥
 
 -- No call on the source failed, and memory sufficed.
-pub record IsHeard (r : Run) : Type 0 where
-  pub source_steady : Rose r.source.faults r.source'.faults → ⊥
+pub record InputHeld (r : Run) : Type 0 where
+  pub source : IsSteady r.source r.source'
   pub memory : r.status ≢ Memory
 
 -- Nor did a call on the output.
-pub record NothingFailed (r : Run) : Type 0 where
-  pub heard : IsHeard r
-  pub out_steady : Rose r.out.faults r.out'.faults → ⊥
+pub record OutputHeld (r : Run) : Type 0 where
+  pub input : InputHeld r
+  pub out : IsSteady r.out r.out'
 
--- No call failed at all, and memory sufficed.
+-- Nor did one on the notes: no call failed at all.
 pub record AllSteady (r : Run) : Type 0 where
-  pub out_held : NothingFailed r
-  pub note_steady : Rose r.note.faults r.note'.faults → ⊥
+  pub output : OutputHeld r
+  pub note : IsSteady r.note r.note'
 
--- What was read has an answer, and the reply stands outside, whole and alone.
-pub record GetsReply (task : Task) (r : Run) : Type 0 where
-  pub bytes : List ℕ
-  pub whole : IsWhole r.source.bytes bytes
-  pub reply : Reply
-  pub tells : task.Tells bytes reply
+-- ---- what a caller sees
+
+-- The reply stands outside, whole and alone.
+pub record Stands (r : Run) (reply : Reply) : Type 0 where
   pub status_is : r.status ≡ reply.status
   pub on_out : Appends r.out.bytes r.out'.bytes reply.text
   pub on_note : Reports r.note r.note' reply.report
 
--- What was read has an answer, of which a front stands on the output. The fault is told.
-pub record IsCutShort (task : Task) (r : Run) : Type 0 where
-  pub bytes : List ℕ
-  pub whole : IsWhole r.source.bytes bytes
-  pub reply : Reply
-  pub tells : task.Tells bytes reply
-  pub status_is : r.status ≡ WriteFault
-  pub on_out : AppendsFront r.out.bytes r.out'.bytes reply.text
-  pub rose : Rose r.out.faults r.out'.faults
-  pub on_note : Writes r.note r.note' (error_line write_fault)
-
--- What was read has an answer, which stands on the output, whole. Of its report a front stands on the
--- notes, and then the fault is told.
-pub record IsReportCut (task : Task) (r : Run) : Type 0 where
-  pub bytes : List ℕ
-  pub whole : IsWhole r.source.bytes bytes
-  pub reply : Reply
-  pub tells : task.Tells bytes reply
-  pub status_is : r.status ≡ WriteFault
-  pub on_out : Appends r.out.bytes r.out'.bytes reply.text
-  pub rose : Rose r.note.faults r.note'.faults
-  pub between : Side
-  pub front : ReportsFront r.note between reply.report
-  pub line : Writes between r.note' (error_line write_fault)
-
--- There is no answer: the output is as before, and the error is told.
-pub record IsRefused (r : Run) (refusal : Refusal) : Type 0 where
+-- The output is as before, and the error is told.
+pub record TellsError (r : Run) (refusal : Refusal) : Type 0 where
   pub status_is : r.status ≡ refusal.status
   pub on_out : r.out' ≡ r.out
   pub on_note : Writes r.note r.note' (error_line refusal.named)
 
--- What was read has a refusal, which is told.
-pub record GetsRefusal (task : Task) (r : Run) : Type 0 where
-  pub bytes : List ℕ
-  pub whole : IsWhole r.source.bytes bytes
-  pub refusal : Refusal
-  pub cause : task.Refuses bytes refusal
-  pub told : IsRefused r refusal
+-- The input has an answer, and it stands outside.
+pub record Replies (task : Task) (r : Run) (input : List ℕ) : Type 0 where
+  pub answer : task.Answer
+  pub has : task.Has input answer
+  pub stands : Stands r (task.reply answer)
 
--- There were more bytes than are read, which is told.
+-- It has a fault, which is told.
+pub record Faults (task : Task) (r : Run) (input : List ℕ) : Type 0 where
+  pub fault : task.Fault
+  pub meets : task.Meets input fault
+  pub told : TellsError r (task.refusal fault)
+
+-- The output failed in the text of an answer: what may be left of it stands there, and the fault is told.
+pub record ReplyCut (task : Task) (r : Run) (input : List ℕ) : Type 0 where
+  pub front : List ℕ
+  pub leaves : task.Leaves input front
+  pub on_out : Appends r.out.bytes r.out'.bytes front
+  pub rose : Rose r.out.faults r.out'.faults
+  pub on_note : Writes r.note r.note' (error_line write_fault)
+
+-- The notes failed in the report of an answer: its text stands on the output, whole, a front of its report
+-- on the notes, and then the fault is told.
+pub record ReportCut (task : Task) (r : Run) (input : List ℕ) : Type 0 where
+  pub answer : task.Answer
+  pub has : task.Has input answer
+  pub status_is : r.status ≡ WriteFault
+  pub on_out : Appends r.out.bytes r.out'.bytes (task.reply answer).text
+  pub rose : Rose r.note.faults r.note'.faults
+  pub between : Side
+  pub front : ReportsFront r.note between (task.reply answer).report
+  pub line : Writes between r.note' (error_line write_fault)
+
+-- Memory ran out while the text of an answer went out in pieces: what may be left of it stands there, and
+-- the want is told.
+pub record ReplyStarved (task : Task) (r : Run) (input : List ℕ) : Type 0 where
+  pub in_pieces : task.in_pieces ≡ true
+  pub front : List ℕ
+  pub leaves : task.Leaves input front
+  pub on_out : Appends r.out.bytes r.out'.bytes front
+  pub on_note : Writes r.note r.note' (error_line memory)
+
+-- This holds of what the command judged: of all that the source told, where it tells its bytes.
+pub record OfInput (task : Task) (r : Run) (Holds : List ℕ → Type 0) : Type 0 where
+  pub bytes : List ℕ
+  pub are : IsInput task.reads r.source.bytes bytes
+  pub holds : Holds bytes
+
+-- The input was longer than the command reads, which is told.
 pub record IsTooLong (task : Task) (r : Run) : Type 0 where
-  pub beyond : (input : List ℕ) → r.source.bytes ≡ Some input → task.most < length input
-  pub told : IsRefused r (record { status = Limit; named = too_long })
+  pub beyond : (input : List ℕ) → r.source.bytes ≡ Some input → IsBeyond task.reads input
+  pub told : TellsError r too_long_refusal
 
 -- ---- the promise
 
-pub record Promise (task : Task) (r : Run) : Type 0 where
-  -- Where no call failed at all, bytes that have no refusal get an answer.
-  pub complete : (input : List ℕ) → r.source.bytes ≡ Some input → IsAnswerable task input → AllSteady r → GetsReply task r
-  -- Where the notes may have failed, they get an answer, or the notes failed in its report.
-  pub answered : (input : List ℕ) → r.source.bytes ≡ Some input → IsAnswerable task input → NothingFailed r → GetsReply task r ⊎ IsReportCut task r
-  -- Bytes that have a refusal get it, and so do bytes beyond the limit.
-  pub refused : (input : List ℕ) (refusal : Refusal) → r.source.bytes ≡ Some input → task.Refuses input refusal → IsHeard r → IsRefused r refusal
-  pub too_long : (input : List ℕ) → r.source.bytes ≡ Some input → task.most < length input → IsHeard r → IsTooLong task r
+pub record CommandPromise (task : Task) (r : Run) : Type 0 where
+  -- Where no call failed at all, input without a fault gets an answer.
+  pub complete : (input : List ℕ)
+      → HasInput task.reads r.source.bytes input
+      → IsAnswerable task input
+      → AllSteady r
+      → Replies task r input
+  -- Where the notes may have failed, it does, or they failed in its report.
+  pub answered : (input : List ℕ)
+      → HasInput task.reads r.source.bytes input
+      → IsAnswerable task input
+      → OutputHeld r
+      → Replies task r input ⊎ ReportCut task r input
+  -- Input with a fault is told it, and so is input that is too long.
+  pub refused : (input : List ℕ) (fault : task.Fault)
+      → HasInput task.reads r.source.bytes input
+      → task.Meets input fault
+      → InputHeld r
+      → TellsError r (task.refusal fault)
+  pub too_long : (input : List ℕ)
+      → HasInput task.reads r.source.bytes input
+      → IsBeyond task.reads input
+      → InputHeld r
+      → TellsError r too_long_refusal
   -- Each status comes for its cause alone.
-  pub done_only : r.status ≡ Done → GetsReply task r
-  pub undecided_only : r.status ≡ Undecided → GetsReply task r
-  pub refused_only : r.status ≡ Refused → GetsReply task r ⊎ GetsRefusal task r
-  pub malformed_only : r.status ≡ Malformed → GetsRefusal task r
-  pub limit_only : r.status ≡ Limit → GetsRefusal task r ⊎ IsTooLong task r
-  pub write_fault_only : r.status ≡ WriteFault → IsCutShort task r ⊎ IsReportCut task r
-  pub read_fault_only : r.status ≡ ReadFault → Rose r.source.faults r.source'.faults × IsRefused r (record { status = ReadFault; named = read_fault })
-  pub memory_only : r.status ≡ Memory → IsRefused r memory_refusal
+  pub done_only : r.status ≡ Done → OfInput task r (Replies task r)
+  pub undecided_only : r.status ≡ Undecided → OfInput task r (Replies task r)
+  pub refused_only : r.status ≡ Refused → OfInput task r (λ input. Replies task r input ⊎ Faults task r input)
+  pub malformed_only : r.status ≡ Malformed → OfInput task r (Faults task r)
+  pub limit_only : r.status ≡ Limit → OfInput task r (Faults task r) ⊎ IsTooLong task r
+  pub read_fault_only : r.status ≡ ReadFault → Rose r.source.faults r.source'.faults × TellsError r read_fault_refusal
+  pub write_fault_only : r.status ≡ WriteFault → OfInput task r (λ input. ReplyCut task r input ⊎ ReportCut task r input)
+  pub memory_only : r.status ≡ Memory → TellsError r memory_refusal ⊎ OfInput task r (ReplyStarved task r)
+  -- Without an answer the output is as before.
+  pub unchanged : r.status ≢ Done
+      → r.status ≢ Undecided
+      → r.status ≢ Refused
+      → r.status ≢ WriteFault
+      → (r.status ≡ Memory → task.in_pieces ≡ false)
+      → r.out' ≡ r.out
+  -- Nothing goes out before the input was read to its end.
+  pub unread : (most : ℕ) (input : List ℕ)
+      → task.reads ≡ Some most
+      → r.source.bytes ≡ Some input
+      → (r.source'.bytes ≡ Some [] → ⊥)
+      → r.out' ≡ r.out
+  -- A command that reads nothing makes no call on its source.
+  pub untouched : task.reads ≡ None → r.source' ≡ r.source

@@ -15,7 +15,7 @@ use Rattle.cert_theory.specs.Judging.{bundle_of}
 use Rattle.chain_app.specs.declared.status.Status.{Status}
 use Rattle.chain_app.specs.declared.status.Status.TheVariants.{Done, Malformed, Memory, Refused}
 use Rattle.chain_app.specs.Told.{Reply, Named, Refusal, at, memory}
-use Rattle.chain_app.specs.Run.{Task}
+use Rattle.chain_app.specs.Task.{Task, at_once}
 
 -- the most bytes of a bundle that are read
 abbrev pub most_of_bundle : ℕ
@@ -86,17 +86,11 @@ pub record HasBundleFault (bytes : List ℕ) (error : BundleError) : Type 0 wher
   pub none : (b : Bundle) → IsBundle bytes b → ⊥
   pub fault : bundle_of (lines_of bytes) ≡ Err error
 
-pub record RecheckTells (bytes : List ℕ) (reply : Reply) : Type 0 where
+-- They are judged to have this verdict, no more of them than are read.
+pub record GivesVerdict (bytes : List ℕ) (verdict : Verdict) : Type 0 where
   pub within : length bytes ≤ most_of_bundle
-  pub verdict : Verdict
   pub read : bundle_of (lines_of bytes) ≡ Ok verdict
   pub is_verdict : IsVerdict bytes verdict
-  pub is : reply ≡ recheck_reply verdict
-
-pub record RecheckRefuses (bytes : List ℕ) (refusal : Refusal) : Type 0 where
-  pub error : BundleError
-  pub fault : HasBundleFault bytes error
-  pub is : refusal ≡ recheck_refusal error
 
 abbrev pub recheck_task : Task
-recheck_task = record { most = most_of_bundle; Tells = RecheckTells; Refuses = RecheckRefuses }
+recheck_task = at_once most_of_bundle Verdict GivesVerdict recheck_reply BundleError HasBundleFault recheck_refusal

@@ -1,40 +1,37 @@
 -- What a run comes to, for every command.
-use Rattle.std.specs.Prelude.{◌≡◌, ℕ, ◌<◌, ◌≤◌, List, [], length, Option, Some, None, Vec, String}
+use Rattle.std.specs.Prelude.{◌≡◌, ℕ, ◌≤◌, Bool, true, List, [], Option, Some, None, Vec, String}
 use Rattle.std.specs.Global.{Global}
 use Rattle.port_io.specs.Bytes.{Appends, AppendsFront}
 use Rattle.port_io.specs.Faults.{Rose}
+use Rattle.command_line.specs.CommandLine.{spelled}
 use Rattle.chain_app.specs.declared.status.Status.{Status}
 use Rattle.chain_app.specs.declared.status.Status.TheVariants as statuses
-use Rattle.command_line.specs.CommandLine.{spelled}
 use Rattle.chain_app.specs.Outside.{Side, side, Writes}
 use Rattle.chain_app.specs.Told.{Reply, Named, Refusal, error_line, read_fault, write_fault, too_long, memory}
+use Rattle.chain_app.specs.Task.{Task, Tells, Refuses, IsBeyond}
 
--- What a command is: the most bytes that it reads, what it may tell of bytes that have an answer, and
--- of bytes that have none.
-pub record Task : Type 1 where
-  pub most : ℕ
-  pub Tells : List ℕ → Reply → Type 0
-  pub Refuses : List ℕ → Refusal → Type 0
-
--- How the run of a command ends: the source failed; it had more bytes than are read; want of memory;
--- the reply stands outside, whole; the output failed; the notes failed in the report; there is no answer.
+-- How the run of a command ends: the source failed; it had more bytes than are read; want of memory
+-- before anything went out; the reply stands outside, whole; the output failed in its text; want of memory
+-- while the text went out in pieces; the notes failed in its report; there is no answer.
 pub data Outcome : Type 0 where
   ReadFault : Outcome
   TooLong : Outcome
   Memory : Outcome
   Answered : (reply : Reply) → Outcome
-  CutShort : (reply : Reply) → Outcome
+  CutShort : Outcome
+  Starved : Outcome
   ReportCut : (reply : Reply) → Outcome
-  Refused : (refusal : Refusal) → Outcome
+  NoAnswer : (refusal : Refusal) → Outcome
 
 abbrev pub status_of : Outcome → Status
 status_of ReadFault = statuses.ReadFault
 status_of TooLong = statuses.Limit
 status_of Memory = statuses.Memory
 status_of (Answered reply) = reply.status
-status_of (CutShort reply) = statuses.WriteFault
+status_of CutShort = statuses.WriteFault
+status_of Starved = statuses.Memory
 status_of (ReportCut reply) = statuses.WriteFault
-status_of (Refused refusal) = refusal.status
+status_of (NoAnswer refusal) = refusal.status
 
 -- what the error line names, nothing where the reply stands
 abbrev pub line_of : Outcome → Option Named
@@ -42,51 +39,78 @@ line_of ReadFault = Some read_fault
 line_of TooLong = Some too_long
 line_of Memory = Some memory
 line_of (Answered reply) = None
-line_of (CutShort reply) = Some write_fault
+line_of CutShort = Some write_fault
+line_of Starved = Some memory
 line_of (ReportCut reply) = Some write_fault
-line_of (Refused refusal) = Some refusal.named
+line_of (NoAnswer refusal) = Some refusal.named
 
 -- where the source told its bytes, these are all of them
 abbrev pub IsWhole : Option (List ℕ) → List ℕ → Type 0
 IsWhole left bytes = (input : List ℕ) → left ≡ Some input → bytes ≡ input
 
-abbrev pub IsBeyond : ℕ → Option (List ℕ) → Type 0
-IsBeyond most left = (input : List ℕ) → left ≡ Some input → most < length input
+-- the bytes that a command judged: what was read, and nothing where it reads nothing
+abbrev pub IsInput : Option ℕ → Option (List ℕ) → List ℕ → Type 0
+IsInput None left bytes = bytes ≡ []
+IsInput (Some most) left bytes = IsWhole left bytes
 
--- The outcome is that of the bytes which were read.
+-- The input is known to be this: the source told it, or the command reads nothing.
+abbrev pub HasInput : Option ℕ → Option (List ℕ) → List ℕ → Type 0
+HasInput None left input = input ≡ []
+HasInput (Some most) left input = left ≡ Some input
+
+-- what stands on the output where the text was cut
+pub record IsLeft (task : Task) (bytes : List ℕ) (old new : Side) : Type 0 where
+  pub front : List ℕ
+  pub leaves : task.Leaves bytes front
+  pub on_out : Appends old.bytes new.bytes front
+
+-- The outcome is that of the bytes which were judged.
 abbrev pub IsOutcome : Task → Option (List ℕ) → List ℕ → Outcome → Type 0
 IsOutcome task left bytes ReadFault = Unit {0}
-IsOutcome task left bytes TooLong = IsBeyond task.most left
+IsOutcome task left bytes TooLong = (input : List ℕ) → left ≡ Some input → IsBeyond task.reads input
 IsOutcome task left bytes Memory = Unit {0}
-IsOutcome task left bytes (Answered reply) = IsWhole left bytes × task.Tells bytes reply
-IsOutcome task left bytes (CutShort reply) = IsWhole left bytes × task.Tells bytes reply
-IsOutcome task left bytes (ReportCut reply) = IsWhole left bytes × task.Tells bytes reply
-IsOutcome task left bytes (Refused refusal) = IsWhole left bytes × task.Refuses bytes refusal
+IsOutcome task left bytes (Answered reply) = IsInput task.reads left bytes × Tells task bytes reply
+IsOutcome task left bytes CutShort = IsInput task.reads left bytes
+IsOutcome task left bytes Starved = IsInput task.reads left bytes × (task.in_pieces ≡ true)
+IsOutcome task left bytes (ReportCut reply) = IsInput task.reads left bytes × Tells task bytes reply
+IsOutcome task left bytes (NoAnswer refusal) = IsInput task.reads left bytes × Refuses task bytes refusal
 
 -- what was told to be left was read to its end
 abbrev pub IsReadToEnd : Side → Side → Type 0
 IsReadToEnd old new = (input : List ℕ) → old.bytes ≡ Some input → new.bytes ≡ Some []
 
 -- Bytes that are judged were read to their end.
-abbrev pub SourceAfter : Side → Side → Outcome → Type 0
-SourceAfter old new ReadFault = Rose old.faults new.faults
-SourceAfter old new TooLong = Unit {0}
-SourceAfter old new Memory = Unit {0}
-SourceAfter old new (Answered reply) = IsReadToEnd old new
-SourceAfter old new (CutShort reply) = IsReadToEnd old new
-SourceAfter old new (ReportCut reply) = IsReadToEnd old new
-SourceAfter old new (Refused refusal) = IsReadToEnd old new
+abbrev pub SourceRead : Side → Side → Outcome → Type 0
+SourceRead old new ReadFault = Rose old.faults new.faults
+SourceRead old new TooLong = Unit {0}
+SourceRead old new Memory = Unit {0}
+SourceRead old new (Answered reply) = IsReadToEnd old new
+SourceRead old new CutShort = IsReadToEnd old new
+SourceRead old new Starved = IsReadToEnd old new
+SourceRead old new (ReportCut reply) = IsReadToEnd old new
+SourceRead old new (NoAnswer refusal) = IsReadToEnd old new
 
--- The reply's text stands on the output whole, or a front of it where the output failed. With every
--- other outcome the output is as before.
-abbrev pub OutAfter : Side → Side → Outcome → Type 0
-OutAfter old new ReadFault = new ≡ old
-OutAfter old new TooLong = new ≡ old
-OutAfter old new Memory = new ≡ old
-OutAfter old new (Answered reply) = Appends old.bytes new.bytes reply.text
-OutAfter old new (CutShort reply) = AppendsFront old.bytes new.bytes reply.text × Rose old.faults new.faults
-OutAfter old new (ReportCut reply) = Appends old.bytes new.bytes reply.text
-OutAfter old new (Refused refusal) = new ≡ old
+-- A source that isn't read can't fail or be too long.
+abbrev pub SourceLeft : Side → Side → Outcome → Type 0
+SourceLeft old new ReadFault = ⊥
+SourceLeft old new TooLong = ⊥
+SourceLeft old new outcome = new ≡ old
+
+abbrev pub SourceAfter : Option ℕ → Side → Side → Outcome → Type 0
+SourceAfter None old new outcome = SourceLeft old new outcome
+SourceAfter (Some most) old new outcome = SourceRead old new outcome
+
+-- The reply's text stands on the output whole. What may be left of it stands there where the output failed,
+-- or memory ran out. With every other outcome the output is as before.
+abbrev pub OutAfter : Task → List ℕ → Side → Side → Outcome → Type 0
+OutAfter task bytes old new ReadFault = new ≡ old
+OutAfter task bytes old new TooLong = new ≡ old
+OutAfter task bytes old new Memory = new ≡ old
+OutAfter task bytes old new (Answered reply) = Appends old.bytes new.bytes reply.text
+OutAfter task bytes old new CutShort = IsLeft task bytes old new × Rose old.faults new.faults
+OutAfter task bytes old new Starved = IsLeft task bytes old new
+OutAfter task bytes old new (ReportCut reply) = Appends old.bytes new.bytes reply.text
+OutAfter task bytes old new (NoAnswer refusal) = new ≡ old
 
 -- A report went to the notes whole, or a front of it. Without one they are as before.
 abbrev pub Reports : Side → Side → Option (List ℕ) → Type 0
@@ -98,23 +122,9 @@ ReportsFront old new None = ⊥
 ReportsFront old new (Some text) = AppendsFront old.bytes new.bytes text × Rose old.faults new.faults
 
 abbrev pub ReportAfter : Side → Side → Outcome → Type 0
-ReportAfter old new ReadFault = new ≡ old
-ReportAfter old new TooLong = new ≡ old
-ReportAfter old new Memory = new ≡ old
 ReportAfter old new (Answered reply) = Reports old new reply.report
-ReportAfter old new (CutShort reply) = new ≡ old
 ReportAfter old new (ReportCut reply) = ReportsFront old new reply.report
-ReportAfter old new (Refused refusal) = new ≡ old
-
--- Sending a reply ends with it, whole or cut.
-abbrev pub IsSent : Reply → Outcome → Type 0
-IsSent reply ReadFault = ⊥
-IsSent reply TooLong = ⊥
-IsSent reply Memory = ⊥
-IsSent reply (Answered sent) = sent ≡ reply
-IsSent reply (CutShort sent) = sent ≡ reply
-IsSent reply (ReportCut sent) = sent ≡ reply
-IsSent reply (Refused refusal) = ⊥
+ReportAfter old new outcome = new ≡ old
 
 -- the error line behind it, where there is one
 abbrev pub LineAfter : Side → Side → Option Named → Type 0
@@ -129,6 +139,22 @@ pub record NoteAfter (old new : Side) (outcome : Outcome) : Type 0 where
   pub line : LineAfter between new (line_of outcome)
   pub first : old.faults ≤ between.faults
   pub then : between.faults ≤ new.faults
+
+-- ---- sending a reply
+
+-- It ends with the reply, whole or cut.
+abbrev pub IsSent : Reply → Outcome → Type 0
+IsSent reply (Answered sent) = sent ≡ reply
+IsSent reply CutShort = Unit {0}
+IsSent reply (ReportCut sent) = sent ≡ reply
+IsSent reply outcome = ⊥
+
+-- Its text stands on the output, or a front of it where the output failed.
+abbrev pub OutSent : List ℕ → Side → Side → Outcome → Type 0
+OutSent text old new CutShort = AppendsFront old.bytes new.bytes text × Rose old.faults new.faults
+OutSent text old new outcome = Appends old.bytes new.bytes text
+
+-- ---- runs
 
 -- what a caller sees of a run: the words, and each side before and after it
 pub record Run : Type 0 where
@@ -154,6 +180,6 @@ pub record IsRun (task : Task) (r : Run) (outcome : Outcome) : Type 0 where
   pub bytes : List ℕ
   pub judged : IsOutcome task r.source.bytes bytes outcome
   pub status_is : r.status ≡ status_of outcome
-  pub on_source : SourceAfter r.source r.source' outcome
-  pub on_out : OutAfter r.out r.out' outcome
+  pub on_source : SourceAfter task.reads r.source r.source' outcome
+  pub on_out : OutAfter task bytes r.out r.out' outcome
   pub on_note : NoteAfter r.note r.note' outcome

@@ -1,18 +1,24 @@
 -- What `synth` tells.
-use Rattle.std.specs.Prelude.{◌≡◌, ℕ, ◌≤◌, List, length, Option, Some, None, Result, Ok, Err}
+use Rattle.std.specs.Prelude.{◌≡◌, ℕ, ◌≤◌, List, [], length, None, Ok, Err}
 use Rattle.text_core.specs.Lines.{lines_of}
+use Rattle.tt_core.specs.Words.{Words, IsSpec, specification}
+use Rattle.tt_core.specs.Spelling.{SpellsTables}
 use Rattle.tt_core.specs.declared.error.SpecError.{SpecError}
+use Rattle.op_basis.specs.Basis.{members}
 use Rattle.cert_theory.specs.declared.data.Verdict.{Verdict}
 use Rattle.cert_theory.specs.declared.data.Verdict.TheVariants as verdicts
+use Rattle.cert_theory.specs.Meaning.{Means}
+use Rattle.cert_theory.specs.Judging.{bundle_of}
 use Rattle.synth_core.specs.declared.asked.Asked.{Asked}
 use Rattle.synth_core.specs.Certifying.{IsCertificate}
 use Rattle.synth_core.specs.Tables.{tables_alone}
 use Rattle.chain_app.specs.declared.status.Status.{Status}
 use Rattle.chain_app.specs.declared.status.Status.TheVariants.{Done, Undecided}
-use Rattle.chain_app.specs.Agree.{most_bytes}
+use Rattle.chain_app.specs.Agree.{most_of_tables}
 use Rattle.chain_app.specs.AgreeReport.{spec_status, named_spec}
+use Rattle.chain_app.specs.RecheckReport.{most_of_bundle, GivesVerdict}
 use Rattle.chain_app.specs.Told.{Reply, Refusal}
-use Rattle.chain_app.specs.Run.{Task}
+use Rattle.chain_app.specs.Task.{Task, at_once}
 
 -- Where the fewest steps are known, or no chain is within the limit, that is an answer; a budget that
 -- was spent before leaves it undecided.
@@ -22,30 +28,40 @@ verdict_status (verdicts.NoChain x) = Done
 verdict_status (verdicts.Bounded low r) = Undecided
 verdict_status (verdicts.Open low) = Undecided
 
+-- a text, and the verdict that stands at its end
+pub record Certified : Type 0 where
+  pub text : List ℕ
+  pub verdict : Verdict
+
 -- a certificate as a reply, and a fault of the tables as a refusal
-abbrev pub synth_reply : List ℕ → Verdict → Reply
-synth_reply text verdict = record { text = text; report = None; status = verdict_status verdict }
+abbrev pub synth_reply : Certified → Reply
+synth_reply c = record { text = c.text; report = None; status = verdict_status c.verdict }
 
 abbrev pub synth_refusal : SpecError → Refusal
 synth_refusal error = record { status = spec_status error; named = named_spec error }
 
--- The bytes are tables alone, and the text certifies the fewest steps for them.
-pub record SynthTells (asked : Asked) (bytes : List ℕ) (reply : Reply) : Type 0 where
-  pub within : length bytes ≤ most_bytes
-  pub text : List ℕ
-  pub verdict : Verdict
-  pub certificate : IsCertificate bytes asked text verdict
-  pub is : reply ≡ synth_reply text verdict
+-- The bytes are those of tables with nothing behind them, and no more than are read.
+pub record AreTables (bytes : List ℕ) (tables : Words) : Type 0 where
+  pub within : length bytes ≤ most_of_tables
+  pub are : IsSpec tables
+  pub spelled : SpellsTables (specification tables) (lines_of bytes) []
+
+-- The text is that of a valid certificate for the tables in the bytes, and for what is asked. What its
+-- verdict says of chains is true, by whatever method. Who judges the text again has the same verdict; so
+-- has `recheck`, of a text within its limit.
+pub record IsCertified (asked : Asked) (bytes : List ℕ) (c : Certified) : Type 0 where
+  pub within : length bytes ≤ most_of_tables
+  pub certificate : IsCertificate bytes asked c.text c.verdict
+  pub means : (tables : Words)
+      → AreTables bytes tables
+      → Means (specification tables) (members asked.basis) c.verdict
+  pub judged : bundle_of (lines_of c.text) ≡ Ok c.verdict
+  pub rechecked : length c.text ≤ most_of_bundle → GivesVerdict c.text c.verdict
 
 -- The bytes aren't tables alone, and this is their first fault.
 pub record HasTablesFault (bytes : List ℕ) (error : SpecError) : Type 0 where
-  pub within : length bytes ≤ most_bytes
+  pub within : length bytes ≤ most_of_tables
   pub fault : tables_alone (lines_of bytes) ≡ Err error
 
-pub record SynthRefuses (bytes : List ℕ) (refusal : Refusal) : Type 0 where
-  pub error : SpecError
-  pub fault : HasTablesFault bytes error
-  pub is : refusal ≡ synth_refusal error
-
 abbrev pub synth_task : Asked → Task
-synth_task asked = record { most = most_bytes; Tells = SynthTells asked; Refuses = SynthRefuses }
+synth_task asked = at_once most_of_tables Certified (IsCertified asked) synth_reply SpecError HasTablesFault synth_refusal

@@ -1,6 +1,7 @@
 -- What a command tells: a reply or a refusal.
 use Rattle.std.specs.Prelude.{ℕ, List, [], ◌∷◌, ◌++◌, Option, Some, None, codes, decimal}
 use Rattle.chain_app.specs.declared.status.Status.{Status}
+use Rattle.chain_app.specs.declared.status.Status.TheVariants as statuses
 
 -- An answer: its text for the output, a report for the notes where the command has one, and the status.
 pub record Reply : Type 0 where
@@ -59,3 +60,13 @@ too_long = plain (codes "TooLong")
 
 unfoldable pub memory : Named
 memory = plain (codes "Memory")
+
+-- what every command may tell that has no answer: its input is too long, reading failed, want of memory
+abbrev pub too_long_refusal : Refusal
+too_long_refusal = record { status = statuses.Limit; named = too_long }
+
+abbrev pub read_fault_refusal : Refusal
+read_fault_refusal = record { status = statuses.ReadFault; named = read_fault }
+
+abbrev pub memory_refusal : Refusal
+memory_refusal = record { status = statuses.Memory; named = memory }

@@ -11,7 +11,8 @@ use Rattle.chain_app.specs.declared.replies.Stop.TheVariants.{NoMemory, NoAnswer
 use Rattle.chain_app.specs.declared.replies.Ended.{Ended}
 use Rattle.chain_app.specs.declared.replies.Ended.TheVariants as ended
 use Rattle.chain_app.specs.Told as told
-use Rattle.chain_app.specs.Run.{Task, Outcome, ReadFault, TooLong, Memory, Answered, CutShort, ReportCut, Refused}
+use Rattle.chain_app.specs.Task.{Task, Tells, Refuses}
+use Rattle.chain_app.specs.Run.{Outcome, ReadFault, TooLong, Memory, Answered, CutShort, ReportCut, NoAnswer as WithoutAnswer}
 
 abbrev pub word_bytes : Word → List ℕ
 word_bytes Nothing = []
@@ -32,12 +33,12 @@ outcome_of ended.ReadFault = ReadFault
 outcome_of ended.TooLong = TooLong
 outcome_of ended.Memory = Memory
 outcome_of (ended.Answered reply) = Answered (reply_value reply)
-outcome_of (ended.CutShort reply) = CutShort (reply_value reply)
+outcome_of ended.CutShort = CutShort
 outcome_of (ended.ReportCut reply) = ReportCut (reply_value reply)
-outcome_of (ended.Refused refusal) = Refused (refusal_value refusal)
+outcome_of (ended.NoAnswer refusal) = WithoutAnswer (refusal_value refusal)
 
 -- What a command answers of bytes is right; want of memory may come anywhere.
 abbrev pub Judges : Task → List ℕ → Result Reply Stop → Type 0
-Judges task bytes (Ok reply) = task.Tells bytes (reply_value reply)
+Judges task bytes (Ok reply) = Tells task bytes (reply_value reply)
 Judges task bytes (Err NoMemory) = Unit {0}
-Judges task bytes (Err (NoAnswer refusal)) = task.Refuses bytes (refusal_value refusal)
+Judges task bytes (Err (NoAnswer refusal)) = Refuses task bytes (refusal_value refusal)

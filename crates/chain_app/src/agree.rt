@@ -1,6 +1,6 @@
 //! The command `agree`: what it tells of bytes.
 ghost use Rattle.std.specs.Prelude.{◌≡◌, ◌≤◌, IfOk, length};
-ghost use Rattle.chain_app.specs.Agree.{most_bytes};
+ghost use Rattle.chain_app.specs.Agree.{most_of_tables};
 ghost use Rattle.chain_app.specs.AgreeReport.{answer_text, answer_status, error_status, spec_status as spec_status_of, chain_status as chain_status_of, named_spec, named_chain, named_error, agree_reply, agree_refusal, agree_task};
 ghost use Rattle.chain_app.specs.Views.{line_value, reply_value, refusal_value, Judges};
 
@@ -181,7 +181,7 @@ fn reply_of(alloc: Global, answer: Answer) -> Result<Reply, AllocError>
 /// What `agree` tells of bytes.
 #[tactic(auto, using(crate::proofs::Agreeing::telling))]
 pub(crate) fn agree(alloc: Global, bytes: &[u8]) -> Result<Reply, Stop>
-    requires { length bytes.now ≤ most_bytes }
+    requires { length bytes.now ≤ most_of_tables }
     ensures { Judges agree_task bytes.now result }
 {
     match judge(alloc, bytes) {

@@ -85,7 +85,7 @@ fn refusal_of(error: NetError) -> Refusal
 
 /// A netlist that was improved as a reply.
 fn reply_of(improved: Improved) -> Reply
-    ensures { reply_value result ≡ improve_reply improved.text.items improved.report.items }
+    ensures { reply_value result ≡ improve_reply (record { text = improved.text.items; report = improved.report.items }) }
 {
     Reply {
         text: improved.text,

@@ -4,7 +4,7 @@ ghost use Rattle.text_core.specs.Lines.{lines_of};
 ghost use Rattle.tt_core.specs.Words.{specification, IsSpec};
 ghost use Rattle.tt_core.specs.Tables.{tables_of};
 ghost use Rattle.chain_core.specs.Block.{chain_of};
-ghost use Rattle.chain_app.specs.Agree.{Gives, tables_in, chain_in, end_in, chain_behind, question_in, most_bytes, HasAnswer, IsAnswer, IsCause};
+ghost use Rattle.chain_app.specs.Agree.{Gives, tables_in, chain_in, end_in, chain_behind, question_in, most_of_tables, HasAnswer, IsAnswer, IsCause};
 
 use crate::agree::{AgreeError, Answer};
 use chain_core::{Chain, ChainError, first_difference, read_chain};
@@ -114,7 +114,7 @@ fn compare(spec: &Spec, chain: &Chain) -> Answer
 /// The answer to the question that the bytes ask.
 #[tactic(auto, using(crate::proofs::Agreeing::cause_of))]
 pub(crate) fn judge(alloc: Global, bytes: &[u8]) -> Result<Answer, AgreeError>
-    requires { length bytes.now ≤ most_bytes }
+    requires { length bytes.now ≤ most_of_tables }
     ensures answer { IfOk result (HasAnswer bytes.now) }
     ensures refusal { IfErr result (IsCause bytes.now) }
 {

@@ -13,7 +13,6 @@
 
 mod agree;
 mod improve;
-mod jobs;
 mod judging;
 pub mod laws;
 mod recheck;
@@ -24,7 +23,6 @@ mod status;
 mod synth;
 
 pub use agree::{AgreeError, Answer};
-pub use jobs::Job;
 pub use running::run;
 pub use status::Status;
 

@@ -102,11 +102,11 @@ pub(crate) enum Ended {
     /// The reply stands outside, whole.
     Answered(Reply),
     /// The output failed while the reply's text was written.
-    CutShort(Reply),
+    CutShort,
     /// The notes failed while the reply's report was written.
     ReportCut(Reply),
     /// There is no answer.
-    Refused(Refusal),
+    NoAnswer(Refusal),
 }
 
 impl Ended {
@@ -119,8 +119,8 @@ impl Ended {
             Ended::TooLong => Status::Limit,
             Ended::Memory => Status::Memory,
             Ended::Answered(reply) => reply.status,
-            Ended::CutShort(_) | Ended::ReportCut(_) => Status::WriteFault,
-            Ended::Refused(refusal) => refusal.status,
+            Ended::CutShort | Ended::ReportCut(_) => Status::WriteFault,
+            Ended::NoAnswer(refusal) => refusal.status,
         }
     }
 }

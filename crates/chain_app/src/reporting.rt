@@ -4,7 +4,7 @@ ghost use Rattle.port_io.specs.Bytes.{Appends, AppendsFront};
 ghost use Rattle.port_io.specs.Faults.{Rose};
 ghost use Rattle.chain_app.specs.Told.{digits_of as digits_of_number, line_text, error_line};
 ghost use Rattle.chain_app.specs.Outside.{side, Writes, joined, blank_of};
-ghost use Rattle.chain_app.specs.Run.{IsSent, OutAfter, ReportAfter, LineAfter, line_of};
+ghost use Rattle.chain_app.specs.Run.{IsSent, OutSent, ReportAfter, LineAfter, line_of};
 ghost use Rattle.chain_app.specs.Views.{line_value, reply_value, outcome_of};
 
 use crate::replies::{Ended, ErrorLine, Reply};
@@ -14,12 +14,12 @@ use port_io::{Sink, WriteFault, write_all};
 /// Sends a reply out: its text, and then its report where it has one.
 pub(crate) fn send<O: Sink, N: Sink>(out: &mut O, note: &mut N, reply: Reply) -> Ended
     ensures sent { IsSent (reply_value reply) (outcome_of result) }
-    ensures out { OutAfter (side O.written O.faults out.old) (side O.written O.faults out.new) (outcome_of result) }
+    ensures out { OutSent reply.text.items (side O.written O.faults out.old) (side O.written O.faults out.new) (outcome_of result) }
     ensures report { ReportAfter (side N.written N.faults note.old) (side N.written N.faults note.new) (outcome_of result) }
     ensures never_falls { N.faults note.old ≤ N.faults note.new }
 {
     if let Err(WriteFault::WriteFault) = write_all(out, &reply.text) {
-        return Ended::CutShort(reply);
+        return Ended::CutShort;
     }
     let Some(report) = &reply.report else {
         return Ended::Answered(reply);
@@ -120,8 +120,8 @@ pub(crate) fn tell<N: Sink>(note: &mut N, ended: &Ended)
         Ended::TooLong => tell_error(note, &ErrorLine::plain(b"TooLong")),
         Ended::Memory => tell_error(note, &ErrorLine::plain(b"Memory")),
         Ended::Answered(_) => {}
-        Ended::CutShort(_) => tell_error(note, &ErrorLine::plain(b"WriteFault")),
+        Ended::CutShort => tell_error(note, &ErrorLine::plain(b"WriteFault")),
         Ended::ReportCut(_) => tell_error(note, &ErrorLine::plain(b"WriteFault")),
-        Ended::Refused(refusal) => tell_error(note, &refusal.line),
+        Ended::NoAnswer(refusal) => tell_error(note, &refusal.line),
     }
 }

@@ -1,7 +1,7 @@
 //! The command `synth`: what it tells of bytes.
 ghost use Rattle.std.specs.Prelude.{◌≡◌, ◌≤◌, length};
 ghost use Rattle.synth_core.specs.Asking.{IsAsked};
-ghost use Rattle.chain_app.specs.Agree.{most_bytes};
+ghost use Rattle.chain_app.specs.Agree.{most_of_tables};
 ghost use Rattle.chain_app.specs.SynthReport.{verdict_status as verdict_status_of, synth_reply, synth_refusal, synth_task};
 ghost use Rattle.chain_app.specs.Views.{reply_value, refusal_value, Judges};
 
@@ -27,7 +27,7 @@ fn verdict_status(verdict: Verdict) -> Status
 
 /// A certificate as a reply.
 fn reply_of(certificate: Certificate) -> Reply
-    ensures { reply_value result ≡ synth_reply certificate.text.items certificate.verdict }
+    ensures { reply_value result ≡ synth_reply (record { text = certificate.text.items; verdict = certificate.verdict }) }
 {
     Reply {
         text: certificate.text,
@@ -49,7 +49,7 @@ fn refusal_of(error: SpecError) -> Refusal
 /// What `synth` tells of bytes.
 #[tactic(auto, using(crate::proofs::Synthesising::telling))]
 pub(crate) fn synth(alloc: Global, bytes: &[u8], asked: &Asked) -> Result<Reply, Stop>
-    requires length { length bytes.now ≤ most_bytes }
+    requires length { length bytes.now ≤ most_of_tables }
     requires asked { IsAsked asked.now }
     ensures { Judges (synth_task asked.now) bytes.now result }
 {

@@ -1,0 +1,10 @@
+-- Runs of a command on bytes.
+use Rattle.std.specs.Prelude.{◌≡◌, ℕ, List, Some}
+use Rattle.command_line.specs.declared.command.Command.{Command}
+use Rattle.command_line.specs.CommandLine.{IsLine as AsksFor}
+use Rattle.chain_app.specs.Run.{Run}
+
+-- The words asked for this command, and the source told these bytes.
+pub record Runs (command : Command) (r : Run) (input : List ℕ) : Type 0 where
+  pub asks : AsksFor r.words command
+  pub told : r.source.bytes ≡ Some input
