@@ -5,10 +5,12 @@ use Rattle.std.specs.Str.{bytes_eq}
 use Rattle.std.proofs.lemmas.Slice.Eq.{bytes_eq-Decides}
 use Rattle.text_core.specs.Lines.{Line, lines_of}
 use Rattle.tt_core.specs.Words.{Words, IsSpec, specification}
+use Rattle.tt_core.specs.Spelling.{SpellsTables}
 use Rattle.tt_core.specs.Tables as tables
 use Rattle.tt_core.specs.declared.error.SpecError.{SpecError}
 use Rattle.tt_core.specs.SpelledLaws.{tables_spelled}
 use Rattle.tt_core.specs.ReadBack.{tables_again}
+use Rattle.chain_theory.specs.Specification.{Specification}
 use Rattle.chain_theory.specs.Chain.{Chain, IsChain}
 use Rattle.chain_core.specs.Block as block
 use Rattle.chain_core.specs.Steps.{IsSmallChain}
@@ -20,6 +22,7 @@ use Rattle.chain_app.specs.declared.agree.AgreeError.{AgreeError}
 use Rattle.chain_app.specs.declared.agree.AgreeError.TheVariants.{BadEnd}
 use Rattle.chain_app.specs.Agree.{Question, ◌>>=◌, tables_in, chain_in, nothing_in, end_in, chain_behind, question_in, question_of}
 use Rattle.chain_app.specs.Asked.{end_line, AsksQuestion}
+use Rattle.chain_app.proofs.TablesRead.{tables_whole}
 
 -- ---- parts that were read without a fault
 
@@ -120,6 +123,9 @@ chain_back w c ls spec spells =
 
 -- ---- questions
 
+abbrev question_as : Specification → Chain → Question
+question_as tables chain = record { tables = tables; chain = chain }
+
 -- What asks a question is spelled so.
 pub question_spelled : (bytes : List ℕ) (question : Question) → question_of bytes ≡ Ok question → AsksQuestion bytes question
 unfolding question_in
@@ -132,6 +138,9 @@ question_spelled bytes question e =
     let found : Question = record { tables = specification read.0.words; chain = chain.0 } in
     let same : found ≡ question = ok_is found question chain.2 in
     let here : AsksQuestion bytes found = record {
+      words = read.0.words;
+      are = tables_whole ls read.0 (tables_ok (tables.tables_of ls) read.0 read.1);
+      specify = refl;
       behind = read.0.rest;
       tables = spells;
       chain = block.chain;
@@ -143,8 +152,22 @@ question_spelled bytes question e =
     subst (λ (q : Question). AsksQuestion bytes q) same here
 
 -- What is spelled so asks it.
-pub question_back : (bytes : List ℕ) (w : Words) (c : Chain) → IsSpec w → AsksQuestion bytes (record { tables = specification w; chain = c }) → question_of bytes ≡ Ok (record { tables = specification w; chain = c })
+words_back : (bytes : List ℕ) (w : Words) (c : Chain) (behind : List Line) → IsSpec w → SpellsTables (specification w) (lines_of bytes) behind → SpellsChain w.n (length w.on) behind c → question_of bytes ≡ Ok (record { tables = specification w; chain = c })
 unfolding question_in
-question_back bytes w c spec asks =
-    let spells : SpellsChain w.n (length w.on) asks.behind c = record { chain = asks.chain; inputs = asks.inputs; outputs = asks.outputs; steps = asks.steps; lines = asks.lines } in
-    rw (tables_again w (lines_of bytes) asks.behind spec asks.tables, chain_back w c asks.behind spec spells) refl
+words_back bytes w c behind spec tables chain =
+    rw (tables_again w (lines_of bytes) behind spec tables, chain_back w c behind spec chain) refl
+
+pub question_back : (bytes : List ℕ) (question : Question) → AsksQuestion bytes question → question_of bytes ≡ Ok question
+question_back bytes question asks =
+    let w = asks.words in
+    let chain : SpellsChain w.n (length w.on) asks.behind question.chain = record {
+      chain = asks.chain;
+      inputs = asks.inputs ∙ ap (λ (s : Specification). s.inputs) asks.specify;
+      outputs = asks.outputs ∙ ap (λ (s : Specification). s.outputs) asks.specify;
+      steps = asks.steps;
+      lines = asks.lines;
+    } in
+    let spelled : SpellsTables (specification w) (lines_of bytes) asks.behind = subst (λ (s : Specification). SpellsTables s (lines_of bytes) asks.behind) asks.specify asks.tables in
+    let back = words_back bytes w question.chain asks.behind asks.are spelled chain in
+    let same : done (question_as (specification w) question.chain) ≡ done question = λ i. done (question_as (sym asks.specify i) question.chain) in
+    back ∙ same

@@ -12,4 +12,5 @@ pub mod Rechecking
 pub mod Sending
 pub mod SynthWords
 pub mod Synthesising
+pub mod TablesRead
 pub mod TaskKinds

@@ -1,6 +1,7 @@
 -- How a question is spelled, line by line.
 use Rattle.std.specs.Prelude.{◌≡◌, ℕ, ◌≤◌, true, List, [], ◌∷◌, ◌++◌, length, codes}
 use Rattle.text_core.specs.Lines.{Line, lines_of}
+use Rattle.tt_core.specs.Words.{Words, IsSpec, specification}
 use Rattle.tt_core.specs.Spelling.{SpellsTables}
 use Rattle.chain_theory.specs.Chain.{IsChain}
 use Rattle.chain_core.specs.Spelling.{chain_lines}
@@ -11,7 +12,8 @@ abbrev pub end_line : Line
 end_line = record { text = codes "end"; ended = true }
 
 -- The lines of the bytes are the tables, then the chain's block and the line `end`, with nothing
--- behind it. The chain has the inputs and the outputs of the tables, and at most 16 steps. Example:
+-- behind it. The tables are a specification in words; the chain has their inputs and outputs, and at most 16
+-- steps. Example:
 --
 --     inputs 2
 --     0110
@@ -20,6 +22,9 @@ end_line = record { text = codes "end"; ended = true }
 --     out x3
 --     end
 pub record AsksQuestion (bytes : List ℕ) (question : Question) : Type 0 where
+  pub words : Words
+  pub are : IsSpec words
+  pub specify : question.tables ≡ specification words
   pub behind : List Line
   pub tables : SpellsTables question.tables (lines_of bytes) behind
   pub chain : IsChain question.chain

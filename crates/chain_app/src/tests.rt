@@ -1,3 +1,4 @@
+//! Runs of each command on memory, as tables: what comes in, the status, and what stands outside.
 use crate::run;
 use port_io::{MemorySink, MemorySource};
 use std::alloc::{AllocError, Global};
@@ -45,21 +46,21 @@ fn words_of(alloc: Global, line: &str) -> Result<Vec<String>, AllocError> {
     Ok(words)
 }
 
-/// The numbers of the calls that fail: none, or the first.
-fn failing(alloc: Global, first: bool) -> Result<Vec<u64>, AllocError> {
+/// The numbers of the calls that are to fail, a digit each.
+fn failing(alloc: Global, digits: &str) -> Result<Vec<u64>, AllocError> {
     let mut calls = Vec::new(alloc);
-    if first {
-        calls.push(1)?;
+    for digit in digits.as_bytes() {
+        calls.push(u64::from(*digit & 15))?;
     }
     Ok(calls)
 }
 
-/// Runs on memory. The first call on the source, on the output or on the notes may be made to fail.
+/// Runs on memory. Calls on the source, on the output and on the notes may be made to fail.
 fn run_on(
     alloc: Global,
     line: &str,
     input: &[u8],
-    fails: (bool, bool, bool),
+    fails: (&str, &str, &str),
 ) -> Result<Seen, AllocError> {
     let words = words_of(alloc, line)?;
     let bytes = Vec::from_slice(alloc, input)?;
@@ -72,7 +73,7 @@ fn run_on(
 
 /// Runs where nothing fails.
 fn told(alloc: Global, line: &str, input: &[u8]) -> Result<Seen, AllocError> {
-    run_on(alloc, line, input, (false, false, false))
+    run_on(alloc, line, input, ("", "", ""))
 }
 
 #[test]
@@ -191,13 +192,41 @@ fn certificates_are_found_valid_again(rt: HostRuntime) -> Result<(), Fail> {
 #[test]
 fn faults_are_told(rt: HostRuntime) -> Result<(), Fail> {
     for (fails, status, out, note) in [
-        ((true, false, false), 5, "", "error: ReadFault\n"),
-        ((false, true, false), 6, "", "error: WriteFault\n"),
-        ((false, false, true), 0, "agrees\n", ""),
-        ((true, false, true), 5, "", ""),
+        (("1", "", ""), 5, "", "error: ReadFault\n"),
+        (("2", "", ""), 5, "", "error: ReadFault\n"),
+        (("", "1", ""), 6, "", "error: WriteFault\n"),
+        (("", "", "1"), 0, "agrees\n", ""),
+        (("1", "", "1"), 5, "", ""),
     ] {
         let seen = run_on(rt.alloc(), "agree", XOR.as_bytes(), fails)?;
         assert!(rt; seen.is(status, out, note), "{fails:?}");
+    }
+    Ok(())
+}
+
+/// A netlist whose gate q is read by nothing, and that one without it.
+const TWO: &str =
+    ".model x\n.inputs a b\n.outputs p\n.names a b p\n10 1\n.names a b q\n01 1\n.end\n";
+
+const ONE_LEFT: &str = ".model x\n.inputs a b\n.outputs p\n.names a b p\n10 1\n.end\n";
+
+#[test]
+fn reports_are_cut_where_the_notes_fail(rt: HostRuntime) -> Result<(), Fail> {
+    for (calls, status, note) in [
+        ("1", 6, "error: WriteFault\n"),
+        ("12", 6, ""),
+        ("13", 6, "error: "),
+        ("14", 6, "error: WriteFault"),
+        // the report is one call, and no call comes behind it
+        ("2", 0, "gates 2 -> 1\nsettled\n"),
+    ] {
+        let seen = run_on(
+            rt.alloc(),
+            "improve --cap 0",
+            TWO.as_bytes(),
+            ("", "", calls),
+        )?;
+        assert!(rt; seen.is(status, ONE_LEFT, note), "{calls}");
     }
     Ok(())
 }
@@ -225,13 +254,7 @@ fn inputs_have_a_greatest_length(rt: HostRuntime) -> Result<(), Fail> {
 #[test]
 fn improve_tells(rt: HostRuntime) -> Result<(), Fail> {
     for (input, status, out, note) in [
-        // the gate q is read by nothing
-        (
-            ".model x\n.inputs a b\n.outputs p\n.names a b p\n10 1\n.names a b q\n01 1\n.end\n",
-            0,
-            ".model x\n.inputs a b\n.outputs p\n.names a b p\n10 1\n.end\n",
-            "gates 2 -> 1\nsettled\n",
-        ),
+        (TWO, 0, ONE_LEFT, "gates 2 -> 1\nsettled\n"),
         (
             ".model u\n.inputs a\n.outputs y\n.end\n",
             2,

@@ -1,0 +1,5 @@
+use Rattle.chain_app.proofs.Sending.{is_task}
+use Rattle.chain_app.proofs.laws.commands_are_tasks.Goals as goal
+
+pub returns : goal.returns
+returns c = is_task
