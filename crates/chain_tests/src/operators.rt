@@ -1,0 +1,134 @@
+//! Operators by their words, and bases: their tests and their texts.
+use op_basis::{Basis, BasisError, Op, read_basis, read_operator, write_basis, write_operator};
+
+/// Each operator's values at (0,0), (0,1), (1,0), (1,1), written as its word.
+#[test]
+fn operators_have_the_values_of_their_words(rt: HostRuntime) {
+    let words = [
+        (1, [false, false, false, true]),
+        (2, [false, false, true, false]),
+        (6, [false, true, true, false]),
+        (7, [false, true, true, true]),
+        (8, [true, false, false, false]),
+        (9, [true, false, false, true]),
+        (12, [true, true, false, false]),
+        (14, [true, true, true, false]),
+    ];
+    for (word, [at_00, at_01, at_10, at_11]) in words {
+        assert!(rt; word < 16);
+        let op = Op::new(word);
+        assert_eq!(rt; op.get(), word);
+        assert_eq!(rt; op.apply(false, false), at_00, "at {word}");
+        assert_eq!(rt; op.apply(false, true), at_01, "at {word}");
+        assert_eq!(rt; op.apply(true, false), at_10, "at {word}");
+        assert_eq!(rt; op.apply(true, true), at_11, "at {word}");
+    }
+}
+
+#[test]
+fn words_of_operators_are_read_and_written(rt: HostRuntime) {
+    for (word, op) in [
+        (b"0110" as &[u8], Some(Op::new(6))),
+        (b"1110", Some(Op::new(14))),
+        (b"011", None),
+        (b"01101", None),
+        (b"0120", None),
+        (b"", None),
+    ] {
+        assert_eq!(rt; read_operator(word), op);
+    }
+    let mut out = Vec::new(rt.alloc());
+    assert!(rt; write_operator(Op::new(2), &mut out).is_ok());
+    assert!(rt; out.as_slice() == b"0010".as_slice());
+}
+
+/// Whether a basis that is read from the word passes the tests for exchanged operands, negation,
+/// constants, polarity and reapplication as they are given, and is written as the text.
+fn is_basis(rt: &HostRuntime, word: &[u8], tests: [bool; 5], text: &[u8]) -> bool {
+    let Ok(basis) = read_basis(word) else {
+        return false;
+    };
+    if basis.get() == 0 {
+        return false;
+    }
+    let mut out = Vec::new(rt.alloc());
+    let [swap, negation, constants, polarity, reapply] = tests;
+    write_basis(basis, &mut out).is_ok()
+        && out.as_slice() == text
+        && basis.swap_closed() == swap
+        && basis.has_negation() == negation
+        && basis.const_closed() == constants
+        && basis.polarity_closed() == polarity
+        && basis.reapply_closed() == reapply
+}
+
+/// One basis at least for each of the fourteen patterns that the five tests have together; an
+/// independent program found them by going over all 65535 bases.
+#[test]
+fn bases_are_closed(rt: HostRuntime) {
+    for (word, tests, text) in [
+        (b"all" as &[u8], [true; 5], b"all" as &[u8]),
+        (b"u2", [true; 5], b"u2"),
+        (b"bench", [true, true, true, false, false], b"bench"),
+        (b"nand", [true, true, true, false, false], b"nand"),
+        (b"0001", [true, false, true, false, true], b"0001"),
+        (
+            b"1001,0110",
+            [true, false, false, true, false],
+            b"0110,1001",
+        ),
+        (b"0010", [false; 5], b"0010"),
+        (
+            b"0010,0001,0000",
+            [false, false, false, false, true],
+            b"0000,0001,0010",
+        ),
+        (b"0011", [false, false, true, false, true], b"0011"),
+        (
+            b"0010,1000",
+            [false, true, true, false, false],
+            b"0010,1000",
+        ),
+        (b"1010", [false, true, true, false, true], b"1010"),
+        (b"1010,0101", [false, true, true, true, true], b"0101,1010"),
+        (
+            b"0010,0100",
+            [true, false, false, false, false],
+            b"0010,0100",
+        ),
+        (b"0110", [true, false, false, false, true], b"0110"),
+        (b"1000", [true, true, true, false, false], b"1000"),
+        (b"0000,1111", [true, false, true, true, true], b"0000,1111"),
+        (b"1010,1100", [true, true, true, false, true], b"1010,1100"),
+        (b"1110", [true, true, true, false, false], b"nand"),
+    ] {
+        assert!(rt; is_basis(&rt, word, tests, text));
+    }
+}
+
+#[test]
+fn other_words_are_refused(rt: HostRuntime) {
+    for (word, refusal) in [
+        (b"nor" as &[u8], BasisError::UnknownName),
+        (b"All", BasisError::UnknownName),
+        (b"nand,0110", BasisError::UnknownName),
+        (b"x", BasisError::UnknownName),
+        (b"0110,nand", BasisError::BadOperator),
+        (b"011", BasisError::BadOperator),
+        (b"01101", BasisError::BadOperator),
+        (b"0120", BasisError::BadOperator),
+        (b" 0110", BasisError::BadOperator),
+        (b"0110,0110,0120", BasisError::Repeated),
+        (b"0110,0120,0110", BasisError::BadOperator),
+        (b"", BasisError::Empty),
+        (b",", BasisError::Empty),
+        (b"0110,", BasisError::Empty),
+        (b"0110,,0120", BasisError::Empty),
+        (b"0110,1001,0110,", BasisError::Repeated),
+    ] {
+        assert_eq!(rt; read_basis(word).err(), Some(refusal));
+    }
+    assert!(rt;
+        Basis::new(16384).contains(Op::new(14)) && !Basis::new(16384).contains(Op::new(13))
+    );
+}

@@ -1,0 +1,165 @@
+//! Faults in mid-stream and limits, over each kind of source and sink.
+use port_io::{
+    InputPort, MemorySink, MemorySource, OutputPort, ReadError, SteadySource, WriteFault, read_all,
+    write_all,
+};
+use std::alloc::{AllocError, Global};
+use std::io;
+use std::io::{ErrorKind, Read, Write};
+use std::test::Fail;
+
+fn bytes_of(alloc: Global, length: usize) -> Result<Vec<u8>, AllocError> {
+    let mut bytes = Vec::new(alloc);
+    for place in 0..length {
+        bytes.push((place % 251) as u8)?;
+    }
+    Ok(bytes)
+}
+
+#[test]
+fn reads_memory(rt: HostRuntime) -> Result<(), Fail> {
+    let cases = [
+        (0, 0, 0, None, 0),
+        (3, 0, 3, None, 0),
+        (3, 0, 2, Some(ReadError::TooLong), 0),
+        (3, 0, usize::MAX, None, 0),
+        (3, 1, 3, Some(ReadError::ReadFault), 1),
+        (3, 2, 3, Some(ReadError::ReadFault), 1),
+        (3, 3, 3, None, 0),
+        (5000, 0, 5000, None, 0),
+        (5000, 0, 4999, Some(ReadError::TooLong), 0),
+        (5000, 2, 5000, Some(ReadError::ReadFault), 1),
+    ];
+    for (length, failing, limit, error, faults) in cases {
+        let bytes = bytes_of(rt.alloc(), length)?;
+        let mut source = MemorySource::new(bytes.clone()?, [failing].to_vec(rt.alloc())?);
+        let result = read_all(rt.alloc(), &mut source, limit);
+        assert_eq!(rt; source.faults(), faults, "{length} {failing} {limit}");
+        match result {
+            Ok(all) => {
+                assert_eq!(rt; error, None, "{length} {failing} {limit}");
+                assert_eq!(rt; all.as_slice(), bytes.as_slice());
+            }
+            Err(other) => assert_eq!(rt; Some(other), error, "{length} {failing} {limit}"),
+        }
+        let mut steady = SteadySource::new(bytes);
+        let read = read_all(rt.alloc(), &mut steady, limit).is_ok();
+        assert_eq!(rt; read, length <= limit, "{length} {limit}");
+        assert_eq!(rt; steady.faults(), 0);
+    }
+    Ok(())
+}
+
+#[test]
+fn writes_memory(rt: HostRuntime) -> Result<(), Fail> {
+    // The number of the call that fails, and what then stands written after two calls.
+    let cases = [
+        (0, "abcdef", 0),
+        (1, "def", 1),
+        (2, "abc", 1),
+        (3, "abcdef", 0),
+    ];
+    for (failing, text, faults) in cases {
+        let mut sink = MemorySink::new(rt.alloc(), [failing].to_vec(rt.alloc())?);
+        let first = write_all(&mut sink, b"abc");
+        let second = write_all(&mut sink, b"def");
+        assert_eq!(rt; first.is_err(), failing == 1);
+        assert_eq!(rt; second.is_err(), failing == 2);
+        assert_eq!(rt; sink.written(), text.as_bytes(), "call {failing} fails");
+        assert_eq!(rt; sink.faults(), faults, "call {failing} fails");
+    }
+    Ok(())
+}
+
+/// Gives two bytes a call, and fails at one call.
+#[derive(Drop)]
+struct Dripping<'a> {
+    rest: &'a [u8],
+    calls: u8,
+    failing: u8,
+}
+
+impl<'a> Read for Dripping<'a> {
+    fn read(&mut self, buf: &mut [u8]) -> io::Result<usize> {
+        self.calls = self.calls.saturating_add(1);
+        if self.calls == self.failing {
+            return Err(io::Error::from(ErrorKind::Other));
+        }
+        let count = buf.len().min(self.rest.len()).min(2);
+        let (piece, rest) = self.rest.split_at(count);
+        let (front, _) = buf.split_at_mut(count);
+        front.copy_from_slice(piece);
+        self.rest = rest;
+        Ok(count)
+    }
+}
+
+#[test]
+fn reads_port(rt: HostRuntime) -> Result<(), Fail> {
+    let mut port = InputPort::new(Dripping {
+        rest: b"abcde",
+        calls: 0,
+        failing: 3,
+    });
+    let first = read_all(rt.alloc(), &mut port, 5);
+    assert_eq!(rt; first.err(), Some(ReadError::ReadFault));
+    assert_eq!(rt; port.faults(), 1);
+    let second = read_all(rt.alloc(), &mut port, 5)?;
+    assert_eq!(rt; second.as_slice(), b"e".as_slice());
+    assert_eq!(rt; port.faults(), 1);
+    Ok(())
+}
+
+/// Takes some bytes a call, and fails at one call.
+#[derive(Drop)]
+struct Taking {
+    bytes: Vec<u8>,
+    most: usize,
+    calls: u8,
+    failing: u8,
+}
+
+impl Write for Taking {
+    fn write(&mut self, buf: &[u8]) -> io::Result<usize> {
+        self.calls = self.calls.saturating_add(1);
+        if self.calls == self.failing {
+            return Err(io::Error::from(ErrorKind::Other));
+        }
+        let count = buf.len().min(self.most);
+        let (piece, _) = buf.split_at(count);
+        self.bytes.extend_from_slice(piece)?;
+        Ok(count)
+    }
+
+    fn flush(&mut self) -> io::Result<()> {
+        Ok(())
+    }
+}
+
+#[test]
+fn writes_port(rt: HostRuntime) -> Result<(), Fail> {
+    // How many bytes it takes a call, the number of the call that fails, and what has gone out.
+    let cases = [(2, 0, "abcde", 0), (2, 3, "abcd", 1), (0, 0, "", 1)];
+    for (most, failing, text, faults) in cases {
+        let mut writer = Taking {
+            bytes: Vec::new(rt.alloc()),
+            most,
+            calls: 0,
+            failing,
+        };
+        let mut port = OutputPort::new(&mut writer);
+        let result = write_all(&mut port, b"abcde");
+        let count = port.faults();
+        assert_eq!(rt;
+            result.err(),
+            (faults > 0).then_some(WriteFault::WriteFault)
+        );
+        assert_eq!(rt; count, faults);
+        assert_eq!(rt;
+            writer.bytes.as_slice(),
+            text.as_bytes(),
+            "{most} {failing}"
+        );
+    }
+    Ok(())
+}
