@@ -11,7 +11,7 @@ use Rattle.chain_app.specs.declared.agree.AgreeError.TheVariants as errors
 use Rattle.chain_app.specs.declared.status.Status.{Status}
 use Rattle.chain_app.specs.declared.status.Status.TheVariants.{Done, Malformed, Limit, Memory, Refused}
 use Rattle.chain_app.specs.Agree.{HasAnswer, HasFault, most_of_tables}
-use Rattle.chain_app.specs.Told.{Reply, Named, Refusal, plain, at, too_long, memory}
+use Rattle.chain_app.specs.Told.{Reply, Field, Refusal, plain, at, too_long, memory}
 use Rattle.chain_app.specs.Task.{Task, at_once}
 
 -- An answer that the chain differs is a refusal.
@@ -50,7 +50,7 @@ answer_text Agrees = codes "agrees\n"
 answer_text (Differs output row) = codes "differs " ++ decimal output ++ codes " " ++ decimal row ++ codes "\n"
 
 -- the name of an error, and its line where it has one
-unfoldable pub named_spec : SpecError → Named
+unfoldable pub named_spec : SpecError → List Field
 named_spec (tables.BadHeader line) = at (codes "BadHeader") line
 named_spec (tables.BadRow line) = at (codes "BadRow") line
 named_spec (tables.WrongLength line) = at (codes "WrongLength") line
@@ -59,7 +59,7 @@ named_spec tables.TooManyOutputs = plain (codes "TooManyOutputs")
 named_spec tables.NoOutput = plain (codes "NoOutput")
 named_spec tables.Memory = memory
 
-unfoldable pub named_chain : ChainError → Named
+unfoldable pub named_chain : ChainError → List Field
 named_chain (chains.BadStep line) = at (codes "BadStep") line
 named_chain (chains.ForwardPlace line) = at (codes "ForwardPlace") line
 named_chain (chains.BadOut line) = at (codes "BadOut") line
@@ -67,7 +67,7 @@ named_chain (chains.TooManySteps line) = at (codes "TooManySteps") line
 named_chain (chains.BadCount line) = at (codes "BadCount") line
 named_chain chains.Memory = memory
 
-unfoldable pub named_error : AgreeError → Named
+unfoldable pub named_error : AgreeError → List Field
 named_error errors.TooLong = too_long
 named_error (errors.Tables error) = named_spec error
 named_error (errors.Chained error) = named_chain error

@@ -1,11 +1,11 @@
 -- What `improve` tells.
-use Rattle.std.specs.Prelude.{◌≡◌, ℕ, ◌≤◌, List, length, Option, Some, None, codes}
+use Rattle.std.specs.Prelude.{◌≡◌, ℕ, ◌≤◌, List, [], ◌∷◌, length, Some, codes}
 use Rattle.net_core.specs.declared.error.NetError.{NetError}
 use Rattle.net_core.specs.declared.error.NetError.TheVariants as nets
 use Rattle.improve_core.specs.Improving.{IsReported, HasNetFault}
 use Rattle.chain_app.specs.declared.status.Status.{Status}
 use Rattle.chain_app.specs.declared.status.Status.TheVariants.{Done, Malformed, Limit, Memory}
-use Rattle.chain_app.specs.Told.{Reply, Named, Refusal, at, memory}
+use Rattle.chain_app.specs.Told.{Reply, Field, Word, Number, Refusal, at, memory}
 use Rattle.chain_app.specs.Task.{Task, at_once}
 
 -- the most bytes of a netlist that are read
@@ -28,14 +28,14 @@ net_status (nets.NameTooLong line) = Limit
 net_status nets.Memory = Memory
 
 -- a variant with a name of the netlist, and one with a line and a name
-abbrev pub of_name : List ℕ → List ℕ → Named
-of_name variant name = record { name = variant; number = None; word = name; last = None }
+abbrev pub of_name : List ℕ → List ℕ → List Field
+of_name variant name = Word variant ∷ Word name ∷ []
 
-abbrev pub at_name : List ℕ → ℕ → List ℕ → Named
-at_name variant line name = record { name = variant; number = Some line; word = name; last = None }
+abbrev pub at_name : List ℕ → ℕ → List ℕ → List Field
+at_name variant line name = Word variant ∷ Number line ∷ Word name ∷ []
 
 -- the name of a fault, and its line, count or name where it has one
-unfoldable pub named_net : NetError → Named
+unfoldable pub named_net : NetError → List Field
 named_net (nets.Syntax line) = at (codes "Syntax") line
 named_net (nets.NotSupported line name) = at_name (codes "NotSupported") line name
 named_net (nets.MixedCover line) = at (codes "MixedCover") line

@@ -1,6 +1,5 @@
 -- What a run leaves outside.
-use Rattle.std.specs.Prelude.{ℕ, List, [], ◌∷◌, ◌++◌, Option}
-use Rattle.std.specs.Borrow.{Bor}
+use Rattle.std.specs.Prelude.{ℕ, List, Option}
 use Rattle.port_io.specs.Bytes.{Appends, AppendsFront}
 use Rattle.port_io.specs.Faults.{Rose}
 
@@ -17,13 +16,3 @@ side bytes faults x = record { bytes = bytes x; faults = faults x }
 pub record Writes (old new : Side) (text : List ℕ) : Type 0 where
   pub front : AppendsFront old.bytes new.bytes text
   pub whole : (Rose old.faults new.faults → ⊥) → Appends old.bytes new.bytes text
-
--- texts, one after the other
-unfoldable pub joined : List (Bor (List ℕ)) → List ℕ
-joined [] = []
-joined (piece ∷ pieces) = piece.now ++ joined pieces
-
--- the blank in front of a field, nothing in front of no field
-abbrev pub blank_of : List ℕ → List ℕ
-blank_of [] = []
-blank_of (b ∷ bs) = 32 ∷ []

@@ -1,5 +1,5 @@
 -- What `recheck` tells.
-use Rattle.std.specs.Prelude.{◌≡◌, ℕ, ◌≤◌, List, [], ◌++◌, length, Option, Some, None, codes, Result, Ok, Err}
+use Rattle.std.specs.Prelude.{◌≡◌, ℕ, ◌≤◌, List, [], ◌∷◌, ◌++◌, length, None, codes, Result, Ok, Err}
 use Rattle.text_core.specs.Lines.{lines_of}
 use Rattle.lrat_check.specs.declared.error.CheckError.{CheckError}
 use Rattle.lrat_check.specs.declared.error.CheckError.TheVariants as steps
@@ -14,7 +14,7 @@ use Rattle.cert_theory.specs.Spelling.{verdict_line, IsBundle, HasVerdict}
 use Rattle.cert_theory.specs.Judging.{bundle_of}
 use Rattle.chain_app.specs.declared.status.Status.{Status}
 use Rattle.chain_app.specs.declared.status.Status.TheVariants.{Done, Malformed, Memory, Refused}
-use Rattle.chain_app.specs.Told.{Reply, Named, Refusal, at, memory}
+use Rattle.chain_app.specs.Told.{Reply, Field, Word, Number, Refusal, at, memory}
 use Rattle.chain_app.specs.Task.{Task, at_once}
 
 -- the most bytes of a bundle that are read
@@ -39,23 +39,23 @@ bundle_status (bundles.WrongVerdict line) = Refused
 bundle_status bundles.Memory = Memory
 
 -- a refused step: its line, the name of its fault, and what the fault speaks of
-abbrev pub refused_step : ℕ → List ℕ → Option ℕ → Named
-refused_step line word last = record { name = codes "StepRefused"; number = Some line; word = word; last = last }
+abbrev pub refused_step : ℕ → List ℕ → List Field → List Field
+refused_step line word of = Word (codes "StepRefused") ∷ Number line ∷ Word word ∷ of
 
 -- a variant with two numbers
-abbrev pub two_of : List ℕ → ℕ → ℕ → Named
-two_of name number last = record { name = name; number = Some number; word = []; last = Some last }
+abbrev pub two_of : List ℕ → ℕ → ℕ → List Field
+two_of name number last = Word name ∷ Number number ∷ Number last ∷ []
 
-unfoldable pub named_step : ℕ → CheckError → Named
-named_step line (steps.UnknownId id) = refused_step line (codes "UnknownId") (Some id)
-named_step line (steps.NotUnit id) = refused_step line (codes "NotUnit") (Some id)
-named_step line steps.NoConflict = refused_step line (codes "NoConflict") None
-named_step line (steps.UnknownDelete id) = refused_step line (codes "UnknownDelete") (Some id)
-named_step line (steps.IdNotGreater id) = refused_step line (codes "IdNotGreater") (Some id)
-named_step line (steps.UnknownVariable variable) = refused_step line (codes "UnknownVariable") (Some variable)
-named_step line steps.Memory = refused_step line (codes "Memory") None
+unfoldable pub named_step : ℕ → CheckError → List Field
+named_step line (steps.UnknownId id) = refused_step line (codes "UnknownId") (Number id ∷ [])
+named_step line (steps.NotUnit id) = refused_step line (codes "NotUnit") (Number id ∷ [])
+named_step line steps.NoConflict = refused_step line (codes "NoConflict") []
+named_step line (steps.UnknownDelete id) = refused_step line (codes "UnknownDelete") (Number id ∷ [])
+named_step line (steps.IdNotGreater id) = refused_step line (codes "IdNotGreater") (Number id ∷ [])
+named_step line (steps.UnknownVariable variable) = refused_step line (codes "UnknownVariable") (Number variable ∷ [])
+named_step line steps.Memory = refused_step line (codes "Memory") []
 
-unfoldable pub named_bundle : BundleError → Named
+unfoldable pub named_bundle : BundleError → List Field
 named_bundle (bundles.Syntax line) = at (codes "Syntax") line
 named_bundle (bundles.SizeOutOfOrder line) = at (codes "SizeOutOfOrder") line
 named_bundle (bundles.StepRefused line e) = named_step line e

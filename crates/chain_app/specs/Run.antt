@@ -7,7 +7,7 @@ use Rattle.command_line.specs.CommandLine.{spelled}
 use Rattle.chain_app.specs.declared.status.Status.{Status}
 use Rattle.chain_app.specs.declared.status.Status.TheVariants as statuses
 use Rattle.chain_app.specs.Outside.{Side, side, Writes}
-use Rattle.chain_app.specs.Told.{Reply, Named, Refusal, error_line, read_fault, write_fault, too_long, memory}
+use Rattle.chain_app.specs.Told.{Reply, Field, Refusal, error_line, read_fault, write_fault, too_long, memory}
 use Rattle.chain_app.specs.Task.{Task, Tells, Refuses, IsBeyond}
 
 -- How the run of a command ends: the source failed; it had more bytes than are read; want of memory
@@ -34,7 +34,7 @@ status_of (ReportCut reply) = statuses.WriteFault
 status_of (NoAnswer refusal) = refusal.status
 
 -- what the error line names, nothing where the reply stands
-abbrev pub line_of : Outcome → Option Named
+abbrev pub line_of : Outcome → Option (List Field)
 line_of ReadFault = Some read_fault
 line_of TooLong = Some too_long
 line_of Memory = Some memory
@@ -127,9 +127,9 @@ ReportAfter old new (ReportCut reply) = ReportsFront old new reply.report
 ReportAfter old new outcome = new ≡ old
 
 -- the error line behind it, where there is one
-abbrev pub LineAfter : Side → Side → Option Named → Type 0
+abbrev pub LineAfter : Side → Side → Option (List Field) → Type 0
 LineAfter old new None = new ≡ old
-LineAfter old new (Some named) = Writes old new (error_line named)
+LineAfter old new (Some fields) = Writes old new (error_line fields)
 
 -- The report, and then the error line. The count of faults between them is between the counts before and
 -- behind.

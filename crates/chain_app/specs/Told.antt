@@ -1,5 +1,5 @@
 -- What a command tells: a reply or a refusal.
-use Rattle.std.specs.Prelude.{ℕ, List, [], ◌∷◌, ◌++◌, Option, Some, None, codes, decimal}
+use Rattle.std.specs.Prelude.{ℕ, List, [], ◌∷◌, ◌++◌, Option, codes, decimal}
 use Rattle.chain_app.specs.declared.status.Status.{Status}
 use Rattle.chain_app.specs.declared.status.Status.TheVariants as statuses
 
@@ -9,56 +9,50 @@ pub record Reply : Type 0 where
   pub report : Option (List ℕ)
   pub status : Status
 
--- What an error line names: a variant, and of its fields those that it has. An empty word is none.
-pub record Named : Type 0 where
-  pub name : List ℕ
-  pub number : Option ℕ
-  pub word : List ℕ
-  pub last : Option ℕ
+-- A field of an error line. The first is the name of a variant.
+pub data Field : Type 0 where
+  Word : (word : List ℕ) → Field
+  Number : (number : ℕ) → Field
 
 -- no answer: the status, and what the error line names
 pub record Refusal : Type 0 where
   pub status : Status
-  pub named : Named
+  pub named : List Field
 
--- a variant without fields, one with a number, and one with two
-abbrev pub plain : List ℕ → Named
-plain name = record { name = name; number = None; word = []; last = None }
+-- a variant without fields, and one with a number
+abbrev pub plain : List ℕ → List Field
+plain name = Word name ∷ []
 
-abbrev pub at : List ℕ → ℕ → Named
-at name number = record { name = name; number = Some number; word = []; last = None }
+abbrev pub at : List ℕ → ℕ → List Field
+at name number = Word name ∷ Number number ∷ []
 
--- a blank and a field, and nothing for no field
-abbrev pub field : List ℕ → List ℕ
-field [] = []
-field (b ∷ bs) = 32 ∷ b ∷ bs
+abbrev pub field_text : Field → List ℕ
+field_text (Word word) = word
+field_text (Number number) = decimal number
 
-unfoldable pub digits_of : Option ℕ → List ℕ
-digits_of None = []
-digits_of (Some number) = decimal number
-
--- an error line of a name and three fields
-unfoldable pub line_text : List ℕ → List ℕ → List ℕ → List ℕ → List ℕ
-line_text name number word last = codes "error: " ++ (name ++ (field number ++ (field word ++ (field last ++ codes "\n"))))
+-- fields, each behind a blank
+unfoldable pub fields_text : List Field → List ℕ
+fields_text [] = []
+fields_text (f ∷ fs) = (32 ∷ field_text f) ++ fields_text fs
 
 -- The error line. Examples: `error: TooLong`, `error: BadRow 2`, `error: StepRefused 13 NotUnit 22`.
-unfoldable pub error_line : Named → List ℕ
-error_line named = line_text named.name (digits_of named.number) named.word (digits_of named.last)
+unfoldable pub error_line : List Field → List ℕ
+error_line fields = codes "error:" ++ (fields_text fields ++ codes "\n")
 
 -- what the error lines name that all commands have
-unfoldable pub usage : Named
+unfoldable pub usage : List Field
 usage = plain (codes "Usage")
 
-unfoldable pub read_fault : Named
+unfoldable pub read_fault : List Field
 read_fault = plain (codes "ReadFault")
 
-unfoldable pub write_fault : Named
+unfoldable pub write_fault : List Field
 write_fault = plain (codes "WriteFault")
 
-unfoldable pub too_long : Named
+unfoldable pub too_long : List Field
 too_long = plain (codes "TooLong")
 
-unfoldable pub memory : Named
+unfoldable pub memory : List Field
 memory = plain (codes "Memory")
 
 -- what every command may tell that has no answer: its input is too long, reading failed, want of memory

@@ -3,7 +3,7 @@ ghost use Rattle.std.specs.Prelude.{◌≡◌, ◌≤◌, length};
 ghost use Rattle.chain_app.specs.ImproveReport.{most_of_netlist, net_status as net_status_of, of_name as of_name_text, at_name as at_name_text, named_net, improve_reply, improve_refusal, improve_task};
 ghost use Rattle.chain_app.specs.Views.{line_value, reply_value, refusal_value, Judges};
 
-use crate::replies::{ErrorLine, Refusal, Reply, Stop, Word};
+use crate::replies::{ErrorLine, Field, Refusal, Reply, Stop};
 use crate::status::Status;
 use improve_core::{Improved, NetError, improve as improve_netlist};
 use net_core::Name;
@@ -28,27 +28,24 @@ fn net_status(error: &NetError) -> Status
 }
 
 /// A variant with a name of the netlist.
+#[tactic(auto, unfolding(crate::specs::Views::shown))]
 fn of_name(variant: &'static [u8], name: Name) -> ErrorLine
     ensures { line_value result ≡ of_name_text variant.now name }
 {
-    ErrorLine {
-        name: variant,
-        number: None,
-        word: Word::Name(name),
-        last: None,
-    }
+    ErrorLine::of(variant, Field::Name(name), Field::Nothing, Field::Nothing)
 }
 
 /// A variant with a line and a name.
+#[tactic(auto, unfolding(crate::specs::Views::shown))]
 fn at_name(variant: &'static [u8], line: u32, name: Name) -> ErrorLine
     ensures { line_value result ≡ at_name_text variant.now line name }
 {
-    ErrorLine {
-        name: variant,
-        number: Some(line),
-        word: Word::Name(name),
-        last: None,
-    }
+    ErrorLine::of(
+        variant,
+        Field::Count(line),
+        Field::Name(name),
+        Field::Nothing,
+    )
 }
 
 /// What the error line of a netlist names.

@@ -1,9 +1,9 @@
 //! The command `recheck`: what it tells of bytes.
-ghost use Rattle.std.specs.Prelude.{◌≡◌, ◌≤◌, IfOk, length};
+ghost use Rattle.std.specs.Prelude.{◌≡◌, ◌≤◌, ◌∷◌, [], IfOk, length};
 ghost use Rattle.chain_app.specs.RecheckReport.{most_of_bundle, verdict_text, bundle_status as bundle_status_of, refused_step, two_of, named_step, named_bundle, recheck_reply, recheck_refusal, recheck_task};
-ghost use Rattle.chain_app.specs.Views.{line_value, reply_value, refusal_value, Judges};
+ghost use Rattle.chain_app.specs.Views.{shown, line_value, reply_value, refusal_value, Judges};
 
-use crate::replies::{ErrorLine, Refusal, Reply, Stop, Word};
+use crate::replies::{ErrorLine, Field, Refusal, Reply, Stop};
 use crate::status::Status;
 use cert_file::{BundleError, Verdict, check_bundle};
 use lrat_check::CheckError;
@@ -32,43 +32,44 @@ fn bundle_status(error: BundleError) -> Status
 }
 
 /// A refused step: its line, the name of its fault, and what that speaks of.
-fn step(line: u32, word: &'static [u8], last: Option<u32>) -> ErrorLine
-    ensures { line_value result ≡ refused_step line word.now last }
+#[tactic(auto, unfolding(crate::specs::Views::shown))]
+fn step(line: u32, word: &'static [u8], of: Field) -> ErrorLine
+    ensures { line_value result ≡ refused_step line word.now (shown (of ∷ [])) }
 {
-    ErrorLine {
-        name: b"StepRefused",
-        number: Some(line),
-        word: Word::Known(word),
-        last,
-    }
+    ErrorLine::of(b"StepRefused", Field::Count(line), Field::Known(word), of)
 }
 
 /// What the error line of a refused step names.
-#[tactic(auto, unfolding(crate::specs::RecheckReport::named_step))]
+#[tactic(auto, unfolding(crate::specs::RecheckReport::named_step, crate::specs::Views::shown))]
 fn name_step(line: u32, error: CheckError) -> ErrorLine
     ensures { line_value result ≡ named_step line error }
 {
     match error {
-        CheckError::UnknownId(id) => step(line, b"UnknownId", Some(id)),
-        CheckError::NotUnit(id) => step(line, b"NotUnit", Some(id)),
-        CheckError::NoConflict => step(line, b"NoConflict", None),
-        CheckError::UnknownDelete(id) => step(line, b"UnknownDelete", Some(id)),
-        CheckError::IdNotGreater(id) => step(line, b"IdNotGreater", Some(id)),
-        CheckError::UnknownVariable(variable) => step(line, b"UnknownVariable", Some(variable)),
-        CheckError::Memory => step(line, b"Memory", None),
+        CheckError::UnknownId(id) => step(line, b"UnknownId", Field::Count(id)),
+        CheckError::NotUnit(id) => step(line, b"NotUnit", Field::Count(id)),
+        CheckError::NoConflict => step(line, b"NoConflict", Field::Nothing),
+        CheckError::UnknownDelete(id) => step(line, b"UnknownDelete", Field::Count(id)),
+        CheckError::IdNotGreater(id) => step(line, b"IdNotGreater", Field::Count(id)),
+        CheckError::UnknownVariable(variable) => step(
+            line,
+            b"UnknownVariable",
+            Field::Count(variable),
+        ),
+        CheckError::Memory => step(line, b"Memory", Field::Nothing),
     }
 }
 
 /// A variant with two numbers.
+#[tactic(auto, unfolding(crate::specs::Views::shown))]
 fn two(name: &'static [u8], number: u32, last: u32) -> ErrorLine
     ensures { line_value result ≡ two_of name.now number last }
 {
-    ErrorLine {
+    ErrorLine::of(
         name,
-        number: Some(number),
-        word: Word::Nothing,
-        last: Some(last),
-    }
+        Field::Count(number),
+        Field::Count(last),
+        Field::Nothing,
+    )
 }
 
 /// What a fault's error line names.

@@ -1,67 +1,56 @@
 //! What a command tells: a reply or a refusal, and how its run ended.
-ghost use Rattle.std.specs.Prelude.{◌≡◌};
-ghost use Rattle.chain_app.specs.Told.{plain as plain_of, at as at_of};
+ghost use Rattle.std.specs.Prelude.{◌≡◌, ◌∷◌, []};
+ghost use Rattle.chain_app.specs.Told.{Word, plain as plain_of, at as at_of};
 ghost use Rattle.chain_app.specs.Run.{status_of};
-ghost use Rattle.chain_app.specs.Views.{word_bytes, line_value, outcome_of};
+ghost use Rattle.chain_app.specs.Views.{shown, line_value, outcome_of};
 
 use crate::status::Status;
 use net_core::Name;
 
-/// A word of an error line.
+/// A field of an error line.
 #[derive(Debug, Drop)]
-pub(crate) enum Word {
+pub(crate) enum Field {
     /// There is none.
     Nothing,
     /// One of the program's own words.
     Known(&'static [u8]),
+    /// A number.
+    Count(u32),
     /// A name of the input.
     Name(Name),
 }
 
-impl Word {
-    /// Its bytes; none where there is no word.
-    pub(crate) fn bytes(&self) -> &[u8]
-        ensures { result.now ≡ word_bytes self.now }
-    {
-        match self {
-            Word::Nothing => &[],
-            Word::Known(word) => word,
-            Word::Name(name) => name.get(),
-        }
-    }
-}
-
-/// What an error line names: a variant, and its fields.
-#[derive(Debug, Drop)]
+/// What an error line names: a variant, and its fields. There are as many as the longest line has, of
+/// which those that a line hasn't are `Nothing`, so that a line takes no memory.
+#[derive(Drop)]
 pub(crate) struct ErrorLine {
-    pub(crate) name: &'static [u8],
-    pub(crate) number: Option<u32>,
-    pub(crate) word: Word,
-    pub(crate) last: Option<u32>,
+    pub(crate) fields: [Field; 5],
 }
 
 impl ErrorLine {
     /// A variant without fields.
+    #[tactic(auto, unfolding(crate::specs::Views::shown))]
     pub(crate) fn plain(name: &'static [u8]) -> ErrorLine
         ensures { line_value result ≡ plain_of name.now }
     {
-        ErrorLine {
-            name,
-            number: None,
-            word: Word::Nothing,
-            last: None,
-        }
+        ErrorLine::of(name, Field::Nothing, Field::Nothing, Field::Nothing)
     }
 
     /// A variant with a number.
+    #[tactic(auto, unfolding(crate::specs::Views::shown))]
     pub(crate) fn at(name: &'static [u8], number: u32) -> ErrorLine
         ensures { line_value result ≡ at_of name.now number }
     {
+        ErrorLine::of(name, Field::Count(number), Field::Nothing, Field::Nothing)
+    }
+
+    /// A variant with at most three fields.
+    #[tactic(auto, unfolding(crate::specs::Views::shown))]
+    pub(crate) fn of(name: &'static [u8], first: Field, second: Field, third: Field) -> ErrorLine
+        ensures { line_value result ≡ Word name.now ∷ shown (first ∷ second ∷ third ∷ []) }
+    {
         ErrorLine {
-            name,
-            number: Some(number),
-            word: Word::Nothing,
-            last: None,
+            fields: [Field::Known(name), first, second, third, Field::Nothing],
         }
     }
 }
@@ -75,14 +64,14 @@ pub(crate) struct Reply {
 }
 
 /// No answer: the status, and what the error line names.
-#[derive(Debug, Drop)]
+#[derive(Drop)]
 pub(crate) struct Refusal {
     pub(crate) status: Status,
     pub(crate) line: ErrorLine,
 }
 
 /// Why a command has no reply.
-#[derive(Debug, Drop)]
+#[derive(Drop)]
 pub(crate) enum Stop {
     /// Want of memory.
     NoMemory,
@@ -91,7 +80,7 @@ pub(crate) enum Stop {
 }
 
 /// How the run of a command ended. The status, and what stands outside, follow from it.
-#[derive(Debug, Drop)]
+#[derive(Drop)]
 pub(crate) enum Ended {
     /// The source failed.
     ReadFault,

@@ -1,13 +1,13 @@
 //! The texts of a run: a reply on the output and on the notes, the error line on the notes.
-ghost use Rattle.std.specs.Prelude.{◌≡◌, ◌≤◌, OnOk, OnErr};
+ghost use Rattle.std.specs.Prelude.{◌≤◌, ◌++◌, OnOk, OnErr};
 ghost use Rattle.port_io.specs.Bytes.{Appends, AppendsFront};
 ghost use Rattle.port_io.specs.Faults.{Rose};
-ghost use Rattle.chain_app.specs.Told.{digits_of as digits_of_number, line_text, error_line};
-ghost use Rattle.chain_app.specs.Outside.{side, Writes, joined, blank_of};
+ghost use Rattle.chain_app.specs.Told.{error_line};
+ghost use Rattle.chain_app.specs.Outside.{side, Writes};
 ghost use Rattle.chain_app.specs.Run.{IsSent, OutSent, ReportAfter, LineAfter, line_of};
-ghost use Rattle.chain_app.specs.Views.{line_value, reply_value, outcome_of};
+ghost use Rattle.chain_app.specs.Views.{part_text, parts_text, line_value, reply_value, outcome_of};
 
-use crate::replies::{Ended, ErrorLine, Reply};
+use crate::replies::{Ended, ErrorLine, Field, Reply};
 use itoa::Buffer;
 use port_io::{Sink, WriteFault, write_all};
 
@@ -30,83 +30,87 @@ pub(crate) fn send<O: Sink, N: Sink>(out: &mut O, note: &mut N, reply: Reply) ->
     }
 }
 
-/// Writes texts, one after the other.
-#[tactic(auto, unfolding(crate::specs::Outside::joined), using(port_io::specs::TextLaws::texts, port_io::specs::CountLaws::counts))]
-fn write_pieces<O: Sink>(sink: &mut O, pieces: &[&[u8]]) -> Result<(), WriteFault>
-    ensures all { OnOk result (Appends (O.written sink.old) (O.written sink.new) (joined pieces.now)) }
-    ensures front { AppendsFront (O.written sink.old) (O.written sink.new) (joined pieces.now) }
-    ensures only_if_rose { OnErr result (Rose (O.faults sink.old) (O.faults sink.new)) }
-    ensures never_falls { O.faults sink.old ≤ O.faults sink.new }
+/// Writes two texts, one after the other.
+#[tactic(auto, using(port_io::specs::TextLaws::texts, port_io::specs::CountLaws::counts))]
+fn write_two<N: Sink>(note: &mut N, first: &[u8], second: &[u8]) -> Result<(), WriteFault>
+    ensures all { OnOk result (Appends (N.written note.old) (N.written note.new) (first.now ++ second.now)) }
+    ensures front { AppendsFront (N.written note.old) (N.written note.new) (first.now ++ second.now) }
+    ensures only_if_rose { OnErr result (Rose (N.faults note.old) (N.faults note.new)) }
+    ensures never_falls { N.faults note.old ≤ N.faults note.new }
 {
-    let Some((first, rest)) = pieces.split_first() else {
-        return Ok(());
-    };
-    write_all(sink, first)?;
-    write_pieces(sink, rest)
+    write_all(note, first)?;
+    write_all(note, second)
 }
 
-/// The digits of a number, none where there is no number.
-#[tactic(auto, unfolding(crate::specs::Told::digits_of))]
-fn digits_of(buffer: &mut Buffer, number: Option<u32>) -> &[u8]
-    ensures { result.now ≡ digits_of_number number }
+/// Writes a field behind a blank, and nothing where there is none.
+fn write_field<N: Sink>(note: &mut N, field: &Field) -> Result<(), WriteFault>
+    ensures all { OnOk result (Appends (N.written note.old) (N.written note.new) (part_text field.now)) }
+    ensures front { AppendsFront (N.written note.old) (N.written note.new) (part_text field.now) }
+    ensures only_if_rose { OnErr result (Rose (N.faults note.old) (N.faults note.new)) }
+    ensures never_falls { N.faults note.old ≤ N.faults note.new }
 {
-    match number {
-        None => &[],
-        Some(number) => buffer.format(number).as_bytes(),
+    match field {
+        Field::Nothing => write_all(note, b""),
+        Field::Known(word) => write_two(note, b" ", word),
+        Field::Count(number) => {
+            let mut buffer = Buffer::new();
+            write_two(note, b" ", buffer.format(*number).as_bytes())
+        }
+        Field::Name(name) => write_two(note, b" ", name.get()),
     }
 }
 
-/// The blank in front of a field, none where there is no field.
-fn blank(text: &[u8]) -> &'static [u8]
-    ensures { result.now ≡ blank_of text.now }
-{
-    if text.is_empty() { b"" } else { b" " }
-}
-
-/// Writes the parts of an error line behind its first word. A fault in writing it is let pass: the
-/// run's status has been decided.
-fn tell_parts<'a, N: Sink>(
-    note: &mut N,
-    name: &'a [u8],
-    number: &'a [u8],
-    word: &'a [u8],
-    last: &'a [u8],
-)
-    ensures line { Writes (side N.written N.faults note.old) (side N.written N.faults note.new) (line_text name.now number.now word.now last.now) }
+/// Writes fields, each behind a blank.
+#[tactic(auto, unfolding(crate::specs::Views::parts_text), using(port_io::specs::TextLaws::texts, port_io::specs::CountLaws::counts))]
+fn write_fields<N: Sink>(note: &mut N, fields: &[Field]) -> Result<(), WriteFault>
+    ensures all { OnOk result (Appends (N.written note.old) (N.written note.new) (parts_text fields.now)) }
+    ensures front { AppendsFront (N.written note.old) (N.written note.new) (parts_text fields.now) }
+    ensures only_if_rose { OnErr result (Rose (N.faults note.old) (N.faults note.new)) }
     ensures never_falls { N.faults note.old ≤ N.faults note.new }
 {
-    let number_blank: &'a [u8] = blank(number);
-    let word_blank: &'a [u8] = blank(word);
-    let last_blank: &'a [u8] = blank(last);
-    let pieces: [&'a [u8]; 9] = [
-        b"error: ",
-        name,
-        number_blank,
-        number,
-        word_blank,
-        word,
-        last_blank,
-        last,
-        b"\n",
-    ];
-    let _ = write_pieces(note, &pieces);
+    let Some((first, rest)) = fields.split_first() else {
+        return Ok(());
+    };
+    write_field(note, first)?;
+    write_fields(note, rest)
 }
 
-/// Writes an error line. It takes no memory, so that it also tells of its want.
-#[tactic(auto, unfolding(crate::specs::Told::error_line))]
+/// Writes fields, and a text behind them.
+#[tactic(auto, using(port_io::specs::TextLaws::texts, port_io::specs::CountLaws::counts))]
+fn write_ended<N: Sink>(note: &mut N, fields: &[Field], end: &[u8]) -> Result<(), WriteFault>
+    ensures all { OnOk result (Appends (N.written note.old) (N.written note.new) (parts_text fields.now ++ end.now)) }
+    ensures front { AppendsFront (N.written note.old) (N.written note.new) (parts_text fields.now ++ end.now) }
+    ensures only_if_rose { OnErr result (Rose (N.faults note.old) (N.faults note.new)) }
+    ensures never_falls { N.faults note.old ≤ N.faults note.new }
+{
+    write_fields(note, fields)?;
+    write_all(note, end)
+}
+
+/// Writes a line of fields, with its first word and its end.
+#[tactic(auto, using(port_io::specs::TextLaws::texts, port_io::specs::CountLaws::counts))]
+fn write_line<N: Sink>(
+    note: &mut N,
+    start: &[u8],
+    fields: &[Field],
+    end: &[u8],
+) -> Result<(), WriteFault>
+    ensures all { OnOk result (Appends (N.written note.old) (N.written note.new) (start.now ++ (parts_text fields.now ++ end.now))) }
+    ensures front { AppendsFront (N.written note.old) (N.written note.new) (start.now ++ (parts_text fields.now ++ end.now)) }
+    ensures only_if_rose { OnErr result (Rose (N.faults note.old) (N.faults note.new)) }
+    ensures never_falls { N.faults note.old ≤ N.faults note.new }
+{
+    write_all(note, start)?;
+    write_ended(note, fields, end)
+}
+
+/// Writes an error line. It takes no memory, so that it also tells of its want. A fault in writing it is
+/// let pass: the run's status has been decided.
 pub(crate) fn tell_error<N: Sink>(note: &mut N, line: &ErrorLine)
     ensures line { Writes (side N.written N.faults note.old) (side N.written N.faults note.new) (error_line (line_value line.now)) }
     ensures never_falls { N.faults note.old ≤ N.faults note.new }
 {
-    let mut first = Buffer::new();
-    let mut last = Buffer::new();
-    tell_parts(
-        note,
-        line.name,
-        digits_of(&mut first, line.number),
-        line.word.bytes(),
-        digits_of(&mut last, line.last),
-    );
+    let _ = write_line(note, b"error:", &line.fields, b"\n");
 }
 
 /// Writes the error line of a run that has one.

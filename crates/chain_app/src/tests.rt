@@ -215,8 +215,8 @@ fn reports_are_cut_where_the_notes_fail(rt: HostRuntime) -> Result<(), Fail> {
     for (calls, status, note) in [
         ("1", 6, "error: WriteFault\n"),
         ("12", 6, ""),
-        ("13", 6, "error: "),
-        ("14", 6, "error: WriteFault"),
+        ("13", 6, "error:"),
+        ("15", 6, "error: WriteFault"),
         // the report is one call, and no call comes behind it
         ("2", 0, "gates 2 -> 1\nsettled\n"),
     ] {

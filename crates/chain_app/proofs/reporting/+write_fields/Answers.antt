@@ -1,5 +1,5 @@
 use Rattle.chain_app.proofs.Pieces.{all_of_none, front_of_none}
-use Rattle.chain_app.proofs.reporting.+write_pieces.Goals as goal
+use Rattle.chain_app.proofs.reporting.+write_fields.Goals as goal
 
 pub returns-in_default-clause-all : goal.returns-in_default-clause-all
 returns-in_default-clause-all g t c = all_of_none _ _ c.in_default.ensures.cases
