@@ -24,7 +24,6 @@ use Rattle.tt_core.specs.Spelling.{character, header_line}
 use Rattle.op_basis.specs.Basis.{members}
 use Rattle.op_basis.specs.Text.{name_of, list_below, with_word, text_with, basis_text, all_set, u2_set, bench_set, nand_set}
 use Rattle.op_basis.specs.Word.{word_text}
-use Rattle.op_basis.specs.Text as bases
 use Rattle.chain_core.specs.Steps.{IsSmallChain}
 use Rattle.chain_core.specs.Spelling.{line, chain_lines}
 use Rattle.chain_core.specs.WrittenBlockLaws.{lines_back, block_written}
@@ -95,11 +94,6 @@ unfolding table_text
 free_table w h = free_cells w h (range_with_len 0 (2 ^ w.n))
 
 -- ---- a basis
-
-free_bit : (b : Bool) → is_free 10 (bases.character b ∷ []) ≡ true
-unfolding is_free
-free_bit true = refl
-free_bit false = refl
 
 free_operator : (op : ℕ) → is_free 10 (word_text op) ≡ true
 unfolding is_free word_text
