@@ -1,1 +1,3 @@
+pub mod Options
 pub mod CommandLine
+pub mod Spelling

@@ -1,6 +1,8 @@
-use crate::{Command, WordsError, read_words};
-use enc_theory::Method;
+//! Lines and what they ask for.
+
+use crate::{Command, SynthSettings, WordsError, read_words};
 use op_basis::Basis;
+use settings::Method;
 use std::alloc::{AllocError, Global};
 use std::test::Fail;
 
@@ -60,12 +62,12 @@ fn what_is_not_named_has_its_default(rt: HostRuntime) -> Result<(), Fail> {
             1,
         ),
     ] {
-        let command = Command::Synth {
+        let command = Command::Synth(SynthSettings {
             basis: Basis::new(basis),
             method,
             max,
             conflicts,
-        };
+        });
         assert_eq!(rt; asked(rt.alloc(), line)?, Some(command), "{line}");
     }
     Ok(())

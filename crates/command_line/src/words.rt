@@ -1,47 +1,58 @@
-ghost use Rattle.std.specs.Prelude.{◌≡◌, map};
+//! From words to the command that they ask for.
+ghost use Rattle.std.specs.Prelude.{◌≡◌, map, IfOk};
 ghost use Rattle.std.specs.String.{string_bytes};
 ghost use Rattle.command_line.specs.CommandLine as spec;
 
 use crate::command::{Command, WordsError};
-use crate::options::{is_word, synth_in};
+use crate::pairs::are_options;
+use crate::table::{
+    Kind, given_basis, given_cap, given_conflicts, given_format, given_max, given_method,
+    kind_named,
+};
+use settings::SynthSettings;
 
-/// A command without options.
-#[tactic(auto, unfolding(crate::specs::CommandLine::alone))]
-fn alone(command: Command, words: &[String]) -> Option<Command>
-    ensures { result ≡ spec.alone command (map string_bytes words.now) }
+/// `synth` with the values of its options.
+fn synth_in(words: &[String]) -> Option<Command>
+    ensures { result ≡ spec.synth_in (map string_bytes words.now) }
 {
-    if words.is_empty() {
-        Some(command)
-    } else {
-        None
+    match (
+        given_basis(words),
+        given_method(words),
+        given_max(words),
+        given_conflicts(words),
+    ) {
+        (Some(basis), Some(method), Some(max), Some(conflicts)) => {
+            Some(Command::Synth(SynthSettings {
+                basis,
+                method,
+                max,
+                conflicts,
+            }))
+        }
+        _ => None,
     }
 }
 
-/// Whether an option is the one cap that there is.
-fn is_cap(name: &String, value: &String) -> bool
-    ensures { result ≡ spec.is_cap (string_bytes name.now) (string_bytes value.now) }
-{
-    is_word(name.as_bytes(), b"--cap") && is_word(value.as_bytes(), b"0")
-}
-
-/// Whether an option is the one format that there is.
-fn is_format(name: &String, value: &String) -> bool
-    ensures { result ≡ spec.is_format (string_bytes name.now) (string_bytes value.now) }
-{
-    is_word(name.as_bytes(), b"--format") && is_word(value.as_bytes(), b"blif")
-}
-
-/// `improve` with the one cap that there is, and maybe the one format.
-#[tactic(auto, unfolding(crate::specs::CommandLine::improve_in))]
+/// `improve` with the values of its options.
 fn improve_in(words: &[String]) -> Option<Command>
     ensures { result ≡ spec.improve_in (map string_bytes words.now) }
 {
-    let good = match words {
-        [a, b] => is_cap(a, b),
-        [a, b, c, d] => is_cap(a, b) && is_format(c, d) || is_format(a, b) && is_cap(c, d),
-        _ => false,
-    };
-    if good { Some(Command::Improve) } else { None }
+    match (given_cap(words), given_format(words)) {
+        (Some(_), Some(_)) => Some(Command::Improve),
+        _ => None,
+    }
+}
+
+/// A command with the values of its options.
+fn command_with(kind: Kind, words: &[String]) -> Option<Command>
+    ensures { result ≡ spec.command_with kind (map string_bytes words.now) }
+{
+    match kind {
+        Kind::Agree => Some(Command::Agree),
+        Kind::Recheck => Some(Command::Recheck),
+        Kind::Synth => synth_in(words),
+        Kind::Improve => improve_in(words),
+    }
 }
 
 /// The command of words.
@@ -49,27 +60,25 @@ fn improve_in(words: &[String]) -> Option<Command>
 fn command_of(words: &[String]) -> Option<Command>
     ensures { result ≡ spec.command_of (map string_bytes words.now) }
 {
-    let (name, options) = words.split_first()?;
-    if is_word(name.as_bytes(), b"agree") {
-        return alone(Command::Agree, options);
+    let Some((name, options)) = words.split_first() else {
+        return None;
+    };
+    let Some(kind) = kind_named(name.as_bytes()) else {
+        return None;
+    };
+    if !are_options(kind, options) {
+        return None;
     }
-    if is_word(name.as_bytes(), b"recheck") {
-        return alone(Command::Recheck, options);
-    }
-    if is_word(name.as_bytes(), b"synth") {
-        return synth_in(options);
-    }
-    if is_word(name.as_bytes(), b"improve") {
-        return improve_in(options);
-    }
-    None
+    command_with(kind, options)
 }
 
 /// The command that the words ask for, the program's own name left out: `agree`, `recheck`, `synth`
 /// or `improve`, each with its options. Every other list of words, the empty one among them, is
 /// `Usage`.
+#[tactic(auto, using(crate::proofs::Ranges::reading))]
 pub fn read_words(words: &Vec<String>) -> Result<Command, WordsError>
-    ensures { result ≡ spec.read (spec.spelled words.now) }
+    ensures exact { result ≡ spec.read (spec.spelled words.now) }
+    ensures range { IfOk result spec.IsAskable }
 {
     match command_of(words.as_slice()) {
         Some(command) => Ok(command),

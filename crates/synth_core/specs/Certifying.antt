@@ -7,12 +7,12 @@ use Rattle.cert_theory.specs.declared.data.Verdict.{Verdict}
 use Rattle.cert_theory.specs.Bundle.{Bundle}
 use Rattle.cert_theory.specs.Spelling.{IsBundle}
 use Rattle.size_loop.specs.Kept.{AreKept}
-use Rattle.synth_core.specs.declared.asked.Asked.{Asked}
+use Rattle.settings.specs.declared.synth.SynthSettings.{SynthSettings}
 use Rattle.synth_core.specs.Asking.{heading_of}
 
 -- The text is that of a valid certificate with this verdict. It is for the tables that the bytes spell,
 -- with nothing behind them, and for what is asked. At least half of what an open log adds stays live.
-pub record IsCertificate (bytes : List ℕ) (asked : Asked) (text : List ℕ) (verdict : Verdict) : Type 0 where
+pub record IsCertificate (bytes : List ℕ) (asked : SynthSettings) (text : List ℕ) (verdict : Verdict) : Type 0 where
   pub bundle : Bundle
   pub is_bundle : IsBundle text bundle
   pub verdict_is : bundle.verdict ≡ verdict

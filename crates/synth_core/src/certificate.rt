@@ -1,15 +1,16 @@
+//! Tables read, the search, and the text of what it found.
 ghost use Rattle.std.specs.Prelude.{◌≡◌, ◌^◌, ◌<◌, length, [], IfOk, IfErr};
 ghost use Rattle.text_core.specs.Lines.{lines_of};
+ghost use Rattle.settings.specs.Synth.{IsInRange};
 ghost use Rattle.tt_core.specs.Gives.{Gives, Fails};
 ghost use Rattle.tt_core.specs.Spelling.{SpellsTables};
 ghost use Rattle.tt_core.specs.Words.{specification};
-ghost use Rattle.synth_core.specs.Asking.{IsAsked};
 ghost use Rattle.synth_core.specs.Certifying.{IsCertificate};
 ghost use Rattle.synth_core.specs.Tables.{tables_alone};
 
-use crate::Asked;
 use bundle_core::Verdict;
 use bundle_text::write_bundle;
+use settings::SynthSettings;
 use size_loop::search;
 use std::alloc::Global;
 use text_core::next_line;
@@ -38,9 +39,9 @@ fn tables(alloc: Global, bytes: &[u8]) -> Result<Spec, SpecError>
 
 /// Searches for a chain of the fewest steps that agrees with the tables in the bytes, and writes the
 /// certificate. A line behind the tables is refused as `BadRow`.
-pub fn synthesise(alloc: Global, bytes: &[u8], asked: &Asked) -> Result<Certificate, SpecError>
+pub fn synthesise(alloc: Global, bytes: &[u8], asked: &SynthSettings) -> Result<Certificate, SpecError>
     requires length { length bytes.now < 2 ^ 31 }
-    requires asked { IsAsked asked.now }
+    requires range { IsInRange asked.now }
     ensures certificate { IfOk result (λ c. IsCertificate bytes.now asked.now c.text.items c.verdict) }
     ensures refusal { IfErr result (λ e. Fails e (tables_alone (lines_of bytes.now))) }
 {

@@ -22,7 +22,7 @@ fn certified(
     if text.len() > 1_000 || basis == 0 || max > 16 || conflicts == 0 || conflicts > 10_000_000 {
         return Err(SpecError::Memory);
     }
-    let asked = Asked {
+    let asked = SynthSettings {
         basis: Basis::new(basis),
         method,
         max,

@@ -1,0 +1,125 @@
+-- What a command is asked with is in its ranges.
+use Rattle.std.specs.Prelude.{◌≡◌, ℕ, ◌<◌, ◌≤◌, ◌^◌, List, [], ◌∷◌, Bool, true, false, cond, nat_lt, Option, Some, None, Result, Ok, Err}
+use Rattle.std.proofs.Common.{arith, sym, ◌∙◌, ap, subst, refl}
+use Rattle.std.proofs.lemmas.Bool.Decides.{nat_tests}
+use Rattle.std.proofs.lemmas.Grind.{common_steps}
+use Rattle.text_core.specs.Numbers.{number_up_to}
+use Rattle.text_core.specs.ReadBack.{number_spells}
+use Rattle.op_basis.specs.Text.{basis_of}
+use Rattle.op_basis.specs.ListLaws.{basis_some}
+use Rattle.op_basis.specs.declared.error.BasisError.{BasisError}
+use Rattle.enc_theory.specs.declared.data.Method.{Method}
+use Rattle.settings.specs.declared.synth.SynthSettings.{SynthSettings}
+use Rattle.settings.specs.Synth.{IsInRange}
+use Rattle.command_line.specs.declared.command.Command.{Command}
+use Rattle.command_line.specs.declared.command.Command.TheVariants as commands
+use Rattle.command_line.specs.declared.table.Kind.{Kind}
+use Rattle.command_line.specs.declared.table.Kind.TheVariants.{Agree, Recheck, Synth, Improve}
+use Rattle.command_line.specs.declared.table.Format.{Format}
+use Rattle.command_line.specs.Options.{Row, from_on, number_within, basis_or_none, basis_in, basis_row, method_row, max_row, conflicts_row, cap_row, format_row, kind_named, options_of}
+use Rattle.command_line.specs.CommandLine.{word_behind, are_options, value_in, value, synth_from, improve_from, command_with, command_in, command_of, IsAskable}
+
+pub some_is : {A : Type 0} (a b : A) → Some a ≡ Some b → a ≡ b
+some_is a b e = cc
+
+-- ---- what words read as
+
+from_by : (t : Bool) (low m n : ℕ) → nat_lt m low ≡ t → cond t None (Some m) ≡ Some n → (m ≡ n) × (low ≤ n)
+from_by true low m n is e = absurd cc
+from_by false low m n is e = let same : m ≡ n = some_is m n e in (same, grind (arith, nat_tests))
+
+from_is : (low n : ℕ) (o : Option ℕ) → from_on low o ≡ Some n → (o ≡ Some n) × (low ≤ n)
+from_is low n None e = absurd cc
+from_is low n (Some m) e = let by = from_by (nat_lt m low) low m n refl e in (ap (λ (k : ℕ). Some k) by.0, by.1)
+
+-- a number that is read is in its range
+pub number_range : (low high n : ℕ) (word : List ℕ) → high < 2 ^ 64 → number_within low high word ≡ Some n → (low ≤ n) × (n ≤ high)
+number_range low high n word fits e =
+    let by = from_is low n (number_up_to high word) e in
+    (by.1, (number_spells high n word fits by.0).0)
+
+basis_ok : (r : Result ℕ BasisError) (b : ℕ) → basis_or_none r ≡ Some b → r ≡ Ok b
+basis_ok (Ok a) b e = ap (λ (n : ℕ). Ok n) (some_is a b e)
+basis_ok (Err e') b e = absurd cc
+
+basis_range : (word : List ℕ) (b : ℕ) → basis_in word ≡ Some b → 0 < b
+basis_range word b e = basis_some word b (basis_ok (basis_of word) b e)
+
+-- what holds of each word's reading and of the default holds of an option's value
+pub in_row : {A : Type 0} (row : Row A) (P : A → Type 0) → ((word : List ℕ) (x : A) → row.read word ≡ Some x → P x) → ((x : A) → row.default ≡ Some x → P x) → (o : Option (List ℕ)) (x : A) → value_in row o ≡ Some x → P x
+in_row row P reads default None x e = default x e
+in_row row P reads default (Some word) x e = reads word x e
+
+-- ---- commands
+
+-- `synth` has the values of all its options
+pub synth_made : (basis : Option ℕ) (method : Option Method) (max conflicts : Option ℕ) (c : Command) → synth_from basis method max conflicts ≡ Some c →
+    (s : SynthSettings) × (commands.Synth s ≡ c) × (basis ≡ Some s.basis) × (method ≡ Some s.method) × (max ≡ Some s.max) × (conflicts ≡ Some s.conflicts)
+synth_made (Some b) (Some m) (Some x) (Some n) c e = (record { basis = b; method = m; max = x; conflicts = n }, some_is _ c e, refl, refl, refl, refl)
+synth_made (Some b) (Some m) (Some x) None c e = absurd cc
+synth_made (Some b) (Some m) None conflicts c e = absurd cc
+synth_made (Some b) None max conflicts c e = absurd cc
+synth_made None method max conflicts c e = absurd cc
+
+pub improve_made : (cap : Option ℕ) (format : Option Format) (c : Command) → improve_from cap format ≡ Some c → (n : ℕ) × (f : Format) × (commands.Improve ≡ c) × (cap ≡ Some n) × (format ≡ Some f)
+improve_made (Some n) (Some f) c e = (n, f, some_is _ c e, refl, refl)
+improve_made (Some n) None c e = absurd cc
+improve_made None format c e = absurd cc
+
+max_range : (words : List (List ℕ)) (n : ℕ) → value max_row words ≡ Some n → n ≤ 16
+max_range words n e =
+    in_row max_row (λ (x : ℕ). x ≤ 16)
+    (λ (word : List ℕ) (x : ℕ) at. (number_range 0 16 x word (omega arith) at).1)
+    (λ (x : ℕ) at. let same = some_is 16 x at in omega (arith, same))
+    (word_behind max_row.name words) n e
+
+conflicts_range : (words : List (List ℕ)) (n : ℕ) → value conflicts_row words ≡ Some n → (1 ≤ n) × (n ≤ 10000000)
+conflicts_range words n e =
+    in_row conflicts_row (λ (x : ℕ). (1 ≤ x) × (x ≤ 10000000))
+    (λ (word : List ℕ) (x : ℕ) at. number_range 1 10000000 x word (omega arith) at)
+    (λ (x : ℕ) at. let same = some_is 100000 x at in (omega (arith, same), omega (arith, same)))
+    (word_behind conflicts_row.name words) n e
+
+bases_range : (words : List (List ℕ)) (n : ℕ) → value basis_row words ≡ Some n → 0 < n
+bases_range words n e =
+    in_row basis_row (λ (x : ℕ). 0 < x)
+    basis_range
+    (λ (x : ℕ) at. let same = some_is 65535 x at in omega (arith, same))
+    (word_behind basis_row.name words) n e
+
+askable : (c d : Command) → c ≡ d → IsAskable c → IsAskable d
+askable c d e is = subst (λ (x : Command). IsAskable x) e is
+
+synth_range : (words : List (List ℕ)) (c : Command) → command_with Synth words ≡ Some c → IsAskable c
+synth_range words c e =
+    let made = synth_made (value basis_row words) (value method_row words) (value max_row words) (value conflicts_row words) c e in
+    let within = conflicts_range words made.0.conflicts made.5 in
+    let is : IsInRange made.0 = record { basis_from = bases_range words made.0.basis made.2; max_to = max_range words made.0.max made.4; conflicts_from = within.0; conflicts_to = within.1 } in
+    askable (commands.Synth made.0) c made.1 is
+
+kind_range : (kind : Kind) (words : List (List ℕ)) (c : Command) → command_with kind words ≡ Some c → IsAskable c
+kind_range Agree words c e = askable commands.Agree c (some_is _ c e) tt
+kind_range Recheck words c e = askable commands.Recheck c (some_is _ c e) tt
+kind_range Synth words c e = synth_range words c e
+kind_range Improve words c e =
+    let made = improve_made (value cap_row words) (value format_row words) c e in
+    askable commands.Improve c made.2 tt
+
+-- what a test lets through
+pub passed : {A : Type 0} (t : Bool) (o : Option A) (x : A) → cond t o None ≡ Some x → (t ≡ true) × (o ≡ Some x)
+passed true o x e = (refl, e)
+passed false o x e = absurd cc
+
+in_range : (o : Option Kind) (words : List (List ℕ)) (c : Command) → command_in o words ≡ Some c → IsAskable c
+in_range None words c e = absurd cc
+in_range (Some kind) words c e = kind_range kind words c (passed (are_options (options_of kind) words) (command_with kind words) c e).1
+
+pub command_range : (words : List (List ℕ)) (c : Command) → command_of words ≡ Some c → IsAskable c
+unfolding command_of
+command_range [] c e = absurd cc
+command_range (name ∷ words) c e = in_range (kind_named name) words c e
+
+pub asked_range : (words : List (List ℕ)) (o : Option Command) (c : Command) → o ≡ command_of words → o ≡ Some c → IsAskable c
+asked_range words o c is e = command_range words c (sym is ∙ e)
+
+pub ruleset reading = (common_steps, asked_range)

@@ -1,0 +1,304 @@
+-- Words ask for a command exactly where they are its name and pairs.
+use Rattle.std.specs.Prelude.{◌≡◌, ℕ, List, [], ◌∷◌, Bool, true, false, not, ◌&&◌, ◌||◌, cond, Option, Some, None, is_some, All}
+use Rattle.std.proofs.Common.{arith, sym, ◌∙◌, ap, subst, refl}
+use Rattle.std.specs.List.{IsDistinct, AllByRecursion, list_any}
+use Rattle.std.specs.List.Sorted.{IsPermutation}
+use Rattle.std.specs.Map.{lookup, keys_of}
+use Rattle.std.proofs.lemmas.Slice.Eq.{bytes_eq-Decides}
+use Rattle.std.proofs.lemmas.Cmp.{nat_list_eq_equiv}
+use Rattle.std.proofs.lemmas.List.Concat.{flat_map-cons}
+use Rattle.std.proofs.lemmas.List.Elements.{All-cons, All-head, All-nil, All-tail}
+use Rattle.std.proofs.lemmas.List.Sorted.{All-permutation, Contains-permutation, IsPermutation-map, IsPermutation-sym}
+use Rattle.std.proofs.lemmas.Map.Keys.{IsDistinct-cons, IsDistinct-head, IsDistinct-tail, IsDistinct-IsPermutation}
+use Rattle.std.proofs.lemmas.Map.Made.{is_some-lookup}
+use Rattle.std.proofs.lemmas.Map.Views.{lookup-from_Contains, Contains-from_lookup}
+use Rattle.command_line.specs.declared.command.Command.{Command}
+use Rattle.command_line.specs.declared.command.Command.TheVariants as commands
+use Rattle.command_line.specs.declared.table.Kind.{Kind}
+use Rattle.command_line.specs.declared.table.Kind.TheVariants.{Agree, Recheck, Synth, Improve}
+use Rattle.command_line.specs.declared.table.Format.{Format}
+use Rattle.command_line.specs.declared.table.Format.TheVariants.{Blif}
+use Rattle.command_line.specs.Options.{Row, is_word, is_among, basis_row, method_row, max_row, conflicts_row, cap_row, format_row, kind_text, kind_named, options_of}
+use Rattle.command_line.specs.CommandLine.{word_behind, is_named, are_options, value_in, value, command_with, command_in, command_of, AsksFor}
+use Rattle.command_line.specs.Spelling.{Pair, both, flat, Gives, GivesSynth, GivesImprove, GivesAll, kind_of, Spells}
+use Rattle.command_line.proofs.Ranges.{some_is, passed, synth_made, improve_made, in_row, number_range}
+
+-- ---- tests
+
+word_same : (x y : List ℕ) → is_word x y ≡ true → x ≡ y
+word_same x y e = (bytes_eq-Decides x y).0 e
+
+all_three : (a b c : Bool) → (a && b && c) ≡ true → (a ≡ true) × (b ≡ true) × (c ≡ true)
+all_three true true true e = (refl, refl, refl)
+all_three true true false e = absurd cc
+all_three true false c e = absurd cc
+all_three false b c e = absurd cc
+
+three : (a b c : Bool) → a ≡ true → b ≡ true → c ≡ true → (a && b && c) ≡ true
+three true true true p q r = refl
+three true true false p q r = absurd cc
+three true false c p q r = absurd cc
+three false b c p q r = absurd cc
+
+not_true : (b : Bool) → not b ≡ true → b ≡ false
+not_true true e = absurd cc
+not_true false e = refl
+
+neither : (a b : Bool) → (a || b) ≡ false → (a ≡ false) × (b ≡ false)
+neither true b e = absurd cc
+neither false b e = (refl, e)
+
+both_false : (a b : Bool) → a ≡ false → b ≡ false → (a || b) ≡ false
+both_false true b p q = absurd cc
+both_false false b p q = q
+
+none_passes : (p : List ℕ → Bool) (xs : List (List ℕ)) → list_any p xs ≡ false → AllByRecursion (λ y. p y ≡ false) xs
+none_passes p [] e = tt
+none_passes p (x ∷ xs) e = let apart = neither (p x) (list_any p xs) e in (apart.0, none_passes p xs apart.1)
+
+none_found : (p : List ℕ → Bool) (xs : List (List ℕ)) → AllByRecursion (λ y. p y ≡ false) xs → list_any p xs ≡ false
+none_found p [] none = refl
+none_found p (x ∷ xs) none = both_false (p x) (list_any p xs) none.0 (none_found p xs none.1)
+
+-- ---- words of pairs
+
+-- the word behind a name is that of the first pair with it
+behind_is : (name : List ℕ) (pairs : List Pair) → word_behind name (flat pairs) ≡ lookup (is_word name) pairs
+unfolding word_behind
+behind_is name [] = refl
+behind_is name (p ∷ pairs) = ap (word_behind name) (flat_map-cons both p pairs) ∙ ap (λ (o : Option (List ℕ)). cond (is_word name p.0) (Some p.1) o) (behind_is name pairs)
+
+named_is : (name : List ℕ) (pairs : List Pair) → is_named name (flat pairs) ≡ list_any (is_word name) (keys_of pairs)
+named_is name pairs = ap is_some (behind_is name pairs) ∙ is_some-lookup (is_word name) pairs
+
+-- what the words of options are
+pub paired : (names : List (List ℕ)) (words : List (List ℕ)) → are_options names words ≡ true → (pairs : List Pair) × (words ≡ flat pairs)
+unfolding are_options
+paired names [] e = ([], refl)
+paired names (n ∷ []) e = absurd cc
+paired names (n ∷ word ∷ words) e =
+    let parts = all_three (is_among n names) (not (is_named n words)) (are_options names words) e in
+    let rest = paired names words parts.2 in
+    let p : Pair = (n, word) in
+    (p ∷ rest.0, ap (λ (w : List (List ℕ)). n ∷ word ∷ w) rest.1 ∙ sym (flat_map-cons both p rest.0))
+
+none_distinct : IsDistinct is_word []
+unfolding IsDistinct
+none_distinct = tt
+
+-- the pair's name is one of these
+abbrev IsOf : List (List ℕ) → Pair → Type 0
+IsOf names p = is_among p.0 names ≡ true
+
+record Options (names : List (List ℕ)) (pairs : List Pair) : Type 0 where
+  taken : All (IsOf names) pairs
+  once : IsDistinct is_word (keys_of pairs)
+
+options_back : (names : List (List ℕ)) (pairs : List Pair) → are_options names (flat pairs) ≡ true → Options names pairs
+unfolding are_options
+options_back names [] e = record { taken = All-nil (IsOf names); once = none_distinct }
+options_back names (p ∷ pairs) e =
+    let whole : are_options names (p.0 ∷ p.1 ∷ flat pairs) ≡ true = ap (are_options names) (sym (flat_map-cons both p pairs)) ∙ e in
+    let parts = all_three (is_among p.0 names) (not (is_named p.0 (flat pairs))) (are_options names (flat pairs)) whole in
+    let rest = options_back names pairs parts.2 in
+    record {
+      taken = All-cons (IsOf names) p pairs parts.0 rest.taken;
+      once = IsDistinct-cons is_word p.0 (keys_of pairs) (none_passes (is_word p.0) (keys_of pairs) (sym (named_is p.0 pairs) ∙ not_true _ parts.1)) rest.once;
+    }
+
+options_are : (names : List (List ℕ)) (pairs : List Pair) → All (IsOf names) pairs → IsDistinct is_word (keys_of pairs) → are_options names (flat pairs) ≡ true
+unfolding are_options
+options_are names [] taken once = refl
+options_are names (p ∷ pairs) taken once =
+    let free : is_named p.0 (flat pairs) ≡ false = named_is p.0 pairs ∙ none_found (is_word p.0) (keys_of pairs) (IsDistinct-head is_word p.0 (keys_of pairs) once) in
+    let rest = options_are names pairs (All-tail (IsOf names) p pairs taken) (IsDistinct-tail is_word p.0 (keys_of pairs) once) in
+    ap (are_options names) (flat_map-cons both p pairs)
+    ∙ three (is_among p.0 names) (not (is_named p.0 (flat pairs))) (are_options names (flat pairs)) (All-head (IsOf names) p pairs taken) (ap not free) rest
+
+-- ---- values
+
+gives_by : {A : Type 0} (row : Row A) (pairs : List Pair) (x : A) (o : Option (List ℕ)) → IsDistinct is_word (keys_of pairs) → lookup (is_word row.name) pairs ≡ o → value_in row o ≡ Some x → Gives row pairs x
+gives_by row pairs x None once is e = record {
+  named = λ (word : List ℕ) there. let found = lookup-from_Contains nat_list_eq_equiv row.name word pairs once there in absurd cc;
+  unnamed = λ none. e;
+}
+gives_by row pairs x (Some w) once is e = record {
+  named = λ (word : List ℕ) there.
+      let found = lookup-from_Contains nat_list_eq_equiv row.name word pairs once there in
+      subst (λ (v : List ℕ). row.read v ≡ Some x) (some_is w word (sym is ∙ found)) e;
+  unnamed = λ none. absurd (none w (Contains-from_lookup word_same row.name w pairs is));
+}
+
+gives : {A : Type 0} (row : Row A) (pairs : List Pair) (x : A) → IsDistinct is_word (keys_of pairs) → value row (flat pairs) ≡ Some x → Gives row pairs x
+gives row pairs x once e = gives_by row pairs x (lookup (is_word row.name) pairs) once refl (ap (value_in row) (sym (behind_is row.name pairs)) ∙ e)
+
+value_by : {A : Type 0} (row : Row A) (pairs : List Pair) (x : A) (o : Option (List ℕ)) → IsDistinct is_word (keys_of pairs) → lookup (is_word row.name) pairs ≡ o → Gives row pairs x → value_in row o ≡ Some x
+value_by row pairs x None once is g = g.unnamed (λ (word : List ℕ) there. let found = lookup-from_Contains nat_list_eq_equiv row.name word pairs once there in absurd cc)
+value_by row pairs x (Some w) once is g = g.named w (Contains-from_lookup word_same row.name w pairs is)
+
+value_is : {A : Type 0} (row : Row A) (pairs : List Pair) (x : A) → IsDistinct is_word (keys_of pairs) → Gives row pairs x → value row (flat pairs) ≡ Some x
+value_is row pairs x once g = ap (value_in row) (behind_is row.name pairs) ∙ value_by row pairs x (lookup (is_word row.name) pairs) once refl g
+
+gives_again : {A : Type 0} (row : Row A) (pairs other : List Pair) (x : A) → IsPermutation pairs other → Gives row pairs x → Gives row other x
+gives_again row pairs other x moved g = record {
+  named = λ (word : List ℕ) there. g.named word (Contains-permutation other pairs _ (IsPermutation-sym pairs other moved) there);
+  unnamed = λ none. g.unnamed (λ (word : List ℕ) there. none word (Contains-permutation pairs other _ moved there));
+}
+
+-- ---- commands
+
+cap_zero : (words : List (List ℕ)) (n : ℕ) → value cap_row words ≡ Some n → n ≡ 0
+cap_zero words n e =
+    in_row cap_row (λ (x : ℕ). x ≡ 0)
+    (λ (word : List ℕ) (x : ℕ) at. let within = number_range 0 0 x word (omega arith) at in omega (arith, within.1))
+    (λ (x : ℕ) at. absurd cc)
+    (word_behind cap_row.name words) n e
+
+blif_it_is : (f : Format) → f ≡ Blif
+blif_it_is Blif = refl
+
+-- what a command of this kind is, with these pairs
+abbrev IsMade : Kind → List Pair → Command → Type 0
+IsMade kind pairs c = (kind_of c ≡ kind) × GivesAll pairs c
+
+made : (kind : Kind) (pairs : List Pair) (c : Command) → IsDistinct is_word (keys_of pairs) → command_with kind (flat pairs) ≡ Some c → IsMade kind pairs c
+made Agree pairs c once e = subst (λ (d : Command). IsMade Agree pairs d) (some_is commands.Agree c e) (refl, tt)
+made Recheck pairs c once e = subst (λ (d : Command). IsMade Recheck pairs d) (some_is commands.Recheck c e) (refl, tt)
+made Synth pairs c once e =
+    let m = synth_made (value basis_row (flat pairs)) (value method_row (flat pairs)) (value max_row (flat pairs)) (value conflicts_row (flat pairs)) c e in
+    let all : GivesSynth pairs m.0 = record {
+      basis = gives basis_row pairs m.0.basis once m.2;
+      method = gives method_row pairs m.0.method once m.3;
+      max = gives max_row pairs m.0.max once m.4;
+      conflicts = gives conflicts_row pairs m.0.conflicts once m.5;
+    } in
+    subst (λ (d : Command). IsMade Synth pairs d) m.1 (refl, all)
+made Improve pairs c once e =
+    let m = improve_made (value cap_row (flat pairs)) (value format_row (flat pairs)) c e in
+    let zero_it_is : m.0 ≡ 0 = cap_zero (flat pairs) m.0 m.3 in
+    let all : GivesImprove pairs = record {
+      cap = gives cap_row pairs 0 once (m.3 ∙ ap (λ (n : ℕ). Some n) zero_it_is);
+      format = gives format_row pairs Blif once (m.4 ∙ ap (λ (f : Format). Some f) (blif_it_is m.1));
+    } in
+    subst (λ (d : Command). IsMade Improve pairs d) m.2 (refl, all)
+
+made_back : (c : Command) (pairs : List Pair) → IsDistinct is_word (keys_of pairs) → GivesAll pairs c → command_with (kind_of c) (flat pairs) ≡ Some c
+made_back commands.Agree pairs once all = refl
+made_back commands.Recheck pairs once all = refl
+made_back (commands.Synth s) pairs once all =
+    rw (value_is basis_row pairs s.basis once all.basis, value_is method_row pairs s.method once all.method, value_is max_row pairs s.max once all.max, value_is conflicts_row pairs s.conflicts once all.conflicts) refl
+made_back commands.Improve pairs once all =
+    rw (value_is cap_row pairs 0 once all.cap, value_is format_row pairs Blif once all.format) refl
+
+given_again : (c : Command) (pairs other : List Pair) → IsPermutation pairs other → GivesAll pairs c → GivesAll other c
+given_again commands.Agree pairs other moved all = tt
+given_again commands.Recheck pairs other moved all = tt
+given_again (commands.Synth s) pairs other moved all = record {
+  basis = gives_again basis_row pairs other s.basis moved all.basis;
+  method = gives_again method_row pairs other s.method moved all.method;
+  max = gives_again max_row pairs other s.max moved all.max;
+  conflicts = gives_again conflicts_row pairs other s.conflicts moved all.conflicts;
+}
+given_again commands.Improve pairs other moved all = record {
+  cap = gives_again cap_row pairs other 0 moved all.cap;
+  format = gives_again format_row pairs other Blif moved all.format;
+}
+
+-- ---- names of commands
+
+kind_when : (name : List ℕ) (kind other : Kind) (t : Bool) (o : Option Kind) → is_word name (kind_text other) ≡ t → (o ≡ Some kind → name ≡ kind_text kind) → cond t (Some other) o ≡ Some kind → name ≡ kind_text kind
+kind_when name kind other true o is next e = word_same name (kind_text other) is ∙ ap kind_text (some_is other kind e)
+kind_when name kind other false o is next e = next e
+
+kind_by : (name : List ℕ) (kind other : Kind) (o : Option Kind) → (o ≡ Some kind → name ≡ kind_text kind) → cond (is_word name (kind_text other)) (Some other) o ≡ Some kind → name ≡ kind_text kind
+kind_by name kind other o next = kind_when name kind other (is_word name (kind_text other)) o refl next
+
+kind_is : (name : List ℕ) (kind : Kind) → kind_named name ≡ Some kind → name ≡ kind_text kind
+kind_is name kind =
+    kind_by name kind Agree _
+    (kind_by name kind Recheck _
+    (kind_by name kind Synth _
+    (kind_by name kind Improve _
+    (λ (e : None ≡ Some kind). absurd cc))))
+
+kind_back : (kind : Kind) → kind_named (kind_text kind) ≡ Some kind
+kind_back Agree = refl
+kind_back Recheck = refl
+kind_back Synth = refl
+kind_back Improve = refl
+
+-- ---- both directions
+
+-- a name and these very pairs spell a command
+record SpelledAs (name : List ℕ) (pairs : List Pair) (c : Command) : Type 0 where
+  name_is : name ≡ kind_text (kind_of c)
+  taken : All (IsOf (options_of (kind_of c))) pairs
+  once : IsDistinct is_word (keys_of pairs)
+  given : GivesAll pairs c
+
+asks_by : (name : List ℕ) (pairs : List Pair) (c : Command) (o : Option Kind) → kind_named name ≡ o → command_in o (flat pairs) ≡ Some c → SpelledAs name pairs c
+asks_by name pairs c None is e = absurd cc
+asks_by name pairs c (Some kind) is e =
+    let parts = passed (are_options (options_of kind) (flat pairs)) (command_with kind (flat pairs)) c e in
+    let options = options_back (options_of kind) pairs parts.0 in
+    let m = made kind pairs c options.once parts.1 in
+    record {
+      name_is = kind_is name kind is ∙ ap kind_text (sym m.0);
+      taken = subst (λ (k : Kind). All (IsOf (options_of k)) pairs) (sym m.0) options.taken;
+      once = options.once;
+      given = m.1;
+    }
+
+spelled_as : (name : List ℕ) (pairs : List Pair) (c : Command) → AsksFor (name ∷ flat pairs) c → SpelledAs name pairs c
+unfolding command_of
+spelled_as name pairs c e = asks_by name pairs c (kind_named name) refl e
+
+some_pairs : (o : Option Kind) (words : List (List ℕ)) (c : Command) → command_in o words ≡ Some c → (pairs : List Pair) × (words ≡ flat pairs)
+some_pairs None words c e = absurd cc
+some_pairs (Some kind) words c e = paired (options_of kind) words (passed (are_options (options_of kind) words) (command_with kind words) c e).0
+
+pairs_there : (words : List (List ℕ)) (c : Command) → AsksFor words c → (name : List ℕ) × (pairs : List Pair) × (words ≡ name ∷ flat pairs)
+unfolding command_of
+pairs_there [] c e = absurd cc
+pairs_there (name ∷ words) c e =
+    let found = some_pairs (kind_named name) words c e in
+    (name, found.0, ap (λ (w : List (List ℕ)). name ∷ w) found.1)
+
+pub asks_are_spelled : (words : List (List ℕ)) (c : Command) → AsksFor words c → Spells words c
+asks_are_spelled words c e =
+    let there = pairs_there words c e in
+    let said = spelled_as there.0 there.1 c (subst (λ (w : List (List ℕ)). AsksFor w c) there.2 e) in
+    record {
+      pairs = there.1;
+      are = there.2 ∙ ap (λ (n : List ℕ). n ∷ flat there.1) said.name_is;
+      taken = said.taken;
+      once = said.once;
+      given = said.given;
+    }
+
+asked_of : (c : Command) (pairs : List Pair) → All (IsOf (options_of (kind_of c))) pairs → IsDistinct is_word (keys_of pairs) → GivesAll pairs c → AsksFor (kind_text (kind_of c) ∷ flat pairs) c
+unfolding command_of
+asked_of c pairs taken once given =
+    ap (λ (o : Option Kind). command_in o (flat pairs)) (kind_back (kind_of c))
+    ∙ ap (λ (t : Bool). cond t (command_with (kind_of c) (flat pairs)) None) (options_are (options_of (kind_of c)) pairs taken once)
+    ∙ made_back c pairs once given
+
+pub spelled_are_asked : (words : List (List ℕ)) (c : Command) → Spells words c → AsksFor words c
+spelled_are_asked words c s = subst (λ (w : List (List ℕ)). AsksFor w c) (sym s.are) (asked_of c s.pairs s.taken s.once s.given)
+
+-- ---- the order of pairs
+
+word_flips : (x y : List ℕ) → is_word x y ≡ is_word y x
+word_flips = nat_list_eq_equiv.symm
+
+again : (name : List ℕ) (pairs other : List Pair) (c : Command) → IsPermutation pairs other → SpelledAs name pairs c → Spells (name ∷ flat other) c
+again name pairs other c moved s = record {
+  pairs = other;
+  are = ap (λ (n : List ℕ). n ∷ flat other) s.name_is;
+  taken = All-permutation (IsOf (options_of (kind_of c))) pairs other moved s.taken;
+  once = IsDistinct-IsPermutation is_word word_flips (keys_of pairs) (keys_of other) (IsPermutation-map (λ (p : Pair). p.0) pairs other moved) s.once;
+  given = given_again c pairs other moved s.given;
+}
+
+pub order_is_free : (name : List ℕ) (pairs other : List Pair) (c : Command) → IsPermutation pairs other → AsksFor (name ∷ flat pairs) c → AsksFor (name ∷ flat other) c
+order_is_free name pairs other c moved asks = spelled_are_asked (name ∷ flat other) c (again name pairs other c moved (spelled_as name pairs c asks))

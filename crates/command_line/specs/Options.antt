@@ -1,0 +1,96 @@
+-- The one table of options: how each is named and read, and which command takes it.
+use Rattle.std.specs.Prelude.{ℕ, List, [], ◌∷◌, codes, nat_eq, nat_lt, Bool, Option, Some, None, Result, Ok, Err, if◌then◌else◌}
+use Rattle.std.specs.List.{list_any}
+use Rattle.std.specs.Cmp.Lexicographic.{pointwise}
+use Rattle.text_core.specs.Numbers.{number_up_to}
+use Rattle.op_basis.specs.Text.{basis_of}
+use Rattle.op_basis.specs.declared.error.BasisError.{BasisError}
+use Rattle.enc_theory.specs.declared.data.Method.{Method}
+use Rattle.settings.specs.Methods.{method_named}
+use Rattle.settings.specs.Synth.{usual, most_steps, most_conflicts}
+use Rattle.command_line.specs.declared.table.Kind.{Kind}
+use Rattle.command_line.specs.declared.table.Kind.TheVariants.{Agree, Recheck, Synth, Improve}
+use Rattle.command_line.specs.declared.table.Format.{Format}
+use Rattle.command_line.specs.declared.table.Format.TheVariants.{Blif}
+
+abbrev pub is_word : List ℕ → List ℕ → Bool
+is_word = pointwise nat_eq
+
+abbrev pub is_among : List ℕ → List (List ℕ) → Bool
+is_among name names = list_any (is_word name) names
+
+-- An option: its name, how the word behind it is read, and what holds where it isn't named. An option
+-- without a default has to be named.
+pub record Row (A : Type 0) : Type 0 where
+  pub name : List ℕ
+  pub read : List ℕ → Option A
+  pub default : Option A
+
+-- ---- how words are read
+
+abbrev pub from_on : ℕ → Option ℕ → Option ℕ
+from_on low None = None
+from_on low (Some n) = if nat_lt n low then None else Some n
+
+abbrev pub number_within : ℕ → ℕ → List ℕ → Option ℕ
+number_within low high word = from_on low (number_up_to high word)
+
+abbrev pub number_row : List ℕ → ℕ → ℕ → Option ℕ → Row ℕ
+number_row name low high default = record { name = name; read = number_within low high; default = default }
+
+abbrev pub basis_or_none : Result ℕ BasisError → Option ℕ
+basis_or_none (Ok basis) = Some basis
+basis_or_none (Err e) = None
+
+abbrev pub basis_in : List ℕ → Option ℕ
+basis_in word = basis_or_none (basis_of word)
+
+abbrev pub format_in : List ℕ → Option Format
+format_in word = if is_word word (codes "blif") then Some Blif else None
+
+-- ---- the rows
+
+abbrev pub basis_row : Row ℕ
+basis_row = record { name = codes "--basis"; read = basis_in; default = Some usual.basis }
+
+abbrev pub method_row : Row Method
+method_row = record { name = codes "--method"; read = method_named; default = Some usual.method }
+
+-- the greatest size that is tried
+abbrev pub max_row : Row ℕ
+max_row = number_row (codes "--max") 0 most_steps (Some usual.max)
+
+-- the budget of a formula
+abbrev pub conflicts_row : Row ℕ
+conflicts_row = number_row (codes "--conflicts") 1 most_conflicts (Some usual.conflicts)
+
+-- the most gates of a window: none so far, and it has to be named
+abbrev pub cap_row : Row ℕ
+cap_row = number_row (codes "--cap") 0 0 None
+
+abbrev pub format_row : Row Format
+format_row = record { name = codes "--format"; read = format_in; default = Some Blif }
+
+-- ---- which command takes which
+
+abbrev pub kind_text : Kind → List ℕ
+kind_text Agree = codes "agree"
+kind_text Recheck = codes "recheck"
+kind_text Synth = codes "synth"
+kind_text Improve = codes "improve"
+
+-- the command of a name
+abbrev pub kind_named : List ℕ → Option Kind
+kind_named name =
+    if is_word name (kind_text Agree) then Some Agree
+    else (if is_word name (kind_text Recheck) then Some Recheck
+    else (if is_word name (kind_text Synth) then Some Synth
+    else (if is_word name (kind_text Improve) then Some Improve
+    else None)))
+
+-- the names of the options that a command takes
+abbrev pub options_of : Kind → List (List ℕ)
+options_of Agree = []
+options_of Recheck = []
+options_of Synth = basis_row.name ∷ method_row.name ∷ max_row.name ∷ conflicts_row.name ∷ []
+options_of Improve = cap_row.name ∷ format_row.name ∷ []

@@ -1,0 +1,60 @@
+-- How a command line is spelled: a name, and pairs of a name and a value in any order.
+use Rattle.std.specs.Prelude.{◌≡◌, ℕ, List, [], ◌∷◌, true, Some, All, Contains}
+use Rattle.std.specs.List.{IsDistinct, flat_map}
+use Rattle.std.specs.Map.{keys_of}
+use Rattle.settings.specs.declared.synth.SynthSettings.{SynthSettings}
+use Rattle.command_line.specs.declared.command.Command.{Command}
+use Rattle.command_line.specs.declared.command.Command.TheVariants as commands
+use Rattle.command_line.specs.declared.table.Kind.{Kind}
+use Rattle.command_line.specs.declared.table.Kind.TheVariants as kinds
+use Rattle.command_line.specs.declared.table.Format.TheVariants.{Blif}
+use Rattle.command_line.specs.Options.{Row, is_word, is_among, basis_row, method_row, max_row, conflicts_row, cap_row, format_row, kind_text, options_of}
+
+-- a name and the word behind it
+abbrev pub Pair : Type 0
+Pair = List ℕ × List ℕ
+
+abbrev pub both : Pair → List (List ℕ)
+both p = p.0 ∷ p.1 ∷ []
+
+-- the words of pairs
+abbrev pub flat : List Pair → List (List ℕ)
+flat pairs = flat_map both pairs
+
+-- Pairs give an option this value: what the word behind its name reads as, and its default where the
+-- name isn't there.
+pub record Gives {A : Type 0} (row : Row A) (pairs : List Pair) (x : A) : Type 0 where
+  pub named : (word : List ℕ) → Contains pairs (row.name, word) → row.read word ≡ Some x
+  pub unnamed : ((word : List ℕ) → Contains pairs (row.name, word) → ⊥) → row.default ≡ Some x
+
+pub record GivesSynth (pairs : List Pair) (s : SynthSettings) : Type 0 where
+  pub basis : Gives basis_row pairs s.basis
+  pub method : Gives method_row pairs s.method
+  pub max : Gives max_row pairs s.max
+  pub conflicts : Gives conflicts_row pairs s.conflicts
+
+pub record GivesImprove (pairs : List Pair) : Type 0 where
+  pub cap : Gives cap_row pairs 0
+  pub format : Gives format_row pairs Blif
+
+-- pairs give what a command is asked with
+abbrev pub GivesAll : List Pair → Command → Type 0
+GivesAll pairs commands.Agree = Unit {0}
+GivesAll pairs commands.Recheck = Unit {0}
+GivesAll pairs (commands.Synth settings) = GivesSynth pairs settings
+GivesAll pairs commands.Improve = GivesImprove pairs
+
+abbrev pub kind_of : Command → Kind
+kind_of commands.Agree = kinds.Agree
+kind_of commands.Recheck = kinds.Recheck
+kind_of (commands.Synth settings) = kinds.Synth
+kind_of commands.Improve = kinds.Improve
+
+-- Words are a command's name and then pairs. Each pair's name is that of an option which the command
+-- takes, no name comes twice, and the pairs give what the command is asked with.
+pub record Spells (words : List (List ℕ)) (command : Command) : Type 0 where
+  pub pairs : List Pair
+  pub are : words ≡ kind_text (kind_of command) ∷ flat pairs
+  pub taken : All (λ (p : Pair). is_among p.0 (options_of (kind_of command)) ≡ true) pairs
+  pub once : IsDistinct is_word (keys_of pairs)
+  pub given : GivesAll pairs command

@@ -1,0 +1,27 @@
+//! What the definitions come to. Each law is the contract of a function that does nothing.
+ghost use Rattle.std.specs.Prelude.{◌↔◌, ℕ, List, ◌∷◌};
+ghost use Rattle.std.specs.List.Sorted.{IsPermutation};
+ghost use Rattle.settings.specs.declared.synth.SynthSettings.{SynthSettings};
+ghost use Rattle.settings.specs.Synth.{IsInRange};
+ghost use Rattle.command_line.specs.declared.command.Command.{Command};
+ghost use Rattle.command_line.specs.declared.command.Command.TheVariants.{Synth};
+ghost use Rattle.command_line.specs.CommandLine.{AsksFor};
+ghost use Rattle.command_line.specs.Spelling.{Pair, flat, Spells};
+
+/// Words ask for a command exactly where they are its name and pairs of a name and a value: each name
+/// that of an option which the command takes, and no name twice. The value of an option that is named
+/// is what its word reads as, and of one that isn't named its default.
+pub fn words_are_a_name_and_pairs()
+    ensures { (words : List (List ℕ)) (command : Command) → AsksFor words command ↔ Spells words command }
+{}
+
+/// In which order the pairs stand is all the same.
+pub fn order_of_options_is_free()
+    ensures { (name : List ℕ) (pairs other : List Pair) (command : Command) → IsPermutation pairs other →
+        AsksFor (name ∷ flat pairs) command → AsksFor (name ∷ flat other) command }
+{}
+
+/// What `synth` is asked with is in its ranges.
+pub fn settings_are_in_range()
+    ensures { (words : List (List ℕ)) (settings : SynthSettings) → AsksFor words (Synth settings) → IsInRange settings }
+{}

@@ -1,0 +1,60 @@
+//! Names and values by turns, as words have them behind a command.
+ghost use Rattle.std.specs.Prelude.{◌≡◌, ℕ, List, map};
+ghost use Rattle.std.specs.Borrow.{Bor};
+ghost use Rattle.std.specs.Option.{option_map};
+ghost use Rattle.std.specs.String.{string_bytes};
+ghost use Rattle.command_line.specs.Options.{options_of, is_word as is_word_of};
+ghost use Rattle.command_line.specs.CommandLine as spec;
+
+use crate::table::{Kind, takes};
+
+/// Whether two words are the same.
+pub(crate) fn is_word(word: &[u8], name: &[u8]) -> bool
+    ensures { result ≡ is_word_of word.now name.now }
+{
+    word == name
+}
+
+/// The word behind a name; None where it isn't named.
+#[tactic(auto, unfolding(crate::specs::CommandLine::word_behind))]
+pub(crate) fn word_behind<'a>(name: &[u8], words: &'a [String]) -> Option<&'a [u8]>
+    ensures { option_map (λ (x : Bor (List ℕ)). x.now) result ≡ spec.word_behind name.now (map string_bytes words.now) }
+{
+    let mut left = words;
+    while let Some((found, after)) = left.split_first() {
+        let Some((word, rest)) = after.split_first() else {
+            return None;
+        };
+        if is_word(name, found.as_bytes()) {
+            return Some(word.as_bytes());
+        }
+        left = rest;
+    }
+    None
+}
+
+/// Whether a name is named among pairs.
+fn is_named(name: &[u8], words: &[String]) -> bool
+    ensures { result ≡ spec.is_named name.now (map string_bytes words.now) }
+{
+    word_behind(name, words).is_some()
+}
+
+/// Whether words are names and values by turns, each name that of an option which the command takes,
+/// and none twice.
+#[tactic(auto, unfolding(crate::specs::CommandLine::are_options))]
+pub(crate) fn are_options(kind: Kind, words: &[String]) -> bool
+    ensures { result ≡ spec.are_options (options_of kind) (map string_bytes words.now) }
+{
+    let mut left = words;
+    while let Some((name, after)) = left.split_first() {
+        let Some((_, rest)) = after.split_first() else {
+            return false;
+        };
+        if !takes(kind, name.as_bytes()) || is_named(name.as_bytes(), rest) {
+            return false;
+        }
+        left = rest;
+    }
+    true
+}

@@ -1,0 +1,149 @@
+//! The one table of options: how each is named and read, what holds where it isn't named, and which
+//! command takes it. `specs/Options.antt` is the same table.
+ghost use Rattle.std.specs.Prelude.{◌≡◌, map};
+ghost use Rattle.std.specs.String.{string_bytes};
+ghost use Rattle.command_line.specs.Options as spec;
+ghost use Rattle.command_line.specs.CommandLine.{value};
+
+use crate::pairs::{is_word, word_behind};
+use op_basis::{Basis, read_basis};
+use settings::{MOST_CONFLICTS, MOST_STEPS, Method, SynthSettings, method_named};
+use text_core::number_up_to;
+
+/// A command by its name.
+#[derive(Clone, Copy, Debug, PartialEq, Eq)]
+pub(crate) enum Kind {
+    Agree,
+    Recheck,
+    Synth,
+    Improve,
+}
+
+/// A format of netlists.
+#[derive(Clone, Copy, Debug, PartialEq, Eq)]
+pub(crate) enum Format {
+    Blif,
+}
+
+const BASIS: &[u8] = b"--basis";
+
+const METHOD: &[u8] = b"--method";
+
+const MAX: &[u8] = b"--max";
+
+const CONFLICTS: &[u8] = b"--conflicts";
+
+const CAP: &[u8] = b"--cap";
+
+const FORMAT: &[u8] = b"--format";
+
+/// The command of a name.
+pub(crate) fn kind_named(name: &[u8]) -> Option<Kind>
+    ensures { result ≡ spec.kind_named name.now }
+{
+    if is_word(name, b"agree") {
+        return Some(Kind::Agree);
+    }
+    if is_word(name, b"recheck") {
+        return Some(Kind::Recheck);
+    }
+    if is_word(name, b"synth") {
+        return Some(Kind::Synth);
+    }
+    if is_word(name, b"improve") {
+        return Some(Kind::Improve);
+    }
+    None
+}
+
+/// Whether a command takes the option of a name.
+pub(crate) fn takes(kind: Kind, name: &[u8]) -> bool
+    ensures { result ≡ spec.is_among name.now (spec.options_of kind) }
+{
+    match kind {
+        Kind::Agree | Kind::Recheck => false,
+        Kind::Synth => {
+            is_word(name, BASIS)
+                || is_word(name, METHOD)
+                || is_word(name, MAX)
+                || is_word(name, CONFLICTS)
+        }
+        Kind::Improve => is_word(name, CAP) || is_word(name, FORMAT),
+    }
+}
+
+/// A number from `low` to `high`.
+fn number_within(low: u32, high: u32, word: &[u8]) -> Option<u32>
+    ensures { result ≡ spec.number_within low high word.now }
+{
+    match number_up_to(high, word) {
+        Some(n) if n >= low => Some(n),
+        _ => None,
+    }
+}
+
+/// The value of an option that is a number.
+fn number(name: &[u8], low: u32, high: u32, usual: Option<u32>, words: &[String]) -> Option<u32>
+    ensures { result ≡ value (spec.number_row name.now low high usual) (map string_bytes words.now) }
+{
+    match word_behind(name, words) {
+        None => usual,
+        Some(word) => number_within(low, high, word),
+    }
+}
+
+/// The value of `--basis`.
+pub(crate) fn given_basis(words: &[String]) -> Option<Basis>
+    ensures { result ≡ value spec.basis_row (map string_bytes words.now) }
+{
+    match word_behind(BASIS, words) {
+        None => Some(SynthSettings::usual().basis),
+        Some(word) => match read_basis(word) {
+            Ok(basis) => Some(basis),
+            Err(_) => None,
+        },
+    }
+}
+
+/// The value of `--method`.
+pub(crate) fn given_method(words: &[String]) -> Option<Method>
+    ensures { result ≡ value spec.method_row (map string_bytes words.now) }
+{
+    match word_behind(METHOD, words) {
+        None => Some(SynthSettings::usual().method),
+        Some(word) => method_named(word),
+    }
+}
+
+/// The value of `--max`.
+pub(crate) fn given_max(words: &[String]) -> Option<u32>
+    ensures { result ≡ value spec.max_row (map string_bytes words.now) }
+{
+    number(MAX, 0, MOST_STEPS, Some(SynthSettings::usual().max), words)
+}
+
+/// The value of `--conflicts`.
+pub(crate) fn given_conflicts(words: &[String]) -> Option<u32>
+    ensures { result ≡ value spec.conflicts_row (map string_bytes words.now) }
+{
+    let usual = SynthSettings::usual().conflicts;
+    number(CONFLICTS, 1, MOST_CONFLICTS, Some(usual), words)
+}
+
+/// The value of `--cap`, which has to be named.
+pub(crate) fn given_cap(words: &[String]) -> Option<u32>
+    ensures { result ≡ value spec.cap_row (map string_bytes words.now) }
+{
+    number(CAP, 0, 0, None, words)
+}
+
+/// The value of `--format`.
+pub(crate) fn given_format(words: &[String]) -> Option<Format>
+    ensures { result ≡ value spec.format_row (map string_bytes words.now) }
+{
+    match word_behind(FORMAT, words) {
+        None => Some(Format::Blif),
+        Some(word) if is_word(word, b"blif") => Some(Format::Blif),
+        Some(_) => None,
+    }
+}
