@@ -17,7 +17,7 @@ use Rattle.chain_app.specs.declared.agree.AgreeError.TheVariants as errors
 use Rattle.chain_app.specs.declared.status.Status.{Status}
 use Rattle.chain_app.specs.declared.status.Status.TheVariants.{Done, Undecided, Refused}
 use Rattle.command_line.specs.declared.command.Command.TheVariants.{Agree}
-use Rattle.command_line.specs.CommandLine.{IsLine as AsksFor}
+use Rattle.command_line.specs.CommandLine.{AsksFor}
 use Rattle.chain_app.specs.Agree.{Question, IsQuestion, HasFault, most_of_tables, IsAnswer, HasAnswer}
 use Rattle.chain_app.specs.AgreeReport.{answer_status, error_status, spec_status, chain_status, agree_reply, agree_refusal, agree_task}
 use Rattle.chain_app.specs.Task.{IsAnswerable}

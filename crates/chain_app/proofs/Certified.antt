@@ -17,7 +17,7 @@ use Rattle.cert_theory.specs.Spelling.{IsBundle}
 use Rattle.cert_theory.specs.Judging.{bundle_of}
 use Rattle.cert_theory.proofs.BundlesAgain.{text_again}
 use Rattle.cert_theory.proofs.Meanings.{verdict_means}
-use Rattle.synth_core.specs.declared.asked.Asked.{Asked}
+use Rattle.settings.specs.declared.synth.SynthSettings.{SynthSettings}
 use Rattle.synth_core.specs.Certifying.{IsCertificate}
 use Rattle.synth_core.specs.Tables.{words_alone, tables_alone}
 use Rattle.chain_app.specs.RecheckReport.{most_of_bundle, IsVerdict, GivesVerdict}
@@ -42,7 +42,7 @@ tables_are : (a b : Words) (bytes : List ℕ) → IsSpec a → IsSpec b → Spel
 tables_are a b bytes spec other spelled again =
     same_tables (tables_alone (lines_of bytes)) a b (ap words_alone (tables_again a (lines_of bytes) [] spec spelled)) (ap words_alone (tables_again b (lines_of bytes) [] other again))
 
-its_meaning : (asked : Asked) (bytes text : List ℕ) (verdict : Verdict) → IsCertificate bytes asked text verdict → (w : Words) → IsSpec w → SpellsTables (specification w) (lines_of bytes) [] → Means (specification w) (members asked.basis) verdict
+its_meaning : (asked : SynthSettings) (bytes text : List ℕ) (verdict : Verdict) → IsCertificate bytes asked text verdict → (w : Words) → IsSpec w → SpellsTables (specification w) (lines_of bytes) [] → Means (specification w) (members asked.basis) verdict
 its_meaning asked bytes text verdict c w spec spelled =
     means_as c.bundle.heading.spec w c.bundle.heading.basis asked.basis c.bundle.verdict verdict
     (tables_are c.bundle.heading.spec w bytes c.is_bundle.valid.heading.tables spec c.tables spelled)
@@ -56,7 +56,7 @@ same_verdict read u v is other = cc
 judged_as : (text : List ℕ) (b : Bundle) (verdict : Verdict) → IsBundle text b → b.verdict ≡ verdict → bundle_of (lines_of text) ≡ Ok verdict
 judged_as text b verdict is same = subst (λ (v : Verdict). bundle_of (lines_of text) ≡ Ok v) same (text_again text b is)
 
-its_verdict : (asked : Asked) (bytes text : List ℕ) (verdict : Verdict) → IsCertificate bytes asked text verdict → bundle_of (lines_of text) ≡ Ok verdict
+its_verdict : (asked : SynthSettings) (bytes text : List ℕ) (verdict : Verdict) → IsCertificate bytes asked text verdict → bundle_of (lines_of text) ≡ Ok verdict
 its_verdict asked bytes text verdict c = judged_as text c.bundle verdict c.is_bundle c.verdict_is
 
 is_verdict : (text : List ℕ) (b : Bundle) (verdict : Verdict) → IsBundle text b → b.verdict ≡ verdict → IsVerdict text verdict
@@ -68,7 +68,7 @@ is_verdict text b verdict is same =
       means = λ d other. subst (λ (v : Verdict). Means (specification d.heading.spec) (members d.heading.basis) v) (same_as d other) (bundle_means d text other);
     }
 
-its_recheck : (asked : Asked) (bytes text : List ℕ) (verdict : Verdict) → IsCertificate bytes asked text verdict → length text ≤ most_of_bundle → GivesVerdict text verdict
+its_recheck : (asked : SynthSettings) (bytes text : List ℕ) (verdict : Verdict) → IsCertificate bytes asked text verdict → length text ≤ most_of_bundle → GivesVerdict text verdict
 its_recheck asked bytes text verdict c within = record {
   within = within;
   read = its_verdict asked bytes text verdict c;
@@ -76,7 +76,7 @@ its_recheck asked bytes text verdict c within = record {
 }
 
 -- All that a certificate comes to.
-pub certified : (asked : Asked) (bytes : List ℕ) (c : Certified) → length bytes ≤ most_of_tables → IsCertificate bytes asked c.text c.verdict → IsCertified asked bytes c
+pub certified : (asked : SynthSettings) (bytes : List ℕ) (c : Certified) → length bytes ≤ most_of_tables → IsCertificate bytes asked c.text c.verdict → IsCertified asked bytes c
 certified asked bytes c within certificate = record {
   within = within;
   certificate = certificate;

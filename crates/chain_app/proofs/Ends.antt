@@ -2,9 +2,9 @@
 use Rattle.std.specs.Prelude.{◌≡◌, List, ℕ, Option, Some, None, Result, Ok, Err}
 use Rattle.std.proofs.Common.{sym, ◌∙◌, ap, subst, refl}
 use Rattle.command_line.specs.declared.command.Command.{Command}
-use Rattle.command_line.specs.declared.command.Command.TheVariants.{Agree, Recheck, Improve}
+use Rattle.command_line.specs.declared.command.Command.TheVariants.{Agree, Recheck, Synth, Improve}
 use Rattle.command_line.specs.declared.command.WordsError.{WordsError}
-use Rattle.command_line.specs.CommandLine.{command_of, or_usage, read, IsLine as AsksFor}
+use Rattle.command_line.specs.CommandLine.{command_of, or_usage, read, AsksFor}
 use Rattle.chain_app.specs.declared.status.Status.{Status}
 use Rattle.chain_app.specs.declared.status.Status.TheVariants.{Usage}
 use Rattle.chain_app.specs.Outside.{Side, Writes}
@@ -13,7 +13,7 @@ use Rattle.chain_app.specs.Task.{IsTask}
 use Rattle.chain_app.specs.Run.{Outcome, Run, IsRun}
 use Rattle.chain_app.specs.Ending.{Ending, Idle, Ran, IsIdle, IsEnding}
 use Rattle.chain_app.specs.Promise.{CommandPromise}
-use Rattle.chain_app.specs.Tasks.{synth_command, task_of}
+use Rattle.chain_app.specs.Tasks.{task_of}
 use Rattle.chain_app.specs.RunPromise.{RunPromise}
 use Rattle.chain_app.specs.KeepsPromises.{KeepsPromises}
 use Rattle.chain_app.proofs.Keeping.{not_usage, promised}
@@ -73,6 +73,6 @@ kept r e ends = record {
   every = every r e ends;
   agree = agree_promised r (λ asks. keeps r e Agree ends asks);
   recheck = recheck_promised r (λ asks. keeps r e Recheck ends asks);
-  synth = synth_promised r (λ asked asks. keeps r e (synth_command asked) ends asks);
+  synth = synth_promised r (λ asked asks. keeps r e (Synth asked) ends asks);
   improve = improve_promised r (λ asks. keeps r e Improve ends asks);
 }

@@ -9,7 +9,7 @@ use Rattle.blif_core.specs.Texts.{IsRefusedText}
 use Rattle.improve_core.specs.Improving.{IsReported, HasNetFault, IsNetlist}
 use Rattle.improve_core.proofs.Improvements.{fault_one, fault_never, reported_netlist}
 use Rattle.command_line.specs.declared.command.Command.TheVariants.{Improve}
-use Rattle.command_line.specs.CommandLine.{IsLine as AsksFor}
+use Rattle.command_line.specs.CommandLine.{AsksFor}
 use Rattle.chain_app.specs.declared.status.Status.{Status}
 use Rattle.chain_app.specs.declared.status.Status.TheVariants.{Done, Undecided, Refused}
 use Rattle.chain_app.specs.ImproveReport.{most_of_netlist, net_status, named_net, Improvement, improve_reply, improve_refusal, IsImprovement, HasNetlistFault, improve_task}

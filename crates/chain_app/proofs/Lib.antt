@@ -10,7 +10,6 @@ pub mod Pieces
 pub mod ReadOff
 pub mod Rechecking
 pub mod Sending
-pub mod SynthWords
 pub mod Synthesising
 pub mod TablesRead
 pub mod TaskKinds

@@ -15,7 +15,7 @@ use Rattle.cert_theory.specs.Spelling.{IsBundle, HasVerdict}
 use Rattle.cert_theory.specs.Judging.{bundle_of}
 use Rattle.cert_theory.specs.Gives.{Gives, Fails}
 use Rattle.command_line.specs.declared.command.Command.TheVariants.{Recheck}
-use Rattle.command_line.specs.CommandLine.{IsLine as AsksFor}
+use Rattle.command_line.specs.CommandLine.{AsksFor}
 use Rattle.chain_app.specs.declared.status.Status.{Status}
 use Rattle.chain_app.specs.declared.status.Status.TheVariants.{Done, Limit, Undecided, Refused}
 use Rattle.chain_app.specs.RecheckReport.{most_of_bundle, bundle_status, named_bundle, recheck_reply, recheck_refusal, GivesVerdict, HasBundleFault, recheck_task}

@@ -8,7 +8,7 @@ use Rattle.command_line.specs.declared.command.Command.TheVariants.{Agree, Reche
 use Rattle.chain_app.specs.Outside.{Side}
 use Rattle.chain_app.specs.Told.{Reply}
 use Rattle.chain_app.specs.Task.{Task, Tells, IsFront, IsTask}
-use Rattle.chain_app.specs.Tasks.{asked_with, task_of, most_of}
+use Rattle.chain_app.specs.Tasks.{task_of, most_of}
 use Rattle.chain_app.specs.Run.{Outcome, ReadFault, TooLong, Memory, Answered, CutShort, Starved, ReportCut, NoAnswer, IsWhole, IsInput, IsOutcome, IsLeft, IsSent, OutSent, SourceRead, SourceAfter, OutAfter}
 use Rattle.chain_app.proofs.Agreeing.{agree_is_task}
 use Rattle.chain_app.proofs.Rechecking.{recheck_is_task}
@@ -19,14 +19,14 @@ use Rattle.chain_app.proofs.Improving.{improve_is_task}
 pub is_task : (command : Command) → IsTask (task_of command)
 is_task Agree = agree_is_task
 is_task Recheck = recheck_is_task
-is_task (Synth basis method max conflicts) = synth_is_task (asked_with basis method max conflicts)
+is_task (Synth settings) = synth_is_task settings
 is_task Improve = improve_is_task
 
 -- every command reads
 pub it_reads : (command : Command) → (task_of command).reads ≡ Some (most_of command)
 it_reads Agree = refl
 it_reads Recheck = refl
-it_reads (Synth basis method max conflicts) = refl
+it_reads (Synth settings) = refl
 it_reads Improve = refl
 
 -- so what it judges is what was read, and its source was read

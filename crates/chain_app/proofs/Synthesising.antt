@@ -12,10 +12,10 @@ use Rattle.tt_core.specs.declared.error.SpecError.TheVariants as tables
 use Rattle.tt_core.specs.ReadBack.{tables_again}
 use Rattle.cert_theory.specs.declared.data.Verdict.{Verdict}
 use Rattle.cert_theory.specs.declared.data.Verdict.TheVariants as verdicts
-use Rattle.synth_core.specs.declared.asked.Asked.{Asked}
+use Rattle.settings.specs.declared.synth.SynthSettings.{SynthSettings}
 use Rattle.synth_core.specs.Certifying.{IsCertificate}
 use Rattle.synth_core.specs.Tables.{words_alone, tables_alone}
-use Rattle.command_line.specs.CommandLine.{IsLine as AsksFor}
+use Rattle.command_line.specs.CommandLine.{AsksFor}
 use Rattle.chain_app.specs.declared.status.Status.{Status}
 use Rattle.chain_app.specs.declared.status.Status.TheVariants.{Done, Undecided, Refused}
 use Rattle.chain_app.specs.Agree.{most_of_tables}
@@ -23,7 +23,7 @@ use Rattle.chain_app.specs.AgreeReport.{spec_status, named_spec}
 use Rattle.chain_app.specs.SynthReport.{verdict_status, Certified, synth_reply, synth_refusal, AreTables, IsCertified, HasTablesFault, synth_task}
 use Rattle.chain_app.specs.Told.{Reply, Refusal, memory_refusal}
 use Rattle.chain_app.specs.Task.{IsAnswerStatus, IsRefusalStatus, IsTask, Tells, Refuses}
-use Rattle.chain_app.specs.Tasks.{synth_command}
+use Rattle.command_line.specs.declared.command.Command.TheVariants.{Synth}
 use Rattle.chain_app.specs.Run.{Run}
 use Rattle.chain_app.specs.Promise.{OutputHeld, Replies, Faults, CommandPromise}
 use Rattle.chain_app.specs.SynthPromise.{SynthPromise}
@@ -43,14 +43,14 @@ told_fault tables.TooManyOutputs read fails other = fails
 told_fault tables.NoOutput read fails other = fails
 told_fault tables.Memory read fails other = absurd (other refl)
 
-pub tells : (asked : Asked) (bytes text : List ℕ) (verdict : Verdict) (reply : Reply) → length bytes ≤ most_of_tables → IsCertificate bytes asked text verdict → reply ≡ synth_reply (record { text = text; verdict = verdict }) → Tells (synth_task asked) bytes reply
+pub tells : (asked : SynthSettings) (bytes text : List ℕ) (verdict : Verdict) (reply : Reply) → length bytes ≤ most_of_tables → IsCertificate bytes asked text verdict → reply ≡ synth_reply (record { text = text; verdict = verdict }) → Tells (synth_task asked) bytes reply
 tells asked bytes text verdict reply within certificate is = record {
   answer = record { text = text; verdict = verdict };
   has = certified asked bytes (record { text = text; verdict = verdict }) within certificate;
   is = is;
 }
 
-pub refuses : (asked : Asked) (bytes : List ℕ) (e : SpecError) (refusal : Refusal) → length bytes ≤ most_of_tables → (e ≡ tables.Memory → ⊥) → Fails e (tables_alone (lines_of bytes)) → refusal ≡ synth_refusal e → Refuses (synth_task asked) bytes refusal
+pub refuses : (asked : SynthSettings) (bytes : List ℕ) (e : SpecError) (refusal : Refusal) → length bytes ≤ most_of_tables → (e ≡ tables.Memory → ⊥) → Fails e (tables_alone (lines_of bytes)) → refusal ≡ synth_refusal e → Refuses (synth_task asked) bytes refusal
 refuses asked bytes e refusal within other fails is = record {
   fault = e;
   meets = record { within = within; fault = told_fault e (tables_alone (lines_of bytes)) fails other };
@@ -95,10 +95,10 @@ one_error : (read : Result Words SpecError) (d e : SpecError) → read ≡ Err d
 one_error read d e is other = cc
 
 -- the tables of a certificate are ones
-its_tables : (asked : Asked) (bytes text : List ℕ) (verdict : Verdict) (c : IsCertificate bytes asked text verdict) → IsSpec c.bundle.heading.spec
+its_tables : (asked : SynthSettings) (bytes text : List ℕ) (verdict : Verdict) (c : IsCertificate bytes asked text verdict) → IsSpec c.bundle.heading.spec
 its_tables asked bytes text verdict c = c.is_bundle.valid.heading.tables
 
-pub synth_is_task : (asked : Asked) → IsTask (synth_task asked)
+pub synth_is_task : (asked : SynthSettings) → IsTask (synth_task asked)
 synth_is_task asked =
     at_once_task most_of_tables Certified (IsCertified asked) synth_reply SpecError HasTablesFault synth_refusal
     (λ c. answer_statuses c.verdict)
@@ -110,12 +110,12 @@ synth_is_task asked =
 
 -- ---- what it promises besides
 
-complete : (r : Run) (asked : Asked) (input : List ℕ) (w : Words) → CommandPromise (synth_task asked) r → r.source.bytes ≡ Some input → AreTables input w → OutputHeld r → Replies (synth_task asked) r input
+complete : (r : Run) (asked : SynthSettings) (input : List ℕ) (w : Words) → CommandPromise (synth_task asked) r → r.source.bytes ≡ Some input → AreTables input w → OutputHeld r → Replies (synth_task asked) r input
 complete r asked input w promise told tables held =
     let within = tables.within in
     gets (synth_task asked) r input (λ c. refl) promise told (record { within = λ long. omega arith; sound = λ error fault. no_fault w (lines_of input) error tables.are tables.spelled fault.fault }) held
 
-answer_only : (r : Run) (asked : Asked) (input : List ℕ) → CommandPromise (synth_task asked) r → r.source.bytes ≡ Some input → (r.status ≡ Done) ⊎ (r.status ≡ Undecided) → Replies (synth_task asked) r input
+answer_only : (r : Run) (asked : SynthSettings) (input : List ℕ) → CommandPromise (synth_task asked) r → r.source.bytes ≡ Some input → (r.status ≡ Done) ⊎ (r.status ≡ Undecided) → Replies (synth_task asked) r input
 answer_only r asked input promise told is =
     ⊎_elim
     (λ (done : r.status ≡ Done). of_input (synth_task asked) r (Replies (synth_task asked) r) input (promise.done_only done) told)
@@ -137,7 +137,7 @@ not_refused_by (verdicts.NoChain x) is = cc
 not_refused_by (verdicts.Bounded low r) is = cc
 not_refused_by (verdicts.Open low) is = cc
 
-never_refused : (r : Run) (asked : Asked) → CommandPromise (synth_task asked) r → r.status ≡ Refused → ⊥
+never_refused : (r : Run) (asked : SynthSettings) → CommandPromise (synth_task asked) r → r.status ≡ Refused → ⊥
 never_refused r asked promise is =
     let of = promise.refused_only is in
     ⊎_elim
@@ -146,7 +146,7 @@ never_refused r asked promise is =
     of.holds
 
 -- All that `synth` promises besides.
-pub synth_promised : (r : Run) → ((asked : Asked) → AsksFor r.words (synth_command asked) → CommandPromise (synth_task asked) r) → SynthPromise r
+pub synth_promised : (r : Run) → ((asked : SynthSettings) → AsksFor r.words (Synth asked) → CommandPromise (synth_task asked) r) → SynthPromise r
 synth_promised r keeps = record {
   complete = λ asked input w run tables held. complete r asked input w (keeps asked run.asks) run.told tables held;
   answer_only = λ asked input run is. answer_only r asked input (keeps asked run.asks) run.told is;

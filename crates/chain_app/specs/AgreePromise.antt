@@ -1,7 +1,7 @@
 -- What `agree` promises besides, in its own words.
 use Rattle.std.specs.Prelude.{◌≡◌, ℕ, List}
 use Rattle.command_line.specs.declared.command.Command.TheVariants.{Agree}
-use Rattle.command_line.specs.CommandLine.{IsLine as AsksFor}
+use Rattle.command_line.specs.CommandLine.{AsksFor}
 use Rattle.chain_app.specs.declared.agree.Answer.{Answer}
 use Rattle.chain_app.specs.declared.agree.Answer.TheVariants.{Agrees, Differs}
 use Rattle.chain_app.specs.declared.agree.AgreeError.{AgreeError}

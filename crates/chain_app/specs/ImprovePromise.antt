@@ -1,7 +1,7 @@
 -- What `improve` promises besides, in its own words.
 use Rattle.std.specs.Prelude.{◌≡◌, ℕ, ◌≤◌, ◌⊎◌, List, length}
 use Rattle.command_line.specs.declared.command.Command.TheVariants.{Improve}
-use Rattle.command_line.specs.CommandLine.{IsLine as AsksFor}
+use Rattle.command_line.specs.CommandLine.{AsksFor}
 use Rattle.net_core.specs.declared.error.NetError.{NetError}
 use Rattle.improve_core.specs.Improving.{IsNetlist}
 use Rattle.chain_app.specs.declared.status.Status.TheVariants.{Done, Undecided, Refused}

@@ -1,7 +1,7 @@
 -- What `recheck` promises besides, in its own words.
 use Rattle.std.specs.Prelude.{◌≡◌, ℕ, ◌<◌, ◌≤◌, List, length}
 use Rattle.command_line.specs.declared.command.Command.TheVariants.{Recheck}
-use Rattle.command_line.specs.CommandLine.{IsLine as AsksFor}
+use Rattle.command_line.specs.CommandLine.{AsksFor}
 use Rattle.cert_theory.specs.declared.data.BundleError.{BundleError}
 use Rattle.cert_theory.specs.Bundle.{Bundle}
 use Rattle.cert_theory.specs.Spelling.{IsBundle}

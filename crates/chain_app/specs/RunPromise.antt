@@ -1,7 +1,7 @@
 -- What every run keeps, whatever its words are.
 use Rattle.std.specs.Prelude.{◌≡◌}
 use Rattle.command_line.specs.declared.command.Command.{Command}
-use Rattle.command_line.specs.CommandLine.{IsLine as AsksFor}
+use Rattle.command_line.specs.CommandLine.{AsksFor}
 use Rattle.chain_app.specs.declared.status.Status.TheVariants.{Usage}
 use Rattle.chain_app.specs.Run.{Run}
 use Rattle.chain_app.specs.Ending.{IsIdle}

@@ -1,7 +1,7 @@
 -- Runs of a command on bytes.
 use Rattle.std.specs.Prelude.{◌≡◌, ℕ, List, Some}
 use Rattle.command_line.specs.declared.command.Command.{Command}
-use Rattle.command_line.specs.CommandLine.{IsLine as AsksFor}
+use Rattle.command_line.specs.CommandLine.{AsksFor}
 use Rattle.chain_app.specs.Run.{Run}
 
 -- The words asked for this command, and the source told these bytes.

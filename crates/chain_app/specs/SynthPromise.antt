@@ -2,31 +2,31 @@
 use Rattle.std.specs.Prelude.{◌≡◌, ℕ, ◌⊎◌, List}
 use Rattle.tt_core.specs.Words.{Words}
 use Rattle.tt_core.specs.declared.error.SpecError.{SpecError}
-use Rattle.command_line.specs.CommandLine.{IsLine as AsksFor}
-use Rattle.synth_core.specs.declared.asked.Asked.{Asked}
+use Rattle.command_line.specs.CommandLine.{AsksFor}
+use Rattle.settings.specs.declared.synth.SynthSettings.{SynthSettings}
 use Rattle.chain_app.specs.declared.status.Status.TheVariants.{Done, Undecided, Refused}
 use Rattle.chain_app.specs.SynthReport.{synth_refusal, AreTables, HasTablesFault, synth_task}
-use Rattle.chain_app.specs.Tasks.{synth_command}
+use Rattle.command_line.specs.declared.command.Command.TheVariants.{Synth}
 use Rattle.chain_app.specs.Run.{Run}
 use Rattle.chain_app.specs.Runs.{Runs}
 use Rattle.chain_app.specs.Promise.{InputHeld, OutputHeld, TellsError, Replies}
 
 pub record SynthPromise (r : Run) : Type 0 where
   -- Tables get a certificate, and the status of its verdict.
-  pub complete : (asked : Asked) (input : List ℕ) (tables : Words)
-      → Runs (synth_command asked) r input
+  pub complete : (asked : SynthSettings) (input : List ℕ) (tables : Words)
+      → Runs (Synth asked) r input
       → AreTables input tables
       → OutputHeld r
       → Replies (synth_task asked) r input
   -- The statuses 0 and 4 come with a certificate alone, and 8 never.
-  pub answer_only : (asked : Asked) (input : List ℕ)
-      → Runs (synth_command asked) r input
+  pub answer_only : (asked : SynthSettings) (input : List ℕ)
+      → Runs (Synth asked) r input
       → (r.status ≡ Done) ⊎ (r.status ≡ Undecided)
       → Replies (synth_task asked) r input
-  pub never_refused : (asked : Asked) → AsksFor r.words (synth_command asked) → r.status ≡ Refused → ⊥
+  pub never_refused : (asked : SynthSettings) → AsksFor r.words (Synth asked) → r.status ≡ Refused → ⊥
   -- Other bytes are told their first fault.
-  pub refused : (asked : Asked) (input : List ℕ) (error : SpecError)
-      → Runs (synth_command asked) r input
+  pub refused : (asked : SynthSettings) (input : List ℕ) (error : SpecError)
+      → Runs (Synth asked) r input
       → HasTablesFault input error
       → InputHeld r
       → TellsError r (synth_refusal error)

@@ -9,7 +9,7 @@ use Rattle.cert_theory.specs.declared.data.Verdict.{Verdict}
 use Rattle.cert_theory.specs.declared.data.Verdict.TheVariants as verdicts
 use Rattle.cert_theory.specs.Meaning.{Means}
 use Rattle.cert_theory.specs.Judging.{bundle_of}
-use Rattle.synth_core.specs.declared.asked.Asked.{Asked}
+use Rattle.settings.specs.declared.synth.SynthSettings.{SynthSettings}
 use Rattle.synth_core.specs.Certifying.{IsCertificate}
 use Rattle.synth_core.specs.Tables.{tables_alone}
 use Rattle.chain_app.specs.declared.status.Status.{Status}
@@ -49,7 +49,7 @@ pub record AreTables (bytes : List ℕ) (tables : Words) : Type 0 where
 -- The text is that of a valid certificate for the tables in the bytes, and for what is asked. What its
 -- verdict says of chains is true, by whatever method. Who judges the text again has the same verdict; so
 -- has `recheck`, of a text within its limit.
-pub record IsCertified (asked : Asked) (bytes : List ℕ) (c : Certified) : Type 0 where
+pub record IsCertified (asked : SynthSettings) (bytes : List ℕ) (c : Certified) : Type 0 where
   pub within : length bytes ≤ most_of_tables
   pub certificate : IsCertificate bytes asked c.text c.verdict
   pub means : (tables : Words)
@@ -63,5 +63,5 @@ pub record HasTablesFault (bytes : List ℕ) (error : SpecError) : Type 0 where
   pub within : length bytes ≤ most_of_tables
   pub fault : tables_alone (lines_of bytes) ≡ Err error
 
-abbrev pub synth_task : Asked → Task
+abbrev pub synth_task : SynthSettings → Task
 synth_task asked = at_once most_of_tables Certified (IsCertified asked) synth_reply SpecError HasTablesFault synth_refusal

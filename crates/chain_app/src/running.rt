@@ -2,7 +2,8 @@
 ghost use Rattle.std.specs.Prelude.{◌≡◌, ◌≤◌, ℕ, List, Some, length};
 ghost use Rattle.chain_app.specs.Outside.{side};
 ghost use Rattle.chain_app.specs.Run.{IsOutcome, SourceRead, OutAfter, ReportAfter, run_of, before_after};
-ghost use Rattle.chain_app.specs.Tasks.{task_of, most_of, IsInRange};
+ghost use Rattle.command_line.specs.CommandLine.{IsAskable};
+ghost use Rattle.chain_app.specs.Tasks.{task_of, most_of};
 ghost use Rattle.chain_app.specs.Views.{outcome_of, Judges};
 ghost use Rattle.chain_app.specs.KeepsPromises.{KeepsPromises};
 
@@ -13,7 +14,6 @@ use crate::{agree, improve, recheck, synth};
 use command_line::{Command, read_words};
 use port_io::{ReadError, Sink, Source, read_all};
 use std::alloc::Global;
-use synth_core::Asked;
 
 /// The most bytes that a command reads.
 fn most_bytes(command: &Command) -> usize
@@ -22,7 +22,7 @@ fn most_bytes(command: &Command) -> usize
     match command {
         Command::Agree => agree::MOST_BYTES,
         Command::Recheck => recheck::MOST_BYTES,
-        Command::Synth { .. } => synth::MOST_BYTES,
+        Command::Synth(_) => synth::MOST_BYTES,
         Command::Improve => improve::MOST_BYTES,
     }
 }
@@ -30,26 +30,13 @@ fn most_bytes(command: &Command) -> usize
 /// What a command tells of bytes.
 fn judge(alloc: Global, command: &Command, bytes: &[u8]) -> Result<Reply, Stop>
     requires length { length bytes.now ≤ most_of command.now }
-    requires range { IsInRange command.now }
+    requires range { IsAskable command.now }
     ensures { Judges (task_of command.now) bytes.now result }
 {
     match command {
         Command::Agree => agree::agree(alloc, bytes),
         Command::Recheck => recheck::recheck(alloc, bytes),
-        Command::Synth {
-            basis,
-            method,
-            max,
-            conflicts,
-        } => {
-            let asked = Asked {
-                basis: *basis,
-                method: *method,
-                max: *max,
-                conflicts: *conflicts,
-            };
-            synth::synth(alloc, bytes, &asked)
-        }
+        Command::Synth(settings) => synth::synth(alloc, bytes, settings),
         Command::Improve => improve::improve(alloc, bytes),
     }
 }
@@ -63,7 +50,7 @@ fn perform<S: Source, O: Sink, N: Sink>(
     out: &mut O,
     note: &mut N,
 ) -> Ended
-    requires { IsInRange command.now }
+    requires { IsAskable command.now }
     ensures bytes { (bytes : List ℕ) × IsOutcome (task_of command.now) (S.left source.old) bytes (outcome_of result) × OutAfter (task_of command.now) bytes (side O.written O.faults out.old) (side O.written O.faults out.new) (outcome_of result) }
     ensures source { SourceRead (side S.left S.faults source.old) (side S.left S.faults source.new) (outcome_of result) }
     ensures report { ReportAfter (side N.written N.faults note.old) (side N.written N.faults note.new) (outcome_of result) }
@@ -84,7 +71,6 @@ fn perform<S: Source, O: Sink, N: Sink>(
 
 /// Does what the words ask: reads `source`, writes the answer on `out`, and on `note` a report where the
 /// command has one, and one error line where there is no answer.
-#[tactic(auto, using(crate::proofs::SynthWords::asking))]
 pub fn run<S: Source, O: Sink, N: Sink>(
     alloc: Global,
     words: &Vec<String>,

@@ -1,6 +1,6 @@
 //! The command `synth`: what it tells of bytes.
 ghost use Rattle.std.specs.Prelude.{◌≡◌, ◌≤◌, length};
-ghost use Rattle.synth_core.specs.Asking.{IsAsked};
+ghost use Rattle.settings.specs.Synth.{IsInRange};
 ghost use Rattle.chain_app.specs.Agree.{most_of_tables};
 ghost use Rattle.chain_app.specs.SynthReport.{verdict_status as verdict_status_of, synth_reply, synth_refusal, synth_task};
 ghost use Rattle.chain_app.specs.Views.{reply_value, refusal_value, Judges};
@@ -9,7 +9,7 @@ use crate::agree::{name_spec, spec_status};
 use crate::replies::{Refusal, Reply, Stop};
 use crate::status::Status;
 use std::alloc::Global;
-use synth_core::{Asked, Certificate, Verdict, synthesise};
+use synth_core::{Certificate, SynthSettings, Verdict, synthesise};
 use tt_core::SpecError;
 
 /// The most bytes that `synth` reads.
@@ -48,12 +48,12 @@ fn refusal_of(error: SpecError) -> Refusal
 
 /// What `synth` tells of bytes.
 #[tactic(auto, using(crate::proofs::Synthesising::telling))]
-pub(crate) fn synth(alloc: Global, bytes: &[u8], asked: &Asked) -> Result<Reply, Stop>
+pub(crate) fn synth(alloc: Global, bytes: &[u8], settings: &SynthSettings) -> Result<Reply, Stop>
     requires length { length bytes.now ≤ most_of_tables }
-    requires asked { IsAsked asked.now }
-    ensures { Judges (synth_task asked.now) bytes.now result }
+    requires range { IsInRange settings.now }
+    ensures { Judges (synth_task settings.now) bytes.now result }
 {
-    match synthesise(alloc, bytes, asked) {
+    match synthesise(alloc, bytes, settings) {
         Ok(certificate) => Ok(reply_of(certificate)),
         Err(SpecError::Memory) => Err(Stop::NoMemory),
         Err(error) => Err(Stop::NoAnswer(refusal_of(error))),

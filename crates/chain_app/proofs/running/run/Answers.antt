@@ -16,7 +16,7 @@ unfolding usage
 returns-in_default g c =
     kept _ Idle
     (record {
-      no_line = not_asked (spelled c.args.words.now) c.in_default.field-0 c.in_default.ensures;
+      no_line = not_asked (spelled c.args.words.now) c.in_default.field-0 c.in_default.ensures.exact;
       status_is = refl;
       on_source = refl;
       on_out = refl;
@@ -27,7 +27,7 @@ returns-in_default g c =
 pub returns : goal.returns
 returns g c =
     kept _ (Ran c.in-Ok.command (outcome_of c.perform-ended.result)) (
-      asked (spelled c.args.words.now) c.in-Ok.command c.in-Ok.ensures,
+      asked (spelled c.args.words.now) c.in-Ok.command c.in-Ok.ensures.exact,
       record {
         bytes = c.perform-ended.ensures.bytes.0;
         judged = c.perform-ended.ensures.bytes.1;
