@@ -1,5 +1,5 @@
 //! Tables read, the search, and the text of what it found.
-ghost use Rattle.std.specs.Prelude.{◌≡◌, ◌^◌, ◌<◌, length, [], IfOk, IfErr};
+ghost use Rattle.std.specs.Prelude.{◌^◌, ◌<◌, length, [], IfOk, IfErr};
 ghost use Rattle.text_core.specs.Lines.{lines_of};
 ghost use Rattle.settings.specs.Synth.{IsInRange};
 ghost use Rattle.tt_core.specs.Gives.{Gives, Fails};
@@ -39,7 +39,11 @@ fn tables(alloc: Global, bytes: &[u8]) -> Result<Spec, SpecError>
 
 /// Searches for a chain of the fewest steps that agrees with the tables in the bytes, and writes the
 /// certificate. A line behind the tables is refused as `BadRow`.
-pub fn synthesise(alloc: Global, bytes: &[u8], asked: &SynthSettings) -> Result<Certificate, SpecError>
+pub fn synthesise(
+    alloc: Global,
+    bytes: &[u8],
+    asked: &SynthSettings,
+) -> Result<Certificate, SpecError>
     requires length { length bytes.now < 2 ^ 31 }
     requires range { IsInRange asked.now }
     ensures certificate { IfOk result (λ c. IsCertificate bytes.now asked.now c.text.items c.verdict) }

@@ -1,6 +1,8 @@
+//! Certificates of small tables, and what isn't tables.
+
 use super::*;
-use enc_theory::Method;
 use op_basis::Basis;
+use settings::Method;
 use std::alloc::Global;
 use std::test::Fail;
 use tt_core::SpecError;
