@@ -1,9 +1,7 @@
 -- What `agree` promises follows from what every job promises.
-use Rattle.std.specs.Prelude.{◌≡◌, ℕ, ◌<◌, ◌⊎◌, List, length, Option, Some, None}
-use Rattle.std.proofs.Common.{arith, sym, ◌∙◌, ap, subst, refl, inl, inr}
+use Rattle.std.specs.Prelude.{◌≡◌, ℕ, ◌⊎◌, List, Option, Some, None}
+use Rattle.std.proofs.Common.{arith, sym, ◌∙◌, ap, subst, refl}
 use Rattle.std.proofs.Math.Logic.{⊎_elim}
-use Rattle.port_io.specs.Bytes.{Appends, AppendsFront}
-use Rattle.port_io.specs.Faults.{Rose}
 use Rattle.chain_theory.specs.Difference.{IsComparison}
 use Rattle.chain_theory.specs.DifferenceLaws.{one_comparison}
 use Rattle.tt_core.specs.declared.error.SpecError.{SpecError}
@@ -14,15 +12,14 @@ use Rattle.chain_app.specs.declared.agree.Answer.{Answer}
 use Rattle.chain_app.specs.declared.agree.Answer.TheVariants.{Agrees, Differs}
 use Rattle.chain_app.specs.declared.agree.AgreeError.{AgreeError}
 use Rattle.chain_app.specs.declared.agree.AgreeError.TheVariants as errors
-use Rattle.chain_app.specs.declared.status.Status.{Status}
 use Rattle.chain_app.specs.declared.status.Status.TheVariants.{Done, Undecided, Refused}
 use Rattle.command_line.specs.declared.command.Command.TheVariants.{Agree}
 use Rattle.command_line.specs.CommandLine.{AsksFor}
-use Rattle.chain_app.specs.Agree.{Question, IsQuestion, HasFault, most_of_tables, IsAnswer, HasAnswer}
-use Rattle.chain_app.specs.AgreeReport.{answer_status, error_status, spec_status, chain_status, agree_reply, agree_refusal, agree_task}
+use Rattle.chain_app.specs.Agree.{Question, IsQuestion, IsAnswer, HasAnswer}
+use Rattle.chain_app.specs.AgreeReport.{answer_status, error_status, spec_status, chain_status, agree_reply, agree_task}
 use Rattle.chain_app.specs.Task.{IsAnswerable}
 use Rattle.chain_app.specs.Run.{Run}
-use Rattle.chain_app.specs.Promise.{InputHeld, OutputHeld, Stands, TellsError, Replies, Faults, CommandPromise}
+use Rattle.chain_app.specs.Promise.{OutputHeld, Stands, Replies, Faults, CommandPromise}
 use Rattle.chain_app.specs.AgreePromise.{TellsDifference, AgreePromise}
 use Rattle.chain_app.proofs.Agreeing.{one_question, no_question}
 use Rattle.chain_app.proofs.Keeping.{of_input}

@@ -1,19 +1,16 @@
 -- What `agree` tells of bytes.
-use Rattle.std.specs.Prelude.{◌≡◌, ℕ, ◌<◌, ◌≤◌, ◌⊎◌, List, length, Option, Some, None}
-use Rattle.std.proofs.Common.{arith, sym, ◌∙◌, ap, subst, refl, inl, inr}
+use Rattle.std.specs.Prelude.{◌≡◌, ℕ, ◌≤◌, ◌⊎◌, List, length}
+use Rattle.std.proofs.Common.{arith, ap, refl, inl, inr}
 use Rattle.std.proofs.lemmas.Grind.{common_steps}
-use Rattle.tt_core.specs.declared.error.SpecError.{SpecError}
 use Rattle.tt_core.specs.declared.error.SpecError.TheVariants as tables
-use Rattle.chain_core.specs.declared.error.ChainError.{ChainError}
 use Rattle.chain_core.specs.declared.error.ChainError.TheVariants as chains
 use Rattle.chain_app.specs.declared.agree.Answer.{Answer}
 use Rattle.chain_app.specs.declared.agree.Answer.TheVariants.{Agrees, Differs}
 use Rattle.chain_app.specs.declared.agree.AgreeError.{AgreeError}
 use Rattle.chain_app.specs.declared.agree.AgreeError.TheVariants as errors
-use Rattle.chain_app.specs.declared.status.Status.{Status}
-use Rattle.chain_app.specs.declared.status.Status.TheVariants.{Done, Malformed, Limit, Memory, Refused}
+use Rattle.chain_app.specs.declared.status.Status.TheVariants.{Memory}
 use Rattle.chain_app.specs.Agree.{Question, IsQuestion, HasFault, question_of, IsCause, Fails, most_of_tables, HasAnswer}
-use Rattle.chain_app.specs.AgreeReport.{answer_status, error_status, spec_status, chain_status, agree_reply, named_spec, named_chain, named_error, agree_refusal, agree_task}
+use Rattle.chain_app.specs.AgreeReport.{answer_status, error_status, agree_reply, named_spec, named_chain, named_error, agree_refusal, agree_task}
 use Rattle.chain_app.specs.Told.{Reply, Refusal, memory_refusal}
 use Rattle.chain_app.specs.Task.{IsAnswerStatus, IsRefusalStatus, IsTask, Tells, Refuses}
 use Rattle.chain_app.proofs.TaskKinds.{at_once_task}

@@ -1,6 +1,6 @@
 -- What a certificate comes to: its verdict is true, and is found again.
 use Rattle.std.specs.Prelude.{◌≡◌, ℕ, ◌≤◌, List, [], length, Result, Ok}
-use Rattle.std.proofs.Common.{sym, ◌∙◌, ap, subst, refl}
+use Rattle.std.proofs.Common.{ap, subst}
 use Rattle.text_core.specs.Lines.{lines_of}
 use Rattle.tt_core.specs.Words.{Words, IsSpec, specification}
 use Rattle.tt_core.specs.Spelling.{SpellsTables}
@@ -22,7 +22,7 @@ use Rattle.synth_core.specs.Certifying.{IsCertificate}
 use Rattle.synth_core.specs.Tables.{words_alone, tables_alone}
 use Rattle.chain_app.specs.RecheckReport.{most_of_bundle, IsVerdict, GivesVerdict}
 use Rattle.chain_app.specs.Agree.{most_of_tables}
-use Rattle.chain_app.specs.SynthReport.{Certified, AreTables, IsCertified}
+use Rattle.chain_app.specs.SynthReport.{Certified, IsCertified}
 
 -- the verdict of a valid bundle is true
 bundle_means : (b : Bundle) (bytes : List ℕ) → IsBundle bytes b → Means (specification b.heading.spec) (members b.heading.basis) b.verdict

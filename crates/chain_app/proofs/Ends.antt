@@ -1,16 +1,13 @@
 -- What a run's ending says to its caller.
-use Rattle.std.specs.Prelude.{◌≡◌, List, ℕ, Option, Some, None, Result, Ok, Err}
-use Rattle.std.proofs.Common.{sym, ◌∙◌, ap, subst, refl}
+use Rattle.std.specs.Prelude.{◌≡◌, List, ℕ, Option, Some, None, Ok, Err}
+use Rattle.std.proofs.Common.{sym, ◌∙◌, ap, subst}
 use Rattle.command_line.specs.declared.command.Command.{Command}
 use Rattle.command_line.specs.declared.command.Command.TheVariants.{Agree, Recheck, Synth, Improve}
 use Rattle.command_line.specs.declared.command.WordsError.{WordsError}
 use Rattle.command_line.specs.CommandLine.{command_of, or_usage, read, AsksFor}
-use Rattle.chain_app.specs.declared.status.Status.{Status}
 use Rattle.chain_app.specs.declared.status.Status.TheVariants.{Usage}
-use Rattle.chain_app.specs.Outside.{Side, Writes}
-use Rattle.chain_app.specs.Told.{error_line, usage}
-use Rattle.chain_app.specs.Task.{IsTask}
-use Rattle.chain_app.specs.Run.{Outcome, Run, IsRun}
+use Rattle.chain_app.specs.Told.{usage}
+use Rattle.chain_app.specs.Run.{Run}
 use Rattle.chain_app.specs.Ending.{Ending, Idle, Ran, IsIdle, IsEnding}
 use Rattle.chain_app.specs.Promise.{CommandPromise}
 use Rattle.chain_app.specs.Tasks.{task_of}

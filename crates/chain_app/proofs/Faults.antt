@@ -1,17 +1,14 @@
 -- The grammar of questions doesn't judge the length of all.
 use Rattle.std.specs.Prelude.{◌≡◌, ℕ, ◌+◌, ◌&&◌, Bool, true, false, cond, List, [], ◌∷◌, codes, Result, Ok, Err}
-use Rattle.std.proofs.Common.{refl, inl, inr}
 use Rattle.std.specs.Str.{bytes_eq}
-use Rattle.std.proofs.Math.Logic.{⊎_elim}
 use Rattle.text_core.specs.Lines.{Line}
 use Rattle.tt_core.specs.Tables as tables
 use Rattle.tt_core.specs.declared.error.SpecError.{SpecError}
 use Rattle.chain_core.specs.Block as block
 use Rattle.chain_core.specs.declared.error.ChainError.{ChainError}
-use Rattle.chain_theory.specs.Chain.{Chain}
 use Rattle.chain_app.specs.declared.agree.AgreeError.{AgreeError}
 use Rattle.chain_app.specs.declared.agree.AgreeError.TheVariants.{TooLong, BadEnd}
-use Rattle.chain_app.specs.Agree.{Question, ◌>>=◌, tables_in, chain_in, nothing_in, end_in, chain_behind, question_in}
+use Rattle.chain_app.specs.Agree.{◌>>=◌, tables_in, chain_in, nothing_in, end_in, chain_behind, question_in}
 
 -- an answer that isn't this error
 IsSound : {A : Type 0} → Result A AgreeError → Type 0

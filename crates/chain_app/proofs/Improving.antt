@@ -1,12 +1,12 @@
 -- What `improve` tells of bytes, and what it promises.
-use Rattle.std.specs.Prelude.{◌≡◌, ℕ, ◌<◌, ◌≤◌, ◌⊎◌, List, length, Option, Some}
-use Rattle.std.proofs.Common.{arith, sym, ◌∙◌, ap, subst, refl, inl, inr}
+use Rattle.std.specs.Prelude.{◌≡◌, ℕ, ◌≤◌, ◌⊎◌, List, length, Some}
+use Rattle.std.proofs.Common.{arith, sym, ◌∙◌, ap, refl, inl, inr}
 use Rattle.std.proofs.Math.Logic.{⊎_elim}
 use Rattle.std.proofs.lemmas.Grind.{common_steps}
 use Rattle.net_core.specs.declared.error.NetError.{NetError}
 use Rattle.net_core.specs.declared.error.NetError.TheVariants as nets
 use Rattle.blif_core.specs.Texts.{IsRefusedText}
-use Rattle.improve_core.specs.Improving.{IsReported, HasNetFault, IsNetlist}
+use Rattle.improve_core.specs.Improving.{IsReported, IsNetlist}
 use Rattle.improve_core.proofs.Improvements.{fault_one, fault_never, reported_netlist}
 use Rattle.command_line.specs.declared.command.Command.TheVariants.{Improve}
 use Rattle.command_line.specs.CommandLine.{AsksFor}

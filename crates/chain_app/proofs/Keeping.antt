@@ -1,6 +1,6 @@
 -- What the outcome of a command's run says to its caller.
 use Rattle.std.specs.Prelude.{◌≡◌, ◌≢◌, ℕ, ◌≤◌, ◌⊎◌, Bool, true, false, List, [], Option, Some, None}
-use Rattle.std.proofs.Common.{sym, ◌∙◌, ap, subst, refl, inl, inr}
+use Rattle.std.proofs.Common.{sym, ◌∙◌, ap, subst, inl, inr}
 use Rattle.std.proofs.Math.Logic.{⊎_elim}
 use Rattle.port_io.specs.Bytes.{Appends}
 use Rattle.port_io.specs.Faults.{Rose}
@@ -9,8 +9,8 @@ use Rattle.chain_app.specs.declared.status.Status.{Status}
 use Rattle.chain_app.specs.declared.status.Status.TheVariants as statuses
 use Rattle.chain_app.specs.Outside.{Side, Writes}
 use Rattle.chain_app.specs.Told.{Reply, Refusal, error_line, read_fault, write_fault, too_long, memory, too_long_refusal, read_fault_refusal, memory_refusal}
-use Rattle.chain_app.specs.Task.{Task, Tells, Refuses, IsBeyond, IsAnswerable, IsAnswerStatus, IsRefusalStatus, IsTask}
-use Rattle.chain_app.specs.Run.{Outcome, ReadFault, TooLong, Memory, Answered, CutShort, Starved, ReportCut, NoAnswer, status_of, Run, IsRun, IsWhole, IsInput, HasInput, IsReadToEnd, SourceRead, SourceLeft, SourceAfter, OutAfter, Reports, ReportsFront}
+use Rattle.chain_app.specs.Task.{Task, Tells, Refuses, IsBeyond, IsAnswerable, IsRefusalStatus, IsTask}
+use Rattle.chain_app.specs.Run.{Outcome, ReadFault, TooLong, Memory, Answered, CutShort, Starved, ReportCut, NoAnswer, status_of, Run, IsRun, IsInput, HasInput, SourceRead, SourceLeft, SourceAfter, OutAfter, Reports, ReportsFront}
 use Rattle.chain_app.specs.Promise.{InputHeld, OutputHeld, AllSteady, Stands, TellsError, Replies, Faults, ReplyCut, ReportCut as CutReport, ReplyStarved, OfInput, IsTooLong, CommandPromise}
 
 -- ---- the input

@@ -1,11 +1,10 @@
 -- A command's own promise is read off what every command promises.
-use Rattle.std.specs.Prelude.{◌≡◌, ℕ, ◌⊎◌, List, Option, Some, None}
-use Rattle.std.proofs.Common.{sym, ◌∙◌, ap, subst, refl}
+use Rattle.std.specs.Prelude.{◌≡◌, ℕ, ◌⊎◌, List, Option, None}
+use Rattle.std.proofs.Common.{subst}
 use Rattle.std.proofs.Math.Logic.{⊎_elim}
-use Rattle.chain_app.specs.Told.{Reply}
 use Rattle.chain_app.specs.Task.{Task, IsAnswerable}
 use Rattle.chain_app.specs.Run.{Run, HasInput, ReportsFront}
-use Rattle.chain_app.specs.Promise.{OutputHeld, Stands, Replies, ReportCut, CommandPromise}
+use Rattle.chain_app.specs.Promise.{OutputHeld, Replies, ReportCut, CommandPromise}
 
 -- a command without a report has none that could be cut
 pub HasNoReport : Task → Type 0

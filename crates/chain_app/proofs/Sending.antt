@@ -1,13 +1,13 @@
 -- What sending a reply comes to.
-use Rattle.std.specs.Prelude.{◌≡◌, ℕ, ◌≤◌, ◌++◌, List, Option, Some, take, drop, length}
-use Rattle.std.proofs.Common.{sym, ◌∙◌, ap, subst, refl, arith}
+use Rattle.std.specs.Prelude.{◌≡◌, ℕ, List, Option, Some, take, drop}
+use Rattle.std.proofs.Common.{sym, ap, subst, refl, arith}
 use Rattle.std.proofs.lemmas.Grind.{common_steps}
 use Rattle.port_io.specs.Bytes.{Appends, AppendsFront}
 use Rattle.command_line.specs.declared.command.Command.{Command}
 use Rattle.command_line.specs.declared.command.Command.TheVariants.{Agree, Recheck, Synth, Improve}
 use Rattle.chain_app.specs.Outside.{Side}
 use Rattle.chain_app.specs.Told.{Reply}
-use Rattle.chain_app.specs.Task.{Task, Tells, IsFront, IsTask}
+use Rattle.chain_app.specs.Task.{Task, Tells, IsTask}
 use Rattle.chain_app.specs.Tasks.{task_of, most_of}
 use Rattle.chain_app.specs.Run.{Outcome, ReadFault, TooLong, Memory, Answered, CutShort, Starved, ReportCut, NoAnswer, IsWhole, IsInput, IsOutcome, IsLeft, IsSent, OutSent, SourceRead, SourceAfter, OutAfter}
 use Rattle.chain_app.proofs.Agreeing.{agree_is_task}

@@ -1,6 +1,6 @@
 -- What `synth` tells of bytes, and what it promises.
-use Rattle.std.specs.Prelude.{◌≡◌, ℕ, ◌<◌, ◌≤◌, ◌⊎◌, List, [], length, Option, Some, None, Result, Ok, Err}
-use Rattle.std.proofs.Common.{arith, sym, ◌∙◌, ap, subst, refl, inl, inr}
+use Rattle.std.specs.Prelude.{◌≡◌, ℕ, ◌≤◌, ◌⊎◌, List, [], length, Some, Result, Ok, Err}
+use Rattle.std.proofs.Common.{arith, sym, ◌∙◌, ap, refl, inl, inr}
 use Rattle.std.proofs.Math.Logic.{⊎_elim}
 use Rattle.std.proofs.lemmas.Grind.{common_steps}
 use Rattle.text_core.specs.Lines.{Line, lines_of}
@@ -16,7 +16,6 @@ use Rattle.settings.specs.declared.synth.SynthSettings.{SynthSettings}
 use Rattle.synth_core.specs.Certifying.{IsCertificate}
 use Rattle.synth_core.specs.Tables.{words_alone, tables_alone}
 use Rattle.command_line.specs.CommandLine.{AsksFor}
-use Rattle.chain_app.specs.declared.status.Status.{Status}
 use Rattle.chain_app.specs.declared.status.Status.TheVariants.{Done, Undecided, Refused}
 use Rattle.chain_app.specs.Agree.{most_of_tables}
 use Rattle.chain_app.specs.AgreeReport.{spec_status, named_spec}

@@ -1,5 +1,5 @@
 -- What `agree` tells.
-use Rattle.std.specs.Prelude.{◌≡◌, ℕ, List, ◌++◌, None, codes, decimal}
+use Rattle.std.specs.Prelude.{ℕ, List, ◌++◌, None, codes, decimal}
 use Rattle.tt_core.specs.declared.error.SpecError.{SpecError}
 use Rattle.tt_core.specs.declared.error.SpecError.TheVariants as tables
 use Rattle.chain_core.specs.declared.error.ChainError.{ChainError}

@@ -1,5 +1,5 @@
 -- What `improve` tells.
-use Rattle.std.specs.Prelude.{◌≡◌, ℕ, ◌≤◌, List, [], ◌∷◌, length, Some, codes}
+use Rattle.std.specs.Prelude.{ℕ, ◌≤◌, List, [], ◌∷◌, length, Some, codes}
 use Rattle.net_core.specs.declared.error.NetError.{NetError}
 use Rattle.net_core.specs.declared.error.NetError.TheVariants as nets
 use Rattle.improve_core.specs.Improving.{IsReported, HasNetFault}

@@ -1,5 +1,5 @@
 -- What a run comes to, for every command.
-use Rattle.std.specs.Prelude.{◌≡◌, ℕ, ◌≤◌, Bool, true, List, [], Option, Some, None, Vec, String}
+use Rattle.std.specs.Prelude.{◌≡◌, ℕ, ◌≤◌, true, List, [], Option, Some, None, Vec, String}
 use Rattle.std.specs.Global.{Global}
 use Rattle.port_io.specs.Bytes.{Appends, AppendsFront}
 use Rattle.port_io.specs.Faults.{Rose}

@@ -1,5 +1,5 @@
 //! The top call.
-ghost use Rattle.std.specs.Prelude.{◌≡◌, ◌≤◌, ℕ, List, Some, length};
+ghost use Rattle.std.specs.Prelude.{◌≡◌, ◌≤◌, ℕ, List, length};
 ghost use Rattle.chain_app.specs.Outside.{side};
 ghost use Rattle.chain_app.specs.Run.{IsOutcome, SourceRead, OutAfter, ReportAfter, run_of, before_after};
 ghost use Rattle.command_line.specs.CommandLine.{IsAskable};

@@ -1,4 +1,4 @@
-use Rattle.std.proofs.Common.{subst, sym}
+use Rattle.std.proofs.Common.{subst}
 use Rattle.std.specs.Prelude.{List, ℕ}
 use Rattle.chain_app.specs.Task.{Tells}
 use Rattle.chain_app.specs.Tasks.{task_of}

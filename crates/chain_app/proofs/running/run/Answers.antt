@@ -1,8 +1,7 @@
-use Rattle.std.proofs.Common.{refl, sym, ◌∙◌}
+use Rattle.std.proofs.Common.{refl}
 use Rattle.command_line.specs.CommandLine.{spelled}
 use Rattle.chain_app.specs.Outside.{side}
 use Rattle.chain_app.specs.Told.{usage}
-use Rattle.chain_app.specs.Run.{before_after, run_of}
 use Rattle.chain_app.specs.Ending.{Idle, Ran}
 use Rattle.chain_app.specs.Views.{line_value, outcome_of}
 use Rattle.chain_app.proofs.Pieces.{named_as}
