@@ -51,7 +51,11 @@ fn perform<S: Source, O: Sink, N: Sink>(
     note: &mut N,
 ) -> Ended
     requires { IsAskable command.now }
-    ensures bytes { (bytes : List ℕ) × IsOutcome (task_of command.now) (S.left source.old) bytes (outcome_of result) × OutAfter (task_of command.now) bytes (side O.written O.faults out.old) (side O.written O.faults out.new) (outcome_of result) }
+    ensures bytes { (bytes : List ℕ)
+        × IsOutcome (task_of command.now) (S.left source.old) bytes (outcome_of result)
+        × OutAfter (task_of command.now) bytes
+        (side O.written O.faults out.old) (side O.written O.faults out.new)
+        (outcome_of result) }
     ensures source { SourceRead (side S.left S.faults source.old) (side S.left S.faults source.new) (outcome_of result) }
     ensures report { ReportAfter (side N.written N.faults note.old) (side N.written N.faults note.new) (outcome_of result) }
     ensures never_falls { N.faults note.old ≤ N.faults note.new }
