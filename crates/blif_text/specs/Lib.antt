@@ -3,6 +3,8 @@ pub use Rattle.text_core.specs.Cuts
 pub use Rattle.net_theory.specs.Document
 pub use Rattle.net_theory.specs.Cover
 pub use Rattle.net_document.specs.Listed
+pub use Rattle.net_text.specs.Contents
+pub use Rattle.net_text.specs.Limits
 pub mod Logical
 pub mod Words
 pub mod Walks
@@ -11,3 +13,7 @@ pub mod Rows
 pub mod Latches
 pub mod Found
 pub mod Statements
+pub mod SizeLaws
+pub mod SaidLaws
+pub mod StepLaws
+pub mod ListingLaws

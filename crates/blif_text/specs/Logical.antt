@@ -1,51 +1,8 @@
 -- The logical lines of a BLIF text (the Berkeley BLIF manual): a line that ends with `\` goes on with
--- the next one. Comments begin with `#` and run to the end of their line.
-use Rattle.std.specs.Prelude.{ℕ, ◌+◌, Bool, true, false, ◌&&◌, ◌||◌, ◌==◌, if◌then◌else◌, List, [], ◌∷◌, ◌++◌, length, Option, Some, None}
-use Rattle.std.specs.Option.{option_map}
+-- the next one.
+use Rattle.std.specs.Prelude.{ℕ, ◌+◌, ◌==◌, if◌then◌else◌, List, [], ◌∷◌, ◌++◌, length, Option, Some, None}
 use Rattle.text_core.specs.Lines.{Line, lines_of}
-
--- space and tab
-abbrev pub is_blank : ℕ → Bool
-is_blank b = b == 32 || b == 9
-
--- front ++ bytes up to the first `#` of bytes
-unfoldable pub before_from : List ℕ → List ℕ → List ℕ
-before_from front [] = front
-before_from front (b ∷ bs) = if b == 35 then front else before_from (front ++ b ∷ []) bs
-
-abbrev pub before_comment : List ℕ → List ℕ
-before_comment text = before_from [] text
-
-abbrev pub is_nothing : List ℕ → Bool
-is_nothing [] = true
-is_nothing (b ∷ bs) = false
-
--- a text without the blanks at its end
-unfoldable pub trimmed : List ℕ → List ℕ
-trimmed [] = []
-trimmed (b ∷ bs) = if is_blank b && is_nothing (trimmed bs) then [] else b ∷ trimmed bs
-
-abbrev pub behind_first : ℕ → Option (List ℕ) → Option (List ℕ)
-behind_first b rest = option_map (λ (front : List ℕ). b ∷ front) rest
-
--- what stands before a byte at the end of a text; None where the text doesn't end with it
-unfoldable pub without_last : ℕ → List ℕ → Option (List ℕ)
-without_last c [] = None
-without_last c (b ∷ []) = if b == c then Some [] else None
-without_last c (b ∷ d ∷ bs) = behind_first b (without_last c (d ∷ bs))
-
-abbrev pub or_whole : List ℕ → Option (List ℕ) → List ℕ
-or_whole text None = text
-or_whole text (Some front) = front
-
--- A CR before the LF is dropped; one that no LF follows stays.
-abbrev pub without_return : Line → List ℕ
-without_return l = if l.ended then or_whole l.text (without_last 13 l.text) else l.text
-
--- what a line says: its text before the comment, without the blanks at its end
--- Example: `.end # of m` says `.end`.
-abbrev pub content_of : Line → List ℕ
-content_of l = trimmed (before_comment (without_return l))
+use Rattle.net_text.specs.Contents.{without_last, content_of}
 
 -- a logical line: the number of its first line, the number of bytes of all its lines without their
 -- LFs, comments counted, and what it says

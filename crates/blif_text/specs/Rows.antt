@@ -2,6 +2,7 @@
 use Rattle.std.specs.Prelude.{ℕ, Bool, true, false, not, ◌||◌, ◌==◌, nat_le, if◌then◌else◌, List, [], ◌∷◌, ◌++◌, length, Option, Some, None, Result, Ok, Err}
 use Rattle.net_theory.specs.Cover.{is_cube}
 use Rattle.net_theory.specs.Document.{Table}
+use Rattle.net_text.specs.Contents.{is_nothing}
 use Rattle.net_core.specs.declared.error.NetError.{NetError}
 use Rattle.net_core.specs.declared.error.NetError.TheVariants.{Syntax, MixedCover, TooManyRows}
 
@@ -24,10 +25,6 @@ row_in width (value ∷ []) = if width == 0 then row_with [] (bit_in value) else
 row_in width (cube ∷ value ∷ []) = if is_cube width cube then row_with cube (bit_in value) else None
 row_in width other = None
 
-abbrev pub is_first : List (List ℕ) → Bool
-is_first [] = true
-is_first (c ∷ cs) = false
-
 abbrev pub agrees : Bool → Bool → Bool
 agrees true on = on
 agrees false on = not on
@@ -35,7 +32,7 @@ agrees false on = not on
 -- a table with one more cover line
 abbrev pub with_row : ℕ → Table → Option Row → Result Table NetError
 with_row line t None = Err (Syntax line)
-with_row line t (Some row) = if nat_le 4096 (length t.cover.cubes) then Err (TooManyRows line) else (if is_first t.cover.cubes || agrees row.on t.cover.on then Ok (record { inputs = t.inputs; output = t.output; cover = record { width = t.cover.width; cubes = t.cover.cubes ++ row.cube ∷ []; on = row.on } }) else Err (MixedCover line))
+with_row line t (Some row) = if nat_le 4096 (length t.cover.cubes) then Err (TooManyRows line) else (if is_nothing t.cover.cubes || agrees row.on t.cover.on then Ok (record { inputs = t.inputs; output = t.output; cover = record { width = t.cover.width; cubes = t.cover.cubes ++ row.cube ∷ []; on = row.on; parity = false } }) else Err (MixedCover line))
 
 -- A malformed line comes first, then a line past the 4,096th, and then one of another value than the
 -- table's first.

@@ -10,6 +10,8 @@ use Rattle.net_core.specs.declared.error.NetError.TheVariants.{Syntax, NotSuppor
 use Rattle.net_document.specs.Listed.{Listed}
 use Rattle.blif_text.specs.declared.keywords.Keyword.{Keyword}
 use Rattle.blif_text.specs.declared.keywords.Keyword.TheVariants.{Model, Inputs, Outputs, Clock, Names, Latch, End, Unknown}
+use Rattle.net_text.specs.Contents.{is_nothing}
+use Rattle.net_text.specs.Limits.{is_long_line}
 use Rattle.blif_text.specs.Logical.{Logical, logical_of}
 use Rattle.blif_text.specs.Words.{words_of, has_long}
 use Rattle.blif_text.specs.Rows.{row_of}
@@ -90,19 +92,36 @@ control_at line (Some c) = record { line = line; name = c.1 } ∷ []
 abbrev pub with_latch : ℕ → Said → LatchLine → Said
 with_latch line s l = record s { latches = s.latches ++ l ∷ []; driven = s.driven ++ l.latch.output ∷ []; used = s.used ++ l.input ∷ []; controls = s.controls ++ control_at line l.latch.control }
 
-abbrev pub is_none : List (List ℕ) → Bool
-is_none [] = true
-is_none (w ∷ ws) = false
+-- `.inputs NAMES`, which are driven, `.outputs NAMES` and `.clock NAMES`
+abbrev pub with_inputs : ℕ → Said → List (List ℕ) → Result Said NetError
+with_inputs line s ws = if are_names ws then Ok (record s { inputs = s.inputs ++ ws; driven = s.driven ++ ws }) else Err (Syntax line)
+
+abbrev pub with_outputs : ℕ → Said → List (List ℕ) → Result Said NetError
+with_outputs line s ws = if are_names ws then Ok (record s { outputs = s.outputs ++ ws }) else Err (Syntax line)
+
+abbrev pub with_clocks : ℕ → Said → List (List ℕ) → Result Said NetError
+with_clocks line s ws = if are_names ws then Ok (record s { clocks = s.clocks ++ ws }) else Err (Syntax line)
+
+-- `.names INPUTS OUTPUT` and `.latch IN OUT TYPE CONTROL INIT`
+abbrev pub with_table_line : ℕ → Said → List (List ℕ) → Result Said NetError
+with_table_line line s ws = table_of line ws >>= λ t. Ok (with_table s t)
+
+abbrev pub with_latch_line : ℕ → Said → List (List ℕ) → Result Said NetError
+with_latch_line line s ws = latch_of line ws >>= λ l. Ok (with_latch line s l)
+
+-- `.end`, alone on its line
+abbrev pub with_end : ℕ → Said → List (List ℕ) → Result Said NetError
+with_end line s ws = if is_nothing ws then Ok (record s { is_ended = true }) else Err (Syntax line)
 
 -- a line that begins with a dot; first tells whether nothing was said before it
 unfoldable pub directed : ℕ → Said → Bool → List ℕ → List (List ℕ) → Keyword → Result Said NetError
 directed line s first word ws Model = if s.has_model then Err (NotSupported line word) else (if first then with_model line s ws else Err (Syntax line))
-directed line s first word ws Inputs = if are_names ws then Ok (record s { inputs = s.inputs ++ ws; driven = s.driven ++ ws }) else Err (Syntax line)
-directed line s first word ws Outputs = if are_names ws then Ok (record s { outputs = s.outputs ++ ws }) else Err (Syntax line)
-directed line s first word ws Clock = if are_names ws then Ok (record s { clocks = s.clocks ++ ws }) else Err (Syntax line)
-directed line s first word ws Names = table_of line ws >>= λ t. Ok (with_table s t)
-directed line s first word ws Latch = latch_of line ws >>= λ l. Ok (with_latch line s l)
-directed line s first word ws End = if is_none ws then Ok (record s { is_ended = true }) else Err (Syntax line)
+directed line s first word ws Inputs = with_inputs line s ws
+directed line s first word ws Outputs = with_outputs line s ws
+directed line s first word ws Clock = with_clocks line s ws
+directed line s first word ws Names = with_table_line line s ws
+directed line s first word ws Latch = with_latch_line line s ws
+directed line s first word ws End = with_end line s ws
 directed line s first word ws Unknown = Err (NotSupported line word)
 
 -- a cover line: the last statement has to be a table
@@ -120,7 +139,7 @@ stated line s (w ∷ ws) = if s.is_ended then behind_end line s w else (if begin
 
 -- a logical line
 unfoldable pub step : Said → Logical → Result Said NetError
-step s l = if nat_lt 1048576 l.size then Err (LineTooLong l.first) else (if has_long (words_of l.text) then Err (NameTooLong l.first) else stated l.first s (words_of l.text))
+step s l = if is_long_line l.size then Err (LineTooLong l.first) else (if has_long (words_of l.text) then Err (NameTooLong l.first) else stated l.first s (words_of l.text))
 
 unfoldable pub steps : Said → List Logical → Result Said NetError
 steps s [] = Ok (closed s)

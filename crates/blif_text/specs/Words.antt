@@ -1,7 +1,8 @@
 -- The words of a logical line.
-use Rattle.std.specs.Prelude.{ℕ, Bool, if◌then◌else◌, nat_lt, List, [], ◌∷◌, ◌++◌, length}
+use Rattle.std.specs.Prelude.{ℕ, Bool, if◌then◌else◌, List, [], ◌∷◌, ◌++◌}
 use Rattle.std.specs.List.{list_any}
-use Rattle.blif_text.specs.Logical.{is_blank}
+use Rattle.net_text.specs.Contents.{is_blank}
+use Rattle.net_text.specs.Limits.{is_long_word}
 
 abbrev pub word_then : List ℕ → List (List ℕ) → List (List ℕ)
 word_then [] ws = ws
@@ -18,4 +19,4 @@ words_of text = words_from [] text
 
 -- whether some word has more than 1,024 bytes
 unfoldable pub has_long : List (List ℕ) → Bool
-has_long words = list_any (λ (w : List ℕ). nat_lt 1024 (length w)) words
+has_long words = list_any is_long_word words

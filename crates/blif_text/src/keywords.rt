@@ -1,3 +1,5 @@
+//! Keywords: the words with which statements begin, and one more for all others.
+
 ghost use Rattle.std.specs.Prelude.{◌≡◌};
 ghost use Rattle.blif_text.specs.Statements.{keyword_of as keyword_of_word};
 

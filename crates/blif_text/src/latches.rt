@@ -3,11 +3,13 @@
 ghost use Rattle.std.specs.Prelude.{◌≡◌, IfOk};
 ghost use Rattle.blif_text.specs.Reading.{Gives};
 ghost use Rattle.blif_text.specs.Words.{words_of};
-ghost use Rattle.blif_text.specs.Latches.{trigger_in as trigger_in_of, init_in as init_in_of, with_control, tail_in as tail_in_of, latch_of};
+ghost use Rattle.blif_text.specs.Latches.{trigger_in as trigger_in_of, init_in as init_in_of};
+ghost use Rattle.blif_text.specs.Latches.{with_control, tail_in as tail_in_of, latch_of};
 ghost use Rattle.blif_text.specs.Found.{control_found, tail_found};
 
-use crate::words::{is_name, next_word};
+use crate::words::next_word;
 use net_document::{Latch, LatchLine, Name, NetError, Trigger};
+use net_text::is_name;
 use std::alloc::{AllocError, Global};
 
 /// How a latch follows its control.

@@ -23,6 +23,3 @@ pub use net_document::{Listed, NetError};
 pub use reading::{Control, Reading};
 pub use walking::read_listed;
 pub use words::next_word;
-
-#[cfg(test)]
-mod tests;

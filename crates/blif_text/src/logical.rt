@@ -1,10 +1,11 @@
-//! Logical lines.
+//! Logical lines: lines that end with `\` are joined with the next one. The walk goes by lines of the
+//! text, and what each of them says comes from the rules that formats share.
 
-ghost use Rattle.std.specs.Prelude.{◌≡◌, ℕ, ◌+◌, ◌≤◌, ◌<◌, ◌^◌, length, IfOk, IfSome};
-ghost use Rattle.std.specs.Option.{option_copied};
-ghost use Rattle.blif_text.specs.Logical.{is_blank as is_blank_of, before_comment as before_comment_of, trimmed, without_last as without_last_of, without_return as without_return_of, content_of as content_of_line, logical_of};
+ghost use Rattle.std.specs.Prelude.{◌≡◌, ◌+◌, ◌≤◌, ◌<◌, ◌^◌, length, IfOk, IfSome};
+ghost use Rattle.blif_text.specs.Logical.{logical_of};
 ghost use Rattle.blif_text.specs.Walks.{logical_in};
 
+use net_text::{content_of, without_last};
 use std::alloc::{AllocError, Global};
 use std::marker::Model;
 use text_core::next_line;
@@ -24,75 +25,6 @@ impl Model for LogicalLine {
     ghost Value = { logical.Logical };
 
     ghost view = { λ l. record { first = l.first; size = l.size; text = l.text.items } };
-}
-
-/// Whether a byte is a space or a tab.
-pub fn is_blank(byte: u8) -> bool
-    ensures { result ≡ is_blank_of byte }
-{
-    byte == b' ' || byte == b'\t'
-}
-
-/// What stands before the first `#`.
-#[tactic(auto, using(text_core::specs::Cuts::cuts), unfolding(crate::specs::Logical::before_from))]
-fn before_comment(text: &[u8]) -> &[u8]
-    ensures content { result.now ≡ before_comment_of text.now }
-{
-    let mut at = 0;
-    let mut left = text;
-    while let Some((byte, rest)) = left.split_first() {
-        if *byte == b'#' {
-            let (front, _) = text.split_at(at);
-            return front;
-        }
-        at += 1;
-        left = rest;
-    }
-    text
-}
-
-/// A text without the blanks at its end.
-#[tactic(auto, using(crate::proofs::Ends::ends))]
-fn trim(text: &[u8]) -> &[u8]
-    ensures { result.now ≡ trimmed text.now }
-{
-    let mut left = text;
-    while let Some((last, front)) = left.split_last() {
-        if !is_blank(*last) {
-            return left;
-        }
-        left = front;
-    }
-    left
-}
-
-/// What stands before a byte at the end of a text; None where the text doesn't end with it.
-#[tactic(auto, using(crate::proofs::Ends::ends))]
-fn without_last(byte: u8, text: &[u8]) -> Option<&[u8]>
-    ensures { option_copied result ≡ without_last_of byte text.now }
-{
-    let (last, front) = text.split_last()?;
-    if *last == byte { Some(front) } else { None }
-}
-
-/// A line without its CR, where an LF follows it.
-fn without_return(text: &[u8], ended: bool) -> &[u8]
-    ensures { result.now ≡ without_return_of (record { text = text.now; ended = ended }) }
-{
-    if !ended {
-        return text;
-    }
-    match without_last(b'\r', text) {
-        Some(front) => front,
-        None => text,
-    }
-}
-
-/// What a line says.
-fn content_of(text: &[u8], ended: bool) -> &[u8]
-    ensures { result.now ≡ content_of_line (record { text = text.now; ended = ended }) }
-{
-    trim(before_comment(without_return(text, ended)))
 }
 
 /// The first logical line, the number of the line behind it, and what stands there; None where nothing

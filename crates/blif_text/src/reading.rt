@@ -1,3 +1,5 @@
+//! What was said so far, as a value: each statement is a change of it.
+
 ghost use Rattle.std.specs.Prelude.{◌≡◌, OnOk, IfOk};
 ghost use Rattle.blif_text.specs.Statements.{nothing, closed as closed_of};
 
@@ -43,7 +45,21 @@ impl Model for Reading {
 
     ghost Value = { statements.Said };
 
-    ghost view = { λ r. record { model = r.model; inputs = r.inputs.items; outputs = r.outputs.items; clocks = r.clocks.items; latches = r.latches.items; tables = r.tables.items; current = r.current; driven = r.driven.items; used = r.used.items; controls = r.controls.items; has_model = r.has_model; is_begun = r.is_begun; is_ended = r.is_ended } };
+    ghost view = { λ r. record {
+      model = r.model;
+      inputs = r.inputs.items;
+      outputs = r.outputs.items;
+      clocks = r.clocks.items;
+      latches = r.latches.items;
+      tables = r.tables.items;
+      current = r.current;
+      driven = r.driven.items;
+      used = r.used.items;
+      controls = r.controls.items;
+      has_model = r.has_model;
+      is_begun = r.is_begun;
+      is_ended = r.is_ended;
+    } };
 }
 
 impl Reading {

@@ -1,19 +1,25 @@
-//! Statements, one function each.
+//! Statements, one function each: what it does to what was said is the right side of the definition for its
+//! keyword, and nothing is said by a line that is refused.
 
-ghost use Rattle.std.specs.Prelude.{◌≡◌, ◌++◌, true, not, length, map, OnOk, IfOk};
+ghost use Rattle.std.specs.Prelude.{◌≡◌, ◌++◌, length, OnOk, IfOk};
 ghost use Rattle.blif_text.specs.Reading.{Gives};
 ghost use Rattle.blif_text.specs.Words.{words_of};
 ghost use Rattle.blif_text.specs.Statements as say;
-ghost use Rattle.blif_text.specs.Statements.{with_model, table_of as table_of_words, front_of, last_of, directed, covered, behind_end as behind_end_of, begins_dot as begins_dot_of, control_at, stated, step};
-ghost use Rattle.blif_text.specs.declared.keywords.Keyword.TheVariants.{Model, Inputs, Outputs, Clock, Names, Latch, End, Unknown};
+ghost use Rattle.blif_text.specs.Statements.{with_model, with_inputs, with_outputs, with_clocks};
+ghost use Rattle.blif_text.specs.Statements.{with_table_line, with_latch_line, with_end};
+ghost use Rattle.blif_text.specs.Statements.{table_of as table_of_words, front_of, last_of, control_at};
+ghost use Rattle.blif_text.specs.Statements.{directed, covered, behind_end as behind_end_of};
+ghost use Rattle.blif_text.specs.Statements.{begins_dot as begins_dot_of, stated, step};
+ghost use Rattle.blif_text.specs.declared.keywords.Keyword.TheVariants.{Model};
 
 use crate::keywords::{Keyword, keyword_of};
 use crate::latches::latch_of;
 use crate::logical::LogicalLine;
 use crate::reading::{Control, Reading};
 use crate::rows::take_row;
-use crate::words::{add_copies, add_words, are_names, count_words, has_long, is_name, next_word};
-use net_document::{Cover, LatchLine, Name, NetError, Table, Trigger};
+use crate::words::{add_words, are_names, count_words, has_long, next_word};
+use net_document::{Cover, LatchLine, Name, NetError, Table, Trigger, add_copies};
+use net_text::{is_long_line, is_name};
 use std::alloc::{AllocError, Global};
 
 /// The name of the model, which may be missing.
@@ -55,15 +61,8 @@ fn take_model(
 }
 
 /// `.inputs`
-#[tactic(auto, unfolding(crate::specs::Statements::directed))]
-fn take_inputs(
-    line: u32,
-    reading: &mut Reading,
-    is_first: bool,
-    word: &[u8],
-    text: &[u8],
-) -> Result<(), NetError>
-    ensures { Gives (λ _. reading.new) result (directed line reading.old is_first word.now (words_of text.now) Inputs) }
+fn take_inputs(line: u32, reading: &mut Reading, text: &[u8]) -> Result<(), NetError>
+    ensures { Gives (λ _. reading.new) result (with_inputs line reading.old (words_of text.now)) }
 {
     if !are_names(text) {
         return Err(NetError::Syntax(line));
@@ -74,15 +73,8 @@ fn take_inputs(
 }
 
 /// `.outputs`
-#[tactic(auto, unfolding(crate::specs::Statements::directed))]
-fn take_outputs(
-    line: u32,
-    reading: &mut Reading,
-    is_first: bool,
-    word: &[u8],
-    text: &[u8],
-) -> Result<(), NetError>
-    ensures { Gives (λ _. reading.new) result (directed line reading.old is_first word.now (words_of text.now) Outputs) }
+fn take_outputs(line: u32, reading: &mut Reading, text: &[u8]) -> Result<(), NetError>
+    ensures { Gives (λ _. reading.new) result (with_outputs line reading.old (words_of text.now)) }
 {
     if !are_names(text) {
         return Err(NetError::Syntax(line));
@@ -92,15 +84,8 @@ fn take_outputs(
 }
 
 /// `.clock`
-#[tactic(auto, unfolding(crate::specs::Statements::directed))]
-fn take_clocks(
-    line: u32,
-    reading: &mut Reading,
-    is_first: bool,
-    word: &[u8],
-    text: &[u8],
-) -> Result<(), NetError>
-    ensures { Gives (λ _. reading.new) result (directed line reading.old is_first word.now (words_of text.now) Clock) }
+fn take_clocks(line: u32, reading: &mut Reading, text: &[u8]) -> Result<(), NetError>
+    ensures { Gives (λ _. reading.new) result (with_clocks line reading.old (words_of text.now)) }
 {
     if !are_names(text) {
         return Err(NetError::Syntax(line));
@@ -159,16 +144,8 @@ fn table_of(alloc: Global, line: u32, text: &[u8]) -> Result<Table, NetError>
 }
 
 /// `.names`
-#[tactic(auto, unfolding(crate::specs::Statements::directed))]
-fn take_table(
-    alloc: Global,
-    line: u32,
-    reading: &mut Reading,
-    is_first: bool,
-    word: &[u8],
-    text: &[u8],
-) -> Result<(), NetError>
-    ensures { Gives (λ _. reading.new) result (directed line reading.old is_first word.now (words_of text.now) Names) }
+fn take_table(alloc: Global, line: u32, reading: &mut Reading, text: &[u8]) -> Result<(), NetError>
+    ensures { Gives (λ _. reading.new) result (with_table_line line reading.old (words_of text.now)) }
 {
     let table = table_of(alloc, line, text)?;
     reading.driven.push(table.output.copied()?)?;
@@ -195,16 +172,8 @@ fn note_control(
 }
 
 /// `.latch`
-#[tactic(auto, unfolding(crate::specs::Statements::directed))]
-fn take_latch(
-    alloc: Global,
-    line: u32,
-    reading: &mut Reading,
-    is_first: bool,
-    word: &[u8],
-    text: &[u8],
-) -> Result<(), NetError>
-    ensures { Gives (λ _. reading.new) result (directed line reading.old is_first word.now (words_of text.now) Latch) }
+fn take_latch(alloc: Global, line: u32, reading: &mut Reading, text: &[u8]) -> Result<(), NetError>
+    ensures { Gives (λ _. reading.new) result (with_latch_line line reading.old (words_of text.now)) }
 {
     let LatchLine { input, latch } = latch_of(alloc, line, text)?;
     reading.driven.push(latch.output.copied()?)?;
@@ -215,15 +184,8 @@ fn take_latch(
 }
 
 /// `.end`
-#[tactic(auto, unfolding(crate::specs::Statements::directed))]
-fn take_end(
-    line: u32,
-    reading: &mut Reading,
-    is_first: bool,
-    word: &[u8],
-    text: &[u8],
-) -> Result<(), NetError>
-    ensures { Gives (λ _. reading.new) result (directed line reading.old is_first word.now (words_of text.now) End) }
+fn take_end(line: u32, reading: &mut Reading, text: &[u8]) -> Result<(), NetError>
+    ensures { Gives (λ _. reading.new) result (with_end line reading.old (words_of text.now)) }
 {
     if next_word(text).is_some() {
         return Err(NetError::Syntax(line));
@@ -246,12 +208,12 @@ fn direct(
 {
     match keyword_of(word) {
         Keyword::Model => take_model(alloc, line, reading, is_first, word, text),
-        Keyword::Inputs => take_inputs(line, reading, is_first, word, text),
-        Keyword::Outputs => take_outputs(line, reading, is_first, word, text),
-        Keyword::Clock => take_clocks(line, reading, is_first, word, text),
-        Keyword::Names => take_table(alloc, line, reading, is_first, word, text),
-        Keyword::Latch => take_latch(alloc, line, reading, is_first, word, text),
-        Keyword::End => take_end(line, reading, is_first, word, text),
+        Keyword::Inputs => take_inputs(line, reading, text),
+        Keyword::Outputs => take_outputs(line, reading, text),
+        Keyword::Clock => take_clocks(line, reading, text),
+        Keyword::Names => take_table(alloc, line, reading, text),
+        Keyword::Latch => take_latch(alloc, line, reading, text),
+        Keyword::End => take_end(line, reading, text),
         Keyword::Unknown => Err(NetError::NotSupported(line, Name::of(alloc, word)?)),
     }
 }
@@ -309,7 +271,7 @@ fn state(alloc: Global, line: u32, reading: &mut Reading, text: &[u8]) -> Result
 pub fn take_line(alloc: Global, reading: &mut Reading, line: &LogicalLine) -> Result<(), NetError>
     ensures { Gives (λ _. reading.new) result (step reading.old line.now) }
 {
-    if line.size > 1_048_576 {
+    if is_long_line(line.size) {
         return Err(NetError::LineTooLong(line.first));
     }
     if has_long(&line.text) {

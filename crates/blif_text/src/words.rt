@@ -1,17 +1,16 @@
-//! Words of a logical line.
+//! Words of a logical line. A line is passed over several times, and no index of its words is kept.
 
-ghost use Rattle.std.specs.Prelude.{◌≡◌, ◌<◌, ◌++◌, ◌∷◌, [], length, IfSome, OnOk};
+ghost use Rattle.std.specs.Prelude.{◌≡◌, ◌<◌, ◌++◌, length, IfSome, OnOk};
 ghost use Rattle.blif_text.specs.Words.{words_of, has_long as has_long_of};
 ghost use Rattle.blif_text.specs.Walks.{words_in};
 ghost use Rattle.blif_text.specs.Statements.{are_names as are_names_of};
-ghost use Rattle.net_theory.specs.Document.{is_name as is_name_of, is_name_byte as is_name_byte_of};
 
-use crate::logical::is_blank;
 use net_document::Name;
+use net_text::{is_blank, is_long_word, is_name};
 use std::alloc::AllocError;
 
 /// The first word of a text, and what stands behind it; None where the text has no word.
-#[tactic(auto, using(crate::proofs::Ends::word_cuts), unfolding(crate::specs::Words::words_from))]
+#[tactic(auto, using(text_core::specs::Cuts::cuts), unfolding(crate::specs::Words::words_from))]
 pub fn next_word(text: &[u8]) -> Option<(&[u8], &[u8])>
     ensures words { words_of text.now ≡ words_in result }
     ensures shorter { IfSome result (λ x. length x.1.now < length text.now) }
@@ -45,7 +44,7 @@ pub fn has_long(text: &[u8]) -> bool
 {
     let mut left = text;
     while let Some((word, rest)) = next_word(left) {
-        if word.len() > 1024 {
+        if is_long_word(word) {
             return true;
         }
         left = rest;
@@ -64,33 +63,6 @@ pub fn count_words(text: &[u8]) -> usize
         left = rest;
     }
     count
-}
-
-/// Whether a byte can stand in a name.
-fn is_name_byte(byte: u8) -> bool
-    ensures { result ≡ is_name_byte_of byte }
-{
-    byte >= 33 && byte <= 126 && byte != b'#'
-}
-
-/// Whether these bytes are a name.
-#[tactic(auto, unfolding(net_theory::specs::Document::is_name))]
-pub fn is_name(bytes: &[u8]) -> bool
-    ensures { result ≡ is_name_of bytes.now }
-{
-    let Some((first, rest)) = bytes.split_first() else {
-        return false;
-    };
-    let mut byte = *first;
-    let mut left = rest;
-    while let Some((next, rest)) = left.split_first() {
-        if !is_name_byte(byte) {
-            return false;
-        }
-        byte = *next;
-        left = rest;
-    }
-    is_name_byte(byte) && byte != b'\\'
 }
 
 /// Whether all words are names.
@@ -115,18 +87,6 @@ pub fn add_words(names: &mut Vec<Name>, text: &[u8]) -> Result<(), AllocError>
     let mut left = text;
     while let Some((word, rest)) = next_word(left) {
         names.push(Name::of(*names.allocator(), word)?)?;
-        left = rest;
-    }
-    Ok(())
-}
-
-/// Adds copies of names.
-pub fn add_copies(names: &mut Vec<Name>, others: &[Name]) -> Result<(), AllocError>
-    ensures { OnOk result (names.new.items ≡ names.old.items ++ others.now) }
-{
-    let mut left = others;
-    while let Some((name, rest)) = left.split_first() {
-        names.push(name.copied()?)?;
         left = rest;
     }
     Ok(())

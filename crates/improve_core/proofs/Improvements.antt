@@ -22,7 +22,7 @@ use Rattle.net_core.specs.declared.error.NetError.TheVariants.{Syntax, NotSuppor
 use Rattle.net_document.specs.Listed.{Listed}
 use Rattle.net_document.specs.Refusals.{fault_of, IsRefused}
 use Rattle.blif_text.specs.Statements.{listed_of}
-use Rattle.blif_text.proofs.Listing.{text_small, text_named}
+use Rattle.blif_text.specs.ListingLaws.{text_small, text_named}
 use Rattle.blif_core.specs.Written.{written}
 use Rattle.blif_core.specs.Spelling.{circuit_text, HasInit}
 use Rattle.blif_core.specs.Texts.{IsCircuitOfText, IsRefusedText}

@@ -1,9 +1,8 @@
 -- Which table drives a name.
-use Rattle.std.proofs.Common.{◌≡◌, ℕ, ◌+◌, Bool, List, [], ◌∷◌, ◌++◌, length, drop, map, Option, Some, None, refl, ap, ◌∙◌, sym, arith, append_assoc, length-append}
-use Rattle.std.specs.Prelude.{if◌then◌else◌}
+use Rattle.std.proofs.Common.{◌≡◌, ℕ, ◌+◌, List, [], ◌∷◌, ◌++◌, length, drop, map, Option, None, refl, ap, ◌∙◌, sym, append_assoc, length-append}
 use Rattle.std.specs.List.{filter_map}
 use Rattle.std.proofs.lemmas.Grind.{common_steps}
-use Rattle.net_theory.specs.Document.{Name, is_same, Table}
+use Rattle.net_theory.specs.Document.{Name, Table}
 use Rattle.net_theory.specs.NetOf.{driver_from, driver_of, graph_of}
 use Rattle.net_build.specs.Parts.{graph_by, with_driver}
 

@@ -1,19 +1,18 @@
 -- What is used and not driven, and that a document without faults is well formed.
-use Rattle.std.proofs.Common.{◌≡◌, ℕ, ◌+◌, ◌≤◌, Bool, true, false, List, [], ◌∷◌, ◌++◌, length, map, Option, Some, None, refl, ap, ◌∙◌, sym, subst, ⊎_elim, arith}
-use Rattle.std.specs.Prelude.{if◌then◌else◌, nat_lt, All}
+use Rattle.std.proofs.Common.{◌≡◌, ℕ, ◌+◌, ◌≤◌, true, List, [], ◌∷◌, ◌++◌, map, Option, Some, None, refl, ◌∙◌, sym, ⊎_elim, arith}
+use Rattle.std.specs.Prelude.{nat_lt, All}
 use Rattle.std.proofs.lemmas.Grind.{common_steps}
 use Rattle.std.proofs.lemmas.Bool.{cases_Bool, cond-true, cond-false}
-use Rattle.net_theory.specs.Document.{Name, has, are_distinct, Document, table_output, source_names, driven_names, used_names}
+use Rattle.net_theory.specs.Document.{Name, has, are_distinct, table_output, source_names, driven_names, used_names}
 use Rattle.net_theory.specs.NameLaws.{has_all, distinct_right}
 use Rattle.net_theory.specs.Cost.{cost}
-use Rattle.net_theory.specs.Dependence.{IsAcyclic}
 use Rattle.net_theory.specs.WellFormed.{IsWellFormed}
 use Rattle.graph_core.specs.Visit.{order_of}
 use Rattle.net_theory.specs.NetOf.{graph_of}
 use Rattle.net_theory.specs.GraphLaws.{order_acyclic}
 use Rattle.net_core.specs.declared.error.NetError.{NetError}
-use Rattle.net_core.specs.declared.error.NetError.TheVariants.{TooManyGates, DrivenTwice, Undriven}
-use Rattle.net_document.specs.Listed.{Listed, IsListed, AreFree, times}
+use Rattle.net_core.specs.declared.error.NetError.TheVariants.{TooManyGates}
+use Rattle.net_document.specs.Listed.{Listed, IsListed, AreFree}
 use Rattle.net_document.specs.Refusals.{repeated, missing, twice_or, undriven_in, fault_of}
 use Rattle.net_document.specs.TimesLaws.{has_times, times_has, distinct_times, times_distinct, repeated_distinct, missing_driven}
 

@@ -1,32 +1,31 @@
 -- Gates that are put behind a net, table after table.
-use Rattle.std.proofs.Common.{◌≡◌, ℕ, zero, suc, ◌+◌, ◌-◌, ◌*◌, ◌≤◌, ◌<◌, ◌^◌, Bool, true, false, List, [], ◌∷◌, ◌++◌, length, map, get_or, Option, Some, None, refl, ap, ◌∙◌, sym, subst, ⊎_elim, arith, length-append, append_assoc}
-use Rattle.std.specs.Prelude.{if◌then◌else◌, All, slice_get, unwrap_or, sum_by}
+use Rattle.std.proofs.Common.{◌≡◌, ℕ, suc, ◌+◌, ◌-◌, ◌≤◌, ◌<◌, ◌^◌, List, [], ◌∷◌, ◌++◌, length, map, Option, Some, None, refl, ap, ◌∙◌, sym, subst, arith, length-append}
+use Rattle.std.specs.Prelude.{All, slice_get, unwrap_or, sum_by}
 use Rattle.std.proofs.lemmas.Grind.{common_steps}
 use Rattle.std.proofs.lemmas.List.{length-map, map-append}
-use Rattle.std.proofs.lemmas.Bool.{cond_both, cases_Bool}
+use Rattle.std.proofs.lemmas.Bool.{cond_both}
 use Rattle.std.proofs.lemmas.List.Elements.{All-nil, All-cons}
 use Rattle.std.proofs.lemmas.List.Sums.{sum_by-cons}
 use Rattle.net_theory.specs.declared.data.Sig.{Sig}
 use Rattle.net_theory.specs.declared.data.Sig.TheVariants.{Zero, Place}
 use Rattle.net_theory.specs.declared.data.Gate.{Gate}
-use Rattle.net_theory.specs.Net.{Net, IsSigBelow, AreGates, end_of}
-use Rattle.net_theory.specs.Cover.{Cover, IsCover}
+use Rattle.net_theory.specs.Net.{Net, IsSigBelow, end_of}
+use Rattle.net_theory.specs.Cover.{Cover}
 use Rattle.net_theory.specs.Cost.{cover_cost, merged_table, table_cost, cost}
-use Rattle.net_theory.specs.Document.{Name, is_same, has, are_distinct, Table, Document, LatchLine, table_output, latch_of, latch_output, latch_input, latches_of, source_names, sink_names, driven_names}
-use Rattle.net_theory.specs.NameLaws.{all_at, distinct_left, has_place}
+use Rattle.net_theory.specs.Document.{Name, Table, Document, table_output, latch_of, latch_output, latches_of, source_names}
+use Rattle.net_theory.specs.NameLaws.{all_at, distinct_left}
 use Rattle.net_theory.specs.WellFormed.{IsTable, IsWellFormed}
 use Rattle.net_theory.specs.Expansion.{Built, expanded}
-use Rattle.net_theory.specs.BuiltLaws.{IsBuilt}
 use Rattle.net_theory.specs.WideLaws.{AreSigsBelow}
 use Rattle.net_theory.specs.ExpansionLaws.{expanded_is}
 use Rattle.net_theory.specs.MergedLaws.{IsMerged, merged_is, cover_cost-map}
-use Rattle.graph_core.specs.Visit.{has_ended, order_of}
-use Rattle.graph_core.specs.VisitLaws.{Comes, IsRun, IsOrder}
+use Rattle.graph_core.specs.Visit.{has_ended}
+use Rattle.graph_core.specs.VisitLaws.{IsOrder}
 use Rattle.net_theory.specs.GraphLaws.{length-graph_of}
-use Rattle.net_theory.specs.NetOf.{Signals, Growth, with_signal, with_sources, signal_of, table_built, grown_by, with_table, with_table_at, with_tables, sources_only, source_count, graph_of, net_in_order}
+use Rattle.net_theory.specs.NetOf.{Signals, Growth, with_signal, with_sources, signal_of, table_built, grown_by, with_table, with_table_at, with_tables, source_count, graph_of}
 use Rattle.net_theory.specs.NetLaws.{IsGrowth, spent, start_growth, tables_grown}
 use Rattle.net_core.specs.Growing.{built}
-use Rattle.net_build.specs.Parts.{growth, AreBelow, Fits, FitsTable, IsBegun}
+use Rattle.net_build.specs.Parts.{growth, AreBelow, FitsTable, IsBegun}
 
 -- ---- signals that are the net's
 

@@ -1,14 +1,12 @@
 -- Tables whose inputs are one name, and costs.
-use Rattle.std.proofs.Common.{◌≡◌, ◌≢◌, ℕ, suc, Bool, true, false, ◌+◌, ◌*◌, ◌≤◌, ◌<◌, ◌^◌, List, [], ◌∷◌, length, Option, Some, None, refl, ap, ◌∙◌, sym, subst, arith}
-use Rattle.std.specs.Prelude.{sum_by}
+use Rattle.std.proofs.Common.{◌≡◌, ◌≢◌, Bool, true, false, ◌≤◌, List, [], ◌∷◌, length, Option, refl, sym, subst, arith}
 use Rattle.std.proofs.lemmas.Grind.{common_steps}
-use Rattle.std.proofs.lemmas.List.Sums.{sum_by-cons}
 use Rattle.std.proofs.lemmas.Bool.{cond_both}
 use Rattle.net_theory.specs.Cover.{Cover, IsCover, cover_value}
 use Rattle.net_theory.specs.Document.{Name, is_same, Table}
 use Rattle.net_theory.specs.WellFormed.{IsTable}
-use Rattle.net_theory.specs.Cost.{unary_cover, merged, merged_table, cover_cost, table_cost}
-use Rattle.net_theory.specs.MergedLaws.{IsMerged, merged_is}
+use Rattle.net_theory.specs.Cost.{unary_cover, merged, merged_table}
+use Rattle.net_theory.specs.MergedLaws.{merged_is}
 use Rattle.net_build.specs.Parts.{merged_by}
 
 pub merged-other : (t : Table) (ns : List Name) → length ns ≢ 2 → merged t ns ≡ t

@@ -1,16 +1,13 @@
 -- The circuit of a listed document, and tables that depend on themselves.
-use Rattle.std.proofs.Common.{◌≡◌, ℕ, ◌+◌, ◌*◌, ◌≤◌, ◌<◌, ◌^◌, Bool, true, List, [], length, map, Option, Some, None, refl, ap, ◌∙◌, sym, subst, arith}
+use Rattle.std.proofs.Common.{◌≡◌, ℕ, ◌+◌, ◌<◌, ◌^◌, true, List, length, map, Some, None, refl, sym, subst}
 use Rattle.std.specs.Prelude.{slice_get}
 use Rattle.std.proofs.lemmas.Grind.{common_steps}
 use Rattle.std.proofs.lemmas.Option.{slice_get_within}
-use Rattle.net_theory.specs.Net.{Net}
-use Rattle.net_theory.specs.Cost.{cost}
-use Rattle.net_theory.specs.Document.{Name, Table, Document, are_distinct, table_output, latches_of}
+use Rattle.net_theory.specs.Document.{Table, Document, are_distinct, table_output}
 use Rattle.net_theory.specs.Dependence.{DependsOn, at_once, by_way_of, IsFirstCyclic}
-use Rattle.net_theory.specs.WellFormed.{IsWellFormed}
 use Rattle.graph_core.specs.Visit.{order_of}
-use Rattle.graph_core.specs.VisitLaws.{LeadsTo, IsClosed, IsOrder, order_is, no_order}
-use Rattle.net_theory.specs.GraphLaws.{graph_closed, length-graph_of, leads_depends, depends_leads, no_order_cyclic}
+use Rattle.graph_core.specs.VisitLaws.{IsOrder, order_is, no_order}
+use Rattle.net_theory.specs.GraphLaws.{graph_closed, length-graph_of, leads_depends, depends_leads}
 use Rattle.net_theory.specs.NetOf.{source_count, graph_of, net_in_order}
 use Rattle.net_theory.specs.Circuit.{Circuit, IsCircuitOf}
 use Rattle.net_theory.specs.CircuitLaws.{circuit_of, circuit_is}

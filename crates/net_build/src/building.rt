@@ -1,8 +1,7 @@
 //! The gates of tables, put behind one another.
 
-ghost use Rattle.std.specs.Prelude.{◌≡◌, ℕ, ◌+◌, ◌<◌, ◌^◌, [], length, slice_get, None, OnOk, IfOk};
+ghost use Rattle.std.specs.Prelude.{◌≡◌, ◌+◌, ◌<◌, ◌^◌, [], length, slice_get, None, OnOk, IfOk};
 ghost use Rattle.indexmap.specs.IndexMap.{get};
-ghost use Rattle.net_theory.specs.Net.{IsNet};
 ghost use Rattle.net_theory.specs.Document.{is_same};
 ghost use Rattle.net_theory.specs.WellFormed.{IsWellFormed};
 ghost use Rattle.graph_core.specs.VisitLaws.{IsOrder};

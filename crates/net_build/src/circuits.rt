@@ -1,6 +1,6 @@
 //! The circuit of a document.
 
-ghost use Rattle.std.specs.Prelude.{◌≡◌, ℕ, ◌+◌, ◌*◌, ◌<◌, ◌^◌, List, map, length, true, Some, None, IfOk, IfErr, OnOk};
+ghost use Rattle.std.specs.Prelude.{◌≡◌, ℕ, ◌+◌, ◌*◌, ◌<◌, ◌^◌, List, map, length, true, Some, None, IfOk, IfErr};
 ghost use Rattle.net_theory.specs.Document.{latch_of, are_distinct, table_output};
 ghost use Rattle.graph_core.specs.Visit.{order_of};
 ghost use Rattle.net_theory.specs.Cost.{cost};

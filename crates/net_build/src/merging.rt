@@ -1,6 +1,6 @@
 //! Tables whose two inputs have one name, and costs.
 
-ghost use Rattle.std.specs.Prelude.{◌≡◌, ◌<◌, ◌^◌, ◌++◌, ◌∷◌, [], false, true, All, IfOk, OnOk, sum_by, take};
+ghost use Rattle.std.specs.Prelude.{◌≡◌, ◌<◌, ◌^◌, ◌++◌, false, true, All, IfOk, OnOk, sum_by, take};
 ghost use Rattle.net_theory.specs.Cost.{byte_if, unary_cover as unary_cover_of, merged_table, table_cost as table_cost_of};
 ghost use Rattle.net_theory.specs.WellFormed.{IsTable};
 ghost use Rattle.net_build.specs.Parts.{merged_by};

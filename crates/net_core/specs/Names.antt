@@ -1,10 +1,11 @@
 -- Names that are taken, and outputs that sit on places.
-use Rattle.std.specs.Prelude.{◌≡◌, ℕ, ◌<◌, if◌then◌else◌, List, [], ◌∷◌, ◌++◌, length, slice_get, slice_index_or, slice_set, Option, Some, None, option_and_then}
+use Rattle.std.specs.Prelude.{◌≡◌, ℕ, ◌<◌, ◌^◌, if◌then◌else◌, List, [], ◌∷◌, ◌++◌, length, slice_get, slice_index_or, slice_set, Option, Some, None, option_and_then}
 use Rattle.std.proofs.Common.{drop}
 use Rattle.net_theory.specs.declared.data.Sig.{Sig}
 use Rattle.net_theory.specs.declared.data.Sig.TheVariants.{Zero, One, Place}
 use Rattle.net_theory.specs.Document.{Name, has}
-use Rattle.net_theory.specs.Naming.{output_on, Naming}
+use Rattle.net_theory.specs.Circuit.{Circuit}
+use Rattle.net_theory.specs.Naming.{output_on, Naming, taken_set}
 
 -- names and one more, unless it was there
 abbrev pub with_name : List Name → Name → List Name
@@ -26,3 +27,7 @@ noted firsts (Place p) at = slice_set firsts p (Some at)
 
 abbrev pub naming : List Name → List Name → Naming
 naming names free = record { names = names; free = free }
+
+-- There are numbers for all names that numbered names pass over, as for those of every circuit in a memory.
+abbrev pub HasRoom : Circuit → Type 0
+HasRoom c = length (taken_set c) < 2 ^ 63

@@ -39,7 +39,7 @@ pub use joining::Connective;
 pub use keeping::{keep_gates, moved, moved_sinks, start_places};
 pub use marking::{mark_reached, mark_sinks};
 pub use name::Name;
-pub use naming::{GateNames, all_names, gate_names};
+pub use naming::{GateNames, all_names, gate_names, take_latches, take_names};
 pub use net::Net;
 pub use net_theory::{Gate, Sig, Trigger};
 pub use op_basis::Op;

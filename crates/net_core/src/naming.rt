@@ -1,13 +1,13 @@
 //! The names of gates where a circuit is written.
 
-ghost use Rattle.std.specs.Prelude.{◌≡◌, ◌+◌, ◌-◌, ◌≤◌, ◌<◌, [], length, map, slice_get, vec_len, All, OnOk, IfOk};
+ghost use Rattle.std.specs.Prelude.{◌≡◌, ◌^◌, ◌+◌, ◌-◌, ◌≤◌, ◌<◌, [], length, map, slice_get, vec_len, All, OnOk, IfOk};
 ghost use Rattle.std.specs.List.{filter_map};
 ghost use Rattle.net_theory.specs.Document.{has, latch_output};
 ghost use Rattle.net_theory.specs.Naming.{control_of, taken_set, numbered as numbered_of, each_once, free_names, first_free, rest_free, named, names_after, names_in, gate_names as gate_names_of, first_spare as first_spare_of, second_spare as second_spare_of};
 ghost use Rattle.net_theory.specs.Circuit.{IsProper};
 ghost use Rattle.std.specs.Option.{option_copied};
 ghost use Rattle.net_theory.specs.Net.{IsSigBelow};
-ghost use Rattle.net_core.specs.Names.{with_name, naming, first_name, noted, AreFirsts};
+ghost use Rattle.net_core.specs.Names.{with_name, naming, first_name, noted, AreFirsts, HasRoom};
 
 use crate::circuit::{Circuit, Latch};
 use crate::name::Name;
@@ -28,7 +28,7 @@ fn take_name(taken: &mut IndexSet<Name>, name: &Name) -> Result<(), AllocError>
 
 /// Adds names to those that are taken.
 #[tactic(auto, unfolding(net_theory::specs::Naming::each_once))]
-fn take_names(taken: &mut IndexSet<Name>, names: &[Name]) -> Result<(), AllocError>
+pub fn take_names(taken: &mut IndexSet<Name>, names: &[Name]) -> Result<(), AllocError>
     ensures { OnOk result (taken.new.keys ≡ each_once taken.old.keys names.now) }
 {
     let mut left = names;
@@ -41,7 +41,7 @@ fn take_names(taken: &mut IndexSet<Name>, names: &[Name]) -> Result<(), AllocErr
 
 /// Adds the names of the latches' outputs.
 #[tactic(auto, unfolding(net_theory::specs::Naming::each_once))]
-fn take_latches(taken: &mut IndexSet<Name>, latches: &[Latch]) -> Result<(), AllocError>
+pub fn take_latches(taken: &mut IndexSet<Name>, latches: &[Latch]) -> Result<(), AllocError>
     ensures { OnOk result (taken.new.keys ≡ each_once taken.old.keys (map latch_output latches.now)) }
 {
     let mut left = latches;
@@ -254,7 +254,8 @@ fn net_names(
     net: &Net,
 ) -> Result<(Vec<Name>, u64, u64), AllocError>
     requires { length outputs.now ≤ length net.now.sinks }
-    ensures { IfOk result (λ x. naming x.0.items (free_names taken.now.keys x.1 (x.2 - x.1)) ≡ names_in taken.now.keys outputs.now net.now) }
+    ensures names { IfOk result (λ x. naming x.0.items (free_names taken.now.keys x.1 (x.2 - x.1)) ≡ names_in taken.now.keys outputs.now net.now) }
+    ensures room { IfOk result (λ _. length taken.now.keys < 2 ^ 63) }
 {
     let sources = net.sources() as usize;
     let gates = net.gates();
@@ -276,6 +277,7 @@ fn with_spares(
     ensures names { IfOk result (λ x. x.names.items ≡ (names_in taken.now.keys outputs.now net.now).names) }
     ensures first_spare { IfOk result (λ x. x.first_spare ≡ first_free (names_in taken.now.keys outputs.now net.now).free) }
     ensures second_spare { IfOk result (λ x. x.second_spare ≡ first_free (rest_free (names_in taken.now.keys outputs.now net.now).free)) }
+    ensures room { IfOk result (λ _. length taken.now.keys < 2 ^ 63) }
 {
     let (names, next, end) = net_names(alloc, taken, outputs, net)?;
     let (first_spare, next) = next_free(alloc, taken, next, end)?;
@@ -290,12 +292,13 @@ fn with_spares(
 /// The names that the gates of a circuit have where it is written, in the order of their places, and two
 /// more names for constants. A gate on which outputs sit has the name of the first of them, and each
 /// other one the next of `g1`, `g2` and so on that isn't the name of an input, an output, a latch's
-/// output, a clock or a control.
+/// output, a clock or a control. Those are fewer than 2^63, since they stand in a memory.
 pub fn all_names(alloc: Global, circuit: &Circuit) -> Result<GateNames, AllocError>
     requires { IsProper circuit.now }
     ensures names { IfOk result (λ x. x.names.items ≡ gate_names_of circuit.now) }
     ensures first_spare { IfOk result (λ x. x.first_spare ≡ first_spare_of circuit.now) }
     ensures second_spare { IfOk result (λ x. x.second_spare ≡ second_spare_of circuit.now) }
+    ensures room { IfOk result (λ _. HasRoom circuit.now) }
 {
     let taken = taken(alloc, circuit)?;
     with_spares(alloc, &taken, &circuit.outputs, &circuit.net)

@@ -1,6 +1,12 @@
 pub use Rattle.net_theory.specs.Document
 pub use Rattle.net_theory.specs.WellFormed
 pub use Rattle.net_theory.specs.Cost
+pub use Rattle.net_theory.specs.Circuit
 pub mod Listed
 pub mod Refusals
+pub mod Format
+pub mod Alike
 pub mod TimesLaws
+pub mod FormatLaws
+pub mod AlikeLaws
+pub mod OnceLaws

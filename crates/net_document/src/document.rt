@@ -1,3 +1,5 @@
+//! Tables, latches and documents as data. Nothing is asked of them here; their views are the records of the
+//! definitions.
 use net_core::{Cover, Latch, Name};
 use std::marker::Model;
 
@@ -48,7 +50,14 @@ impl Model for Document {
 
     ghost Value = { document.Document };
 
-    ghost view = { λ d. record { model = d.model; inputs = d.inputs.items; outputs = d.outputs.items; clocks = d.clocks.items; latches = d.latches.items; tables = d.tables.items } };
+    ghost view = { λ d. record {
+      model = d.model;
+      inputs = d.inputs.items;
+      outputs = d.outputs.items;
+      clocks = d.clocks.items;
+      latches = d.latches.items;
+      tables = d.tables.items;
+    } };
 }
 
 /// A document, the names that it drives in the order in which the text drives them, and the names that

@@ -1,8 +1,17 @@
 //! Laws of the definitions, each the contract of a function that does nothing.
-ghost use Rattle.std.specs.Prelude.{◌≡◌, ◌≤◌, true, List, [], None};
-ghost use Rattle.net_theory.specs.Document.{Name, has, are_distinct};
+ghost use Rattle.std.specs.Prelude.{◌≡◌, ℕ, ◌≤◌, true, List, [], None};
+ghost use Rattle.net_theory.specs.Document.{Name, Document, has, are_distinct};
+ghost use Rattle.net_theory.specs.Behaviour.{Same};
+ghost use Rattle.net_theory.specs.Net.{Net};
+ghost use Rattle.net_theory.specs.Circuit.{Circuit, Describes};
+ghost use Rattle.net_theory.specs.Answers.{Answers};
+ghost use Rattle.net_theory.specs.ExchangeLaws.{with_net};
+ghost use Rattle.net_core.specs.declared.error.NetError.{NetError};
+ghost use Rattle.net_core.specs.declared.error.NetError.TheVariants.{Memory};
 ghost use Rattle.net_document.specs.Listed.{times};
 ghost use Rattle.net_document.specs.Refusals.{repeated, missing};
+ghost use Rattle.net_document.specs.Format.{Format, IsNetlist, IsRefusedText, HasNetFault, ListsWell};
+ghost use Rattle.net_document.specs.Alike.{AreAlike};
 
 /// A name is counted where it stands in a list, and nowhere else; names differ where none is counted twice.
 pub fn laws_of_counts()
@@ -17,4 +26,20 @@ pub fn laws_of_counts()
 pub fn laws_of_refusals()
     ensures twice { (ns : List Name) → repeated [] ns ≡ None → are_distinct ns ≡ true }
     ensures undriven { (driven ns : List Name) (n : Name) → missing driven ns ≡ None → has ns n ≡ true → has driven n ≡ true }
+{}
+
+/// In every format a text that lists a well-formed document has no fault and is refused for want of memory
+/// alone, and other texts have one fault at most.
+pub fn netlists_are_read()
+    ensures netlist { (f : Format) (bytes : List ℕ) (e : NetError) → ListsWell f → IsNetlist f bytes → IsRefusedText f bytes e → e ≡ Memory }
+    ensures faultless { (f : Format) (bytes : List ℕ) (e : NetError) → ListsWell f → IsNetlist f bytes → HasNetFault f bytes e → ⊥ }
+    ensures one { (f : Format) (bytes : List ℕ) (a b : NetError) → HasNetFault f bytes a → HasNetFault f bytes b → a ≡ b }
+{}
+
+/// Documents of two circuits do the same where the circuits do, a document of the one is one of the other, and
+/// a circuit does the same with a net that answers the same.
+pub fn documents_of_like_circuits_are_the_same()
+    ensures same { (d e : Document) (c k : Circuit) → Describes d c → Describes e k → AreAlike c k → Same d e }
+    ensures describes { (d : Document) (c k : Circuit) → Describes d c → AreAlike c k → Describes d k }
+    ensures exchanged { (c : Circuit) (m : Net) → Answers c.net m → AreAlike c (with_net c m) }
 {}

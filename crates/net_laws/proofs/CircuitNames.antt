@@ -13,7 +13,7 @@ use Rattle.net_theory.specs.NameLaws.{has_place, has_at, has_left, has_right, ha
 use Rattle.net_theory.specs.ValueLaws.{at_front}
 use Rattle.net_theory.specs.Circuit.{Circuit, IsProper, sources_of}
 use Rattle.net_theory.specs.Naming.{control_of, taken_names, taken_set, free_names, is_at, output_on, first_free, rest_free, enough, names_in, all_named, gate_names, first_spare, second_spare, place_name}
-use Rattle.blif_text.proofs.Controls.{has_all_once}
+use Rattle.net_document.specs.OnceLaws.{has_all_once}
 use Rattle.net_laws.specs.Rooms.{HasRoom}
 use Rattle.net_laws.proofs.FreeNames.{AreFree, free_are, free_enough, once_few}
 use Rattle.net_laws.proofs.GivenNames.{AreSeated, Given, given_all}

@@ -13,7 +13,7 @@ use Rattle.net_document.specs.Refusals.{repeated, missing, undriven_in, twice_or
 use Rattle.net_document.specs.TimesLaws.{has_times, times_has, distinct_times, times_distinct}
 use Rattle.blif_text.specs.Reading.{◌>>=◌}
 use Rattle.blif_text.specs.Statements.{Said, said_of, listed_of, listed_by, control_fault, unless}
-use Rattle.blif_text.proofs.Listing.{text_listed}
+use Rattle.blif_text.specs.ListingLaws.{text_listed}
 use Rattle.blif_core.specs.Texts.{IsRefusedText}
 
 -- ---- documents

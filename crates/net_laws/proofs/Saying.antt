@@ -13,7 +13,8 @@ use Rattle.net_theory.specs.WellFormed.{IsTable, IsLatchLine, IsControl, IsInit}
 use Rattle.net_core.specs.declared.error.NetError.{NetError}
 use Rattle.blif_text.specs.Reading.{◌>>=◌}
 use Rattle.blif_text.specs.Logical.{logical_from, logical_of}
-use Rattle.blif_text.specs.Rows.{bit_in, row_in, is_first, with_row, row_of}
+use Rattle.net_text.specs.Contents.{is_nothing}
+use Rattle.blif_text.specs.Rows.{bit_in, row_in, with_row, row_of}
 use Rattle.blif_text.specs.Latches.{trigger_in, init_in, tail_with, with_control, tail_by, tail_by_both, tail_in, latch_with, latch_of}
 use Rattle.blif_text.specs.Statements.{Said, nothing, closed, are_names, with_model, front_of, last_of, empty_table, table_of, with_table, with_latch, directed, begins_dot, keyword_of, stated, steps, listed_by}
 use Rattle.blif_core.specs.Spelling.{trigger_text}
@@ -326,7 +327,7 @@ unfolding row_of
 row_back n t done cube is room =
     ap (with_row n (with_cubes t done)) (row_words_back t.cover.width cube is)
     ∙ cond-false (nat_le 4096 (length done)) _ _ (lt-leb 4096 (length done) room)
-    ∙ cond-true (is_first done || true) _ _ (or_right (is_first done) true refl)
+    ∙ cond-true (is_nothing done || true) _ _ (or_right (is_nothing done) true refl)
 
 row_dot : (width : ℕ) (cube : List ℕ) → is_cube width cube ≡ true → begins_dot (row_line cube).first ≡ false
 row_dot width [] is = refl

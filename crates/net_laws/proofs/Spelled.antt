@@ -17,9 +17,9 @@ use Rattle.net_document.specs.Listed.{AreFree}
 use Rattle.blif_text.specs.Logical.{logical_of}
 use Rattle.blif_text.specs.Reading.{◌>>=◌}
 use Rattle.blif_text.specs.Statements.{Said, Control, nothing, steps, said_of, listed_of, listed_by, control_fault, unless}
-use Rattle.blif_text.proofs.Said.{control_name}
-use Rattle.blif_text.proofs.Steps.{IsWhole}
-use Rattle.blif_text.proofs.Listing.{said_whole, text_listed}
+use Rattle.blif_text.specs.SaidLaws.{control_name}
+use Rattle.blif_text.specs.StepLaws.{IsWhole}
+use Rattle.blif_text.specs.ListingLaws.{said_whole, text_listed}
 use Rattle.blif_core.specs.Spelling.{word_text, words_text, rest_text, list_text, clocks_text, trigger_text, control_text, init_text, latch_text, row_text, table_text, model_text, spelled}
 use Rattle.net_laws.specs.Spelled.{IsSpelledTable, IsSpelled, IsReadBack}
 use Rattle.net_laws.proofs.WordLines.{line_of}

@@ -18,7 +18,7 @@ use Rattle.net_theory.specs.WellFormed.{IsLatch, IsLatchLine, IsTable, IsFreeOf,
 use Rattle.net_theory.specs.Cost.{table_cost, cost}
 use Rattle.net_theory.specs.Circuit.{Circuit, IsApart, IsProper, sources_of}
 use Rattle.net_theory.specs.Naming.{control_of, second_of, taken_names, each_once, gate_names, first_spare, second_spare, place_name}
-use Rattle.blif_text.proofs.Controls.{has_all_once}
+use Rattle.net_document.specs.OnceLaws.{has_all_once}
 use Rattle.blif_core.specs.Written.{gate_tables, is_zero, is_one, next_states, one_name, sig_name, constant_tables, latch_lines, output_tables, written}
 use Rattle.net_laws.specs.Spelled.{IsSpelledTable, IsSpelled}
 use Rattle.net_laws.proofs.Layers.{AreLayered, layered_append, layered_distinct, layered_inputs, layered_acyclic}

@@ -15,7 +15,7 @@ use Rattle.net_theory.specs.Behaviour.{HoldsIn, IsMapOf}
 use Rattle.net_theory.specs.ValueLaws.{value-source, values_after-gate}
 use Rattle.net_theory.specs.Circuit.{Circuit, IsProper, sources_of, by_place, values_by_name, Describes}
 use Rattle.net_theory.specs.Naming.{taken_names, gate_names, first_spare, second_spare, place_name}
-use Rattle.blif_text.proofs.Controls.{has_all_once}
+use Rattle.net_document.specs.OnceLaws.{has_all_once}
 use Rattle.blif_core.specs.Written.{next_states, sig_name, written}
 use Rattle.net_laws.proofs.Layers.{layered_map}
 use Rattle.net_laws.proofs.CircuitNames.{output_found, outputs_same, output_source, taken_output, AreNamed, placed, place_source, place_gate}

@@ -1,9 +1,12 @@
 //! Tests of the public calls of the crates of netlists, from `graph_core` to `improve_core`: values straight
-//! from the definitions, orders of graphs, tables and their gates, and nets without dead gates.
+//! from the definitions, orders of graphs, tables and their gates, nets without dead gates, and what the
+//! lines of a BLIF text list.
 #![tactic(auto)]
 
 #[cfg(test)]
 mod graphs;
+#[cfg(test)]
+mod listing;
 #[cfg(test)]
 mod nets;
 #[cfg(test)]

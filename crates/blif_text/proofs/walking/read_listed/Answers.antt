@@ -2,7 +2,7 @@ use Rattle.std.proofs.Common.{◌+◌, ◌*◌, ◌≤◌, length, sym, subst}
 use Rattle.net_theory.specs.Cost.{cost}
 use Rattle.net_theory.specs.NetOf.{source_count}
 use Rattle.net_document.specs.Listed.{Listed, IsListed, AreFree}
-use Rattle.blif_text.proofs.Listing.{text_listed, text_free, text_few, text_small}
+use Rattle.blif_text.specs.ListingLaws.{text_listed, text_free, text_few, text_small}
 use Rattle.blif_text.proofs.walking.read_listed.Goals as goal
 
 pub returns-clause-listed : goal.returns-clause-listed

@@ -1,4 +1,4 @@
-use Rattle.std.proofs.Common.{◌≡◌, ℕ, List, ◌∷◌, subst, sym, ap, ◌∙◌}
+use Rattle.std.proofs.Common.{ℕ, List, subst, sym, ap, ◌∙◌}
 use Rattle.indexmap.specs.IndexMap.{get}
 use Rattle.net_theory.specs.Document.{is_same}
 use Rattle.net_theory.specs.NetOf.{with_tables, source_count}

@@ -1,4 +1,4 @@
-use Rattle.std.proofs.Common.{◌≡◌, ℕ, ◌+◌, ◌<◌, List, length, None, Option, subst, sym, ap, ◌∙◌, arith}
+use Rattle.std.proofs.Common.{◌≡◌, ℕ, List, length, Option, subst, sym, ap, ◌∙◌, arith}
 use Rattle.net_theory.specs.Document.{Table}
 use Rattle.graph_core.specs.Visit.{Graph, order_of}
 use Rattle.graph_core.specs.VisitLaws.{IsClosed}

@@ -1,4 +1,4 @@
-use Rattle.std.proofs.Common.{◌≡◌, ◌+◌, ◌<◌, ◌^◌, ℕ, List, length, Some, sym, subst, ap, ◌∙◌, arith}
+use Rattle.std.proofs.Common.{◌≡◌, ℕ, List, length, Some, sym, subst, ap, ◌∙◌, arith}
 use Rattle.net_theory.specs.Net.{Net}
 use Rattle.graph_core.specs.Visit.{order_of}
 use Rattle.net_theory.specs.NetOf.{graph_of}

@@ -1,8 +1,8 @@
-use Rattle.std.proofs.Common.{◌≡◌, length, drop, refl, ap, ◌∙◌}
+use Rattle.std.proofs.Common.{length, drop, refl, ap, ◌∙◌}
 use Rattle.indexmap.specs.IndexMap.{get}
 use Rattle.net_theory.specs.Document.{is_same, Table}
 use Rattle.net_build.specs.Parts.{with_driver}
-use Rattle.net_build.proofs.Drivers.{IsCut, cut_last, driver_step}
+use Rattle.net_build.proofs.Drivers.{cut_last, driver_step}
 use Rattle.net_build.proofs.signals.drivers_of.Goals as goal
 
 pub loop-table-preserved : goal.loop-table-preserved

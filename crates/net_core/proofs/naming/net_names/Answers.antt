@@ -4,8 +4,8 @@ use Rattle.net_core.specs.Names.{AreFirsts}
 use Rattle.net_core.proofs.Firsts.{names_are}
 use Rattle.net_core.proofs.naming.net_names.Goals as goal
 
-pub returns : goal.returns
-returns c =
+pub returns-clause-names : goal.returns-clause-names
+returns-clause-names c =
     let firsts : AreFirsts c.in_ok-firsts.firsts.items c.args.outputs.now 0 c.args.net.now.sinks = rw c.sinks.ensures.sinks at c.in_ok-firsts.ensures.firsts in
     let gates : length c.gates-gates.result.now ≡ length c.args.net.now.gates = ap (length {A = Gate}) c.gates-gates.ensures.gates in
     let size : length c.in_ok-firsts.firsts.items ≡ c.args.net.now.sources + 1 + length c.args.net.now.gates = omega (arith, gates, c.in_ok-firsts.firsts.ok.0, c.in_ok-firsts.ensures.count, c.sources-sources.ensures.sources) in

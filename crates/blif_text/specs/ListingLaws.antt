@@ -1,29 +1,31 @@
 -- What a text lists.
 use Rattle.std.proofs.Common.{◌≡◌, ℕ, ◌+◌, ◌*◌, ◌≤◌, true, false, List, [], ◌∷◌, ◌++◌, length, map, Option, Some, None, refl, ap, ◌∙◌, sym, subst, arith, length-append, inl, inr}
-use Rattle.std.specs.Prelude.{◌-◌, ◌==◌, Result, Ok, IfOk, All, sum_by}
+use Rattle.std.specs.Prelude.{◌-◌, ◌==◌, Result, Ok, Err, IfOk, All, sum_by}
 use Rattle.std.specs.List.{flat_map, filter_map, cons_option}
 use Rattle.std.specs.Option.{option_map}
 use Rattle.std.proofs.lemmas.Bool.{cond_both, cases_Bool, cond-true, cond-false}
-use Rattle.std.proofs.lemmas.List.Elements.{All-nil, All-cons}
+use Rattle.std.proofs.lemmas.List.Elements.{All-nil, All-cons, All-head, All-tail}
 use Rattle.std.proofs.lemmas.List.Sums.{sum_by-cons}
 use Rattle.std.proofs.lemmas.List.{length-map}
 use Rattle.net_theory.specs.declared.data.Trigger.{Trigger}
 use Rattle.net_theory.specs.Cover.{Cover, cover_value}
-use Rattle.net_theory.specs.Cost.{unary_cost, binary_cost, unary_cover, merged, merged_table, is_not, wide_cost, cover_cost, table_cost, cost, literal_sum}
+use Rattle.net_theory.specs.Cost.{unary_cost, binary_cost, unary_cover, merged, merged_table, is_not, cubes_cost, wide_cost, cover_cost, table_cost, cost, literal_sum}
 use Rattle.net_theory.specs.Expansion.{unary_word, binary_word, is_plain}
 use Rattle.net_theory.specs.Document.{Name, has, is_same, Table, LatchLine, table_output, table_inputs, latch_of, latch_input, latch_output}
-use Rattle.net_theory.specs.WellFormed.{IsFreeOf}
+use Rattle.net_theory.specs.NameLaws.{all_at, at_all}
+use Rattle.net_theory.specs.WellFormed.{IsTable, IsFreeOf}
 use Rattle.net_theory.specs.NetOf.{source_count}
 use Rattle.net_theory.specs.Naming.{control_of, second_of}
 use Rattle.net_core.specs.declared.error.NetError.{NetError}
 use Rattle.net_core.specs.declared.error.NetError.TheVariants.{NotSupported}
-use Rattle.net_document.specs.Listed.{IsListed, AreFree, times}
+use Rattle.net_document.specs.Listed.{Listed, IsListed, AreFree, times}
 use Rattle.net_document.specs.TimesLaws.{times-append}
 use Rattle.blif_text.specs.Logical.{logical_of}
-use Rattle.blif_text.specs.Statements.{Control, Said, nothing, said_of, listed_by, control_fault}
-use Rattle.blif_text.proofs.Sizes.{said_size, text_short}
-use Rattle.blif_text.proofs.Said.{control_name, table_size, nothing_said, tables_none}
-use Rattle.blif_text.proofs.Steps.{IsWhole, steps_fine}
+use Rattle.blif_text.specs.Statements.{Control, Said, nothing, said_of, listed_by, listed_of, control_fault, unless}
+use Rattle.blif_text.specs.Reading.{◌>>=◌}
+use Rattle.blif_text.specs.SizeLaws.{said_size, text_short}
+use Rattle.blif_text.specs.SaidLaws.{IsCubeTable, control_name, table_size, nothing_said, tables_none}
+use Rattle.blif_text.specs.StepLaws.{IsWhole, steps_fine}
 
 -- ---- what was said is a listed document
 
@@ -34,7 +36,7 @@ list_said s size is = record {
   outputs = is.said.outputs;
   clocks = is.said.clocks;
   latches = is.said.latches;
-  tables = is.said.tables;
+  tables = at_all IsTable s.tables (λ k t e. (all_at IsCubeTable s.tables k t is.said.tables e).table);
   driven = λ n. omega (
     arith,
     is.said.driven n,
@@ -60,42 +62,47 @@ unary_small w = cond_both (w == 2) 1 0 (λ (n : ℕ). n ≤ 1) (λ e. omega arit
 binary_small : (w : ℕ) → binary_cost w ≤ 1
 binary_small w = cond_both _ 0 1 (λ (n : ℕ). n ≤ 1) (λ e. omega arith) (λ e. omega arith)
 
-wide_small : (c : Cover) → wide_cost c ≤ 1 + literal_sum c.cubes
-unfolding wide_cost
-wide_small c =
+cubes_small : (c : Cover) → cubes_cost c ≤ 1 + literal_sum c.cubes
+unfolding cubes_cost
+cubes_small c =
     cond_both (is_plain c.cubes) 0 _ (λ (n : ℕ). n ≤ 1 + literal_sum c.cubes)
     (λ e. omega arith)
     (λ e. cond_both (is_not c.on c.cubes) 1 0 (λ (n : ℕ). (literal_sum c.cubes - 1) + n ≤ 1 + literal_sum c.cubes) (λ f. omega arith) (λ f. omega arith))
 
-cover_small : {A : Type 0} (c : Cover) (xs : List A) → cover_cost c xs ≤ 1 + literal_sum c.cubes
-cover_small c [] = omega arith
-cover_small c (a ∷ []) = omega (arith, unary_small (unary_word c))
-cover_small c (a ∷ b ∷ []) = omega (arith, binary_small (binary_word c))
-cover_small c (a ∷ b ∷ d ∷ xs) = wide_small c
+wide_small : (c : Cover) → c.parity ≡ false → wide_cost c ≤ 1 + literal_sum c.cubes
+unfolding wide_cost
+wide_small c cubes = subst (λ (n : ℕ). n ≤ 1 + literal_sum c.cubes) (sym (cond-false c.parity _ _ cubes)) (cubes_small c)
 
-merged_small : (t : Table) (ns : List Name) → t.inputs ≡ ns → cover_cost (merged t ns).cover (merged t ns).inputs ≤ table_size t
+cover_small : {A : Type 0} (c : Cover) (xs : List A) → c.parity ≡ false → cover_cost c xs ≤ 1 + literal_sum c.cubes
+cover_small c [] cubes = omega arith
+cover_small c (a ∷ []) cubes = omega (arith, unary_small (unary_word c))
+cover_small c (a ∷ b ∷ []) cubes = omega (arith, binary_small (binary_word c))
+cover_small c (a ∷ b ∷ d ∷ xs) cubes = wide_small c cubes
+
+merged_small : (t : Table) (ns : List Name) → t.cover.parity ≡ false → t.inputs ≡ ns → cover_cost (merged t ns).cover (merged t ns).inputs ≤ table_size t
 unfolding table_size
-merged_small t [] e = cover_small t.cover t.inputs
-merged_small t (a ∷ []) e = cover_small t.cover t.inputs
-merged_small t (a ∷ b ∷ []) e =
+merged_small t [] cubes e = cover_small t.cover t.inputs cubes
+merged_small t (a ∷ []) cubes e = cover_small t.cover t.inputs cubes
+merged_small t (a ∷ b ∷ []) cubes e =
     cond_both (is_same a b) _ t (λ (m : Table). cover_cost m.cover m.inputs ≤ 1 + literal_sum t.cover.cubes)
     (λ same. omega (arith, unary_small (unary_word (unary_cover (cover_value t.cover (false ∷ false ∷ [])) (cover_value t.cover (true ∷ true ∷ []))))))
-    (λ other. cover_small t.cover t.inputs)
-merged_small t (a ∷ b ∷ c ∷ ns) e = cover_small t.cover t.inputs
+    (λ other. cover_small t.cover t.inputs cubes)
+merged_small t (a ∷ b ∷ c ∷ ns) cubes e = cover_small t.cover t.inputs cubes
 
-table_small : (t : Table) → table_cost t ≤ table_size t
+table_small : (t : Table) → IsCubeTable t → table_cost t ≤ table_size t
 unfolding table_cost merged_table
-table_small t = merged_small t t.inputs refl
+table_small t is = merged_small t t.inputs is.parity refl
 
-tables_small : (ts : List Table) → sum_by table_cost ts ≤ sum_by table_size ts
-tables_small [] = omega arith
-tables_small (t ∷ ts) = omega (arith, sum_by-cons table_cost t ts, sum_by-cons table_size t ts, table_small t, tables_small ts)
+tables_small : (ts : List Table) → All IsCubeTable ts → sum_by table_cost ts ≤ sum_by table_size ts
+tables_small [] all = omega arith
+tables_small (t ∷ ts) all =
+    omega (arith, sum_by-cons table_cost t ts, sum_by-cons table_size t ts, table_small t (All-head IsCubeTable t ts all), tables_small ts (All-tail IsCubeTable t ts all))
 
 size_said : (s : Said) (size : ℕ) → IsWhole s size → 2 * source_count (listed_by s).document + cost (listed_by s).document ≤ size
 unfolding cost
 size_said s size is =
     let sources : length (s.inputs ++ map latch_output (map latch_of s.latches)) ≡ length s.inputs + length s.latches = length-append s.inputs (map latch_output (map latch_of s.latches)) ∙ ap (λ k. length s.inputs + k) (length-map (map latch_of s.latches) latch_output ∙ length-map s.latches latch_of) in
-    omega (arith, is.said.small, ap (λ (ts : List Table). sum_by table_size ts) (tables_none s is.whole), tables_small s.tables, sources)
+    omega (arith, is.said.small, ap (λ (ts : List Table). sum_by table_size ts) (tables_none s is.whole), tables_small s.tables is.said.tables, sources)
 
 -- ---- its controls
 
@@ -163,3 +170,27 @@ text_few bytes s e = omega (arith, few_said s _ (said_whole bytes s e), text_sho
 -- the outputs and the clocks are no more than the bytes
 pub text_named : (bytes : List ℕ) (s : Said) → said_of bytes ≡ Ok s → length s.outputs + length s.clocks ≤ length bytes
 text_named bytes s e = omega (arith, (said_whole bytes s e).said.named, text_short 1 bytes)
+
+-- ---- what a text lists
+
+-- what is listed was said
+pub record IsSaidBy (bytes : List ℕ) (l : Listed) : Type 0 where
+  pub state : Said
+  pub said : said_of bytes ≡ Ok state
+  pub same : listed_by state ≡ l
+
+unless_ok : (f : Option NetError) (k l : Listed) → unless f k ≡ Ok l → k ≡ l
+unless_ok None k l e = cc
+unless_ok (Some f) k l e = absurd cc
+
+said_by_parts : (bytes : List ℕ) (l : Listed) (r : Result Said NetError) → said_of bytes ≡ r → (r >>= λ s. unless (control_fault (map table_output s.tables) s.controls) (listed_by s)) ≡ Ok l → IsSaidBy bytes l
+said_by_parts bytes l (Ok s) e f = record { state = s; said = e; same = unless_ok (control_fault (map table_output s.tables) s.controls) (listed_by s) l f }
+said_by_parts bytes l (Err x) e f = absurd cc
+
+listed_said : (bytes : List ℕ) (l : Listed) → listed_of bytes ≡ Ok l → IsSaidBy bytes l
+unfolding listed_of
+listed_said bytes l e = said_by_parts bytes l (said_of bytes) refl e
+
+-- each of its names, latches and tables is one
+pub texts_list : (bytes : List ℕ) (l : Listed) → listed_of bytes ≡ Ok l → IsListed l
+texts_list bytes l e = let s = listed_said bytes l e in subst IsListed s.same (text_listed bytes s.state s.said)

@@ -1,8 +1,7 @@
 -- The ends of texts.
 use Rattle.std.proofs.Common.{◌≡◌, ℕ, true, false, ◌==◌, if◌then◌else◌, List, [], ◌∷◌, ◌++◌, Some, None, arith, refl}
 use Rattle.std.proofs.lemmas.Grind.{common_steps}
-use Rattle.text_core.specs.Cuts.{take_step, drop_step}
-use Rattle.blif_text.specs.Logical.{is_blank, trimmed, without_last}
+use Rattle.net_text.specs.Contents.{is_blank, trimmed, without_last}
 
 -- a blank at the end goes
 pub trimmed-blank : (xs : List ℕ) (b : ℕ) → is_blank b ≡ true → trimmed (xs ++ b ∷ []) ≡ trimmed xs
@@ -33,5 +32,3 @@ unfolding without_last
 without_last-nothing c = refl
 
 pub ruleset ends = (common_steps, trimmed-blank, trimmed-other, trimmed-nothing, without_last-push, without_last-nothing)
-
-pub ruleset word_cuts = (common_steps, take_step, drop_step)

@@ -1,6 +1,6 @@
 //! What the lines of a text list, and which fault is told: the rules that no clause spells out.
 
-use crate::{NetError, read_listed};
+use blif_text::{NetError, read_listed};
 use std::alloc::{AllocError, Global};
 
 /// The number of inputs, outputs, clocks, latches, tables and cover lines of a text, or its fault.

@@ -30,14 +30,19 @@ table_size t = 1 + literal_sum t.cover.cubes
 abbrev pub tables_of : Said → List Table
 tables_of s = s.tables ++ option_to_list s.current
 
+-- a table of cubes, as BLIF has them alone
+pub record IsCubeTable (t : Table) : Type 0 where
+  pub table : IsTable t
+  pub parity : t.cover.parity ≡ false
+
 pub record IsSaid (s : Said) (size : ℕ) : Type 0 where
   pub model : IsName s.model
   pub inputs : All IsName s.inputs
   pub outputs : All IsName s.outputs
   pub clocks : All IsName s.clocks
   pub latches : All IsLatchLine s.latches
-  pub tables : All IsTable s.tables
-  pub current : All IsTable (option_to_list s.current)
+  pub tables : All IsCubeTable s.tables
+  pub current : All IsCubeTable (option_to_list s.current)
   pub driven : (n : Name) → times n s.driven ≡ times n s.inputs + times n (map latch_output (map latch_of s.latches)) + times n (map table_output (tables_of s))
   pub used : (n : Name) → times n s.used ≡ times n (flat_map table_inputs (tables_of s)) + times n (map latch_input s.latches)
   pub controls : map control_name s.controls ≡ filter_map control_of (map latch_of s.latches)
@@ -76,8 +81,8 @@ nothing_said = record {
   outputs = All-nil IsName;
   clocks = All-nil IsName;
   latches = All-nil IsLatchLine;
-  tables = All-nil IsTable;
-  current = All-nil IsTable;
+  tables = All-nil IsCubeTable;
+  current = All-nil IsCubeTable;
   driven = λ n. refl;
   used = λ n. refl;
   controls = refl;
@@ -94,8 +99,8 @@ closed_said s size is =
       outputs = is.outputs;
       clocks = is.clocks;
       latches = is.latches;
-      tables = All-append IsTable s.tables (option_to_list s.current) is.tables is.current;
-      current = All-nil IsTable;
+      tables = All-append IsCubeTable s.tables (option_to_list s.current) is.tables is.current;
+      current = All-nil IsCubeTable;
       driven = λ n. is.driven n ∙ ap (λ (ts : List Table). times n s.inputs + times n (map latch_output (map latch_of s.latches)) + times n (map table_output ts)) (sym same);
       used = λ n. is.used n ∙ ap (λ (ts : List Table). times n (flat_map table_inputs ts) + times n (map latch_input s.latches)) (sym same);
       controls = is.controls;
@@ -152,7 +157,7 @@ tables_none s none = ap (λ (c : Option Table). s.tables ++ option_to_list c) no
 tables_some : (s : Said) (t : Table) → s.current ≡ Some t → tables_of s ≡ s.tables ++ t ∷ []
 tables_some s t some = ap (λ (c : Option Table). s.tables ++ option_to_list c) some
 
-pub with_table_said : (s : Said) (size more : ℕ) (t : Table) → IsSaid s size → s.current ≡ None → IsTable t → table_size t ≡ 1 → size + 1 ≤ more → IsSaid (with_table s t) more
+pub with_table_said : (s : Said) (size more : ℕ) (t : Table) → IsSaid s size → s.current ≡ None → IsCubeTable t → table_size t ≡ 1 → size + 1 ≤ more → IsSaid (with_table s t) more
 with_table_said s size more t is none table one h =
     let old : tables_of s ≡ s.tables = tables_none s none in
     record {
@@ -162,7 +167,7 @@ with_table_said s size more t is none table one h =
       clocks = is.clocks;
       latches = is.latches;
       tables = is.tables;
-      current = All-cons IsTable t [] table (All-nil IsTable);
+      current = All-cons IsCubeTable t [] table (All-nil IsCubeTable);
       driven = λ n. omega (arith, times-append n s.driven (t.output ∷ []), is.driven n, outputs_push n s.tables t, ap (λ (ts : List Table). times n (map table_output ts)) old);
       used = λ n. omega (arith, times-append n s.used t.inputs, is.used n, inputs_push n s.tables t, ap (λ (ts : List Table). times n (flat_map table_inputs ts)) old);
       controls = is.controls;
@@ -170,7 +175,7 @@ with_table_said s size more t is none table one h =
       named = omega (arith, is.named, h);
     }
 
-pub with_row_said : (s : Said) (size more : ℕ) (t u : Table) → IsSaid s size → s.current ≡ Some t → IsTable u → u.inputs ≡ t.inputs → u.output ≡ t.output → size ≤ more → size + table_size u ≤ more + table_size t → IsSaid (record s { current = Some u }) more
+pub with_row_said : (s : Said) (size more : ℕ) (t u : Table) → IsSaid s size → s.current ≡ Some t → IsCubeTable u → u.inputs ≡ t.inputs → u.output ≡ t.output → size ≤ more → size + table_size u ≤ more + table_size t → IsSaid (record s { current = Some u }) more
 with_row_said s size more t u is some table inputs output low h =
     let old : tables_of s ≡ s.tables ++ t ∷ [] = tables_some s t some in
     record {
@@ -180,7 +185,7 @@ with_row_said s size more t u is some table inputs output low h =
       clocks = is.clocks;
       latches = is.latches;
       tables = is.tables;
-      current = All-cons IsTable u [] table (All-nil IsTable);
+      current = All-cons IsCubeTable u [] table (All-nil IsCubeTable);
       driven = λ n. omega (arith, is.driven n, outputs_push n s.tables t, outputs_push n s.tables u, ap (λ (ts : List Table). times n (map table_output ts)) old, ap (λ (o : Name). times n (o ∷ [])) output);
       used = λ n. omega (arith, is.used n, inputs_push n s.tables t, inputs_push n s.tables u, ap (λ (ts : List Table). times n (flat_map table_inputs ts)) old, ap (λ (is : List Name). times n is) inputs);
       controls = is.controls;

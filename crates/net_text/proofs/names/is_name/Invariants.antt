@@ -1,6 +1,6 @@
 use Rattle.std.proofs.Common.{◌≡◌, ◌∷◌, length}
 use Rattle.net_theory.specs.Document.{is_name}
-use Rattle.blif_text.proofs.words.is_name.Given as goal
+use Rattle.net_text.proofs.names.is_name.Given as goal
 
 abbrev pub invariant-loop-next : goal.invariant-loop-next
 invariant-loop-next l = is_name (l.byte ∷ l.left) ≡ is_name l.fn.bytes

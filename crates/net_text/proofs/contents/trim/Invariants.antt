@@ -1,6 +1,6 @@
 use Rattle.std.proofs.Common.{◌≡◌, length}
-use Rattle.blif_text.specs.Logical.{trimmed}
-use Rattle.blif_text.proofs.logical.trim.Given as goal
+use Rattle.net_text.specs.Contents.{trimmed}
+use Rattle.net_text.proofs.contents.trim.Given as goal
 
 abbrev pub invariant-loop-last : goal.invariant-loop-last
 invariant-loop-last l = trimmed l.left ≡ trimmed l.text

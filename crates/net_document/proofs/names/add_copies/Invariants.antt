@@ -1,5 +1,5 @@
 use Rattle.std.proofs.Common.{◌≡◌, ◌++◌, length}
-use Rattle.blif_text.proofs.words.add_copies.Given as goal
+use Rattle.net_document.proofs.names.add_copies.Given as goal
 
 abbrev pub invariant-loop-name : goal.invariant-loop-name
 invariant-loop-name l = l.names.items ++ l.left ≡ l.initial.names.items ++ l.others

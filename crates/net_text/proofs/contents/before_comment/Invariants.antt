@@ -1,6 +1,6 @@
 use Rattle.std.proofs.Common.{◌≡◌, ◌+◌, length, take, drop, []}
-use Rattle.blif_text.specs.Logical.{before_from}
-use Rattle.blif_text.proofs.logical.before_comment.Given as goal
+use Rattle.net_text.specs.Contents.{before_from}
+use Rattle.net_text.proofs.contents.before_comment.Given as goal
 
 abbrev pub invariant-loop-byte : goal.invariant-loop-byte
 invariant-loop-byte l = record {

@@ -17,11 +17,12 @@ use Rattle.blif_text.specs.declared.keywords.Keyword.{Keyword}
 use Rattle.blif_text.specs.declared.keywords.Keyword.TheVariants.{Model, Inputs, Outputs, Clock, Names, Latch as LatchWord, End, Unknown}
 use Rattle.blif_text.specs.Logical.{Logical}
 use Rattle.blif_text.specs.Words.{words_of, has_long}
-use Rattle.blif_text.specs.Rows.{Row, bit_in, row_with, row_in, is_first, agrees, with_row, row_of}
+use Rattle.net_text.specs.Contents.{is_nothing}
+use Rattle.blif_text.specs.Rows.{Row, bit_in, row_with, row_in, agrees, with_row, row_of}
 use Rattle.blif_text.specs.Latches.{Tail, trigger_in, init_in, tail_with, with_control, tail_by, tail_by_both, tail_in, latch_with, latch_of}
-use Rattle.blif_text.specs.Statements.{Said, closed, are_names, with_model, front_of, last_of, empty_table, table_of, with_table, with_latch, is_none, directed, covered, behind_end, begins_dot, keyword_of, stated, step, steps}
-use Rattle.blif_text.proofs.Sizes.{words_size, words_size-cons, words_fit, said_size, said_size-cons}
-use Rattle.blif_text.proofs.Said.{IsSaid, AreShort, short_cons, short_words, bind_fine, table_size, closed_said, said_more, with_inputs_said, with_outputs_said, with_clocks_said, with_model_said, with_flags_said, with_table_said, with_row_said, with_latch_said}
+use Rattle.blif_text.specs.Statements.{Said, closed, are_names, with_model, front_of, last_of, empty_table, table_of, with_table, with_latch, directed, covered, behind_end, begins_dot, keyword_of, stated, step, steps}
+use Rattle.blif_text.specs.SizeLaws.{words_size, words_size-cons, words_fit, said_size, said_size-cons}
+use Rattle.blif_text.specs.SaidLaws.{IsCubeTable, IsSaid, AreShort, short_cons, short_words, bind_fine, table_size, closed_said, said_more, with_inputs_said, with_outputs_said, with_clocks_said, with_model_said, with_flags_said, with_table_said, with_row_said, with_latch_said}
 
 -- ---- names
 
@@ -66,11 +67,20 @@ last_name w [] all = All-head IsName w [] all
 last_name w (v ∷ ws) all = last_name v ws (All-tail IsName w (v ∷ ws) all)
 
 abbrev IsNew : Table → Type 0
-IsNew t = IsTable t × (table_size t ≡ 1)
+IsNew t = IsCubeTable t × (table_size t ≡ 1)
 
 empty_new : (inputs : List Name) (output : Name) → All IsName inputs → IsName output → length inputs ≤ 256 → IsNew (empty_table inputs output)
 unfolding table_size
-empty_new inputs output ins out narrow = (record { inputs = ins; output = out; width = refl; cover = record { cubes = All-nil (λ (cube : List ℕ). is_cube (length inputs) cube ≡ true) }; narrow = narrow; few = omega arith }, refl)
+empty_new inputs output ins out narrow =
+    let table : IsTable (empty_table inputs output) = record {
+      inputs = ins;
+      output = out;
+      width = refl;
+      cover = record { cubes = All-nil (λ (cube : List ℕ). is_cube (length inputs) cube ≡ true); parity = λ e. absurd cc };
+      narrow = narrow;
+      few = omega arith;
+    } in
+    (record { table = table; parity = refl }, refl)
 
 table_fine : (line : ℕ) (ws : List (List ℕ)) → AreShort ws → IfOk (table_of line ws) IsNew
 unfolding table_of
@@ -118,42 +128,45 @@ row_fits width (c ∷ v ∷ w ∷ ws) row e = absurd cc
 
 -- a table with one more cover line
 pub record IsMore (t : Table) (words : List (List ℕ)) (u : Table) : Type 0 where
-  pub table : IsTable u
+  pub table : IsCubeTable u
   pub inputs : u.inputs ≡ t.inputs
   pub output : u.output ≡ t.output
   pub size : table_size u + 1 ≤ table_size t + words_size words
 
 abbrev rowed : Table → Row → Table
-rowed t row = record { inputs = t.inputs; output = t.output; cover = record { width = t.cover.width; cubes = t.cover.cubes ++ row.cube ∷ []; on = row.on } }
+rowed t row = record { inputs = t.inputs; output = t.output; cover = record { width = t.cover.width; cubes = t.cover.cubes ++ row.cube ∷ []; on = row.on; parity = false } }
 
-rowed_more : (t : Table) (words : List (List ℕ)) (row : Row) → IsTable t → FitsRow t.cover.width words row → nat_le 4096 (length t.cover.cubes) ≡ false → IsMore t words (rowed t row)
+rowed_more : (t : Table) (words : List (List ℕ)) (row : Row) → IsCubeTable t → FitsRow t.cover.width words row → nat_le 4096 (length t.cover.cubes) ≡ false → IsMore t words (rowed t row)
 unfolding table_size
 rowed_more t words row is fits room =
     let few : length t.cover.cubes < 4096 = grind (arith, common_steps, room) in
     record {
       table = record {
-        inputs = is.inputs;
-        output = is.output;
-        width = is.width;
-        cover = record { cubes = All-push (λ (cube : List ℕ). is_cube t.cover.width cube ≡ true) t.cover.cubes row.cube is.cover.cubes fits.0 };
-        narrow = is.narrow;
-        few = omega (arith, few, length-append t.cover.cubes (row.cube ∷ []));
+        table = record {
+          inputs = is.table.inputs;
+          output = is.table.output;
+          width = is.table.width;
+          cover = record { cubes = All-push (λ (cube : List ℕ). is_cube t.cover.width cube ≡ true) t.cover.cubes row.cube is.table.cover.cubes fits.0; parity = λ e. absurd cc };
+          narrow = is.table.narrow;
+          few = omega (arith, few, length-append t.cover.cubes (row.cube ∷ []));
+        };
+        parity = refl;
       };
       inputs = refl;
       output = refl;
       size = omega (arith, fits.1, count_by-le-length (λ (b : ℕ). b == 48 || b == 49) row.cube, sum_by-append literal_count t.cover.cubes (row.cube ∷ []), sum_by-cons literal_count row.cube []);
     }
 
-with_row_fine : (line : ℕ) (t : Table) (words : List (List ℕ)) (r : Option Row) → IsTable t → ((row : Row) → r ≡ Some row → FitsRow t.cover.width words row) → IfOk (with_row line t r) (IsMore t words)
+with_row_fine : (line : ℕ) (t : Table) (words : List (List ℕ)) (r : Option Row) → IsCubeTable t → ((row : Row) → r ≡ Some row → FitsRow t.cover.width words row) → IfOk (with_row line t r) (IsMore t words)
 with_row_fine line t words None is fits = tt
 with_row_fine line t words (Some row) is fits =
-    cond_both (nat_le 4096 (length t.cover.cubes)) (Err (TooManyRows line)) (if is_first t.cover.cubes || agrees row.on t.cover.on then Ok (rowed t row) else Err (MixedCover line)) (λ (r : Result Table NetError). IfOk r (IsMore t words))
+    cond_both (nat_le 4096 (length t.cover.cubes)) (Err (TooManyRows line)) (if is_nothing t.cover.cubes || agrees row.on t.cover.on then Ok (rowed t row) else Err (MixedCover line)) (λ (r : Result Table NetError). IfOk r (IsMore t words))
     (λ full. tt)
-    (λ room. cond_both (is_first t.cover.cubes || agrees row.on t.cover.on) (Ok (rowed t row)) (Err (MixedCover line)) (λ (r : Result Table NetError). IfOk r (IsMore t words))
+    (λ room. cond_both (is_nothing t.cover.cubes || agrees row.on t.cover.on) (Ok (rowed t row)) (Err (MixedCover line)) (λ (r : Result Table NetError). IfOk r (IsMore t words))
     (λ one. rowed_more t words row is (fits row refl) room)
     (λ mixed. tt))
 
-row_fine : (line : ℕ) (t : Table) (words : List (List ℕ)) → IsTable t → IfOk (row_of line t words) (IsMore t words)
+row_fine : (line : ℕ) (t : Table) (words : List (List ℕ)) → IsCubeTable t → IfOk (row_of line t words) (IsMore t words)
 unfolding row_of
 row_fine line t words is = with_row_fine line t words (row_in t.cover.width words) is (λ row e. row_fits t.cover.width words row e)
 
@@ -283,7 +296,7 @@ directed_fine line s first word ws LatchWord size more is none short h =
     bind_fine (latch_of line ws) (λ l. Ok (with_latch line s l)) (FitsLatch ws) (λ t. IsSaid t more) (latch_fine line ws short)
     (λ l fits. with_latch_said s size more line l is fits.0 (omega (arith, h, fits.1)))
 directed_fine line s first word ws End size more is none short h =
-    cond_both (is_none ws) (Ok (record s { is_ended = true })) (Err (Syntax line)) (Fine more)
+    cond_both (is_nothing ws) (Ok (record s { is_ended = true })) (Err (Syntax line)) (Fine more)
     (λ e. with_flags_said s more s.has_model true (said_more s size more (omega (arith, h)) is))
     (λ e. tt)
 directed_fine line s first word ws Unknown size more is none short h = tt
@@ -291,7 +304,7 @@ directed_fine line s first word ws Unknown size more is none short h = tt
 covered_fine : (line : ℕ) (s : Said) (c : Option Table) (words : List (List ℕ)) (size more : ℕ) → s.current ≡ c → IsSaid s size → size ≤ more → size + words_size words ≤ more + 1 → Fine more (covered line s c words)
 covered_fine line s None words size more e is low h = tt
 covered_fine line s (Some t) words size more e is low h =
-    let table : IsTable t = All-head IsTable t [] (subst (λ (c : Option Table). All IsTable (option_to_list c)) e is.current) in
+    let table : IsCubeTable t = All-head IsCubeTable t [] (subst (λ (c : Option Table). All IsCubeTable (option_to_list c)) e is.current) in
     bind_fine (row_of line t words) (λ u. Ok (record s { current = Some u })) (IsMore t words) (λ x. IsSaid x more) (row_fine line t words table)
     (λ u m. with_row_said s size more t u is e m.table m.inputs m.output low (omega (arith, h, m.size)))
 
