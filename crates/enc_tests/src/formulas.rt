@@ -81,7 +81,7 @@ fn ends_with(alloc: Global, formula: &Option<Cnf>, vars: u32, all: bool, wanted:
         return false;
     }
     let front = numbers.len() - wanted.len();
-    (front == 0 || !all) && numbers[front..] == *wanted
+    (front == 0 || !all) && &numbers[front..] == wanted
 }
 
 /// A sum over numbers.
@@ -107,6 +107,8 @@ fn is_like(alloc: Global, formula: &Option<Cnf>, vars: u32, clauses: usize, sum:
 const LIGHTS: &[u8] = b"inputs 4\n0001011101111110\n";
 
 const THREE: &[u8] = b"inputs 4\n0110100110010110\n0000000000000001\n0---------------\n";
+
+const XOR: &[u8] = b"inputs 2\n0110\n";
 
 #[test]
 fn formulas_are_those_of_another_program(rt: HostRuntime) {
@@ -181,6 +183,34 @@ fn formulas_are_those_of_another_program(rt: HostRuntime) {
             is_like(rt.alloc(), &formula, vars, clauses, sum),
             "{r} steps"
         );
+    }
+}
+
+/// Two steps for XOR over sets of operators that the five tests tell apart in nine ways.
+#[test]
+fn tests_of_bases_decide_the_cuts(rt: HostRuntime) {
+    for (method, basis, vars, clauses, sum) in [
+        (Method::Ssv, b"0000,0011,0110" as &[u8], 31, 211, 141350951),
+        (Method::Select, b"0000,0011,0110", 44, 172, 3144029014),
+        (Method::Ssv, b"0000,0011,1111", 31, 220, 2272156084),
+        (Method::Select, b"0000,0011,1111", 44, 181, 1642880629),
+        (Method::Ssv, b"0000,0011,1000", 31, 206, 1967670986),
+        (Method::Select, b"0000,0011,1000", 44, 167, 3118167463),
+        (Method::Ssv, b"0000,0011,1010", 31, 220, 1890792365),
+        (Method::Select, b"0000,0011,1010", 44, 187, 2937158271),
+        (Method::Ssv, b"0000,0101,1010,1111", 31, 222, 4002883182),
+        (Method::Select, b"0000,0101,1010,1111", 44, 189, 3453105558),
+        (Method::Ssv, b"0011,0101,0110", 27, 150, 4086971746),
+        (Method::Select, b"0011,0101,0110", 44, 167, 926684078),
+        (Method::Ssv, b"0000,0011,0101,0110", 27, 152, 296785563),
+        (Method::Select, b"0000,0011,0101,0110", 44, 169, 1325322310),
+        (Method::Ssv, b"0000,1111", 27, 163, 3411101679),
+        (Method::Select, b"0000,1111", 44, 180, 1631859616),
+        (Method::Ssv, b"0000,1010,1100", 27, 161, 2726093368),
+        (Method::Select, b"0000,1010,1100", 44, 190, 2185277293),
+    ] {
+        let formula = formula(rt.alloc(), method, XOR, basis, 2, 0);
+        assert!(rt; is_like(rt.alloc(), &formula, vars, clauses, sum));
     }
 }
 
