@@ -1,4 +1,6 @@
 //! The chains that solutions of formulas spell.
+ghost use Rattle.std.specs.Prelude.{◌<◌};
+
 use chain_core::{Chain, Out};
 use cnf_core::{Assign, satisfied};
 use enc_fence::FenceEnc;
@@ -17,11 +19,13 @@ fn decoded_by<E: Encoding>(
     spec: &Spec,
     basis: Basis,
     assign: &Assign,
-) -> Option<Chain> {
+) -> Option<Chain>
+    requires { 0 < basis }
+{
     let parts = encoding.parts(alloc, spec, 1).ok()?;
     let part = parts.get(0)?;
     let cnf = encoding.formula(alloc, spec, basis, 1, part).ok()?;
-    if !satisfied(&cnf, assign) {
+    if assign.bits().len() != cnf.vars() as usize || !satisfied(&cnf, assign) {
         return None;
     }
     encoding.decode(alloc, spec, basis, 1, part, assign).ok()

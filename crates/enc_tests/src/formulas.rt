@@ -1,5 +1,5 @@
 //! Formulas, literal by literal where they are small, and by their sizes and checksums.
-ghost use Rattle.std.specs.Prelude.{◌≤◌};
+ghost use Rattle.std.specs.Prelude.{◌<◌, ◌≤◌};
 
 use cnf_core::{Cnf, Lit};
 use enc_fence::FenceEnc;
@@ -20,7 +20,8 @@ fn formula_by<E: Encoding>(
     r: u32,
     which: usize,
 ) -> Option<Cnf>
-    requires { r ≤ 16 }
+    requires size { r ≤ 16 }
+    requires operators { 0 < basis }
 {
     let parts = encoding.parts(alloc, spec, r).ok()?;
     let part = parts.get(which)?;
