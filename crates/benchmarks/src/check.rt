@@ -1,5 +1,5 @@
 //! Checks a refutation log: `bench/make_log.py` writes what it reads.
-ghost use Rattle.std.specs.Prelude.{◌≡◌, ◌<◌, ◌+◌, IfOk, IfSome, length};
+ghost use Rattle.std.specs.Prelude.{◌<◌, IfSome};
 
 use cnf_core::{Clause, Cnf};
 use lrat_check::{CheckError, Checker};
