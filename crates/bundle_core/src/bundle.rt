@@ -1,3 +1,4 @@
+//! A whole certificate, as contracts see it.
 use crate::Section;
 use cert_theory::{Heading, Verdict};
 use chain_core::Chain;

@@ -1,3 +1,4 @@
+//! The log of one part, as contracts see it: its lines as the values that the definitions of logs speak of.
 use cert_theory::Ended;
 use enc_theory::Part;
 use lrat_text::Log;

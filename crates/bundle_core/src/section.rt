@@ -1,3 +1,4 @@
+//! The logs of one size, and whether they leave it open.
 ghost use Rattle.std.specs.Prelude.{◌≡◌};
 ghost use Rattle.cert_theory.specs.Bundle as bundles;
 

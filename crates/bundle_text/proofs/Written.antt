@@ -13,7 +13,7 @@ use Rattle.chain_core.specs.Spelling.{line}
 use Rattle.chain_theory.specs.Chain.{Chain}
 use Rattle.cert_theory.specs.declared.data.Heading.{Heading}
 use Rattle.cert_theory.specs.declared.data.Verdict.{Verdict}
-use Rattle.cert_theory.specs.Bundle.{PartLog, Section, Bundle}
+use Rattle.cert_theory.specs.Bundle.{PartLog, Section}
 use Rattle.cert_theory.specs.Spelling.{text_of, table_text, table_line, log_line, part_lines, section_lines, first_text, heading_lines, basis_line, method_line, conflicts_line, max_line, title_lines, ended_text, done_text, size_line, block_lines, verdict_line, end_text, ending_lines, bundle_text}
 use Rattle.bundle_text.specs.Texts.{cells_to, tables_to, log_text, parts_text, sections_text, spelled, heading_text, whole_text}
 

@@ -22,6 +22,3 @@ pub use ending::write_ending;
 pub use heading::write_heading;
 pub use section::write_section;
 pub use whole::write_bundle;
-
-#[cfg(test)]
-mod tests;

@@ -9,9 +9,9 @@ use Rattle.chain_core.specs.Block.{steps_from, outs_from, body_from}
 use Rattle.chain_core.specs.BlockLaws.{outs_done}
 use Rattle.cert_theory.specs.declared.data.Heading.{Heading}
 use Rattle.cert_theory.specs.declared.data.BundleError.{BundleError}
-use Rattle.cert_theory.specs.Judging.{◌>>=◌, with_block, steps_at, frame_of, chain_at, chain_judged, behind_chain}
-use Rattle.cert_theory.specs.Gives.{Fails}
-use Rattle.cert_theory.proofs.Binds.{fails_bind, fails_is}
+use Rattle.cert_theory.specs.Gives.{◌>>=◌, Fails}
+use Rattle.cert_theory.specs.Judging.{with_block, steps_at, frame_of, chain_at, chain_judged, behind_chain}
+use Rattle.cert_theory.specs.GivesLaws.{fails_bind, fails_is}
 use Rattle.cert_file.specs.Stages.{outs_then, steps_then}
 use Rattle.cert_file.proofs.Blocks.{body_is}
 

@@ -2,25 +2,15 @@
 use Rattle.std.proofs.Common.{◌≡◌, ℕ, List, Result, Ok, Err, sym, subst}
 use Rattle.std.specs.Result.{IsErrAnd}
 use Rattle.text_core.specs.Lines.{Line}
-use Rattle.sat_theory.specs.Formula.{Formula}
-use Rattle.sat_theory.specs.Line as theory
-use Rattle.lrat_check.specs.Checked.{Checked}
-use Rattle.cert_theory.specs.declared.data.Ended.{Ended}
 use Rattle.cert_theory.specs.declared.data.BundleError.{BundleError}
-use Rattle.cert_theory.specs.Judging.{logged_at}
 use Rattle.cert_theory.specs.declared.data.Verdict.{Verdict}
 use Rattle.cert_theory.specs.Gives.{Fails, Gives}
-use Rattle.cert_file.specs.Logged.{IsLogged}
 use Rattle.cert_file.specs.Stages.{Answer, Judged}
 use Rattle.cert_file.specs.declared.stage.Stage.{Stage}
 
 pub judged_err : (r : Result Stage BundleError) (e : BundleError) (number : ℕ) (ls : List Line) (answer : Answer) → IsErrAnd r (λ d. d ≡ e) → Fails e answer → Judged r number ls answer
 judged_err (Ok stage) e number ls answer is fails = absurd is
 judged_err (Err d) e number ls answer is fails = subst (λ (x : BundleError). Fails x answer) (sym is) fails
-
-pub logged_err : (r : Result ℕ BundleError) (e : BundleError) (f : Formula) (number : ℕ) (ended : Ended) (log : List theory.Line) (l : Line) (c : Checked) → IsErrAnd r (λ d. d ≡ e) → Fails e (logged_at f number ended log l) → IsLogged f number ended log l c r
-logged_err (Ok added) e f number ended log l c is fails = absurd is
-logged_err (Err d) e f number ended log l c is fails = subst (λ (x : BundleError). Fails x (logged_at f number ended log l)) (sym is) fails
 
 pub gives_err : (r : Result Verdict BundleError) (e : BundleError) (answer : Answer) → IsErrAnd r (λ d. d ≡ e) → Fails e answer → Gives (λ (v : Verdict). v) r answer
 gives_err (Ok v) e answer is fails = absurd is

@@ -10,7 +10,7 @@ use Rattle.cert_theory.specs.declared.data.Heading.{Heading}
 use Rattle.cert_theory.specs.declared.data.BundleError.{BundleError}
 use Rattle.cert_theory.specs.Judging.{as_syntax, chain_place, with_block}
 use Rattle.cert_theory.specs.Gives.{Fails}
-use Rattle.cert_theory.proofs.Binds.{fails_bind}
+use Rattle.cert_theory.specs.GivesLaws.{fails_bind}
 use Rattle.cert_file.specs.Refusals.{IsRefusal}
 
 -- a refusal of a chain block is one of bundles

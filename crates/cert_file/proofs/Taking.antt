@@ -65,7 +65,7 @@ ended_as (Sizes spec basis method conflicts) number answer is stands = stands
 ended_as (Between h size low) number answer is stands = stands
 ended_as (Due r) number answer is stands = stands
 ended_as (Begun r) number answer is stands = stands.answer_is
-ended_as (Within r ended checker additions) number answer is stands = stands.answer_is
+ended_as (Within r reader) number answer is stands = stands.answer_is
 ended_as (Steps h low f steps) number answer is stands =
     let count = length-map steps.items step_of in
     stands ∙ ap (λ (r : Result (List chain.Step × List Line) ChainError). with_block h f low (steps_then f r)) (steps_short f (steps_of steps.items) (omega (arith, count, is.due)))

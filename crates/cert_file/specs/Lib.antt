@@ -1,6 +1,7 @@
 pub use Rattle.cert_theory.specs.Bundle
 pub use Rattle.cert_theory.specs.Spelling
 pub use Rattle.cert_theory.specs.Meaning
+pub use Rattle.cert_theory.specs.PartLines
 pub use Rattle.cert_theory.specs.Judging
 pub use Rattle.cert_theory.specs.Gives
 pub mod Logged

@@ -2,8 +2,6 @@
 use Rattle.std.specs.Prelude.{◌≡◌, ℕ, ◌+◌, ◌≤◌, ◌<◌, List, [], ◌∷◌, length, drop, All, Option, Some, None, Result, Ok, Err}
 use Rattle.text_core.specs.Lines.{Line}
 use Rattle.sat_theory.specs.Line as theory
-use Rattle.sat_theory.specs.Log.{added_ids}
-use Rattle.lrat_check.specs.Checked.{Checked, HasAccepted}
 use Rattle.chain_theory.specs.Chain as chain
 use Rattle.chain_theory.specs.declared.data.Out.{Out}
 use Rattle.tt_core.specs.Words.{IsSpec}
@@ -15,13 +13,14 @@ use Rattle.chain_core.specs.declared.frame.Frame.{Frame}
 use Rattle.chain_core.specs.declared.step.Step.{Step}
 use Rattle.chain_core.specs.declared.error.ChainError.{ChainError}
 use Rattle.cert_theory.specs.declared.data.Heading.{Heading}
-use Rattle.cert_theory.specs.declared.data.Ended.{Ended}
 use Rattle.cert_theory.specs.declared.data.Verdict.{Verdict}
 use Rattle.cert_theory.specs.declared.data.BundleError.{BundleError}
 use Rattle.cert_theory.specs.Gives.{Fails}
 use Rattle.cert_theory.specs.Judging.{with_block, before, Between, Begun, Within, with_tables, behind_basis, behind_method, behind_conflicts, sections_of, behind_chain, end_of, nothing_behind, bundle_of}
 use Rattle.enc_theory.specs.declared.part.Part.{Part}
 use Rattle.cert_theory.specs.Bundle.{parts_of, formula_of}
+use Rattle.cert_file.specs.declared.part.PartReader.{PartReader}
+use Rattle.cert_file.specs.Logged.{IsReading}
 use Rattle.cert_file.specs.declared.stage.Running.{Running}
 use Rattle.cert_file.specs.declared.stage.Stage.{Stage}
 use Rattle.cert_file.specs.declared.stage.Stage.TheVariants as stages
@@ -76,7 +75,7 @@ IsStage (stages.Sizes spec basis method conflicts) number = (0 < basis) × (0 < 
 IsStage (stages.Between h size low) number = IsKnown h
 IsStage (stages.Due r) number = IsRunning r
 IsStage (stages.Begun r) number = IsRunning r
-IsStage (stages.Within r ended checker additions) number = IsRunning r × (additions ≤ number)
+IsStage (stages.Within r reader) number = IsRunning r
 IsStage (stages.Steps h low f steps) number = AreRead h f steps.items number
 IsStage (stages.Outs h low f steps os) number = AreNamed h f steps.items os.items number
 IsStage (stages.Found size low) number = Unit {0}
@@ -102,14 +101,13 @@ pub record IsBegun (r : Running) (number : ℕ) (lines : List Line) (answer : An
   pub is_part : IsPart r part
   pub answer_is : answer ≡ sections_of r.heading number (record { size = r.size; low = r.low; place = Begun part (later_of r) }) lines
 
--- In a log: a checker has accepted the lines before.
-pub record IsLogging (r : Running) (ended : Ended) (checker : Checked) (additions number : ℕ) (lines : List Line) (answer : Answer) : Type 0 where
+-- In a log: the reader has read the lines before.
+pub record IsLogging (r : Running) (reader : PartReader) (number : ℕ) (lines : List Line) (answer : Answer) : Type 0 where
   pub part : Part
   pub is_part : IsPart r part
   pub log : List theory.Line
-  pub accepted : HasAccepted (formula_of r.heading r.size part) log checker
-  pub count : additions ≡ length (added_ids log)
-  pub answer_is : answer ≡ sections_of r.heading number (record { size = r.size; low = r.low; place = Within part (later_of r) ended log }) lines
+  pub reading : IsReading (formula_of r.heading r.size part) r.heading.conflicts log reader
+  pub answer_is : answer ≡ sections_of r.heading number (record { size = r.size; low = r.low; place = Within part (later_of r) reader.ended log }) lines
 
 -- the block whose outs were read
 abbrev pub outs_then : Frame → List chain.Step → Result (List Out × List Line) ChainError → Result block.Read ChainError
@@ -130,7 +128,7 @@ Stands (stages.Sizes spec basis method conflicts) number lines answer = answer �
 Stands (stages.Between h size low) number lines answer = answer ≡ sections_of h number (record { size = size; low = low; place = Between }) lines
 Stands (stages.Due r) number lines answer = answer ≡ sections_of r.heading number (before r.size r.low (drop r.at r.parts.items)) lines
 Stands (stages.Begun r) number lines answer = IsBegun r number lines answer
-Stands (stages.Within r ended checker additions) number lines answer = IsLogging r ended checker additions number lines answer
+Stands (stages.Within r reader) number lines answer = IsLogging r reader number lines answer
 Stands (stages.Steps h low f steps) number lines answer = answer ≡ with_block h f low (steps_then f (block.steps_from f (steps_of steps.items) lines))
 Stands (stages.Outs h low f steps os) number lines answer = answer ≡ with_block h f low (outs_then f (steps_of steps.items) (block.outs_from f os.items lines))
 Stands (stages.Found size low) number lines answer = answer ≡ behind_chain number size low lines

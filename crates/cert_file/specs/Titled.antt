@@ -3,16 +3,16 @@ use Rattle.std.specs.Prelude.{◌≡◌, ℕ, Bool, true, false, List, Result, O
 use Rattle.text_core.specs.Lines.{Line}
 use Rattle.enc_theory.specs.declared.part.Part.{Part}
 use Rattle.enc_theory.specs.declared.part.Part.TheVariants.{Whole, Levels}
-use Rattle.cert_theory.specs.declared.data.BundleError.{BundleError}
-use Rattle.cert_theory.specs.Judging.{title_at}
-use Rattle.cert_theory.specs.Gives.{Fails}
+use Rattle.cert_theory.specs.declared.data.PartError.{PartError}
+use Rattle.cert_theory.specs.PartLines.{title_in}
+use Rattle.cert_theory.specs.Gives.{PartFails}
 
 -- the title of a fence was read, or is at fault
-abbrev pub HasTitle : ℕ → List ℕ → Line → Result Bool BundleError → Type 0
-HasTitle number sizes l (Ok titled) = (titled ≡ true) × (title_at number sizes l ≡ Ok tt)
-HasTitle number sizes l (Err e) = Fails e (title_at number sizes l)
+abbrev pub HasTitle : Bool → List ℕ → Line → Result Bool PartError → Type 0
+HasTitle follows sizes l (Ok titled) = (titled ≡ true) × (title_in follows sizes l ≡ Ok tt)
+HasTitle follows sizes l (Err e) = PartFails e (title_in follows sizes l)
 
 -- the whole bears none
-abbrev pub IsTitled : Part → ℕ → Line → Result Bool BundleError → Type 0
-IsTitled Whole number l result = result ≡ Ok false
-IsTitled (Levels sizes) number l result = HasTitle number sizes l result
+abbrev pub IsTitled : Part → Bool → Line → Result Bool PartError → Type 0
+IsTitled Whole follows l result = result ≡ Ok false
+IsTitled (Levels sizes) follows l result = HasTitle follows sizes l result

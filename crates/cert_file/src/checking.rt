@@ -1,12 +1,14 @@
-//! Bundles, line after line.
-ghost use Rattle.std.specs.Prelude.{◌≡◌, ◌+◌, ◌^◌, ◌<◌, List, [], ◌∷◌, length, IfOk, Ok};
+//! Bundles, line after line. The argument: a stage stands for the answer of the whole text, whatever lines come
+//! next, so the first refusal is that of the text; and at the end the stage is the answer.
+ghost use Rattle.std.specs.Prelude.{◌≡◌, ℕ, ◌+◌, ◌^◌, ◌<◌, List, [], ◌∷◌, length, IfOk, Ok};
 ghost use Rattle.text_core.specs.Lines.{Line, lines_of};
 ghost use Rattle.cert_theory.specs.Gives.{Gives};
-ghost use Rattle.tt_core.specs.Words.{specification};
+ghost use Rattle.tt_core.specs.Words.{Words, specification};
 ghost use Rattle.op_basis.specs.Basis.{members};
 ghost use Rattle.cert_theory.specs.Bundle.{Bundle};
 ghost use Rattle.cert_theory.specs.Meaning.{Means};
 ghost use Rattle.cert_theory.specs.Spelling.{IsBundle, HasVerdict};
+ghost use Rattle.cert_theory.specs.Question.{HasQuestion};
 ghost use Rattle.cert_theory.specs.Judging.{bundle_of};
 ghost use Rattle.cert_file.specs.TextLines.{line_of};
 ghost use Rattle.cert_file.specs.Stages as stages;
@@ -28,7 +30,8 @@ fn take(alloc: Global, stage: Stage, line: &TextLine) -> Result<Stage, BundleErr
     requires stage { IsStage stage line.now.number }
     requires number { line.now.number < 2 ^ 31 }
     ensures keeps { IfOk result (λ s. IsStage s (line.now.number + 1)) }
-    ensures answer { (lines ls : List Line) (answer : Answer) → Stands stage line.now.number lines answer → lines ≡ line_of line.now ∷ ls → Judged result (line.now.number + 1) ls answer }
+    ensures answer { (lines ls : List Line) (answer : Answer) → Stands stage line.now.number lines answer →
+        lines ≡ line_of line.now ∷ ls → Judged result (line.now.number + 1) ls answer }
 {
     match stage {
         Stage::Start => at_start(line),
@@ -49,12 +52,7 @@ fn take(alloc: Global, stage: Stage, line: &TextLine) -> Result<Stage, BundleErr
         Stage::Between { heading, size, low } => { at_between(alloc, heading, size, low, line) }
         Stage::Due { running } => at_due(alloc, running, line),
         Stage::Begun { running } => at_begun(alloc, running, line),
-        Stage::Within {
-            running,
-            ended: end,
-            checker,
-            additions,
-        } => at_within(alloc, running, end, checker, additions, line),
+        Stage::Within { running, reader } => at_within(alloc, running, reader, line),
         Stage::Steps {
             heading,
             low,
@@ -127,6 +125,10 @@ pub fn check_bundle(alloc: Global, bytes: &[u8]) -> Result<Verdict, BundleError>
     // The verdict is true of the tables and the basis that the text tells.
     ensures means { IfOk result (λ v. (b : Bundle) → IsBundle bytes.now b →
         Means (specification b.heading.spec) (members b.heading.basis) v) }
+    // It is true as well of the tables and the basis that the lines spell: those behind the first line.
+    ensures asks { IfOk result (λ v. (w : Words) × (basis : ℕ) × HasQuestion bytes.now w basis) }
+    ensures answers { IfOk result (λ v. (w : Words) (basis : ℕ) → HasQuestion bytes.now w basis →
+        Means (specification w) (members basis) v) }
     // It is refused exactly where the definition has a fault, with the first from the top.
     ensures exact { Gives (λ v. v) result (bundle_of (lines_of bytes.now)) }
 {

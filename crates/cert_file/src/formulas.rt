@@ -6,9 +6,9 @@ use cert_theory::Heading;
 use cnf_core::Cnf;
 use enc_fence::FenceEnc;
 use enc_frame::Encoding;
-use enc_theory::{Method, Part};
 use enc_select::Select;
 use enc_ssv::{Plain, Ssv};
+use enc_theory::{Method, Part};
 use std::alloc::{AllocError, Global};
 
 /// The parts of a size, by the heading's method.

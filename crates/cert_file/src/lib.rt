@@ -4,7 +4,8 @@
 //!
 //! The theorem is that of `check_bundle`: bytes get a verdict exactly where they are the text of a
 //! valid bundle that has it, and the verdict is true; else the first fault is told. A text is judged
-//! a line at a time, and of the logs no more is kept than one part's checker.
+//! a line at a time, and of the logs no more is kept than one part's checker: `PartReader` takes the log of a
+//! part wherever it stands, and `Stage` walks from part to part.
 //!
 //! ```text
 //! let verdict = check_bundle(alloc, &bytes)?; // Verdict::Minimum(1) for XOR
@@ -17,12 +18,11 @@ mod formulas;
 mod heading;
 mod lines;
 mod logs;
+mod part;
 mod sections;
 mod stage;
 mod titles;
 
-pub use cert_theory::{BundleError, Ended, Heading, Verdict};
+pub use cert_theory::{BundleError, Ended, Heading, PartError, Verdict};
 pub use checking::check_bundle;
-
-#[cfg(test)]
-mod tests;
+pub use part::{PartReader, PartStep};

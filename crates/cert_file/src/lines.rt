@@ -2,8 +2,10 @@
 ghost use Rattle.std.specs.Prelude.{◌≡◌};
 ghost use Rattle.std.specs.Option.{option_copied};
 ghost use Rattle.cert_theory.specs.Judging as judging;
+ghost use Rattle.cert_theory.specs.PartLines as parts;
 ghost use Rattle.cert_file.specs.TextLines.{line_of};
 
+use cert_theory::{BundleError, PartError};
 use text_core::{after, number_up_to};
 
 /// The greatest number of nine digits.
@@ -20,9 +22,24 @@ pub(crate) struct TextLine<'a> {
     pub(crate) number: u32,
 }
 
+/// A fault of a part, at a line.
+pub(crate) fn fault_at(number: u32, fault: PartError) -> BundleError
+    ensures { result ≡ judging.fault_at number fault }
+{
+    match fault {
+        PartError::Syntax => BundleError::Syntax(number),
+        PartError::StepRefused(fault) => BundleError::StepRefused(number, fault),
+        PartError::NotNew => BundleError::NotNew(number),
+        PartError::NotRefuted => BundleError::NotRefuted(number),
+        PartError::TooShort => BundleError::OpenTooShort(number),
+        PartError::EmptyStands => BundleError::WrongVerdict(number),
+        PartError::Memory => BundleError::Memory,
+    }
+}
+
 /// Whether a line is this text.
 pub(crate) fn is_line(word: &[u8], line: &TextLine) -> bool
-    ensures { result ≡ judging.is_line word.now (line_of line.now) }
+    ensures { result ≡ parts.is_line word.now (line_of line.now) }
 {
     line.ended && line.text == word
 }

@@ -1,7 +1,9 @@
-use cert_theory::{Ended, Heading, Verdict};
+//! How far the lines of a bundle have come: what is due next, and what is kept of the lines before. A stage
+//! stands for the answer of the whole text, whatever lines come next (`specs/Stages.antt`).
+use crate::part::PartReader;
+use cert_theory::{Heading, Verdict};
 use chain_core::{Basis, Frame, Out, Step};
 use enc_theory::{Method, Part};
-use lrat_check::Checker;
 use tt_core::Spec;
 
 /// A size whose section is read, and one of its parts.
@@ -64,9 +66,7 @@ pub(crate) enum Stage {
     /// A line of the log of this part.
     Within {
         running: Running,
-        ended: Ended,
-        checker: Checker,
-        additions: u32,
+        reader: PartReader,
     },
     /// A step of the chain.
     Steps {

@@ -8,10 +8,10 @@ ghost use Rattle.cert_file.specs.Stages.{Answer, Judged, IsStage, IsRunning, IsP
 ghost use Rattle.cert_file.specs.Titled.{IsTitled};
 
 use crate::ending::not_found_in;
-use crate::lines::{GREATEST, TextLine, is_line, number_behind, value_of};
+use crate::lines::{GREATEST, TextLine, fault_at, is_line, number_behind, value_of};
 use crate::logs::at_begun;
 use crate::stage::{Running, Stage};
-use cert_theory::{BundleError, title_of};
+use cert_theory::{BundleError, PartError, title_of};
 use enc_theory::Part;
 use std::alloc::Global;
 use text_core::{next_item, number_up_to};
@@ -74,10 +74,11 @@ fn may_follow(line: &TextLine) -> bool
         || not_found_in(line).is_some()
 }
 
-/// Reads the title of a part, and tells whether it bears one.
-#[tactic(auto, unfolding(cert_theory::specs::Judging::title_at))]
-fn title_at(alloc: Global, part: &Part, line: &TextLine) -> Result<bool, BundleError>
-    ensures { IsTitled part.now line.now.number (line_of line.now) result }
+/// Reads the title of a part, and tells whether it bears one. `follows` tells whether the line could stand
+/// there otherwise.
+#[tactic(auto, unfolding(cert_theory::specs::PartLines::title_in))]
+fn title_in(alloc: Global, part: &Part, line: &TextLine, follows: bool) -> Result<bool, PartError>
+    ensures { IsTitled part.now follows (line_of line.now) result }
 {
     let Part::Levels(fence) = part else {
         return Ok(false);
@@ -86,10 +87,10 @@ fn title_at(alloc: Global, part: &Part, line: &TextLine) -> Result<bool, BundleE
     if is_line(&title, line) {
         return Ok(true);
     }
-    if may_follow(line) {
-        return Err(BundleError::NotRefuted(line.number));
+    if follows {
+        return Err(PartError::NotRefuted);
     }
-    Err(BundleError::Syntax(line.number))
+    Err(PartError::Syntax)
 }
 
 /// The part that is read or due.
@@ -107,7 +108,11 @@ pub(crate) fn at_due(alloc: Global, running: Running, line: &TextLine) -> Result
     ensures keeps { IfOk result (λ s. IsStage s (line.now.number + 1)) }
     ensures answer { (ls : List Line) (answer : Answer) → answer ≡ judging.sections_of running.heading line.now.number (judging.before running.size running.low (drop running.at running.parts.items)) (line_of line.now ∷ ls) → Judged result (line.now.number + 1) ls answer }
 {
-    if title_at(alloc, part_in(&running), line)? {
+    let titled = match title_in(alloc, part_in(&running), line, may_follow(line)) {
+        Ok(titled) => titled,
+        Err(fault) => return Err(fault_at(line.number, fault)),
+    };
+    if titled {
         return Ok(Stage::Begun { running });
     }
     at_begun(alloc, running, line)

@@ -1,7 +1,15 @@
--- What a judge of bundles answers, against the definition.
+-- What a judge answers, against the definition.
 use Rattle.std.specs.Prelude.{◌≡◌, Result, Ok, Err}
 use Rattle.cert_theory.specs.declared.data.BundleError.{BundleError}
 use Rattle.cert_theory.specs.declared.data.BundleError.TheVariants.{Memory}
+use Rattle.cert_theory.specs.declared.data.PartError.{PartError}
+use Rattle.cert_theory.specs.declared.data.PartError.TheVariants as part_errors
+
+-- one reader behind another; the first refusal is that of both
+infixl 10 ◌>>=◌
+abbrev pub ◌>>=◌ : {A B E : Type 0} → Result A E → (A → Result B E) → Result B E
+(Ok x) >>= f = f x
+(Err e) >>= f = Err e
 
 -- Each refusal is that of the definition. Want of memory may come anywhere.
 abbrev pub Fails : {Y : Type 0} → BundleError → Result Y BundleError → Type 0
@@ -12,3 +20,12 @@ Fails e read = read ≡ Err e
 abbrev pub Gives : {X Y : Type 0} → (X → Y) → Result X BundleError → Result Y BundleError → Type 0
 Gives view (Ok x) read = read ≡ Ok (view x)
 Gives view (Err e) read = Fails e read
+
+-- the same of one part
+abbrev pub PartFails : {Y : Type 0} → PartError → Result Y PartError → Type 0
+PartFails part_errors.Memory read = Unit {0}
+PartFails e read = read ≡ Err e
+
+abbrev pub GivesPart : {X Y : Type 0} → (X → Y) → Result X PartError → Result Y PartError → Type 0
+GivesPart view (Ok x) read = read ≡ Ok (view x)
+GivesPart view (Err e) read = PartFails e read

@@ -1,7 +1,7 @@
 -- What lines say as a bundle, and the first fault where they aren't a valid one. Lines are judged from
--- the top. Each function is given the number that the first of its lines has in the whole text.
-use Rattle.std.specs.Prelude.{ℕ, zero, suc, ◌+◌, Bool, true, false, not, ◌&&◌, ◌||◌, ◌==◌, nat_le, nat_lt, if◌then◌else◌, List, [], ◌∷◌, ◌++◌, length, codes, Option, Some, None, is_some, Result, Ok, Err, option_and_then, ℤ}
-use Rattle.std.specs.List.{list_all, list_any}
+-- the top; what the lines of one part say is in PartLines. Each function is given the number that the
+-- first of its lines has in the whole text.
+use Rattle.std.specs.Prelude.{ℕ, ◌+◌, Bool, true, false, not, ◌&&◌, ◌||◌, ◌==◌, nat_le, nat_lt, if◌then◌else◌, List, [], ◌∷◌, ◌++◌, length, codes, Option, Some, None, is_some, Result, Ok, Err, option_and_then}
 use Rattle.std.specs.Option.{option_map}
 use Rattle.std.specs.Str.{bytes_eq}
 use Rattle.chain_theory.specs.Chain.{Chain}
@@ -9,16 +9,7 @@ use Rattle.text_core.specs.Lines.{Line}
 use Rattle.text_core.specs.Items.{items_of}
 use Rattle.text_core.specs.Words.{after}
 use Rattle.text_core.specs.Numbers.{number_up_to}
-use Rattle.sat_theory.specs.Formula.{Formula}
 use Rattle.sat_theory.specs.Line as theory
-use Rattle.sat_theory.specs.State.{State, start}
-use Rattle.sat_theory.specs.Holding.{among}
-use Rattle.sat_theory.specs.Log as logs
-use Rattle.lrat_text.specs.Reading.{line_in}
-use Rattle.lrat_text.specs.declared.error.LineError.{LineError}
-use Rattle.lrat_check.specs.Checked.{is_empty, adds_empty}
-use Rattle.lrat_check.specs.Judging.{line_fault}
-use Rattle.lrat_check.specs.declared.error.CheckError.{CheckError}
 use Rattle.tt_core.specs.Words.{Words, specification}
 use Rattle.tt_core.specs.Tables as tables
 use Rattle.tt_core.specs.declared.error.SpecError.{SpecError}
@@ -41,16 +32,14 @@ use Rattle.cert_theory.specs.declared.data.Ended.TheVariants as ends
 use Rattle.cert_theory.specs.declared.data.Verdict.{Verdict}
 use Rattle.cert_theory.specs.declared.data.Verdict.TheVariants as verdicts
 use Rattle.cert_theory.specs.declared.data.BundleError.{BundleError}
-use Rattle.cert_theory.specs.declared.data.BundleError.TheVariants.{Syntax, SizeOutOfOrder, StepRefused, NotRefuted, ChainDiffers, OperatorNotInBasis, OpenTooShort, NotNew, WrongVerdict}
+use Rattle.cert_theory.specs.declared.data.BundleError.TheVariants.{Syntax, SizeOutOfOrder, StepRefused, NotRefuted, ChainDiffers, OperatorNotInBasis, OpenTooShort, NotNew, WrongVerdict, Memory}
+use Rattle.cert_theory.specs.declared.data.PartError.{PartError}
+use Rattle.cert_theory.specs.declared.data.PartError.TheVariants as part_errors
 use Rattle.cert_theory.specs.Coding.{is_titled, method_text}
-use Rattle.cert_theory.specs.Spelling.{title_text}
+use Rattle.cert_theory.specs.Gives.{◌>>=◌}
+use Rattle.cert_theory.specs.PartLines.{is_line, title_in, ended_in, part_in}
 use Rattle.cert_theory.specs.Bundle.{parts_of, formula_of, found, not_found}
 use Rattle.cert_theory.specs.Difference.{difference_of}
-
-infixl 10 ◌>>=◌
-abbrev pub ◌>>=◌ : {A B : Type 0} → Result A BundleError → (A → Result B BundleError) → Result B BundleError
-(Ok x) >>= f = f x
-(Err e) >>= f = Err e
 
 -- ---- lines
 
@@ -63,10 +52,6 @@ or_syntax number (Some x) = Ok x
 abbrev pub as_syntax : {A E : Type 0} → (E → ℕ) → Result A E → Result A BundleError
 as_syntax place (Ok x) = Ok x
 as_syntax place (Err e) = Err (Syntax (place e))
-
--- whether a line is this text
-abbrev pub is_line : List ℕ → Line → Bool
-is_line text l = l.ended && bytes_eq l.text text
 
 -- whether a line begins with a word
 abbrev pub begins : List ℕ → Line → Bool
@@ -112,62 +97,22 @@ conflicts_in l = option_and_then from_one (option_and_then (number_up_to 1000000
 unfoldable pub max_in : Line → Option ℕ
 max_in l = option_and_then (number_up_to 16) (value_of (codes "max ") l)
 
--- ---- logs
+-- ---- parts
 
--- whether all literals of a live clause are among some
-abbrev pub is_within : List ℤ → Option (List ℤ) → Bool
-is_within lits None = false
-is_within lits (Some clause) = list_all (among lits) clause
+-- a fault of a part in a bundle, at a line
+abbrev pub fault_at : ℕ → PartError → BundleError
+fault_at number part_errors.Syntax = Syntax number
+fault_at number (part_errors.StepRefused e) = StepRefused number e
+fault_at number part_errors.NotNew = NotNew number
+fault_at number part_errors.NotRefuted = NotRefuted number
+fault_at number part_errors.TooShort = OpenTooShort number
+fault_at number part_errors.EmptyStands = WrongVerdict number
+fault_at number part_errors.Memory = Memory
 
--- whether no clause of the ids below a number is within some literals
-unfoldable pub is_new_below : ℕ → (ℕ → Option (List ℤ)) → List ℤ → Bool
-is_new_below zero live lits = true
-is_new_below (suc id) live lits = not (is_within lits (live id)) && is_new_below id live lits
-
--- whether an addition is of a new clause; no live clause has an id above the greatest
-abbrev pub is_fresh : State → theory.Line → Bool
-is_fresh s (theory.Add id lits hints) = is_new_below (s.greatest + 1) s.live lits
-is_fresh s (theory.Delete id ids) = true
-
--- whether the empty clause is in the formula or was added
-unfoldable pub has_empty : Formula → List theory.Line → Bool
-has_empty f log = list_any is_empty f.clauses || list_any adds_empty log
-
--- the state that a log leaves
-abbrev pub state_after : Formula → List theory.Line → State
-state_after f log = logs.after (start f) log
-
-abbrev pub refused : ℕ → Option CheckError → theory.Line → Result theory.Line BundleError
-refused number None line = Ok line
-refused number (Some e) line = Err (StepRefused number e)
-
--- in a log that leaves its part open each addition is new
-abbrev pub or_not_new : ℕ → Ended → State → theory.Line → Result theory.Line BundleError
-or_not_new number ends.Refuted s line = Ok line
-or_not_new number ends.Open s line = if is_fresh s line then Ok line else Err (NotNew number)
-
-abbrev pub log_place : ℕ → LineError → ℕ
-log_place number e = number
-
--- the text of a line of a log
-unfoldable pub spelled_at : ℕ → Line → Result theory.Line BundleError
-spelled_at number l = if l.ended then as_syntax (log_place number) (line_in l.text) else Err (Syntax number)
-
--- a line of a log behind others: it can be read, it holds, and then it is new where it has to be
-unfoldable pub logged_at : Formula → ℕ → Ended → List theory.Line → Line → Result theory.Line BundleError
-logged_at f number ended log l = do
-  line ← spelled_at number l
-  held ← refused number (line_fault (state_after f log) line) line
-  or_not_new number ended (state_after f log) held
-
--- the end of a log with so many additions, where the empty clause stands or doesn't
-abbrev pub closed : Bool → ℕ → ℕ → ℕ → Ended → Result Unit BundleError
-closed empty additions conflicts number ends.Refuted = if empty then Ok tt else Err (NotRefuted number)
-closed empty additions conflicts number ends.Open = if empty then Err (WrongVerdict number) else (if nat_le conflicts additions then Ok tt else Err (OpenTooShort number))
-
--- the line `done` behind a log
-unfoldable pub done_at : Formula → ℕ → ℕ → Ended → List theory.Line → Result Unit BundleError
-done_at f conflicts number ended log = closed (has_empty f log) (length (logs.added_ids log)) conflicts number ended
+-- what was read of a part, or the fault at this line
+abbrev pub at_line : {A : Type 0} → ℕ → Result A PartError → Result A BundleError
+at_line number (Ok x) = Ok x
+at_line number (Err e) = Err (fault_at number e)
 
 -- ---- verdicts, as they are written
 
@@ -233,9 +178,6 @@ size_at h number size l = do
   stated ← or_syntax number (option_and_then block.number_in (value_of (codes "size ") l))
   (if stated == size && nat_le stated h.max then Ok tt else Err (SizeOutOfOrder number))
 
-unfoldable pub ended_at : ℕ → Line → Result Ended BundleError
-ended_at number l = if is_line (codes "refuted") l then Ok ends.Refuted else (if is_line (codes "open") l then Ok ends.Open else Err (Syntax number))
-
 -- numbers by their form alone, of nine digits at most
 unfoldable pub are_numbers : List (List ℕ) → Bool
 are_numbers [] = true
@@ -263,22 +205,17 @@ is_count (Some r) = nat_le r 16
 unfoldable pub may_follow : Line → Bool
 may_follow l = is_title l || is_some (number_behind (codes "size ") l) || is_count (number_behind (codes "chain ") l) || is_some (not_found_in l)
 
--- the title that is due
-unfoldable pub title_at : ℕ → List ℕ → Line → Result Unit BundleError
-title_at number sizes l = if is_line (title_text sizes) l then Ok tt else (if may_follow l then Err (NotRefuted number) else Err (Syntax number))
-
-abbrev pub within_at : Heading → ℕ → ℕ → Option ℕ → Part → List Part → Ended → List theory.Line → Line → Result Progress BundleError
-within_at h number size low part later ended log l =
-    if is_line (codes "done") l
-    then (done_at (formula_of h size part) h.conflicts number ended log >>= λ closed. Ok (before size (low_with low ended size) later))
-    else (logged_at (formula_of h size part) number ended log l >>= λ line. Ok (record { size = size; low = low; place = Within part later ended (log ++ line ∷ []) }))
+-- what comes behind a line of a log, or behind its end
+abbrev pub behind_line : ℕ → Option ℕ → Part → List Part → Ended → List theory.Line → Option theory.Line → Progress
+behind_line size low part later ended log None = before size (low_with low ended size) later
+behind_line size low part later ended log (Some line) = record { size = size; low = low; place = Within part later ended (log ++ line ∷ []) }
 
 -- a line of a section
 abbrev pub section_at : Heading → ℕ → ℕ → Option ℕ → Place → Line → Result Progress BundleError
 section_at h number size low Between l = size_at h number size l >>= λ begun. Ok (before size low (parts_of h size))
-section_at h number size low (Due sizes later) l = title_at number sizes l >>= λ titled. Ok (record { size = size; low = low; place = Begun (Levels sizes) later })
-section_at h number size low (Begun part later) l = ended_at number l >>= λ ended. Ok (record { size = size; low = low; place = Within part later ended [] })
-section_at h number size low (Within part later ended log) l = within_at h number size low part later ended log l
+section_at h number size low (Due sizes later) l = at_line number (title_in (may_follow l) sizes l) >>= λ titled. Ok (record { size = size; low = low; place = Begun (Levels sizes) later })
+section_at h number size low (Begun part later) l = or_syntax number (ended_in l) >>= λ ended. Ok (record { size = size; low = low; place = Within part later ended [] })
+section_at h number size low (Within part later ended log) l = at_line number (part_in (formula_of h size part) h.conflicts ended log l) >>= λ step. Ok (behind_line size low part later ended log step)
 
 -- no section begins with this line
 abbrev pub ends_sections : Place → Line → Bool

@@ -1,8 +1,13 @@
 pub mod Coding
 pub mod Bundle
-pub mod CodingLaws
 pub mod Meaning
 pub mod Spelling
+pub mod Front
+pub mod Question
 pub mod Difference
-pub mod Judging
 pub mod Gives
+pub mod PartLines
+pub mod Judging
+pub mod GivesLaws
+pub mod SectionLaws
+pub mod FrontLaws

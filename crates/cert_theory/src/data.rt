@@ -1,3 +1,5 @@
+//! What certificates hold beside chains and logs, and what may be wrong with them: the data that the
+//! definitions of this crate speak of.
 use enc_theory::Method;
 use lrat_check::CheckError;
 use op_basis::Basis;
@@ -70,6 +72,26 @@ pub enum BundleError {
     Memory,
 }
 
+/// Why lines aren't the log of a part, wherever the part stands. `Syntax` comes before the other faults
+/// of a line.
+#[derive(Clone, Copy, Debug, PartialEq, Eq)]
+pub enum PartError {
+    /// The line isn't what may stand there, or has no LF.
+    Syntax,
+    /// A line of the log doesn't hold, with its first fault. This is never want of memory.
+    StepRefused(CheckError),
+    /// A line of an open part holds, and adds a clause that isn't new.
+    NotNew,
+    /// A refuted part is done without the empty clause, or another line stands where its title is due.
+    NotRefuted,
+    /// An open part is done with fewer additions than the budget.
+    TooShort,
+    /// An open part is done although the empty clause stands.
+    EmptyStands,
+    /// Memory ran out.
+    Memory,
+}
+
 impl From<AllocError> for BundleError {
     ghost use Rattle.std.specs.Prelude.{◌≡◌};
     ghost use Rattle.cert_theory.specs.declared.data.BundleError.TheVariants.{Memory};
@@ -89,5 +111,27 @@ impl<T: Drop> From<AllocFailed<T>> for BundleError {
 
     fn from(_error: AllocFailed<T>) -> BundleError {
         BundleError::Memory
+    }
+}
+
+impl From<AllocError> for PartError {
+    ghost use Rattle.std.specs.Prelude.{◌≡◌};
+    ghost use Rattle.cert_theory.specs.declared.data.PartError.TheVariants.{Memory};
+
+    ghost from_gives = { λ _ e. e ≡ Memory };
+
+    fn from(_error: AllocError) -> PartError {
+        PartError::Memory
+    }
+}
+
+impl<T: Drop> From<AllocFailed<T>> for PartError {
+    ghost use Rattle.std.specs.Prelude.{◌≡◌};
+    ghost use Rattle.cert_theory.specs.declared.data.PartError.TheVariants.{Memory};
+
+    ghost from_gives = { λ _ e. e ≡ Memory };
+
+    fn from(_error: AllocFailed<T>) -> PartError {
+        PartError::Memory
     }
 }

@@ -1,33 +1,16 @@
-//! What the definitions come to. Each law is the contract of a function that does nothing.
-ghost use Rattle.tt_core.specs.Words.{specification};
-ghost use Rattle.op_basis.specs.Basis.{members};
-ghost use Rattle.enc_theory.specs.declared.data.Method.{Method};
-ghost use Rattle.cert_theory.specs.Coding.{coding_of};
-ghost use Rattle.cert_theory.specs.CodingLaws.{IsCoding};
-ghost use Rattle.cert_theory.specs.Bundle.{Bundle, IsValid};
-ghost use Rattle.cert_theory.specs.Meaning.{Means};
-ghost use Rattle.cert_theory.specs.Spelling.{IsBundle, HasVerdict};
-ghost use Rattle.cert_theory.specs.Judging.{bundle_of};
-ghost use Rattle.cert_theory.specs.declared.data.Verdict.{Verdict};
-ghost use Rattle.text_core.specs.Lines.{lines_of};
-ghost use Rattle.std.specs.Prelude.{◌≡◌, ℕ, List, Some, Ok};
-ghost use Rattle.sat_theory.specs.State.{State};
-ghost use Rattle.sat_theory.specs.Line.{Line};
-ghost use Rattle.lrat_check.specs.Judging.{line_fault};
-ghost use Rattle.lrat_check.specs.declared.error.CheckError.TheVariants.{Memory};
+//! What the definitions come to, as far as definitions alone show it. Each law is the contract of a
+//! function that does nothing; the theorems about certificates are those of `cert_laws`.
+ghost use Rattle.std.specs.Prelude.{ℕ, ◌≤◌, ◌<◌, List, [], ◌∷◌, ◌++◌, length};
+ghost use Rattle.cert_theory.specs.declared.data.Heading.{Heading};
+ghost use Rattle.cert_theory.specs.Bundle.{Section, Bundle, IsHeading, IsSection};
+ghost use Rattle.cert_theory.specs.Spelling.{heading_lines, section_lines, text_of, IsBundle};
+ghost use Rattle.cert_theory.specs.Front.{IsBegun, IsFront};
 
-/// The verdict of a valid bundle is true, whoever made it.
-pub fn verdicts_are_true()
-    ensures { (b : Bundle) → IsValid b → Means (specification b.heading.spec) (members b.heading.basis) b.verdict }
-{}
-
-/// Bytes are judged as a verdict exactly where they are the text of a valid bundle that has it.
-pub fn verdicts_are_spelled()
-    ensures only { (bytes : List ℕ) (v : Verdict) → bundle_of (lines_of bytes) ≡ Ok v → HasVerdict bytes v }
-    ensures each { (bytes : List ℕ) (b : Bundle) → IsBundle bytes b → bundle_of (lines_of bytes) ≡ Ok b.verdict }
-{}
-
-/// The fault of a log's line is never want of memory, so that `Memory` never stands in `StepRefused`.
-pub fn faults_of_lines_are_told()
-    ensures { (s : State) (l : Line) → line_fault s l ≡ Some Memory → ⊥ }
+/// The whole text of a certificate is a front. So is its heading, and what was written of it with one
+/// section more.
+pub fn fronts_grow()
+    ensures whole { (text : List ℕ) (b : Bundle) → IsBundle text b → IsFront b.heading text }
+    ensures heading { (h : Heading) → IsHeading h → 0 < length h.spec.on → IsBegun h [] (text_of (heading_lines h)) }
+    ensures section { (h : Heading) (sections : List Section) (text : List ℕ) (s : Section) → IsBegun h sections text →
+        IsSection h (length sections) s → length sections ≤ h.max → IsBegun h (sections ++ s ∷ []) (text ++ text_of (section_lines s)) }
 {}

@@ -9,6 +9,7 @@
 //! - `specs/Coding.antt`: the formulas that a method gives a size.
 //! - `specs/Bundle.antt`: a bundle as a value, and when it is valid.
 //! - `specs/Spelling.antt`: how it is written.
+//! - `specs/PartLines.antt`: what the lines of one part say, and their first fault.
 //! - `specs/Judging.antt`: what lines say, and the first fault where they aren't a valid bundle.
 //! - `specs/Meaning.antt`: what each verdict says of chains.
 //!
@@ -21,5 +22,5 @@ pub mod laws;
 mod titles;
 mod verdicts;
 
-pub use data::{BundleError, Ended, Heading, Verdict};
+pub use data::{BundleError, Ended, Heading, PartError, Verdict};
 pub use titles::title_of;

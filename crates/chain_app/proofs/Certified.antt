@@ -11,12 +11,12 @@ use Rattle.cert_theory.specs.declared.data.Heading.{Heading}
 use Rattle.cert_theory.specs.declared.data.Verdict.{Verdict}
 use Rattle.cert_theory.specs.declared.data.BundleError.{BundleError}
 use Rattle.cert_theory.specs.Bundle.{Bundle}
-use Rattle.cert_theory.specs.CodingLaws.{method_is_coding}
+use Rattle.cert_laws.specs.CodingLaws.{method_is_coding}
 use Rattle.cert_theory.specs.Meaning.{Means}
 use Rattle.cert_theory.specs.Spelling.{IsBundle}
 use Rattle.cert_theory.specs.Judging.{bundle_of}
-use Rattle.cert_theory.proofs.BundlesAgain.{text_again}
-use Rattle.cert_theory.proofs.Meanings.{verdict_means}
+use Rattle.cert_laws.specs.BundlesAgain.{text_again}
+use Rattle.cert_laws.specs.Meanings.{verdict_means}
 use Rattle.settings.specs.declared.synth.SynthSettings.{SynthSettings}
 use Rattle.synth_core.specs.Certifying.{IsCertificate}
 use Rattle.synth_core.specs.Tables.{words_alone, tables_alone}

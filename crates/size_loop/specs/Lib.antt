@@ -1,6 +1,7 @@
-pub mod Kept
+pub mod Thrift
 pub mod Coded
 pub mod State
 pub mod Searched
 pub mod Outcomes
 pub mod Advancing
+pub mod SearchedLaws

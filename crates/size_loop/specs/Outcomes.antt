@@ -7,20 +7,20 @@ use Rattle.size_loop.specs.declared.trying.PartOutcome.{PartOutcome}
 use Rattle.size_loop.specs.declared.trying.PartOutcome.TheVariants as parts
 use Rattle.size_loop.specs.declared.sizes.SizeOutcome.{SizeOutcome}
 use Rattle.size_loop.specs.declared.sizes.SizeOutcome.TheVariants as sizes
-use Rattle.size_loop.specs.Kept.{IsKeptLog, IsKeptSection}
+use Rattle.size_loop.specs.Thrift.{IsThriftyLog, IsThriftySection}
 
--- A part has a chain of its size, or a log that ends as it says, and is kept where it is open.
+-- A part has a chain of its size, or a log that ends as it says, and is thrifty.
 abbrev pub IsTried : Heading → ℕ → Part → PartOutcome → Type 0
 IsTried h size part (parts.Found c) = IsFound h size c
-IsTried h size part (parts.Logged p) = (p.part ≡ part) × IsPartLog h size p × IsKeptLog h size p
+IsTried h size part (parts.Logged p) = (p.part ≡ part) × IsPartLog h size p × IsThriftyLog h size p
 
 -- the logs of parts, in their order
 pub record AreLogged (h : Heading) (size : ℕ) (parts : List Part) (logs : List PartLog) : Type 0 where
   pub parts_are : map part_of logs ≡ parts
   pub ends : All (IsPartLog h size) logs
-  pub kept : All (IsKeptLog h size) logs
+  pub thrifty : All (IsThriftyLog h size) logs
 
 -- A size has a chain of so many steps, or a section.
 abbrev pub IsSized : Heading → ℕ → SizeOutcome → Type 0
 IsSized h size (sizes.Found c) = IsFound h size c
-IsSized h size (sizes.Logged s) = IsSection h size s × IsKeptSection h s
+IsSized h size (sizes.Logged s) = IsSection h size s × IsThriftySection h s

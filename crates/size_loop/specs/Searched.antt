@@ -1,13 +1,13 @@
 -- The sections that a search has left behind it.
 use Rattle.std.specs.Prelude.{◌≡◌, ◌+◌, ◌≤◌, List, length}
 use Rattle.cert_theory.specs.Bundle.{Section, AreSections, first_open}
-use Rattle.size_loop.specs.Kept.{AreKept}
+use Rattle.size_loop.specs.Thrift.{AreThrifty}
 use Rattle.size_loop.specs.State.{State}
 
--- they are those of all sizes below the next one, and their open logs are kept
+-- they are those of all sizes below the next one, and their logs are thrifty
 pub record HasSearched (s : State) (sections : List Section) : Type 0 where
   pub are_sections : AreSections s.heading 0 sections
   pub next_is : s.next ≡ length sections
   pub next_to : s.next ≤ s.heading.max + 1
   pub low_is : s.low ≡ first_open sections
-  pub kept : AreKept s.heading sections
+  pub thrifty : AreThrifty s.heading sections

@@ -1,7 +1,9 @@
+//! A search as a value that goes on a size at a time. What it promises of each step is enough to build a
+//! certificate of the steps (`specs/SearchedLaws.antt`), whether the sections are kept or written and dropped.
 ghost use Rattle.std.specs.Prelude.{◌≡◌, ◌≤◌, ◌<◌, None, IfOk};
 ghost use Rattle.cert_theory.specs.Bundle.{IsSection, IsEnding};
 ghost use Rattle.size_loop.specs.Advancing.{IfSection, IfEnded, behind, open_with};
-ghost use Rattle.size_loop.specs.Kept.{IsKeptSection};
+ghost use Rattle.size_loop.specs.Thrift.{IsThriftySection};
 ghost use Rattle.size_loop.specs.State.{IsState};
 
 use crate::sizes::{SizeOutcome, search_size};
@@ -80,7 +82,7 @@ impl Search {
     pub fn advance(self, alloc: Global) -> Result<Advance, AllocError>
         ensures within { IfOk result (λ step. IfSection step (λ rest section. self.next ≤ self.heading.max)) }
         ensures section { IfOk result (λ step. IfSection step (λ rest section. IsSection self.heading self.next section)) }
-        ensures kept { IfOk result (λ step. IfSection step (λ rest section. IsKeptSection self.heading section)) }
+        ensures thrifty { IfOk result (λ step. IfSection step (λ rest section. IsThriftySection self.heading section)) }
         ensures rest { IfOk result (λ step. IfSection step (λ rest section. rest ≡ behind self section)) }
         ensures ending { IfOk result (λ step. IfEnded step (λ chain verdict. IsEnding self.heading self.next self.low chain verdict)) }
     {

@@ -18,6 +18,4 @@ mod trying;
 
 pub use advancing::{Advance, Search};
 pub use searching::search;
-
-#[cfg(test)]
-mod tests;
+pub use trying::{PartOutcome, try_part};

@@ -1,6 +1,8 @@
+//! The whole search: it advances until it ends and keeps the sections. That what comes out is a valid
+//! certificate is the invariant `HasSearched`, to which each section adds one.
 ghost use Rattle.std.specs.Prelude.{◌≡◌, ◌≤◌, ◌<◌, IfOk};
 ghost use Rattle.cert_theory.specs.Bundle.{IsValid};
-ghost use Rattle.size_loop.specs.Kept.{AreKept};
+ghost use Rattle.size_loop.specs.Thrift.{AreThrifty};
 
 use crate::advancing::{Advance, Search};
 use bundle_core::{Bundle, Heading};
@@ -13,7 +15,7 @@ use tt_core::Spec;
 /// the tables, and answers the certificate of what it found. A part of a size is left open where the
 /// solver has added `budget` clauses to its formula or more. The basis isn't empty, `max` is at most
 /// 16, and the budget is from 1 to 10,000,000.
-#[tactic(auto, using(crate::proofs::Sections::steps))]
+#[tactic(auto, using(crate::specs::SearchedLaws::steps))]
 pub fn search(
     alloc: Global,
     spec: &Spec,
@@ -28,7 +30,7 @@ pub fn search(
     requires budget_to { budget ≤ 10000000 }
     ensures heading { IfOk result (λ b. b.heading ≡ record { spec = spec.now; basis = basis; method = method; conflicts = budget; max = max }) }
     ensures valid { IfOk result (λ b. IsValid b) }
-    ensures kept { IfOk result (λ b. AreKept b.heading b.sections) }
+    ensures thrifty { IfOk result (λ b. AreThrifty b.heading b.sections) }
 {
     let mut search = Search::new(copied(alloc, spec)?, basis, method, max, budget);
     let mut sections = Vec::new(alloc);

@@ -1,3 +1,5 @@
+//! A size, part by part in their order. The first part with a chain ends it; where none has one, the logs are
+//! those of all parts, since the loop takes them one after the other.
 ghost use Rattle.std.specs.Prelude.{◌≤◌, IfOk};
 ghost use Rattle.cert_theory.specs.Bundle.{IsHeading};
 ghost use Rattle.cert_theory.specs.Coding.{coding_of};
@@ -9,9 +11,9 @@ use bundle_core::{Heading, Section};
 use chain_core::Chain;
 use enc_fence::FenceEnc;
 use enc_frame::Encoding;
-use enc_theory::Method;
 use enc_select::Select;
 use enc_ssv::{Plain, Ssv};
+use enc_theory::Method;
 use std::alloc::{AllocError, Global};
 
 /// What a size comes to.

@@ -1,3 +1,5 @@
+//! A part of a size, by its formula and the solver. An assignment is decoded; a log shows what the solver
+//! promises of it, over the same formula.
 ghost use Rattle.std.specs.Prelude.{◌≤◌, IfOk, Contains};
 ghost use Rattle.cert_theory.specs.Bundle.{IsHeading};
 ghost use Rattle.cert_theory.specs.Coding.{coding_of};

@@ -16,6 +16,3 @@ mod certificate;
 pub use bundle_core::Verdict;
 pub use certificate::{Certificate, synthesise};
 pub use settings::SynthSettings;
-
-#[cfg(test)]
-mod tests;

@@ -2,19 +2,20 @@
 use Rattle.std.proofs.Common.{◌≡◌, List, ℕ, Result, Ok, Err, subst}
 use Rattle.std.specs.Prelude.{IfOk}
 use Rattle.text_core.specs.Lines.{lines_of}
-use Rattle.tt_core.specs.Words.{specification}
+use Rattle.tt_core.specs.Words.{Words, specification}
 use Rattle.op_basis.specs.Basis.{members}
 use Rattle.cert_theory.specs.declared.data.Verdict.{Verdict}
 use Rattle.cert_theory.specs.declared.data.BundleError.{BundleError}
-use Rattle.cert_theory.specs.CodingLaws.{method_is_coding}
 use Rattle.cert_theory.specs.Bundle.{Bundle}
 use Rattle.cert_theory.specs.Meaning.{Means}
 use Rattle.cert_theory.specs.Spelling.{IsBundle, HasVerdict}
 use Rattle.cert_theory.specs.Judging.{bundle_of}
 use Rattle.cert_theory.specs.Gives.{Gives}
-use Rattle.cert_theory.proofs.BundleSpellings.{verdict_spelled}
-use Rattle.cert_theory.proofs.BundlesAgain.{text_again}
-use Rattle.cert_theory.proofs.Meanings.{verdict_means}
+use Rattle.cert_laws.specs.BundleSpellings.{verdict_spelled}
+use Rattle.cert_theory.specs.Question.{HasQuestion}
+use Rattle.cert_laws.specs.BundlesAgain.{text_again}
+use Rattle.cert_laws.specs.QuestionLaws.{bundle_asks, verdict_answers}
+use Rattle.cert_laws.specs.Meanings.{verdict_true}
 use Rattle.cert_file.proofs.checking.check_bundle.Goals as goal
 
 spelled : (bytes : List ℕ) (r : Result Verdict BundleError) → Gives (λ (v : Verdict). v) r (bundle_of (lines_of bytes)) → IfOk r (λ v. HasVerdict bytes v)
@@ -27,8 +28,24 @@ verdict_is bytes v w one two = cc
 true_verdict : (bytes : List ℕ) (r : Result Verdict BundleError) → Gives (λ (v : Verdict). v) r (bundle_of (lines_of bytes)) → IfOk r (λ v. (b : Bundle) → IsBundle bytes b → Means (specification b.heading.spec) (members b.heading.basis) v)
 true_verdict bytes (Ok v) gives = λ b is.
     subst (λ (w : Verdict). Means (specification b.heading.spec) (members b.heading.basis) w) (verdict_is bytes b.verdict v (text_again bytes b is) gives)
-    (verdict_means b (method_is_coding b.heading.method) is.valid)
+    (verdict_true b is.valid)
 true_verdict bytes (Err e) gives = tt
+
+asked : (bytes : List ℕ) (r : Result Verdict BundleError) → Gives (λ (v : Verdict). v) r (bundle_of (lines_of bytes)) → IfOk r (λ v. (w : Words) × (basis : ℕ) × HasQuestion bytes w basis)
+asked bytes (Ok v) gives =
+    let has = verdict_spelled bytes v gives in
+    (has.bundle.heading.spec, has.bundle.heading.basis, bundle_asks bytes has.bundle has.is_bundle)
+asked bytes (Err e) gives = tt
+
+answered : (bytes : List ℕ) (r : Result Verdict BundleError) → Gives (λ (v : Verdict). v) r (bundle_of (lines_of bytes)) → IfOk r (λ v. (w : Words) (basis : ℕ) → HasQuestion bytes w basis → Means (specification w) (members basis) v)
+answered bytes (Ok v) gives = λ w basis asks. verdict_answers bytes v w basis (verdict_spelled bytes v gives) asks
+answered bytes (Err e) gives = tt
+
+pub returns-clause-asks : goal.returns-clause-asks
+returns-clause-asks c = asked c.args.bytes.now c.judge.result c.judge.ensures
+
+pub returns-clause-answers : goal.returns-clause-answers
+returns-clause-answers c = answered c.args.bytes.now c.judge.result c.judge.ensures
 
 pub returns-clause-verdict : goal.returns-clause-verdict
 returns-clause-verdict c = spelled c.args.bytes.now c.judge.result c.judge.ensures

@@ -8,7 +8,7 @@ use Rattle.chain_core.specs.Steps.{step_of, steps_of}
 use Rattle.chain_core.specs.Block.{outs_from}
 use Rattle.cert_theory.specs.Judging.{with_block, chain_judged, behind_chain}
 use Rattle.cert_theory.specs.Gives.{Fails}
-use Rattle.cert_theory.proofs.Binds.{fails_is}
+use Rattle.cert_theory.specs.GivesLaws.{fails_is}
 use Rattle.cert_file.specs.Stages.{outs_then}
 use Rattle.cert_file.proofs.Blocks.{out_fails, out_goes}
 use Rattle.cert_file.proofs.Chains.{end_fails, end_goes}

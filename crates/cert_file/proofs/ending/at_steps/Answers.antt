@@ -5,7 +5,7 @@ use Rattle.chain_theory.specs.declared.data.Out.{Out}
 use Rattle.chain_core.specs.Steps.{step_of, steps_of}
 use Rattle.chain_core.specs.Block.{steps_from, outs_from}
 use Rattle.cert_theory.specs.Judging.{with_block}
-use Rattle.cert_theory.proofs.Binds.{fails_is}
+use Rattle.cert_theory.specs.GivesLaws.{fails_is}
 use Rattle.cert_file.specs.Stages.{outs_then, steps_then}
 use Rattle.cert_file.proofs.Blocks.{step_fails, step_goes, steps_end}
 use Rattle.cert_file.proofs.ending.at_steps.Goals as goal

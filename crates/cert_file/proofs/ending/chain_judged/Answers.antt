@@ -4,7 +4,7 @@ use Rattle.op_basis.specs.Basis.{members}
 use Rattle.tt_core.specs.Words.{specification}
 use Rattle.cert_theory.specs.Difference.{difference_of}
 use Rattle.cert_theory.specs.Judging.{or_outside, or_differs, chain_judged}
-use Rattle.cert_theory.proofs.ChainFaults.{outside_is, difference_is}
+use Rattle.cert_laws.specs.DifferenceLaws.{outside_is, difference_is}
 use Rattle.cert_file.proofs.ending.chain_judged.Goals as goal
 
 pub returns-in-Some : goal.returns-in-Some

@@ -1,0 +1,154 @@
+-- Bundles, as they are read.
+use Rattle.std.proofs.Common.{◌≡◌, ℕ, ◌+◌, ◌<◌, ◌≤◌, List, [], ◌∷◌, ◌++◌, length, None, Ok, refl, sym, ap, ◌∙◌, subst, arith, zero-add, append_assoc}
+use Rattle.std.specs.Prelude.{codes}
+use Rattle.std.specs.List.{flat_map}
+use Rattle.text_core.specs.Lines.{Line, lines_of}
+use Rattle.text_core.specs.ReadBack.{lines_spell}
+use Rattle.tt_core.specs.Words.{Words, IsSpec}
+use Rattle.tt_core.specs.Tables as tables
+use Rattle.enc_theory.specs.declared.data.Method.{Method}
+use Rattle.chain_core.specs.Spelling.{line}
+use Rattle.cert_theory.specs.declared.data.Heading.{Heading}
+use Rattle.cert_theory.specs.declared.data.Verdict.{Verdict}
+use Rattle.cert_theory.specs.declared.data.BundleError.TheVariants.{Syntax}
+use Rattle.cert_theory.specs.Bundle.{Bundle, first_open, IsEnding, IsValid, HasOutput}
+use Rattle.cert_theory.specs.Spelling.{first_text, basis_line, method_line, conflicts_line, max_line, tables_lines, section_lines, ending_lines, bundle_lines, text_of, HasVerdict}
+use Rattle.cert_theory.specs.PartLines.{is_line}
+use Rattle.cert_theory.specs.Judging.{or_syntax, as_syntax, table_place, basis_in, method_in, conflicts_in, max_in, behind_conflicts, behind_method, behind_basis, behind_tables, with_tables, bundle_of, Between}
+use Rattle.cert_theory.specs.GivesLaws.{bind_ok, test_ok, read_ok}
+use Rattle.cert_laws.specs.LineSpellings.{as_ok, is_line_spells, basis_spells, method_spells, conflicts_spells, max_spells}
+use Rattle.cert_laws.specs.TableSpellings.{tables_read}
+use Rattle.cert_laws.specs.SectionSpellings.{Rest, sections_spell}
+
+-- what is read behind the tables
+record Read (w : Words) (ls : List Line) (v : Verdict) : Type 0 where
+  h : Heading
+  spec_is : h.spec ≡ w
+  basis_from : 0 < h.basis
+  basis_below : h.basis < 65536
+  conflicts_from : 1 ≤ h.conflicts
+  conflicts_to : h.conflicts ≤ 10000000
+  max_to : h.max ≤ 16
+  behind : List Line
+  rest : Rest h 0 None behind v
+  lines : ls ≡ line (basis_line h.basis) ∷ line (method_line h.method) ∷ line (conflicts_line h.conflicts) ∷ line (max_line h.max) ∷ behind
+
+read_max : (w : Words) (basis : ℕ) (method : Method) (conflicts number : ℕ) (ls : List Line) (v : Verdict) → behind_conflicts w basis method conflicts number ls ≡ Ok v → (max : ℕ) × (behind : List Line) × (max ≤ 16) × Rest (record { spec = w; basis = basis; method = method; conflicts = conflicts; max = max }) 0 None behind v × (ls ≡ line (max_line max) ∷ behind)
+unfolding behind_conflicts
+read_max w basis method conflicts number [] v e = absurd cc
+read_max w basis method conflicts number (l ∷ ls) v e =
+    let read = bind_ok (or_syntax number (max_in l)) _ v e in
+    let parts = max_spells l read.0 (read_ok number (max_in l) read.0 read.1) in
+    (read.0, ls, parts.1, sections_spell ls (record { spec = w; basis = basis; method = method; conflicts = conflicts; max = read.0 }) (number + 1) 0 None Between v (omega arith) read.2, (λ i. parts.0 i ∷ ls))
+
+read_conflicts : (w : Words) (basis : ℕ) (method : Method) (number : ℕ) (ls : List Line) (v : Verdict) → 0 < basis → basis < 65536 → behind_method w basis method number ls ≡ Ok v → (r : Read w (line (basis_line basis) ∷ line (method_line method) ∷ ls) v) × Unit {0}
+unfolding behind_method
+read_conflicts w basis method number [] v from below e = absurd cc
+read_conflicts w basis method number (l ∷ ls) v from below e =
+    let read = bind_ok (or_syntax number (conflicts_in l)) _ v e in
+    let parts = conflicts_spells l read.0 (read_ok number (conflicts_in l) read.0 read.1) in
+    let last = read_max w basis method read.0 (number + 1) ls v read.2 in (
+      record {
+        h = record { spec = w; basis = basis; method = method; conflicts = read.0; max = last.0 };
+        spec_is = refl;
+        basis_from = from;
+        basis_below = below;
+        conflicts_from = parts.1;
+        conflicts_to = parts.2;
+        max_to = last.2;
+        behind = last.1;
+        rest = last.3;
+        lines = λ i. line (basis_line basis) ∷ line (method_line method) ∷ parts.0 i ∷ last.4 i;
+      },
+      tt,
+    )
+
+moved : (w : Words) (ls more : List Line) (v : Verdict) → more ≡ ls → Read w ls v → Read w more v
+moved w ls more v same r = record {
+  h = r.h;
+  spec_is = r.spec_is;
+  basis_from = r.basis_from;
+  basis_below = r.basis_below;
+  conflicts_from = r.conflicts_from;
+  conflicts_to = r.conflicts_to;
+  max_to = r.max_to;
+  behind = r.behind;
+  rest = r.rest;
+  lines = same ∙ r.lines;
+}
+
+read_method : (w : Words) (basis number : ℕ) (ls : List Line) (v : Verdict) → 0 < basis → basis < 65536 → behind_basis w basis number ls ≡ Ok v → Read w (line (basis_line basis) ∷ ls) v
+unfolding behind_basis
+read_method w basis number [] v from below e = absurd cc
+read_method w basis number (l ∷ ls) v from below e =
+    let read = bind_ok (or_syntax number (method_in l)) _ v e in
+    let parts = method_spells l read.0 (read_ok number (method_in l) read.0 read.1) in
+    let next = read_conflicts w basis read.0 (number + 1) ls v from below read.2 in
+    moved w (line (basis_line basis) ∷ line (method_line read.0) ∷ ls) (line (basis_line basis) ∷ l ∷ ls) v (λ i. line (basis_line basis) ∷ parts i ∷ ls) next.0
+
+read_basis : (w : Words) (number : ℕ) (ls : List Line) (v : Verdict) → behind_tables w number ls ≡ Ok v → Read w ls v
+unfolding behind_tables
+read_basis w number [] v e = absurd cc
+read_basis w number (l ∷ ls) v e =
+    let read = bind_ok (or_syntax number (basis_in l)) _ v e in
+    let parts = basis_spells l read.0 (read_ok number (basis_in l) read.0 read.1) in
+    moved w (line (basis_line read.0) ∷ ls) (l ∷ ls) v (λ i. parts.0 i ∷ ls) (read_method w read.0 (number + 1) ls v parts.1 parts.2 read.2)
+
+-- lines are those of a valid bundle that has an output
+pub record ReadBundle (ls : List Line) (v : Verdict) : Type 0 where
+  pub bundle : Bundle
+  pub valid : IsValid bundle
+  pub output : HasOutput bundle
+  pub verdict : bundle.verdict ≡ v
+  pub lines : ls ≡ bundle_lines bundle
+
+with_read : (w : Words) (ls behind : List Line) (v : Verdict) → IsSpec w → 0 < length w.on → ls ≡ tables_lines w ++ behind → Read w behind v → ReadBundle (line first_text ∷ ls) v
+with_read w ls behind v spec output lines r =
+    let rest = r.rest in
+    let b : Bundle = record { heading = r.h; sections = rest.sections; chain = rest.chain; verdict = v } in
+    let count : 0 + length rest.sections ≡ length rest.sections = zero-add (length rest.sections) in
+    record {
+      bundle = b;
+      valid = record {
+        heading = record {
+          tables = subst (λ (x : Words). IsSpec x) (sym r.spec_is) spec;
+          basis_from = r.basis_from;
+          basis_below = r.basis_below;
+          conflicts_from = r.conflicts_from;
+          conflicts_to = r.conflicts_to;
+          max_to = r.max_to;
+        };
+        sections = rest.are;
+        sizes_to = omega (arith, rest.sizes_to);
+        ending = subst (λ (n : ℕ). IsEnding r.h n (first_open rest.sections) rest.chain v) count rest.ending;
+      };
+      output = subst (λ (x : Words). 0 < length x.on) (sym r.spec_is) output;
+      verdict = refl;
+      lines =
+          let heading = line (basis_line r.h.basis) ∷ line (method_line r.h.method) ∷ line (conflicts_line r.h.conflicts) ∷ line (max_line r.h.max) ∷ [] in
+          ap (λ (xs : List Line). line first_text ∷ xs)
+          (lines
+          ∙ ap (λ (xs : List Line). tables_lines w ++ xs) (r.lines ∙ ap (λ (xs : List Line). heading ++ xs) rest.lines)
+          ∙ ap (λ (x : Words). tables_lines x ++ (heading ++ (flat_map section_lines rest.sections ++ ending_lines rest.chain v))) (sym r.spec_is)
+          ∙ sym (append_assoc (tables_lines r.h.spec) heading (flat_map section_lines rest.sections ++ ending_lines rest.chain v)));
+    }
+
+pub lines_read : (ls : List Line) (v : Verdict) → bundle_of ls ≡ Ok v → ReadBundle ls v
+unfolding bundle_of with_tables
+lines_read [] v e = absurd cc
+lines_read (l ∷ ls) v e =
+    let first = test_ok (is_line (codes "chains 1") l) (with_tables (tables.tables_of ls)) (Syntax 1) v e in
+    let read = bind_ok (as_syntax table_place (tables.tables_of ls)) _ v first.1 in
+    let t = tables_read ls read.0 (as_ok table_place (tables.tables_of ls) read.0 read.1) in
+    let found = with_read read.0.words ls read.0.rest v t.spec t.output t.lines (read_basis read.0.words (3 + length read.0.words.on) read.0.rest v read.2) in
+    record { bundle = found.bundle; valid = found.valid; output = found.output; verdict = found.verdict; lines = (λ i. is_line_spells (codes "chains 1") l first.0 i ∷ ls) ∙ found.lines }
+
+-- Bytes that have a verdict are the text of a valid bundle that has it.
+pub verdict_spelled : (bytes : List ℕ) (v : Verdict) → bundle_of (lines_of bytes) ≡ Ok v → HasVerdict bytes v
+verdict_spelled bytes v e =
+    let read = lines_read (lines_of bytes) v e in
+    record {
+      bundle = read.bundle;
+      is_bundle = record { valid = read.valid; output = read.output; text = sym (lines_spell bytes) ∙ ap text_of read.lines };
+      verdict = read.verdict;
+    }

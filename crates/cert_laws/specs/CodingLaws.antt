@@ -1,0 +1,103 @@
+-- What the formulas of a method have to mean for its verdicts to be true.
+use Rattle.std.specs.Prelude.{◌≡◌, ℕ, ◌≤◌, ◌<◌, ◌^◌, List, [], ◌∷◌, All, Contains, slice_index_or, sum, length, map, refl}
+use Rattle.std.proofs.Common.{zero, suc, subst, arith, ap, sym}
+use Rattle.chain_theory.specs.Agreement.{IsMinimum}
+use Rattle.sat_theory.specs.Formula.{IsFormula}
+use Rattle.tt_core.specs.Words.{Words, specification}
+use Rattle.op_basis.specs.Basis.{members}
+use Rattle.clause_core.specs.Clauses.{IsSatisfiable}
+use Rattle.enc_theory.specs.declared.data.Method.{Method}
+use Rattle.enc_theory.specs.declared.data.Method.TheVariants.{Plain, Ssv, Select, Fence}
+use Rattle.enc_laws.specs.Laws.{plain_complete, plain_is_formula}
+use Rattle.enc_laws.specs.Ssv.{ssv_complete, ssv_is_formula}
+use Rattle.enc_laws.specs.Select.{select_complete, select_is_formula}
+use Rattle.enc_laws.specs.Fence.{fence_is_formula}
+use Rattle.fence_core.specs.Fence.{IsFenceOf, listed_fences}
+use Rattle.fence_core.specs.Listing.{sum-cons, fences_are_listed}
+use Rattle.tt_core.specs.Live.{live_words}
+use Rattle.enc_theory.specs.Parts.{parts_for, fence_in}
+use Rattle.enc_laws.specs.FenceLaws.{is_complete}
+use Rattle.enc_laws.specs.WholeLaws.{the_whole, only_whole}
+use Rattle.std.specs.List.{AllByRecursion}
+use Rattle.std.proofs.lemmas.List.Elements.{All-from_recursion, recursion_from_All}
+use Rattle.enc_theory.specs.declared.part.Part.{Part}
+use Rattle.enc_theory.specs.declared.part.Part.TheVariants.{Whole, Levels}
+use Rattle.cert_theory.specs.Coding.{Coding, plain_coding, ssv_coding, select_coding, fence_coding, coding_of}
+
+-- the numbers of a part's title can be read
+unfoldable pub HasShortTitle : Part → Type 0
+HasShortTitle Whole = Unit {0}
+HasShortTitle (Levels sizes) = All (λ size. size < 2 ^ 64) sizes
+
+-- The parts of a size have titles that can be read, and their formulas are formulas; where the size is
+-- the minimum, one of them is satisfiable.
+pub record IsCoding (c : Coding) : Type 0 where
+  pub titles : (w : Words) (r : ℕ) (part : Part) → r ≤ 16 → Contains (c.parts w r) part → HasShortTitle part
+  pub formulas : (w : Words) (basis r : ℕ) (part : Part) → Contains (c.parts w r) part → IsFormula (c.formula w basis r part)
+  pub complete : (w : Words) (basis r : ℕ) → IsMinimum (specification w) (members basis) r → (part : Part) × Contains (c.parts w r) part × IsSatisfiable (c.formula w basis r part)
+
+whole_title : (part : Part) → Contains (Whole ∷ []) part → HasShortTitle part
+unfolding HasShortTitle
+whole_title part there = subst (λ (p : Part). HasShortTitle p) (sym (only_whole part there)) tt
+
+pub plain_is_coding : IsCoding plain_coding
+plain_is_coding = record {
+  titles = λ w r part few there. whole_title part there;
+  formulas = λ w basis r part there. plain_is_formula w basis r;
+  complete = λ w basis r minimum. (Whole, the_whole, plain_complete w basis r minimum.reached);
+}
+
+pub ssv_is_coding : IsCoding ssv_coding
+ssv_is_coding = record {
+  titles = λ w r part few there. whole_title part there;
+  formulas = λ w basis r part there. ssv_is_formula w basis r;
+  complete = λ w basis r minimum. (Whole, the_whole, ssv_complete w basis r minimum);
+}
+
+pub select_is_coding : IsCoding select_coding
+select_is_coding = record {
+  titles = λ w r part few there. whole_title part there;
+  formulas = λ w basis r part there. select_is_formula w basis r;
+  complete = λ w basis r minimum. (Whole, the_whole, select_complete w basis r minimum);
+}
+
+-- the levels of a fence have no more steps than the fence
+short_levels : (fence : List ℕ) (r : ℕ) → r ≤ 16 → sum fence ≤ r → AllByRecursion (λ size. size < 2 ^ 64) fence
+short_levels [] r few within = tt
+short_levels (q ∷ qs) r few within =
+    let total = sum-cons q qs in
+    (omega arith, short_levels qs r few (omega arith))
+
+short_fences : (r m : ℕ) (fences : List (List ℕ)) → r ≤ 16 → AllByRecursion (IsFenceOf r m) fences → (part : Part) (k : ℕ) → k < length fences → slice_index_or (map Levels fences) k part ≡ part → HasShortTitle part
+unfolding HasShortTitle
+short_fences r m [] few all part k low at = absurd (omega arith)
+short_fences r m (f ∷ fences) few all part zero low at =
+    subst (λ (p : Part). HasShortTitle p) at (All-from_recursion (λ size. size < 2 ^ 64) f (short_levels f r few (omega (arith, all.0.whole))))
+short_fences r m (f ∷ fences) few all part (suc k) low at = short_fences r m fences few all.1 part k (omega arith) at
+
+same_count : (fences : List (List ℕ)) → length (map Levels fences) ≡ length fences
+same_count [] = refl
+same_count (f ∷ fences) = ap (λ (n : ℕ). suc n) (same_count fences)
+
+fence_title : (w : Words) (r : ℕ) (part : Part) → r ≤ 16 → Contains (parts_for w r) part → HasShortTitle part
+unfolding parts_for
+fence_title w r part few there =
+    let m : ℕ = length (live_words w).on in
+    let fences = listed_fences r m in
+    let count = same_count fences in
+    short_fences r m fences few (recursion_from_All (IsFenceOf r m) fences (fences_are_listed r m).only) part there.0 (omega (arith, there.1)) there.2
+
+pub fence_is_coding : IsCoding fence_coding
+fence_is_coding = record {
+  titles = λ w r part few there. fence_title w r part few there;
+  formulas = λ w basis r part there. fence_is_formula w basis r (fence_in part);
+  complete = λ w basis r minimum. is_complete w basis r minimum;
+}
+
+-- so each method has true verdicts
+pub method_is_coding : (method : Method) → IsCoding (coding_of method)
+unfolding coding_of
+method_is_coding Plain = plain_is_coding
+method_is_coding Ssv = ssv_is_coding
+method_is_coding Select = select_is_coding
+method_is_coding Fence = fence_is_coding

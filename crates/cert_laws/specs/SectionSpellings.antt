@@ -1,0 +1,475 @@
+-- Sections, as they are read.
+use Rattle.std.specs.Option.{option_map}
+use Rattle.std.proofs.Common.{◌≡◌, ◌⊎◌, ℕ, suc, ◌+◌, ◌≤◌, Bool, true, false, not, cond, List, [], ◌∷◌, ◌++◌, length, map, Option, Some, None, Result, Ok, Err, refl, sym, ap, ◌∙◌, subst, arith, inl, inr, append_assoc, append-nil, ◌||◌}
+use Rattle.std.specs.Prelude.{codes, nat_le}
+use Rattle.std.specs.List.{flat_map, list_any, find, AllByRecursion}
+use Rattle.std.proofs.Math.Logic.{⊎_elim}
+use Rattle.std.proofs.lemmas.Bool.Decides.{nat_tests}
+use Rattle.std.proofs.lemmas.List.Elements.{All-from_recursion}
+use Rattle.text_core.specs.Lines.{Line}
+use Rattle.chain_theory.specs.Chain.{Chain}
+use Rattle.sat_theory.specs.Formula.{Formula}
+use Rattle.sat_theory.specs.Line as theory
+use Rattle.sat_theory.specs.State.{State, start}
+use Rattle.sat_theory.specs.Log.{IsStep, IsFresh, EachLine, added_ids}
+use Rattle.sat_theory.specs.LogLaws.{EachLine-push}
+use Rattle.lrat_check.specs.Judging.{line_fault}
+use Rattle.lrat_check.specs.FaultLaws.{line_holds}
+use Rattle.lrat_check.specs.declared.error.CheckError.{CheckError}
+use Rattle.chain_core.specs.Spelling.{line}
+use Rattle.enc_theory.specs.declared.part.Part.{Part}
+use Rattle.enc_theory.specs.declared.part.Part.TheVariants.{Whole, Levels}
+use Rattle.cert_theory.specs.declared.data.Heading.{Heading}
+use Rattle.cert_theory.specs.declared.data.Ended.{Ended}
+use Rattle.cert_theory.specs.declared.data.Ended.TheVariants as ends
+use Rattle.cert_theory.specs.declared.data.Verdict.{Verdict}
+use Rattle.cert_theory.specs.declared.data.BundleError.{BundleError}
+use Rattle.cert_theory.specs.declared.data.PartError.{PartError}
+use Rattle.cert_theory.specs.declared.data.PartError.TheVariants.{NotRefuted, EmptyStands, TooShort, NotNew, Syntax}
+use Rattle.cert_theory.specs.Bundle.{Section, IsPartLog, EndsAs, AreSections, first_open, IsEnding, PartLog, part_of, parts_of, formula_of, is_open_end, is_open, size_of}
+use Rattle.cert_theory.specs.Spelling.{size_line, ended_text, done_text, log_line, title_lines, part_lines, section_lines, ending_lines, title_text}
+use Rattle.cert_theory.specs.Gives.{◌>>=◌}
+use Rattle.cert_theory.specs.PartLines.{is_line, state_after, is_fresh, refused, or_not_new, has_empty, spelled_in, logged_in, done_in, title_in, ended_in, part_in}
+use Rattle.cert_theory.specs.Judging.{begins, Place, Between, Begun, Within, Progress, low_with, size_at, section_at, ending_at, sections_of, Due, before, may_follow, or_syntax, at_line, behind_line}
+use Rattle.cert_theory.specs.GivesLaws.{bind_ok, test_ok, read_ok, located_ok}
+use Rattle.cert_laws.specs.EmptyLaws.{empty_has, has_is}
+use Rattle.cert_laws.specs.FreshLaws.{IsLow, log_low, fresh_from_test}
+use Rattle.cert_laws.specs.LineSpellings.{chosen, is_line_spells, size_spells, ended_spells, log_spells}
+use Rattle.cert_laws.specs.EndingSpellings.{IsEnded, ending_spells}
+
+-- ---- logs
+
+-- where the log leaves its part open, each addition was new
+abbrev pub AreFresh : Ended → Formula → List theory.Line → Type 0
+AreFresh ends.Refuted f log = Unit {0}
+AreFresh ends.Open f log = EachLine IsFresh (start f) log
+
+pub record IsLog (f : Formula) (ended : Ended) (log : List theory.Line) : Type 0 where
+  pub holds : EachLine IsStep (start f) log
+  pub fresh : AreFresh ended f log
+
+no_log : (f : Formula) (ended : Ended) → IsLog f ended []
+unfolding EachLine
+no_log f ends.Refuted = record { holds = tt; fresh = tt }
+no_log f ends.Open = record { holds = tt; fresh = tt }
+
+le_is : (a b : ℕ) → nat_le a b ≡ true → a ≤ b
+le_is a b e = grind (arith, nat_tests)
+
+not_both : (b : Bool) → b ≡ true → b ≡ false → ⊥
+not_both b yes_ no_ = cc
+
+abbrev fine : Result (Unit {0}) PartError
+fine = Ok tt
+
+-- the end of a log
+closed_is : (f : Formula) (conflicts : ℕ) (ended : Ended) (log : List theory.Line) → IsLog f ended log → done_in f conflicts ended log ≡ Ok tt → EndsAs f conflicts ended log
+unfolding done_in
+closed_is f conflicts ends.Refuted log is e =
+    let empty = test_ok (has_empty f log) fine NotRefuted tt e in
+    record { holds = is.holds; reaches = empty_has f log empty.0 }
+closed_is f conflicts ends.Open log is e =
+    let none = open_ok (has_empty f log) (cond (nat_le conflicts (length (added_ids log))) fine (Err TooShort)) EmptyStands e in
+    let enough = test_ok (nat_le conflicts (length (added_ids log))) fine TooShort tt none.1 in
+    record { holds = is.holds; open_yet = λ has. not_both (has_empty f log) (has_is f log has) none.0; enough = le_is conflicts (length (added_ids log)) enough.0; fresh = is.fresh }
+  where
+    open_ok : (b : Bool) (r : Result (Unit {0}) PartError) (d : PartError) → cond b (Err d) r ≡ Ok tt → (b ≡ false) × (r ≡ Ok tt)
+    open_ok true r d e = absurd cc
+    open_ok false r d e = (refl, e)
+
+abbrev taken : theory.Line → Result theory.Line PartError
+taken line = Ok line
+
+refused_ok : (o : Option CheckError) (line x : theory.Line) → refused o line ≡ Ok x → (o ≡ None) × (line ≡ x)
+refused_ok None line x e = (refl, cc)
+refused_ok (Some d) line x e = absurd cc
+
+line_ok : (line x : theory.Line) → taken line ≡ Ok x → line ≡ x
+line_ok line x e = cc
+
+new_ok : (ended : Ended) (s : State) (line x : theory.Line) → or_not_new ended s line ≡ Ok x → line ≡ x
+new_ok ends.Refuted s line x e = cc
+new_ok ends.Open s line x e = let tests = test_ok (is_fresh s line) (taken line) NotNew x e in line_ok line x tests.1
+
+new_fresh : (ended : Ended) (f : Formula) (log : List theory.Line) (line x : theory.Line) → IsLow (state_after f log) → AreFresh ended f log → or_not_new ended (state_after f log) line ≡ Ok x → AreFresh ended f (log ++ line ∷ [])
+new_fresh ends.Refuted f log line x low fresh e = tt
+new_fresh ends.Open f log line x low fresh e =
+    let tests = test_ok (is_fresh (state_after f log) line) (taken line) NotNew x e in
+    EachLine-push IsFresh (start f) log line fresh (fresh_from_test (state_after f log) line low tests.0)
+
+record IsLogged (f : Formula) (ended : Ended) (log : List theory.Line) (l : Line) (x : theory.Line) : Type 0 where
+  log_is : IsLog f ended (log ++ x ∷ [])
+  line_is : l ≡ log_line x
+
+logged_is : (f : Formula) (ended : Ended) (log : List theory.Line) (l : Line) (x : theory.Line) → IsLog f ended log → logged_in f ended log l ≡ Ok x → IsLogged f ended log l x
+unfolding logged_in
+logged_is f ended log l x is e =
+    let spelled = bind_ok (spelled_in l) _ x e in
+    let held = bind_ok (refused (line_fault (state_after f log) spelled.0) spelled.0) _ x spelled.2 in
+    let none = refused_ok (line_fault (state_after f log) spelled.0) spelled.0 held.0 held.1 in
+    let last : held.0 ≡ x = new_ok ended (state_after f log) held.0 x held.2 in
+    let same : spelled.0 ≡ x = none.1 ∙ last in
+    let text = log_spells l spelled.0 spelled.1 in
+    let fresh = new_fresh ended f log held.0 x (log_low f log is.holds) is.fresh held.2 in
+    record {
+      log_is = record {
+        holds = subst (λ (y : theory.Line). EachLine IsStep (start f) (log ++ y ∷ [])) same (EachLine-push IsStep (start f) log spelled.0 is.holds (record { is_line = text.0; holds = line_holds (state_after f log) spelled.0 none.0 }));
+        fresh = subst (λ (y : theory.Line). AreFresh ended f (log ++ y ∷ [])) last fresh;
+      };
+      line_is = text.1 ∙ ap log_line same;
+    }
+
+-- ---- what is read from a place on
+
+abbrev pub low_or : Option ℕ → Option ℕ → Option ℕ
+low_or None o = o
+low_or (Some low) o = Some low
+
+-- the first open size, with the parts of one size more
+unfoldable pub low_after : Option ℕ → ℕ → List PartLog → Option ℕ
+low_after low size [] = low
+low_after low size (p ∷ ps) = low_after (low_with low p.ended size) size ps
+
+-- sections of the sizes from one on, and the ending
+pub record Rest (h : Heading) (size : ℕ) (low : Option ℕ) (ls : List Line) (v : Verdict) : Type 0 where
+  pub sections : List Section
+  pub chain : Option Chain
+  pub are : AreSections h size sections
+  pub sizes_to : size + length sections ≤ h.max + 1
+  pub ending : IsEnding h (size + length sections) (low_or low (first_open sections)) chain v
+  pub lines : ls ≡ flat_map section_lines sections ++ ending_lines chain v
+
+-- the logs of the parts that are due, and what stands behind the section
+pub record PartsRest (h : Heading) (size : ℕ) (low : Option ℕ) (due : List Part) (ls : List Line) (v : Verdict) : Type 0 where
+  pub parts : List PartLog
+  pub parts_are : map part_of parts ≡ due
+  pub logs : AllByRecursion (IsPartLog h size) parts
+  pub behind : List Line
+  pub rest : Rest h (size + 1) (low_after low size parts) behind v
+  pub lines : ls ≡ flat_map part_lines parts ++ behind
+
+pub record LogRest (h : Heading) (size : ℕ) (low : Option ℕ) (part : Part) (later : List Part) (ended : Ended) (log : List theory.Line) (ls : List Line) (v : Verdict) : Type 0 where
+  pub more : List theory.Line
+  pub ends_as : EndsAs (formula_of h size part) h.conflicts ended (log ++ more)
+  pub behind : List Line
+  pub rest : PartsRest h size (low_with low ended size) later behind v
+  pub lines : ls ≡ map log_line more ++ line done_text ∷ behind
+
+pub record BegunRest (h : Heading) (size : ℕ) (low : Option ℕ) (part : Part) (later : List Part) (ls : List Line) (v : Verdict) : Type 0 where
+  pub ended : Ended
+  pub behind : List Line
+  pub rest : LogRest h size low part later ended [] behind v
+  pub lines : ls ≡ line (ended_text ended) ∷ behind
+
+pub record DueRest (h : Heading) (size : ℕ) (low : Option ℕ) (sizes : List ℕ) (later : List Part) (ls : List Line) (v : Verdict) : Type 0 where
+  pub behind : List Line
+  pub rest : BegunRest h size low (Levels sizes) later behind v
+  pub lines : ls ≡ line (title_text sizes) ∷ behind
+
+abbrev pub RestAt : Heading → ℕ → Option ℕ → Place → List Line → Verdict → Type 0
+RestAt h size low Between ls v = Rest h size low ls v
+RestAt h size low (Due sizes later) ls v = DueRest h size low sizes later ls v
+RestAt h size low (Begun part later) ls v = BegunRest h size low part later ls v
+RestAt h size low (Within part later ended log) ls v = LogRest h size low part later ended log ls v
+
+abbrev pub IsAt : Heading → ℕ → Place → Type 0
+IsAt h size Between = size ≤ h.max + 1
+IsAt h size (Due sizes later) = size ≤ h.max
+IsAt h size (Begun part later) = size ≤ h.max
+IsAt h size (Within part later ended log) = (size ≤ h.max) × IsLog (formula_of h size part) ended log
+
+-- no section more
+pub low_same : (low : Option ℕ) → low ≡ low_or low None
+low_same None = refl
+low_same (Some low) = refl
+
+ended_rest : (h : Heading) (size : ℕ) (low : Option ℕ) (ls : List Line) (v : Verdict) → size ≤ h.max + 1 → IsEnded h size low ls v → Rest h size low ls v
+unfolding AreSections
+ended_rest h size low ls v few ended =
+    let same : size ≡ size + 0 = omega arith in
+    record {
+      sections = [];
+      chain = ended.chain;
+      are = tt;
+      sizes_to = omega arith;
+      ending = subst (λ (o : Option ℕ). IsEnding h (size + 0) o ended.chain v) (low_same low) (subst (λ (n : ℕ). IsEnding h n low ended.chain v) same ended.ending);
+      lines = ended.lines;
+    }
+
+-- ---- a section more in front
+
+abbrev pub any_open : List PartLog → Bool
+any_open ps = list_any (λ p. is_open_end p.ended) ps
+
+low_some : (low size : ℕ) (ps : List PartLog) → low_after (Some low) size ps ≡ Some low
+unfolding low_after
+low_some low size [] = refl
+low_some low size (p ∷ ps) = low_some low size ps
+
+-- the first open size with a section's parts, and those of the sections behind it
+low_first : (ended : Ended) (size : ℕ) (ps : List PartLog) (o : Option ℕ) → low_or (low_after None size ps) o ≡ cond (any_open ps) (Some size) o → low_or (low_after (low_with None ended size) size ps) o ≡ cond (is_open_end ended || any_open ps) (Some size) o
+low_first ends.Refuted size ps o rest = rest
+low_first ends.Open size ps o rest = ap (λ (q : Option ℕ). low_or q o) (low_some size size ps)
+
+low_parts : (size : ℕ) (ps : List PartLog) (o : Option ℕ) → low_or (low_after None size ps) o ≡ cond (any_open ps) (Some size) o
+unfolding low_after
+low_parts size [] o = refl
+low_parts size (p ∷ ps) o = low_first p.ended size ps o (low_parts size ps o)
+
+first_is : (b : Bool) (s : Section) (o : Option Section) → option_map size_of (cond b (Some s) o) ≡ cond b (Some s.size) (option_map size_of o)
+first_is true s o = refl
+first_is false s o = refl
+
+pub low_more : (low : Option ℕ) (size : ℕ) (ps : List PartLog) (ss : List Section) → low_or (low_after low size ps) (first_open ss) ≡ low_or low (first_open (record { size = size; parts = ps } ∷ ss))
+low_more (Some low) size ps ss = ap (λ (o : Option ℕ). low_or o (first_open ss)) (low_some low size ps)
+low_more None size ps ss = low_parts size ps (first_open ss) ∙ sym (first_is (any_open ps) (record { size = size; parts = ps }) (find is_open ss))
+
+size_rest : (h : Heading) (size : ℕ) (low : Option ℕ) (l : Line) (ls : List Line) (v : Verdict) → l ≡ line (size_line size) → PartsRest h size low (parts_of h size) ls v → Rest h size low (l ∷ ls) v
+unfolding AreSections section_lines
+size_rest h size low l ls v first parts =
+    let rest = parts.rest in
+    let s : Section = record { size = size; parts = parts.parts } in
+    let count : size + 1 + length rest.sections ≡ size + suc (length rest.sections) = omega arith in
+    record {
+      sections = s ∷ rest.sections;
+      chain = rest.chain;
+      are = (record { size_is = refl; parts_are = parts.parts_are; logs = All-from_recursion (IsPartLog h size) parts.parts parts.logs }, rest.are);
+      sizes_to = omega (arith, rest.sizes_to);
+      ending =
+          subst (λ (o : Option ℕ). IsEnding h (size + suc (length rest.sections)) o rest.chain v) (low_more low size parts.parts rest.sections)
+          (subst (λ (n : ℕ). IsEnding h n (low_or (low_after low size parts.parts) (first_open rest.sections)) rest.chain v) count rest.ending);
+      lines =
+          (λ i. first i ∷ (parts.lines ∙ ap (λ (xs : List Line). flat_map part_lines parts.parts ++ xs) rest.lines) i)
+          ∙ sym (append_assoc (section_lines s) (flat_map section_lines rest.sections) (ending_lines rest.chain v));
+    }
+
+-- ---- parts
+
+-- the lines of a part, and those behind it
+pub part_text : (part : Part) (ended : Ended) (log : List theory.Line) (behind : List Line) → part_lines (record { part = part; ended = ended; log = log }) ++ behind ≡ title_lines part ++ (line (ended_text ended) ∷ (map log_line log ++ line done_text ∷ behind))
+unfolding part_lines
+part_text part ended log behind =
+    append_assoc (title_lines part) (line (ended_text ended) ∷ (map log_line log ++ line done_text ∷ [])) behind
+    ∙ ap (λ (xs : List Line). title_lines part ++ (line (ended_text ended) ∷ xs)) (append_assoc (map log_line log) (line done_text ∷ []) behind)
+
+begun_parts : (h : Heading) (size : ℕ) (low : Option ℕ) (part : Part) (later : List Part) (ls all : List Line) (v : Verdict) → all ≡ title_lines part ++ ls → BegunRest h size low part later ls v → PartsRest h size low (part ∷ later) all v
+unfolding low_after
+begun_parts h size low part later ls all v first begun =
+    let log = begun.rest in
+    let parts = log.rest in
+    let p : PartLog = record { part = part; ended = begun.ended; log = log.more } in
+    record {
+      parts = p ∷ parts.parts;
+      parts_are = ap (λ (ps : List Part). part ∷ ps) parts.parts_are;
+      logs = (log.ends_as, parts.logs);
+      behind = parts.behind;
+      rest = parts.rest;
+      lines =
+          first
+          ∙ ap (λ (xs : List Line). title_lines part ++ xs) (begun.lines ∙ ap (λ (xs : List Line). line (ended_text begun.ended) ∷ xs) (log.lines ∙ ap (λ (xs : List Line). map log_line log.more ++ line done_text ∷ xs) parts.lines))
+          ∙ sym (part_text part begun.ended log.more (flat_map part_lines parts.parts ++ parts.behind))
+          ∙ sym (append_assoc (part_lines p) (flat_map part_lines parts.parts) parts.behind);
+    }
+
+pub at_before : (h : Heading) (size : ℕ) (low : Option ℕ) (due : List Part) → size ≤ h.max → IsAt h (before size low due).size (before size low due).place
+unfolding before
+at_before h size low [] few = omega arith
+at_before h size low (Whole ∷ later) few = few
+at_before h size low (Levels sizes ∷ later) few = few
+
+before_rest : (h : Heading) (size : ℕ) (low : Option ℕ) (due : List Part) (ls : List Line) (v : Verdict) → RestAt h (before size low due).size (before size low due).low (before size low due).place ls v → PartsRest h size low due ls v
+unfolding before low_after title_lines
+before_rest h size low [] ls v rest = record { parts = []; parts_are = refl; logs = tt; behind = ls; rest = rest; lines = refl }
+before_rest h size low (Whole ∷ later) ls v rest = begun_parts h size low Whole later ls ls v refl rest
+before_rest h size low (Levels sizes ∷ later) ls v rest = begun_parts h size low (Levels sizes) later rest.behind ls v rest.lines rest.rest
+
+-- ---- one line after the other
+
+abbrev pub progress : ℕ → Option ℕ → Place → Progress
+progress size low place = record { size = size; low = low; place = place }
+
+abbrev go_on : Heading → ℕ → List Line → Progress → Result Verdict BundleError
+go_on h number ls next = sections_of h (number + 1) next ls
+
+abbrev come : Progress → Result Progress BundleError
+come p = Ok p
+
+progress_is : (p q : Progress) → come p ≡ Ok q → p ≡ q
+progress_is p q e = cc
+
+unit_is : {E : Type 0} (r : Result (Unit {0}) E) (x : Unit {0}) → r ≡ Ok x → r ≡ Ok tt
+unit_is r x e = e
+
+-- between two sections
+record BetweenCases (h : Heading) (number size : ℕ) (low : Option ℕ) (l : Line) (ls : List Line) (v : Verdict) : Type 0 where
+  cases : (ending_at h number size low l ls ≡ Ok v) ⊎ ((size_at h number size l ≡ Ok tt) × (sections_of h (number + 1) (before size low (parts_of h size)) ls ≡ Ok v))
+
+between_cases : (h : Heading) (number size : ℕ) (low : Option ℕ) (l : Line) (ls : List Line) (v : Verdict) → sections_of h number (progress size low Between) (l ∷ ls) ≡ Ok v → BetweenCases h number size low l ls v
+unfolding sections_of
+between_cases h number size low l ls v e = record {
+  cases =
+      ⊎_elim
+      (λ (yes_ : (not (begins (codes "size ") l) ≡ true) × (ending_at h number size low l ls ≡ Ok v)). inl yes_.1)
+      (λ (no_ : (not (begins (codes "size ") l) ≡ false) × ((section_at h number size low Between l >>= go_on h number ls) ≡ Ok v)).
+      let next = bind_ok (section_at h number size low Between l) (go_on h number ls) v no_.1 in
+      let begun = bind_ok (size_at h number size l) (λ begun. Ok (before size low (parts_of h size))) next.0 next.1 in
+      let same : before size low (parts_of h size) ≡ next.0 = progress_is (before size low (parts_of h size)) next.0 begun.2 in
+      inr (unit_is (size_at h number size l) begun.0 begun.1, ap (go_on h number ls) same ∙ next.2))
+      (chosen (not (begins (codes "size ") l)) (ending_at h number size low l ls) (section_at h number size low Between l >>= go_on h number ls) (Ok v) e);
+}
+
+record DueCase (h : Heading) (number size : ℕ) (low : Option ℕ) (sizes : List ℕ) (later : List Part) (l : Line) (ls : List Line) (v : Verdict) : Type 0 where
+  text : l ≡ line (title_text sizes)
+  next : sections_of h (number + 1) (progress size low (Begun (Levels sizes) later)) ls ≡ Ok v
+
+title_spells : (follows : Bool) (sizes : List ℕ) (l : Line) → title_in follows sizes l ≡ Ok tt → l ≡ line (title_text sizes)
+unfolding title_in
+title_spells follows sizes l e =
+    ⊎_elim
+    (λ (yes_ : (is_line (title_text sizes) l ≡ true) × (fine ≡ Ok tt)). is_line_spells (title_text sizes) l yes_.0)
+    (λ (no_ : (is_line (title_text sizes) l ≡ false) × (cond follows (Err NotRefuted) (Err Syntax) ≡ Ok tt)). absurd (none follows no_.1))
+    (chosen (is_line (title_text sizes) l) fine (cond follows (Err NotRefuted) (Err Syntax)) (Ok tt) e)
+  where
+    none : (b : Bool) → cond b (Err NotRefuted) (Err Syntax) ≡ fine → ⊥
+    none true e = cc
+    none false e = cc
+
+due_case : (h : Heading) (number size : ℕ) (low : Option ℕ) (sizes : List ℕ) (later : List Part) (l : Line) (ls : List Line) (v : Verdict) → sections_of h number (progress size low (Due sizes later)) (l ∷ ls) ≡ Ok v → DueCase h number size low sizes later l ls v
+unfolding sections_of
+due_case h number size low sizes later l ls v e =
+    let next = bind_ok (section_at h number size low (Due sizes later) l) (go_on h number ls) v e in
+    let title = title_in (may_follow l) sizes l in
+    let read = bind_ok (at_line number title) (λ titled. come (progress size low (Begun (Levels sizes) later))) next.0 next.1 in
+    let same : progress size low (Begun (Levels sizes) later) ≡ next.0 = progress_is _ next.0 read.2 in
+    record { text = title_spells (may_follow l) sizes l (unit_is title read.0 (located_ok number title read.0 read.1)); next = ap (go_on h number ls) same ∙ next.2 }
+
+record BegunCase (h : Heading) (number size : ℕ) (low : Option ℕ) (part : Part) (later : List Part) (l : Line) (ls : List Line) (v : Verdict) : Type 0 where
+  ended : Ended
+  read : ended_in l ≡ Some ended
+  next : sections_of h (number + 1) (progress size low (Within part later ended [])) ls ≡ Ok v
+
+begun_case : (h : Heading) (number size : ℕ) (low : Option ℕ) (part : Part) (later : List Part) (l : Line) (ls : List Line) (v : Verdict) → sections_of h number (progress size low (Begun part later)) (l ∷ ls) ≡ Ok v → BegunCase h number size low part later l ls v
+unfolding sections_of
+begun_case h number size low part later l ls v e =
+    let next = bind_ok (section_at h number size low (Begun part later) l) (go_on h number ls) v e in
+    let read = bind_ok (or_syntax number (ended_in l)) (λ ended. Ok (progress size low (Within part later ended []))) next.0 next.1 in
+    let same : progress size low (Within part later read.0 []) ≡ next.0 = progress_is (progress size low (Within part later read.0 [])) next.0 read.2 in
+    record { ended = read.0; read = read_ok number (ended_in l) read.0 read.1; next = ap (go_on h number ls) same ∙ next.2 }
+
+record DoneCase (h : Heading) (number size : ℕ) (low : Option ℕ) (part : Part) (later : List Part) (ended : Ended) (log : List theory.Line) (l : Line) (ls : List Line) (v : Verdict) : Type 0 where
+  is_done : is_line (codes "done") l ≡ true
+  closes : done_in (formula_of h size part) h.conflicts ended log ≡ Ok tt
+  next : sections_of h (number + 1) (before size (low_with low ended size) later) ls ≡ Ok v
+
+record LoggedCase (h : Heading) (number size : ℕ) (low : Option ℕ) (part : Part) (later : List Part) (ended : Ended) (log : List theory.Line) (l : Line) (ls : List Line) (v : Verdict) : Type 0 where
+  x : theory.Line
+  read : logged_in (formula_of h size part) ended log l ≡ Ok x
+  next : sections_of h (number + 1) (progress size low (Within part later ended (log ++ x ∷ []))) ls ≡ Ok v
+
+abbrev stop : Unit {0} → Result (Option theory.Line) PartError
+stop done = Ok None
+
+abbrev one_more : theory.Line → Result (Option theory.Line) PartError
+one_more line = Ok (Some line)
+
+-- which of the two a line is
+part_done : (f : Formula) (conflicts : ℕ) (ended : Ended) (log : List theory.Line) (l : Line) → part_in f conflicts ended log l ≡ Ok None → (is_line (codes "done") l ≡ true) × (done_in f conflicts ended log ≡ Ok tt)
+unfolding part_in
+part_done f conflicts ended log l e =
+    ⊎_elim
+    (λ (yes_ : (is_line (codes "done") l ≡ true) × ((done_in f conflicts ended log >>= stop) ≡ Ok None)).
+    let closes = bind_ok (done_in f conflicts ended log) stop None yes_.1 in
+    (yes_.0, unit_is (done_in f conflicts ended log) closes.0 closes.1))
+    (λ (no_ : (is_line (codes "done") l ≡ false) × ((logged_in f ended log l >>= one_more) ≡ Ok None)).
+    let read = bind_ok (logged_in f ended log l) one_more None no_.1 in
+    absurd (let more = read.2 in cc))
+    (chosen (is_line (codes "done") l) (done_in f conflicts ended log >>= stop) (logged_in f ended log l >>= one_more) (Ok None) e)
+
+part_logged : (f : Formula) (conflicts : ℕ) (ended : Ended) (log : List theory.Line) (l : Line) (x : theory.Line) → part_in f conflicts ended log l ≡ Ok (Some x) → logged_in f ended log l ≡ Ok x
+unfolding part_in
+part_logged f conflicts ended log l x e =
+    ⊎_elim
+    (λ (yes_ : (is_line (codes "done") l ≡ true) × ((done_in f conflicts ended log >>= stop) ≡ Ok (Some x))).
+    let closes = bind_ok (done_in f conflicts ended log) stop (Some x) yes_.1 in
+    absurd (let none = closes.2 in cc))
+    (λ (no_ : (is_line (codes "done") l ≡ false) × ((logged_in f ended log l >>= one_more) ≡ Ok (Some x))).
+    let read = bind_ok (logged_in f ended log l) one_more (Some x) no_.1 in
+    read.1 ∙ ap taken (one_is read.0 x read.2))
+    (chosen (is_line (codes "done") l) (done_in f conflicts ended log >>= stop) (logged_in f ended log l >>= one_more) (Ok (Some x)) e)
+  where
+    one_is : (y z : theory.Line) → one_more y ≡ Ok (Some z) → y ≡ z
+    one_is y z e = cc
+
+within_step : (h : Heading) (number size : ℕ) (low : Option ℕ) (part : Part) (later : List Part) (ended : Ended) (log : List theory.Line) (l : Line) (ls : List Line) (v : Verdict) (step : Option theory.Line)
+    → part_in (formula_of h size part) h.conflicts ended log l ≡ Ok step → sections_of h (number + 1) (behind_line size low part later ended log step) ls ≡ Ok v → DoneCase h number size low part later ended log l ls v ⊎ LoggedCase h number size low part later ended log l ls v
+within_step h number size low part later ended log l ls v None e next =
+    let done = part_done (formula_of h size part) h.conflicts ended log l e in
+    inl (record { is_done = done.0; closes = done.1; next = next })
+within_step h number size low part later ended log l ls v (Some x) e next = inr (record { x = x; read = part_logged (formula_of h size part) h.conflicts ended log l x e; next = next })
+
+within_cases : (h : Heading) (number size : ℕ) (low : Option ℕ) (part : Part) (later : List Part) (ended : Ended) (log : List theory.Line) (l : Line) (ls : List Line) (v : Verdict) → sections_of h number (progress size low (Within part later ended log)) (l ∷ ls) ≡ Ok v → DoneCase h number size low part later ended log l ls v ⊎ LoggedCase h number size low part later ended log l ls v
+unfolding sections_of
+within_cases h number size low part later ended log l ls v e =
+    let read = part_in (formula_of h size part) h.conflicts ended log l in
+    let next = bind_ok (section_at h number size low (Within part later ended log) l) (go_on h number ls) v e in
+    let step = bind_ok (at_line number read) (λ step. come (behind_line size low part later ended log step)) next.0 next.1 in
+    let same : behind_line size low part later ended log step.0 ≡ next.0 = progress_is _ next.0 step.2 in
+    within_step h number size low part later ended log l ls v step.0 (located_ok number read step.0 step.1) (ap (go_on h number ls) same ∙ next.2)
+
+done_rest : (h : Heading) (number size : ℕ) (low : Option ℕ) (part : Part) (later : List Part) (ended : Ended) (log : List theory.Line) (l : Line) (ls : List Line) (v : Verdict) → IsLog (formula_of h size part) ended log → DoneCase h number size low part later ended log l ls v → PartsRest h size (low_with low ended size) later ls v → LogRest h size low part later ended log (l ∷ ls) v
+done_rest h number size low part later ended log l ls v is done rest = record {
+  more = [];
+  ends_as = subst (λ (xs : List theory.Line). EndsAs (formula_of h size part) h.conflicts ended xs) (sym (append-nil log)) (closed_is (formula_of h size part) h.conflicts ended log is done.closes);
+  behind = ls;
+  rest = rest;
+  lines = λ i. is_line_spells (codes "done") l done.is_done i ∷ ls;
+}
+
+logged_rest : (h : Heading) (size : ℕ) (low : Option ℕ) (part : Part) (later : List Part) (ended : Ended) (log : List theory.Line) (x : theory.Line) (l : Line) (ls : List Line) (v : Verdict) → l ≡ log_line x → LogRest h size low part later ended (log ++ x ∷ []) ls v → LogRest h size low part later ended log (l ∷ ls) v
+logged_rest h size low part later ended log x l ls v first rest = record {
+  more = x ∷ rest.more;
+  ends_as = subst (λ (xs : List theory.Line). EndsAs (formula_of h size part) h.conflicts ended xs) (append_assoc log (x ∷ []) rest.more) rest.ends_as;
+  behind = rest.behind;
+  rest = rest.rest;
+  lines = λ i. first i ∷ rest.lines i;
+}
+
+pub sections_spell : (ls : List Line) (h : Heading) (number size : ℕ) (low : Option ℕ) (place : Place) (v : Verdict) → IsAt h size place → sections_of h number (progress size low place) ls ≡ Ok v → RestAt h size low place ls v
+unfolding sections_of
+sections_spell [] h number size low Between v is e = absurd cc
+sections_spell [] h number size low (Due sizes later) v is e = absurd cc
+sections_spell [] h number size low (Begun part later) v is e = absurd cc
+sections_spell [] h number size low (Within part later ended log) v is e = absurd cc
+sections_spell (l ∷ ls) h number size low Between v is e =
+    let between = between_cases h number size low l ls v e in
+    ⊎_elim
+    (λ (ending : ending_at h number size low l ls ≡ Ok v). ended_rest h size low (l ∷ ls) v is (ending_spells h number size low l ls v ending))
+    (λ (begun : (size_at h number size l ≡ Ok tt) × (sections_of h (number + 1) (before size low (parts_of h size)) ls ≡ Ok v)).
+    let first = size_spells h number size l begun.0 in
+    let next = before size low (parts_of h size) in
+    size_rest h size low l ls v first.0 (before_rest h size low (parts_of h size) ls v (sections_spell ls h (number + 1) next.size next.low next.place v (at_before h size low (parts_of h size) first.1) begun.1)))
+    between.cases
+sections_spell (l ∷ ls) h number size low (Due sizes later) v is e =
+    let due = due_case h number size low sizes later l ls v e in
+    record {
+      behind = ls;
+      rest = sections_spell ls h (number + 1) size low (Begun (Levels sizes) later) v is due.next;
+      lines = λ i. due.text i ∷ ls;
+    }
+sections_spell (l ∷ ls) h number size low (Begun part later) v is e =
+    let begun = begun_case h number size low part later l ls v e in
+    record {
+      ended = begun.ended;
+      behind = ls;
+      rest = sections_spell ls h (number + 1) size low (Within part later begun.ended []) v (is, no_log (formula_of h size part) begun.ended) begun.next;
+      lines = λ i. ended_spells l begun.ended begun.read i ∷ ls;
+    }
+sections_spell (l ∷ ls) h number size low (Within part later ended log) v is e =
+    ⊎_elim
+    (λ (done : DoneCase h number size low part later ended log l ls v).
+    let next = before size (low_with low ended size) later in
+    done_rest h number size low part later ended log l ls v is.1 done (before_rest h size (low_with low ended size) later ls v (sections_spell ls h (number + 1) next.size next.low next.place v (at_before h size (low_with low ended size) later is.0) done.next)))
+    (λ (logged : LoggedCase h number size low part later ended log l ls v).
+    let more = logged_is (formula_of h size part) ended log l logged.x is.1 logged.read in
+    logged_rest h size low part later ended log logged.x l ls v more.line_is (sections_spell ls h (number + 1) size low (Within part later ended (log ++ logged.x ∷ [])) v (is.0, more.log_is) logged.next))
+    (within_cases h number size low part later ended log l ls v e)

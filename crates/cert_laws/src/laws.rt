@@ -1,0 +1,40 @@
+//! The theorems about certificates. Each is the contract of a function that does nothing.
+ghost use Rattle.std.specs.Prelude.{◌≡◌, ℕ, List, Some, Ok};
+ghost use Rattle.text_core.specs.Lines.{lines_of};
+ghost use Rattle.sat_theory.specs.State.{State};
+ghost use Rattle.sat_theory.specs.Line.{Line};
+ghost use Rattle.lrat_check.specs.Judging.{line_fault};
+ghost use Rattle.lrat_check.specs.declared.error.CheckError.TheVariants.{Memory};
+ghost use Rattle.tt_core.specs.Words.{Words, specification};
+ghost use Rattle.op_basis.specs.Basis.{members};
+ghost use Rattle.cert_theory.specs.declared.data.Verdict.{Verdict};
+ghost use Rattle.cert_theory.specs.Bundle.{Bundle, IsValid};
+ghost use Rattle.cert_theory.specs.Meaning.{Means};
+ghost use Rattle.cert_theory.specs.Spelling.{IsBundle, HasVerdict};
+ghost use Rattle.cert_theory.specs.Question.{HasQuestion};
+ghost use Rattle.cert_theory.specs.Judging.{bundle_of};
+
+/// The verdict of a valid bundle is true, whoever made it.
+pub fn verdicts_are_true()
+    ensures { (b : Bundle) → IsValid b → Means (specification b.heading.spec) (members b.heading.basis) b.verdict }
+{}
+
+/// Bytes are judged as a verdict exactly where they are the text of a valid bundle that has it.
+pub fn verdicts_are_spelled()
+    ensures only { (bytes : List ℕ) (v : Verdict) → bundle_of (lines_of bytes) ≡ Ok v → HasVerdict bytes v }
+    ensures each { (bytes : List ℕ) (b : Bundle) → IsBundle bytes b → bundle_of (lines_of bytes) ≡ Ok b.verdict }
+{}
+
+/// What has a verdict asks for tables and a basis, by its own lines, for one of each and no other; and
+/// the verdict is true of them.
+pub fn verdicts_answer_their_texts()
+    ensures asks { (bytes : List ℕ) (v : Verdict) → bundle_of (lines_of bytes) ≡ Ok v → (w : Words) × (basis : ℕ) × HasQuestion bytes w basis }
+    ensures one { (bytes : List ℕ) (w u : Words) (a b : ℕ) → HasQuestion bytes w a → HasQuestion bytes u b → (w ≡ u) × (a ≡ b) }
+    ensures means { (bytes : List ℕ) (v : Verdict) (w : Words) (basis : ℕ) → bundle_of (lines_of bytes) ≡ Ok v →
+        HasQuestion bytes w basis → Means (specification w) (members basis) v }
+{}
+
+/// The fault of a log's line is never want of memory, so that `Memory` never stands in `StepRefused`.
+pub fn faults_of_lines_are_told()
+    ensures { (s : State) (l : Line) → line_fault s l ≡ Some Memory → ⊥ }
+{}

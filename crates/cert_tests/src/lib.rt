@@ -1,0 +1,14 @@
+//! Tests of the public calls of the crates from `bundle_core` to `synth_core`: certificates as texts, judged and
+//! written, the log of one part, the search, and what `synth` makes of tables.
+#![tactic(auto)]
+
+#[cfg(test)]
+mod judging;
+#[cfg(test)]
+mod parts;
+#[cfg(test)]
+mod searching;
+#[cfg(test)]
+mod synthesising;
+#[cfg(test)]
+mod writing;

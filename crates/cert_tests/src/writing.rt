@@ -1,0 +1,54 @@
+//! Certificates as they are written, piece by piece.
+use bundle_core::{Ended, PartLog, Section, Verdict};
+use bundle_text::{write_ending, write_heading, write_section};
+use enc_theory::{Method, Part};
+use fence_core::Fence;
+use lrat_text::{Log, read_line};
+use op_basis::Basis;
+use std::alloc::{AllocError, Global};
+use std::test::Fail;
+use tt_core::read_tables;
+
+/// A section of size 0: the whole with no line, refuted, and a fence with one line, open.
+fn section(alloc: Global) -> Result<Section, AllocError> {
+    let mut lines = Vec::new(alloc);
+    if let Ok(line) = read_line(alloc, b"5 2 0 1 2 0") {
+        lines.push(line)?;
+    }
+    let whole = PartLog {
+        part: Part::Whole,
+        ended: Ended::Refuted,
+        log: Log {
+            lines: Vec::new(alloc),
+        },
+    };
+    let fence = PartLog {
+        part: Part::Levels(Fence::new(vec![in alloc; 2, 1]?)),
+        ended: Ended::Open,
+        log: Log { lines },
+    };
+    Ok(Section {
+        size: 0,
+        parts: vec![in alloc; whole, fence]?,
+    })
+}
+
+#[test]
+fn pieces_are_spelled(rt: HostRuntime) -> Result<(), Fail> {
+    let alloc = rt.alloc();
+    let Ok(tables) = read_tables(alloc, b"inputs 2\n01-0\n1001\n") else {
+        return Err(Fail::from("tables"));
+    };
+    let Ok(section) = section(alloc) else {
+        return Err(Fail::from("section"));
+    };
+    let mut text = Vec::new(alloc);
+    let all = Basis::new(65_535);
+    assert!(rt; write_heading(&tables.spec, all, Method::Plain, 100_000, 16, &mut text).is_ok());
+    assert!(rt; write_section(&section, &mut text).is_ok());
+    assert!(rt; write_ending(&None, Verdict::Bounded { low: 1, r: 2 }, &mut text).is_ok());
+    let expected =
+        b"chains 1\ninputs 2\n01-0\n1001\nbasis all\nmethod plain\nconflicts 100000\nmax 16\nsize 0\nrefuted\ndone\nfence 2 1\nopen\n5 2 0 1 2 0\ndone\nbounded 1 2\nend\n";
+    assert_eq!(rt; text.as_slice(), expected.as_slice());
+    Ok(())
+}

@@ -1,9 +1,0 @@
-use Rattle.cert_theory.proofs.BundleSpellings.{verdict_spelled}
-use Rattle.cert_theory.proofs.BundlesAgain.{text_again}
-use Rattle.cert_theory.proofs.laws.verdicts_are_spelled.Goals as goal
-
-pub returns-clause-only : goal.returns-clause-only
-returns-clause-only c = verdict_spelled
-
-pub returns-clause-each : goal.returns-clause-each
-returns-clause-each c = text_again

@@ -1,0 +1,81 @@
+-- One reader behind another.
+use Rattle.std.proofs.Common.{◌≡◌, Result, Ok, Err, Bool, true, false, cond, ℕ, Option, Some, None, refl, ap, ◌∙◌}
+use Rattle.cert_theory.specs.declared.data.BundleError.{BundleError}
+use Rattle.cert_theory.specs.declared.data.BundleError.TheVariants.{Syntax, SizeOutOfOrder, StepRefused, NotRefuted, ChainDiffers, OperatorNotInBasis, OpenTooShort, NotNew, WrongVerdict, Memory}
+use Rattle.cert_theory.specs.Gives.{◌>>=◌, Fails, PartFails}
+use Rattle.cert_theory.specs.declared.data.PartError.{PartError}
+use Rattle.cert_theory.specs.declared.data.PartError.TheVariants as part_errors
+use Rattle.cert_theory.specs.Judging.{or_syntax, fault_at, at_line}
+
+-- where the first refuses, both do
+pub fails_bind : {A B : Type 0} (e : BundleError) (read : Result A BundleError) (next : A → Result B BundleError) → Fails e read → Fails e (read >>= next)
+fails_bind {A = A} (Syntax line) read next is = ap (λ (r : Result A BundleError). r >>= next) is
+fails_bind {A = A} (SizeOutOfOrder line) read next is = ap (λ (r : Result A BundleError). r >>= next) is
+fails_bind {A = A} (StepRefused line fault) read next is = ap (λ (r : Result A BundleError). r >>= next) is
+fails_bind {A = A} (NotRefuted line) read next is = ap (λ (r : Result A BundleError). r >>= next) is
+fails_bind {A = A} (ChainDiffers output row) read next is = ap (λ (r : Result A BundleError). r >>= next) is
+fails_bind {A = A} (OperatorNotInBasis place) read next is = ap (λ (r : Result A BundleError). r >>= next) is
+fails_bind {A = A} (OpenTooShort line) read next is = ap (λ (r : Result A BundleError). r >>= next) is
+fails_bind {A = A} (NotNew line) read next is = ap (λ (r : Result A BundleError). r >>= next) is
+fails_bind {A = A} (WrongVerdict line) read next is = ap (λ (r : Result A BundleError). r >>= next) is
+fails_bind Memory read next is = tt
+
+-- a refusal of one answer is that of an equal one
+pub fails_is : {A : Type 0} (e : BundleError) (read answer : Result A BundleError) → answer ≡ read → Fails e read → Fails e answer
+fails_is (Syntax line) read answer same is = same ∙ is
+fails_is (SizeOutOfOrder line) read answer same is = same ∙ is
+fails_is (StepRefused line fault) read answer same is = same ∙ is
+fails_is (NotRefuted line) read answer same is = same ∙ is
+fails_is (ChainDiffers output row) read answer same is = same ∙ is
+fails_is (OperatorNotInBasis place) read answer same is = same ∙ is
+fails_is (OpenTooShort line) read answer same is = same ∙ is
+fails_is (NotNew line) read answer same is = same ∙ is
+fails_is (WrongVerdict line) read answer same is = same ∙ is
+fails_is Memory read answer same is = tt
+
+-- where both are read, the first is
+pub bind_ok : {A B E : Type 0} (read : Result A E) (next : A → Result B E) (y : B) → (read >>= next) ≡ Ok y → (x : A) × (read ≡ Ok x) × (next x ≡ Ok y)
+bind_ok (Ok x) next y e = (x, refl, e)
+bind_ok (Err d) next y e = absurd cc
+
+pub test_ok : {A E : Type 0} (b : Bool) (read : Result A E) (d : E) (y : A) → cond b read (Err d) ≡ Ok y → (b ≡ true) × (read ≡ Ok y)
+test_ok true read d y e = (refl, e)
+test_ok false read d y e = absurd cc
+
+pub read_ok : {A : Type 0} (number : ℕ) (o : Option A) (x : A) → or_syntax number o ≡ Ok x → o ≡ Some x
+read_ok number None x e = absurd cc
+read_ok number (Some y) x e = cc
+
+-- ---- one part
+
+pub part_fails_bind : {A B : Type 0} (e : PartError) (read : Result A PartError) (next : A → Result B PartError) → PartFails e read → PartFails e (read >>= next)
+part_fails_bind {A = A} part_errors.Syntax read next is = ap (λ (r : Result A PartError). r >>= next) is
+part_fails_bind {A = A} (part_errors.StepRefused fault) read next is = ap (λ (r : Result A PartError). r >>= next) is
+part_fails_bind {A = A} part_errors.NotNew read next is = ap (λ (r : Result A PartError). r >>= next) is
+part_fails_bind {A = A} part_errors.NotRefuted read next is = ap (λ (r : Result A PartError). r >>= next) is
+part_fails_bind {A = A} part_errors.TooShort read next is = ap (λ (r : Result A PartError). r >>= next) is
+part_fails_bind {A = A} part_errors.EmptyStands read next is = ap (λ (r : Result A PartError). r >>= next) is
+part_fails_bind part_errors.Memory read next is = tt
+
+pub part_fails_is : {A : Type 0} (e : PartError) (read answer : Result A PartError) → answer ≡ read → PartFails e read → PartFails e answer
+part_fails_is part_errors.Syntax read answer same is = same ∙ is
+part_fails_is (part_errors.StepRefused fault) read answer same is = same ∙ is
+part_fails_is part_errors.NotNew read answer same is = same ∙ is
+part_fails_is part_errors.NotRefuted read answer same is = same ∙ is
+part_fails_is part_errors.TooShort read answer same is = same ∙ is
+part_fails_is part_errors.EmptyStands read answer same is = same ∙ is
+part_fails_is part_errors.Memory read answer same is = tt
+
+-- what a part refuses, its bundle does at that line
+pub located_fails : {A : Type 0} (number : ℕ) (e : PartError) (read : Result A PartError) → PartFails e read → Fails (fault_at number e) (at_line number read)
+located_fails number part_errors.Syntax read is = ap (at_line number) is
+located_fails number (part_errors.StepRefused fault) read is = ap (at_line number) is
+located_fails number part_errors.NotNew read is = ap (at_line number) is
+located_fails number part_errors.NotRefuted read is = ap (at_line number) is
+located_fails number part_errors.TooShort read is = ap (at_line number) is
+located_fails number part_errors.EmptyStands read is = ap (at_line number) is
+located_fails number part_errors.Memory read is = tt
+
+pub located_ok : {A : Type 0} (number : ℕ) (read : Result A PartError) (x : A) → at_line number read ≡ Ok x → read ≡ Ok x
+located_ok number (Ok y) x e = cc
+located_ok number (Err d) x e = absurd cc

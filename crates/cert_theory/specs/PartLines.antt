@@ -1,0 +1,107 @@
+-- What the lines of one part say: its title, how its log ends, the lines of the log and its end; and the
+-- first fault where they aren't what they say. Nothing here knows where in a text the part stands, nor what
+-- may follow it.
+use Rattle.std.specs.Prelude.{ℕ, zero, suc, ◌+◌, Bool, true, false, not, ◌&&◌, ◌||◌, nat_le, if◌then◌else◌, List, length, codes, Option, Some, None, Result, Ok, Err, ℤ}
+use Rattle.std.specs.List.{list_all, list_any}
+use Rattle.std.specs.Str.{bytes_eq}
+use Rattle.text_core.specs.Lines.{Line}
+use Rattle.sat_theory.specs.Formula.{Formula}
+use Rattle.sat_theory.specs.Line as theory
+use Rattle.sat_theory.specs.State.{State, start}
+use Rattle.sat_theory.specs.Holding.{among}
+use Rattle.sat_theory.specs.Log as logs
+use Rattle.lrat_text.specs.Reading.{line_in}
+use Rattle.lrat_text.specs.declared.error.LineError.{LineError}
+use Rattle.lrat_check.specs.Checked.{is_empty, adds_empty}
+use Rattle.lrat_check.specs.Judging.{line_fault}
+use Rattle.lrat_check.specs.declared.error.CheckError.{CheckError}
+use Rattle.cert_theory.specs.declared.data.Ended.{Ended}
+use Rattle.cert_theory.specs.declared.data.Ended.TheVariants.{Refuted, Open}
+use Rattle.cert_theory.specs.declared.data.PartError.{PartError}
+use Rattle.cert_theory.specs.declared.data.PartError.TheVariants.{Syntax, StepRefused, NotNew, NotRefuted, TooShort, EmptyStands}
+use Rattle.cert_theory.specs.Spelling.{title_text, done_text}
+use Rattle.cert_theory.specs.Gives.{◌>>=◌}
+
+-- whether a line is this text
+abbrev pub is_line : List ℕ → Line → Bool
+is_line text l = l.ended && bytes_eq l.text text
+
+-- ---- the title
+
+-- The title that is due. Another line that may follow what stands before it is a fault of its own.
+unfoldable pub title_in : Bool → List ℕ → Line → Result Unit PartError
+title_in follows sizes l = if is_line (title_text sizes) l then Ok tt else (if follows then Err NotRefuted else Err Syntax)
+
+-- ---- how the log ends, by its first line
+
+unfoldable pub ended_in : Line → Option Ended
+ended_in l = if is_line (codes "refuted") l then Some Refuted else (if is_line (codes "open") l then Some Open else None)
+
+-- ---- new clauses
+
+-- whether all literals of a live clause are among some
+abbrev pub is_within : List ℤ → Option (List ℤ) → Bool
+is_within lits None = false
+is_within lits (Some clause) = list_all (among lits) clause
+
+-- whether no clause of the ids below a number is within some literals
+unfoldable pub is_new_below : ℕ → (ℕ → Option (List ℤ)) → List ℤ → Bool
+is_new_below zero live lits = true
+is_new_below (suc id) live lits = not (is_within lits (live id)) && is_new_below id live lits
+
+-- whether an addition is of a new clause; no live clause has an id above the greatest
+abbrev pub is_fresh : State → theory.Line → Bool
+is_fresh s (theory.Add id lits hints) = is_new_below (s.greatest + 1) s.live lits
+is_fresh s (theory.Delete id ids) = true
+
+-- ---- the lines of the log
+
+-- whether the empty clause is in the formula or was added
+unfoldable pub has_empty : Formula → List theory.Line → Bool
+has_empty f log = list_any is_empty f.clauses || list_any adds_empty log
+
+-- the state that a log leaves
+abbrev pub state_after : Formula → List theory.Line → State
+state_after f log = logs.after (start f) log
+
+abbrev pub or_misspelled : Result theory.Line LineError → Result theory.Line PartError
+or_misspelled (Ok line) = Ok line
+or_misspelled (Err e) = Err Syntax
+
+-- the line of a log that a text spells
+unfoldable pub spelled_in : Line → Result theory.Line PartError
+spelled_in l = if l.ended then or_misspelled (line_in l.text) else Err Syntax
+
+abbrev pub refused : Option CheckError → theory.Line → Result theory.Line PartError
+refused None line = Ok line
+refused (Some e) line = Err (StepRefused e)
+
+-- in a log that leaves its part open each addition is new
+abbrev pub or_not_new : Ended → State → theory.Line → Result theory.Line PartError
+or_not_new Refuted s line = Ok line
+or_not_new Open s line = if is_fresh s line then Ok line else Err NotNew
+
+-- a line of a log behind others: it can be read, it holds, and then it is new where it has to be
+unfoldable pub logged_in : Formula → Ended → List theory.Line → Line → Result theory.Line PartError
+logged_in f ended log l = do
+  line ← spelled_in l
+  held ← refused (line_fault (state_after f log) line) line
+  or_not_new ended (state_after f log) held
+
+-- ---- the end of the log
+
+-- where the empty clause stands or doesn't, and the additions are enough or aren't
+abbrev pub closed : Bool → Bool → Ended → Result Unit PartError
+closed empty enough Refuted = if empty then Ok tt else Err NotRefuted
+closed empty enough Open = if empty then Err EmptyStands else (if enough then Ok tt else Err TooShort)
+
+-- the line `done` behind a log that has so many additions at least, where it leaves its part open
+unfoldable pub done_in : Formula → ℕ → Ended → List theory.Line → Result Unit PartError
+done_in f conflicts ended log = closed (has_empty f log) (nat_le conflicts (length (logs.added_ids log))) ended
+
+-- What a line comes to behind a log: one more line of it, or its end, which is None.
+unfoldable pub part_in : Formula → ℕ → Ended → List theory.Line → Line → Result (Option theory.Line) PartError
+part_in f conflicts ended log l =
+    if is_line done_text l
+    then (done_in f conflicts ended log >>= λ done. Ok None)
+    else (logged_in f ended log l >>= λ line. Ok (Some line))
