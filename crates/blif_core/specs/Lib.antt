@@ -4,7 +4,9 @@ pub use Rattle.net_theory.specs.Circuit
 pub use Rattle.net_theory.specs.Naming
 pub use Rattle.net_document.specs.Listed
 pub use Rattle.net_document.specs.Refusals
+pub use Rattle.net_document.specs.Format
 pub use Rattle.blif_text.specs.Statements
-pub mod Texts
 pub mod Written
 pub mod Spelling
+pub mod Blif
+pub mod WrittenLaws

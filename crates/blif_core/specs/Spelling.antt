@@ -1,9 +1,9 @@
 -- How a document is spelled in BLIF.
-use Rattle.std.specs.Prelude.{ℕ, ◌+◌, Bool, true, false, ◌==◌, if◌then◌else◌, List, [], ◌∷◌, ◌++◌, length, codes, Option, Some, None}
+use Rattle.std.specs.Prelude.{ℕ, ◌+◌, Bool, true, false, ◌==◌, if◌then◌else◌, List, [], ◌∷◌, ◌++◌, codes, Option, Some, None}
 use Rattle.std.specs.List.{flat_map}
 use Rattle.net_theory.specs.declared.data.Trigger.{Trigger}
 use Rattle.net_theory.specs.declared.data.Trigger.TheVariants.{Fe, Re, Ah, Al, As}
-use Rattle.net_theory.specs.Document.{Name, Table, Latch, LatchLine, Document}
+use Rattle.net_theory.specs.Document.{Name, Table, LatchLine, Document}
 use Rattle.net_theory.specs.WellFormed.{IsInit}
 use Rattle.net_theory.specs.Circuit.{Circuit}
 use Rattle.blif_core.specs.Written.{written}

@@ -1,12 +1,11 @@
 -- The document that stands for a circuit where it is written.
-use Rattle.std.specs.Prelude.{ℕ, ◌-◌, ◌+◌, Bool, true, false, ◌||◌, ◌==◌, nat_le, if◌then◌else◌, List, [], ◌∷◌, ◌++◌, length, map, Option, Some, None, slice_index_or}
+use Rattle.std.specs.Prelude.{ℕ, ◌+◌, Bool, true, false, ◌==◌, if◌then◌else◌, List, [], ◌∷◌, ◌++◌, length}
 use Rattle.std.specs.List.{list_any}
-use Rattle.std.proofs.Common.{take, drop}
+use Rattle.std.proofs.Common.{drop}
 use Rattle.chain_theory.specs.Operator.{apply}
 use Rattle.net_theory.specs.declared.data.Sig.{Sig}
 use Rattle.net_theory.specs.declared.data.Sig.TheVariants.{Zero, One, Place}
 use Rattle.net_theory.specs.declared.data.Gate.{Gate}
-use Rattle.net_theory.specs.Cover.{Cover}
 use Rattle.net_theory.specs.Document.{Name, has, Table, Latch, LatchLine, Document}
 use Rattle.net_theory.specs.Circuit.{Circuit, sources_of}
 use Rattle.net_theory.specs.Naming.{each_once, gate_names, first_spare, second_spare, place_name}
@@ -117,6 +116,13 @@ output_tables name written (o ∷ os) (s ∷ sinks) = if has written o then outp
 
 -- ---- the document
 
+-- the names that the lines of sources and gates drive
+abbrev pub driven_before : Circuit → List Name
+driven_before c = each_once [] (sources_of c ++ gate_names c)
+
+abbrev pub tables_of : Circuit → List Table
+tables_of c = gate_tables (place_name c) c.net.gates (gate_names c) ++ constant_tables c ++ output_tables (place_name c) (driven_before c) c.outputs c.net.sinks
+
 -- The gates in the order of their places, then the constants that latches need, then the outputs whose
 -- names weren't written. A gate on which an output sits has the first such output's name.
 -- Example: of XOR of a and b with the outputs y and z it is `.names a b y` with `01 1` and `10 1`, and
@@ -128,5 +134,5 @@ written c = record {
   outputs = c.outputs;
   clocks = c.clocks;
   latches = latch_lines (sig_name c) c.latches (next_states c);
-  tables = gate_tables (place_name c) c.net.gates (gate_names c) ++ constant_tables c ++ output_tables (place_name c) (each_once [] (sources_of c ++ gate_names c)) c.outputs c.net.sinks;
+  tables = tables_of c;
 }

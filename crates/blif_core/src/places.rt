@@ -1,8 +1,7 @@
 //! The names of places.
 
-ghost use Rattle.std.specs.Prelude.{◌≡◌, length};
-ghost use Rattle.net_theory.specs.Net.{Net};
-ghost use Rattle.net_theory.specs.Circuit.{IsProper, sources_of};
+ghost use Rattle.std.specs.Prelude.{◌≡◌};
+ghost use Rattle.net_theory.specs.Circuit.{sources_of};
 ghost use Rattle.net_theory.specs.Naming.{gate_names, place_name as place_name_of};
 ghost use Rattle.std.specs.Prelude.{[], slice_index_or};
 

@@ -1,5 +1,10 @@
-ghost use Rattle.std.specs.Prelude.{◌<◌, ◌^◌, length, IfOk, IfErr};
-ghost use Rattle.blif_core.specs.Texts.{IsCircuitOfText, IsRefusedText};
+//! The one reader: lines first, then the document. Each half has its refusals, and a text is refused with
+//! those of the half that refuses it.
+
+ghost use Rattle.std.specs.Prelude.{◌≡◌, ◌<◌, ◌^◌, length, IfOk, IfErr};
+ghost use Rattle.net_core.specs.declared.error.NetError.TheVariants.{Memory};
+ghost use Rattle.net_document.specs.Format.{IsNetlist, IsCircuitOfText, IsRefusedText};
+ghost use Rattle.blif_core.specs.Blif.{blif_format};
 
 use blif_text::read_listed;
 use net_build::circuit_of;
@@ -10,13 +15,15 @@ use std::alloc::Global;
 ///
 /// Lines are judged in their order, and the first at fault is told; then a control that a table drives,
 /// more than 100,000 gates, a name that is driven twice, one that is used and not driven, and a table
-/// that depends on itself. The circuit has the document's names and does what the document does. It
-/// takes time linear in the text, but for tables on cycles.
+/// that depends on itself. A text that lists a well-formed document is refused for want of memory alone.
+/// The circuit has the document's names and does what the document does. It takes time linear in the text,
+/// but for tables on cycles.
 #[tactic(auto, using(crate::proofs::Refused::refusals))]
 pub fn read_blif(alloc: Global, bytes: &[u8]) -> Result<Circuit, NetError>
     requires { length bytes.now < 2 ^ 31 }
-    ensures circuit { IfOk result (IsCircuitOfText bytes.now) }
-    ensures refused { IfErr result (IsRefusedText bytes.now) }
+    ensures circuit { IfOk result (IsCircuitOfText blif_format bytes.now) }
+    ensures refused { IfErr result (IsRefusedText blif_format bytes.now) }
+    ensures complete { IfErr result (λ e. IsNetlist blif_format bytes.now → e ≡ Memory) }
 {
     let listed = read_listed(alloc, bytes)?;
     Ok(circuit_of(alloc, listed)?)

@@ -1,6 +1,6 @@
 //! Documents as texts.
 
-ghost use Rattle.std.specs.Prelude.{◌≡◌, ◌+◌, ◌≤◌, ◌++◌, ◌∷◌, [], length, codes, All, OnOk};
+ghost use Rattle.std.specs.Prelude.{◌≡◌, ◌+◌, ◌++◌, All, OnOk};
 ghost use Rattle.std.specs.List.{flat_map};
 ghost use Rattle.net_theory.specs.WellFormed.{IsInit};
 ghost use Rattle.blif_core.specs.Spelling.{HasInit};

@@ -1,18 +1,22 @@
 //! The document that stands for a circuit where it is written.
 
-ghost use Rattle.std.specs.Prelude.{◌≡◌, ◌++◌, [], map, if◌then◌else◌, OnOk, IfOk};
+ghost use Rattle.std.specs.Prelude.{◌≡◌, ◌++◌, if◌then◌else◌, OnOk, IfOk};
 ghost use Rattle.std.specs.List.{list_any};
-ghost use Rattle.net_theory.specs.Document.{has, latch_output};
-ghost use Rattle.net_theory.specs.Circuit.{IsProper, sources_of};
-ghost use Rattle.net_theory.specs.Naming.{each_once, gate_names, first_spare, second_spare, place_name as place_name_of};
+ghost use Rattle.net_theory.specs.Document.{has};
+ghost use Rattle.net_theory.specs.Circuit.{IsProper};
+ghost use Rattle.net_theory.specs.Naming.{gate_names, first_spare, second_spare, place_name as place_name_of};
+ghost use Rattle.net_core.specs.Names.{HasRoom};
 ghost use Rattle.blif_core.specs.Written as written;
-ghost use Rattle.blif_core.specs.Written.{output_tables as output_tables_of, is_zero as is_zero_of, is_one as is_one_of, next_states, one_name as one_name_of, sig_name as sig_name_of, table_if};
+ghost use Rattle.blif_core.specs.Written.{output_tables as output_tables_of, is_zero as is_zero_of};
+ghost use Rattle.blif_core.specs.Written.{is_one as is_one_of, next_states, sig_name as sig_name_of, table_if};
 
 use crate::places::place_name;
 use crate::tables::{constant_table, gate_table, unary_table};
 use indexmap::IndexSet;
-use net_core::{Circuit, Gate, GateNames, Latch, Name, Sig, Trigger, all_names};
-use net_document::{Document, LatchLine, Table};
+use net_core::{
+    Circuit, Gate, GateNames, Latch, Name, Sig, Trigger, all_names, take_latches, take_names,
+};
+use net_document::{Document, LatchLine, Table, add_copies};
 use std::alloc::{AllocError, Global};
 
 /// Whether a signal is the constant 0.
@@ -49,16 +53,12 @@ fn has_one(sinks: &[Sig]) -> bool
     sinks.iter().any(|sink| is_one(*sink))
 }
 
-/// Adds copies of names.
+/// Copies of names.
 fn copies(alloc: Global, names: &[Name]) -> Result<Vec<Name>, AllocError>
-    ensures { IfOk result (λ c. c.items ≡ names.now) }
+    ensures { IfOk result (λ copies. copies.items ≡ names.now) }
 {
     let mut copies = Vec::new(alloc);
-    let mut left = names;
-    while let Some((name, rest)) = left.split_first() {
-        copies.push(name.copied()?)?;
-        left = rest;
-    }
+    add_copies(&mut copies, names)?;
     Ok(copies)
 }
 
@@ -264,7 +264,8 @@ fn push_outputs(
     tables: &mut Vec<Table>,
 ) -> Result<(), AllocError>
     requires { names.now ≡ gate_names circuit.now }
-    ensures { OnOk result (tables.new.items ≡ tables.old.items ++ output_tables_of (place_name_of circuit.now) done.old.keys outputs.now sinks.now) }
+    ensures { OnOk result
+        (tables.new.items ≡ tables.old.items ++ output_tables_of (place_name_of circuit.now) done.old.keys outputs.now sinks.now) }
 {
     let mut left = outputs;
     let mut left_sinks = sinks;
@@ -283,32 +284,6 @@ fn push_outputs(
     Ok(())
 }
 
-/// Adds names to those that are written.
-#[tactic(auto, unfolding(net_theory::specs::Naming::each_once, net_theory::specs::Document::has))]
-fn note_names(written: &mut IndexSet<Name>, names: &[Name]) -> Result<(), AllocError>
-    ensures { OnOk result (written.new.keys ≡ each_once written.old.keys names.now) }
-{
-    let mut left = names;
-    while let Some((name, rest)) = left.split_first() {
-        written.insert(name.copied()?)?;
-        left = rest;
-    }
-    Ok(())
-}
-
-/// Adds the names of the latches' outputs.
-#[tactic(auto, unfolding(net_theory::specs::Naming::each_once, net_theory::specs::Document::has))]
-fn note_latches(written: &mut IndexSet<Name>, latches: &[Latch]) -> Result<(), AllocError>
-    ensures { OnOk result (written.new.keys ≡ each_once written.old.keys (map latch_output latches.now)) }
-{
-    let mut left = latches;
-    while let Some((latch, rest)) = left.split_first() {
-        written.insert(latch.output.copied()?)?;
-        left = rest;
-    }
-    Ok(())
-}
-
 /// The names of the sources and of the gates.
 #[tactic(auto, using(crate::proofs::Constants::sets))]
 fn written_names(
@@ -317,12 +292,12 @@ fn written_names(
     names: &[Name],
 ) -> Result<IndexSet<Name>, AllocError>
     requires { names.now ≡ gate_names circuit.now }
-    ensures { IfOk result (λ set. set.keys ≡ each_once [] (sources_of circuit.now ++ gate_names circuit.now)) }
+    ensures { IfOk result (λ set. set.keys ≡ written.driven_before circuit.now) }
 {
     let mut written = IndexSet::new(alloc);
-    note_names(&mut written, &circuit.inputs)?;
-    note_latches(&mut written, &circuit.latches)?;
-    note_names(&mut written, names)?;
+    take_names(&mut written, &circuit.inputs)?;
+    take_latches(&mut written, &circuit.latches)?;
+    take_names(&mut written, names)?;
     Ok(written)
 }
 
@@ -332,7 +307,7 @@ fn tables_of(alloc: Global, circuit: &Circuit, names: &GateNames) -> Result<Vec<
     requires gates { names.now.names.items ≡ gate_names circuit.now }
     requires first { names.now.first_spare ≡ first_spare circuit.now }
     requires second { names.now.second_spare ≡ second_spare circuit.now }
-    ensures { IfOk result (λ tables. tables.items ≡ written.gate_tables (place_name_of circuit.now) circuit.now.net.gates (gate_names circuit.now) ++ written.constant_tables circuit.now ++ output_tables_of (place_name_of circuit.now) (each_once [] (sources_of circuit.now ++ gate_names circuit.now)) circuit.now.outputs circuit.now.net.sinks) }
+    ensures { IfOk result (λ tables. tables.items ≡ written.tables_of circuit.now) }
 {
     let gates = &names.names;
     let mut tables = Vec::new(alloc);
@@ -364,7 +339,8 @@ fn tables_of(alloc: Global, circuit: &Circuit, names: &GateNames) -> Result<Vec<
 #[tactic(auto, unfolding(crate::specs::Written::written))]
 pub fn document_of(alloc: Global, circuit: &Circuit) -> Result<Document, AllocError>
     requires { IsProper circuit.now }
-    ensures { IfOk result (λ d. d ≡ written.written circuit.now) }
+    ensures written { IfOk result (λ d. d ≡ written.written circuit.now) }
+    ensures room { IfOk result (λ _. HasRoom circuit.now) }
 {
     let names = all_names(alloc, circuit)?;
     let tables = tables_of(alloc, circuit, &names)?;

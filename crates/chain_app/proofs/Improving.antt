@@ -5,9 +5,10 @@ use Rattle.std.proofs.Math.Logic.{⊎_elim}
 use Rattle.std.proofs.lemmas.Grind.{common_steps}
 use Rattle.net_core.specs.declared.error.NetError.{NetError}
 use Rattle.net_core.specs.declared.error.NetError.TheVariants as nets
-use Rattle.blif_core.specs.Texts.{IsRefusedText}
-use Rattle.improve_core.specs.Improving.{IsReported, IsNetlist}
-use Rattle.improve_core.proofs.Improvements.{fault_one, fault_never, reported_netlist}
+use Rattle.net_document.specs.Format.{IsNetlist, IsRefusedText}
+use Rattle.blif_core.specs.Blif.{blif_format}
+use Rattle.improve_core.specs.Improving.{IsReported}
+use Rattle.improve_core.specs.ImprovingLaws.{fault_one, fault_never, reported_netlist}
 use Rattle.command_line.specs.declared.command.Command.TheVariants.{Improve}
 use Rattle.command_line.specs.CommandLine.{AsksFor}
 use Rattle.chain_app.specs.declared.status.Status.{Status}
@@ -23,14 +24,14 @@ use Rattle.chain_app.proofs.Keeping.{of_input}
 
 -- ---- what is answered
 
-pub tells : (bytes text report : List ℕ) (reply : Reply) → length bytes ≤ most_of_netlist → IsReported bytes text report → reply ≡ improve_reply (record { text = text; report = report }) → Tells improve_task bytes reply
+pub tells : (bytes text report : List ℕ) (reply : Reply) → length bytes ≤ most_of_netlist → IsReported blif_format bytes text report → reply ≡ improve_reply (record { text = text; report = report }) → Tells improve_task bytes reply
 tells bytes text report reply within reported is = record {
   answer = record { text = text; report = report };
   has = record { within = within; reported = reported };
   is = is;
 }
 
-pub refuses : (bytes : List ℕ) (e : NetError) (refusal : Refusal) → length bytes ≤ most_of_netlist → (e ≡ nets.Memory → ⊥) → IsRefusedText bytes e → refusal ≡ improve_refusal e → Refuses improve_task bytes refusal
+pub refuses : (bytes : List ℕ) (e : NetError) (refusal : Refusal) → length bytes ≤ most_of_netlist → (e ≡ nets.Memory → ⊥) → IsRefusedText blif_format bytes e → refusal ≡ improve_refusal e → Refuses improve_task bytes refusal
 refuses bytes e refusal within other fault is = record {
   fault = e;
   meets = record { within = within; fault = (fault, other) };
@@ -68,7 +69,7 @@ improve_is_task =
     at_once_task most_of_netlist Improvement IsImprovement improve_reply NetError HasNetlistFault improve_refusal
     (λ i. inl refl)
     statuses_of
-    (λ bytes i error has fault. fault_never bytes error (reported_netlist bytes i.text i.report has.reported) fault.fault)
+    (λ bytes i error has fault. fault_never bytes error (reported_netlist blif_format bytes i.text i.report has.reported) fault.fault)
     (λ bytes a b x y. ap improve_refusal (fault_one bytes a b x.fault y.fault))
     (λ bytes i has. has.within)
     (λ bytes error fault. fault.within)
@@ -76,7 +77,7 @@ improve_is_task =
 -- ---- what it promises besides
 
 -- a netlist has no fault
-answerable : (input : List ℕ) → length input ≤ most_of_netlist → IsNetlist input → IsAnswerable improve_task input
+answerable : (input : List ℕ) → length input ≤ most_of_netlist → IsNetlist blif_format input → IsAnswerable improve_task input
 answerable input within netlist = record {
   within = λ long. omega arith;
   sound = λ error fault. fault_never input error netlist fault.fault;

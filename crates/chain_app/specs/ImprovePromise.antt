@@ -3,7 +3,8 @@ use Rattle.std.specs.Prelude.{◌≡◌, ℕ, ◌≤◌, ◌⊎◌, List, length
 use Rattle.command_line.specs.declared.command.Command.TheVariants.{Improve}
 use Rattle.command_line.specs.CommandLine.{AsksFor}
 use Rattle.net_core.specs.declared.error.NetError.{NetError}
-use Rattle.improve_core.specs.Improving.{IsNetlist}
+use Rattle.net_document.specs.Format.{IsNetlist}
+use Rattle.blif_core.specs.Blif.{blif_format}
 use Rattle.chain_app.specs.declared.status.Status.TheVariants.{Done, Undecided, Refused}
 use Rattle.chain_app.specs.ImproveReport.{most_of_netlist, improve_refusal, HasNetlistFault, improve_task}
 use Rattle.chain_app.specs.Run.{Run}
@@ -15,14 +16,14 @@ pub record ImprovePromise (r : Run) : Type 0 where
   pub complete : (input : List ℕ)
       → Runs Improve r input
       → length input ≤ most_of_netlist
-      → IsNetlist input
+      → IsNetlist blif_format input
       → AllSteady r
       → Replies improve_task r input
   -- Where the notes may have failed, it does, or they failed in the report.
   pub answered : (input : List ℕ)
       → Runs Improve r input
       → length input ≤ most_of_netlist
-      → IsNetlist input
+      → IsNetlist blif_format input
       → OutputHeld r
       → Replies improve_task r input ⊎ ReportCut improve_task r input
   -- The status 0 comes with it alone, and 4 and 8 never.

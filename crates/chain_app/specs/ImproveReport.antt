@@ -2,7 +2,9 @@
 use Rattle.std.specs.Prelude.{ℕ, ◌≤◌, List, [], ◌∷◌, length, Some, codes}
 use Rattle.net_core.specs.declared.error.NetError.{NetError}
 use Rattle.net_core.specs.declared.error.NetError.TheVariants as nets
-use Rattle.improve_core.specs.Improving.{IsReported, HasNetFault}
+use Rattle.net_document.specs.Format.{HasNetFault}
+use Rattle.blif_core.specs.Blif.{blif_format}
+use Rattle.improve_core.specs.Improving.{IsReported}
 use Rattle.chain_app.specs.declared.status.Status.{Status}
 use Rattle.chain_app.specs.declared.status.Status.TheVariants.{Done, Malformed, Limit, Memory}
 use Rattle.chain_app.specs.Told.{Reply, Field, Word, Number, Refusal, at, memory}
@@ -65,12 +67,12 @@ improve_refusal error = record { status = net_status error; named = named_net er
 -- what both cost.
 pub record IsImprovement (bytes : List ℕ) (i : Improvement) : Type 0 where
   pub within : length bytes ≤ most_of_netlist
-  pub reported : IsReported bytes i.text i.report
+  pub reported : IsReported blif_format bytes i.text i.report
 
 -- The bytes are no netlist, and this is their first fault.
 pub record HasNetlistFault (bytes : List ℕ) (error : NetError) : Type 0 where
   pub within : length bytes ≤ most_of_netlist
-  pub fault : HasNetFault bytes error
+  pub fault : HasNetFault blif_format bytes error
 
 abbrev pub improve_task : Task
 improve_task = at_once most_of_netlist Improvement IsImprovement improve_reply NetError HasNetlistFault improve_refusal

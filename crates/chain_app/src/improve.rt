@@ -5,7 +5,7 @@ ghost use Rattle.chain_app.specs.Views.{line_value, reply_value, refusal_value, 
 
 use crate::replies::{ErrorLine, Field, Refusal, Reply, Stop};
 use crate::status::Status;
-use improve_core::{Improved, NetError, improve as improve_netlist};
+use improve_core::{ImprovedText, NetError, improve as improve_netlist};
 use net_core::Name;
 use std::alloc::Global;
 
@@ -81,7 +81,7 @@ fn refusal_of(error: NetError) -> Refusal
 }
 
 /// A netlist that was improved as a reply.
-fn reply_of(improved: Improved) -> Reply
+fn reply_of(improved: ImprovedText) -> Reply
     ensures { reply_value result ≡ improve_reply (record { text = improved.text.items; report = improved.report.items }) }
 {
     Reply {

@@ -7,7 +7,8 @@ pub use Rattle.net_theory.specs.Reach
 pub use Rattle.net_theory.specs.Answers
 pub use Rattle.net_theory.specs.Dead
 pub use Rattle.net_document.specs.Listed
-pub use Rattle.blif_text.specs.Statements
-pub use Rattle.blif_core.specs.Spelling
-pub use Rattle.blif_core.specs.Texts
+pub use Rattle.net_document.specs.Format
+pub use Rattle.net_document.specs.Alike
+pub use Rattle.blif_core.specs.Blif
 pub mod Improving
+pub mod ImprovingLaws

@@ -1,5 +1,6 @@
-//! Netlists improved, as texts: what the command `improve` does with the bytes that it reads. It stands on
-//! `blif_core` for reading and writing, and on `net_laws` for what a text means that was written.
+//! Netlists improved: circuits by themselves, and texts as the command `improve` takes them. It stands on
+//! `blif_core` for reading and writing, and on `blif_laws` for what a text means that was written. What is
+//! promised of texts is said of any format.
 //!
 //! The one theorem is that of `improve`: the text that it answers is a well-formed netlist with the same
 //! outputs and next states under every assignment, no more gates, and each gate read by some sink; and
@@ -15,9 +16,6 @@ mod improving;
 mod laws;
 mod reporting;
 
-pub use blif_core::NetError;
-pub use improving::{Improved, improve};
+pub use blif_core::{Circuit, NetError};
+pub use improving::{Improved, ImprovedText, improve, improve_circuit};
 pub use laws::faults_are_one;
-
-#[cfg(test)]
-mod tests;

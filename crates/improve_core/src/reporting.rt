@@ -1,18 +1,10 @@
 //! The report.
 
-ghost use Rattle.std.specs.Prelude.{◌≡◌, ◌++◌, decimal, OnOk, IfOk};
+ghost use Rattle.std.specs.Prelude.{◌≡◌, IfOk};
 ghost use Rattle.improve_core.specs.Improving.{report_text};
 
-use itoa::Buffer;
 use std::alloc::{AllocError, Global};
-
-/// Adds a number in decimal digits.
-fn push_number(text: &mut Vec<u8>, number: u32) -> Result<(), AllocError>
-    ensures { OnOk result (text.new.items ≡ text.old.items ++ decimal number) }
-{
-    let mut buffer = Buffer::new();
-    text.extend_from_slice(buffer.format(number).as_bytes())
-}
+use text_core::push_number;
 
 /// The report: what a netlist cost before and costs after.
 #[tactic(auto, unfolding(crate::specs::Improving::report_text))]

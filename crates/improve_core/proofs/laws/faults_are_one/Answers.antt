@@ -1,4 +1,4 @@
-use Rattle.improve_core.proofs.Improvements.{fault_one, fault_never, reported_netlist}
+use Rattle.improve_core.specs.ImprovingLaws.{fault_one, fault_never, reported_netlist}
 use Rattle.improve_core.proofs.laws.faults_are_one.Goals as goal
 
 pub returns-clause-one : goal.returns-clause-one

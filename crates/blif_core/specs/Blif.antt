@@ -1,0 +1,16 @@
+-- BLIF as a format.
+use Rattle.net_theory.specs.Circuit.{Circuit, IsProper}
+use Rattle.net_core.specs.Names.{HasRoom}
+use Rattle.net_document.specs.Format.{Format}
+use Rattle.blif_text.specs.Statements.{listed_of}
+use Rattle.blif_core.specs.Written.{written}
+use Rattle.blif_core.specs.Spelling.{circuit_text}
+
+-- what a text lists, the document as which a circuit is written, and the text of a circuit
+abbrev pub blif_format : Format
+blif_format = record { listed = listed_of; written = written; text = circuit_text }
+
+-- Proper circuits can be written. That there are numbers for the names that are taken is so of every
+-- circuit in a memory.
+abbrev pub CanWrite : Circuit → Type 0
+CanWrite c = IsProper c × HasRoom c

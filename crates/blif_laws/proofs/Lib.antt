@@ -1,0 +1,12 @@
+pub mod FreeNames
+pub mod GivenNames
+pub mod WordLines
+pub mod Saying
+pub mod Spelled
+pub mod Layers
+pub mod GateTables
+pub mod CircuitNames
+pub mod WrittenParts
+pub mod WrittenDocument
+pub mod WrittenValues
+pub mod TextLaws

@@ -1,0 +1,19 @@
+-- Documents that can be spelled.
+use Rattle.std.specs.Prelude.{◌≡◌, true, false, All}
+use Rattle.net_theory.specs.Document.{IsName, Table, Document}
+use Rattle.net_theory.specs.WellFormed.{IsTable, IsLatchLine}
+
+-- a table whose cubes say where it is 1
+pub record IsSpelledTable (t : Table) : Type 0 where
+  pub table : IsTable t
+  pub on : t.cover.on ≡ true
+  pub cubes : t.cover.parity ≡ false
+
+-- each name, latch and table is one
+pub record IsSpelled (d : Document) : Type 0 where
+  pub model : IsName d.model
+  pub inputs : All IsName d.inputs
+  pub outputs : All IsName d.outputs
+  pub clocks : All IsName d.clocks
+  pub latches : All IsLatchLine d.latches
+  pub tables : All IsSpelledTable d.tables

@@ -1,5 +1,0 @@
-use Rattle.net_laws.proofs.Spelled.{read_back}
-use Rattle.net_laws.proofs.documents_are_read_back.Goals as goal
-
-pub returns : goal.returns
-returns c = read_back
