@@ -1,0 +1,84 @@
+-- What a window has to compute.
+use Rattle.std.specs.Prelude.{◌≡◌, ℕ, ◌+◌, ◌≤◌, ◌<◌, ◌^◌, ◌-◌, Bool, true, false, if◌then◌else◌, List, [], ◌∷◌, length, slice_index_or, ◌⊎◌}
+use Rattle.chain_theory.specs.Operator.{Basis}
+use Rattle.chain_theory.specs.Agreement.{HasChain}
+use Rattle.chain_theory.specs.Specification.{Specification, input}
+use Rattle.chain_theory.specs.Value.{extended}
+use Rattle.chain_theory.specs.declared.data.Cell.{Cell}
+use Rattle.chain_theory.specs.declared.data.Cell.TheVariants.{Zero, One, Free}
+use Rattle.net_theory.specs.declared.data.Gate.{Gate}
+use Rattle.net_theory.specs.Net.{Net, gate_value}
+use Rattle.window_theory.specs.Places.{among}
+use Rattle.window_theory.specs.Paths.{IsGate, Reads}
+use Rattle.window_theory.specs.Window.{Window}
+use Rattle.window_theory.specs.Surround.{LeadsTo}
+
+-- ---- values where some places are given bits
+
+unfoldable pub fixed_after : (ℕ → Bool) → (ℕ → Bool) → (ℕ → Bool) → ℕ → List Gate → ℕ → Bool
+fixed_after fixed given bits place [] = bits
+fixed_after fixed given bits place (g ∷ gs) = fixed_after fixed given (extended bits place (if fixed place then given place else gate_value bits g)) (place + 1) gs
+
+-- The bits of the places where the sources and the fixed places have the given bits, and each other gate its
+-- operator's value.
+-- Example: of XOR of two sources at place 3 and NOT of it at 4, with 3 fixed to 1, place 4 has 0, whatever
+-- the sources are given.
+abbrev pub values_with : Net → (ℕ → Bool) → (ℕ → Bool) → ℕ → Bool
+values_with n fixed given = fixed_after fixed given given (n.sources + 1) n.gates
+
+-- ---- a part of a net by itself
+
+-- a place that is given its bit: one of the fixed places, or a source
+abbrev pub IsGiven : Net → (ℕ → Bool) → ℕ → Type 0
+IsGiven n fixed p = (fixed p ≡ true) ⊎ (p ≤ n.sources)
+
+-- a gate that has its operator's value, by what it reads inside
+pub record IsComputed (n : Net) (fixed inside bits : ℕ → Bool) (p : ℕ) : Type 0 where
+  pub free : fixed p ≡ false
+  pub gate : IsGate n p
+  pub reads : (q : ℕ) → Reads n p q → inside q ≡ true
+  pub value : bits p ≡ gate_value bits gate.gate
+
+-- Bits of some places, each of which is given or computed from others of these places.
+-- Example: gate 4 reads gate 3 and the source 1. With 3 fixed, the places 1, 3 and 4 are such a part.
+abbrev pub IsPart : Net → (ℕ → Bool) → (ℕ → Bool) → (ℕ → Bool) → (ℕ → Bool) → Type 0
+IsPart n fixed given inside bits = (p : ℕ) → inside p ≡ true → (IsGiven n fixed p × (bits p ≡ given p)) ⊎ IsComputed n fixed inside bits p
+
+-- ---- rows
+
+-- the places have the bits of row t, the first of them the most significant
+abbrev pub HasRow : (ℕ → Bool) → List ℕ → ℕ → Type 0
+HasRow bits places t = (i : ℕ) → i < length places → bits (slice_index_or places i 0) ≡ input (length places) t (i + 1)
+
+-- ---- care rows
+
+-- A row of some places is a care row where an assignment of their surround's leaves gives them its bits.
+-- Example: of gate 3 = AND(1, 2) and gate 4 = OR(1, 2) the row 10 is none, since no bits of 1 and 2 give it.
+pub record IsCareRow (n : Net) (places : List ℕ) (t : ℕ) : Type 0 where
+  pub leaves : List ℕ
+  pub surround : LeadsTo n places leaves
+  pub given : ℕ → Bool
+  pub bits : HasRow (values_with n (among leaves) given) places t
+
+abbrev pub cell_of : Bool → Cell
+cell_of b = if b then One else Zero
+
+-- the place of output h, the first of them output 1
+abbrev pub output_place : Window → ℕ → ℕ
+output_place w h = slice_index_or w.outputs (h - 1) 0
+
+-- The specification of a window: on a care row of its inputs the cells are the values of its outputs, where
+-- the inputs have the bits of the row, and elsewhere they are free.
+pub record IsSpecificationOf (n : Net) (w : Window) (s : Specification) : Type 0 where
+  pub inputs : s.inputs ≡ length w.inputs
+  pub outputs : s.outputs ≡ length w.outputs
+  pub care : (h t : ℕ) (given : ℕ → Bool) → 1 ≤ h → h ≤ length w.outputs → t < 2 ^ length w.inputs → IsCareRow n w.inputs t → HasRow given w.inputs t → s.cell h t ≡ cell_of (values_with n (among w.inputs) given (output_place w h))
+  pub free : (h t : ℕ) → 1 ≤ h → h ≤ length w.outputs → t < 2 ^ length w.inputs → (IsCareRow n w.inputs t → ⊥) → s.cell h t ≡ Free
+
+-- No chain over the basis of fewer steps than the count does what the window has to. It doesn't matter of which
+-- specification of the window this is said, since all have the same chains (a law says so).
+-- Example: a window of the one gate XOR of two sources has no chain of fewer than 1 steps over any basis.
+pub record HasNoFewer (n : Net) (basis : Basis) (w : Window) (count : ℕ) : Type 0 where
+  pub specification : Specification
+  pub is : IsSpecificationOf n w specification
+  pub none : (q : ℕ) → q < count → HasChain specification basis q → ⊥

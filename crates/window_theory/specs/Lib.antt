@@ -1,0 +1,16 @@
+pub use Rattle.net_theory.specs.Net
+pub use Rattle.chain_theory.specs.Specification
+pub mod Places
+pub mod PlaceLaws
+pub mod Paths
+pub mod Partner
+pub mod Window
+pub mod WindowLaws
+pub mod Surround
+pub mod SurroundLaws
+pub mod Care
+pub mod CareLaws
+pub mod FixedLaws
+pub mod PartnerLaws
+pub mod GrowthLaws
+pub mod MeaningLaws

@@ -1,0 +1,27 @@
+-- Partners of a gate: gates below it that read what it reads.
+use Rattle.std.specs.Prelude.{◌≡◌, ℕ, ◌≤◌, ◌<◌, true, List, length, ◌⊎◌}
+use Rattle.net_theory.specs.Net.{Net}
+use Rattle.window_theory.specs.Places.{among, IsFalling}
+use Rattle.window_theory.specs.Paths.{Reads}
+
+-- a gate below that reads a place which the gate reads too
+pub record SharesBelow (n : Net) (g h : ℕ) : Type 0 where
+  pub below : h < g
+  pub shared : ℕ
+  pub first : Reads n g shared
+  pub second : Reads n h shared
+
+-- The partners of a gate, falling: all gates that share a place with it from below, or, where there are
+-- more than eight, the eight greatest.
+-- Example: where the gates at 3 and 4 are both AND of the places 1 and 2, 3 is the partner of 4, and 3 has
+-- none.
+pub record ArePartners (n : Net) (g : ℕ) (partners : List ℕ) : Type 0 where
+  pub falling : IsFalling partners
+  pub share : (h : ℕ) → among partners h ≡ true → SharesBelow n g h
+  pub few : length partners ≤ 8
+  pub others : (h : ℕ) → SharesBelow n g h → (among partners h ≡ true) ⊎ ((length partners ≡ 8) × ((q : ℕ) → among partners q ≡ true → h < q))
+
+pub record IsPartner (n : Net) (g h : ℕ) : Type 0 where
+  pub partners : List ℕ
+  pub are : ArePartners n g partners
+  pub one : among partners h ≡ true

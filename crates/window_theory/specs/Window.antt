@@ -1,0 +1,102 @@
+-- Windows: a root, a partner or none, and a count say which gates a window has (after Kulikov, Pechenev and
+-- Slezkin).
+use Rattle.std.specs.Prelude.{◌≡◌, ℕ, ◌≤◌, true, false, List, [], ◌∷◌, length, Option, Some, None, ◌⊎◌}
+use Rattle.net_theory.specs.Net.{Net}
+use Rattle.net_theory.specs.Reach.{is_sink}
+use Rattle.window_theory.specs.Places.{among, IsRising, AreJust}
+use Rattle.window_theory.specs.Paths.{IsGate, Reads, IsConvex}
+use Rattle.window_theory.specs.Partner.{IsPartner}
+
+-- a part of a net: some gates, what they read from outside, and what is seen of them outside, all by place
+pub record Window : Type 0 where
+  pub root : ℕ
+  pub partner : Option ℕ
+  pub gates : List ℕ
+  pub inputs : List ℕ
+  pub outputs : List ℕ
+
+-- ---- which gates a window has
+
+abbrev pub IsRootOrPartner : ℕ → Option ℕ → ℕ → Type 0
+IsRootOrPartner root None p = p ≡ root
+IsRootOrPartner root (Some h) p = (p ≡ root) ⊎ (p ≡ h)
+
+-- some gate of these reads the place
+pub record IsReadBy (n : Net) (gates : List ℕ) (p : ℕ) : Type 0 where
+  pub reader : ℕ
+  pub inside : among gates reader ≡ true
+  pub reads : Reads n reader p
+
+-- a gate that isn't taken, and is the root or the partner, or is read by one that is taken
+pub record IsCandidate (n : Net) (root : ℕ) (partner : Option ℕ) (taken : List ℕ) (p : ℕ) : Type 0 where
+  pub gate : IsGate n p
+  pub outside : among taken p ≡ false
+  pub why : IsRootOrPartner root partner p ⊎ IsReadBy n taken p
+
+pub record IsGreatestCandidate (n : Net) (root : ℕ) (partner : Option ℕ) (taken : List ℕ) (p : ℕ) : Type 0 where
+  pub candidate : IsCandidate n root partner taken p
+  pub greatest : (q : ℕ) → IsCandidate n root partner taken q → q ≤ p
+
+-- Gates that were taken one after the other, the first of the list last: each was the greatest candidate.
+-- Example: from the root 5, which reads the gates 3 and 4, come 5, then 4, and then 3 or what 4 reads,
+-- whichever is the greater.
+unfoldable pub AreTaken : Net → ℕ → Option ℕ → List ℕ → Type 0
+AreTaken n root partner [] = Unit {0}
+AreTaken n root partner (p ∷ before) = IsGreatestCandidate n root partner before p × AreTaken n root partner before
+
+-- ---- what goes in and out
+
+-- a place outside that a gate inside reads
+pub record IsInput (n : Net) (gates : List ℕ) (p : ℕ) : Type 0 where
+  pub outside : among gates p ≡ false
+  pub read : IsReadBy n gates p
+
+pub record IsReadOutside (n : Net) (gates : List ℕ) (p : ℕ) : Type 0 where
+  pub reader : ℕ
+  pub outside : among gates reader ≡ false
+  pub reads : Reads n reader p
+
+-- a gate inside that a gate outside or a sink reads
+pub record IsOutput (n : Net) (gates : List ℕ) (p : ℕ) : Type 0 where
+  pub inside : among gates p ≡ true
+  pub seen : IsReadOutside n gates p ⊎ (is_sink n p ≡ true)
+
+-- A window belongs to a net where its gates are a convex set of its gates, and its inputs and outputs are
+-- just those of this set.
+pub record Belongs (n : Net) (w : Window) : Type 0 where
+  pub rising : IsRising w.gates
+  pub gates : (p : ℕ) → among w.gates p ≡ true → IsGate n p
+  pub convex : IsConvex n (among w.gates)
+  pub inputs : AreJust (IsInput n w.gates) w.inputs
+  pub outputs : AreJust (IsOutput n w.gates) w.outputs
+
+-- ---- the window of a root
+
+abbrev pub IsPartnerOrNone : Net → ℕ → Option ℕ → Type 0
+IsPartnerOrNone n root None = Unit {0}
+IsPartnerOrNone n root (Some h) = IsPartner n root h
+
+abbrev pub HasPartner : Option ℕ → List ℕ → Type 0
+HasPartner None gates = Unit {0}
+HasPartner (Some h) gates = among gates h ≡ true
+
+-- the gates that are taken are so many, and they are these
+pub record Takes (n : Net) (root : ℕ) (partner : Option ℕ) (count : ℕ) (gates : List ℕ) : Type 0 where
+  pub taken : List ℕ
+  pub are : AreTaken n root partner taken
+  pub count_is : length taken ≡ count
+  pub gates_are : AreJust (λ p. among taken p ≡ true) gates
+
+-- The window of a root, a partner or none, and a count, where it counts: it has that many gates, taken one
+-- after the other, the partner is one of them, and there are at most 6 inputs and 8 outputs.
+-- Example: where the gates at 3 and 4 are both AND of the places 1 and 2, and both are sinks, the window of
+-- 4 with its partner 3 and the count 2 has the gates 3, 4, the inputs 1, 2 and the outputs 3, 4.
+pub record IsWindow (n : Net) (root : ℕ) (partner : Option ℕ) (count : ℕ) (w : Window) : Type 0 where
+  pub root_is : w.root ≡ root
+  pub partner_is : w.partner ≡ partner
+  pub takes : Takes n root partner count w.gates
+  pub has_partner : HasPartner partner w.gates
+  pub inputs : AreJust (IsInput n w.gates) w.inputs
+  pub outputs : AreJust (IsOutput n w.gates) w.outputs
+  pub few_inputs : length w.inputs ≤ 6
+  pub few_outputs : length w.outputs ≤ 8

@@ -1,0 +1,75 @@
+//! What the definitions come to. Each law is the contract of a function that does nothing.
+ghost use Rattle.std.specs.Prelude.{◌≡◌, ℕ, ◌≤◌, ◌<◌, Bool, true, false, Option, List, length};
+ghost use Rattle.chain_theory.specs.Operator.{Basis};
+ghost use Rattle.chain_theory.specs.Specification.{Specification};
+ghost use Rattle.chain_theory.specs.Agreement.{HasChain};
+ghost use Rattle.net_theory.specs.Net.{Net, IsNet, end_of, gate_value, value};
+ghost use Rattle.window_theory.specs.Places.{among, AreJust};
+ghost use Rattle.window_theory.specs.Paths.{IsGate};
+ghost use Rattle.window_theory.specs.Partner.{ArePartners};
+ghost use Rattle.window_theory.specs.Window.{Window, IsCandidate, AreTaken, Takes, IsInput, IsOutput, HasPartner, Belongs, IsWindow};
+ghost use Rattle.window_theory.specs.Surround.{LeadsTo};
+ghost use Rattle.window_theory.specs.SurroundLaws.{AreBelow};
+ghost use Rattle.window_theory.specs.Care.{values_with, IsPart, HasRow, IsCareRow, IsSpecificationOf, HasNoFewer};
+
+/// What a window reads from outside stands below all its gates, so that its gates are convex and the window
+/// belongs to the net. A root, a partner or none, and a count have one window at most, and a gate has one list
+/// of partners.
+pub fn windows_belong()
+    ensures low { (n : Net) (root : ℕ) (partner : Option ℕ) (count : ℕ) (w : Window) (p q : ℕ) → IsNet n →
+        IsWindow n root partner count w → IsInput n w.gates p → among w.gates q ≡ true → p < q }
+    ensures belong { (n : Net) (root : ℕ) (partner : Option ℕ) (count : ℕ) (w : Window) → IsNet n →
+        IsWindow n root partner count w → Belongs n w }
+    ensures one { (n : Net) (root : ℕ) (partner : Option ℕ) (count : ℕ) (w v : Window) → IsWindow n root partner count w →
+        IsWindow n root partner count v → w ≡ v }
+    ensures partners { (n : Net) (g : ℕ) (a b : List ℕ) → ArePartners n g a → ArePartners n g b → a ≡ b }
+{}
+
+/// Where there is no window. Once no candidate is left no window has more gates than were taken, and the gates
+/// that are taken decide whether their window counts: a window of them has the partner among them, at most 6 inputs,
+/// and at most 8 outputs.
+pub fn windows_end()
+    ensures longest { (n : Net) (root : ℕ) (partner : Option ℕ) (count : ℕ) (taken : List ℕ) (w : Window) →
+        AreTaken n root partner taken → ((p : ℕ) → IsCandidate n root partner taken p → ⊥) →
+        IsWindow n root partner count w → count ≤ length taken }
+    ensures partner { (n : Net) (root : ℕ) (partner : Option ℕ) (count : ℕ) (gates : List ℕ) (w : Window) →
+        Takes n root partner count gates → IsWindow n root partner count w → HasPartner partner gates }
+    ensures inputs { (n : Net) (root : ℕ) (partner : Option ℕ) (count : ℕ) (gates inputs : List ℕ) (w : Window) →
+        Takes n root partner count gates → AreJust (IsInput n gates) inputs → IsWindow n root partner count w → length inputs ≤ 6 }
+    ensures outputs { (n : Net) (root : ℕ) (partner : Option ℕ) (count : ℕ) (gates outputs : List ℕ) (w : Window) →
+        Takes n root partner count gates → AreJust (IsOutput n gates) outputs → IsWindow n root partner count w → length outputs ≤ 8 }
+{}
+
+/// What values are where some places are given bits, said without the recursion: sources and fixed places have
+/// the bits that are given, and each other gate its operator's value. So a part of a net may be evaluated by
+/// itself, and the gates of a window depend on its inputs alone.
+pub fn parts_have_values()
+    ensures source { (n : Net) (fixed given : ℕ → Bool) (p : ℕ) → p ≤ n.sources → values_with n fixed given p ≡ given p }
+    ensures fixed { (n : Net) (fixed given : ℕ → Bool) (p : ℕ) → fixed p ≡ true → values_with n fixed given p ≡ given p }
+    ensures gate { (n : Net) (fixed given : ℕ → Bool) (p : ℕ) (is : IsGate n p) → IsNet n → fixed p ≡ false →
+        values_with n fixed given p ≡ gate_value (values_with n fixed given) is.gate }
+    ensures part { (n : Net) (fixed given inside bits : ℕ → Bool) (p : ℕ) → IsNet n → IsPart n fixed given inside bits →
+        inside p ≡ true → bits p ≡ values_with n fixed given p }
+    ensures window { (n : Net) (w : Window) (f g : ℕ → Bool) (p : ℕ) → IsNet n → Belongs n w →
+        ((q : ℕ) → among w.inputs q ≡ true → f q ≡ g q) → among w.gates p ≡ true →
+        values_with n (among w.inputs) f p ≡ values_with n (among w.inputs) g p }
+{}
+
+/// Places of a net have leaves, and one list of them, and under every assignment of the sources the bits of
+/// the places are a care row.
+pub fn real_rows_are_care_rows()
+    ensures leaves { (n : Net) (places : List ℕ) → IsNet n → AreBelow (end_of n) places → (leaves : List ℕ) × LeadsTo n places leaves }
+    ensures one { (n : Net) (places a b : List ℕ) → LeadsTo n places a → LeadsTo n places b → a ≡ b }
+    ensures values { (n : Net) (fixed given : ℕ → Bool) (p : ℕ) → IsNet n → values_with n fixed (value n given) p ≡ value n given p }
+    ensures rows { (n : Net) (places : List ℕ) (given : ℕ → Bool) (t : ℕ) → IsNet n → AreBelow (end_of n) places →
+        HasRow (value n given) places t → IsCareRow n places t }
+{}
+
+/// All specifications of a window have the same chains. So it is enough to know of one that no chain of fewer
+/// steps meets it.
+pub fn specifications_are_one()
+    ensures chains { (n : Net) (w : Window) (s z : Specification) (basis : Basis) (r : ℕ) → IsSpecificationOf n w s →
+        IsSpecificationOf n w z → HasChain s basis r → HasChain z basis r }
+    ensures none { (n : Net) (w : Window) (s : Specification) (basis : Basis) (count q : ℕ) → HasNoFewer n basis w count →
+        IsSpecificationOf n w s → q < count → HasChain s basis q → ⊥ }
+{}
