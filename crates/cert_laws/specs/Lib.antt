@@ -8,6 +8,7 @@ pub mod LineSpellings
 pub mod BlockReads
 pub mod TableSpellings
 pub mod EndingSpellings
+pub mod LogSpellings
 pub mod SectionSpellings
 pub mod BundleSpellings
 pub mod ClauseStates

@@ -30,7 +30,6 @@ use Rattle.enc_theory.specs.declared.data.Method.{Method}
 use Rattle.enc_theory.specs.declared.data.Method.TheVariants.{Plain, Ssv, Select, Fence}
 use Rattle.cert_theory.specs.declared.data.Ended.{Ended}
 use Rattle.cert_theory.specs.declared.data.Ended.TheVariants as ends
-use Rattle.cert_theory.specs.declared.data.BundleError.TheVariants.{Syntax}
 use Rattle.cert_theory.specs.declared.data.PartError.TheVariants as part_errors
 use Rattle.cert_theory.specs.declared.data.Heading.{Heading}
 use Rattle.cert_theory.specs.Coding.{method_text}
