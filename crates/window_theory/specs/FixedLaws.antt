@@ -1,19 +1,19 @@
 -- What values are where some places are given bits, without the recursion.
 use Rattle.std.specs.Prelude.{◌≡◌, ℕ, zero, suc, ◌+◌, ◌≤◌, ◌<◌, Bool, true, false, if◌then◌else◌, List, [], ◌∷◌, slice_get, Some, refl}
 use Rattle.std.proofs.Common.{arith, sym, ◌∙◌, ap, subst, inl, inr, ⊎_elim}
-use Rattle.std.proofs.lemmas.Bool.{cond-true, cond-false, cases_eq, cases_Bool, both_ways}
+use Rattle.std.proofs.lemmas.Bool.{cond-true, cond-false, cases_eq, cases_Bool, both_ways, cases_lt}
 use Rattle.chain_theory.specs.Value.{extended}
 use Rattle.chain_theory.specs.ValueLaws.{extended-same, extended-other}
 use Rattle.net_theory.specs.declared.data.Sig.{Sig}
 use Rattle.net_theory.specs.declared.data.Sig.TheVariants.{Zero, One, Place}
 use Rattle.net_theory.specs.declared.data.Gate.{Gate}
-use Rattle.net_theory.specs.Net.{Net, IsNet, IsGateAt, sig_value, gate_value}
+use Rattle.net_theory.specs.Net.{Net, IsNet, IsGateAt, sig_value, gate_value, end_of}
 use Rattle.net_theory.specs.ValueLaws.{gate_value-same}
 use Rattle.net_theory.specs.Reach.{ReadsPlace}
 use Rattle.window_theory.specs.Places.{among}
 use Rattle.window_theory.specs.Paths.{IsGate, Reads}
 use Rattle.window_theory.specs.Window.{Window, Belongs}
-use Rattle.window_theory.specs.WindowLaws.{reads_low}
+use Rattle.window_theory.specs.WindowLaws.{reads_low, gate_at}
 use Rattle.window_theory.specs.Care.{fixed_after, values_with, IsGiven, IsPart}
 
 -- ---- one place
@@ -126,3 +126,25 @@ window_below n w f g (suc bound) p net is same low inside =
 
 pub window_same : (n : Net) (w : Window) (f g : ℕ → Bool) (p : ℕ) → IsNet n → Belongs n w → ((q : ℕ) → among w.inputs q ≡ true → f q ≡ g q) → among w.gates p ≡ true → values_with n (among w.inputs) f p ≡ values_with n (among w.inputs) g p
 window_same n w f g p net is same inside = window_below n w f g (suc p) p net is same (omega arith) inside
+
+-- ---- all places
+
+same_below : (n : Net) (fixed f g : ℕ → Bool) (bound p : ℕ) → IsNet n → ((q : ℕ) → IsGiven n fixed q → f q ≡ g q) → p < bound → p < end_of n → values_with n fixed f p ≡ values_with n fixed g p
+same_below n fixed f g zero p net same low within = absurd (omega arith)
+same_below n fixed f g (suc bound) p net same low within =
+    ⊎_elim
+    (λ on. given_value n fixed f p (inl on) ∙ same p (inl on) ∙ sym (given_value n fixed g p (inl on)))
+    (λ off. ⊎_elim
+    (λ (source : p < n.sources + 1). let is : p ≤ n.sources = omega arith in given_value n fixed f p (inr is) ∙ same p (inr is) ∙ sym (given_value n fixed g p (inr is)))
+    (λ (above : n.sources + 1 ≤ p).
+    let gate : IsGate n p = gate_at n p above within in
+    with_gate n fixed f p gate net off
+    ∙ gate_same (values_with n fixed f) (values_with n fixed g) gate.gate
+    (λ q reads. let below = reads_low n p q net (record { reader = gate; reads = reads }) in same_below n fixed f g bound q net same (omega (arith, low, below.1)) (omega (arith, within, below.1)))
+    ∙ sym (with_gate n fixed g p gate net off))
+    (cases_lt p (n.sources + 1)))
+    (cases_Bool (fixed p))
+
+-- Bits that agree on sources and fixed places give all places the same values.
+pub with_same : (n : Net) (fixed f g : ℕ → Bool) (p : ℕ) → IsNet n → ((q : ℕ) → IsGiven n fixed q → f q ≡ g q) → p < end_of n → values_with n fixed f p ≡ values_with n fixed g p
+with_same n fixed f g p net same within = same_below n fixed f g (suc p) p net same (omega arith) within

@@ -14,3 +14,12 @@ pub mod FixedLaws
 pub mod PartnerLaws
 pub mod GrowthLaws
 pub mod MeaningLaws
+pub mod Splice
+pub mod EarlyLaws
+pub mod PairLaws
+pub mod SpliceLaws
+pub mod Rows
+pub mod SubstitutionLaws
+pub mod PassingLaws
+pub mod ReplacementLaws
+pub mod CarePartLaws

@@ -1,16 +1,20 @@
 //! What the definitions come to. Each law is the contract of a function that does nothing.
-ghost use Rattle.std.specs.Prelude.{◌≡◌, ℕ, ◌≤◌, ◌<◌, Bool, true, false, Option, List, length};
+ghost use Rattle.std.specs.Prelude.{◌≡◌, ℕ, ◌+◌, ◌^◌, ◌≤◌, ◌<◌, Bool, true, false, Option, List, length};
 ghost use Rattle.chain_theory.specs.Operator.{Basis};
 ghost use Rattle.chain_theory.specs.Specification.{Specification};
-ghost use Rattle.chain_theory.specs.Agreement.{HasChain};
-ghost use Rattle.net_theory.specs.Net.{Net, IsNet, end_of, gate_value, value};
+ghost use Rattle.chain_theory.specs.Agreement.{Agrees, HasChain};
+ghost use Rattle.chain_theory.specs.Chain.{Chain, IsChain};
+ghost use Rattle.net_theory.specs.Net.{Net, IsNet, end_of, gate_value, value, sink_values};
+ghost use Rattle.net_theory.specs.Answers.{Answers};
 ghost use Rattle.window_theory.specs.Places.{among, AreJust};
 ghost use Rattle.window_theory.specs.Paths.{IsGate};
 ghost use Rattle.window_theory.specs.Partner.{ArePartners};
 ghost use Rattle.window_theory.specs.Window.{Window, IsCandidate, AreTaken, Takes, IsInput, IsOutput, HasPartner, Belongs, IsWindow};
 ghost use Rattle.window_theory.specs.Surround.{LeadsTo};
 ghost use Rattle.window_theory.specs.SurroundLaws.{AreBelow};
-ghost use Rattle.window_theory.specs.Care.{values_with, IsPart, HasRow, IsCareRow, IsSpecificationOf, HasNoFewer};
+ghost use Rattle.window_theory.specs.Care.{values_with, IsGiven, IsPart, HasRow, IsCareRow, IsSpecificationOf, HasNoFewer};
+ghost use Rattle.window_theory.specs.CarePartLaws.{AreInside};
+ghost use Rattle.window_theory.specs.Splice.{Fits, IsSpliced};
 
 /// What a window reads from outside stands below all its gates, so that its gates are convex and the window
 /// belongs to the net. A root, a partner or none, and a count have one window at most, and a gate has one list
@@ -48,6 +52,8 @@ pub fn parts_have_values()
     ensures fixed { (n : Net) (fixed given : ℕ → Bool) (p : ℕ) → fixed p ≡ true → values_with n fixed given p ≡ given p }
     ensures gate { (n : Net) (fixed given : ℕ → Bool) (p : ℕ) (is : IsGate n p) → IsNet n → fixed p ≡ false →
         values_with n fixed given p ≡ gate_value (values_with n fixed given) is.gate }
+    ensures same { (n : Net) (fixed f g : ℕ → Bool) (p : ℕ) → IsNet n → ((q : ℕ) → IsGiven n fixed q → f q ≡ g q) →
+        p < end_of n → values_with n fixed f p ≡ values_with n fixed g p }
     ensures part { (n : Net) (fixed given inside bits : ℕ → Bool) (p : ℕ) → IsNet n → IsPart n fixed given inside bits →
         inside p ≡ true → bits p ≡ values_with n fixed given p }
     ensures window { (n : Net) (w : Window) (f g : ℕ → Bool) (p : ℕ) → IsNet n → Belongs n w →
@@ -65,6 +71,15 @@ pub fn real_rows_are_care_rows()
         HasRow (value n given) places t → IsCareRow n places t }
 {}
 
+/// Care rows are found by evaluating the surround by itself: a row that a part of the net shows, from bits of the
+/// leaves, is a care row, and each care row is shown from some bits of the leaves.
+pub fn care_rows_are_shown()
+    ensures shown { (n : Net) (places leaves : List ℕ) (given inside bits : ℕ → Bool) (t : ℕ) → IsNet n → LeadsTo n places leaves →
+        IsPart n (among leaves) given inside bits → AreInside inside places → HasRow bits places t → IsCareRow n places t }
+    ensures found { (n : Net) (places leaves : List ℕ) (inside bits : ℕ → Bool) (t : ℕ) (care : IsCareRow n places t) → IsNet n →
+        LeadsTo n places leaves → IsPart n (among leaves) care.given inside bits → AreInside inside places → HasRow bits places t }
+{}
+
 /// All specifications of a window have the same chains. So it is enough to know of one that no chain of fewer
 /// steps meets it.
 pub fn specifications_are_one()
@@ -72,4 +87,16 @@ pub fn specifications_are_one()
         IsSpecificationOf n w z → HasChain s basis r → HasChain z basis r }
     ensures none { (n : Net) (w : Window) (s : Specification) (basis : Basis) (count q : ℕ) → HasNoFewer n basis w count →
         IsSpecificationOf n w s → q < count → HasChain s basis q → ⊥ }
+{}
+
+/// A chain can take the place of any window that belongs to a net, if not too many places come of it. Where it agrees with
+/// what the window has to compute, the sinks keep their values, and where it has no more steps than the window has
+/// gates, the new net can stand in the old one's place.
+pub fn chains_take_places()
+    ensures some { (n : Net) (w : Window) (c : Chain) → IsNet n → Belongs n w → Fits w c →
+        n.sources + length n.gates + length c.steps < 2 ^ 31 + length w.gates → (m : Net) × IsSpliced n w c m }
+    ensures values { (n m : Net) (w : Window) (s : Specification) (c : Chain) (given : ℕ → Bool) → IsNet n → Belongs n w →
+        IsChain c → IsSpecificationOf n w s → Agrees c s → IsSpliced n w c m → sink_values m given ≡ sink_values n given }
+    ensures answers { (n m : Net) (w : Window) (s : Specification) (c : Chain) → IsNet n → Belongs n w → IsChain c →
+        IsSpecificationOf n w s → Agrees c s → IsSpliced n w c m → length c.steps ≤ length w.gates → Answers n m }
 {}

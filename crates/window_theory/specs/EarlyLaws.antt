@@ -1,0 +1,68 @@
+-- What a window's inputs are computed from stands outside the window.
+use Rattle.std.specs.Prelude.{◌≡◌, ℕ, suc, ◌+◌, Bool, true, false, List, [], ◌∷◌, slice_get, Some, ◌⊎◌, refl}
+use Rattle.std.proofs.Common.{arith, sym, ◌∙◌, ap, subst, inl, inr, ⊎_elim, add-zero}
+use Rattle.std.proofs.lemmas.Bool.{cond_both, cases_eq, cases_Bool, both_ways}
+use Rattle.chain_theory.specs.ValueLaws.{extended-other}
+use Rattle.net_theory.specs.declared.data.Sig.{Sig}
+use Rattle.net_theory.specs.declared.data.Sig.TheVariants.{Zero, One, Place}
+use Rattle.net_theory.specs.declared.data.Gate.{Gate}
+use Rattle.net_theory.specs.Net.{Net}
+use Rattle.net_theory.specs.Reach.{ReadsPlace, with_mark, marked}
+use Rattle.window_theory.specs.Places.{among}
+use Rattle.window_theory.specs.Paths.{Reads, LeadsUp, at_once, by_way_of}
+use Rattle.window_theory.specs.Window.{Window, IsInput, Belongs}
+use Rattle.window_theory.specs.Splice.{is_early}
+
+-- ---- paths
+
+leads_on : (n : Net) (p q r : ℕ) → LeadsUp n p q → LeadsUp n q r → LeadsUp n p r
+leads_on n p _ _ before (at_once q r reads) = by_way_of p q r before reads
+leads_on n p _ _ before (by_way_of q m r rest reads) = by_way_of p m r (leads_on n p q m before rest) reads
+
+-- a root, or a place from which a path leads to one
+abbrev LeadsToRoot : Net → (ℕ → Bool) → ℕ → Type 0
+LeadsToRoot n roots p = (q : ℕ) × (roots q ≡ true) × ((p ≡ q) ⊎ LeadsUp n p q)
+
+root_on : (n : Net) (roots : ℕ → Bool) (p q : ℕ) → Reads n q p → LeadsToRoot n roots q → LeadsToRoot n roots p
+root_on n roots p q reads r =
+    (r.0, r.1, inr (⊎_elim (λ same. subst (LeadsUp n p) same (at_once p q reads)) (λ up. leads_on n p q r.0 (at_once p q reads) up) r.2))
+
+marked_by : (marks : ℕ → Bool) (s : Sig) (p : ℕ) → with_mark marks s p ≡ true → (s ≡ Place p) ⊎ (marks p ≡ true)
+marked_by marks Zero p e = inr e
+marked_by marks One p e = inr e
+marked_by marks (Place q) p e = ⊎_elim (λ own. inl (ap Place (sym own))) (λ other. inr (sym (extended-other marks q p true other) ∙ e)) (cases_eq p q)
+
+marked_leads : (n : Net) (roots : ℕ → Bool) (place : ℕ) (gs : List Gate) (p : ℕ) → ((i x : ℕ) (g : Gate) → slice_get gs i ≡ Some g → ReadsPlace g x → Reads n (place + i) x) → marked roots place gs p ≡ true → LeadsToRoot n roots p
+unfolding marked
+marked_leads n roots place [] p reads e = (p, e, inl refl)
+marked_leads n roots place (g ∷ gs) p reads e =
+    let before : ℕ → Bool = marked roots (place + 1) gs in
+    let later : (i x : ℕ) (h : Gate) → slice_get gs i ≡ Some h → ReadsPlace h x → Reads n ((place + 1) + i) x = λ i x h at r. let same : place + suc i ≡ (place + 1) + i = omega arith in subst (λ (q : ℕ). Reads n q x) same (reads (suc i) x h at r) in
+    let was : (q : ℕ) → before q ≡ true → LeadsToRoot n roots q = λ q m. marked_leads n roots (place + 1) gs q later m in
+    let own : ReadsPlace g p → Reads n place p = λ r. subst (λ (q : ℕ). Reads n q p) (add-zero place) (reads 0 p g refl r) in
+    cond_both (before place) (with_mark (with_mark before g.a) g.b) before (λ (marks : ℕ → Bool). marks p ≡ true → LeadsToRoot n roots p)
+    (λ on m. ⊎_elim
+    (λ b. root_on n roots p place (own (inr b)) (was place on))
+    (λ rest. ⊎_elim
+    (λ a. root_on n roots p place (own (inl a)) (was place on))
+    (λ old. was p old)
+    (marked_by before g.a p rest))
+    (marked_by (with_mark before g.a) g.b p m))
+    (λ off m. was p m)
+    e
+
+-- ---- windows
+
+-- By convexity no gate of a window is early.
+pub early_outside : (n : Net) (w : Window) (p : ℕ) → Belongs n w → is_early n w p ≡ true → among w.gates p ≡ false
+early_outside n w p is early =
+    let r = marked_leads n (among w.inputs) (n.sources + 1) n.gates p (λ i x g at reads. record { reader = record { index = i; gate = g; at = at; place = refl }; reads = reads }) early in
+    let input : IsInput n w.gates r.0 = is.inputs.only r.0 r.1 in
+    ⊎_elim
+    (λ inside. absurd (both_ways (among w.gates r.0) input.outside
+    (⊎_elim
+    (λ (same : p ≡ r.0). subst (λ (q : ℕ). among w.gates q ≡ true) same inside)
+    (λ up. is.convex p r.0 input.read.reader inside input.read.inside up (at_once r.0 input.read.reader input.read.reads))
+    r.2)))
+    (λ off. off)
+    (cases_Bool (among w.gates p))

@@ -1,0 +1,124 @@
+-- A chain in the place of a window.
+use Rattle.std.specs.Prelude.{◌≡◌, ℕ, ◌+◌, ◌-◌, ◌<◌, Bool, true, false, not, ◌&&◌, List, [], ◌∷◌, length, map, slice_get, slice_index_or, if◌then◌else◌, Some}
+use Rattle.chain_theory.specs.Chain.{Step, Chain, IsChain}
+use Rattle.chain_theory.specs.Value.{extended, values_after}
+use Rattle.chain_theory.specs.declared.data.Out.{Out}
+use Rattle.chain_theory.specs.declared.data.Out.TheVariants as outs
+use Rattle.net_theory.specs.declared.data.Sig.{Sig}
+use Rattle.net_theory.specs.declared.data.Sig.TheVariants.{Zero, One, Place}
+use Rattle.net_theory.specs.declared.data.Gate.{Gate}
+use Rattle.net_theory.specs.Net.{Net, IsNet, sig_value, value, sink_values}
+use Rattle.net_theory.specs.Reach.{reach}
+use Rattle.net_theory.specs.Answers.{IsStill}
+use Rattle.net_theory.specs.Expansion.{gate_of}
+use Rattle.net_theory.specs.Moving.{Kept, moved, put_sig, kept_after, nothing_kept}
+use Rattle.window_theory.specs.Places.{among}
+use Rattle.window_theory.specs.Window.{Window}
+use Rattle.window_theory.specs.Care.{values_with}
+
+-- a chain has an input for each input of the window, and an out for each output
+pub record Fits (w : Window) (c : Chain) : Type 0 where
+  pub chain : IsChain c
+  pub inputs : c.n ≡ length w.inputs
+  pub outs : length c.outs ≡ length w.outputs
+
+-- the place of input j, the first of them input 1
+abbrev pub input_place : Window → ℕ → ℕ
+input_place w j = slice_index_or w.inputs (j - 1) 0
+
+-- ---- values
+
+-- the bits of the chain's places, where its inputs have those of the window's inputs
+abbrev pub chain_bits : Net → Window → Chain → (ℕ → Bool) → ℕ → Bool
+chain_bits n w c given = values_after (λ j. value n given (input_place w j)) (c.n + 1) c.steps
+
+abbrev pub out_bit : (ℕ → Bool) → Out → Bool
+out_bit bits outs.Zero = false
+out_bit bits outs.One = true
+out_bit bits (outs.Place p) = bits p
+
+-- the bits, with those of these places set
+unfoldable pub with_bits : (ℕ → Bool) → List ℕ → List Bool → ℕ → Bool
+with_bits bits [] set = bits
+with_bits bits (p ∷ places) [] = bits
+with_bits bits (p ∷ places) (b ∷ set) = extended (with_bits bits places set) p b
+
+abbrev pub spliced_bits : Net → Window → Chain → (ℕ → Bool) → ℕ → Bool
+spliced_bits n w c given = with_bits given w.outputs (map (out_bit (chain_bits n w c given)) c.outs)
+
+-- The values that the net gives when the window's outputs take the values of the chain's outs on the bits of the
+-- window's inputs.
+-- Example: where the window is the gate 3, AND of the sources 1 and 2, and the chain's out is the constant 1, place
+-- 3 has 1, and NOT of it at place 4 has 0.
+abbrev pub spliced_value : Net → Window → Chain → (ℕ → Bool) → ℕ → Bool
+spliced_value n w c given = values_with n (among w.outputs) (spliced_bits n w c given)
+
+-- ---- the net
+
+-- the places that a window's inputs are, or are computed from
+abbrev pub is_early : Net → Window → ℕ → Bool
+is_early n w = reach n (among w.inputs)
+
+-- all other places outside the window
+abbrev pub is_late : Net → Window → ℕ → Bool
+is_late n w p = not (is_early n w p) && not (among w.gates p)
+
+abbrev pub step_gate : Step → Gate
+step_gate s = gate_of s.op (Place s.j) (Place s.k)
+
+abbrev pub out_sig : (ℕ → Sig) → Out → Sig
+out_sig places outs.Zero = Zero
+out_sig places outs.One = One
+out_sig places (outs.Place p) = places p
+
+-- the places, with those of these set
+unfoldable pub with_sigs : (ℕ → Sig) → List ℕ → List Sig → ℕ → Sig
+with_sigs sigs [] set = sigs
+with_sigs sigs (p ∷ places) [] = sigs
+with_sigs sigs (p ∷ places) (s ∷ set) = put_sig (with_sigs sigs places set) p s
+
+-- first what the window's inputs are computed from
+abbrev pub early_kept : Net → Window → Kept
+early_kept n w = kept_after (is_early n w) n.sources (nothing_kept n.sources) (n.sources + 1) n.gates
+
+-- then the chain's steps, by the chain's own places
+abbrev pub chain_kept : Net → Window → Chain → Kept
+chain_kept n w c = kept_after (λ p. true) n.sources (record { places = λ j. (early_kept n w).places (input_place w j); gates = (early_kept n w).gates }) (c.n + 1) (map step_gate c.steps)
+
+-- and then all else that stands outside the window
+abbrev pub late_start : Net → Window → Chain → Kept
+late_start n w c = record { places = with_sigs (early_kept n w).places w.outputs (map (out_sig (chain_kept n w c).places) c.outs); gates = (chain_kept n w c).gates }
+
+abbrev pub all_kept : Net → Window → Chain → Kept
+all_kept n w c = kept_after (is_late n w) n.sources (late_start n w c) (n.sources + 1) n.gates
+
+-- The net in which the chain has taken the window's place.
+unfoldable pub spliced : Net → Window → Chain → Net
+spliced n w c = record { sources = n.sources; gates = (all_kept n w c).gates; sinks = map (moved (all_kept n w c).places) n.sinks }
+
+-- ---- what is promised
+
+-- how many gates pass a test of their place and their operator; the first has the place given
+unfoldable pub passing : (ℕ → ℕ → Bool) → ℕ → List Gate → ℕ
+passing test place [] = 0
+passing test place (g ∷ gs) = (if test place g.op then 1 else 0) + passing test (place + 1) gs
+
+-- As many gates of m pass a test of operators as gates of n outside the window and steps together. So each gate
+-- outside keeps its operator, each step's operator is a gate's, and there are no others.
+abbrev pub HasOperators : Net → Window → Chain → Net → Type 0
+HasOperators n w c m = (test : ℕ → Bool) → passing (λ p op. test op) (m.sources + 1) m.gates ≡ passing (λ p op. not (among w.gates p) && test op) (n.sources + 1) n.gates + passing (λ p op. test op) (c.n + 1) (map step_gate c.steps)
+
+-- m is n where a chain has taken a window's place: its sinks have the values that n gives with the chain's outs
+-- for the window's outputs, and its gates are those of n outside the window and one for each step. A sink that is
+-- a source or a constant stays as it is, and equal sinks stay equal.
+-- Example: of NAND of the sources at place 3 and NOT of it at place 4, which is the sink, the window of both and the
+-- chain of one step AND leave the one gate AND.
+pub record IsSpliced (n : Net) (w : Window) (c : Chain) (m : Net) : Type 0 where
+  pub net : IsNet m
+  pub sources : m.sources ≡ n.sources
+  pub sink_count : length m.sinks ≡ length n.sinks
+  pub values : (given : ℕ → Bool) → sink_values m given ≡ map (sig_value (spliced_value n w c given)) n.sinks
+  pub operators : HasOperators n w c m
+  pub gate_count : length m.gates + length w.gates ≡ length n.gates + length c.steps
+  pub still : (i : ℕ) (s : Sig) → slice_get n.sinks i ≡ Some s → IsStill n.sources s → slice_get m.sinks i ≡ Some s
+  pub equal : (i j : ℕ) (d : Sig) → i < length n.sinks → j < length n.sinks → slice_index_or n.sinks i d ≡ slice_index_or n.sinks j d → slice_index_or m.sinks i d ≡ slice_index_or m.sinks j d

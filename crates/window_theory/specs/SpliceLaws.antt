@@ -1,0 +1,273 @@
+-- A net in which a chain has taken a window's place has the values that the chain's outs give.
+use Rattle.std.specs.Prelude.{◌≡◌, ℕ, zero, suc, ◌+◌, ◌-◌, ◌≤◌, ◌<◌, ◌^◌, Bool, true, false, not, List, [], ◌∷◌, length, map, slice_get, Some, ◌⊎◌, refl}
+use Rattle.std.proofs.Common.{arith, sym, ◌∙◌, ap, subst, inl, inr, ⊎_elim}
+use Rattle.std.proofs.lemmas.Bool.{and_parts, and_from, not-true, both_ways, cases_lt, cases_Bool}
+use Rattle.std.proofs.lemmas.List.{length-map}
+use Rattle.chain_theory.specs.Chain.{Chain, IsStepAt, NamesPlace}
+use Rattle.chain_theory.specs.ValueLaws.{values_after-step, values_after-below}
+use Rattle.chain_theory.specs.declared.data.Out.{Out}
+use Rattle.chain_theory.specs.declared.data.Out.TheVariants as outs
+use Rattle.net_theory.specs.declared.data.Sig.{Sig}
+use Rattle.net_theory.specs.declared.data.Sig.TheVariants.{Place}
+use Rattle.net_theory.specs.declared.data.Gate.{Gate}
+use Rattle.net_theory.specs.Net.{Net, IsNet, IsSigBelow, end_of, sig_value, gate_value, values_of, value, sink_values}
+use Rattle.net_theory.specs.NameLaws.{all_at, at_all, at_map}
+use Rattle.net_theory.specs.ValueLaws.{IsGrown, grown_sig, below_later, value-source, values_after-gate}
+use Rattle.net_theory.specs.Reach.{ReadsPlace}
+use Rattle.net_theory.specs.ReachLaws.{sink_in, reach_closed}
+use Rattle.net_theory.specs.Moving.{moved, nothing_kept}
+use Rattle.net_theory.specs.MovingLaws.{IsMarked, Moves, AreMovable, IsSourcePlace, moves_start, moved_below, moved_value, net_movable, keep_all}
+use Rattle.window_theory.specs.Places.{among}
+use Rattle.window_theory.specs.Paths.{IsGate, Reads}
+use Rattle.window_theory.specs.Window.{Window, IsInput, Belongs}
+use Rattle.window_theory.specs.WindowLaws.{reads_low, gate_high, gate_at}
+use Rattle.window_theory.specs.FixedLaws.{with_source, with_fixed, with_gate, gate_same}
+use Rattle.window_theory.specs.Splice.{Fits, input_place, chain_bits, out_bit, spliced_bits, spliced_value, is_early, is_late, step_gate, out_sig, early_kept, chain_kept, late_start, all_kept, spliced}
+use Rattle.window_theory.specs.EarlyLaws.{early_outside}
+use Rattle.window_theory.specs.PairLaws.{among_at, sigs_other, bits_other, IsSet, is_set}
+
+-- ---- what is early
+
+-- a source, or an early gate
+abbrev pub IsEarly : Net → Window → ℕ → Type 0
+IsEarly n w p = IsSourcePlace n.sources p ⊎ IsMarked (is_early n w) (n.sources + 1) (length n.gates) p
+
+early_moves : (n : Net) (w : Window) → IsNet n → Moves n.sources (value n) (IsEarly n w) (early_kept n w)
+early_moves n w net =
+    (keep_all n.sources (value n) (IsSourcePlace n.sources) (is_early n w) (nothing_kept n.sources) (n.sources + 1) n.gates (moves_start n)
+    (net_movable n (IsSourcePlace n.sources) (is_early n w) net (λ p e. e) (λ i p g at reads on. inr ((reach_closed n (among w.inputs) net).gates i p g at reads on)))).0
+
+-- a place of the net is a source, or a gate where the marks say so
+placed : (n : Net) (marks : ℕ → Bool) (p : ℕ) → 1 ≤ p → p < end_of n → marks p ≡ true → IsSourcePlace n.sources p ⊎ IsMarked marks (n.sources + 1) (length n.gates) p
+placed n marks p some low on =
+    ⊎_elim
+    (λ (source : p < n.sources + 1). inl (some, omega arith))
+    (λ (above : n.sources + 1 ≤ p). inr (record { low = above; high = low; mark = on }))
+    (cases_lt p (n.sources + 1))
+
+input_early : (n : Net) (w : Window) (p : ℕ) → IsNet n → Belongs n w → among w.inputs p ≡ true → IsEarly n w p
+input_early n w p net is on =
+    let input : IsInput n w.gates p = is.inputs.only p on in
+    let low = reads_low n input.read.reader p net input.read.reads in
+    let high = gate_high n input.read.reader input.read.reads.reader in
+    placed n (is_early n w) p low.0 (omega (arith, low.1, high.1)) ((reach_closed n (among w.inputs) net).starts p on)
+
+-- ---- the chain
+
+-- the chain's inputs
+abbrev IsChainInput : Chain → ℕ → Type 0
+IsChainInput c j = (1 ≤ j) × (j ≤ c.n)
+
+abbrev IsChainPlace : Chain → ℕ → Type 0
+IsChainPlace c j = IsChainInput c j ⊎ IsMarked (λ p. true) (c.n + 1) (length (map step_gate c.steps)) j
+
+chain_start : (n : Net) (w : Window) (c : Chain) → IsNet n → Belongs n w → Fits w c → Moves n.sources (chain_bits n w c) (IsChainInput c) (record { places = λ j. (early_kept n w).places (input_place w j); gates = (early_kept n w).gates })
+chain_start n w c net is fits =
+    let moves : Moves n.sources (value n) (IsEarly n w) (early_kept n w) = early_moves n w net in
+    let known : (j : ℕ) → IsChainInput c j → IsEarly n w (input_place w j) = λ j e. input_early n w (input_place w j) net is (among_at w.inputs (j - 1) 0 (omega (arith, e.0, e.1, fits.inputs))) in
+    record {
+      gates = moves.gates;
+      below = λ j e. moves.below (input_place w j) (known j e);
+      same = λ given j e. moves.same given (input_place w j) (known j e) ∙ sym (values_after-below (λ i. value n given (input_place w i)) (c.n + 1) j c.steps (omega (arith, e.1)));
+    }
+
+place_same : (j p : ℕ) → Place j ≡ Place p → j ≡ p
+place_same j p e = cc
+
+chain_movable : (n : Net) (w : Window) (c : Chain) → Fits w c → AreMovable (chain_bits n w c) (IsChainInput c) (λ p. true) (c.n + 1) (map step_gate c.steps)
+chain_movable n w c fits =
+    record {
+      operators = λ i g at on. let s = at_map step_gate c.steps i g at in subst (λ (x : Gate). x.op < 16) s.2 (fits.chain.steps.each i s.0 s.1).op_below;
+      reads = λ i p g at on reads.
+          let s = at_map step_gate c.steps i g at in
+          let here : IsStepAt (c.n + 1 + i) s.0 = fits.chain.steps.each i s.0 s.1 in
+          let own : ReadsPlace (step_gate s.0) p = subst (λ (x : Gate). ReadsPlace x p) (sym s.2) reads in
+          let low = ⊎_elim
+          (λ j. let e : s.0.j ≡ p = place_same s.0.j p j in let r : (1 ≤ p) × (p < c.n + 1 + i) = (omega (arith, e, here.j_from), omega (arith, e, here.j_below)) in r)
+          (λ k. let e : s.0.k ≡ p = place_same s.0.k p k in let r : (1 ≤ p) × (p < c.n + 1 + i) = (omega (arith, e, here.k_from), omega (arith, e, here.k_below)) in r)
+          own in
+          ⊎_elim
+          (λ (input : p < c.n + 1). inl (low.0, omega arith))
+          (λ (above : c.n + 1 ≤ p). inr (record { low = above; high = low.1; mark = refl }))
+          (cases_lt p (c.n + 1));
+      values = λ given i g at on.
+          let s = at_map step_gate c.steps i g at in
+          let here : IsStepAt (c.n + 1 + i) s.0 = fits.chain.steps.each i s.0 s.1 in
+          values_after-step (λ j. value n given (input_place w j)) (c.n + 1) i c.steps s.0 s.1 here.j_below here.k_below ∙ ap (gate_value (chain_bits n w c given)) s.2;
+    }
+
+chain_moves : (n : Net) (w : Window) (c : Chain) → IsNet n → Belongs n w → Fits w c → Moves n.sources (chain_bits n w c) (IsChainPlace c) (chain_kept n w c) × IsGrown n.sources (early_kept n w).gates (chain_kept n w c).gates
+chain_moves n w c net is fits =
+    keep_all n.sources (chain_bits n w c) (IsChainInput c) (λ p. true) (record { places = λ j. (early_kept n w).places (input_place w j); gates = (early_kept n w).gates }) (c.n + 1) (map step_gate c.steps) (chain_start n w c net is fits) (chain_movable n w c fits)
+
+-- a chain's place is known
+chain_place : (c : Chain) (q : ℕ) → NamesPlace (c.n + length c.steps) (outs.Place q) → IsChainPlace c q
+chain_place c q names =
+    ⊎_elim
+    (λ (input : q < c.n + 1). inl (names.0, omega arith))
+    (λ (above : c.n + 1 ≤ q). inr (record { low = above; high = omega (arith, names.1, length-map c.steps step_gate); mark = refl }))
+    (cases_lt q (c.n + 1))
+
+out_below : (n : Net) (w : Window) (c : Chain) (x : Out) → Moves n.sources (chain_bits n w c) (IsChainPlace c) (chain_kept n w c) → NamesPlace (c.n + length c.steps) x → IsSigBelow (n.sources + 1 + length (chain_kept n w c).gates) (out_sig (chain_kept n w c).places x)
+out_below n w c outs.Zero moves names = tt
+out_below n w c outs.One moves names = tt
+out_below n w c (outs.Place q) moves names = moves.below q (chain_place c q names)
+
+out_same : (n : Net) (w : Window) (c : Chain) (x : Out) (given : ℕ → Bool) → Moves n.sources (chain_bits n w c) (IsChainPlace c) (chain_kept n w c) → NamesPlace (c.n + length c.steps) x → sig_value (values_of given n.sources (chain_kept n w c).gates) (out_sig (chain_kept n w c).places x) ≡ out_bit (chain_bits n w c given) x
+out_same n w c outs.Zero given moves names = refl
+out_same n w c outs.One given moves names = refl
+out_same n w c (outs.Place q) given moves names = moves.same given q (chain_place c q names)
+
+-- ---- values of what is early
+
+pub value_gate : (n : Net) (given : ℕ → Bool) (p : ℕ) (is : IsGate n p) → IsNet n → value n given p ≡ gate_value (value n given) is.gate
+value_gate n given p is net =
+    subst (λ (q : ℕ). value n given q ≡ gate_value (value n given) is.gate) is.place (values_after-gate given (n.sources + 1) is.index n.gates is.gate is.at (net.gates.each is.index is.gate is.at))
+
+pub not_output : (n : Net) (w : Window) (p : ℕ) → Belongs n w → among w.gates p ≡ false → among w.outputs p ≡ false
+not_output n w p is outside =
+    ⊎_elim (λ on. absurd (both_ways (among w.gates p) outside (is.outputs.only p on).inside)) (λ off. off) (cases_Bool (among w.outputs p))
+
+pub source_outside : (n : Net) (w : Window) (p : ℕ) → Belongs n w → p ≤ n.sources → among w.gates p ≡ false
+source_outside n w p is low =
+    ⊎_elim (λ inside. let high = gate_high n p (is.gates p inside) in absurd (omega (arith, high.0, low))) (λ off. off) (cases_Bool (among w.gates p))
+
+early_below : (n : Net) (w : Window) (c : Chain) (given : ℕ → Bool) (bound p : ℕ) → IsNet n → Belongs n w → p < bound → IsEarly n w p → value n given p ≡ spliced_value n w c given p
+early_below n w c given zero p net is low early = absurd (omega arith)
+early_below n w c given (suc bound) p net is low early =
+    ⊎_elim
+    (λ source.
+    value-source given n.sources p n.gates source.1
+    ∙ sym (with_source n (among w.outputs) (spliced_bits n w c given) p source.1
+    ∙ bits_other given w.outputs (map (out_bit (chain_bits n w c given)) c.outs) p (not_output n w p is (source_outside n w p is source.1))))
+    (λ m.
+    let gate : IsGate n p = gate_at n p m.low m.high in
+    let free : among w.outputs p ≡ false = not_output n w p is (early_outside n w p is m.mark) in
+    value_gate n given p gate net
+    ∙ gate_same (value n given) (spliced_value n w c given) gate.gate
+    (λ q reads.
+    let r : Reads n p q = record { reader = gate; reads = reads } in
+    let below = reads_low n p q net r in
+    let on : is_early n w q ≡ true = (reach_closed n (among w.inputs) net).gates gate.index q gate.gate gate.at reads (subst (λ (x : ℕ). is_early n w x ≡ true) (sym gate.place) m.mark) in
+    early_below n w c given bound q net is (omega (arith, low, below.1)) (placed n (is_early n w) q below.0 (omega (arith, below.1, m.high)) on))
+    ∙ sym (with_gate n (among w.outputs) (spliced_bits n w c given) p gate net free))
+    early
+
+-- What is early doesn't depend on the window's outputs.
+early_same : (n : Net) (w : Window) (c : Chain) (given : ℕ → Bool) (p : ℕ) → IsNet n → Belongs n w → IsEarly n w p → value n given p ≡ spliced_value n w c given p
+early_same n w c given p net is early = early_below n w c given (suc p) p net is (omega arith) early
+
+-- ---- what is late
+
+-- early, or an output of the window
+abbrev IsKnown : Net → Window → ℕ → Type 0
+IsKnown n w p = IsEarly n w p ⊎ (among w.outputs p ≡ true)
+
+known_early : (n : Net) (w : Window) (p : ℕ) → among w.outputs p ≡ false → IsKnown n w p → IsEarly n w p
+known_early n w p off e = ⊎_elim (λ early. early) (λ on. absurd (both_ways (among w.outputs p) off on)) e
+
+late_begins : (n : Net) (w : Window) (c : Chain) → IsNet n → Belongs n w → Fits w c → Moves n.sources (spliced_value n w c) (IsKnown n w) (late_start n w c)
+late_begins n w c net is fits =
+    let early : Moves n.sources (value n) (IsEarly n w) (early_kept n w) = early_moves n w net in
+    let both = chain_moves n w c net is fits in
+    let end : ℕ = n.sources + 1 + length (chain_kept n w c).gates in
+    let outs_names : (i : ℕ) (x : Out) → slice_get c.outs i ≡ Some x → NamesPlace (c.n + length c.steps) x = λ i x at. all_at (NamesPlace (c.n + length c.steps)) c.outs i x fits.chain.outs at in
+    record {
+      gates = both.0.gates;
+      below = λ p e. ⊎_elim
+          (λ on.
+          let set : IsSet (early_kept n w).places (λ q. false) w.outputs c.outs (out_sig (chain_kept n w c).places) (λ x. false) p = is_set (early_kept n w).places (λ q. false) w.outputs c.outs (out_sig (chain_kept n w c).places) (λ x. false) p fits.outs on in
+          subst (IsSigBelow end) (sym set.has_sig) (out_below n w c set.out both.0 (outs_names set.index set.out set.at)))
+          (λ off.
+          subst (IsSigBelow end) (sym (sigs_other (early_kept n w).places w.outputs (map (out_sig (chain_kept n w c).places) c.outs) p off))
+          (below_later ((early_kept n w).places p) (n.sources + 1 + length (early_kept n w).gates) end (omega (arith, both.1.longer)) (early.below p (known_early n w p off e))))
+          (cases_Bool (among w.outputs p));
+      same = λ given p e. ⊎_elim
+          (λ on.
+          let set : IsSet (early_kept n w).places given w.outputs c.outs (out_sig (chain_kept n w c).places) (out_bit (chain_bits n w c given)) p = is_set (early_kept n w).places given w.outputs c.outs (out_sig (chain_kept n w c).places) (out_bit (chain_bits n w c given)) p fits.outs on in
+          ap (sig_value (values_of given n.sources (chain_kept n w c).gates)) set.has_sig
+          ∙ out_same n w c set.out given both.0 (outs_names set.index set.out set.at)
+          ∙ sym set.has_bit
+          ∙ sym (with_fixed n (among w.outputs) (spliced_bits n w c given) p on))
+          (λ off.
+          ap (sig_value (values_of given n.sources (chain_kept n w c).gates)) (sigs_other (early_kept n w).places w.outputs (map (out_sig (chain_kept n w c).places) c.outs) p off)
+          ∙ grown_sig n.sources (early_kept n w).gates (chain_kept n w c).gates ((early_kept n w).places p) given both.1 (early.below p (known_early n w p off e))
+          ∙ early.same given p (known_early n w p off e)
+          ∙ early_same n w c given p net is (known_early n w p off e))
+          (cases_Bool (among w.outputs p));
+    }
+
+late_outside : (n : Net) (w : Window) (p : ℕ) → is_late n w p ≡ true → among w.gates p ≡ false
+late_outside n w p late = not-true (among w.gates p) (and_parts (not (is_early n w p)) (not (among w.gates p)) late).1
+
+is_late_there : (n : Net) (w : Window) (p : ℕ) → is_early n w p ≡ false → among w.gates p ≡ false → is_late n w p ≡ true
+is_late_there n w p not_early outside = and_from (not (is_early n w p)) (not (among w.gates p)) (ap not not_early) (ap not outside)
+
+-- A place of the net that is seen outside the window is known, or late.
+seen_known : (n : Net) (w : Window) (p : ℕ) → 1 ≤ p → p < end_of n → (among w.gates p ≡ true → among w.outputs p ≡ true) → IsKnown n w p ⊎ IsMarked (is_late n w) (n.sources + 1) (length n.gates) p
+seen_known n w p some low seen =
+    ⊎_elim
+    (λ inside. inl (inr (seen inside)))
+    (λ outside. ⊎_elim
+    (λ early. inl (inl (placed n (is_early n w) p some low early)))
+    (λ not_early. ⊎_elim (λ source. inl (inl (inl source))) (λ late. inr late) (placed n (is_late n w) p some low (is_late_there n w p not_early outside)))
+    (cases_Bool (is_early n w p)))
+    (cases_Bool (among w.gates p))
+
+late_movable : (n : Net) (w : Window) (c : Chain) → IsNet n → Belongs n w → AreMovable (spliced_value n w c) (IsKnown n w) (is_late n w) (n.sources + 1) n.gates
+late_movable n w c net is =
+    record {
+      operators = λ i g at on. (net.gates.each i g at).operator;
+      reads = λ i p g at on reads.
+          let place : ℕ = n.sources + 1 + i in
+          let gate : IsGate n place = record { index = i; gate = g; at = at; place = refl } in
+          let r : Reads n place p = record { reader = gate; reads = reads } in
+          let low = reads_low n place p net r in
+          let high = gate_high n place gate in
+          ⊎_elim
+          (λ known. inl known)
+          (λ m. inr (record { low = m.low; high = low.1; mark = m.mark }))
+          (seen_known n w p low.0 (omega (arith, low.1, high.1)) (λ inside. is.outputs.all p (record { inside = inside; seen = inl (record { reader = place; outside = late_outside n w place on; reads = r }) })));
+      values = λ given i g at on.
+          let place : ℕ = n.sources + 1 + i in
+          with_gate n (among w.outputs) (spliced_bits n w c given) place (record { index = i; gate = g; at = at; place = refl }) net (not_output n w place is (late_outside n w place on));
+    }
+
+abbrev IsThere : Net → Window → ℕ → Type 0
+IsThere n w p = IsKnown n w p ⊎ IsMarked (is_late n w) (n.sources + 1) (length n.gates) p
+
+all_moves : (n : Net) (w : Window) (c : Chain) → IsNet n → Belongs n w → Fits w c → Moves n.sources (spliced_value n w c) (IsThere n w) (all_kept n w c)
+all_moves n w c net is fits =
+    (keep_all n.sources (spliced_value n w c) (IsKnown n w) (is_late n w) (late_start n w c) (n.sources + 1) n.gates (late_begins n w c net is fits) (late_movable n w c net is)).0
+
+-- ---- the net
+
+sink_there : (n : Net) (w : Window) (i : ℕ) (s : Sig) → IsNet n → Belongs n w → slice_get n.sinks i ≡ Some s → (p : ℕ) → s ≡ Place p → IsThere n w p
+sink_there n w i s net is at p e =
+    let low : IsSigBelow (end_of n) (Place p) = subst (IsSigBelow (end_of n)) e (all_at (IsSigBelow (end_of n)) n.sinks i s net.sinks at) in
+    seen_known n w p low.0 low.1 (λ inside. is.outputs.all p (record { inside = inside; seen = inr (sink_in n i p (at ∙ ap Some e)) }))
+
+map_values : (f g : Sig → Bool) (move : Sig → Sig) (ss : List Sig) → ((i : ℕ) (s : Sig) → slice_get ss i ≡ Some s → f (move s) ≡ g s) → map f (map move ss) ≡ map g ss
+map_values f g move [] same = refl
+map_values f g move (s ∷ ss) same =
+    rw (same 0 s refl, map_values f g move ss (λ i t e. same (suc i) t e)) refl
+
+-- The sinks have the values that the net gives with the chain's outs for the window's outputs.
+pub spliced_values : (n : Net) (w : Window) (c : Chain) (given : ℕ → Bool) → IsNet n → Belongs n w → Fits w c → sink_values (spliced n w c) given ≡ map (sig_value (spliced_value n w c given)) n.sinks
+unfolding spliced
+spliced_values n w c given net is fits =
+    map_values (sig_value (values_of given n.sources (all_kept n w c).gates)) (sig_value (spliced_value n w c given)) (moved (all_kept n w c).places) n.sinks (λ i s e.
+    moved_value n.sources (spliced_value n w c) (IsThere n w) (all_kept n w c) s given (all_moves n w c net is fits) (sink_there n w i s net is e))
+
+pub spliced_net : (n : Net) (w : Window) (c : Chain) → IsNet n → Belongs n w → Fits w c → n.sources + length (spliced n w c).gates < 2 ^ 31 → IsNet (spliced n w c)
+unfolding spliced
+spliced_net n w c net is fits few =
+    let moves : Moves n.sources (spliced_value n w c) (IsThere n w) (all_kept n w c) = all_moves n w c net is fits in
+    let end : ℕ = n.sources + 1 + length (all_kept n w c).gates in
+    record {
+      gates = moves.gates;
+      sinks = at_all (IsSigBelow end) (map (moved (all_kept n w c).places) n.sinks) (λ i t e.
+          let s = at_map (moved (all_kept n w c).places) n.sinks i t e in
+          subst (IsSigBelow end) s.2 (moved_below n.sources (spliced_value n w c) (IsThere n w) (all_kept n w c) s.0 moves (sink_there n w i s.0 net is s.1)));
+      places = few;
+    }
