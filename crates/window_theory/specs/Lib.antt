@@ -23,3 +23,4 @@ pub mod SubstitutionLaws
 pub mod PassingLaws
 pub mod ReplacementLaws
 pub mod CarePartLaws
+pub mod Examples

@@ -1,0 +1,23 @@
+//! Worked examples, each the contract of a function that does nothing: the definitions, computed on small nets
+//! (`specs/Examples.antt` has the nets, and says the gates of each).
+ghost use Rattle.std.specs.Prelude.{◌≡◌, [], ◌∷◌};
+ghost use Rattle.window_theory.specs.Partner.{ArePartners};
+ghost use Rattle.window_theory.specs.Splice.{spliced};
+ghost use Rattle.window_theory.specs.Examples.{nand_not, both_gates, and_chain, and_net};
+ghost use Rattle.window_theory.specs.Examples.{three_gates, first_gate, input_chain, one_chain, with_input, with_one};
+ghost use Rattle.window_theory.specs.Examples.{two_ands, both_ands, one_for_two, one_and};
+
+/// A chain in a window's place: one step for two gates; outs that are an input or a constant, where a gate and a sink
+/// outside read the output; two outs on one step.
+pub fn chains_in_place()
+    ensures nand_not { spliced nand_not both_gates and_chain ≡ and_net }
+    ensures input { spliced three_gates first_gate input_chain ≡ with_input }
+    ensures constant { spliced three_gates first_gate one_chain ≡ with_one }
+    ensures two { spliced two_ands both_ands one_for_two ≡ one_and }
+{}
+
+/// Of two gates side by side the second has the first for its partner, and the first has none.
+pub fn partners_side_by_side()
+    ensures second { ArePartners two_ands 4 (3 ∷ []) }
+    ensures first { ArePartners two_ands 3 [] }
+{}
