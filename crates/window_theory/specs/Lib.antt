@@ -24,3 +24,4 @@ pub mod PassingLaws
 pub mod ReplacementLaws
 pub mod CarePartLaws
 pub mod Examples
+pub mod RowExamples

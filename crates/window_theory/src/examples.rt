@@ -1,11 +1,14 @@
 //! Worked examples, each the contract of a function that does nothing: the definitions, computed on small nets
-//! (`specs/Examples.antt` has the nets, and says the gates of each).
+//! (`specs/Examples.antt` and `RowExamples.antt` have the nets, and say the gates of each).
 ghost use Rattle.std.specs.Prelude.{◌≡◌, [], ◌∷◌};
 ghost use Rattle.window_theory.specs.Partner.{ArePartners};
+ghost use Rattle.window_theory.specs.Surround.{LeadsTo};
+ghost use Rattle.window_theory.specs.Care.{IsCareRow};
 ghost use Rattle.window_theory.specs.Splice.{spliced};
 ghost use Rattle.window_theory.specs.Examples.{nand_not, both_gates, and_chain, and_net};
 ghost use Rattle.window_theory.specs.Examples.{three_gates, first_gate, input_chain, one_chain, with_input, with_one};
 ghost use Rattle.window_theory.specs.Examples.{two_ands, both_ands, one_for_two, one_and};
+ghost use Rattle.window_theory.specs.RowExamples.{and_or};
 
 /// A chain in a window's place: one step for two gates; outs that are an input or a constant, where a gate and a sink
 /// outside read the output; two outs on one step.
@@ -20,4 +23,11 @@ pub fn chains_in_place()
 pub fn partners_side_by_side()
     ensures second { ArePartners two_ands 4 (3 ∷ []) }
     ensures first { ArePartners two_ands 3 [] }
+{}
+
+/// Of AND and OR of two sources the leaves are the sources, and row 10 is no care row: no bits of the sources give
+/// AND the bit 1 and OR the bit 0.
+pub fn rows_of_two_gates()
+    ensures leaves { LeadsTo and_or (3 ∷ 4 ∷ []) (1 ∷ 2 ∷ []) }
+    ensures none { IsCareRow and_or (3 ∷ 4 ∷ []) 2 → ⊥ }
 {}
