@@ -1,0 +1,13 @@
+pub mod Combining
+pub mod Cone
+pub mod ConeLaws
+pub mod LaneLaws
+pub mod PatternLaws
+pub mod PlaceLaws
+pub mod RowLaws
+pub mod Rows
+pub mod Seen
+pub mod SeenLaws
+pub mod ShownLaws
+pub mod WordLaws
+pub mod Words

@@ -1,0 +1,203 @@
+-- From operands' rows to the patterns of signals.
+use Rattle.std.proofs.Common.{◌≡◌, ◌∙◌, ℕ, zero, suc, ◌+◌, ◌-◌, ◌*◌, ◌/◌, ◌%◌, ◌^◌, ◌≤◌, ◌<◌, Bool, true, false, List, [], ◌∷◌, ◌++◌, length, map, take, set, get_or, Some, refl, ap, sym, subst, arith, pow_mono, pow-add, ⊎_elim, length-take-le, get_or-take, get_or-set_same, get_or-set_other, length-append, mul-le-mul_right}
+use Rattle.std.specs.Prelude.{slice_get, if◌then◌else◌}
+use Rattle.std.proofs.lemmas.Bool.{cases_lt, cases_Bool, cond-true, cond-false}
+use Rattle.std.proofs.lemmas.List.{length-map}
+use Rattle.std.proofs.lemmas.Nat.{one_shl}
+use Rattle.std.proofs.lemmas.Option.{slice_get-get_or, slice_get_within}
+use Rattle.chain_theory.specs.Operator.{digit}
+use Rattle.net_theory.specs.declared.data.Sig.{Sig}
+use Rattle.net_theory.specs.declared.data.Sig.TheVariants as sigs
+use Rattle.net_theory.specs.declared.data.Gate.{Gate}
+use Rattle.net_theory.specs.Net.{sig_value}
+use Rattle.lane_sim.specs.declared.rows.Operand.{Operand}
+use Rattle.lane_sim.specs.declared.rows.Operand.TheVariants as operands
+use Rattle.lane_sim.specs.Combining.{operand_word, EndsBefore}
+use Rattle.lane_sim.specs.Cone.{Cone, IsSigAmong, places, place_of, value_in}
+use Rattle.lane_sim.specs.LaneLaws.{at_front, operand_bit, operand_ends, words_are_lanes}
+use Rattle.lane_sim.specs.RowLaws.{ends_less}
+use Rattle.lane_sim.specs.Rows.{IsOperandOf}
+use Rattle.lane_sim.specs.Seen.{pattern_at, AreSeenBelow, AreRows, AllEnd, AreOperands}
+use Rattle.lane_sim.specs.SeenLaws.{above_zero, at_most_32}
+use Rattle.lane_sim.specs.Words.{Words, AreWords, ArePatterns, pattern, pattern_under, width_of}
+
+-- ---- patterns
+
+pub pattern_low : {A : Type 0} (f : A → Bool) (xs : List A) → pattern f xs < 2 ^ length xs
+unfolding pattern
+pattern_low f [] = omega arith
+pattern_low f (x ∷ xs) =
+    let rest : pattern f xs < 2 ^ length xs = pattern_low f xs in
+    let twice : 2 ^ (length xs + 1) ≡ 2 ^ length xs + 2 ^ length xs = omega (arith, pow-add 2 (length xs) 1) in
+    let more : suc (length xs) ≡ length xs + 1 = omega arith in
+    subst (λ (n : ℕ). (if f x then 2 ^ length xs else 0) + pattern f xs < 2 ^ n) (sym more)
+    (subst (λ (n : ℕ). (if f x then 2 ^ length xs else 0) + pattern f xs < n) (sym twice)
+    (⊎_elim
+    (λ (on : f x ≡ true). subst (λ (n : ℕ). n + pattern f xs < 2 ^ length xs + 2 ^ length xs) (sym (cond-true (f x) (2 ^ length xs) 0 on)) (omega (arith, rest)))
+    (λ (off : f x ≡ false). subst (λ (n : ℕ). n + pattern f xs < 2 ^ length xs + 2 ^ length xs) (sym (cond-false (f x) (2 ^ length xs) 0 off)) (omega (arith, rest)))
+    (cases_Bool (f x))))
+
+some_same : {A : Type 0} (x y : A) → Some x ≡ Some y → x ≡ y
+some_same x y e = cc
+
+pattern_same : {A B : Type 0} (f : A → Bool) (g : B → Bool) (xs : List A) (ys : List B) → length xs ≡ length ys → ((i : ℕ) (x : A) (y : B) → slice_get xs i ≡ Some x → slice_get ys i ≡ Some y → f x ≡ g y) → pattern f xs ≡ pattern g ys
+unfolding pattern
+pattern_same f g [] [] long same = refl
+pattern_same f g [] (y ∷ ys) long same = absurd (omega (arith, long))
+pattern_same f g (x ∷ xs) [] long same = absurd (omega (arith, long))
+pattern_same f g (x ∷ xs) (y ∷ ys) long same =
+    let rest : length xs ≡ length ys = omega (arith, long) in
+    ap (λ (b : Bool). (if b then 2 ^ length xs else 0) + pattern f xs) (same 0 x y refl refl)
+    ∙ ap (λ (n : ℕ). (if g y then 2 ^ n else 0) + pattern f xs) rest
+    ∙ ap (λ (n : ℕ). (if g y then 2 ^ length ys else 0) + n) (pattern_same f g xs ys rest (λ i a b ea eb. same (suc i) a b ea eb))
+
+-- the patterns of no signal are 0
+pub at_nothing : (lanes : List ℕ) (os : List Operand) (j b : ℕ) → os ≡ [] → pattern_at lanes os j b ≡ 0
+unfolding pattern
+at_nothing lanes os j b none = ap (pattern (λ (o : Operand). digit (operand_word lanes o j) b)) none
+
+pub at_one_more : (lanes : List ℕ) (os : List Operand) (o : Operand) (rest : List Operand) (j b : ℕ) → os ≡ o ∷ rest → pattern_at lanes os j b ≡ (if digit (operand_word lanes o j) b then 2 ^ length rest else 0) + pattern_at lanes rest j b
+unfolding pattern
+at_one_more lanes os o rest j b parts = ap (pattern (λ (x : Operand). digit (operand_word lanes x j) b)) parts
+
+-- ---- rows
+
+pub rows_are : (k rows : ℕ) → rows ≡ 2 ^ k → AreRows rows
+rows_are k rows e = record {
+  some = subst (λ (n : ℕ). 1 ≤ n) (sym e) (above_zero k);
+  whole = λ many.
+      ⊎_elim
+      (λ (few : k < 6).
+      let less : 2 ^ k ≤ 32 = at_most_32 k (omega (arith, few)) in
+      absurd (omega (arith, less, many, e)))
+      (λ (more : 6 ≤ k).
+      let split : k ≡ 6 + (k - 6) = omega (arith, more) in
+      let parts : 2 ^ k ≡ 64 * 2 ^ (k - 6) = ap (λ (n : ℕ). 2 ^ n) split ∙ pow-add 2 6 (k - 6) in
+      omega (arith, parts, e))
+      (cases_lt k 6);
+}
+
+-- ---- operands that end before the end
+
+pub all_end_less : (end count count' : ℕ) (os : List Operand) → count' ≤ count → AllEnd end count os → AllEnd end count' os
+unfolding AllEnd
+all_end_less end count count' os less all = λ i o e. ends_less end count count' o less (all i o e)
+
+pub all_end_first : (end count : ℕ) (os : List Operand) (o : Operand) (rest : List Operand) → os ≡ o ∷ rest → AllEnd end count os → EndsBefore end count o
+unfolding AllEnd
+all_end_first end count os o rest parts all = all 0 o (ap (λ (xs : List Operand). slice_get xs 0) parts)
+
+pub all_end_rest : (end count : ℕ) (os : List Operand) (o : Operand) (rest : List Operand) → os ≡ o ∷ rest → AllEnd end count os → AllEnd end count rest
+unfolding AllEnd
+all_end_rest end count os o rest parts all = λ i x e. all (suc i) x (ap (λ (xs : List Operand). slice_get xs (suc i)) parts ∙ e)
+
+-- ---- where signals have their rows
+
+slice_get_map : (xs : List (ℕ × Gate)) (k p : ℕ) → k < length xs → ((d : ℕ × Gate) → place_of (get_or xs k d) ≡ p) → slice_get (map place_of xs) k ≡ Some p
+slice_get_map [] k p low same = absurd (omega (arith, low))
+slice_get_map (x ∷ xs) zero p low same = ap Some (same x)
+slice_get_map (x ∷ xs) (suc k) p low same = slice_get_map xs k p (omega (arith, low)) same
+
+pub at_behind : (xs ys : List ℕ) (k p : ℕ) → slice_get ys k ≡ Some p → slice_get (xs ++ ys) (length xs + k) ≡ Some p
+at_behind [] ys k p e =
+    let place : 0 + k ≡ k = omega arith in
+    ap (slice_get ys) place ∙ e
+at_behind (x ∷ xs) ys k p e =
+    let place : suc (length xs) + k ≡ suc (length xs + k) = omega arith in
+    ap (slice_get (x ∷ (xs ++ ys))) place ∙ at_behind xs ys k p e
+
+pub leaf_operand : (c : Cone) (p k width : ℕ) → slice_get c.leaves k ≡ Some p → IsOperandOf (places c) width (sigs.Place p) (operands.Row (k * width))
+leaf_operand c p k width at = (k, at_front c.leaves (map place_of c.gates) k p at, refl)
+
+pub gate_operand : (c : Cone) (p k width : ℕ) → k < length c.gates → ((d : ℕ × Gate) → place_of (get_or c.gates k d) ≡ p) → IsOperandOf (places c) width (sigs.Place p) (operands.Row ((length c.leaves + k) * width))
+gate_operand c p k width low same = (length c.leaves + k, at_behind c.leaves (map place_of c.gates) k p (slice_get_map c.gates k p low same), refl)
+
+pub places_count : (c : Cone) → length (places c) ≡ length c.leaves + length c.gates
+places_count c = length-append c.leaves (map place_of c.gates) ∙ ap (λ (n : ℕ). length c.leaves + n) (length-map c.gates place_of)
+
+pub row_room : (c : Cone) (k width : ℕ) → k < length (places c) → length (places c) * width < 2 ^ 64 → k * width < 2 ^ 64
+row_room c k width low room = omega (arith, room, mul-le k (length (places c)) width low) where
+  mul-le : (k n w : ℕ) → k < n → k * w ≤ n * w
+  mul-le k n w lt = mul-le-mul_right w (omega (arith, lt))
+
+-- a place that is neither a leaf nor a gate isn't among the places
+nowhere : (xs : List ℕ) (ys : List (ℕ × Gate)) (p k : ℕ) → ((i d : ℕ) → i < length xs → get_or xs i d ≡ p → ⊥) → ((i : ℕ) (d : ℕ × Gate) → i < length ys → place_of (get_or ys i d) ≡ p → ⊥) → slice_get (xs ++ map place_of ys) k ≡ Some p → ⊥
+nowhere [] [] p k none_x none_y e = cc
+nowhere [] (y ∷ ys) p zero none_x none_y e = none_y 0 y (omega arith) (some_same (place_of y) p e)
+nowhere [] (y ∷ ys) p (suc k) none_x none_y e = nowhere [] ys p k none_x (λ i d low same. none_y (suc i) d (omega (arith, low)) same) e
+nowhere (x ∷ xs) ys p zero none_x none_y e = none_x 0 x (omega arith) (some_same x p e)
+nowhere (x ∷ xs) ys p (suc k) none_x none_y e = nowhere xs ys p k (λ i d low same. none_x (suc i) d (omega (arith, low)) same) none_y e
+
+pub no_operand : (c : Cone) (p : ℕ) → IsSigAmong (places c) (sigs.Place p) → ((i d : ℕ) → i < length c.leaves → get_or c.leaves i d ≡ p → ⊥) → ((i : ℕ) (d : ℕ × Gate) → i < length c.gates → place_of (get_or c.gates i d) ≡ p → ⊥) → ⊥
+no_operand c p known none_x none_y = nowhere c.leaves c.gates p known.0 none_x none_y known.1
+
+-- ---- operands of all signals
+
+pub operands_none : (ps : List ℕ) (width : ℕ) (signals : List Sig) (os : List Operand) → AreOperands ps width signals 0 os
+operands_none ps width signals os = record { each = λ i s low e. absurd (omega (arith, low)) }
+
+pub operands_more : (ps : List ℕ) (width : ℕ) (signals : List Sig) (i : ℕ) (os : List Operand) (s : Sig) (o : Operand) → AreOperands ps width signals i os → i < length os → slice_get signals i ≡ Some s → IsOperandOf ps width s o → AreOperands ps width signals (i + 1) (set os i o)
+operands_more ps width signals i os s o are room here is = record {
+  each = λ k x low at.
+      ⊎_elim
+      (λ (before : k < i). subst (IsOperandOf ps width x) (sym (get_or-set_other os i k o operands.Zero (λ e. omega (arith, e, before)))) (are.each k x before at))
+      (λ (past : i ≤ k).
+      let same : k ≡ i = omega arith in
+      let signal : s ≡ x = some_same s x (sym here ∙ ap (slice_get signals) (sym same) ∙ at) in
+      let put : get_or (set os i o) k operands.Zero ≡ o = ap (λ (n : ℕ). get_or (set os i o) n operands.Zero) same ∙ get_or-set_same os i o operands.Zero room in
+      subst (λ (y : Sig). IsOperandOf ps width y (get_or (set os i o) k operands.Zero)) signal (subst (IsOperandOf ps width s) (sym put) is))
+      (cases_lt k i);
+}
+
+-- the operand of each signal that is used
+used_at : (ps : List ℕ) (width : ℕ) (signals : List Sig) (os : List Operand) (i : ℕ) (o : Operand) (s : Sig) → AreOperands ps width signals (length signals) os → length signals ≤ length os → slice_get (take (length signals) os) i ≡ Some o → slice_get signals i ≡ Some s → IsOperandOf ps width s o
+used_at ps width signals os i o s are room at_o at_s =
+    let low : i < length signals = slice_get_within signals i s at_s in
+    let long : length (take (length signals) os) ≡ length signals = length-take-le (length signals) os room in
+    let is : get_or (take (length signals) os) i operands.Zero ≡ o = some_same _ _ (sym (slice_get-get_or (take (length signals) os) i operands.Zero (omega (arith, low, long))) ∙ at_o) in
+    subst (IsOperandOf ps width s) (sym (get_or-take (length signals) os i operands.Zero low) ∙ is) (are.each i s low at_s)
+
+pub used_end : (c : Cone) (w : Words) (signals : List Sig) (os : List Operand) → AreWords c w → AreOperands (places c) (width_of w.rows) signals (length signals) os → length signals ≤ length os → AllEnd (length w.lanes) (width_of w.rows) (take (length signals) os)
+unfolding AllEnd
+used_end c w signals os words are room = λ i o at.
+    let long : length (take (length signals) os) ≡ length signals = length-take-le (length signals) os room in
+    let low : i < length signals = omega (arith, slice_get_within (take (length signals) os) i o at, long) in
+    let s : Sig = get_or signals i sigs.Zero in
+    operand_ends (places c) (width_of w.rows) (length w.lanes) s o (used_at (places c) (width_of w.rows) signals os i o s are room at (slice_get-get_or signals i sigs.Zero low)) (omega (arith, words.size))
+
+same_pattern : (c : Cone) (w : Words) (signals : List Sig) (os : List Operand) (j b : ℕ) → AreWords c w → AreOperands (places c) (width_of w.rows) signals (length signals) os → length signals ≤ length os → b < 64 → 64 * j + b < w.rows
+    → pattern_at w.lanes (take (length signals) os) j b ≡ pattern_under c signals (64 * j + b)
+same_pattern c w signals os j b words are room low within =
+    pattern_same (λ (o : Operand). digit (operand_word w.lanes o j) b) (sig_value (value_in c (64 * j + b))) (take (length signals) os) signals (length-take-le (length signals) os room)
+    (λ i o s at_o at_s. operand_bit (places c) (value_in c) (width_of w.rows) w.rows w.lanes s o j b (words_are_lanes c w words) (used_at (places c) (width_of w.rows) signals os i o s are room at_o at_s) low within)
+
+-- What the rows of the signals show is what the signals show.
+pub patterns_are : (c : Cone) (w : Words) (signals : List Sig) (os : List Operand) (n found : ℕ) → AreWords c w → AreOperands (places c) (width_of w.rows) signals (length signals) os → length signals ≤ length os
+    → AreSeenBelow n (pattern_at w.lanes (take (length signals) os)) w.rows (width_of w.rows) found → ArePatterns c signals found
+patterns_are c w signals os n found words are room seen = record {
+  only = λ t e.
+      let r = seen.only t e in
+      let row : ℕ = 64 * r.0 + r.1 in
+      (row, subst (λ (k : ℕ). row < k) words.rows r.3, sym (same_pattern c w signals os r.0 r.1 words are room r.2 r.3) ∙ r.4);
+  all = λ row low.
+      let rows : row < w.rows = subst (λ (k : ℕ). row < k) (sym words.rows) low in
+      let whole : 64 * (row / 64) + row % 64 ≡ row = omega arith in
+      let within : 64 * (row / 64) + row % 64 < w.rows = omega (arith, rows) in
+      let e : digit found (pattern_at w.lanes (take (length signals) os) (row / 64) (row % 64)) ≡ true = seen.all (row / 64) (row % 64) (omega (arith, rows)) (omega arith) within in
+      ap (λ (k : ℕ). digit found (pattern_under c signals k)) (sym whole)
+      ∙ ap (digit found) (sym (same_pattern c w signals os (row / 64) (row % 64) words are room (omega arith) within))
+      ∙ e;
+}
+
+-- ---- how many words there are
+
+pub cone_rows : (n : ℕ) → n ≤ 12 → 1 * 2 ^ n % 4294967296 ≡ 2 ^ n
+cone_rows n few = one_shl n 32 (omega (arith, few))
+
+pub cone_width : (n : ℕ) → n ≤ 12 → width_of (1 * 2 ^ n % 4294967296) ≤ 64
+cone_width n few =
+    let less : 2 ^ n ≤ 4096 = most n few in
+    omega (arith, cone_rows n few, less)
+  where
+    most : (k : ℕ) → k ≤ 12 → 2 ^ k ≤ 2 ^ 12
+    most k low = pow_mono low

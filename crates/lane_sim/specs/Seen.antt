@@ -1,0 +1,38 @@
+-- Which patterns some of 64 assignments show, and which those of the first words show.
+use Rattle.std.specs.Prelude.{◌≡◌, ℕ, ◌+◌, ◌*◌, ◌≤◌, ◌<◌, ◌^◌, ◌%◌, true, List, slice_get, slice_index_or, Some}
+use Rattle.chain_theory.specs.Operator.{digit}
+use Rattle.net_theory.specs.declared.data.Sig.{Sig}
+use Rattle.lane_sim.specs.declared.rows.Operand.{Operand}
+use Rattle.lane_sim.specs.declared.rows.Operand.TheVariants.{Zero}
+use Rattle.lane_sim.specs.Combining.{operand_word, EndsBefore}
+use Rattle.lane_sim.specs.Rows.{IsOperandOf}
+use Rattle.lane_sim.specs.Words.{pattern}
+
+-- the pattern of operands under assignment b of word j
+abbrev pub pattern_at : List ℕ → List Operand → ℕ → ℕ → ℕ
+pattern_at lanes operands j b = pattern (λ (o : Operand). digit (operand_word lanes o j) b) operands
+
+-- The digits of `seen` are 1 exactly at the patterns, of n bits, of the assignments of a word under a mask.
+pub record AreSeen (n : ℕ) (at : ℕ → ℕ) (mask seen : ℕ) : Type 0 where
+  pub low : seen < 2 ^ 2 ^ n
+  pub only : (t : ℕ) → digit seen t ≡ true → (b : ℕ) × (b < 64) × (digit mask b ≡ true) × (at b ≡ t)
+  pub all : (b : ℕ) → b < 64 → digit mask b ≡ true → digit seen (at b) ≡ true
+
+-- The same of the assignments of the first words, as far as there are rows.
+pub record AreSeenBelow (n : ℕ) (at : ℕ → ℕ → ℕ) (rows count seen : ℕ) : Type 0 where
+  pub low : seen < 2 ^ 2 ^ n
+  pub only : (t : ℕ) → digit seen t ≡ true → (j : ℕ) × (b : ℕ) × (b < 64) × (64 * j + b < rows) × (at j b ≡ t)
+  pub all : (j b : ℕ) → j < count → b < 64 → 64 * j + b < rows → digit seen (at j b) ≡ true
+
+-- there are rows, and from 64 on they fill whole words
+pub record AreRows (rows : ℕ) : Type 0 where
+  pub some : 1 ≤ rows
+  pub whole : 64 ≤ rows → rows % 64 ≡ 0
+
+-- the rows of all operands end before the end of the lanes
+unfoldable pub AllEnd : ℕ → ℕ → List Operand → Type 0
+AllEnd end count operands = (i : ℕ) (o : Operand) → slice_get operands i ≡ Some o → EndsBefore end count o
+
+-- the first operands are the rows of these signals
+pub record AreOperands (ps : List ℕ) (width : ℕ) (signals : List Sig) (count : ℕ) (operands : List Operand) : Type 0 where
+  pub each : (i : ℕ) (s : Sig) → i < count → slice_get signals i ≡ Some s → IsOperandOf ps width s (slice_index_or operands i Zero)

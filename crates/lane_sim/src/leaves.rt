@@ -1,0 +1,74 @@
+//! Rows of leaves. A leaf's bit under an assignment is a digit of the assignment's number, so the words of the
+//! last six leaves are six fixed patterns, and those of the leaves before are all ones or all zeros.
+
+ghost use Rattle.std.specs.Prelude.{◌≡◌, ℕ, ◌+◌, ◌*◌, ◌≤◌, ◌<◌, [], length, OnOk};
+ghost use Rattle.chain_theory.specs.Operator.{digit};
+ghost use Rattle.lane_sim.specs.Rows.{IsRow, IsPut, AreLeaves};
+
+use crate::combining::spread;
+use crate::cone::Cone;
+use indexmap::IndexSet;
+use std::alloc::AllocError;
+
+/// Word `j` of a leaf whose bit is digit `k` of the assignment.
+#[tactic(auto, using(crate::specs::WordLaws::leaves))]
+fn leaf_word(j: usize, k: usize) -> u64
+    requires { k < 64 }
+    ensures { (b : ℕ) → b < 64 → digit result b ≡ digit (64 * j + b) k }
+{
+    match k {
+        0 => 0xaaaa_aaaa_aaaa_aaaa,
+        1 => 0xcccc_cccc_cccc_cccc,
+        2 => 0xf0f0_f0f0_f0f0_f0f0,
+        3 => 0xff00_ff00_ff00_ff00,
+        4 => 0xffff_0000_ffff_0000,
+        5 => 0xffff_ffff_0000_0000,
+        _ => spread((j >> (k - 6)) & 1 == 1),
+    }
+}
+
+/// Writes the row of a leaf whose bit is digit `k` of the assignment.
+#[tactic(auto, using(crate::specs::RowLaws::filling))]
+fn write_leaf(lanes: &mut [u64], start: usize, width: usize, k: usize)
+    requires room { start + width ≡ length lanes.old }
+    requires digit { k < 64 }
+    ensures { IsRow (λ row. digit row k) start width lanes.old lanes.new }
+{
+    for j in 0..width {
+        lanes[start + j] = leaf_word(j, k);
+    }
+}
+
+/// Puts the row of such a leaf behind the others.
+#[tactic(auto, using(crate::specs::RowLaws::filling))]
+fn push_leaf(lanes: &mut Vec<u64>, width: usize, k: usize) -> Result<(), AllocError>
+    requires width { width ≤ 64 }
+    requires digit { k < 64 }
+    ensures { OnOk result (IsPut (λ row. digit row k) width lanes.old.items lanes.new.items) }
+{
+    let start = lanes.len();
+    lanes.resize(start + width, 0)?;
+    write_leaf(lanes, start, width, k);
+    Ok(())
+}
+
+/// Puts the rows of all leaves behind each other, and takes down the places.
+pub fn simulate_leaves(
+    lanes: &mut Vec<u64>,
+    places: &mut IndexSet<u32>,
+    width: usize,
+    cone: &Cone,
+) -> Result<(), AllocError>
+    requires width { width ≤ 64 }
+    requires lanes { lanes.old.items ≡ [] }
+    requires places { places.old.keys ≡ [] }
+    ensures { OnOk result (AreLeaves cone.now width places.new.keys lanes.new.items []) }
+{
+    let mut left = cone.leaves();
+    while let Some((place, rest)) = left.split_first() {
+        push_leaf(lanes, width, rest.len())?;
+        places.insert(*place)?;
+        left = rest;
+    }
+    Ok(())
+}

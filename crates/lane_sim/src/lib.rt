@@ -1,0 +1,22 @@
+//! Values of a part of a net under all assignments of its leaves at once: 64 assignments in a word, and four
+//! words at a time. What a cone is, and what its values are, is said in `specs/Cone.antt` by a walk over its
+//! gates; what words hold and which patterns signals show is said in `specs/Words.antt`.
+//!
+//! The one theorem: the words are the plain values for every number of leaves from 0 to 12, and a mask of
+//! patterns leaves none out and adds none.
+#![tactic(auto)]
+
+mod combining;
+mod cone;
+pub mod laws;
+mod leaves;
+mod rows;
+mod showing;
+mod simulation;
+mod words;
+
+pub use cone::Cone;
+pub use net_theory::{Gate, Sig};
+pub use showing::patterns;
+pub use simulation::cone_words;
+pub use words::Words;

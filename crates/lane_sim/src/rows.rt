@@ -1,0 +1,94 @@
+//! Rows of words: what operands are, and the row that a gate makes of its operands' rows, four words at a
+//! time and the rest one by one.
+
+ghost use Rattle.std.specs.Prelude.{◌≡◌, ◌+◌, ◌≤◌, ◌<◌, ◌^◌, length, slice_set};
+ghost use Rattle.std.specs.Simd.Lanes.{put_chunk};
+ghost use Rattle.lane_sim.specs.Combining.{operand_word, operand_four, EndsBefore, combined, combined_four};
+ghost use Rattle.lane_sim.specs.Rows.{IsWritten};
+
+use crate::combining::{Masks, combine, combine_four};
+use std::simd::prelude::*;
+
+/// What a gate reads: a constant, or the row that begins at this place of the lanes.
+#[derive(Clone, Copy, Debug)]
+pub enum Operand {
+    Zero,
+    One,
+    Row(usize),
+}
+
+/// A word of an operand.
+pub fn word(lanes: &[u64], operand: Operand, j: usize) -> u64
+    requires { EndsBefore (length lanes.now) (j + 1) operand }
+    ensures value { result ≡ operand_word lanes.now operand j }
+    ensures small { result < 2 ^ 64 }
+{
+    match operand {
+        Operand::Zero => 0,
+        Operand::One => u64::MAX,
+        Operand::Row(start) => lanes[start + j],
+    }
+}
+
+/// Four words of an operand.
+fn four(lanes: &[u64], operand: Operand, j: usize) -> u64x4
+    requires { EndsBefore (length lanes.now) (j + 4) operand }
+    ensures value { result ≡ operand_four lanes.now operand j }
+    ensures count { length result ≡ 4 }
+{
+    match operand {
+        Operand::Zero => u64x4::splat(0),
+        Operand::One => u64x4::splat(u64::MAX),
+        Operand::Row(start) => u64x4::from_slice(&lanes[start + j..]),
+    }
+}
+
+/// Writes four words of a gate's row.
+fn write_four(lanes: &mut [u64], masks: Masks, a: Operand, b: Operand, start: usize, j: usize)
+    requires room { start + j + 4 ≤ length lanes.old }
+    requires first { EndsBefore start (j + 4) a }
+    requires second { EndsBefore start (j + 4) b }
+    ensures { lanes.new ≡ put_chunk (start + j) lanes.old (combined_four masks (operand_four lanes.old a j) (operand_four lanes.old b j)) }
+{
+    let a = four(lanes, a, j);
+    let b = four(lanes, b, j);
+    combine_four(masks, a, b).copy_to_slice(&mut lanes[start + j..]);
+}
+
+/// Writes one word of a gate's row.
+fn write_one(lanes: &mut [u64], masks: Masks, a: Operand, b: Operand, start: usize, j: usize)
+    requires room { start + j < length lanes.old }
+    requires first { EndsBefore start (j + 1) a }
+    requires second { EndsBefore start (j + 1) b }
+    ensures { lanes.new ≡ slice_set lanes.old (start + j) (combined masks (operand_word lanes.old a j) (operand_word lanes.old b j)) }
+{
+    let a = word(lanes, a, j);
+    let b = word(lanes, b, j);
+    lanes[start + j] = combine(masks, a, b);
+}
+
+/// Writes a gate's row: whole vectors of words, and then the rest.
+#[tactic(auto, using(crate::specs::RowLaws::writing))]
+pub fn write_gate(
+    lanes: &mut [u64],
+    masks: Masks,
+    a: Operand,
+    b: Operand,
+    start: usize,
+    width: usize,
+)
+    requires room { start + width ≡ length lanes.old }
+    requires first { EndsBefore start width a }
+    requires second { EndsBefore start width b }
+    ensures { IsWritten masks a b start width lanes.old lanes.new }
+{
+    let mut j: usize = 0;
+    while j + 4 <= width {
+        write_four(lanes, masks, a, b, start, j);
+        j += 4;
+    }
+    while j < width {
+        write_one(lanes, masks, a, b, start, j);
+        j += 1;
+    }
+}

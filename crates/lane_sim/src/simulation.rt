@@ -1,0 +1,88 @@
+//! The words of a cone's signals: a row for each leaf, and then a row for each gate from the rows of its
+//! operands, which were put down before it.
+
+ghost use Rattle.std.specs.Prelude.{◌≡◌, ◌+◌, ◌*◌, ◌≤◌, ◌<◌, ◌^◌, [], length, IfOk, OnOk, vec_len};
+ghost use Rattle.lane_sim.specs.Cone.{IsSigAmong, IsGateOver};
+ghost use Rattle.lane_sim.specs.Rows.{IsOperandOf, IsGatePut, AreLeaves, AreGatesOf};
+ghost use Rattle.lane_sim.specs.Words.{AreWords, width_of};
+
+use crate::combining::masks_for;
+use crate::cone::Cone;
+use crate::leaves::simulate_leaves;
+use crate::rows::{Operand, write_gate};
+use crate::words::{Words, width_of};
+use indexmap::IndexSet;
+use net_theory::{Gate, Sig};
+use std::alloc::{AllocError, Global};
+
+/// The row of a signal, by the places whose rows there are.
+#[tactic(auto, using(crate::specs::PlaceLaws::found_at))]
+fn operand(places: &IndexSet<u32>, width: usize, sig: Sig) -> Operand
+    requires known { IsSigAmong places.now.keys sig }
+    requires room { length places.now.keys * width < 2 ^ 64 }
+    ensures { IsOperandOf places.now.keys width sig result }
+{
+    match sig {
+        Sig::Zero => Operand::Zero,
+        Sig::One => Operand::One,
+        Sig::Place(place) => match places.get_index_of(&place) {
+            Some(k) => Operand::Row(k * width),
+            None => Operand::Zero,
+        },
+    }
+}
+
+/// Puts the row of a gate behind the others.
+fn push_gate(
+    lanes: &mut Vec<u64>,
+    places: &IndexSet<u32>,
+    width: usize,
+    gate: Gate,
+) -> Result<(), AllocError>
+    requires width { width ≤ 64 }
+    requires size { vec_len lanes.old ≡ length places.now.keys * width }
+    requires known { IsGateOver places.now.keys gate }
+    ensures { OnOk result (IsGatePut places.now.keys gate width lanes.old.items lanes.new.items) }
+{
+    let start = lanes.len();
+    let a = operand(places, width, gate.a);
+    let b = operand(places, width, gate.b);
+    lanes.resize(start + width, 0)?;
+    write_gate(lanes, masks_for(gate.op), a, b, start, width);
+    Ok(())
+}
+
+/// Puts the rows of all gates behind those of the leaves.
+fn simulate_gates(
+    lanes: &mut Vec<u64>,
+    places: &mut IndexSet<u32>,
+    width: usize,
+    cone: &Cone,
+) -> Result<(), AllocError>
+    requires width { width ≤ 64 }
+    requires leaves { AreLeaves cone.now width places.old.keys lanes.old.items [] }
+    ensures { OnOk result (AreGatesOf cone.now width places.new.keys lanes.new.items []) }
+{
+    let mut left = cone.gates();
+    while let Some((first, rest)) = left.split_first() {
+        push_gate(lanes, places, width, first.1)?;
+        places.insert(first.0)?;
+        left = rest;
+    }
+    Ok(())
+}
+
+/// The words of all signals of a cone, the leaves in order and then the gates in order: bit `b` of word `j` of
+/// a signal is its plain value under the assignment `64 * j + b`, whose most significant digit is the first
+/// leaf's bit.
+pub fn cone_words(alloc: Global, cone: &Cone) -> Result<Words, AllocError>
+    ensures { IfOk result (λ words. AreWords cone.now words) }
+{
+    let rows = 1u32 << cone.leaves().len();
+    let width = width_of(rows);
+    let mut lanes = Vec::new(alloc);
+    let mut places = IndexSet::new(alloc);
+    simulate_leaves(&mut lanes, &mut places, width, cone)?;
+    simulate_gates(&mut lanes, &mut places, width, cone)?;
+    Ok(Words { lanes, rows })
+}
