@@ -1,9 +1,11 @@
-//! Tests of the crates of chains, tables, texts and ports: worked examples of what their definitions
+//! Tests of the crates of chains, tables, bounds, texts and ports: worked examples of what their definitions
 //! mean, refusals with their lines, and calls that take memory.
 #![tactic(auto)]
 
 #[cfg(test)]
 mod blocks;
+#[cfg(test)]
+mod bounds;
 #[cfg(test)]
 mod operators;
 #[cfg(test)]

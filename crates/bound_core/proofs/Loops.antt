@@ -1,0 +1,81 @@
+-- Loops that look for a number that passes, and loops that count.
+use Rattle.std.proofs.Common.{◌≡◌, ℕ, ◌+◌, ◌-◌, ◌*◌, ◌%◌, ◌<◌, ◌≤◌, ◌^◌, Bool, true, false, length, cond, refl, arith, add-one, sym}
+use Rattle.std.specs.Prelude.{max, bit_xor}
+use Rattle.std.proofs.lemmas.Grind.{common_steps}
+use Rattle.std.proofs.Math.Pow.{pow_mono}
+use Rattle.std.proofs.lemmas.Nat.{xor_lt}
+use Rattle.chain_theory.specs.Levels as levels
+use Rattle.tt_core.specs.RowLaws.{row_below}
+use Rattle.tt_core.specs.Words.{Words, specification, cell_of}
+use Rattle.tt_core.specs.Live.{is_live}
+use Rattle.bound_core.specs.Used.{are_opposite}
+use Rattle.bound_core.specs.Counts.{some_below, count_below, turns_on, uses, live_uses, is_in_use, parts_on, differ, live_like, is_new}
+use Rattle.bound_core.specs.CountLaws.{passes_some, less_power}
+
+-- no number yet
+pub some_none : (test : ℕ → Bool) → some_below test 0 ≡ false
+unfolding some_below
+some_none test = refl
+
+-- one number more that doesn't pass
+pub some_more : (test : ℕ → Bool) (k : ℕ) → some_below test k ≡ false → test k ≡ false → some_below test (k + 1) ≡ false
+unfolding some_below
+some_more test k before here = rw (add-one, before, here) refl
+
+-- a number that passes
+pub some_at : (test : ℕ → Bool) (k bound : ℕ) → test k ≡ true → k < bound → some_below test bound ≡ true
+some_at test k bound here low = passes_some test bound k low here
+
+pub ruleset passing = (common_steps, some_none, some_more, some_at, row_below)
+
+pub count_none : (test : ℕ → Bool) → count_below test 0 ≡ 0
+unfolding count_below
+count_none test = refl
+
+pub count_more : (test : ℕ → Bool) (k : ℕ) → count_below test (k + 1) ≡ count_below test k + cond (test k) 1 0
+unfolding count_below
+count_more test k = rw add-one refl
+
+pub ruleset counting = (common_steps, count_none, count_more)
+
+pub greatest_none : (f : ℕ → ℕ) → levels.greatest f 0 ≡ 0
+unfolding levels.greatest
+greatest_none f = refl
+
+pub greatest_more : (f : ℕ → ℕ) (k : ℕ) → levels.greatest f (k + 1) ≡ max (levels.greatest f k) (f k)
+unfolding levels.greatest
+greatest_more f k = rw add-one refl
+
+pub ruleset greatest = (common_steps, greatest_none, greatest_more)
+
+-- a shift by at most six places is a power
+pub power_small : (n j : ℕ) → n ≤ 6 → (1 * 2 ^ (n - j)) % 4294967296 ≡ 2 ^ (n - j)
+power_small n j few = let wide : 2 ^ (n - j) ≤ 2 ^ 6 = pow_mono {i = n - j} {j = 6} (omega arith) in omega (arith, wide)
+
+pub turned_row : (n j t : ℕ) → n ≤ 6 → 1 ≤ j → j ≤ n → t < 2 ^ n → bit_xor t ((1 * 2 ^ (n - j)) % 4294967296) < 2 ^ n
+turned_row n j t few some low inside = rw (power_small n j few) (xor_lt n t (2 ^ (n - j)) inside (less_power (n - j) n (omega arith)))
+
+pub ruleset turning = (common_steps, turned_row, power_small)
+
+-- ---- what is found
+
+pub uses_at : (w : Words) (h j t : ℕ) → turns_on (specification w) h j t ≡ true → t < 2 ^ w.n → true ≡ uses (specification w) h j
+unfolding uses
+uses_at w h j t e low = sym (passes_some (turns_on (specification w) h j) (2 ^ w.n) t low e)
+
+pub in_use_at : (w : Words) (before output : ℕ) → uses (specification w) (output + 1) (before + 1) ≡ true → is_live (specification w) (output + 1) ≡ true → output < length w.on → true ≡ is_in_use (specification w) before
+unfolding is_in_use live_uses
+in_use_at w before output used live low =
+    let both : live_uses (specification w) (before + 1) output ≡ true = rw (used, live) refl in
+    sym (passes_some (live_uses (specification w) (before + 1)) (length w.on) output low both)
+
+pub differ_at : (w : Words) (g h t : ℕ) → are_opposite (cell_of w g t) (cell_of w h t) ≡ true → t < 2 ^ w.n → true ≡ differ (specification w) g h
+unfolding differ parts_on
+differ_at w g h t e low = sym (passes_some (parts_on (specification w) g h) (2 ^ w.n) t low e)
+
+pub new_fails : (w : Words) (before earlier : ℕ) → differ (specification w) (earlier + 1) (before + 1) ≡ false → is_live (specification w) (earlier + 1) ≡ true → earlier < before → false ≡ is_new (specification w) before
+unfolding is_new live_like
+new_fails w before earlier same live low =
+    let both : live_like (specification w) (before + 1) earlier ≡ true = rw (same, live) refl in
+    let some : some_below (live_like (specification w) (before + 1)) before ≡ true = passes_some (live_like (specification w) (before + 1)) before earlier low both in
+    rw some refl

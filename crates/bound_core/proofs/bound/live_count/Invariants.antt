@@ -1,0 +1,10 @@
+use Rattle.std.proofs.Common.{◌≡◌, ◌≤◌}
+use Rattle.tt_core.specs.Words.{specification}
+use Rattle.bound_core.specs.Counts.{count_below, live_next}
+use Rattle.bound_core.proofs.bound.live_count.Given as goal
+
+abbrev pub invariant-loop-before : goal.invariant-loop-before
+invariant-loop-before l = record {
+  count : l.count ≡ count_below (live_next (specification l.spec)) l.before;
+  few : l.count ≤ l.before;
+}

@@ -1,0 +1,78 @@
+-- How many steps a specification asks for at least, by counts of the inputs that are used and of the
+-- outputs that differ.
+use Rattle.std.specs.Prelude.{ℕ, zero, suc, ◌+◌, ◌-◌, ◌^◌, Bool, false, ◌&&◌, ◌||◌, not, max, bit_xor, if◌then◌else◌}
+use Rattle.chain_theory.specs.Specification.{Specification}
+use Rattle.chain_theory.specs.Levels.{greatest}
+use Rattle.tt_core.specs.Live.{is_live}
+use Rattle.bound_core.specs.Used.{are_opposite}
+
+-- whether one of the numbers below k passes
+unfoldable pub some_below : (ℕ → Bool) → ℕ → Bool
+some_below test zero = false
+some_below test (suc k) = some_below test k || test k
+
+-- how many of the numbers below k pass
+unfoldable pub count_below : (ℕ → Bool) → ℕ → ℕ
+count_below test zero = 0
+count_below test (suc k) = count_below test k + (if test k then 1 else 0)
+
+-- row t of n inputs with the bit of input j turned
+-- Example: of three inputs, row 1 (001) with x1 turned is row 5 (101).
+unfoldable pub turned : ℕ → ℕ → ℕ → ℕ
+turned n j t = bit_xor t (2 ^ (n - j))
+
+-- output h is asked for 0 and for 1 on row t and on that row with input j turned
+unfoldable pub turns_on : Specification → ℕ → ℕ → ℕ → Bool
+turns_on s h j t = are_opposite (s.cell h t) (s.cell h (turned s.inputs j t))
+
+-- output h uses input j
+-- Example: 0011 uses x1 and not x2.
+unfoldable pub uses : Specification → ℕ → ℕ → Bool
+uses s h j = some_below (turns_on s h j) (2 ^ s.inputs)
+
+-- input i + 1 is used by output h
+unfoldable pub uses_next : Specification → ℕ → ℕ → Bool
+uses_next s h i = uses s h (i + 1)
+
+-- how many inputs output h uses
+abbrev pub inputs_of : Specification → ℕ → ℕ
+inputs_of s h = count_below (uses_next s h) s.inputs
+
+-- output i + 1 is live
+unfoldable pub live_next : Specification → ℕ → Bool
+live_next s i = is_live s (i + 1)
+
+-- output i + 1 is live and uses input j
+unfoldable pub live_uses : Specification → ℕ → ℕ → Bool
+live_uses s j i = uses s (i + 1) j && is_live s (i + 1)
+
+-- some live output uses input i + 1
+unfoldable pub is_in_use : Specification → ℕ → Bool
+is_in_use s i = some_below (live_uses s (i + 1)) s.outputs
+
+-- outputs g and h are asked for 0 and for 1 on row t
+unfoldable pub parts_on : Specification → ℕ → ℕ → ℕ → Bool
+parts_on s g h t = are_opposite (s.cell g t) (s.cell h t)
+
+-- outputs g and h differ
+unfoldable pub differ : Specification → ℕ → ℕ → Bool
+differ s g h = some_below (parts_on s g h) (2 ^ s.inputs)
+
+-- output i + 1 is live and doesn't differ from output h
+unfoldable pub live_like : Specification → ℕ → ℕ → Bool
+live_like s h i = not (differ s (i + 1) h) && is_live s (i + 1)
+
+-- output i + 1 is live, and differs from each live output before it
+unfoldable pub is_new : Specification → ℕ → Bool
+is_new s i = not (some_below (live_like s (i + 1)) i) && is_live s (i + 1)
+
+-- the inputs that output i + 1 uses, less 1
+unfoldable pub single : Specification → ℕ → ℕ
+single s i = inputs_of s (i + 1) - 1
+
+-- The most of: the live outputs that differ from those before them; for each output the inputs that
+-- it uses, less 1; the inputs that live outputs use, less the number of live outputs.
+-- Example: the exclusive or of four inputs asks for 3 steps at least. Of the tables 0110 and 0001 of
+-- two inputs both are live and differ, which makes 2.
+abbrev pub fewest : Specification → ℕ
+fewest s = max (count_below (is_new s) s.outputs) (max (greatest (single s) s.outputs) (count_below (is_in_use s) s.inputs - count_below (live_next s) s.outputs))

@@ -1,0 +1,6 @@
+pub mod Used
+pub mod Counts
+pub mod Places
+pub mod Needed
+pub mod Different
+pub mod CountLaws
