@@ -1,16 +1,16 @@
 -- Loops that look for a number that passes, and loops that count.
-use Rattle.std.proofs.Common.{◌≡◌, ℕ, ◌+◌, ◌-◌, ◌*◌, ◌%◌, ◌<◌, ◌≤◌, ◌^◌, Bool, true, false, length, cond, refl, arith, add-one, sym}
-use Rattle.std.specs.Prelude.{max, bit_xor}
+use Rattle.std.proofs.Common.{◌≡◌, ℕ, suc, ◌+◌, ◌-◌, ◌*◌, ◌%◌, ◌<◌, ◌≤◌, ◌^◌, Bool, true, false, length, cond, refl, arith, add-one, sym}
+use Rattle.std.specs.Prelude.{max}
 use Rattle.std.proofs.lemmas.Grind.{common_steps}
 use Rattle.std.proofs.Math.Pow.{pow_mono}
-use Rattle.std.proofs.lemmas.Nat.{xor_lt}
+use Rattle.std.proofs.Math.Nat.{two-pow-succ}
 use Rattle.chain_theory.specs.Levels as levels
 use Rattle.tt_core.specs.RowLaws.{row_below}
 use Rattle.tt_core.specs.Words.{Words, specification, cell_of}
 use Rattle.tt_core.specs.Live.{is_live}
 use Rattle.bound_core.specs.Used.{are_opposite}
-use Rattle.bound_core.specs.Counts.{some_below, count_below, turns_on, uses, live_uses, is_in_use, parts_on, differ, live_like, is_new}
-use Rattle.bound_core.specs.CountLaws.{passes_some, less_power}
+use Rattle.bound_core.specs.Counts.{some_below, count_below, uses, live_uses, is_in_use, parts_on, differ, live_like, is_new}
+use Rattle.bound_core.specs.CountLaws.{passes_some}
 
 -- no number yet
 pub some_none : (test : ℕ → Bool) → some_below test 0 ≡ false
@@ -48,20 +48,16 @@ greatest_more f k = rw add-one refl
 
 pub ruleset greatest = (common_steps, greatest_none, greatest_more)
 
--- a shift by at most six places is a power
-pub power_small : (n j : ℕ) → n ≤ 6 → (1 * 2 ^ (n - j)) % 4294967296 ≡ 2 ^ (n - j)
-power_small n j few = let wide : 2 ^ (n - j) ≤ 2 ^ 6 = pow_mono {i = n - j} {j = 6} (omega arith) in omega (arith, wide)
+-- a shift by fewer than six places is a power below 64
+pub power_small : (k : ℕ) → k < 6 → 1 * 2 ^ k % 4294967296 ≡ 2 ^ k
+power_small k few = let wide : 2 ^ k ≤ 2 ^ 6 = pow_mono {i = k} {j = 6} (omega arith) in omega (arith, wide)
 
-pub turned_row : (n j t : ℕ) → n ≤ 6 → 1 ≤ j → j ≤ n → t < 2 ^ n → bit_xor t ((1 * 2 ^ (n - j)) % 4294967296) < 2 ^ n
-turned_row n j t few some low inside = rw (power_small n j few) (xor_lt n t (2 ^ (n - j)) inside (less_power (n - j) n (omega arith)))
+pub power_low : (k : ℕ) → k < 6 → 1 * 2 ^ k % 4294967296 < 64
+power_low k few = let wide : 2 ^ suc k ≤ 2 ^ 6 = pow_mono {i = suc k} {j = 6} few in omega (arith, wide, two-pow-succ k, power_small k few)
 
-pub ruleset turning = (common_steps, turned_row, power_small)
+pub ruleset shifting = (common_steps, power_small, power_low)
 
 -- ---- what is found
-
-pub uses_at : (w : Words) (h j t : ℕ) → turns_on (specification w) h j t ≡ true → t < 2 ^ w.n → true ≡ uses (specification w) h j
-unfolding uses
-uses_at w h j t e low = sym (passes_some (turns_on (specification w) h j) (2 ^ w.n) t low e)
 
 pub in_use_at : (w : Words) (before output : ℕ) → uses (specification w) (output + 1) (before + 1) ≡ true → is_live (specification w) (output + 1) ≡ true → output < length w.on → true ≡ is_in_use (specification w) before
 unfolding is_in_use live_uses

@@ -1,16 +1,16 @@
 -- What the counts say: the inputs and the outputs that are counted are used and differ, so that no chain
 -- of fewer steps agrees.
-use Rattle.std.proofs.Common.{◌≡◌, ◌≢◌, ◌⊎◌, ℕ, zero, suc, ◌+◌, ◌-◌, ◌%◌, ◌<◌, ◌≤◌, ◌^◌, ◌==◌, Bool, true, false, ◌&&◌, ◌||◌, not, List, [], ◌∷◌, length, Contains, All, refl, sym, ap, ◌∙◌, subst, arith, inl, inr}
-use Rattle.std.specs.Prelude.{if◌then◌else◌, AllPairs, slice_index_or, bit_xor}
+use Rattle.std.proofs.Common.{◌≡◌, ◌≢◌, ◌⊎◌, ℕ, zero, suc, ◌+◌, ◌-◌, ◌*◌, ◌<◌, ◌≤◌, ◌^◌, ◌==◌, Bool, true, false, ◌&&◌, ◌||◌, not, List, [], ◌∷◌, length, Contains, All, refl, sym, ap, ◌∙◌, subst, arith, inl, inr}
+use Rattle.std.specs.Prelude.{if◌then◌else◌, AllPairs, slice_index_or, bit_or, max}
 use Rattle.std.specs.Int.{bit_at}
 use Rattle.std.proofs.lemmas.Grind.{common_steps}
 use Rattle.std.proofs.lemmas.Bool.{cases_lt, cases_Bool, cond_both}
 use Rattle.std.proofs.lemmas.List.Elements.{Contains-append_right, Contains-get_or}
 use Rattle.std.proofs.lemmas.List.Kept.{AllPairs-cons}
-use Rattle.std.proofs.lemmas.Nat.{xor_lt, pow_pos}
+use Rattle.std.proofs.lemmas.Nat.{or_lt, or_disjoint, pow_pos}
 use Rattle.std.proofs.Math.Nat.{two-pow-succ}
 use Rattle.std.proofs.Math.Pow.{pow_mono}
-use Rattle.std.proofs.lemmas.Nat.Bits.{bit_at_xor, bit_at-pow_other, bit_at-lt}
+use Rattle.std.proofs.lemmas.Nat.Bits.{bit_at_or, bit_at-pow_other, bit_at-lt, and_pow}
 use Rattle.chain_theory.specs.Operator.{Basis, digit}
 use Rattle.chain_theory.specs.Specification.{Specification, input}
 use Rattle.chain_theory.specs.Levels.{greatest}
@@ -19,22 +19,31 @@ use Rattle.chain_theory.specs.declared.data.Cell.{Cell}
 use Rattle.chain_theory.specs.declared.data.Cell.TheVariants.{Zero, One, Free}
 use Rattle.tt_core.specs.Live.{is_live}
 use Rattle.bound_core.specs.Used.{are_opposite, IsUsed, AreUsed, Differ, AreLiveApart}
-use Rattle.bound_core.specs.Counts.{some_below, count_below, turned, turns_on, uses, uses_next, live_next, live_uses, is_in_use, parts_on, differ, live_like, is_new, single, fewest}
+use Rattle.bound_core.specs.Counts.{some_below, count_below, turns_on, uses, uses_next, live_next, live_uses, is_in_use, parts_on, differ, live_like, is_new, single, fewest}
 use Rattle.bound_core.specs.Needed.{inputs_few}
 use Rattle.bound_core.specs.Different.{outputs_few}
 
-true_false : true ≡ false → ⊥
+pub true_false : true ≡ false → ⊥
 true_false e = cc
 
 -- ---- numbers that pass
 
-and_parts : (a b : Bool) → (a && b) ≡ true → (a ≡ true) × (b ≡ true)
+pub and_parts : (a b : Bool) → (a && b) ≡ true → (a ≡ true) × (b ≡ true)
 and_parts true b e = (refl, e)
 and_parts false b e = absurd cc
 
 or_parts : (a b : Bool) → (a || b) ≡ true → (a ≡ true) ⊎ (b ≡ true)
 or_parts true b e = inl refl
 or_parts false b e = inr e
+
+not_true : (b : Bool) → not b ≡ true → b ≡ false
+not_true true e = absurd cc
+not_true false e = refl
+
+pub no_digit : (x : ℕ) → x < 2 → (x == 1) ≡ false → x ≡ 0
+no_digit zero low e = refl
+no_digit (suc zero) low e = absurd cc
+no_digit (suc (suc x)) low e = absurd (omega arith)
 
 -- one that passes, where some number does
 pub some_passes : (test : ℕ → Bool) (k : ℕ) → some_below test k ≡ true → (t : ℕ) × (t < k) × (test t ≡ true)
@@ -128,22 +137,22 @@ less_power k n less =
     let wide : 2 ^ suc k ≤ 2 ^ n = pow_mono less in
     omega (arith, two-pow-succ k, pow_pos k)
 
-digit_xor : (a b i : ℕ) → bit_at b i ≡ 0 → digit (bit_xor a b) i ≡ digit a i
-digit_xor a b i none =
-    let rest : (bit_at a i + bit_at b i) % 2 ≡ bit_at a i = omega (arith, none, bit_at-lt a i) in
-    ap (λ (x : ℕ). x == 1) (bit_at_xor a b i ∙ rest)
+-- a row whose digit of 2 ^ k is 0, and that digit set
+raised_or : (t k : ℕ) → digit t k ≡ false → t + 2 ^ k ≡ bit_or t (2 ^ k)
+raised_or t k none =
+    let bit : bit_at t k ≡ 0 = no_digit (bit_at t k) (bit_at-lt t k) none in
+    let gone : 0 * 2 ^ k ≡ 0 = omega arith in
+    sym (or_disjoint t (2 ^ k) (and_pow t k ∙ ap (λ (x : ℕ). x * 2 ^ k) bit ∙ gone))
 
--- the other inputs keep their bits
-pub turned_other : (n j t i : ℕ) → j ≤ n → 1 ≤ i → i ≤ n → (i ≡ j → ⊥) → input n t i ≡ input n (turned n j t) i
-unfolding turned
-turned_other n j t i low some within apart =
-    let other : n - i ≢ n - j = λ (e : n - i ≡ n - j). apart (omega arith) in
-    sym (digit_xor t (2 ^ (n - j)) (n - i) (bit_at-pow_other (n - j) (n - i) other))
+-- the other digits are the same
+raised_other : (t k i : ℕ) → digit t k ≡ false → i ≢ k → digit (t + 2 ^ k) i ≡ digit t i
+raised_other t k i none apart =
+    let rest : max (bit_at t i) (bit_at (2 ^ k) i) ≡ bit_at t i = omega (arith, bit_at-pow_other k i apart) in
+    ap (λ (x : ℕ). digit x i) (raised_or t k none) ∙ ap (λ (x : ℕ). x == 1) (bit_at_or t (2 ^ k) i ∙ rest)
 
 -- and it is a row
-pub turned_low : (n j t : ℕ) → 1 ≤ j → j ≤ n → t < 2 ^ n → turned n j t < 2 ^ n
-unfolding turned
-turned_low n j t some low inside = xor_lt n t (2 ^ (n - j)) inside (less_power (n - j) n (omega arith))
+raised_low : (n j t : ℕ) → 1 ≤ j → j ≤ n → t < 2 ^ n → input n t j ≡ false → t + 2 ^ (n - j) < 2 ^ n
+raised_low n j t some low inside none = rw (raised_or t (n - j) none) (or_lt n t (2 ^ (n - j)) inside (less_power (n - j) n (omega arith)))
 
 -- ---- inputs in use
 
@@ -152,12 +161,14 @@ pub uses_is : (s : Specification) (h j : ℕ) → 1 ≤ j → j ≤ s.inputs →
 unfolding uses turns_on
 uses_is s h j some low e =
     let found = some_passes (turns_on s h j) (2 ^ s.inputs) e in
+    let parts = and_parts (are_opposite (s.cell h found.0) (s.cell h (found.0 + 2 ^ (s.inputs - j)))) (not (input s.inputs found.0 j)) found.2 in
+    let none : input s.inputs found.0 j ≡ false = not_true (input s.inputs found.0 j) parts.1 in
     record {
       row = found.0;
-      other = turned s.inputs j found.0;
-      inside = (found.1, turned_low s.inputs j found.0 some low found.1);
-      alone = λ i from to apart. turned_other s.inputs j found.0 i low from to apart;
-      asked = found.2;
+      other = found.0 + 2 ^ (s.inputs - j);
+      inside = (found.1, raised_low s.inputs j found.0 some low found.1 none);
+      alone = λ i from to apart. sym (raised_other found.0 (s.inputs - j) (s.inputs - i) none (λ (same : s.inputs - i ≡ s.inputs - j). apart (omega arith)));
+      asked = parts.0;
     }
 
 -- one output, and the inputs that it uses
@@ -210,10 +221,6 @@ opposite_turned Free b e = absurd cc
 
 differ_turned : (s : Specification) (g h : ℕ) → Differ s g h → Differ s h g
 differ_turned s g h d = record { row = d.row; inside = d.inside; asked = opposite_turned (s.cell g d.row) (s.cell h d.row) d.asked }
-
-not_true : (b : Bool) → not b ≡ true → b ≡ false
-not_true true e = absurd cc
-not_true false e = refl
 
 -- a new output differs from a live one before it
 new_differs : (s : Specification) (i k : ℕ) → k < i → is_new s i ≡ true → is_new s k ≡ true → Differ s (i + 1) (k + 1)

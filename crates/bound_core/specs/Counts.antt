@@ -1,7 +1,7 @@
 -- How many steps a specification asks for at least, by counts of the inputs that are used and of the
 -- outputs that differ.
-use Rattle.std.specs.Prelude.{ℕ, zero, suc, ◌+◌, ◌-◌, ◌^◌, Bool, false, ◌&&◌, ◌||◌, not, max, bit_xor, if◌then◌else◌}
-use Rattle.chain_theory.specs.Specification.{Specification}
+use Rattle.std.specs.Prelude.{ℕ, zero, suc, ◌+◌, ◌-◌, ◌^◌, Bool, false, ◌&&◌, ◌||◌, not, max, if◌then◌else◌}
+use Rattle.chain_theory.specs.Specification.{Specification, input}
 use Rattle.chain_theory.specs.Levels.{greatest}
 use Rattle.tt_core.specs.Live.{is_live}
 use Rattle.bound_core.specs.Used.{are_opposite}
@@ -16,14 +16,11 @@ unfoldable pub count_below : (ℕ → Bool) → ℕ → ℕ
 count_below test zero = 0
 count_below test (suc k) = count_below test k + (if test k then 1 else 0)
 
--- row t of n inputs with the bit of input j turned
--- Example: of three inputs, row 1 (001) with x1 turned is row 5 (101).
-unfoldable pub turned : ℕ → ℕ → ℕ → ℕ
-turned n j t = bit_xor t (2 ^ (n - j))
-
--- output h is asked for 0 and for 1 on row t and on that row with input j turned
+-- Row t gives input j the bit 0, and output h is asked for 0 and for 1 on it and on the row that gives
+-- input j the bit 1 and each other input the same bit.
+-- Example: of three inputs, row 1 (001) and row 5 (101) are such a pair of rows for x1.
 unfoldable pub turns_on : Specification → ℕ → ℕ → ℕ → Bool
-turns_on s h j t = are_opposite (s.cell h t) (s.cell h (turned s.inputs j t))
+turns_on s h j t = are_opposite (s.cell h t) (s.cell h (t + 2 ^ (s.inputs - j))) && not (input s.inputs t j)
 
 -- output h uses input j
 -- Example: 0011 uses x1 and not x2.

@@ -4,3 +4,4 @@ pub mod Places
 pub mod Needed
 pub mod Different
 pub mod CountLaws
+pub mod WordLaws

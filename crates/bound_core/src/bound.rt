@@ -1,4 +1,5 @@
-//! The counts, by going over inputs, outputs and rows; each function is its definition.
+//! The counts, by going over inputs, outputs and rows; each function is its definition. Whether an output
+//! uses an input is seen for all rows at once, by its words and the same words shifted.
 ghost use Rattle.std.specs.Prelude.{◌≡◌, ℕ, ◌+◌, ◌^◌, ◌<◌, ◌≤◌, length};
 ghost use Rattle.chain_theory.specs.Operator.{Basis};
 ghost use Rattle.chain_theory.specs.Levels.{greatest};
@@ -6,7 +7,8 @@ ghost use Rattle.chain_theory.specs.Agreement.{HasChain};
 ghost use Rattle.tt_core.specs.Live.{is_live as is_live_of};
 ghost use Rattle.tt_core.specs.Words.{specification};
 ghost use Rattle.bound_core.specs.Used.{are_opposite as are_opposite_of};
-ghost use Rattle.bound_core.specs.Counts.{count_below, turned as turned_of, turns_on as turns_on_of};
+ghost use Rattle.bound_core.specs.WordLaws.{low_rows as low_rows_of, turning_rows as turning_rows_of};
+ghost use Rattle.bound_core.specs.Counts.{count_below};
 ghost use Rattle.bound_core.specs.Counts.{uses as uses_of, inputs_of, is_in_use as is_in_use_of};
 ghost use Rattle.bound_core.specs.Counts.{live_next, differ as differ_of, is_new as is_new_of, single, fewest};
 
@@ -22,42 +24,41 @@ fn are_opposite(a: Cell, b: Cell) -> bool
     }
 }
 
-/// Row `t` of `n` inputs with input `j` turned.
-#[tactic(auto, using(crate::proofs::Loops::turning), unfolding(crate::specs::Counts::turned))]
-fn turned(n: u32, j: u32, t: u32) -> u32
-    requires inputs { n ≤ 6 }
-    requires input { (1 ≤ j) × (j ≤ n) }
-    requires row { t < 2 ^ n }
-    ensures row { result ≡ turned_of n j t }
-    ensures within { result < 2 ^ n }
+/// The rows whose digit of 2^k is 0.
+fn low_rows(k: u32) -> u64
+    requires { k < 6 }
+    ensures { result ≡ low_rows_of k }
 {
-    t ^ (1 << (n - j))
+    match k {
+        0 => 0x5555_5555_5555_5555,
+        1 => 0x3333_3333_3333_3333,
+        2 => 0x0f0f_0f0f_0f0f_0f0f,
+        3 => 0x00ff_00ff_00ff_00ff,
+        4 => 0x0000_ffff_0000_ffff,
+        _ => 0x0000_0000_ffff_ffff,
+    }
 }
 
-/// Whether output `h` is asked for 0 and for 1 on row `t` and on that row with input `j` turned.
-#[tactic(auto, unfolding(crate::specs::Counts::turns_on))]
-fn turns_on(spec: &Spec, h: u32, j: u32, t: u32) -> bool
-    requires output { (1 ≤ h) × (h ≤ length spec.now.on) }
-    requires input { (1 ≤ j) × (j ≤ spec.now.n) }
-    requires row { t < 2 ^ spec.now.n }
-    ensures { result ≡ turns_on_of (specification spec.now) h j t }
+/// The rows t whose digit of 2^k is 0, where rows t and t + 2^k are specified and have different
+/// values.
+#[tactic(auto, using(crate::proofs::Loops::shifting))]
+fn turning_rows(on: u64, care: u64, k: u32) -> u64
+    requires { k < 6 }
+    ensures { result ≡ turning_rows_of on care k }
 {
-    are_opposite(row(spec, h, t), row(spec, h, turned(spec.n(), j, t)))
+    let step = 1u32 << k;
+    care & (care >> step) & (on ^ (on >> step)) & low_rows(k)
 }
 
 /// Whether output `h` uses input `j`.
-#[tactic(auto, using(crate::proofs::Loops::passing), unfolding(crate::specs::Counts::uses))]
 fn uses(spec: &Spec, h: u32, j: u32) -> bool
     requires output { (1 ≤ h) × (h ≤ length spec.now.on) }
     requires input { (1 ≤ j) × (j ≤ spec.now.n) }
     ensures { result ≡ uses_of (specification spec.now) h j }
 {
-    for t in 0..1u32 << spec.n() {
-        if turns_on(spec, h, j, t) {
-            return true;
-        }
-    }
-    false
+    let k = spec.n() - j;
+    let output = (h - 1) as usize;
+    turning_rows(spec.on()[output], spec.care()[output], k) != 0
 }
 
 /// How many inputs output `h` uses.
