@@ -138,20 +138,20 @@ less_power k n less =
     omega (arith, two-pow-succ k, pow_pos k)
 
 -- a row whose digit of 2 ^ k is 0, and that digit set
-raised_or : (t k : ℕ) → digit t k ≡ false → t + 2 ^ k ≡ bit_or t (2 ^ k)
+pub raised_or : (t k : ℕ) → digit t k ≡ false → t + 2 ^ k ≡ bit_or t (2 ^ k)
 raised_or t k none =
     let bit : bit_at t k ≡ 0 = no_digit (bit_at t k) (bit_at-lt t k) none in
     let gone : 0 * 2 ^ k ≡ 0 = omega arith in
     sym (or_disjoint t (2 ^ k) (and_pow t k ∙ ap (λ (x : ℕ). x * 2 ^ k) bit ∙ gone))
 
 -- the other digits are the same
-raised_other : (t k i : ℕ) → digit t k ≡ false → i ≢ k → digit (t + 2 ^ k) i ≡ digit t i
+pub raised_other : (t k i : ℕ) → digit t k ≡ false → i ≢ k → digit (t + 2 ^ k) i ≡ digit t i
 raised_other t k i none apart =
     let rest : max (bit_at t i) (bit_at (2 ^ k) i) ≡ bit_at t i = omega (arith, bit_at-pow_other k i apart) in
     ap (λ (x : ℕ). digit x i) (raised_or t k none) ∙ ap (λ (x : ℕ). x == 1) (bit_at_or t (2 ^ k) i ∙ rest)
 
 -- and it is a row
-raised_low : (n j t : ℕ) → 1 ≤ j → j ≤ n → t < 2 ^ n → input n t j ≡ false → t + 2 ^ (n - j) < 2 ^ n
+pub raised_low : (n j t : ℕ) → 1 ≤ j → j ≤ n → t < 2 ^ n → input n t j ≡ false → t + 2 ^ (n - j) < 2 ^ n
 raised_low n j t some low inside none = rw (raised_or t (n - j) none) (or_lt n t (2 ^ (n - j)) inside (less_power (n - j) n (omega arith)))
 
 -- ---- inputs in use
@@ -206,11 +206,11 @@ used_all s = record {
 
 -- ---- outputs that differ
 
-differ_is : (s : Specification) (g h : ℕ) → differ s g h ≡ true → Differ s g h
+pub differ_is : (s : Specification) (g h : ℕ) → differ s g h ≡ true → Differ s g h
 unfolding differ parts_on
 differ_is s g h e = let found = some_passes (parts_on s g h) (2 ^ s.inputs) e in record { row = found.0; inside = found.1; asked = found.2 }
 
-opposite_turned : (a b : Cell) → are_opposite a b ≡ true → are_opposite b a ≡ true
+pub opposite_turned : (a b : Cell) → are_opposite a b ≡ true → are_opposite b a ≡ true
 opposite_turned Zero Zero e = e
 opposite_turned Zero One e = refl
 opposite_turned Zero Free e = absurd cc

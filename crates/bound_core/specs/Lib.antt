@@ -5,3 +5,4 @@ pub mod Needed
 pub mod Different
 pub mod CountLaws
 pub mod WordLaws
+pub mod TestLaws

@@ -25,7 +25,7 @@ pub record IsUsed (s : Specification) (j h : ℕ) : Type 0 where
   pub asked : are_opposite (s.cell h row) (s.cell h other) ≡ true
 
 -- Different inputs, each used by one of these outputs.
--- Example: of the tables 0110 and 0011 both inputs are used by the first, and x1 by the second alone.
+-- Example: of the tables 0110 and 0011, the first uses both inputs, and the second x1 alone.
 pub record AreUsed (s : Specification) (inputs outputs : List ℕ) : Type 0 where
   pub numbers : (h : ℕ) → Contains outputs h → (1 ≤ h) × (h ≤ s.outputs)
   pub different : AllPairs (λ (i j : ℕ). i ≡ j → ⊥) inputs

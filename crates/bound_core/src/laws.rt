@@ -1,9 +1,10 @@
-//! The two laws of counting. Each law is the contract of a function that does nothing.
-ghost use Rattle.std.specs.Prelude.{ℕ, ◌+◌, ◌≤◌, List, length};
+//! The laws of counting, and what its tests say. Each law is the contract of a function that does nothing.
+ghost use Rattle.std.specs.Prelude.{◌≡◌, ◌↔◌, true, ℕ, ◌+◌, ◌≤◌, List, length};
 ghost use Rattle.chain_theory.specs.Operator.{Basis};
 ghost use Rattle.chain_theory.specs.Specification.{Specification};
 ghost use Rattle.chain_theory.specs.Agreement.{HasChain};
-ghost use Rattle.bound_core.specs.Used.{AreUsed, AreLiveApart};
+ghost use Rattle.bound_core.specs.Counts.{uses, differ};
+ghost use Rattle.bound_core.specs.Used.{IsUsed, AreUsed, Differ, AreLiveApart};
 
 /// A chain has at least as many steps as there are inputs in use by a list of outputs, less the
 /// number of those outputs.
@@ -20,4 +21,14 @@ pub fn live_outputs_ask_for_steps()
         AreLiveApart s outputs →
         HasChain s basis r →
         length outputs ≤ r }
+{}
+
+/// An output uses an input by the test that is counted exactly where two rows that differ in that
+/// input alone ask for 0 and for 1, and outputs differ by their test exactly where one row does.
+pub fn tests_are_rows()
+    ensures uses { (s : Specification) (h j : ℕ) →
+        1 ≤ j →
+        j ≤ s.inputs →
+        (uses s h j ≡ true) ↔ IsUsed s j h }
+    ensures differ { (s : Specification) (g h : ℕ) → (differ s g h ≡ true) ↔ Differ s g h }
 {}

@@ -4,13 +4,16 @@ use std::test::Fail;
 use tt_core::read_tables;
 
 /// The exclusive or of six inputs.
-const XOR_6: &[u8] = b"inputs 6\n0110100110010110100101100110100110010110011010010110100110010110\n";
+const XOR_6: &[u8] =
+    b"inputs 6\n0110100110010110100101100110100110010110011010010110100110010110\n";
 
 /// x1 and x2 and x3 together, and x4 and x5 and x6 together.
-const APART_3: &[u8] = b"inputs 6\n0000000000000000000000000000000000000000000000000000000011111111\n0000000100000001000000010000000100000001000000010000000100000001\n";
+const APART_3: &[u8] =
+    b"inputs 6\n0000000000000000000000000000000000000000000000000000000011111111\n0000000100000001000000010000000100000001000000010000000100000001\n";
 
 /// A 1 on row 56 alone.
-const ROW_6: &[u8] = b"inputs 6\n0000000000000000000000000000000000000000000000000000000010000000\n";
+const ROW_6: &[u8] =
+    b"inputs 6\n0000000000000000000000000000000000000000000000000000000010000000\n";
 
 #[test]
 fn bounds_are_counted(rt: HostRuntime) {
@@ -35,7 +38,7 @@ fn bounds_are_counted(rt: HostRuntime) {
         (APART_3, 4),
         // one row of six inputs
         (ROW_6, 5),
-        // don't-cares: only x1 is used, and outputs that may be equal are counted once
+        // don't-cares: no input is used, and outputs that may be equal are counted once
         (b"inputs 2\n0--1\n", 0),
         (b"inputs 2\n-11-\n", 0),
         (b"inputs 2\n0110\n011-\n", 1),
