@@ -14,6 +14,7 @@ use Rattle.cert_theory.specs.Meaning.{Means}
 use Rattle.cert_theory.specs.Spelling.{IsBundle, HasVerdict}
 use Rattle.cert_theory.specs.Judging.{bundle_of}
 use Rattle.cert_theory.specs.Gives.{Gives, Fails}
+use Rattle.cert_laws.specs.QuestionLaws.{bundle_asks, verdict_answers}
 use Rattle.command_line.specs.declared.command.Command.TheVariants.{Recheck}
 use Rattle.command_line.specs.CommandLine.{AsksFor}
 use Rattle.chain_app.specs.declared.status.Status.{Status}
@@ -23,7 +24,7 @@ use Rattle.chain_app.specs.Told.{Reply, Refusal, memory_refusal}
 use Rattle.chain_app.specs.Task.{IsRefusalStatus, IsTask, Tells, Refuses}
 use Rattle.chain_app.specs.Run.{Run}
 use Rattle.chain_app.specs.Promise.{OutputHeld, Stands, Replies, Faults, OfInput, IsTooLong, CommandPromise}
-use Rattle.chain_app.specs.RecheckPromise.{RecheckPromise}
+use Rattle.chain_app.specs.RecheckPromise.{TellsVerdict, RecheckPromise}
 use Rattle.chain_app.proofs.TaskKinds.{at_once_task}
 use Rattle.chain_app.proofs.Keeping.{of_input}
 use Rattle.chain_app.proofs.ReadOff.{gets}
@@ -128,6 +129,23 @@ accepted r input b promise told within is held =
 accepted_only : (r : Run) (input : List ℕ) → CommandPromise recheck_task r → r.source.bytes ≡ Some input → r.status ≡ Done → Replies recheck_task r input
 accepted_only r input promise told is = of_input recheck_task r (Replies recheck_task r) input (promise.done_only is) told
 
+-- What has a verdict spells its question, which the verdict answers.
+tells_verdict : (r : Run) (input : List ℕ) (verdict : Verdict) → GivesVerdict input verdict → Stands r (recheck_reply verdict) → TellsVerdict r input
+tells_verdict r input verdict gives stands =
+    let b : Bundle = gives.is_verdict.has.bundle in
+    record {
+      verdict = verdict;
+      has = gives;
+      stands = stands;
+      asks = (b.heading.spec, b.heading.basis, bundle_asks input b gives.is_verdict.has.is_bundle);
+      means = λ tables basis asked. verdict_answers input verdict tables basis gives.is_verdict.has asked;
+    }
+
+answers : (r : Run) (input : List ℕ) → CommandPromise recheck_task r → r.source.bytes ≡ Some input → r.status ≡ Done → TellsVerdict r input
+answers r input promise told is =
+    let got : Replies recheck_task r input = accepted_only r input promise told is in
+    tells_verdict r input got.answer got.has got.stands
+
 -- no fault has the status of a limit
 no_limit : (e : BundleError) → bundle_status e ≡ Limit → ⊥
 no_limit (bundles.Syntax line) is = cc
@@ -169,6 +187,7 @@ pub recheck_promised : (r : Run) → (AsksFor r.words Recheck → CommandPromise
 recheck_promised r keeps = record {
   accepted = λ input b run within is held. accepted r input b (keeps run.asks) run.told within is held;
   accepted_only = λ input run is. accepted_only r input (keeps run.asks) run.told is;
+  answers = λ input run is. answers r input (keeps run.asks) run.told is;
   refused = λ input error run fault held. (keeps run.asks).refused input error run.told fault held;
   refused_only = λ input run is. refused_only r input (keeps run.asks) run.told is;
   limit_only = λ input run is. limit_only r input (keeps run.asks) run.told is;

@@ -2,14 +2,30 @@
 use Rattle.std.specs.Prelude.{◌≡◌, ℕ, ◌<◌, ◌≤◌, List, length}
 use Rattle.command_line.specs.declared.command.Command.TheVariants.{Recheck}
 use Rattle.command_line.specs.CommandLine.{AsksFor}
+use Rattle.tt_core.specs.Words.{Words, specification}
+use Rattle.op_basis.specs.Basis.{members}
+use Rattle.cert_theory.specs.declared.data.Verdict.{Verdict}
 use Rattle.cert_theory.specs.declared.data.BundleError.{BundleError}
 use Rattle.cert_theory.specs.Bundle.{Bundle}
+use Rattle.cert_theory.specs.Meaning.{Means}
 use Rattle.cert_theory.specs.Spelling.{IsBundle}
+use Rattle.cert_theory.specs.Question.{HasQuestion}
 use Rattle.chain_app.specs.declared.status.Status.TheVariants.{Done, Limit, Undecided, Refused}
-use Rattle.chain_app.specs.RecheckReport.{most_of_bundle, recheck_reply, recheck_refusal, HasBundleFault, recheck_task}
+use Rattle.chain_app.specs.RecheckReport.{most_of_bundle, recheck_reply, recheck_refusal, HasBundleFault, GivesVerdict, recheck_task}
 use Rattle.chain_app.specs.Run.{Run}
 use Rattle.chain_app.specs.Runs.{Runs}
 use Rattle.chain_app.specs.Promise.{InputHeld, OutputHeld, Stands, TellsError, Replies, Faults}
+
+-- The verdict that the bytes have stands on the output. Behind their first line they spell tables and a
+-- basis, and what it says of all chains is true of whatever tables and basis they spell there.
+pub record TellsVerdict (r : Run) (input : List ℕ) : Type 0 where
+  pub verdict : Verdict
+  pub has : GivesVerdict input verdict
+  pub stands : Stands r (recheck_reply verdict)
+  pub asks : (tables : Words) × (basis : ℕ) × HasQuestion input tables basis
+  pub means : (tables : Words) (basis : ℕ)
+      → HasQuestion input tables basis
+      → Means (specification tables) (members basis) verdict
 
 pub record RecheckPromise (r : Run) : Type 0 where
   -- A valid bundle gets its verdict line, and the status is 0.
@@ -24,6 +40,11 @@ pub record RecheckPromise (r : Run) : Type 0 where
       → Runs Recheck r input
       → r.status ≡ Done
       → Replies recheck_task r input
+  -- It is true of the tables and the basis that the bytes spell, each in lines of its own.
+  pub answers : (input : List ℕ)
+      → Runs Recheck r input
+      → r.status ≡ Done
+      → TellsVerdict r input
   -- Other bytes are told their first fault.
   pub refused : (input : List ℕ) (error : BundleError)
       → Runs Recheck r input
