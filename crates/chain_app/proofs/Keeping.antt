@@ -120,16 +120,11 @@ source_rose : (reads : Option ℕ) (old new : Side) → SourceAfter reads old ne
 source_rose None old new after = absurd after
 source_rose (Some most) old new after = after
 
--- what is too long was told to be, or not told
-long_input : (reads : Option ℕ) (left : Option (List ℕ)) (old new : Side) (input : List ℕ) → SourceAfter reads old new TooLong → ((told : List ℕ) → left ≡ Some told → IsBeyond reads told) → HasInput reads left input → IsBeyond reads input
-long_input None left old new input after beyond told = absurd after
-long_input (Some most) left old new input after beyond told = beyond input told
-
 -- ---- what input gets
 
 answered : (task : Task) (r : Run) (o : Outcome) (input : List ℕ) → IsRun task r o → HasInput task.reads r.source.bytes input → IsAnswerable task input → OutputHeld r → Replies task r input ⊎ CutReport task r input
 answered task r ReadFault input run told may held = absurd (held.input.source (source_rose task.reads r.source r.source' run.on_source))
-answered task r TooLong input run told may held = absurd (may.within (long_input task.reads r.source.bytes r.source r.source' input run.on_source run.judged told))
+answered task r TooLong input run told may held = absurd (may.within (run.judged input told))
 answered task r Memory input run told may held = absurd (held.input.memory run.status_is)
 answered task r (Answered reply) input run told may held = inl (of_input task r (Replies task r) input (replies task r reply run) told)
 answered task r CutShort input run told may held = absurd (held.out run.on_out.1)
@@ -153,7 +148,7 @@ has_answer task r bytes input reply are told tells none =
 
 refused : (task : Task) (r : Run) (o : Outcome) (input : List ℕ) (fault : task.Fault) → IsTask task → IsRun task r o → HasInput task.reads r.source.bytes input → task.Meets input fault → InputHeld r → TellsError r (task.refusal fault)
 refused task r ReadFault input fault is run told meets held = absurd (held.source (source_rose task.reads r.source r.source' run.on_source))
-refused task r TooLong input fault is run told meets held = absurd (is.fault_within input fault meets (long_input task.reads r.source.bytes r.source r.source' input run.on_source run.judged told))
+refused task r TooLong input fault is run told meets held = absurd (is.fault_within input fault meets (run.judged input told))
 refused task r Memory input fault is run told meets held = absurd (held.memory run.status_is)
 refused task r (Answered reply) input fault is run told meets held = has_answer task r run.bytes input reply run.judged.0 told run.judged.1 (λ answer has. is.apart input answer fault has meets)
 refused task r CutShort input fault is run told meets held =
@@ -266,6 +261,14 @@ write_fault_only task r CutShort is_task run is = either_left task r (ReplyCut t
 write_fault_only task r Starved is_task run is = apart task r Starved statuses.WriteFault run is (λ e. cc)
 write_fault_only task r (ReportCut reply) is_task run is = either_right task r (ReplyCut task r) (CutReport task r) (report_cut task r reply run)
 write_fault_only task r (NoAnswer refusal) is_task run is = no_refusal task r refusal statuses.WriteFault is_task run is (λ e. cc) (λ e. cc) (λ e. cc) (λ e. cc)
+
+write_rose : (task : Task) (r : Run) (o : Outcome) → IsTask task → IsRun task r o → r.status ≡ statuses.WriteFault → Rose r.out.faults r.out'.faults ⊎ Rose r.note.faults r.note'.faults
+write_rose task r o is_task run is =
+    let of : OfInput task r (λ input. ReplyCut task r input ⊎ CutReport task r input) = write_fault_only task r o is_task run is in
+    ⊎_elim
+    (λ (cut : ReplyCut task r of.bytes). inl cut.rose)
+    (λ (cut : CutReport task r of.bytes). inr cut.rose)
+    of.holds
 
 read_fault_only : (task : Task) (r : Run) (o : Outcome) → IsTask task → IsRun task r o → r.status ≡ statuses.ReadFault → Rose r.source.faults r.source'.faults × TellsError r read_fault_refusal
 read_fault_only task r ReadFault is_task run is = (source_rose task.reads r.source r.source' run.on_source, fault_told task r run)
@@ -381,6 +384,7 @@ promised task r o is_task run = record {
   limit_only = λ is. limit_only task r o is_task run is;
   read_fault_only = λ is. read_fault_only task r o is_task run is;
   write_fault_only = λ is. write_fault_only task r o is_task run is;
+  write_rose = λ is. write_rose task r o is_task run is;
   memory_only = λ is. memory_only task r o is_task run is;
   unchanged = λ a b c d whole. unchanged task r o is_task run a b c d whole;
   unread = λ most input reads told left. unread task r o most input run reads told left;

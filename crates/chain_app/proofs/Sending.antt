@@ -9,7 +9,7 @@ use Rattle.chain_app.specs.Outside.{Side}
 use Rattle.chain_app.specs.Told.{Reply}
 use Rattle.chain_app.specs.Task.{Task, Tells, IsTask}
 use Rattle.chain_app.specs.Tasks.{task_of, most_of}
-use Rattle.chain_app.specs.Run.{Outcome, ReadFault, TooLong, Memory, Answered, CutShort, Starved, ReportCut, NoAnswer, IsWhole, IsInput, IsOutcome, IsLeft, IsSent, OutSent, SourceRead, SourceAfter, OutAfter}
+use Rattle.chain_app.specs.Run.{Outcome, ReadFault, TooLong, Memory, Answered, CutShort, Starved, ReportCut, NoAnswer, IsWhole, IsInput, HasInput, IsOutcome, IsLeft, IsSent, OutSent, SourceRead, SourceAfter, OutAfter}
 use Rattle.chain_app.proofs.Agreeing.{agree_is_task}
 use Rattle.chain_app.proofs.Rechecking.{recheck_is_task}
 use Rattle.chain_app.proofs.Synthesising.{synth_is_task}
@@ -36,6 +36,10 @@ input_read command left bytes whole = subst (λ (reads : Option ℕ). IsInput re
 pub source_read : (command : Command) (old new : Side) (o : Outcome) → SourceRead old new o → SourceAfter (task_of command).reads old new o
 source_read command old new o read = subst (λ (reads : Option ℕ). SourceAfter reads old new o) (sym (it_reads command)) read
 
+-- its input was told
+pub input_told : (command : Command) (left : Option (List ℕ)) (input : List ℕ) → HasInput (task_of command).reads left input → left ≡ Some input
+input_told command left input has = subst (λ (reads : Option ℕ). HasInput reads left input) (it_reads command) has
+
 -- a front of an answer's text may be left of it
 left_of : (task : Task) (bytes : List ℕ) (reply : Reply) (old new : Side) → IsTask task → Tells task bytes reply → AppendsFront old.bytes new.bytes reply.text → IsLeft task bytes old new
 left_of task bytes reply old new is tells front =
@@ -61,4 +65,4 @@ sent command left bytes reply (ReportCut x) old new are tells is out =
     ((are, subst (λ (y : Reply). Tells (task_of command) bytes y) (sym is) tells), subst (λ (y : Reply). Appends old.bytes new.bytes y.text) (sym is) out)
 sent command left bytes reply (NoAnswer refusal) old new are tells is out = absurd is
 
-pub ruleset performing = (common_steps, input_read)
+pub ruleset performing = (common_steps, input_read, input_told)

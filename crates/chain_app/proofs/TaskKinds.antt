@@ -23,6 +23,7 @@ at_once_task most Answer Has reply Fault Meets refusal replies refusals apart on
   answer_within = λ bytes answer has long. not_beyond most bytes (answer_within bytes answer has) long;
   fault_within = λ bytes fault meets long. not_beyond most bytes (fault_within bytes fault meets) long;
   fronts = λ bytes front answer has is_front. record { answer = answer; has = has; is_front = is_front };
+  cut_is = λ bytes front whole cut. cut;
   cut_apart = λ bytes front fault cut meets. apart bytes cut.answer fault cut.has meets;
   cut_within = λ bytes front cut long. not_beyond most bytes (answer_within bytes cut.answer cut.has) long;
 }

@@ -92,7 +92,7 @@ pub record OfInput (task : Task) (r : Run) (Holds : List ℕ → Type 0) : Type 
 
 -- The input was longer than the command reads, which is told.
 pub record IsTooLong (task : Task) (r : Run) : Type 0 where
-  pub beyond : (input : List ℕ) → r.source.bytes ≡ Some input → IsBeyond task.reads input
+  pub beyond : (input : List ℕ) → HasInput task.reads r.source.bytes input → IsBeyond task.reads input
   pub told : TellsError r too_long_refusal
 
 -- ---- the promise
@@ -129,6 +129,7 @@ pub record CommandPromise (task : Task) (r : Run) : Type 0 where
   pub limit_only : r.status ≡ Limit → OfInput task r (Faults task r) ⊎ IsTooLong task r
   pub read_fault_only : r.status ≡ ReadFault → Rose r.source.faults r.source'.faults × TellsError r read_fault_refusal
   pub write_fault_only : r.status ≡ WriteFault → OfInput task r (λ input. ReplyCut task r input ⊎ ReportCut task r input)
+  pub write_rose : r.status ≡ WriteFault → Rose r.out.faults r.out'.faults ⊎ Rose r.note.faults r.note'.faults
   pub memory_only : r.status ≡ Memory → TellsError r memory_refusal ⊎ OfInput task r (ReplyStarved task r)
   -- Without an answer the output is as before.
   pub unchanged : r.status ≢ Done

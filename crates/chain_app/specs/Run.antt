@@ -67,7 +67,7 @@ pub record IsLeft (task : Task) (bytes : List ℕ) (old new : Side) : Type 0 whe
 -- The outcome is that of the bytes which were judged.
 abbrev pub IsOutcome : Task → Option (List ℕ) → List ℕ → Outcome → Type 0
 IsOutcome task left bytes ReadFault = Unit {0}
-IsOutcome task left bytes TooLong = (input : List ℕ) → left ≡ Some input → IsBeyond task.reads input
+IsOutcome task left bytes TooLong = (input : List ℕ) → HasInput task.reads left input → IsBeyond task.reads input
 IsOutcome task left bytes Memory = Unit {0}
 IsOutcome task left bytes (Answered reply) = IsInput task.reads left bytes × Tells task bytes reply
 IsOutcome task left bytes CutShort = IsInput task.reads left bytes

@@ -76,7 +76,7 @@ IsAnswerStatus s = (s ≡ Done) ⊎ ((s ≡ Undecided) ⊎ (s ≡ Refused))
 abbrev pub IsRefusalStatus : Status → Type 0
 IsRefusalStatus s = (s ≡ Malformed) ⊎ ((s ≡ Limit) ⊎ (s ≡ Refused))
 
--- Bytes have answers or one refusal, not both, and beyond the limit neither.
+-- Bytes have answers or one refusal at most, never both, and beyond the limit neither.
 pub record IsTask (task : Task) : Type 0 where
   pub replies : (answer : task.Answer) → IsAnswerStatus (task.reply answer).status
   pub refusals : (fault : task.Fault) → IsRefusalStatus (task.refusal fault).status ⊎ (task.refusal fault ≡ memory_refusal)
@@ -101,6 +101,11 @@ pub record IsTask (task : Task) : Type 0 where
       → task.Has bytes answer
       → IsFront front (task.reply answer).text
       → task.Leaves bytes front
+  -- Where the text goes out at once, nothing else may.
+  pub cut_is : (bytes front : List ℕ)
+      → task.in_pieces ≡ false
+      → task.Leaves bytes front
+      → IsAnswerFront task.Answer task.Has task.reply bytes front
   pub cut_apart : (bytes front : List ℕ) (fault : task.Fault)
       → task.Leaves bytes front
       → task.Meets bytes fault

@@ -1,8 +1,17 @@
 //! What the definitions come to, each law the contract of a function that does nothing.
-ghost use Rattle.std.specs.Prelude.{◌≡◌, ◌↔◌, ℕ, List, Ok};
+ghost use Rattle.std.specs.Prelude.{◌≡◌, ◌↔◌, ℕ, ◌≤◌, List, length, Ok};
 ghost use Rattle.command_line.specs.declared.command.Command.{Command};
+ghost use Rattle.command_line.specs.declared.command.Command.TheVariants.{Improve};
+ghost use Rattle.net_document.specs.Format.{IsNetlist};
+ghost use Rattle.blif_core.specs.Blif.{blif_format};
 ghost use Rattle.chain_app.specs.Agree.{Question, question_of};
 ghost use Rattle.chain_app.specs.Asked.{AsksQuestion};
+ghost use Rattle.chain_app.specs.declared.status.Status.TheVariants.{Done};
+ghost use Rattle.chain_app.specs.ImproveReport.{most_of_netlist};
+ghost use Rattle.chain_app.specs.KeepsPromises.{KeepsPromises};
+ghost use Rattle.chain_app.specs.Promise.{AllSteady};
+ghost use Rattle.chain_app.specs.Run.{Run};
+ghost use Rattle.chain_app.specs.Runs.{Runs};
 ghost use Rattle.chain_app.specs.Task.{IsTask};
 ghost use Rattle.chain_app.specs.Tasks.{task_of};
 
@@ -12,8 +21,18 @@ pub fn laws_of_questions()
         (question_of bytes ≡ Ok question) ↔ AsksQuestion bytes question }
 {}
 
-/// Every command keeps to what a task is: its bytes have answers or one refusal, not both, and beyond
-/// its limit neither.
+/// Every command keeps to what a task is: its bytes have answers or one refusal at most, never both, and
+/// beyond its limit neither.
 pub fn commands_are_tasks()
     ensures { (command : Command) → IsTask (task_of command) }
+{}
+
+/// A run that keeps its promises improves: where no call failed at all, a netlist has the status 0.
+pub fn netlists_are_improved()
+    ensures { (r : Run) (input : List ℕ) →
+        KeepsPromises r →
+        Runs Improve r input →
+        length input ≤ most_of_netlist →
+        IsNetlist blif_format input →
+        AllSteady r → r.status ≡ Done }
 {}
