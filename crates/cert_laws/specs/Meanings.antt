@@ -5,7 +5,7 @@ use Rattle.std.specs.Option.{option_map}
 use Rattle.std.proofs.Math.Logic.{⊎_elim}
 use Rattle.std.proofs.lemmas.Bool.{cases_lt}
 use Rattle.std.proofs.lemmas.List.Elements.{recursion_from_All}
-use Rattle.chain_theory.specs.Agreement.{HasChain}
+use Rattle.chain_theory.specs.Agreement.{HasChain, NoneBelow}
 use Rattle.chain_theory.specs.Chain.{Chain}
 use Rattle.sat_theory.specs.Formula.{Assignment, Satisfies}
 use Rattle.sat_theory.specs.Line.{Line}
@@ -21,7 +21,7 @@ use Rattle.cert_theory.specs.declared.data.Verdict.{Verdict}
 use Rattle.cert_theory.specs.Coding.{coding_of}
 use Rattle.cert_laws.specs.CodingLaws.{method_is_coding, IsCoding}
 use Rattle.cert_theory.specs.Bundle.{PartLog, Section, Bundle, IsHeading, parts_of, formula_of, EndsAs, IsPartLog, part_of, IsSection, AreSections, is_open_end, is_open, size_of, first_open, found, IsFound, IsEnding, IsValid}
-use Rattle.cert_theory.specs.Meaning.{NoneBelow, Means}
+use Rattle.cert_theory.specs.Meaning.{Means}
 
 abbrev Fewer : Heading → ℕ → Type 0
 Fewer h size = NoneBelow (specification h.spec) (members h.basis) size

@@ -1,14 +1,10 @@
 -- What a verdict says of chains.
-use Rattle.std.specs.Prelude.{ℕ, ◌≤◌, ◌<◌}
+use Rattle.std.specs.Prelude.{ℕ, ◌≤◌}
 use Rattle.chain_theory.specs.Operator.{Basis}
 use Rattle.chain_theory.specs.Specification.{Specification}
-use Rattle.chain_theory.specs.Agreement.{HasChain, IsMinimum}
+use Rattle.chain_theory.specs.Agreement.{HasChain, NoneBelow, IsMinimum}
 use Rattle.cert_theory.specs.declared.data.Verdict.{Verdict}
 use Rattle.cert_theory.specs.declared.data.Verdict.TheVariants.{Minimum, NoChain, Bounded, Open}
-
--- no chain of fewer steps agrees
-abbrev pub NoneBelow : Specification → Basis → ℕ → Type 0
-NoneBelow s basis size = (q : ℕ) → q < size → HasChain s basis q → ⊥
 
 -- Minimum r: r steps do, and no fewer. NoChain x: no chain of at most x steps agrees. Bounded low r: a
 -- chain of r steps agrees, and none of fewer than low. Open low: none of fewer than low does.

@@ -41,8 +41,12 @@ pub record HasChain (s : Specification) (basis : Basis) (r : ℕ) : Type 0 where
   pub is_over : IsOver basis chain
   pub agrees : Agrees chain s
 
+-- no chain of fewer steps agrees
+abbrev pub NoneBelow : Specification → Basis → ℕ → Type 0
+NoneBelow s basis size = (q : ℕ) → q < size → HasChain s basis q → ⊥
+
 -- The fewest steps: r steps do, and no fewer. This speaks of all chains.
 -- Example: XOR has the minimum 1 over all operators and the minimum 4 over NAND alone.
 pub record IsMinimum (s : Specification) (basis : Basis) (r : ℕ) : Type 0 where
   pub reached : HasChain s basis r
-  pub none_fewer : (q : ℕ) → q < r → HasChain s basis q → ⊥
+  pub none_fewer : NoneBelow s basis r

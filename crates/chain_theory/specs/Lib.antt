@@ -2,6 +2,7 @@ pub mod Operator
 pub mod Specification
 pub mod Chain
 pub mod Value
+pub mod Rows
 pub mod Agreement
 pub mod Difference
 pub mod Levels

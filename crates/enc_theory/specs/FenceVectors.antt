@@ -1,7 +1,7 @@
 -- The encoding by fences against the independent program.
 use Rattle.std.specs.Prelude.{◌≡◌, ℕ, List, [], ◌∷◌, map, refl}
 use Rattle.op_basis.specs.Closed.{swapped, complement, first_complemented, second_complemented, every_below, swaps, negates_both, has_no_negation_at, negates_one, keeps_constants, has_complements, is_allowed, left_on_first, left_on_second, right_on_first, right_on_second, reapplies, reapplies_all}
-use Rattle.tt_core.specs.Symmetry.{row_of}
+use Rattle.chain_theory.specs.Rows.{row_of}
 use Rattle.tt_core.specs.Live.{fits_rows, inputs_from, first_fit, is_live, live_among, words_of}
 use Rattle.clause_core.specs.Clauses.{has, simplified, written}
 use Rattle.enc_theory.specs.Numbering.{x_var, g_var, f_var, s_first, x_is}

@@ -2,8 +2,7 @@
 use Rattle.std.proofs.Common.{◌≡◌, ℕ, ◌+◌, ◌*◌, ◌^◌, ◌<◌, ◌≤◌, Bool, cond, refl, arith, add-one}
 use Rattle.std.proofs.lemmas.Grind.{common_steps}
 use Rattle.std.proofs.Math.Pow.{pow_mono}
-use Rattle.tt_core.specs.Laws.{row_low}
-use Rattle.tt_core.specs.Symmetry.{row_of}
+use Rattle.chain_theory.specs.Rows.{row_of, row_low}
 
 -- no input yet
 pub row_none : (bits : ℕ → Bool) → row_of 0 bits ≡ 0

@@ -1,12 +1,7 @@
 -- Inputs that may be exchanged.
-use Rattle.std.specs.Prelude.{◌≡◌, ℕ, zero, suc, ◌+◌, ◌*◌, ◌^◌, ◌≤◌, ◌<◌, Bool, ◌==◌, if◌then◌else◌}
+use Rattle.std.specs.Prelude.{◌≡◌, ℕ, ◌^◌, ◌≤◌, ◌<◌, Bool, ◌==◌, if◌then◌else◌}
 use Rattle.chain_theory.specs.Specification.{Specification, input}
-
--- the row of n inputs that gives input j the bit of j
--- Example: for two inputs with the bits 1 and 0 it is row 2.
-unfoldable pub row_of : ℕ → (ℕ → Bool) → ℕ
-row_of zero bits = 0
-row_of (suc n) bits = 2 * row_of n bits + (if bits (suc n) then 1 else 0)
+use Rattle.chain_theory.specs.Rows.{row_of}
 
 -- p and q exchange their names
 abbrev pub renamed : ℕ → ℕ → ℕ → ℕ

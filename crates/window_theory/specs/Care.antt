@@ -1,7 +1,7 @@
 -- What a window has to compute.
 use Rattle.std.specs.Prelude.{◌≡◌, ℕ, ◌+◌, ◌≤◌, ◌<◌, ◌^◌, ◌-◌, Bool, true, false, if◌then◌else◌, List, [], ◌∷◌, length, slice_index_or, ◌⊎◌}
 use Rattle.chain_theory.specs.Operator.{Basis}
-use Rattle.chain_theory.specs.Agreement.{HasChain}
+use Rattle.chain_theory.specs.Agreement.{NoneBelow}
 use Rattle.chain_theory.specs.Specification.{Specification, input}
 use Rattle.chain_theory.specs.Value.{extended}
 use Rattle.chain_theory.specs.declared.data.Cell.{Cell}
@@ -81,4 +81,4 @@ pub record IsSpecificationOf (n : Net) (w : Window) (s : Specification) : Type 0
 pub record HasNoFewer (n : Net) (basis : Basis) (w : Window) (count : ℕ) : Type 0 where
   pub specification : Specification
   pub is : IsSpecificationOf n w specification
-  pub none : (q : ℕ) → q < count → HasChain specification basis q → ⊥
+  pub none : NoneBelow specification basis count

@@ -1,5 +1,6 @@
 use Rattle.std.proofs.Common.{◌≡◌}
-use Rattle.tt_core.specs.Symmetry.{row_of, exchanged_bit}
+use Rattle.chain_theory.specs.Rows.{row_of}
+use Rattle.tt_core.specs.Symmetry.{exchanged_bit}
 use Rattle.tt_core.proofs.symmetry.exchanged.Given as goal
 
 abbrev pub invariant-loop-before : goal.invariant-loop-before
