@@ -1,2 +1,3 @@
+pub mod Improve
 pub mod Methods
 pub mod Synth

@@ -18,4 +18,5 @@ mod trying;
 
 pub use advancing::{Advance, Search};
 pub use searching::search;
+pub use sizes::{SizeOutcome, search_size};
 pub use trying::{PartOutcome, try_part};

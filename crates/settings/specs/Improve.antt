@@ -1,0 +1,25 @@
+-- What the improver of netlists is asked with.
+use Rattle.std.specs.Prelude.{ℕ, ◌≤◌, ◌<◌}
+use Rattle.op_basis.specs.Text.{all_set}
+use Rattle.enc_theory.specs.declared.data.Method.TheVariants.{Ssv}
+use Rattle.settings.specs.Synth.{most_conflicts}
+use Rattle.settings.specs.declared.improve.ImproveSettings.{ImproveSettings}
+
+abbrev pub most_gates_of_window : ℕ
+most_gates_of_window = 8
+
+abbrev pub most_rounds : ℕ
+most_rounds = 100000
+
+-- the basis isn't empty, and the numbers are in their ranges
+pub record IsInRange (s : ImproveSettings) : Type 0 where
+  pub basis_from : 0 < s.basis
+  pub cap_to : s.cap ≤ most_gates_of_window
+  pub rounds_from : 1 ≤ s.rounds
+  pub rounds_to : s.rounds ≤ most_rounds
+  pub conflicts_from : 1 ≤ s.conflicts
+  pub conflicts_to : s.conflicts ≤ most_conflicts
+
+-- what holds where nothing is named
+abbrev pub usual : ImproveSettings
+usual = record { basis = all_set; method = Ssv; cap = 5; rounds = 1000; conflicts = 100000 }
