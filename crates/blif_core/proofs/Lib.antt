@@ -1,3 +1,4 @@
 pub mod Refused
 pub mod Sources
 pub mod Constants
+pub mod JoinedRows

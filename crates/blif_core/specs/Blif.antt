@@ -1,4 +1,5 @@
 -- BLIF as a format.
+use Rattle.std.specs.Prelude.{true}
 use Rattle.net_theory.specs.Circuit.{Circuit, IsProper}
 use Rattle.net_core.specs.Names.{HasRoom}
 use Rattle.net_document.specs.Format.{Format}
@@ -6,9 +7,10 @@ use Rattle.blif_text.specs.Statements.{listed_of}
 use Rattle.blif_core.specs.Written.{written}
 use Rattle.blif_core.specs.Spelling.{circuit_text}
 
--- what a text lists, the document as which a circuit is written, and the text of a circuit
+-- what a text lists, the document as which a circuit is written, and the text of a circuit; gates may
+-- have any operator
 abbrev pub blif_format : Format
-blif_format = record { listed = listed_of; written = written; text = circuit_text }
+blif_format = record { listed = listed_of; written = written; text = circuit_text; operators = λ op. true }
 
 -- Proper circuits can be written. That there are numbers for the names that are taken is so of every
 -- circuit in a memory.

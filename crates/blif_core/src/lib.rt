@@ -11,6 +11,7 @@
 //! ```
 #![tactic(auto)]
 
+mod joined;
 mod places;
 mod reading;
 mod spelling;

@@ -6,7 +6,8 @@ ghost use Rattle.net_theory.specs.WellFormed.{IsInit};
 ghost use Rattle.blif_core.specs.Spelling.{HasInit};
 ghost use Rattle.blif_core.specs.Spelling as spelling;
 
-use net_core::{Cube, Name, Trigger};
+use crate::joined::push_joined;
+use net_core::{Body, Cube, Name, Trigger};
 use net_document::{Document, LatchLine, Table};
 use std::alloc::AllocError;
 
@@ -125,7 +126,7 @@ fn digit(on: bool) -> u8
 }
 
 /// Adds a cover line.
-fn push_row(text: &mut Vec<u8>, on: bool, cube: &[u8]) -> Result<(), AllocError>
+pub fn push_row(text: &mut Vec<u8>, on: bool, cube: &[u8]) -> Result<(), AllocError>
     ensures { OnOk result (text.new.items ≡ text.old.items ++ spelling.row_text on cube.now) }
 {
     if cube.is_empty() {
@@ -160,7 +161,10 @@ fn push_table(text: &mut Vec<u8>, table: &Table) -> Result<(), AllocError>
     push_words(text, &table.inputs)?;
     push_word(text, table.output.get())?;
     text.push(b'\n')?;
-    push_rows(text, table.cover.on, &table.cover.cubes)
+    match &table.body {
+        Body::Cubes(cover) => push_rows(text, cover.on, &cover.cubes),
+        Body::Joined(whole) => push_joined(text, *whole),
+    }
 }
 
 /// Adds tables.

@@ -6,7 +6,7 @@ ghost use Rattle.blif_core.specs.Written as written;
 ghost use Rattle.blif_core.specs.Written.{row_if, binary_cubes as binary_cubes_of};
 
 use crate::places::place_name;
-use net_core::{Circuit, Cover, Cube, Gate, Name, Op, Sig};
+use net_core::{Body, Circuit, Cover, Cube, Gate, Name, Op, Sig};
 use net_document::Table;
 use std::alloc::{AllocError, Global};
 
@@ -34,11 +34,11 @@ pub fn constant_table(alloc: Global, bit: bool, output: &[u8]) -> Result<Table, 
     Ok(Table {
         inputs: Vec::new(alloc),
         output: Name::of(alloc, output)?,
-        cover: Cover {
+        body: Body::Cubes(Cover {
             width: 0,
             cubes,
             on: true,
-        },
+        }),
     })
 }
 
@@ -60,11 +60,11 @@ pub fn unary_table(
     Ok(Table {
         inputs,
         output: Name::of(alloc, output)?,
-        cover: Cover {
+        body: Body::Cubes(Cover {
             width: 1,
             cubes,
             on: true,
-        },
+        }),
     })
 }
 
@@ -98,11 +98,11 @@ fn binary_table(
     Ok(Table {
         inputs,
         output: Name::of(alloc, output)?,
-        cover: Cover {
+        body: Body::Cubes(Cover {
             width: 2,
             cubes,
             on: true,
-        },
+        }),
     })
 }
 

@@ -5,6 +5,7 @@ use Rattle.net_theory.specs.Document.{Document}
 use Rattle.net_theory.specs.WellFormed.{IsWellFormed}
 use Rattle.net_theory.specs.Cost.{cost}
 use Rattle.net_theory.specs.Circuit.{Circuit, IsProper, Describes}
+use Rattle.net_theory.specs.ExchangeLaws.{exchanged_proper}
 use Rattle.net_core.specs.Names.{HasRoom}
 use Rattle.net_document.specs.Format.{IsTextOf, IsFormat}
 use Rattle.net_document.specs.FormatLaws.{fault_none}
@@ -45,4 +46,6 @@ blif_is_format = record {
   lists = texts_list;
   proper = λ c can. can.0;
   read_back = λ c can. text_is c can.0 can.1;
+  kept = λ bytes c is room. (is.circuit.proper, room);
+  exchanged = λ c m can answers operators. (exchanged_proper c m can.0 answers, can.1);
 }

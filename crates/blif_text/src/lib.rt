@@ -20,6 +20,6 @@ mod words;
 pub use keywords::Keyword;
 pub use logical::{LogicalLine, next_logical};
 pub use net_document::{Listed, NetError};
-pub use reading::{Control, Reading};
+pub use reading::{Control, CoverTable, Reading};
 pub use walking::read_listed;
 pub use words::next_word;

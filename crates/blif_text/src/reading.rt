@@ -3,7 +3,7 @@
 ghost use Rattle.std.specs.Prelude.{◌≡◌, OnOk, IfOk};
 ghost use Rattle.blif_text.specs.Statements.{nothing, closed as closed_of};
 
-use net_document::{LatchLine, Name, Table};
+use net_document::{Body, Cover, LatchLine, Name, Table};
 use std::alloc::{AllocError, Global};
 use std::marker::Model;
 
@@ -22,6 +22,40 @@ impl Model for Control {
     ghost view = { λ c. record { line = c.line; name = c.name } };
 }
 
+/// A table by its cover, as long as cover lines of it may follow.
+#[derive(Debug, Drop)]
+pub struct CoverTable {
+    pub inputs: Vec<Name>,
+    pub output: Name,
+    pub cover: Cover,
+}
+
+impl Model for CoverTable {
+    ghost use Rattle.net_theory.specs.Document as document;
+
+    ghost Value = { document.Table };
+
+    ghost view = { λ t. record { inputs = t.inputs.items; output = t.output; cover = t.cover } };
+}
+
+impl CoverTable {
+    /// The table, to which no line follows.
+    fn closed(self) -> Table
+        ensures { result ≡ self }
+    {
+        let CoverTable {
+            inputs,
+            output,
+            cover,
+        } = self;
+        Table {
+            inputs,
+            output,
+            body: Body::Cubes(cover),
+        }
+    }
+}
+
 /// What was said so far. The last table is kept apart as long as cover lines of it may follow.
 #[derive(Debug, Drop)]
 pub struct Reading {
@@ -31,7 +65,7 @@ pub struct Reading {
     pub clocks: Vec<Name>,
     pub latches: Vec<LatchLine>,
     pub tables: Vec<Table>,
-    pub current: Option<Table>,
+    pub current: Option<CoverTable>,
     pub driven: Vec<Name>,
     pub used: Vec<Name>,
     pub controls: Vec<Control>,
@@ -89,7 +123,7 @@ impl Reading {
         ensures { OnOk result (self.new ≡ closed_of self.old) }
     {
         if let Some(table) = self.current.take() {
-            self.tables.push(table)?;
+            self.tables.push(table.closed())?;
         }
         self.is_begun = true;
         Ok(())

@@ -8,8 +8,9 @@ ghost use Rattle.blif_text.specs.Words.{words_of};
 ghost use Rattle.blif_text.specs.Rows.{bit_in as bit_in_of, row_in as row_in_of, agrees as agrees_of, row_of};
 ghost use Rattle.blif_text.specs.Found.{row_found};
 
+use crate::reading::CoverTable;
 use crate::words::next_word;
-use net_document::{Cube, NetError, Table};
+use net_document::{Cube, NetError};
 use std::alloc::Global;
 
 /// The byte 0 or 1 alone.
@@ -67,7 +68,12 @@ fn agrees(one: bool, other: bool) -> bool
 
 /// Adds a cover line to a table.
 #[tactic(auto, unfolding(crate::specs::Rows::row_of))]
-pub fn take_row(alloc: Global, line: u32, table: &mut Table, text: &[u8]) -> Result<(), NetError>
+pub fn take_row(
+    alloc: Global,
+    line: u32,
+    table: &mut CoverTable,
+    text: &[u8],
+) -> Result<(), NetError>
     ensures { Gives (λ _. table.new) result (row_of line table.old (words_of text.now)) }
 {
     let Some((cube, on)) = row_in(table.cover.width, text) else {

@@ -15,10 +15,10 @@ ghost use Rattle.blif_text.specs.declared.keywords.Keyword.TheVariants.{Model};
 use crate::keywords::{Keyword, keyword_of};
 use crate::latches::latch_of;
 use crate::logical::LogicalLine;
-use crate::reading::{Control, Reading};
+use crate::reading::{Control, CoverTable, Reading};
 use crate::rows::take_row;
 use crate::words::{add_words, are_names, count_words, has_long, next_word};
-use net_document::{Cover, LatchLine, Name, NetError, Table, Trigger, add_copies};
+use net_document::{Cover, LatchLine, Name, NetError, Trigger, add_copies};
 use net_text::{is_long_line, is_name};
 use std::alloc::{AllocError, Global};
 
@@ -118,7 +118,7 @@ fn split_last_word(
 
 /// A table without cover lines.
 #[tactic(auto, unfolding(crate::specs::Statements::table_of))]
-fn table_of(alloc: Global, line: u32, text: &[u8]) -> Result<Table, NetError>
+fn table_of(alloc: Global, line: u32, text: &[u8]) -> Result<CoverTable, NetError>
     ensures { Gives (λ t. t) result (table_of_words line (words_of text.now)) }
 {
     let Some((first, rest)) = next_word(text) else {
@@ -136,7 +136,7 @@ fn table_of(alloc: Global, line: u32, text: &[u8]) -> Result<Table, NetError>
         cubes: Vec::new(alloc),
         on: true,
     };
-    Ok(Table {
+    Ok(CoverTable {
         inputs,
         output,
         cover,

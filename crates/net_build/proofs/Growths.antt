@@ -1,5 +1,5 @@
 -- Gates that are put behind a net, table after table.
-use Rattle.std.proofs.Common.{◌≡◌, ℕ, suc, ◌+◌, ◌-◌, ◌≤◌, ◌<◌, ◌^◌, List, [], ◌∷◌, ◌++◌, length, map, Option, Some, None, refl, ap, ◌∙◌, sym, subst, arith, length-append}
+use Rattle.std.proofs.Common.{◌≡◌, ℕ, suc, ◌+◌, ◌≤◌, ◌<◌, ◌^◌, List, [], ◌∷◌, ◌++◌, length, map, Option, Some, None, refl, ap, ◌∙◌, sym, subst, arith, length-append}
 use Rattle.std.specs.Prelude.{All, slice_get, unwrap_or, sum_by}
 use Rattle.std.proofs.lemmas.Grind.{common_steps}
 use Rattle.std.proofs.lemmas.List.{length-map, map-append}
@@ -67,6 +67,9 @@ spent_below k (t ∷ ts) done =
     (λ e. omega (arith, sum_by-cons table_cost t ts, spent_below (k + 1) ts done))
     (λ e. omega (arith, sum_by-cons table_cost t ts, spent_below (k + 1) ts done))
 
+pub table_is : (d : Document) (k : ℕ) (t : Table) → IsWellFormed d → slice_get d.tables k ≡ Some t → IsTable t
+table_is d k t well at = all_at IsTable d.tables k t well.tables at
+
 pub begun_low : (d : Document) (n : Net) (signals : Signals) (k : ℕ) (left : List ℕ) → IsBegun d n signals (k ∷ left) → k < length d.tables
 begun_low d n signals k left is = omega (arith, is.run.0.low, length-graph_of d.tables)
 
@@ -93,7 +96,7 @@ table_gates sources g t = refl
 pub table_fits : (d : Document) (n : Net) (signals : Signals) (k : ℕ) (left : List ℕ) (t : Table) → IsWellFormed d → source_count d + 100000 < 2 ^ 31 → IsBegun d n signals (k ∷ left) → slice_get d.tables k ≡ Some t → FitsTable n t
 unfolding cost
 table_fits d n signals k left t well small b at =
-    let is : IsTable t = all_at IsTable d.tables k t well.tables at in
+    let is = table_is d k t well at in
     let m : IsMerged t (merged_table t) = merged_is t is.cover is.width in
     let below : AreSigsBelow (source_count d + 1 + length n.gates) (map (signal_of signals) (merged_table t).inputs) = sigs_below n signals (merged_table t).inputs (source_count d + 1 + length n.gates) (ap (λ (x : ℕ). x + 1 + length n.gates) (sym b.sources)) (begun_below d n signals (k ∷ left) b) in
     let wide : (merged_table t).cover.width ≡ length (map (signal_of signals) (merged_table t).inputs) = m.width ∙ sym (length-map (merged_table t).inputs (signal_of signals)) in
@@ -123,7 +126,7 @@ same_next d n m before after k left t at sources e =
     ap (λ (g : Growth). with_tables (source_count d) d.tables g left)
     (e ∙ ap (λ (x : ℕ). with_table x (growth n.gates before) t) sources ∙ ap (with_table_at (source_count d) (growth n.gates before)) (sym at))
 
-pub ruleset runs = (common_steps, begun_low, begun_below, table_fits, begun_next, same_next)
+pub ruleset runs = (common_steps, table_is, begun_low, begun_below, table_fits, begun_next, same_next)
 
 -- ---- the sources
 

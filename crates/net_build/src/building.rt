@@ -3,7 +3,8 @@
 ghost use Rattle.std.specs.Prelude.{◌≡◌, ◌+◌, ◌<◌, ◌^◌, [], length, slice_get, None, OnOk, IfOk};
 ghost use Rattle.indexmap.specs.IndexMap.{get};
 ghost use Rattle.net_theory.specs.Document.{is_same};
-ghost use Rattle.net_theory.specs.WellFormed.{IsWellFormed};
+ghost use Rattle.net_theory.specs.WellFormed.{IsTable, IsWellFormed};
+ghost use Rattle.net_core.specs.Wholes.{cover_of, IsBody};
 ghost use Rattle.graph_core.specs.VisitLaws.{IsOrder};
 ghost use Rattle.net_theory.specs.NetOf.{grown_by, table_built, with_table, with_tables, graph_of, with_sources, source_count, net_in_order};
 ghost use Rattle.net_theory.specs.Document.{source_names};
@@ -12,40 +13,42 @@ ghost use Rattle.net_build.specs.Parts.{growth, AreBelow, Fits, FitsTable, IsBeg
 use crate::merging::{first_alone, merged_cover};
 use crate::signals::{place_latches, place_names, push_signals, set_signal, sinks_of};
 use indexmap::IndexMap;
-use net_core::{Cover, Name, Net, Sig, expand};
+use net_core::{Body, Name, Net, Sig, expand_body};
 use net_document::{Document, Table};
 use std::alloc::{AllocError, Global};
 
-/// Puts the gates of a cover over these names behind a net, and gives the output their signal.
+/// Puts the gates of a body over these names behind a net, and gives the output their signal.
 #[tactic(auto, using(crate::proofs::Growths::covers))]
-fn add_cover(
+fn add_body(
     alloc: Global,
     net: &mut Net,
     signals: &mut IndexMap<Name, Sig>,
-    cover: &Cover,
+    body: &Body,
     names: &[Name],
     output: &Name,
 ) -> Result<(), AllocError>
-    requires fits { Fits net.old cover.now names.now }
+    requires body { IsBody body.now }
+    requires fits { Fits net.old (cover_of body.now) names.now }
     requires below { AreBelow net.old (get is_same signals.old) }
-    ensures grown { OnOk result (growth net.new.gates (get is_same signals.new) ≡ grown_by (growth net.old.gates (get is_same signals.old)) output.now (table_built net.old.sources (growth net.old.gates (get is_same signals.old)) (record { inputs = names.now; output = output.now; cover = cover.now }))) }
+    ensures grown { OnOk result (growth net.new.gates (get is_same signals.new) ≡ grown_by (growth net.old.gates (get is_same signals.old)) output.now (table_built net.old.sources (growth net.old.gates (get is_same signals.old)) (record { inputs = names.now; output = output.now; cover = cover_of body.now }))) }
     ensures sources { OnOk result (net.new.sources ≡ net.old.sources) }
     ensures sinks { OnOk result (net.new.sinks ≡ net.old.sinks) }
 {
     let mut inputs = Vec::new(alloc);
     push_signals(signals, names, &mut inputs)?;
-    let sig = expand(alloc, net, cover, &inputs)?;
+    let sig = expand_body(alloc, net, body, &inputs)?;
     set_signal(signals, output, sig)
 }
 
 /// Puts the gates of a table behind a net.
-#[tactic(auto, using(crate::proofs::Growths::tables), unfolding(net_theory::specs::NetOf::with_table))]
+#[tactic(auto, using(crate::proofs::Growths::tables, net_core::specs::BodyLaws::body_good), unfolding(net_theory::specs::NetOf::with_table))]
 fn add_table(
     alloc: Global,
     net: &mut Net,
     signals: &mut IndexMap<Name, Sig>,
     table: &Table,
 ) -> Result<(), AllocError>
+    requires table { IsTable table.now }
     requires fits { FitsTable net.old table.now }
     requires below { AreBelow net.old (get is_same signals.old) }
     ensures grown { OnOk result (growth net.new.gates (get is_same signals.new) ≡ with_table net.old.sources (growth net.old.gates (get is_same signals.old)) table.now) }
@@ -55,13 +58,14 @@ fn add_table(
     match merged_cover(alloc, table)? {
         Some(cover) => {
             let names = first_alone(&table.inputs);
-            add_cover(alloc, net, signals, &cover, names, &table.output)
+            let body = Body::Cubes(cover);
+            add_body(alloc, net, signals, &body, names, &table.output)
         }
-        None => add_cover(
+        None => add_body(
             alloc,
             net,
             signals,
-            &table.cover,
+            &table.body,
             &table.inputs,
             &table.output,
         ),

@@ -5,7 +5,7 @@ ghost use Rattle.net_theory.specs.Cost.{byte_if, unary_cover as unary_cover_of, 
 ghost use Rattle.net_theory.specs.WellFormed.{IsTable};
 ghost use Rattle.net_build.specs.Parts.{merged_by};
 
-use net_core::{Cover, Cube, Name, cover_cost, cover_value};
+use net_core::{Cover, Cube, Name, body_cost, body_value, cover_cost};
 use net_document::Table;
 use std::alloc::{AllocError, Global};
 
@@ -39,8 +39,9 @@ fn unary_cover(alloc: Global, at_zero: bool, at_one: bool) -> Result<Cover, Allo
 }
 
 /// The cover by which a table is read whose two inputs have one name.
-#[tactic(auto, using(crate::proofs::Merged::merges), unfolding(net_theory::specs::Cost::merged_table))]
+#[tactic(auto, using(crate::proofs::Merged::merges, net_core::specs::BodyLaws::body_good), unfolding(net_theory::specs::Cost::merged_table))]
 pub fn merged_cover(alloc: Global, table: &Table) -> Result<Option<Cover>, AllocError>
+    requires { IsTable table.now }
     ensures { IfOk result (λ cover. merged_by table.now cover ≡ merged_table table.now) }
 {
     let [first, second] = table.inputs.as_slice() else {
@@ -49,8 +50,8 @@ pub fn merged_cover(alloc: Global, table: &Table) -> Result<Option<Cover>, Alloc
     if first != second {
         return Ok(None);
     }
-    let at_zero = cover_value(&table.cover, &[false, false]);
-    let at_one = cover_value(&table.cover, &[true, true]);
+    let at_zero = body_value(&table.body, &[false, false]);
+    let at_one = body_value(&table.body, &[true, true]);
     Ok(Some(unary_cover(alloc, at_zero, at_one)?))
 }
 
@@ -65,14 +66,14 @@ pub fn first_alone(names: &[Name]) -> &[Name]
 }
 
 /// The number of gates that a table becomes.
-#[tactic(auto, using(crate::proofs::Merged::costs), unfolding(net_theory::specs::Cost::table_cost))]
+#[tactic(auto, using(crate::proofs::Merged::costs, net_core::specs::BodyLaws::body_good), unfolding(net_theory::specs::Cost::table_cost))]
 fn table_cost(alloc: Global, table: &Table) -> Result<u32, AllocError>
     requires { IsTable table.now }
     ensures { IfOk result (λ cost. cost ≡ table_cost_of table.now) }
 {
     match merged_cover(alloc, table)? {
         Some(cover) => Ok(cover_cost(&cover, first_alone(&table.inputs))),
-        None => Ok(cover_cost(&table.cover, &table.inputs)),
+        None => Ok(body_cost(&table.body, &table.inputs)),
     }
 }
 

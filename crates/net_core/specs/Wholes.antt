@@ -22,6 +22,11 @@ abbrev pub cover_of : Body → Cover
 cover_of (Cubes c) = c
 cover_of (Joined w) = whole_cover w
 
+-- a body that joins inputs has at least one
+abbrev pub JoinsSome : Body → Type 0
+JoinsSome (Cubes c) = Unit {0}
+JoinsSome (Joined w) = 0 < w.width
+
 -- a cover with cubes of its width, or at least one input to join
 abbrev pub IsBody : Body → Type 0
 IsBody (Cubes c) = IsCover c

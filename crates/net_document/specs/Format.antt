@@ -1,20 +1,26 @@
 -- Formats of netlists as values: what a text lists, and how a circuit is written.
-use Rattle.std.specs.Prelude.{◌≡◌, ℕ, ◌≤◌, ◌⊎◌, List, length, Result, Ok, Err, None}
+use Rattle.std.specs.Prelude.{◌≡◌, ℕ, ◌≤◌, ◌⊎◌, Bool, true, List, length, slice_get, Some, Result, Ok, Err, None}
+use Rattle.net_theory.specs.declared.data.Gate.{Gate}
+use Rattle.net_theory.specs.Net.{Net}
 use Rattle.net_theory.specs.Document.{Document}
 use Rattle.net_theory.specs.WellFormed.{IsWellFormed}
 use Rattle.net_theory.specs.Cost.{cost}
 use Rattle.net_theory.specs.Circuit.{Circuit, IsProper, Describes, IsCircuitOf}
+use Rattle.net_theory.specs.Answers.{Answers}
+use Rattle.net_theory.specs.ExchangeLaws.{with_net}
+use Rattle.net_core.specs.Names.{HasRoom}
 use Rattle.net_core.specs.declared.error.NetError.{NetError}
 use Rattle.net_core.specs.declared.error.NetError.TheVariants.{Memory}
 use Rattle.net_document.specs.Listed.{Listed, IsListed}
 use Rattle.net_document.specs.Refusals.{fault_of, IsRefused}
 
--- What a text lists, or the first fault of its lines; the document as which a circuit is written; and the
--- text of a circuit.
+-- What a text lists, or the first fault of its lines; the document as which a circuit is written; the
+-- text of a circuit; and which operators gates may have there.
 pub record Format : Type 0 where
   pub listed : List ℕ → Result Listed NetError
   pub written : Circuit → Document
   pub text : Circuit → List ℕ
+  pub operators : ℕ → Bool
 
 -- ---- texts that are read
 
@@ -78,8 +84,16 @@ pub record IsTextOf (f : Format) (bytes : List ℕ) (c : Circuit) : Type 0 where
 abbrev pub ListsWell : Format → Type 0
 ListsWell f = (bytes : List ℕ) (l : Listed) → f.listed bytes ≡ Ok l → IsListed l
 
+-- each gate of the second net has an operator of the format, or that of a gate of the first
+abbrev pub CanOperate : Format → Net → Net → Type 0
+CanOperate f n m = (j : ℕ) (h : Gate) → slice_get m.gates j ≡ Some h → (f.operators h.op ≡ true) ⊎ ((i : ℕ) × (g : Gate) × (slice_get n.gates i ≡ Some g) × (h.op ≡ g.op))
+
 -- Texts list documents well. Circuits that can be written are proper, and the text of one is read back.
+-- The circuit of each text can be written, and so it can with a net that answers the same and whose
+-- operators the format has. (That there are numbers for all names is so of every circuit in a memory.)
 pub record IsFormat (f : Format) (CanWrite : Circuit → Type 0) : Type 0 where
   pub lists : ListsWell f
   pub proper : (c : Circuit) → CanWrite c → IsProper c
   pub read_back : (c : Circuit) → CanWrite c → IsTextOf f (f.text c) c
+  pub kept : (bytes : List ℕ) (c : Circuit) → IsCircuitOfText f bytes c → HasRoom c → CanWrite c
+  pub exchanged : (c : Circuit) (m : Net) → CanWrite c → Answers c.net m → CanOperate f c.net m → CanWrite (with_net c m)

@@ -1,22 +1,25 @@
-//! Tables, latches and documents as data. Nothing is asked of them here; their views are the records of the
-//! definitions.
-use net_core::{Cover, Latch, Name};
+//! Tables, latches and documents as data. Their views are the records of the definitions, and but for bodies
+//! of tables nothing is asked of them here.
+use net_core::{Body, Latch, Name};
 use std::marker::Model;
 
-/// A table: its output is the cover's value at the inputs.
+/// A table: its output is the body's value at the inputs. A body that joins its inputs has some.
 #[derive(Debug, Drop)]
 pub struct Table {
     pub inputs: Vec<Name>,
     pub output: Name,
-    pub cover: Cover,
+    pub body: Body,
 }
 
 impl Model for Table {
     ghost use Rattle.net_theory.specs.Document as document;
+    ghost use Rattle.net_core.specs.Wholes.{cover_of, JoinsSome};
 
     ghost Value = { document.Table };
 
-    ghost view = { λ t. record { inputs = t.inputs.items; output = t.output; cover = t.cover } };
+    ghost view = { λ t. record { inputs = t.inputs.items; output = t.output; cover = cover_of t.body } };
+
+    ghost invariant = { λ t. JoinsSome t.body };
 }
 
 /// A latch and the name of its input.

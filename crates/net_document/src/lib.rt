@@ -6,7 +6,7 @@
 //! ```text
 //! // .inputs a b      .names a b y
 //! //                  11 1
-//! Document { inputs: [a, b], tables: [Table { inputs: [a, b], output: y, cover }], .. }
+//! Document { inputs: [a, b], tables: [Table { inputs: [a, b], output: y, body }], .. }
 //! ```
 #![tactic(auto)]
 
@@ -19,4 +19,4 @@ pub use laws::{
     documents_of_like_circuits_are_the_same, laws_of_counts, laws_of_refusals, netlists_are_read,
 };
 pub use names::add_copies;
-pub use net_core::{Cover, Cube, Latch, Name, NetError, Trigger};
+pub use net_core::{Body, Connective, Cover, Cube, Latch, Name, NetError, Trigger, Whole};

@@ -1,6 +1,7 @@
 //! What the lines of a text list, and which fault is told: the rules that no clause spells out.
 
 use blif_text::{NetError, read_listed};
+use net_core::Body;
 use std::alloc::{AllocError, Global};
 
 /// The number of inputs, outputs, clocks, latches, tables and cover lines of a text, or its fault.
@@ -13,7 +14,9 @@ fn told(alloc: Global, text: &[u8]) -> Result<String, AllocError> {
             let document = listed.document;
             let mut rows: usize = 0;
             for table in &document.tables {
-                rows = rows.wrapping_add(table.cover.cubes.len());
+                if let Body::Cubes(cover) = &table.body {
+                    rows = rows.wrapping_add(cover.cubes.len());
+                }
             }
             format!(in alloc;
                 "{} {} {} {} {} {}",

@@ -1,0 +1,9 @@
+use Rattle.std.proofs.Common.{◌≡◌, ◌++◌}
+use Rattle.std.specs.List.{flat_map}
+use Rattle.net_theory.specs.Whole.{single_ones}
+use Rattle.blif_core.specs.Spelling.{row_text}
+use Rattle.blif_core.proofs.JoinedRows.{lines_left}
+use Rattle.blif_core.proofs.joined.push_singles.Given as goal
+
+abbrev pub invariant-loop-place : goal.invariant-loop-place
+invariant-loop-place l = l.text.items ++ lines_left (row_text l.on) l.width l.place ≡ l.initial.text.items ++ flat_map (row_text l.on) (single_ones l.width)

@@ -1,0 +1,78 @@
+//! The cover lines of tables that join all their inputs: one for AND, and one for each input for OR. A
+//! parity has none.
+
+ghost use Rattle.std.specs.Prelude.{◌≡◌, ◌+◌, ◌-◌, ◌<◌, ◌∷◌, ◌++◌, OnOk, IfOk};
+ghost use Rattle.std.specs.List.{flat_map};
+ghost use Rattle.net_theory.specs.Whole.{ones as ones_of, dashes, single_ones};
+ghost use Rattle.net_core.specs.Wholes.{whole_cover};
+ghost use Rattle.blif_core.specs.Spelling as spelling;
+
+use crate::spelling::push_row;
+use net_core::{Connective, Whole};
+use std::alloc::{AllocError, Global};
+
+/// The cube that asks each input for 1.
+#[tactic(auto, using(crate::proofs::JoinedRows::rows))]
+fn ones(alloc: Global, width: u32) -> Result<Vec<u8>, AllocError>
+    ensures { IfOk result (λ cube. cube.items ≡ ones_of width) }
+{
+    let mut cube = Vec::new(alloc);
+    for _place in 0..width {
+        cube.push(b'1')?;
+    }
+    Ok(cube)
+}
+
+/// Adds a byte for each of so many inputs, which asks for nothing.
+#[tactic(auto, using(crate::proofs::JoinedRows::rows))]
+fn push_dashes(cube: &mut Vec<u8>, width: u32) -> Result<(), AllocError>
+    ensures { OnOk result (cube.new.items ≡ cube.old.items ++ dashes width) }
+{
+    for _place in 0..width {
+        cube.push(b'-')?;
+    }
+    Ok(())
+}
+
+/// The cube that asks one input for 1, the first at 0.
+fn single(alloc: Global, width: u32, place: u32) -> Result<Vec<u8>, AllocError>
+    requires { place < width }
+    ensures { IfOk result (λ cube. cube.items ≡ dashes place ++ 49 ∷ dashes (width - place - 1)) }
+{
+    let mut cube = Vec::new(alloc);
+    push_dashes(&mut cube, place)?;
+    cube.push(b'1')?;
+    push_dashes(&mut cube, width - place - 1)?;
+    Ok(cube)
+}
+
+/// Adds the line of AND.
+fn push_ones(text: &mut Vec<u8>, on: bool, width: u32) -> Result<(), AllocError>
+    ensures { OnOk result (text.new.items ≡ text.old.items ++ spelling.row_text on (ones_of width)) }
+{
+    let cube = ones(*text.allocator(), width)?;
+    push_row(text, on, &cube)
+}
+
+/// Adds the lines of OR.
+#[tactic(auto, using(crate::proofs::JoinedRows::rows))]
+fn push_singles(text: &mut Vec<u8>, on: bool, width: u32) -> Result<(), AllocError>
+    ensures { OnOk result (text.new.items ≡ text.old.items ++ flat_map (spelling.row_text on) (single_ones width)) }
+{
+    for place in 0..width {
+        let cube = single(*text.allocator(), width, place)?;
+        push_row(text, on, &cube)?;
+    }
+    Ok(())
+}
+
+/// Adds the cover lines of a table that joins all its inputs.
+pub fn push_joined(text: &mut Vec<u8>, whole: Whole) -> Result<(), AllocError>
+    ensures { OnOk result (text.new.items ≡ text.old.items ++ flat_map (spelling.row_text (whole_cover whole).on) (whole_cover whole).cubes) }
+{
+    match whole.connective {
+        Connective::And => push_ones(text, whole.on, whole.width),
+        Connective::Or => push_singles(text, whole.on, whole.width),
+        Connective::Xor => Ok(()),
+    }
+}
