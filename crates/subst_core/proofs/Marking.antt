@@ -1,0 +1,119 @@
+-- Marks that are written one by one, and turned.
+use Rattle.std.proofs.Common.{◌≡◌, ℕ, zero, suc, ◌+◌, ◌<◌, Bool, true, false, not, ◌&&◌, ◌||◌, List, [], ◌∷◌, ◌++◌, length, set, get_or, replicate, refl, ◌∙◌, ap, sym, subst, arith, ⊎_elim, ltb, if◌then◌else◌}
+use Rattle.std.specs.Prelude.{slice_get, Some}
+use Rattle.std.proofs.lemmas.Bool.{cases_eq, cases_lt, lt-ltb, le-ltb, cond-true, cond-false, eq-eqb, ne_eqb}
+use Rattle.std.proofs.lemmas.List.{get_or-set_same, get_or-set_other}
+use Rattle.net_theory.specs.NameLaws.{all_at, at_all}
+use Rattle.net_theory.specs.ValueLaws.{at_front, at_end}
+use Rattle.net_core.specs.Marks.{set_of, no_marks}
+use Rattle.window_theory.specs.Places.{among}
+use Rattle.window_theory.specs.PlaceLaws.{among_first, among_later}
+use Rattle.subst_core.specs.Lists.{AreBelow}
+use Rattle.subst_core.specs.Placing.{with_places}
+
+-- ---- places that are marked
+
+or_true : (a : Bool) → (a || true) ≡ true
+or_true true = refl
+or_true false = refl
+
+or_none : (a : Bool) → (a || false) ≡ a
+or_none true = refl
+or_none false = refl
+
+next_at : (marks : List Bool) (rest : List ℕ) (q p : ℕ) → q < length marks → with_places (set_of (set marks q true)) rest p ≡ with_places (set_of marks) (q ∷ rest) p
+unfolding set_of
+next_at marks rest q p low =
+    ⊎_elim
+    (λ (here : p ≡ q).
+    ap (λ (b : Bool). among rest p || b) (ap (λ (k : ℕ). get_or (set marks q true) k false) here ∙ get_or-set_same marks q true false low)
+    ∙ or_true (among rest p)
+    ∙ sym (ap (λ (b : Bool). (b || among rest p) || get_or marks p false) (eq-eqb p q here)))
+    (λ other.
+    ap (λ (b : Bool). among rest p || b) (get_or-set_other marks q p true false other)
+    ∙ sym (ap (λ (b : Bool). (b || among rest p) || get_or marks p false) (ne_eqb p q other)))
+    (cases_eq p q)
+
+-- the first of the places is marked
+pub mark_next : (marks : List Bool) (places rest : List ℕ) (q : ℕ) → places ≡ q ∷ rest → q < length marks → with_places (set_of (set marks q true)) rest ≡ with_places (set_of marks) places
+mark_next marks places rest q e low = λ i p. (next_at marks rest q p low ∙ ap (λ (xs : List ℕ). with_places (set_of marks) xs p) (sym e)) i
+
+pub mark_none : (marks : List Bool) (places : List ℕ) → length places ≡ 0 → set_of marks ≡ with_places (set_of marks) places
+mark_none marks [] e = refl
+mark_none marks (q ∷ places) e = absurd (omega arith)
+
+-- where nothing was marked just the places are
+pub places_alone : (places : List ℕ) → with_places no_marks places ≡ among places
+places_alone places = λ i p. or_none (among places p) i
+
+no_marks_at : (n p : ℕ) → set_of (replicate n false) p ≡ false
+unfolding set_of
+no_marks_at zero p = refl
+no_marks_at (suc n) zero = refl
+no_marks_at (suc n) (suc p) = no_marks_at n p
+
+pub none_marked : (n : ℕ) → set_of (replicate n false) ≡ no_marks
+none_marked n = λ i p. no_marks_at n p i
+
+-- ---- marks that are turned
+
+-- the first of the marks are turned
+abbrev pub turned : List Bool → ℕ → ℕ → Bool
+turned marks count p = if ltb p count then not (set_of marks p) else set_of marks p
+
+pub turned_next : (old new : List Bool) (count : ℕ) (bit : Bool) → length new ≡ length old → count < length old → bit ≡ get_or new count false → ((p : ℕ) → p < length old → set_of new p ≡ turned old count p) → (p : ℕ) → p < length old → set_of (set new count (not bit)) p ≡ turned old (count + 1) p
+unfolding set_of
+turned_next old new count bit size low is same p within =
+    ⊎_elim
+    (λ (here : p ≡ count).
+    ap (λ (k : ℕ). get_or (set new count (not bit)) k false) here
+    ∙ get_or-set_same new count (not bit) false (omega (arith, size, low))
+    ∙ ap not (is ∙ ap (λ (k : ℕ). get_or new k false) (sym here) ∙ same p within ∙ cond-false (ltb p count) (not (get_or old p false)) (get_or old p false) (le-ltb p count (omega arith)))
+    ∙ sym (cond-true (ltb p (count + 1)) (not (get_or old p false)) (get_or old p false) (lt-ltb p (count + 1) (omega arith))))
+    (λ other.
+    get_or-set_other new count p (not bit) false other
+    ∙ same p within
+    ∙ ⊎_elim
+    (λ (below : p < count).
+    cond-true (ltb p count) (not (get_or old p false)) (get_or old p false) (lt-ltb p count below)
+    ∙ sym (cond-true (ltb p (count + 1)) (not (get_or old p false)) (get_or old p false) (lt-ltb p (count + 1) (omega arith))))
+    (λ above.
+    cond-false (ltb p count) (not (get_or old p false)) (get_or old p false) (le-ltb p count above)
+    ∙ sym (cond-false (ltb p (count + 1)) (not (get_or old p false)) (get_or old p false) (le-ltb p (count + 1) (omega (arith, above, other)))))
+    (cases_lt p count))
+    (cases_eq p count)
+
+pub turned_all : (old : List Bool) (count p : ℕ) → p < count → turned old count p ≡ not (set_of old p)
+turned_all old count p low = cond-true (ltb p count) (not (set_of old p)) (set_of old p) (lt-ltb p count low)
+
+-- neither the one nor the other
+pub not_or : (a b : Bool) → not (a || b) ≡ (not b && not a)
+not_or true true = refl
+not_or true false = refl
+not_or false true = refl
+not_or false false = refl
+
+-- ---- places below a bound
+
+pub first_below : (bound : ℕ) (places rest : List ℕ) (p : ℕ) → places ≡ p ∷ rest → AreBelow bound places → p < bound
+first_below bound places rest p e are =
+    let below : AreBelow bound (p ∷ rest) = subst (AreBelow bound) e are in
+    below 0 0 (omega arith)
+
+-- the places but the last, and the last
+pub front_below : (bound : ℕ) (places rest : List ℕ) (p : ℕ) → places ≡ rest ++ p ∷ [] → AreBelow bound places → AreBelow bound rest
+front_below bound places rest p e are =
+    at_all (λ (q : ℕ). q < bound) rest (λ i q at. all_at (λ (q : ℕ). q < bound) places i q are (ap (λ (xs : List ℕ). slice_get xs i) e ∙ at_front rest (p ∷ []) i q at))
+
+pub last_below : (bound : ℕ) (places rest : List ℕ) (p : ℕ) → places ≡ rest ++ p ∷ [] → AreBelow bound places → p < bound
+last_below bound places rest p e are =
+    all_at (λ (q : ℕ). q < bound) places (length rest) p are (ap (λ (xs : List ℕ). slice_get xs (length rest)) e ∙ at_end rest p)
+
+-- a list whose places are below a bound
+among_at : (places : List ℕ) (i p : ℕ) → slice_get places i ≡ Some p → among places p ≡ true
+among_at [] i p at = absurd cc
+among_at (q ∷ places) zero p at = let same : q ≡ p = cc in subst (λ (x : ℕ). among (q ∷ places) x ≡ true) same (among_first q places)
+among_at (q ∷ places) (suc i) p at = among_later q p places (among_at places i p at)
+
+pub list_below : (bound : ℕ) (places : List ℕ) → ((p : ℕ) → among places p ≡ true → p < bound) → AreBelow bound places
+list_below bound places each = at_all (λ (q : ℕ). q < bound) places (λ i p at. each p (among_at places i p at))

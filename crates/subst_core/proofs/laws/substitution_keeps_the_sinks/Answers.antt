@@ -1,0 +1,14 @@
+use Rattle.subst_core.specs.SubstitutionLaws.{substituted_is, substituted_stands, pruned_on, spliced_operators}
+use Rattle.subst_core.proofs.laws.substitution_keeps_the_sinks.Goals as goal
+
+pub returns-clause-values : goal.returns-clause-values
+returns-clause-values c = substituted_is
+
+pub returns-clause-answers : goal.returns-clause-answers
+returns-clause-answers c = substituted_stands
+
+pub returns-clause-pruned : goal.returns-clause-pruned
+returns-clause-pruned c = pruned_on
+
+pub returns-clause-operators : goal.returns-clause-operators
+returns-clause-operators c = spliced_operators

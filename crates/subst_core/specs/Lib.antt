@@ -1,0 +1,9 @@
+pub use Rattle.chain_core.specs.Steps
+pub use Rattle.net_core.specs.Marks
+pub use Rattle.window_theory.specs.Window
+pub use Rattle.window_theory.specs.Splice
+pub mod Lists
+pub mod ListsLaws
+pub mod Placing
+pub mod Substitution
+pub mod SubstitutionLaws

@@ -1,0 +1,47 @@
+-- A chain that agrees, in the place of a window.
+use Rattle.std.specs.Prelude.{◌≡◌, ℕ, ◌+◌, ◌<◌, ◌^◌, Bool, length, slice_get, Some, ◌⊎◌}
+use Rattle.chain_theory.specs.Specification.{Specification}
+use Rattle.chain_theory.specs.Chain.{Step, Chain, IsChain}
+use Rattle.chain_theory.specs.Agreement.{Agrees}
+use Rattle.net_theory.specs.declared.data.Gate.{Gate}
+use Rattle.net_theory.specs.Net.{Net, sink_values}
+use Rattle.window_theory.specs.Window.{Window}
+use Rattle.window_theory.specs.Care.{IsSpecificationOf}
+use Rattle.window_theory.specs.Splice.{IsSpliced}
+
+-- fewer than 2^31 places come of it
+abbrev pub HasRoom : Net → Window → Chain → Type 0
+HasRoom n w c = n.sources + length n.gates + length c.steps < 2 ^ 31 + length w.gates
+
+-- The chain agrees with what the window has to compute. It doesn't matter which specification of the window that
+-- is, since all have the same chains.
+pub record Meets (n : Net) (w : Window) (c : Chain) : Type 0 where
+  pub chain : IsChain c
+  pub specification : Specification
+  pub is : IsSpecificationOf n w specification
+  pub agrees : Agrees c specification
+
+-- m is n where a chain has taken a window's place, and its sinks have the values that they had.
+-- Example: of NAND of the sources at place 3 and NOT of it at place 4, which is the sink, the window of both and the
+-- chain of one step AND leave the one gate AND.
+pub record IsSubstituted (n : Net) (w : Window) (c : Chain) (m : Net) : Type 0 where
+  pub spliced : IsSpliced n w c m
+  pub values : (given : ℕ → Bool) → sink_values m given ≡ sink_values n given
+
+-- some gate has the operator
+pub record IsGateOperator (n : Net) (op : ℕ) : Type 0 where
+  pub index : ℕ
+  pub gate : Gate
+  pub at : slice_get n.gates index ≡ Some gate
+  pub is : gate.op ≡ op
+
+-- some step has the operator
+pub record IsStepOperator (c : Chain) (op : ℕ) : Type 0 where
+  pub index : ℕ
+  pub step : Step
+  pub at : slice_get c.steps index ≡ Some step
+  pub is : step.op ≡ op
+
+-- each gate of m has an operator of n or of the chain
+abbrev pub HasOldOperators : Net → Chain → Net → Type 0
+HasOldOperators n c m = (op : ℕ) → IsGateOperator m op → IsGateOperator n op ⊎ IsStepOperator c op

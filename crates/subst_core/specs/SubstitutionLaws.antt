@@ -1,0 +1,98 @@
+-- A net with a chain that agrees can stand in the old one's place, and so can what is left of it.
+use Rattle.std.specs.Prelude.{◌≡◌, ℕ, zero, suc, ◌+◌, ◌≤◌, ◌<◌, Bool, true, nat_eq, not, ◌&&◌, if◌then◌else◌, List, [], ◌∷◌, length, map, slice_get, Some, refl}
+use Rattle.std.proofs.Common.{arith, sym, ◌∙◌, ap, subst, inl, inr, ⊎_elim, add-zero}
+use Rattle.std.proofs.lemmas.Bool.{and_parts, eq-eqb, eqb-true, cond-true, cond-false, cases_Bool, cases_lt}
+use Rattle.chain_theory.specs.Chain.{Chain}
+use Rattle.net_theory.specs.declared.data.Gate.{Gate}
+use Rattle.net_theory.specs.Net.{Net, IsNet}
+use Rattle.net_theory.specs.NameLaws.{at_map}
+use Rattle.net_theory.specs.Dead.{dropped}
+use Rattle.net_theory.specs.DeadLaws.{dropped_operators}
+use Rattle.net_theory.specs.ExchangeLaws.{answers_on}
+use Rattle.net_theory.specs.Answers.{Answers, IsPruned}
+use Rattle.window_theory.specs.Places.{among}
+use Rattle.window_theory.specs.Window.{Window, Belongs}
+use Rattle.window_theory.specs.Splice.{step_gate, passing, IsSpliced}
+use Rattle.window_theory.specs.ReplacementLaws.{substituted_values}
+use Rattle.subst_core.specs.Substitution.{Meets, IsSubstituted, IsGateOperator, HasOldOperators}
+
+pub substituted_is : (n m : Net) (w : Window) (c : Chain) → IsNet n → Belongs n w → Meets n w c → IsSpliced n w c m → IsSubstituted n w c m
+substituted_is n m w c net is meets new =
+    record {
+      spliced = new;
+      values = λ given. substituted_values n m w meets.specification c given net is meets.chain meets.is meets.agrees new;
+    }
+
+pub substituted_stands : (n m : Net) (w : Window) (c : Chain) → IsSubstituted n w c m → length c.steps ≤ length w.gates → Answers n m
+substituted_stands n m w c is few =
+    record {
+      net = is.spliced.net;
+      sources = is.spliced.sources;
+      sink_count = is.spliced.sink_count;
+      values = is.values;
+      fewer = omega (arith, is.spliced.gate_count, few);
+      still = is.spliced.still;
+      equal = is.spliced.equal;
+    }
+
+pub pruned_on : (first n m left : Net) (w : Window) (c : Chain) → IsPruned first n → IsSubstituted n w c m → length c.steps ≤ length w.gates → IsPruned m left → IsPruned first left
+pruned_on first n m left w c before is few after =
+    record {
+      answers = answers_on first m left (answers_on first n m before.answers (substituted_stands n m w c is few)) after.answers;
+      reached = after.reached;
+    }
+
+-- ---- operators
+
+-- a gate that passes a test counts
+passing_some : (test : ℕ → Bool) (place : ℕ) (gs : List Gate) (i : ℕ) (g : Gate) → slice_get gs i ≡ Some g → test g.op ≡ true → 1 ≤ passing (λ p op. test op) place gs
+unfolding passing
+passing_some test place [] i g at on = absurd cc
+passing_some test place (h ∷ gs) zero g at on =
+    let same : h ≡ g = cc in
+    let head : ◌≡◌ {A = ℕ} (if test h.op then 1 else 0) 1 = cond-true (test h.op) 1 0 (ap (λ (x : Gate). test x.op) same ∙ on) in
+    omega (arith, head)
+passing_some test place (h ∷ gs) (suc i) g at on = omega (arith, passing_some test (place + 1) gs i g at on)
+
+-- and where some gate counts there is one that passes
+record Passes (test : ℕ → ℕ → Bool) (place : ℕ) (gs : List Gate) : Type 0 where
+  index : ℕ
+  gate : Gate
+  at : slice_get gs index ≡ Some gate
+  passes : test (place + index) gate.op ≡ true
+
+some_passes : (test : ℕ → ℕ → Bool) (place : ℕ) (gs : List Gate) → 1 ≤ passing test place gs → Passes test place gs
+unfolding passing
+some_passes test place [] some = absurd (omega arith)
+some_passes test place (g ∷ gs) some =
+    ⊎_elim
+    (λ on. record { index = 0; gate = g; at = refl; passes = ap (λ (p : ℕ). test p g.op) (add-zero place) ∙ on })
+    (λ off.
+    let head : ◌≡◌ {A = ℕ} (if test place g.op then 1 else 0) 0 = cond-false (test place g.op) 1 0 off in
+    let rest : Passes test (place + 1) gs = some_passes test (place + 1) gs (omega (arith, some, head)) in
+    let e : place + suc rest.index ≡ (place + 1) + rest.index = omega arith in
+    record { index = suc rest.index; gate = rest.gate; at = rest.at; passes = ap (λ (p : ℕ). test p rest.gate.op) e ∙ rest.passes })
+    (cases_Bool (test place g.op))
+
+pub spliced_operators : (n m : Net) (w : Window) (c : Chain) → IsSpliced n w c m → HasOldOperators n c m
+spliced_operators n m w c is op from =
+    let test : ℕ → Bool = λ x. nat_eq x op in
+    let outside : ℕ = passing (λ p x. not (among w.gates p) && test x) (n.sources + 1) n.gates in
+    let steps : ℕ = passing (λ p x. test x) (c.n + 1) (map step_gate c.steps) in
+    let some : 1 ≤ passing (λ p x. test x) (m.sources + 1) m.gates = passing_some test (m.sources + 1) m.gates from.index from.gate from.at (eq-eqb from.gate.op op from.is) in
+    ⊎_elim
+    (λ (none : outside < 1).
+    let p : Passes (λ p x. test x) (c.n + 1) (map step_gate c.steps) = some_passes (λ p x. test x) (c.n + 1) (map step_gate c.steps) (omega (arith, some, none, is.operators test)) in
+    let s = at_map step_gate c.steps p.index p.gate p.at in
+    inr (record { index = p.index; step = s.0; at = s.1; is = ap (λ (x : Gate). x.op) s.2 ∙ eqb-true p.gate.op op p.passes }))
+    (λ (one : 1 ≤ outside).
+    let p : Passes (λ p x. not (among w.gates p) && test x) (n.sources + 1) n.gates = some_passes (λ p x. not (among w.gates p) && test x) (n.sources + 1) n.gates one in
+    inl (record { index = p.index; gate = p.gate; at = p.at; is = eqb-true p.gate.op op (and_parts (not (among w.gates (n.sources + 1 + p.index))) (test p.gate.op) p.passes).1 }))
+    (cases_lt outside 1)
+
+-- and where dead gates are dropped then, no new operator comes in
+pub dropped_old : (n m left : Net) (w : Window) (c : Chain) → IsSubstituted n w c m → left ≡ dropped m → HasOldOperators n c left
+dropped_old n m left w c is e op from =
+    let here : IsGateOperator (dropped m) op = subst (λ (x : Net). IsGateOperator x op) e from in
+    let was = dropped_operators m here.index here.gate is.spliced.net here.at in
+    spliced_operators n m w c is.spliced op (record { index = was.0; gate = was.1; at = was.2; is = sym was.3 ∙ here.is })

@@ -1,0 +1,34 @@
+//! What the definitions come to. Each law is the contract of a function that does nothing.
+
+ghost use Rattle.std.specs.Prelude.{◌≤◌, length};
+ghost use Rattle.chain_theory.specs.Chain.{Chain};
+ghost use Rattle.chain_theory.specs.Specification.{Specification};
+ghost use Rattle.net_theory.specs.Net.{Net, IsNet};
+ghost use Rattle.net_theory.specs.Answers.{Answers, IsPruned};
+ghost use Rattle.window_theory.specs.Window.{Window, Belongs};
+ghost use Rattle.window_theory.specs.Care.{IsSpecificationOf};
+ghost use Rattle.window_theory.specs.Splice.{Fits, IsSpliced};
+ghost use Rattle.subst_core.specs.Lists.{HaveSameLists};
+ghost use Rattle.subst_core.specs.Substitution.{Meets, IsSubstituted, HasOldOperators};
+
+/// Of a window only its three lists matter where a chain takes its place.
+pub fn roots_do_not_matter()
+    ensures belong { (n : Net) (w v : Window) → HaveSameLists w v → Belongs n w → Belongs n v }
+    ensures fit { (w v : Window) (c : Chain) → HaveSameLists w v → Fits w c → Fits v c }
+    ensures specification { (n : Net) (w v : Window) (s : Specification) → HaveSameLists w v →
+        IsSpecificationOf n w s → IsSpecificationOf n v s }
+    ensures meet { (n : Net) (w v : Window) (c : Chain) → HaveSameLists w v → Meets n w c → Meets n v c }
+    ensures splice { (n m : Net) (w v : Window) (c : Chain) → HaveSameLists w v → IsSpliced n w c m → IsSpliced n v c m }
+{}
+
+/// A net in which a chain that agrees has taken a window's place, and with it what is left of that net, can stand
+/// in the old one's place, where the chain has no more steps than the window has gates. All its gates have operators
+/// of the net or of the chain.
+pub fn substitution_keeps_the_sinks()
+    ensures values { (n m : Net) (w : Window) (c : Chain) → IsNet n → Belongs n w →
+        Meets n w c → IsSpliced n w c m → IsSubstituted n w c m }
+    ensures answers { (n m : Net) (w : Window) (c : Chain) → IsSubstituted n w c m → length c.steps ≤ length w.gates → Answers n m }
+    ensures pruned { (first n m left : Net) (w : Window) (c : Chain) → IsPruned first n → IsSubstituted n w c m →
+        length c.steps ≤ length w.gates → IsPruned m left → IsPruned first left }
+    ensures operators { (n m : Net) (w : Window) (c : Chain) → IsSpliced n w c m → HasOldOperators n c m }
+{}

@@ -1,0 +1,12 @@
+//! A window as it is handed in.
+
+/// The lists of a window of a net, each of places in rising order.
+#[derive(Clone, Copy, Debug)]
+pub struct WindowLists<'a> {
+    /// The window's gates.
+    pub gates: &'a [u32],
+    /// The places outside that they read.
+    pub inputs: &'a [u32],
+    /// Those of them that a gate outside or a sink reads.
+    pub outputs: &'a [u32],
+}

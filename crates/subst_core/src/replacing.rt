@@ -1,0 +1,40 @@
+//! A chain takes a window's place, and what no sink reads any more goes.
+
+ghost use Rattle.std.specs.Prelude.{◌≡◌, ◌+◌, ◌≤◌, length, IfOk};
+ghost use Rattle.net_theory.specs.Net as nets;
+ghost use Rattle.net_theory.specs.Answers.{IsPruned};
+ghost use Rattle.net_theory.specs.Dead.{dropped};
+ghost use Rattle.window_theory.specs.Window.{Belongs};
+ghost use Rattle.window_theory.specs.Splice.{spliced};
+ghost use Rattle.subst_core.specs.Lists.{window_of};
+ghost use Rattle.subst_core.specs.Substitution.{HasRoom, Meets, HasOldOperators};
+
+use crate::lists::WindowLists;
+use crate::substitution::substitute;
+use chain_core::Chain;
+use net_core::{Net, drop_dead};
+use std::alloc::{AllocError, Global};
+
+/// The net in which the chain has taken the window's place, without the gates that no sink reads then. Its
+/// sinks have the values that they had, and each gate has an operator of the net or of the chain. Where the net
+/// is what is left of a first one, and the chain has no more steps than the window has gates, the new net is left
+/// of the first one too.
+pub fn replace(
+    alloc: Global,
+    net: &Net,
+    window: &WindowLists,
+    chain: &Chain,
+) -> Result<Net, AllocError>
+    requires belongs { Belongs net.now (window_of window.now) }
+    requires meets { Meets net.now (window_of window.now) chain.now }
+    requires room { HasRoom net.now (window_of window.now) chain.now }
+    ensures exact { IfOk result (λ new. new ≡ dropped (spliced net.now (window_of window.now) chain.now)) }
+    ensures pruned { (first : nets.Net) → IsPruned first net.now → length chain.now.steps ≤ length window.now.gates.now →
+        IfOk result (IsPruned first) }
+    ensures fewer { IfOk result (λ new.
+        length new.gates + length window.now.gates.now ≤ length net.now.gates + length chain.now.steps) }
+    ensures operators { IfOk result (HasOldOperators net.now chain.now) }
+{
+    let substituted = substitute(alloc, net, window, chain)?;
+    drop_dead(alloc, &substituted)
+}
