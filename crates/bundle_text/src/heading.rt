@@ -1,26 +1,14 @@
 //! Headings as they are written.
 ghost use Rattle.std.specs.Prelude.{◌≡◌, ◌<◌, ◌++◌, codes, decimal, OnOk, OnErr};
-ghost use Rattle.cert_theory.specs.Coding.{method_text};
 ghost use Rattle.cert_theory.specs.Spelling as spelling;
 ghost use Rattle.bundle_text.specs.Texts.{spelled, heading_text};
 
 use crate::tables::{push_numbered, push_tables};
 use enc_theory::Method;
 use op_basis::{Basis, write_basis};
+use settings::method_name;
 use std::alloc::AllocError;
 use tt_core::Spec;
-
-/// The name of a method.
-fn method_name(method: Method) -> &'static [u8]
-    ensures { result.now ≡ method_text method }
-{
-    match method {
-        Method::Plain => b"plain",
-        Method::Ssv => b"ssv",
-        Method::Select => b"select",
-        Method::Fence => b"fence",
-    }
-}
 
 /// Appends the line that says that a certificate begins.
 #[tactic(auto, unfolding(crate::specs::Texts::spelled))]

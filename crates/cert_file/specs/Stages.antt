@@ -12,6 +12,7 @@ use Rattle.chain_core.specs.Steps.{steps_of}
 use Rattle.chain_core.specs.declared.frame.Frame.{Frame}
 use Rattle.chain_core.specs.declared.step.Step.{Step}
 use Rattle.chain_core.specs.declared.error.ChainError.{ChainError}
+use Rattle.settings.specs.Synth.{most_steps}
 use Rattle.cert_theory.specs.declared.data.Heading.{Heading}
 use Rattle.cert_theory.specs.declared.data.Verdict.{Verdict}
 use Rattle.cert_theory.specs.declared.data.BundleError.{BundleError}
@@ -32,7 +33,7 @@ Answer = Result Verdict BundleError
 pub record IsKnown (h : Heading) : Type 0 where
   pub output : 0 < length h.spec.on
   pub basis : 0 < h.basis
-  pub max : h.max ≤ 16
+  pub max : h.max ≤ most_steps
 
 -- a size whose section is read: its parts, and one of them
 pub record IsRunning (r : Running) : Type 0 where

@@ -3,6 +3,7 @@ ghost use Rattle.std.specs.Prelude.{◌≡◌, ◌+◌, ◌<◌, ◌≤◌, List
 ghost use Rattle.text_core.specs.Lines.{Line};
 ghost use Rattle.tt_core.specs.Words.{IsSpec};
 ghost use Rattle.tt_core.specs.Tables as tables;
+ghost use Rattle.settings.specs.Synth.{most_steps};
 ghost use Rattle.cert_theory.specs.Judging as judging;
 ghost use Rattle.cert_file.specs.TextLines.{line_of};
 ghost use Rattle.cert_file.specs.Stages.{Answer, Judged, IsStage};
@@ -12,6 +13,7 @@ use crate::stage::Stage;
 use cert_theory::{BundleError, Heading};
 use enc_theory::Method;
 use op_basis::{Basis, read_basis, write_basis};
+use settings::{MOST_CONFLICTS, MOST_STEPS, method_named};
 use std::alloc::{AllocError, Global};
 use text_core::{begins_lower, number_up_to};
 use tt_core::{Spec, are_cells, inputs, push_row};
@@ -126,25 +128,6 @@ pub(crate) fn at_tables(
     Ok(Stage::Tables { n, on, care })
 }
 
-/// The method of that name.
-fn method_named(word: &[u8]) -> Option<Method>
-    ensures { result ≡ judging.named_method word.now }
-{
-    if word == b"plain".as_slice() {
-        return Some(Method::Plain);
-    }
-    if word == b"ssv".as_slice() {
-        return Some(Method::Ssv);
-    }
-    if word == b"select".as_slice() {
-        return Some(Method::Select);
-    }
-    if word == b"fence".as_slice() {
-        return Some(Method::Fence);
-    }
-    None
-}
-
 /// The method of a line.
 #[tactic(auto, unfolding(cert_theory::specs::Judging::method_in))]
 fn method_in(line: &TextLine) -> Option<Method>
@@ -176,7 +159,7 @@ pub(crate) fn at_method(spec: Spec, basis: Basis, line: &TextLine) -> Result<Sta
 fn conflicts_in(line: &TextLine) -> Option<u32>
     ensures { result ≡ judging.conflicts_in (line_of line.now) }
 {
-    let conflicts = number_up_to(10_000_000, value_of(b"conflicts ", line)?)?;
+    let conflicts = number_up_to(MOST_CONFLICTS, value_of(b"conflicts ", line)?)?;
     if conflicts == 0 {
         return None;
     }
@@ -211,10 +194,10 @@ pub(crate) fn at_conflicts(
 #[tactic(auto, unfolding(cert_theory::specs::Judging::max_in))]
 fn max_in(line: &TextLine) -> Option<u32>
     ensures exact { result ≡ judging.max_in (line_of line.now) }
-    ensures small { IfSome result (λ max. max ≤ 16) }
+    ensures small { IfSome result (λ max. max ≤ most_steps) }
 {
     let word = value_of(b"max ", line)?;
-    number_up_to(16, word)
+    number_up_to(MOST_STEPS, word)
 }
 
 /// The greatest size.

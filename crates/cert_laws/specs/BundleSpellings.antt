@@ -11,7 +11,8 @@ use Rattle.chain_core.specs.Spelling.{line}
 use Rattle.cert_theory.specs.declared.data.Heading.{Heading}
 use Rattle.cert_theory.specs.declared.data.Verdict.{Verdict}
 use Rattle.cert_theory.specs.declared.data.BundleError.TheVariants.{Syntax}
-use Rattle.cert_theory.specs.Bundle.{Bundle, first_open, IsEnding, IsValid, HasOutput}
+use Rattle.settings.specs.Synth.{most_steps, IsInRange}
+use Rattle.cert_theory.specs.Bundle.{Bundle, settings_of, first_open, IsEnding, IsValid, HasOutput}
 use Rattle.cert_theory.specs.Spelling.{first_text, basis_line, method_line, conflicts_line, max_line, tables_lines, section_lines, ending_lines, bundle_lines, text_of, HasVerdict}
 use Rattle.cert_theory.specs.PartLines.{is_line}
 use Rattle.cert_theory.specs.Judging.{or_syntax, as_syntax, table_place, basis_in, method_in, conflicts_in, max_in, behind_conflicts, behind_method, behind_basis, behind_tables, with_tables, bundle_of, Between}
@@ -24,16 +25,13 @@ use Rattle.cert_laws.specs.SectionSpellings.{Rest, sections_spell}
 record Read (w : Words) (ls : List Line) (v : Verdict) : Type 0 where
   h : Heading
   spec_is : h.spec ≡ w
-  basis_from : 0 < h.basis
   basis_below : h.basis < 65536
-  conflicts_from : 1 ≤ h.conflicts
-  conflicts_to : h.conflicts ≤ 10000000
-  max_to : h.max ≤ 16
+  asked : IsInRange (settings_of h)
   behind : List Line
   rest : Rest h 0 None behind v
   lines : ls ≡ line (basis_line h.basis) ∷ line (method_line h.method) ∷ line (conflicts_line h.conflicts) ∷ line (max_line h.max) ∷ behind
 
-read_max : (w : Words) (basis : ℕ) (method : Method) (conflicts number : ℕ) (ls : List Line) (v : Verdict) → behind_conflicts w basis method conflicts number ls ≡ Ok v → (max : ℕ) × (behind : List Line) × (max ≤ 16) × Rest (record { spec = w; basis = basis; method = method; conflicts = conflicts; max = max }) 0 None behind v × (ls ≡ line (max_line max) ∷ behind)
+read_max : (w : Words) (basis : ℕ) (method : Method) (conflicts number : ℕ) (ls : List Line) (v : Verdict) → behind_conflicts w basis method conflicts number ls ≡ Ok v → (max : ℕ) × (behind : List Line) × (max ≤ most_steps) × Rest (record { spec = w; basis = basis; method = method; conflicts = conflicts; max = max }) 0 None behind v × (ls ≡ line (max_line max) ∷ behind)
 unfolding behind_conflicts
 read_max w basis method conflicts number [] v e = absurd cc
 read_max w basis method conflicts number (l ∷ ls) v e =
@@ -51,11 +49,8 @@ read_conflicts w basis method number (l ∷ ls) v from below e =
       record {
         h = record { spec = w; basis = basis; method = method; conflicts = read.0; max = last.0 };
         spec_is = refl;
-        basis_from = from;
         basis_below = below;
-        conflicts_from = parts.1;
-        conflicts_to = parts.2;
-        max_to = last.2;
+        asked = record { basis_from = from; max_to = last.2; conflicts_from = parts.1; conflicts_to = parts.2 };
         behind = last.1;
         rest = last.3;
         lines = λ i. line (basis_line basis) ∷ line (method_line method) ∷ parts.0 i ∷ last.4 i;
@@ -67,11 +62,8 @@ moved : (w : Words) (ls more : List Line) (v : Verdict) → more ≡ ls → Read
 moved w ls more v same r = record {
   h = r.h;
   spec_is = r.spec_is;
-  basis_from = r.basis_from;
   basis_below = r.basis_below;
-  conflicts_from = r.conflicts_from;
-  conflicts_to = r.conflicts_to;
-  max_to = r.max_to;
+  asked = r.asked;
   behind = r.behind;
   rest = r.rest;
   lines = same ∙ r.lines;
@@ -112,11 +104,8 @@ with_read w ls behind v spec output lines r =
       valid = record {
         heading = record {
           tables = subst (λ (x : Words). IsSpec x) (sym r.spec_is) spec;
-          basis_from = r.basis_from;
           basis_below = r.basis_below;
-          conflicts_from = r.conflicts_from;
-          conflicts_to = r.conflicts_to;
-          max_to = r.max_to;
+          asked = r.asked;
         };
         sections = rest.are;
         sizes_to = omega (arith, rest.sizes_to);

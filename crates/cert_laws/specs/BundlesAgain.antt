@@ -23,6 +23,7 @@ use Rattle.cert_theory.specs.declared.data.BundleError.TheVariants.{Syntax}
 use Rattle.cert_theory.specs.Bundle.{Section, Bundle, IsHeading, AreSections, IsSection, is_open, first_open, IsEnding, IsValid, HasOutput, PartLog, part_of, formula_of, IsPartLog}
 use Rattle.cert_theory.specs.Spelling.{table_text, table_line, tables_lines, basis_line, method_line, conflicts_line, max_line, heading_lines, log_line, section_lines, block_lines, verdict_line, ending_lines, bundle_lines, bundle_text, IsBundle, title_lines, part_lines}
 use Rattle.cert_theory.specs.Gives.{◌>>=◌}
+use Rattle.settings.specs.Synth.{most_steps, most_conflicts}
 use Rattle.cert_theory.specs.Judging.{or_syntax, beginning, sections_of, behind_conflicts, behind_method, behind_basis, behind_tables, with_tables, bundle_of}
 use Rattle.cert_laws.specs.LineSpellings.{is_line_back, some_is}
 use Rattle.cert_laws.specs.LinesAgain.{basis_again, method_again, conflicts_again, max_again}
@@ -74,12 +75,12 @@ basis_lower b = refl
 
 -- ---- the heading
 
-max_next : (w : Words) (basis : ℕ) (method : Method) (conflicts number max : ℕ) (ls : List Line) → max ≤ 16 → behind_conflicts w basis method conflicts number (line (max_line max) ∷ ls) ≡ sections_of (record { spec = w; basis = basis; method = method; conflicts = conflicts; max = max }) (number + 1) beginning ls
+max_next : (w : Words) (basis : ℕ) (method : Method) (conflicts number max : ℕ) (ls : List Line) → max ≤ most_steps → behind_conflicts w basis method conflicts number (line (max_line max) ∷ ls) ≡ sections_of (record { spec = w; basis = basis; method = method; conflicts = conflicts; max = max }) (number + 1) beginning ls
 unfolding behind_conflicts
 max_next w basis method conflicts number max ls fits =
     ap (λ (o : Option ℕ). or_syntax number o >>= λ x. sections_of (record { spec = w; basis = basis; method = method; conflicts = conflicts; max = x }) (number + 1) beginning ls) (max_again max fits)
 
-conflicts_next : (w : Words) (basis : ℕ) (method : Method) (number conflicts : ℕ) (ls : List Line) → 1 ≤ conflicts → conflicts ≤ 10000000 → behind_method w basis method number (line (conflicts_line conflicts) ∷ ls) ≡ behind_conflicts w basis method conflicts (number + 1) ls
+conflicts_next : (w : Words) (basis : ℕ) (method : Method) (number conflicts : ℕ) (ls : List Line) → 1 ≤ conflicts → conflicts ≤ most_conflicts → behind_method w basis method number (line (conflicts_line conflicts) ∷ ls) ≡ behind_conflicts w basis method conflicts (number + 1) ls
 unfolding behind_method
 conflicts_next w basis method number conflicts ls some fits = ap (λ (o : Option ℕ). or_syntax number o >>= λ k. behind_conflicts w basis method k (number + 1) ls) (conflicts_again conflicts some fits)
 
@@ -100,10 +101,10 @@ heading_again h rest v is output onward =
     ap (λ (t : Bool). cond t (with_tables (tables.tables_of ((tables_lines h.spec ++ line (basis_line h.basis) ∷ line (method_line h.method) ∷ line (conflicts_line h.conflicts) ∷ line (max_line h.max) ∷ []) ++ rest))) (Err (Syntax 1))) (is_line_back (codes "chains 1"))
     ∙ ap (λ (ls : List Line). with_tables (tables.tables_of ls)) (append_assoc (tables_lines h.spec) (line (basis_line h.basis) ∷ line (method_line h.method) ∷ line (conflicts_line h.conflicts) ∷ line (max_line h.max) ∷ []) rest)
     ∙ ap with_tables (tables_again h.spec (tables_lines h.spec ++ line (basis_line h.basis) ∷ others) (line (basis_line h.basis) ∷ others) is.tables (spells_tables h.spec (line (basis_line h.basis)) others output (basis_lower h.basis)))
-    ∙ basis_next h.spec number h.basis others is.basis_from is.basis_below
+    ∙ basis_next h.spec number h.basis others is.asked.basis_from is.basis_below
     ∙ method_next h (number + 1) (line (conflicts_line h.conflicts) ∷ line (max_line h.max) ∷ rest)
-    ∙ conflicts_next h.spec h.basis h.method (number + 1 + 1) h.conflicts (line (max_line h.max) ∷ rest) is.conflicts_from is.conflicts_to
-    ∙ max_next h.spec h.basis h.method h.conflicts (number + 1 + 1 + 1) h.max rest is.max_to
+    ∙ conflicts_next h.spec h.basis h.method (number + 1 + 1) h.conflicts (line (max_line h.max) ∷ rest) is.asked.conflicts_from is.asked.conflicts_to
+    ∙ max_next h.spec h.basis h.method h.conflicts (number + 1 + 1 + 1) h.max rest is.asked.max_to
     ∙ onward (number + 1 + 1 + 1 + 1)
 
 -- ---- the whole
@@ -123,7 +124,7 @@ bundle_again b valid output =
     let count : length b.sections ≡ 0 + length b.sections = omega arith in
     heading_again b.heading (flat_map section_lines b.sections ++ ending_lines b.chain b.verdict) b.verdict valid.heading output
     (λ number. sections_again b.sections b.heading number 0 None b.chain b.verdict valid.heading valid.sections (omega (arith, valid.sizes_to))
-    (λ l e. let low = open_low b.heading b.sections 0 l valid.sections (omega (arith, valid.sizes_to)) e in omega (arith, low, valid.heading.max_to))
+    (λ l e. let low = open_low b.heading b.sections 0 l valid.sections (omega (arith, valid.sizes_to)) e in omega (arith, low, valid.heading.asked.max_to))
     (subst (λ (n : ℕ). IsEnding b.heading n (first_open b.sections) b.chain b.verdict) count valid.ending))
 
 -- ---- the bytes
@@ -169,10 +170,10 @@ pub lines_again : (b : Bundle) → IsValid b → lines_of (bundle_text b) ≡ bu
 unfolding lines_from
 lines_again b valid =
     let heading = valid.heading in
-    let short = short_verdict b.heading (length b.sections) (first_open b.sections) b.chain b.verdict (omega (arith, valid.sizes_to, heading.max_to)) heading.max_to (λ l e. open_low b.heading b.sections 0 l valid.sections (omega (arith, valid.sizes_to)) e) valid.ending in
+    let short = short_verdict b.heading (length b.sections) (first_open b.sections) b.chain b.verdict (omega (arith, valid.sizes_to, heading.asked.max_to)) heading.asked.max_to (λ l e. open_low b.heading b.sections 0 l valid.sections (omega (arith, valid.sizes_to)) e) valid.ending in
     let ending = whole_both (block_lines b.chain) _ (whole_chain b.heading (length b.sections) (first_open b.sections) b.chain b.verdict heading valid.ending) (whole_cons (line (verdict_line b.verdict)) _ (whole_verdict b.verdict short) whole_end) in
-    let sections = whole_sections b.heading b.sections 0 (omega (arith, valid.sizes_to, heading.max_to)) valid.sections in
-    let whole = whole_both (heading_lines b.heading) _ (whole_heading b.heading (omega (arith, heading.tables.inputs)) (omega (arith, heading.conflicts_to)) (omega (arith, heading.max_to))) (whole_both (flat_map section_lines b.sections) _ sections ending) in
+    let sections = whole_sections b.heading b.sections 0 (omega (arith, valid.sizes_to, heading.asked.max_to)) valid.sections in
+    let whole = whole_both (heading_lines b.heading) _ (whole_heading b.heading (omega (arith, heading.tables.inputs)) (omega (arith, heading.asked.conflicts_to)) (omega (arith, heading.asked.max_to))) (whole_both (flat_map section_lines b.sections) _ sections ending) in
     sym (ap lines_of (append-nil (bundle_text b))) ∙ whole.back [] ∙ append-nil (bundle_lines b)
 
 -- The text of a valid bundle is judged as its verdict.

@@ -32,10 +32,11 @@ use Rattle.cert_theory.specs.declared.data.Ended.{Ended}
 use Rattle.cert_theory.specs.declared.data.Ended.TheVariants as ends
 use Rattle.cert_theory.specs.declared.data.PartError.TheVariants as part_errors
 use Rattle.cert_theory.specs.declared.data.Heading.{Heading}
-use Rattle.cert_theory.specs.Coding.{method_text}
+use Rattle.settings.specs.Methods.{method_text, method_named}
+use Rattle.settings.specs.Synth.{most_steps, most_conflicts}
 use Rattle.cert_theory.specs.Spelling.{basis_line, method_line, conflicts_line, max_line, size_line, ended_text, log_line}
 use Rattle.cert_theory.specs.PartLines.{is_line, ended_in, or_misspelled, spelled_in}
-use Rattle.cert_theory.specs.Judging.{or_syntax, as_syntax, value_of, spelled, basis_in, named_method, method_in, from_one, conflicts_in, max_in, size_at}
+use Rattle.cert_theory.specs.Judging.{or_syntax, as_syntax, value_of, spelled, basis_in, method_in, from_one, conflicts_in, max_in, size_at}
 use Rattle.cert_theory.specs.GivesLaws.{bind_ok, test_ok, read_ok}
 
 pub both_true : (a b : Bool) → (a && b) ≡ true → (a ≡ true) × (b ≡ true)
@@ -118,30 +119,30 @@ named_or word m first later next e =
 none_named : (word : List ℕ) (m : Method) → None ≡ Some m → word ≡ method_text m
 none_named word m e = absurd cc
 
-named_method_is : (word : List ℕ) (m : Method) → named_method word ≡ Some m → word ≡ method_text m
+named_method_is : (word : List ℕ) (m : Method) → method_named word ≡ Some m → word ≡ method_text m
 named_method_is word m e = named_or word m Plain _ (named_or word m Ssv _ (named_or word m Select _ (named_or word m Fence None (none_named word m)))) e
 
 pub method_spells : (l : Line) (m : Method) → method_in l ≡ Some m → l ≡ line (method_line m)
 unfolding method_in method_line
 method_spells l m e =
-    option_and_then_some named_method (value_of (codes "method ") l) m e (λ word value is.
+    option_and_then_some method_named (value_of (codes "method ") l) m e (λ word value is.
     value_spells (codes "method ") l word value ∙ ap (λ (w : List ℕ). line (codes "method " ++ w)) (named_method_is word m is))
 
 from_one_is : (n k : ℕ) → from_one n ≡ Some k → (n ≡ k) × (1 ≤ k)
 from_one_is zero k e = absurd cc
 from_one_is (suc n) k e = (grind (arith, common_steps), grind (arith, common_steps))
 
-pub conflicts_spells : (l : Line) (k : ℕ) → conflicts_in l ≡ Some k → (l ≡ line (conflicts_line k)) × (1 ≤ k) × (k ≤ 10000000)
+pub conflicts_spells : (l : Line) (k : ℕ) → conflicts_in l ≡ Some k → (l ≡ line (conflicts_line k)) × (1 ≤ k) × (k ≤ most_conflicts)
 unfolding conflicts_in conflicts_line
 conflicts_spells l k e =
-    option_and_then_some from_one (option_and_then (number_up_to 10000000) (value_of (codes "conflicts ") l)) k e (λ n read is.
+    option_and_then_some from_one (option_and_then (number_up_to most_conflicts) (value_of (codes "conflicts ") l)) k e (λ n read is.
     let one = from_one_is n k is in
-    let parts = number_at 10000000 (codes "conflicts ") l k (omega arith) (read ∙ ap (λ (x : ℕ). Some x) one.0) in
+    let parts = number_at most_conflicts (codes "conflicts ") l k (omega arith) (read ∙ ap (λ (x : ℕ). Some x) one.0) in
     (parts.1, one.1, parts.0))
 
-pub max_spells : (l : Line) (x : ℕ) → max_in l ≡ Some x → (l ≡ line (max_line x)) × (x ≤ 16)
+pub max_spells : (l : Line) (x : ℕ) → max_in l ≡ Some x → (l ≡ line (max_line x)) × (x ≤ most_steps)
 unfolding max_in max_line
-max_spells l x e = let parts = number_at 16 (codes "max ") l x (omega arith) e in (parts.1, parts.0)
+max_spells l x e = let parts = number_at most_steps (codes "max ") l x (omega arith) e in (parts.1, parts.0)
 
 -- ---- sections
 

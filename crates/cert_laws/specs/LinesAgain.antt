@@ -27,10 +27,11 @@ use Rattle.cert_theory.specs.declared.data.Ended.{Ended}
 use Rattle.cert_theory.specs.declared.data.Ended.TheVariants as ends
 use Rattle.cert_theory.specs.declared.data.Verdict.{Verdict}
 use Rattle.cert_theory.specs.declared.data.Verdict.TheVariants as verdicts
-use Rattle.cert_theory.specs.Coding.{method_text}
+use Rattle.settings.specs.Methods.{method_text, method_named}
+use Rattle.settings.specs.Synth.{most_steps, most_conflicts}
 use Rattle.cert_theory.specs.Spelling.{basis_line, method_line, conflicts_line, max_line, size_line, ended_text, log_line, verdict_line}
 use Rattle.cert_theory.specs.PartLines.{is_line, ended_in, or_misspelled, spelled_in}
-use Rattle.cert_theory.specs.Judging.{begins, spelled, basis_in, named_method, method_in, from_one, conflicts_in, max_in, size_at, is_same, number_behind, both, bounded_in, found_in, not_found_in}
+use Rattle.cert_theory.specs.Judging.{begins, spelled, basis_in, method_in, from_one, conflicts_in, max_in, size_at, is_same, number_behind, both, bounded_in, found_in, not_found_in}
 use Rattle.cert_laws.specs.LineSpellings.{value_back, number_at_back}
 
 eq_same : (n : ℕ) → (n == n) ≡ true
@@ -48,21 +49,21 @@ basis_again b some low =
 
 pub method_again : (m : Method) → method_in (line (method_line m)) ≡ Some m
 unfolding method_in method_line
-method_again Plain = ap (option_and_then named_method) (value_back (codes "method ") (method_text Plain)) ∙ refl
-method_again Ssv = ap (option_and_then named_method) (value_back (codes "method ") (method_text Ssv)) ∙ refl
-method_again Select = ap (option_and_then named_method) (value_back (codes "method ") (method_text Select)) ∙ refl
-method_again Fence = ap (option_and_then named_method) (value_back (codes "method ") (method_text Fence)) ∙ refl
+method_again Plain = ap (option_and_then method_named) (value_back (codes "method ") (method_text Plain)) ∙ refl
+method_again Ssv = ap (option_and_then method_named) (value_back (codes "method ") (method_text Ssv)) ∙ refl
+method_again Select = ap (option_and_then method_named) (value_back (codes "method ") (method_text Select)) ∙ refl
+method_again Fence = ap (option_and_then method_named) (value_back (codes "method ") (method_text Fence)) ∙ refl
 
 one_again : (k : ℕ) → 1 ≤ k → from_one k ≡ Some k
 one_again k some = grind (arith, common_steps)
 
-pub conflicts_again : (k : ℕ) → 1 ≤ k → k ≤ 10000000 → conflicts_in (line (conflicts_line k)) ≡ Some k
+pub conflicts_again : (k : ℕ) → 1 ≤ k → k ≤ most_conflicts → conflicts_in (line (conflicts_line k)) ≡ Some k
 unfolding conflicts_in conflicts_line
-conflicts_again k some fits = ap (option_and_then from_one) (number_at_back 10000000 (codes "conflicts ") k (omega arith) fits) ∙ one_again k some
+conflicts_again k some fits = ap (option_and_then from_one) (number_at_back most_conflicts (codes "conflicts ") k (omega arith) fits) ∙ one_again k some
 
-pub max_again : (x : ℕ) → x ≤ 16 → max_in (line (max_line x)) ≡ Some x
+pub max_again : (x : ℕ) → x ≤ most_steps → max_in (line (max_line x)) ≡ Some x
 unfolding max_in max_line
-max_again x fits = number_at_back 16 (codes "max ") x (omega arith) fits
+max_again x fits = number_at_back most_steps (codes "max ") x (omega arith) fits
 
 pub size_again : (h : Heading) (number size : ℕ) → size ≤ h.max → size ≤ 16 → size_at h number size (line (size_line size)) ≡ Ok tt
 unfolding size_at size_line

@@ -87,7 +87,7 @@ all_refuted h (s ∷ ss) size heading coding are few none fewer =
     (λ (refuted : (is_open s ≡ false) × (first_open ss ≡ None)).
     subst (λ (k : ℕ). Fewer h k) same
     (all_refuted h ss (size + 1) heading coding are.1 (omega arith) refuted.1
-    (one_more h size fewer (none_at h size s heading coding (omega (arith, heading.max_to)) are.0 refuted.0 fewer))))
+    (one_more h size fewer (none_at h size s heading coding (omega (arith, heading.asked.max_to)) are.0 refuted.0 fewer))))
     (open_cases s ss None none)
 
 -- and none below the first open one
@@ -99,7 +99,7 @@ none_below_open h (s ∷ ss) size low heading coding are few is fewer =
     (λ (opened : (is_open s ≡ true) × (Some low ≡ Some s.size)). let same : low ≡ s.size = some_is low s.size opened.1 in subst (λ (k : ℕ). Fewer h k) (sym (same ∙ are.0.size_is)) fewer)
     (λ (refuted : (is_open s ≡ false) × (first_open ss ≡ Some low)).
     none_below_open h ss (size + 1) low heading coding are.1 (omega arith) refuted.1
-    (one_more h size fewer (none_at h size s heading coding (omega (arith, heading.max_to)) are.0 refuted.0 fewer)))
+    (one_more h size fewer (none_at h size s heading coding (omega (arith, heading.asked.max_to)) are.0 refuted.0 fewer)))
     (open_cases s ss (Some low) is)
 
 -- ---- verdicts

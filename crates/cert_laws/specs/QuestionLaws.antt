@@ -26,7 +26,7 @@ bundle_asks bytes b is =
     let sections = flat_map section_lines b.sections ++ ending_lines b.chain b.verdict in
     record {
       spec = is.valid.heading.tables;
-      basis_from = is.valid.heading.basis_from;
+      basis_from = is.valid.heading.asked.basis_from;
       basis_below = is.valid.heading.basis_below;
       behind = tables_lines h.spec ++ line (basis_line h.basis) ∷ (last ++ sections);
       first = ap lines_of is.text ∙ lines_again b is.valid ∙ ap (λ (ls : List Line). line first_text ∷ ls) (append_assoc (tables_lines h.spec) (line (basis_line h.basis) ∷ last) sections);

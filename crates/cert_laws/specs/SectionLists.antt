@@ -128,7 +128,7 @@ sections_again (s ∷ ss) h number size low chain v heading are few short ending
     let open_same : low_or after_it (first_open ss) ≡ low_or low (first_open (s ∷ ss)) = low_more low size s.parts ss ∙ ap (low_or low) named in
     let behind = flat_map section_lines ss ++ ending_lines chain v in
     ap (sections_of h number (progress size low Between)) (append_assoc (section_lines s) (flat_map section_lines ss) (ending_lines chain v))
-    ∙ section_again h number size low s behind v (omega arith) (omega (arith, heading.max_to)) are.0
+    ∙ section_again h number size low s behind v (omega arith) (omega (arith, heading.asked.max_to)) are.0
     (λ n. sections_again ss h n (size + 1) after_it chain v heading are.1 (omega arith)
     (λ l e. short l (sym open_same ∙ e))
     (subst (λ (o : Option ℕ). IsEnding h (size + 1 + length ss) o chain v) (sym open_same) (subst (λ (k : ℕ). IsEnding h k (low_or low (first_open (s ∷ ss))) chain v) count ending)))

@@ -113,7 +113,7 @@ pub small_chain : (h : Heading) (size : ℕ) (c : Chain) → IsHeading h → IsF
 small_chain h size c heading is = record {
   chain = is.chain;
   inputs = omega (arith, is.agrees.inputs, heading.tables.inputs);
-  steps = omega (arith, is.size_is, is.size_to, heading.max_to);
+  steps = omega (arith, is.size_is, is.size_to, heading.asked.max_to);
   outs = omega (arith, is.agrees.outputs, heading.tables.outputs);
 }
 
@@ -137,14 +137,14 @@ chain_again h number size low c heading is short =
     let r = length c.steps in
     let rest = line (verdict_line (found size low)) ∷ line end_text ∷ [] in
     let ls = (step_lines (c.n + 1) c.steps ++ map out_line c.outs) ++ rest in
-    let few : r ≤ 16 = omega (arith, is.size_is, is.size_to, heading.max_to) in
+    let few : r ≤ 16 = omega (arith, is.size_is, is.size_to, heading.asked.max_to) in
     let small = small_chain h size c heading is in
     let read : body_from (record { first_line = number; n = c.n; outputs = length c.outs; steps = r }) ls ≡ Ok (record { chain = c; rest = rest }) =
     body_again number c.n (length c.outs) r (line (count_text r)) ls (record { chain = c; rest = rest }) (count_at_back number r few) (lines_read number c rest small) in
     let f : Frame = frame_of h number r in
     let body : body_from f ls ≡ Ok (record { chain = c; rest = rest }) = ap (λ (g : Frame). body_from g ls) (frame_same h number r c.n (length c.outs) is.agrees.inputs is.agrees.outputs) ∙ read in
     let due : found r low ≡ found size low = ap (λ (n : ℕ). found n low) is.size_is in
-    let verdict : found_in (line (verdict_line (found size low))) ≡ Some (found r low) = found_again size low (omega (arith, is.size_to, heading.max_to)) short ∙ ap (λ (v : Verdict). Some v) (sym due) in
+    let verdict : found_in (line (verdict_line (found size low))) ≡ Some (found r low) = found_again size low (omega (arith, is.size_to, heading.asked.max_to)) short ∙ ap (λ (v : Verdict). Some v) (sym due) in
     ap (λ (t : Bool). cond t (chain_at h number size low (line (count_text r)) ls) (no_chain_at h number size low (line (count_text r)) ls)) (chain_begins r)
     ∙ ap (λ (q : Result ℕ BundleError). q >>= λ steps. with_block h (frame_of h number steps) low (body_from (frame_of h number steps) ls)) (steps_again h number size r is.size_is few (omega (arith, is.size_is, is.size_to)))
     ∙ ap (with_block h f low) body
@@ -171,7 +171,7 @@ pub ending_again : (h : Heading) (number size : ℕ) (low : Option ℕ) (chain :
 ending_again h number size low None v heading short is =
     subst (λ (w : Verdict). sections_of h number (progress size low Between) (ending_lines None w) ≡ Ok w) (sym is.1)
     (at_ending h number size low (line (verdict_line (not_found h.max low))) (line end_text ∷ []) (no_size_begins h.max low)
-    ∙ not_found_last h number size low is.0 (omega (arith, heading.max_to)) short)
+    ∙ not_found_last h number size low is.0 (omega (arith, heading.asked.max_to)) short)
 ending_again h number size low (Some c) v heading short is =
     subst (λ (w : Verdict). sections_of h number (progress size low Between) (ending_lines (Some c) w) ≡ Ok w) (sym is.1)
     (at_ending h number size low (line (count_text (length c.steps))) _ (chain_no_size (length c.steps))

@@ -34,7 +34,7 @@ use Rattle.cert_theory.specs.declared.data.Ended.{Ended}
 use Rattle.cert_theory.specs.declared.data.Ended.TheVariants as ends
 use Rattle.cert_theory.specs.declared.data.Verdict.{Verdict}
 use Rattle.cert_theory.specs.declared.data.Verdict.TheVariants as verdicts
-use Rattle.cert_theory.specs.Coding.{method_text}
+use Rattle.settings.specs.Methods.{method_text}
 use Rattle.cert_theory.specs.Spelling.{text_of, table_text, table_line, tables_lines, basis_line, method_line, conflicts_line, max_line, first_text, heading_lines, size_line, ended_text, done_text, log_line, verdict_line, end_text, title_text, title_lines}
 
 -- lines that are read from their text, whatever follows

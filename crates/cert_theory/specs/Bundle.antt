@@ -10,6 +10,8 @@ use Rattle.sat_theory.specs.Log.{Refutes, IsSpent}
 use Rattle.tt_core.specs.Words.{IsSpec, specification}
 use Rattle.op_basis.specs.Basis.{members}
 use Rattle.enc_theory.specs.declared.part.Part.{Part}
+use Rattle.settings.specs.declared.synth.SynthSettings.{SynthSettings}
+use Rattle.settings.specs.Synth.{IsInRange}
 use Rattle.cert_theory.specs.declared.data.Heading.{Heading}
 use Rattle.cert_theory.specs.declared.data.Ended.{Ended}
 use Rattle.cert_theory.specs.declared.data.Ended.TheVariants as ends
@@ -38,14 +40,16 @@ pub record Bundle : Type 0 where
 
 -- ---- the heading
 
--- The tables are a specification, the basis isn't empty, and the numbers are in their ranges.
+-- what is asked beside the tables
+abbrev pub settings_of : Heading → SynthSettings
+settings_of h = record { basis = h.basis; method = h.method; max = h.max; conflicts = h.conflicts }
+
+-- The tables are a specification, the basis is a set of the sixteen operators, and the settings are in their
+-- ranges.
 pub record IsHeading (h : Heading) : Type 0 where
   pub tables : IsSpec h.spec
-  pub basis_from : 0 < h.basis
   pub basis_below : h.basis < 65536
-  pub conflicts_from : 1 ≤ h.conflicts
-  pub conflicts_to : h.conflicts ≤ 10000000
-  pub max_to : h.max ≤ 16
+  pub asked : IsInRange (settings_of h)
 
 abbrev pub parts_of : Heading → ℕ → List Part
 parts_of h size = (coding_of h.method).parts h.spec size

@@ -1,5 +1,5 @@
 -- The formulas that a method gives a size.
-use Rattle.std.specs.Prelude.{ℕ, Bool, true, false, List, [], ◌∷◌, codes}
+use Rattle.std.specs.Prelude.{ℕ, Bool, true, false, List, [], ◌∷◌}
 use Rattle.sat_theory.specs.Formula.{Formula}
 use Rattle.tt_core.specs.Words.{Words}
 use Rattle.enc_theory.specs.Plain.{plain_formula}
@@ -44,9 +44,3 @@ coding_of Plain = plain_coding
 coding_of Ssv = ssv_coding
 coding_of Select = select_coding
 coding_of Fence = fence_coding
-
-abbrev pub method_text : Method → List ℕ
-method_text Plain = codes "plain"
-method_text Ssv = codes "ssv"
-method_text Select = codes "select"
-method_text Fence = codes "fence"

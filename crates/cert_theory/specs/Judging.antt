@@ -25,7 +25,8 @@ use Rattle.chain_core.specs.declared.error.ChainError.TheVariants as chain_error
 use Rattle.enc_theory.specs.declared.part.Part.{Part}
 use Rattle.enc_theory.specs.declared.part.Part.TheVariants.{Whole, Levels}
 use Rattle.enc_theory.specs.declared.data.Method.{Method}
-use Rattle.enc_theory.specs.declared.data.Method.TheVariants.{Plain, Ssv, Select, Fence}
+use Rattle.settings.specs.Methods.{method_named}
+use Rattle.settings.specs.Synth.{most_steps, most_conflicts}
 use Rattle.cert_theory.specs.declared.data.Heading.{Heading}
 use Rattle.cert_theory.specs.declared.data.Ended.{Ended}
 use Rattle.cert_theory.specs.declared.data.Ended.TheVariants as ends
@@ -35,7 +36,7 @@ use Rattle.cert_theory.specs.declared.data.BundleError.{BundleError}
 use Rattle.cert_theory.specs.declared.data.BundleError.TheVariants.{Syntax, SizeOutOfOrder, StepRefused, NotRefuted, ChainDiffers, OperatorNotInBasis, OpenTooShort, NotNew, WrongVerdict, Memory}
 use Rattle.cert_theory.specs.declared.data.PartError.{PartError}
 use Rattle.cert_theory.specs.declared.data.PartError.TheVariants as part_errors
-use Rattle.cert_theory.specs.Coding.{is_titled, method_text}
+use Rattle.cert_theory.specs.Coding.{is_titled}
 use Rattle.cert_theory.specs.Gives.{◌>>=◌}
 use Rattle.cert_theory.specs.PartLines.{is_line, title_in, ended_in, part_in}
 use Rattle.cert_theory.specs.Bundle.{parts_of, formula_of, found, not_found}
@@ -81,21 +82,17 @@ spelled word (Err e) = None
 unfoldable pub basis_in : Line → Option ℕ
 basis_in l = option_and_then (λ word. spelled word (basis_of word)) (value_of (codes "basis ") l)
 
--- a method
-abbrev pub named_method : List ℕ → Option Method
-named_method word = if bytes_eq word (method_text Plain) then Some Plain else (if bytes_eq word (method_text Ssv) then Some Ssv else (if bytes_eq word (method_text Select) then Some Select else (if bytes_eq word (method_text Fence) then Some Fence else None)))
-
 unfoldable pub method_in : Line → Option Method
-method_in l = option_and_then named_method (value_of (codes "method ") l)
+method_in l = option_and_then method_named (value_of (codes "method ") l)
 
 abbrev pub from_one : ℕ → Option ℕ
 from_one n = if n == 0 then None else Some n
 
 unfoldable pub conflicts_in : Line → Option ℕ
-conflicts_in l = option_and_then from_one (option_and_then (number_up_to 10000000) (value_of (codes "conflicts ") l))
+conflicts_in l = option_and_then from_one (option_and_then (number_up_to most_conflicts) (value_of (codes "conflicts ") l))
 
 unfoldable pub max_in : Line → Option ℕ
-max_in l = option_and_then (number_up_to 16) (value_of (codes "max ") l)
+max_in l = option_and_then (number_up_to most_steps) (value_of (codes "max ") l)
 
 -- ---- parts
 

@@ -28,12 +28,12 @@ use Rattle.chain_core.specs.Spelling.{line, chain_lines}
 use Rattle.enc_theory.specs.declared.part.Part.{Part}
 use Rattle.enc_theory.specs.declared.part.Part.TheVariants.{Whole, Levels}
 use Rattle.enc_theory.specs.declared.data.Method.{Method}
+use Rattle.settings.specs.Methods.{method_text}
 use Rattle.cert_theory.specs.declared.data.Heading.{Heading}
 use Rattle.cert_theory.specs.declared.data.Ended.{Ended}
 use Rattle.cert_theory.specs.declared.data.Ended.TheVariants as ends
 use Rattle.cert_theory.specs.declared.data.Verdict.{Verdict}
 use Rattle.cert_theory.specs.declared.data.Verdict.TheVariants as verdicts
-use Rattle.cert_theory.specs.Coding.{method_text}
 use Rattle.cert_theory.specs.Bundle.{PartLog, Section, Bundle, IsValid, HasOutput}
 
 -- ---- the heading

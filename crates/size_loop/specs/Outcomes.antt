@@ -1,6 +1,7 @@
 -- What a part and a size come to.
 use Rattle.std.specs.Prelude.{◌≡◌, ℕ, List, map, All}
 use Rattle.enc_theory.specs.declared.part.Part.{Part}
+use Rattle.enc_theory.specs.Parts.{FitsPart}
 use Rattle.cert_theory.specs.declared.data.Heading.{Heading}
 use Rattle.cert_theory.specs.Bundle.{PartLog, IsPartLog, part_of, IsSection, IsFound}
 use Rattle.size_loop.specs.declared.trying.PartOutcome.{PartOutcome}
@@ -9,9 +10,9 @@ use Rattle.size_loop.specs.declared.sizes.SizeOutcome.{SizeOutcome}
 use Rattle.size_loop.specs.declared.sizes.SizeOutcome.TheVariants as sizes
 use Rattle.size_loop.specs.Thrift.{IsThriftyLog, IsThriftySection}
 
--- A part has a chain of its size, or a log that ends as it says, and is thrifty.
+-- A part has a chain of its size that is as the part asks, or a log of its own that ends as it says, and is thrifty.
 abbrev pub IsTried : Heading → ℕ → Part → PartOutcome → Type 0
-IsTried h size part (parts.Found c) = IsFound h size c
+IsTried h size part (parts.Found c) = IsFound h size c × FitsPart part c
 IsTried h size part (parts.Logged p) = (p.part ≡ part) × IsPartLog h size p × IsThriftyLog h size p
 
 -- the logs of parts, in their order

@@ -1,6 +1,7 @@
 //! A search as a value that goes on a size at a time. What it promises of each step is enough to build a
 //! certificate of the steps (`specs/SearchedLaws.antt`), whether the sections are kept or written and dropped.
-ghost use Rattle.std.specs.Prelude.{◌≡◌, ◌≤◌, ◌<◌, None, IfOk};
+ghost use Rattle.std.specs.Prelude.{◌≡◌, ◌≤◌, None, IfOk};
+ghost use Rattle.settings.specs.Synth.{IsInRange};
 ghost use Rattle.cert_theory.specs.Bundle.{IsSection, IsEnding};
 ghost use Rattle.size_loop.specs.Advancing.{IfSection, IfEnded, behind, open_with};
 ghost use Rattle.size_loop.specs.Thrift.{IsThriftySection};
@@ -49,14 +50,11 @@ pub enum Advance {
 }
 
 impl Search {
-    /// A search for a chain over the basis that agrees with the tables, from size 0 on. The basis
-    /// isn't empty, `max` is the greatest size, at most 16, and the budget, from 1 to 10,000,000, is how
-    /// many clauses at least the solver adds to a formula before it leaves it open.
+    /// A search for a chain over the basis that agrees with the tables, from size 0 on. `max` is the
+    /// greatest size, and the budget is how many clauses at least the solver adds to a formula before it
+    /// leaves it open. The basis isn't empty, and both numbers are in the ranges of `settings`.
     pub fn new(spec: Spec, basis: Basis, method: Method, max: u32, budget: u32) -> Search
-        requires basis { 0 < basis }
-        requires max { max ≤ 16 }
-        requires budget_from { 1 ≤ budget }
-        requires budget_to { budget ≤ 10000000 }
+        requires asked { IsInRange (record { basis = basis; method = method; max = max; conflicts = budget }) }
         ensures heading { result.heading ≡ record { spec = spec; basis = basis; method = method; conflicts = budget; max = max } }
         ensures next { result.next ≡ 0 }
         ensures low { result.low ≡ None }

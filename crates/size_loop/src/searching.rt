@@ -1,6 +1,7 @@
 //! The whole search: it advances until it ends and keeps the sections. That what comes out is a valid
 //! certificate is the invariant `HasSearched`, to which each section adds one.
-ghost use Rattle.std.specs.Prelude.{◌≡◌, ◌≤◌, ◌<◌, IfOk};
+ghost use Rattle.std.specs.Prelude.{◌≡◌, IfOk};
+ghost use Rattle.settings.specs.Synth.{IsInRange};
 ghost use Rattle.cert_theory.specs.Bundle.{IsValid};
 ghost use Rattle.size_loop.specs.Thrift.{AreThrifty};
 
@@ -13,8 +14,8 @@ use tt_core::Spec;
 
 /// Searches the sizes from 0 to `max` for a chain of the fewest steps over the basis that agrees with
 /// the tables, and answers the certificate of what it found. A part of a size is left open where the
-/// solver has added `budget` clauses to its formula or more. The basis isn't empty, `max` is at most
-/// 16, and the budget is from 1 to 10,000,000.
+/// solver has added `budget` clauses to its formula or more. The basis isn't empty, and `max` and the
+/// budget are in the ranges of `settings`.
 #[tactic(auto, using(crate::specs::SearchedLaws::steps))]
 pub fn search(
     alloc: Global,
@@ -24,10 +25,7 @@ pub fn search(
     max: u32,
     budget: u32,
 ) -> Result<Bundle, AllocError>
-    requires basis { 0 < basis }
-    requires max { max ≤ 16 }
-    requires budget_from { 1 ≤ budget }
-    requires budget_to { budget ≤ 10000000 }
+    requires asked { IsInRange (record { basis = basis; method = method; max = max; conflicts = budget }) }
     ensures heading { IfOk result (λ b. b.heading ≡ record { spec = spec.now; basis = basis; method = method; conflicts = budget; max = max }) }
     ensures valid { IfOk result (λ b. IsValid b) }
     ensures thrifty { IfOk result (λ b. AreThrifty b.heading b.sections) }

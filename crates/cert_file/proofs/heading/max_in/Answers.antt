@@ -3,11 +3,12 @@ use Rattle.std.proofs.Common.{◌≡◌, ◌≤◌, ℕ, Option, Some, None, Lis
 use Rattle.std.specs.Prelude.{IfSome}
 use Rattle.text_core.specs.Numbers.{number_up_to}
 use Rattle.text_core.specs.ReadBack.{number_spells}
+use Rattle.settings.specs.Synth.{most_steps}
 use Rattle.cert_file.proofs.heading.max_in.Goals as goal
 
-within : (o : Option ℕ) (text : List ℕ) → o ≡ number_up_to 16 text → IfSome o (λ n. n ≤ 16)
+within : (o : Option ℕ) (text : List ℕ) → o ≡ number_up_to most_steps text → IfSome o (λ n. n ≤ most_steps)
 within None text e = tt
-within (Some n) text e = (number_spells 16 n text (omega arith) (sym e)).0
+within (Some n) text e = (number_spells most_steps n text (omega arith) (sym e)).0
 
 pub returns-clause-small : goal.returns-clause-small
 returns-clause-small c = within c.number_up_to.result c.in_ok-word.word.now c.number_up_to.ensures
