@@ -53,13 +53,14 @@ unsatisfied h size part coding there r v satisfies =
     no_assignment (formula_of h size part) r.p.log v (coding.formulas h.spec h.basis size part there) (refutes h size part r.p.log r.p.ended r.ended ends_as) satisfies
 
 -- a size that is refuted has no chain, where no smaller one has
-none_at : (h : Heading) (size : ℕ) (s : Section) → IsHeading h → IsCoding (coding_of h.method) → size ≤ 16 → IsSection h size s → is_open s ≡ false → Fewer h size → HasChain (specification h.spec) (members h.basis) size → ⊥
+pub none_at : (h : Heading) (size : ℕ) (s : Section) → IsHeading h → IsCoding (coding_of h.method) → size ≤ 16 → IsSection h size s → is_open s ≡ false → Fewer h size → HasChain (specification h.spec) (members h.basis) size → ⊥
 none_at h size s heading coding few section refuted fewer has =
     let sat = coding.complete h.spec h.basis size (record { reached = has; none_fewer = fewer }) in
     let named : Contains (map part_of s.parts) sat.0 = subst (λ (parts : List Part). Contains parts sat.0) (sym section.parts_are) sat.1 in
     unsatisfied h size sat.0 coding sat.1 (log_of h size s.parts sat.0 (recursion_from_All (IsPartLog h size) s.parts section.logs) refuted named) sat.2.0 sat.2.1
 
-one_more : (h : Heading) (size : ℕ) → Fewer h size → (HasChain (specification h.spec) (members h.basis) size → ⊥) → Fewer h (size + 1)
+-- where no chain has fewer steps and none has so many, none has fewer than one more
+pub one_more : (h : Heading) (size : ℕ) → Fewer h size → (HasChain (specification h.spec) (members h.basis) size → ⊥) → Fewer h (size + 1)
 one_more h size fewer none = λ q low has. elim (cases_lt q size) as (λ _. ⊥) [
   | inl below ↦ fewer q below has
   | inr past ↦ let same : q ≡ size = omega arith in none (subst (λ (k : ℕ). HasChain (specification h.spec) (members h.basis) k) same has)
