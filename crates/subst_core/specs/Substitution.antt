@@ -1,13 +1,13 @@
 -- A chain that agrees, in the place of a window.
-use Rattle.std.specs.Prelude.{◌≡◌, ℕ, ◌+◌, ◌<◌, ◌^◌, Bool, length, slice_get, Some, ◌⊎◌}
+use Rattle.std.specs.Prelude.{◌≡◌, ℕ, ◌+◌, ◌<◌, ◌^◌, Bool, length, map, slice_get, Some, ◌⊎◌}
 use Rattle.chain_theory.specs.Specification.{Specification}
 use Rattle.chain_theory.specs.Chain.{Step, Chain, IsChain}
 use Rattle.chain_theory.specs.Agreement.{Agrees}
 use Rattle.net_theory.specs.declared.data.Gate.{Gate}
-use Rattle.net_theory.specs.Net.{Net, sink_values}
+use Rattle.net_theory.specs.Net.{Net, sig_value, sink_values}
 use Rattle.window_theory.specs.Window.{Window}
 use Rattle.window_theory.specs.Care.{IsSpecificationOf}
-use Rattle.window_theory.specs.Splice.{IsSpliced}
+use Rattle.window_theory.specs.Splice.{spliced_value, IsSpliced}
 
 -- fewer than 2^31 places come of it
 abbrev pub HasRoom : Net → Window → Chain → Type 0
@@ -20,6 +20,13 @@ pub record Meets (n : Net) (w : Window) (c : Chain) : Type 0 where
   pub specification : Specification
   pub is : IsSpecificationOf n w specification
   pub agrees : Agrees c specification
+
+-- Each sink of n has the value that it had, where the window's outputs take the values of the chain's outs. A chain
+-- that agrees does so, and so does one that differs where no sink tells it.
+-- Example: where the gate 4 is AND of the gate 3 and the source 1, and the only sink, a chain for the window of 3 may
+-- differ where the source 1 is 0.
+abbrev pub KeepsSinks : Net → Window → Chain → Type 0
+KeepsSinks n w c = (given : ℕ → Bool) → map (sig_value (spliced_value n w c given)) n.sinks ≡ sink_values n given
 
 -- m is n where a chain has taken a window's place, and its sinks have the values that they had.
 -- Example: of NAND of the sources at place 3 and NOT of it at place 4, which is the sink, the window of both and the

@@ -13,15 +13,18 @@ use Rattle.net_theory.specs.Answers.{Answers, IsPruned}
 use Rattle.window_theory.specs.Places.{among}
 use Rattle.window_theory.specs.Window.{Window, Belongs}
 use Rattle.window_theory.specs.Splice.{step_gate, passing, IsSpliced}
-use Rattle.window_theory.specs.ReplacementLaws.{substituted_values}
-use Rattle.subst_core.specs.Substitution.{Meets, IsSubstituted, IsGateOperator, HasOldOperators}
+use Rattle.window_theory.specs.SubstitutionLaws.{signals_real}
+use Rattle.subst_core.specs.Substitution.{Meets, KeepsSinks, IsSubstituted, IsGateOperator, HasOldOperators}
+
+-- A chain that agrees keeps the sinks.
+pub agrees_keeps : (n : Net) (w : Window) (c : Chain) → IsNet n → Belongs n w → Meets n w c → KeepsSinks n w c
+agrees_keeps n w c net is meets given = signals_real n w meets.specification c given net is meets.chain meets.is meets.agrees
+
+pub kept_substituted : (n m : Net) (w : Window) (c : Chain) → KeepsSinks n w c → IsSpliced n w c m → IsSubstituted n w c m
+kept_substituted n m w c keeps new = record { spliced = new; values = λ given. new.values given ∙ keeps given }
 
 pub substituted_is : (n m : Net) (w : Window) (c : Chain) → IsNet n → Belongs n w → Meets n w c → IsSpliced n w c m → IsSubstituted n w c m
-substituted_is n m w c net is meets new =
-    record {
-      spliced = new;
-      values = λ given. substituted_values n m w meets.specification c given net is meets.chain meets.is meets.agrees new;
-    }
+substituted_is n m w c net is meets new = kept_substituted n m w c (agrees_keeps n w c net is meets) new
 
 pub substituted_stands : (n m : Net) (w : Window) (c : Chain) → IsSubstituted n w c m → length c.steps ≤ length w.gates → Answers n m
 substituted_stands n m w c is few =

@@ -95,7 +95,7 @@ fn keep_all(
     ensures { IfOk result (λ gates. kept places.new gates.items ≡ all_kept net.now (window_of window.now) chain.now) }
 {
     let sources = net.sources();
-    let mut gates = Vec::new(alloc);
+    let mut gates = Vec::with_capacity(alloc, net.gates().len() + chain.steps().len())?;
     keep_early(net, window, marks, places, &mut gates)?;
     put_chain(alloc, sources, window, chain, places, &mut gates)?;
     keep_late(net, window, marks, places, &mut gates)?;
