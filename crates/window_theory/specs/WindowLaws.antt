@@ -62,7 +62,7 @@ not_later : (p q : ℕ) (places : List ℕ) → among (p ∷ places) q ≡ false
 not_later p q places e = (or_parts (nat_eq q p) (among places q) e).1
 
 -- a gate that could be taken and isn't stands below the one that was taken last
-below_last : (n : Net) (root : ℕ) (partner : Option ℕ) (t : ℕ) (before : List ℕ) (p : ℕ) → IsNet n → IsGreatestCandidate n root partner before t → IsCandidate n root partner (t ∷ before) p → p < t
+pub below_last : (n : Net) (root : ℕ) (partner : Option ℕ) (t : ℕ) (before : List ℕ) (p : ℕ) → IsNet n → IsGreatestCandidate n root partner before t → IsCandidate n root partner (t ∷ before) p → p < t
 below_last n root partner t before p net greatest is =
     let other : p ≢ t = not_first t p before is.outside in
     let was : IsCandidate n root partner before p → p < t = λ c. omega (arith, greatest.greatest p c, other) in

@@ -1,0 +1,235 @@
+-- How the index of a net is filled.
+use Rattle.std.specs.Prelude.{◌≡◌, ℕ, zero, suc, ◌+◌, ◌≤◌, ◌<◌, true, false, min, if◌then◌else◌, List, [], ◌∷◌, ◌++◌, length, take, slice_get, slice_index_or, Some, ◌⊎◌, refl}
+use Rattle.std.proofs.Common.{arith, sym, ◌∙◌, ap, subst, inl, inr, ⊎_elim}
+use Rattle.std.specs.List.{All}
+use Rattle.std.proofs.lemmas.Bool.{cond-true, cond-false, eqb-true, eq-eqb, cases_Bool, cases_eq, both_ways}
+use Rattle.std.proofs.lemmas.List.{length-append}
+use Rattle.std.proofs.lemmas.Option.{slice_get_within, slice_get-get_or}
+use Rattle.net_theory.specs.declared.data.Sig.{Sig}
+use Rattle.net_theory.specs.declared.data.Sig.TheVariants as sigs
+use Rattle.net_theory.specs.declared.data.Gate.{Gate}
+use Rattle.net_theory.specs.Net.{Net, IsNet, IsSigBelow, end_of}
+use Rattle.net_theory.specs.Reach.{is_place, ReadsPlace}
+use Rattle.window_theory.specs.Paths.{IsGate, Reads}
+use Rattle.window_theory.specs.SurroundLaws.{gate_one}
+use Rattle.window_core.specs.declared.readers.Earlier.{Earlier}
+use Rattle.window_core.specs.Readers.{named_by, named_by_gate, named_by_sinks, sum_gates, uses_of, place_of, IsEarlier, IsEarlierOf, AreEarlier}
+use Rattle.window_core.specs.Noting.{IsBefore, AreBefore, AreGrown, IsCounting, IsNoted, HasNoted, AreNoted}
+
+-- ---- counting
+
+pub counting_start : (all : ℕ → ℕ) (old : List ℕ) → IsCounting all all old old
+counting_start all old = record { size = refl; each = λ p low. refl }
+
+pub counting_step : (all left rest more : ℕ → ℕ) (old now next : List ℕ) → ((p : ℕ) → left p ≡ more p + rest p) → AreGrown more now next → IsCounting all left old now → IsCounting all rest old next
+counting_step all left rest more old now next parts grown was =
+    record {
+      size = grown.size ∙ was.size;
+      each = λ p low.
+          let here : slice_index_or next p 0 ≡ min (slice_index_or now p 0 + more p) 255 = grown.each p (omega (arith, low, was.size)) in
+          omega (arith, here, parts p, was.each p low);
+    }
+
+pub counting_end : (all left : ℕ → ℕ) (old now : List ℕ) → ((p : ℕ) → left p ≡ 0) → ((p : ℕ) → slice_index_or now p 0 < 256) → IsCounting all left old now → AreGrown all old now
+counting_end all left old now none small was =
+    record {
+      size = was.size;
+      each = λ p low. omega (arith, none p, small p, was.each p low);
+    }
+
+-- ---- by gates and sinks
+
+pub sum_none : (count : ℕ → Gate → ℕ) (place : ℕ) (gs : List Gate) → length gs ≡ 0 → sum_gates count place gs ≡ 0
+unfolding sum_gates
+sum_none count place [] e = refl
+sum_none count place (g ∷ gs) e = absurd (omega (arith, e))
+
+-- where the place plays no part
+pub sum_anywhere : (count : Gate → ℕ) (here there : ℕ) (gs : List Gate) → sum_gates (λ q g. count g) here gs ≡ sum_gates (λ q g. count g) there gs
+unfolding sum_gates
+sum_anywhere count here there [] = refl
+sum_anywhere count here there (g ∷ gs) = ap (λ (k : ℕ). count g + k) (sum_anywhere count (here + 1) (there + 1) gs)
+
+pub sum_first : (count : Gate → ℕ) (gs : List Gate) (g : Gate) (rest : List Gate) → gs ≡ g ∷ rest → sum_gates (λ q x. count x) 0 gs ≡ count g + sum_gates (λ q x. count x) 0 rest
+unfolding sum_gates
+sum_first count gs g rest parts = ap (sum_gates (λ q x. count x) 0) parts ∙ ap (λ (k : ℕ). count g + k) (sum_anywhere count (0 + 1) 0 rest)
+
+pub sinks_none : (p : ℕ) (ss : List Sig) → length ss ≡ 0 → named_by_sinks p ss ≡ 0
+unfolding named_by_sinks
+sinks_none p [] e = refl
+sinks_none p (s ∷ ss) e = absurd (omega (arith, e))
+
+pub sinks_first : (p : ℕ) (ss : List Sig) (s : Sig) (rest : List Sig) → ss ≡ s ∷ rest → named_by_sinks p ss ≡ named_by p s + named_by_sinks p rest
+unfolding named_by_sinks
+sinks_first p ss s rest parts = ap (named_by_sinks p) parts
+
+pub gates_step : (all : ℕ → ℕ) (gs : List Gate) (g : Gate) (rest : List Gate) (old now mid next : List ℕ) → gs ≡ g ∷ rest → AreGrown (λ p. named_by p g.a) now mid → AreGrown (λ p. named_by p g.b) mid next
+    → IsCounting all (λ p. sum_gates (λ q x. named_by_gate p x) 0 gs) old now → IsCounting all (λ p. sum_gates (λ q x. named_by_gate p x) 0 rest) old next
+gates_step all gs g rest old now mid next parts first second was =
+    let left : ℕ → ℕ = λ p. sum_gates (λ q x. named_by_gate p x) 0 rest in
+    counting_step all (λ p. named_by p g.b + left p) left (λ p. named_by p g.b) old mid next (λ p. refl) second
+    (counting_step all (λ p. sum_gates (λ q x. named_by_gate p x) 0 gs) (λ p. named_by p g.b + left p) (λ p. named_by p g.a) old now mid
+    (λ p. omega (arith, sum_first (named_by_gate p) gs g rest parts)) first was)
+
+pub before_first : (end : ℕ) (gs : List Gate) (g : Gate) (rest : List Gate) → gs ≡ g ∷ rest → AreBefore end gs → IsBefore end g.a × IsBefore end g.b
+before_first end gs g rest parts all =
+    let at : slice_get gs 0 ≡ Some g = ap (λ (xs : List Gate). slice_get xs 0) parts in (all.first 0 g at, all.second 0 g at)
+
+pub before_rest : (end : ℕ) (gs : List Gate) (g : Gate) (rest : List Gate) → gs ≡ g ∷ rest → AreBefore end gs → AreBefore end rest
+before_rest end gs g rest parts all =
+    let at : (i : ℕ) (x : Gate) → slice_get rest i ≡ Some x → slice_get gs (suc i) ≡ Some x = λ i x e. ap (λ (xs : List Gate). slice_get xs (suc i)) parts ∙ e in
+    record { first = λ i x e. all.first (suc i) x (at i x e); second = λ i x e. all.second (suc i) x (at i x e) }
+
+-- ---- last readers
+
+nobody : (n : Net) (x p : ℕ) → Reads n x p → x < n.sources + 1 + 0 → ⊥
+nobody n x p r low = omega (arith, low, r.reader.place)
+
+pub noted_start : (n : Net) (last : List ℕ) → length last ≡ end_of n → ((p : ℕ) → p < length last → slice_index_or last p 0 ≡ 0) → HasNoted n 0 last
+noted_start n last size none =
+    record {
+      size = size;
+      each = λ p low. record {
+        found = inl (none p (omega (arith, low, size)));
+        most = λ x r below. absurd (nobody n x p r below);
+      };
+    }
+
+reads_test : (p : ℕ) (g : Gate) → ReadsPlace g p → (is_place p g.a ≡ true) ⊎ (is_place p g.b ≡ true)
+reads_test p g reads = ⊎_elim (λ a. inl (ap (is_place p) a ∙ eq-eqb p p refl)) (λ b. inr (ap (is_place p) b ∙ eq-eqb p p refl)) reads
+
+place_is : (p : ℕ) (s : Sig) → is_place p s ≡ true → s ≡ sigs.Place p
+place_is p sigs.Zero e = absurd cc
+place_is p sigs.One e = absurd cc
+place_is p (sigs.Place q) e = ap sigs.Place (eqb-true q p e)
+
+-- what is noted of a place: the gate if it reads the place, else who was last before
+after_both : (n : Net) (i : ℕ) (g : Gate) (p was mid now : ℕ) → slice_get n.gates i ≡ Some g → IsEarlier n (n.sources + 1 + i) p was → mid ≡ (if is_place p g.a then n.sources + 1 + i else was) → now ≡ (if is_place p g.b then n.sources + 1 + i else mid) → IsEarlier n (n.sources + 1 + (i + 1)) p now
+after_both n i g p was mid now at before first second =
+    let place : ℕ = n.sources + 1 + i in
+    let own : IsGate n place = record { index = i; gate = g; at = at; place = refl } in
+    let it_is : ReadsPlace g p → now ≡ place → IsEarlier n (n.sources + 1 + (i + 1)) p now = λ reads e.
+    subst (IsEarlier n (n.sources + 1 + (i + 1)) p) (sym e) (record {
+      found = inr (record { reader = own; reads = reads }, omega arith);
+      most = λ x r low. omega (arith, low);
+    }) in
+    ⊎_elim
+    (λ (b_is : is_place p g.b ≡ true). it_is (inr (place_is p g.b b_is)) (second ∙ cond-true (is_place p g.b) place mid b_is))
+    (λ (b_off : is_place p g.b ≡ false). ⊎_elim
+    (λ (a_is : is_place p g.a ≡ true). it_is (inl (place_is p g.a a_is)) (second ∙ cond-false (is_place p g.b) place mid b_off ∙ first ∙ cond-true (is_place p g.a) place was a_is))
+    (λ (a_off : is_place p g.a ≡ false).
+    let same : now ≡ was = second ∙ cond-false (is_place p g.b) place mid b_off ∙ first ∙ cond-false (is_place p g.a) place was a_off in
+    subst (IsEarlier n (n.sources + 1 + (i + 1)) p) (sym same) (record {
+      found = ⊎_elim (λ none. inl none) (λ r. inr (r.0, omega (arith, r.1))) before.found;
+      most = λ x r low.
+          ⊎_elim
+          (λ (here : x ≡ place).
+          let r_own : Reads n place p = subst (λ (y : ℕ). Reads n y p) here r in
+          let reads : ReadsPlace g p = subst (λ (y : Gate). ReadsPlace y p) (gate_one n place r_own.reader own) r_own.reads in
+          absurd (⊎_elim (λ a. both_ways (is_place p g.a) a_off a) (λ b. both_ways (is_place p g.b) b_off b) (reads_test p g reads)))
+          (λ other. before.most x r (omega (arith, low, other)))
+          (cases_eq x place);
+    }))
+    (cases_Bool (is_place p g.a)))
+    (cases_Bool (is_place p g.b))
+
+pub noted_more : (n : Net) (i : ℕ) (g : Gate) (place : ℕ) (last mid next : List ℕ) → slice_get n.gates i ≡ Some g → place ≡ n.sources + 1 + i → IsNoted g.a place last mid → IsNoted g.b place mid next → HasNoted n i last → HasNoted n (i + 1) next
+noted_more n i g place last mid next at place_is first second was =
+    record {
+      size = second.size ∙ first.size ∙ was.size;
+      each = λ p low.
+          after_both n i g p (slice_index_or last p 0) (slice_index_or mid p 0) (slice_index_or next p 0) at (was.each p low)
+          (subst (λ (q : ℕ). slice_index_or mid p 0 ≡ (if is_place p g.a then q else slice_index_or last p 0)) place_is (first.each p (omega (arith, low, was.size))))
+          (subst (λ (q : ℕ). slice_index_or next p 0 ≡ (if is_place p g.b then q else slice_index_or mid p 0)) place_is (second.each p (omega (arith, low, was.size, first.size))));
+    }
+
+-- a place that a signal names, or 0 for a constant, is one of the table's
+pub named_low : (end : ℕ) (s : Sig) → 0 < end → IsBefore end s → place_of s < end
+named_low end sigs.Zero some low = some
+named_low end sigs.One some low = some
+named_low end (sigs.Place p) some low = low
+
+at_last : {A : Type 0} (xs : List A) (x : A) (j : ℕ) (y : A) → slice_get (xs ++ x ∷ []) j ≡ Some y → (slice_get xs j ≡ Some y) ⊎ ((j ≡ length xs) × (x ≡ y))
+at_last [] x zero y e = inr (refl, cc)
+at_last [] x (suc j) y e = absurd cc
+at_last (z ∷ xs) x zero y e = inl e
+at_last (z ∷ xs) x (suc j) y e = ⊎_elim (λ there. inl there) (λ r. inr (omega (arith, r.0), r.1)) (at_last xs x j y e)
+
+some_same : {A : Type 0} (x y : A) → Some x ≡ Some y → x ≡ y
+some_same x y e = cc
+
+pub list_more : (n : Net) (i : ℕ) (g : Gate) (place : ℕ) (last mid next : List ℕ) (list new : List Earlier) (e : Earlier) → slice_get n.gates i ≡ Some g → place ≡ n.sources + 1 + i → IsBefore (length last) g.a → IsBefore (length last) g.b
+    → e.first ≡ slice_index_or last (place_of g.a) 0 → e.second ≡ slice_index_or last (place_of g.b) 0 → IsNoted g.a place last mid → IsNoted g.b place mid next → new ≡ list ++ e ∷ [] → AreNoted n i last list → AreNoted n (i + 1) next new
+list_more n i g place last mid next list new e at place_is low_a low_b first second noted_a noted_b is was =
+    let some : 0 < length last = omega (arith, was.noted.size) in
+    let own : IsEarlierOf n (n.sources + 1 + i) g e = record {
+      first = subst (IsEarlier n (n.sources + 1 + i) (place_of g.a)) (sym first) (was.noted.each (place_of g.a) (omega (arith, named_low (length last) g.a some low_a, was.noted.size)));
+      second = subst (IsEarlier n (n.sources + 1 + i) (place_of g.b)) (sym second) (was.noted.each (place_of g.b) (omega (arith, named_low (length last) g.b some low_b, was.noted.size)));
+    } in
+    record {
+      noted = noted_more n i g place last mid next at place_is noted_a noted_b was.noted;
+      size = ap (length {A = Earlier}) is ∙ length-append list (e ∷ []) ∙ omega (arith, was.size);
+      each = λ j x y at_x at_y.
+          ⊎_elim
+          (λ there. was.each j x y at_x there)
+          (λ r.
+          let same : j ≡ i = omega (arith, r.0, was.size) in
+          let gate : g ≡ x = some_same g x (sym at ∙ ap (slice_get n.gates) (sym same) ∙ at_x) in
+          subst (λ (k : ℕ). IsEarlierOf n (n.sources + 1 + k) x y) (sym same) (subst (IsEarlierOf n (n.sources + 1 + i) x) r.1 (subst (λ (z : Gate). IsEarlierOf n (n.sources + 1 + i) z e) gate own)))
+          (at_last list e j y (ap (λ (xs : List Earlier). slice_get xs j) (sym is) ∙ at_y));
+    }
+
+pub list_end : (n : Net) (count : ℕ) (last : List ℕ) (list : List Earlier) → count ≡ length n.gates → AreNoted n count last list → AreEarlier n list
+list_end n count last list all was = record { size = was.size ∙ all; each = was.each }
+
+pub sig_before : (end place : ℕ) (s : Sig) → place ≤ end → IsSigBelow place s → IsBefore end s
+sig_before end place sigs.Zero low below = tt
+sig_before end place sigs.One low below = tt
+sig_before end place (sigs.Place p) low below = omega (arith, low, below.1)
+
+pub gates_before : (n : Net) (end : ℕ) → IsNet n → end ≡ end_of n → AreBefore end n.gates
+gates_before n end net is =
+    record {
+      first = λ i g at. sig_before end (n.sources + 1 + i) g.a (omega (arith, is, slice_get_within n.gates i g at)) (net.gates.each i g at).first;
+      second = λ i g at. sig_before end (n.sources + 1 + i) g.b (omega (arith, is, slice_get_within n.gates i g at)) (net.gates.each i g at).second;
+    }
+
+pub sinks_before : (end place : ℕ) (ss : List Sig) → place ≤ end → All (IsSigBelow place) ss → All (IsBefore end) ss
+sinks_before end place ss low all = λ k d below. sig_before end place (slice_index_or ss k d) low (all k d below)
+
+-- ---- the table of uses
+
+take_front : {A : Type 0} (xs ys : List A) (n : ℕ) → length xs ≡ n → take n (xs ++ ys) ≡ xs
+take_front [] ys zero e = refl
+take_front [] ys (suc n) e = absurd (omega (arith, e))
+take_front (x ∷ xs) ys zero e = absurd (omega (arith, e))
+take_front (x ∷ xs) ys (suc n) e = ap (λ (zs : List _). x ∷ zs) (take_front xs ys n (omega (arith, e)))
+
+pub uses_code : (more : ℕ → ℕ) (old new rest : List ℕ) (n end : ℕ) → length old ≡ n → n ≡ end → ((p : ℕ) → p < n → slice_index_or old p 0 ≡ 0) → AreGrown more old new → (p : ℕ) → p < end → slice_index_or (take n (new ++ rest)) p 0 ≡ min (more p) 255
+uses_code more old new rest n end size all zeros grown p low =
+    ap (λ (xs : List ℕ). slice_index_or xs p 0) (take_front new rest n (grown.size ∙ size))
+    ∙ grown.each p (omega (arith, low, size, all))
+    ∙ ap (λ (k : ℕ). min (k + more p) 255) (zeros p (omega (arith, low, all)))
+    ∙ ap (λ (k : ℕ). min k 255) (omega arith)
+
+-- all uses are those by gates and those by sinks
+pub grown_both : (n : Net) (old mid new : List ℕ) → AreGrown (λ p. sum_gates (λ q g. named_by_gate p g) 0 n.gates) old mid → AreGrown (λ p. named_by_sinks p n.sinks) mid new → AreGrown (uses_of n) old new
+grown_both n old mid new first second =
+    record {
+      size = second.size ∙ first.size;
+      each = λ p low.
+          omega (arith, second.each p (omega (arith, low, first.size)), first.each p low, sum_anywhere (named_by_gate p) 0 (n.sources + 1) n.gates);
+    }
+
+pub list_code : (n : Net) (gates : List Gate) (i : ℕ) (g : Gate) (place sources : ℕ) (last mid next : List ℕ) (list new : List Earlier) (e : Earlier) → IsNet n → gates ≡ n.gates → i < length gates → g ≡ slice_index_or gates i g → sources ≡ n.sources → place ≡ sources + 1 + i
+    → e.first ≡ slice_index_or last (place_of g.a) 0 → e.second ≡ slice_index_or last (place_of g.b) 0 → IsNoted g.a place last mid → IsNoted g.b place mid next → new ≡ list ++ e ∷ [] → AreNoted n i last list → AreNoted n (i + 1) next new
+list_code n gates i g place sources last mid next list new e net same low is sources_is place_is first second noted_a noted_b grown was =
+    let at : slice_get n.gates i ≡ Some g = ap (λ (xs : List Gate). slice_get xs i) (sym same) ∙ slice_get-get_or gates i g low ∙ ap Some (sym is) in
+    let before : AreBefore (length last) n.gates = gates_before n (length last) net was.noted.size in
+    list_more n i g place last mid next list new e at (omega (arith, place_is, sources_is)) (before.first i g at) (before.second i g at) first second noted_a noted_b grown was
+
+pub gate_before : (n : Net) (gates : List Gate) (i end : ℕ) (g : Gate) → IsNet n → gates ≡ n.gates → i < length gates → g ≡ slice_index_or gates i g → end ≡ end_of n → IsBefore end g.a × IsBefore end g.b
+gate_before n gates i end g net same low is end_is =
+    let at : slice_get n.gates i ≡ Some g = ap (λ (xs : List Gate). slice_get xs i) (sym same) ∙ slice_get-get_or gates i g low ∙ ap Some (sym is) in
+    let before : AreBefore end n.gates = gates_before n end net end_is in
+    (before.first i g at, before.second i g at)

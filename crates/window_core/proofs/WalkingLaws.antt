@@ -1,0 +1,224 @@
+-- How partners are found from the greatest on.
+use Rattle.std.specs.Prelude.{◌≡◌, ℕ, ◌+◌, ◌-◌, ◌≤◌, ◌<◌, max, true, false, List, [], ◌∷◌, ◌++◌, length, slice_get, slice_index_or, Some, ◌⊎◌, refl}
+use Rattle.std.proofs.Common.{arith, sym, ◌∙◌, ap, subst, inl, inr, ⊎_elim, ◌≢◌}
+use Rattle.std.proofs.lemmas.Bool.{cases_eq, cases_lt}
+use Rattle.std.proofs.lemmas.Option.{slice_get-get_or}
+use Rattle.net_theory.specs.declared.data.Sig.{Sig}
+use Rattle.net_theory.specs.declared.data.Sig.TheVariants as sigs
+use Rattle.net_theory.specs.declared.data.Gate.{Gate}
+use Rattle.net_theory.specs.Net.{Net, IsNet}
+use Rattle.window_theory.specs.Places.{among, IsFalling, IsRising}
+use Rattle.window_theory.specs.PlaceLaws.{among_cases, among_first, among_later}
+use Rattle.window_theory.specs.Paths.{IsGate, Reads}
+use Rattle.window_theory.specs.Partner.{SharesBelow, ArePartners}
+use Rattle.window_theory.specs.WindowLaws.{reads_low, gate_high}
+use Rattle.window_core.specs.declared.readers.Earlier.{Earlier}
+use Rattle.window_core.specs.Gates.{IsGateOf}
+use Rattle.window_core.specs.Readers.{place_of, IsEarlier, IsEarlierOf, AreEarlier}
+use Rattle.window_core.specs.Walking.{IsWalk}
+use Rattle.window_core.proofs.GrowingLaws.{reads_of, of_reads}
+
+-- ---- a place more at the end
+
+pub among_end : (xs : List ℕ) (x q : ℕ) → among (xs ++ x ∷ []) q ≡ true → (among xs q ≡ true) ⊎ (q ≡ x)
+among_end [] x q e = ⊎_elim (λ (own : q ≡ x). inr own) (λ later. absurd (let f : false ≡ true = later in cc)) (among_cases x q [] e)
+among_end (y ∷ ys) x q e =
+    ⊎_elim
+    (λ (own : q ≡ y). inl (subst (λ (z : ℕ). among (z ∷ ys) q ≡ true) own (among_first q ys)))
+    (λ later. ⊎_elim (λ there. inl (among_later y q ys there)) (λ same. inr same) (among_end ys x q later))
+    (among_cases y q (ys ++ x ∷ []) e)
+
+pub end_among : (xs : List ℕ) (x : ℕ) → among (xs ++ x ∷ []) x ≡ true
+end_among [] x = among_first x []
+end_among (y ∷ ys) x = among_later y x (ys ++ x ∷ []) (end_among ys x)
+
+pub front_among : (xs : List ℕ) (x q : ℕ) → among xs q ≡ true → among (xs ++ x ∷ []) q ≡ true
+front_among [] x q e = absurd (let f : false ≡ true = e in cc)
+front_among (y ∷ ys) x q e =
+    ⊎_elim
+    (λ (own : q ≡ y). subst (λ (z : ℕ). among (z ∷ (ys ++ x ∷ [])) q ≡ true) own (among_first q (ys ++ x ∷ [])))
+    (λ later. among_later y q (ys ++ x ∷ []) (front_among ys x q later))
+    (among_cases y q ys e)
+
+pub falling_end : (xs : List ℕ) (x : ℕ) → IsFalling xs → ((q : ℕ) → among xs q ≡ true → x < q) → IsFalling (xs ++ x ∷ [])
+unfolding IsFalling
+falling_end [] x falling low = (λ q e. absurd (let f : false ≡ true = e in cc), tt)
+falling_end (y ∷ ys) x falling low = (
+  λ q e. ⊎_elim (λ there. falling.0 q there) (λ (same : q ≡ x). omega (arith, same, low y (among_first y ys))) (among_end ys x q e),
+  falling_end ys x falling.1 (λ q e. low q (among_later y q ys e)),
+)
+
+pub rising_end : (xs : List ℕ) (x : ℕ) → IsRising xs → ((q : ℕ) → among xs q ≡ true → q < x) → IsRising (xs ++ x ∷ [])
+unfolding IsRising
+rising_end [] x rising high = (λ q e. absurd (let f : false ≡ true = e in cc), tt)
+rising_end (y ∷ ys) x rising high = (
+  λ q e. ⊎_elim (λ there. rising.0 q there) (λ (same : q ≡ x). omega (arith, same, high y (among_first y ys))) (among_end ys x q e),
+  rising_end ys x rising.1 (λ q e. high q (among_later y q ys e)),
+)
+
+-- ---- what is read
+
+-- a place that a signal names is its place
+named : (s : Sig) (p : ℕ) → s ≡ sigs.Place p → place_of s ≡ p
+named s p e = ap place_of e
+
+-- a place above 0 is named by the signal whose place it is
+names : (s : Sig) (p : ℕ) → place_of s ≡ p → 1 ≤ p → s ≡ sigs.Place p
+names sigs.Zero p e some = absurd (omega (arith, e, some))
+names sigs.One p e some = absurd (omega (arith, e, some))
+names (sigs.Place q) p e some = ap sigs.Place e
+
+-- ---- one step back
+
+pub onward_stays : (n : Net) (bound place reader found : ℕ) → IsEarlier n bound place reader → reader ≤ found → found < bound → reader ≢ found → IsEarlier n found place reader
+onward_stays n bound place reader found was low within other =
+    record {
+      found = ⊎_elim (λ none. inl none) (λ r. inr (r.0, omega (arith, low, other))) was.found;
+      most = λ x r below. was.most x r (omega (arith, below, within));
+    }
+
+found_reads : (n : Net) (bound place reader found : ℕ) → IsGate n found → IsEarlier n bound place reader → reader ≡ found → Reads n found place
+found_reads n bound place reader found gate was same =
+    ⊎_elim
+    (λ (none : reader ≡ 0). absurd (omega (arith, none, same, (gate_high n found gate).0)))
+    (λ r. subst (λ (y : ℕ). Reads n y place) same r.0)
+    was.found
+
+pub onward_first : (n : Net) (bound place reader found first : ℕ) (g : Gate) (e : Earlier) → IsEarlierOf n found g e → place_of g.a ≡ place → IsEarlier n found place e.first
+onward_first n bound place reader found first g e of is = subst (λ (p : ℕ). IsEarlier n found p e.first) is of.first
+
+pub onward_second : (n : Net) (bound place reader found : ℕ) (g : Gate) (e : Earlier) → IsNet n → IsGateOf n found g → IsGate n found → IsEarlierOf n found g e → IsEarlier n bound place reader → reader ≡ found → place_of g.a ≢ place → IsEarlier n found place e.second
+onward_second n bound place reader found g e net is gate of was same other =
+    let r : Reads n found place = found_reads n bound place reader found gate was same in
+    ⊎_elim
+    (λ a. absurd (other (named g.a place a)))
+    (λ b. subst (λ (p : ℕ). IsEarlier n found p e.second) (named g.b place b) of.second)
+    (reads_of n found place g is r)
+
+-- ---- the walk
+
+pub walk_start : (n : Net) (root : ℕ) (g : Gate) (e : Earlier) (partners : List ℕ) → IsGateOf n root g → IsEarlierOf n root g e → partners ≡ [] → IsWalk n root e.first e.second partners
+unfolding IsFalling
+walk_start n root g e partners is of none =
+    subst (IsWalk n root e.first e.second) (sym none) (record {
+      bound = root;
+      gate = g;
+      is = is;
+      to = omega arith;
+      falling = tt;
+      from = λ q x. absurd (let f : false ≡ true = x in cc);
+      share = λ q x. absurd (let f : false ≡ true = x in cc);
+      all = λ h s. inr s.below;
+      first = of.first;
+      second = of.second;
+    })
+
+-- who reads an operand of the root below the bound shares it
+shares_a : (n : Net) (root a b next : ℕ) (partners : List ℕ) (w : IsWalk n root a b partners) → IsNet n → a ≡ next → next ≢ 0 → SharesBelow n root next × (next < w.bound)
+shares_a n root a b next partners w net same some =
+    ⊎_elim
+    (λ (none : a ≡ 0). absurd (some (omega (arith, none, same))))
+    (λ r.
+    let p : ℕ = place_of w.gate.a in
+    let reads : Reads n next p = subst (λ (y : ℕ). Reads n y p) same r.0 in
+    let low = reads_low n next p net reads in
+    let below : next < w.bound = omega (arith, same, r.1) in
+    (record { below = omega (arith, below, w.to); shared = p; first = of_reads n root p w.gate w.is (inl (names w.gate.a p refl low.0)); second = reads }, below))
+    w.first.found
+
+shares_b : (n : Net) (root a b next : ℕ) (partners : List ℕ) (w : IsWalk n root a b partners) → IsNet n → b ≡ next → next ≢ 0 → SharesBelow n root next × (next < w.bound)
+shares_b n root a b next partners w net same some =
+    ⊎_elim
+    (λ (none : b ≡ 0). absurd (some (omega (arith, none, same))))
+    (λ r.
+    let p : ℕ = place_of w.gate.b in
+    let reads : Reads n next p = subst (λ (y : ℕ). Reads n y p) same r.0 in
+    let low = reads_low n next p net reads in
+    let below : next < w.bound = omega (arith, same, r.1) in
+    (record { below = omega (arith, below, w.to); shared = p; first = of_reads n root p w.gate w.is (inr (names w.gate.b p refl low.0)); second = reads }, below))
+    w.second.found
+
+-- the greater of the two readers
+pub walk_next : (n : Net) (root a b next : ℕ) (partners : List ℕ) (w : IsWalk n root a b partners) → IsNet n → next ≡ max a b → next ≢ 0 → SharesBelow n root next × (next < w.bound)
+walk_next n root a b next partners w net is some =
+    ⊎_elim
+    (λ (low : a < b). shares_b n root a b next partners w net (omega (arith, low, is)) some)
+    (λ (high : b ≤ a). shares_a n root a b next partners w net (omega (arith, high, is)) some)
+    (cases_lt a b)
+
+-- a gate that shares a place with the root and stands below the bound is none above the two readers
+reader_high : (n : Net) (root a b h : ℕ) (partners : List ℕ) (w : IsWalk n root a b partners) → SharesBelow n root h → h < w.bound → h ≤ max a b
+reader_high n root a b h partners w s low =
+    ⊎_elim
+    (λ first_is. let most : h ≤ a = w.first.most h (subst (Reads n h) (sym (named w.gate.a s.shared first_is)) s.second) low in omega (arith, most))
+    (λ second_is. let most : h ≤ b = w.second.most h (subst (Reads n h) (sym (named w.gate.b s.shared second_is)) s.second) low in omega (arith, most))
+    (reads_of n root s.shared w.gate w.is s.first)
+
+pub walk_more : (n : Net) (root a b next x y first second : ℕ) (partners new : List ℕ) (w : IsWalk n root a b partners) → IsNet n → next ≡ max a b → next ≢ 0 → first ≡ place_of w.gate.a → second ≡ place_of w.gate.b
+    → ((bound : ℕ) → IsEarlier n bound first a → a ≤ next → next < bound → IsEarlier n next first x) → ((bound : ℕ) → IsEarlier n bound second b → b ≤ next → next < bound → IsEarlier n next second y) → new ≡ partners ++ next ∷ [] → IsWalk n root x y new
+walk_more n root a b next x y first second partners new w net is some first_is second_is on_a on_b new_is =
+    let found = walk_next n root a b next partners w net is some in
+    let a_next : IsEarlier n next first x = on_a w.bound (subst (λ (p : ℕ). IsEarlier n w.bound p a) (sym first_is) w.first) (omega (arith, is)) found.1 in
+    let b_next : IsEarlier n next second y = on_b w.bound (subst (λ (p : ℕ). IsEarlier n w.bound p b) (sym second_is) w.second) (omega (arith, is)) found.1 in
+    subst (IsWalk n root x y) (sym new_is) (record {
+      bound = next;
+      gate = w.gate;
+      is = w.is;
+      to = omega (arith, found.1, w.to);
+      falling = falling_end partners next w.falling (λ q e. omega (arith, w.from q e, found.1));
+      from = λ q e. ⊎_elim (λ there. omega (arith, w.from q there, found.1)) (λ (same : q ≡ next). omega (arith, same)) (among_end partners next q e);
+      share = λ q e. ⊎_elim (λ there. w.share q there) (λ same. subst (SharesBelow n root) (sym same) found.0) (among_end partners next q e);
+      all = λ h s.
+          ⊎_elim
+          (λ there. inl (front_among partners next h there))
+          (λ low.
+          let high : h ≤ max a b = reader_high n root a b h partners w s low in
+          ⊎_elim
+          (λ (same : h ≡ next). inl (subst (λ (z : ℕ). among (partners ++ next ∷ []) z ≡ true) (sym same) (end_among partners next)))
+          (λ other. inr (omega (arith, high, is, other)))
+          (cases_eq h next))
+          (w.all h s);
+      first = subst (λ (p : ℕ). IsEarlier n next p x) first_is a_next;
+      second = subst (λ (p : ℕ). IsEarlier n next p y) second_is b_next;
+    })
+
+pub walk_none : (n : Net) (root a b next count : ℕ) (partners : List ℕ) → IsWalk n root a b partners → next ≡ max a b → next ≡ 0 → length partners ≡ count → count ≤ 8 → ArePartners n root partners
+walk_none n root a b next count partners w is none size few =
+    record {
+      falling = w.falling;
+      share = w.share;
+      few = omega (arith, size, few);
+      others = λ h s.
+          ⊎_elim
+          (λ there. inl there)
+          (λ low. absurd (omega (arith, reader_high n root a b h partners w s low, is, none, (gate_high n h s.second.reader).0)))
+          (w.all h s);
+    }
+
+pub walk_full : (n : Net) (root a b count : ℕ) (partners : List ℕ) → IsWalk n root a b partners → length partners ≡ count → count ≡ 8 → ArePartners n root partners
+walk_full n root a b count partners w size full =
+    record {
+      falling = w.falling;
+      share = w.share;
+      few = omega (arith, size, full);
+      others = λ h s.
+          ⊎_elim
+          (λ there. inl there)
+          (λ (low : h < w.bound). inr (omega (arith, size, full), λ q e. omega (arith, w.from q e, low)))
+          (w.all h s);
+    }
+
+-- ---- looking up
+
+pub earlier_code : (n : Net) (list : List Earlier) (place index : ℕ) (e : Earlier) → AreEarlier n list → index ≡ place - n.sources - 1 → index < length list → slice_get list index ≡ Some e → (g : Gate) → IsGateOf n place g → IsEarlierOf n place g e
+earlier_code n list place index e are is low at g of =
+    let same : of.index ≡ index = omega (arith, of.place, is) in
+    subst (λ (p : ℕ). IsEarlierOf n p g e) (ap (λ (k : ℕ). n.sources + 1 + k) (sym same) ∙ of.place)
+    (are.each index g e (ap (slice_get n.gates) (sym same) ∙ of.at) at)
+
+pub earlier_at : (n : Net) (list items : List Earlier) (place sources : ℕ) (e : Earlier) → AreEarlier n list → items ≡ list → sources ≡ n.sources → IsGate n place → e ≡ slice_index_or items (place - sources - 1) e → (g : Gate) → IsGateOf n place g → IsEarlierOf n place g e
+earlier_at n list items place sources e are same sources_is gate is =
+    let high = gate_high n place gate in
+    let low : place - sources - 1 < length items = omega (arith, high.0, high.1, sources_is, are.size, ap (length {A = Earlier}) same) in
+    earlier_code n list place (place - sources - 1) e are (omega (arith, sources_is)) (omega (arith, low, ap (length {A = Earlier}) same))
+    (ap (λ (xs : List Earlier). slice_get xs (place - sources - 1)) (sym same) ∙ slice_get-get_or items (place - sources - 1) e low ∙ ap Some (sym is))

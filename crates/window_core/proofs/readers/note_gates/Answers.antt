@@ -1,0 +1,9 @@
+use Rattle.std.proofs.Common.{◌+◌, length, ap, arith}
+use Rattle.net_theory.specs.declared.data.Gate.{Gate}
+use Rattle.window_core.proofs.NotingLaws.{list_code}
+use Rattle.window_core.proofs.readers.note_gates.Goals as goal
+
+pub loop-i-preserved : goal.loop-i-preserved
+loop-i-preserved c =
+    list_code c.args.net.now c.gates-gates.result.now c.loop-i.i c.index-gates-i.result (c.sources-first.result + 1 + c.loop-i.i) c.sources-first.result c.loop-i.last c.note_gate-pair.ensures.noted.0 c.note_gate-pair.new.last c.loop-i.earlier.items c.push.new.self.items c.note_gate-pair.result
+    c.gates-gates.ensures.net c.gates-gates.ensures.gates c.loop-i-test.true c.index-gates-i.is c.sources-first.ensures.sources (omega (arith, ap (length {A = Gate}) c.gates-gates.ensures.gates, c.gates-gates.ensures.net.places, c.loop-i-test.true)) c.note_gate-pair.ensures.first c.note_gate-pair.ensures.second c.note_gate-pair.ensures.noted.1 c.note_gate-pair.ensures.noted.2 c.in_ok-push.ensures.items c.loop-i.invariant

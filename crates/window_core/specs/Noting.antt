@@ -1,0 +1,46 @@
+-- What tables say while a walk over gates fills them.
+use Rattle.std.specs.Prelude.{◌≡◌, ℕ, ◌+◌, ◌<◌, min, if◌then◌else◌, List, length, slice_get, slice_index_or, Some}
+use Rattle.net_theory.specs.declared.data.Sig.{Sig}
+use Rattle.net_theory.specs.declared.data.Sig.TheVariants as sigs
+use Rattle.net_theory.specs.declared.data.Gate.{Gate}
+use Rattle.net_theory.specs.Net.{Net, end_of}
+use Rattle.net_theory.specs.Reach.{is_place}
+use Rattle.window_core.specs.Readers.{IsEarlier, IsEarlierOf}
+use Rattle.window_core.specs.declared.readers.Earlier.{Earlier}
+
+-- a signal that is a place is below an end
+abbrev pub IsBefore : ℕ → Sig → Type 0
+IsBefore end sigs.Zero = Unit {0}
+IsBefore end sigs.One = Unit {0}
+IsBefore end (sigs.Place p) = p < end
+
+-- all operands of gates are
+pub record AreBefore (end : ℕ) (gs : List Gate) : Type 0 where
+  pub first : (i : ℕ) (g : Gate) → slice_get gs i ≡ Some g → IsBefore end g.a
+  pub second : (i : ℕ) (g : Gate) → slice_get gs i ≡ Some g → IsBefore end g.b
+
+-- the numbers of a table grew by these, where 255 stands for all numbers from 255 on
+pub record AreGrown (more : ℕ → ℕ) (old new : List ℕ) : Type 0 where
+  pub size : length new ≡ length old
+  pub each : (p : ℕ) → p < length old → slice_index_or new p 0 ≡ min (slice_index_or old p 0 + more p) 255
+
+-- Numbers grow from `old` by `all` in steps; by `left` they have still to grow.
+pub record IsCounting (all left : ℕ → ℕ) (old now : List ℕ) : Type 0 where
+  pub size : length now ≡ length old
+  pub each : (p : ℕ) → p < length old → min (slice_index_or now p 0 + left p) 255 ≡ min (slice_index_or old p 0 + all p) 255
+
+-- A gate was noted as the last reader of what a signal names.
+pub record IsNoted (s : Sig) (place : ℕ) (old new : List ℕ) : Type 0 where
+  pub size : length new ≡ length old
+  pub each : (p : ℕ) → p < length old → slice_index_or new p 0 ≡ (if is_place p s then place else slice_index_or old p 0)
+
+-- The table has the last readers of each place among the first gates.
+pub record HasNoted (n : Net) (count : ℕ) (last : List ℕ) : Type 0 where
+  pub size : length last ≡ end_of n
+  pub each : (p : ℕ) → p < end_of n → IsEarlier n (n.sources + 1 + count) p (slice_index_or last p 0)
+
+-- and the list has their earlier readers
+pub record AreNoted (n : Net) (count : ℕ) (last : List ℕ) (list : List Earlier) : Type 0 where
+  pub noted : HasNoted n count last
+  pub size : length list ≡ count
+  pub each : (i : ℕ) (g : Gate) (e : Earlier) → slice_get n.gates i ≡ Some g → slice_get list i ≡ Some e → IsEarlierOf n (n.sources + 1 + i) g e

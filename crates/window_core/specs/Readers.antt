@@ -1,0 +1,69 @@
+-- The index of a net: how often each place is named, and who named it last below a gate.
+use Rattle.std.specs.Prelude.{◌≡◌, ℕ, ◌+◌, ◌≤◌, ◌<◌, min, if◌then◌else◌, List, [], ◌∷◌, length, slice_get, slice_index_or, Some, ◌⊎◌}
+use Rattle.net_theory.specs.declared.data.Sig.{Sig}
+use Rattle.net_theory.specs.declared.data.Sig.TheVariants as sigs
+use Rattle.net_theory.specs.declared.data.Gate.{Gate}
+use Rattle.net_theory.specs.Net.{Net, end_of}
+use Rattle.net_theory.specs.Reach.{is_place}
+use Rattle.window_theory.specs.Paths.{Reads}
+use Rattle.window_core.specs.declared.readers.Earlier.{Earlier}
+
+-- ---- how often
+
+-- how often a signal names a place
+abbrev pub named_by : ℕ → Sig → ℕ
+named_by p s = if is_place p s then 1 else 0
+
+abbrev pub named_by_gate : ℕ → Gate → ℕ
+named_by_gate p g = named_by p g.a + named_by p g.b
+
+-- a sum over gates, of which the first has the place given
+unfoldable pub sum_gates : (ℕ → Gate → ℕ) → ℕ → List Gate → ℕ
+sum_gates count place [] = 0
+sum_gates count place (g ∷ gs) = count place g + sum_gates count (place + 1) gs
+
+unfoldable pub named_by_sinks : ℕ → List Sig → ℕ
+named_by_sinks p [] = 0
+named_by_sinks p (s ∷ ss) = named_by p s + named_by_sinks p ss
+
+-- how many operands and sinks of a net name a place
+abbrev pub uses_of : Net → ℕ → ℕ
+uses_of n p = sum_gates (λ q g. named_by_gate p g) (n.sources + 1) n.gates + named_by_sinks p n.sinks
+
+-- ---- who was last
+
+-- the place that a signal names; 0 is no place, and stands for constants
+abbrev pub place_of : Sig → ℕ
+place_of sigs.Zero = 0
+place_of sigs.One = 0
+place_of (sigs.Place p) = p
+
+-- the greatest gate below q that reads p, or 0 where there is none
+pub record IsEarlier (n : Net) (q p r : ℕ) : Type 0 where
+  pub found : (r ≡ 0) ⊎ (Reads n r p × (r < q))
+  pub most : (x : ℕ) → Reads n x p → x < q → x ≤ r
+
+-- for both operands of the gate at q
+pub record IsEarlierOf (n : Net) (q : ℕ) (g : Gate) (e : Earlier) : Type 0 where
+  pub first : IsEarlier n q (place_of g.a) e.first
+  pub second : IsEarlier n q (place_of g.b) e.second
+
+-- for each of the gates
+pub record AreEarlier (n : Net) (list : List Earlier) : Type 0 where
+  pub size : length list ≡ length n.gates
+  pub each : (i : ℕ) (g : Gate) (e : Earlier) → slice_get n.gates i ≡ Some g → slice_get list i ≡ Some e → IsEarlierOf n (n.sources + 1 + i) g e
+
+-- ---- the index
+
+pub record Readers : Type 0 where
+  pub uses : List ℕ
+  pub earlier : List Earlier
+
+-- Each place has the number of its uses, where 255 stands for all numbers from 255 on, and each gate the greatest
+-- gates below it that read what it reads.
+-- Example: of XOR of two sources at place 3, which is the one sink, the uses of the places 1, 2 and 3 are 1, and
+-- there are no earlier readers.
+pub record AreReaders (n : Net) (r : Readers) : Type 0 where
+  pub size : length r.uses ≡ end_of n
+  pub uses : (p : ℕ) → p < end_of n → slice_index_or r.uses p 0 ≡ min (uses_of n p) 255
+  pub earlier : AreEarlier n r.earlier

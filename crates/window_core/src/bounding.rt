@@ -1,0 +1,100 @@
+//! The window of a root, a partner or none, and a count: the gates that they take, with what goes in and out. It is
+//! one where it has the partner and at most 6 inputs; it has no more outputs than gates.
+
+ghost use Rattle.std.specs.Prelude.{◌≡◌, ◌≤◌, true, length, IfOk, IfSome, IfNone};
+ghost use Rattle.window_theory.specs.Paths.{IsGate};
+ghost use Rattle.window_theory.specs.Window as definition;
+ghost use Rattle.window_theory.specs.Window.{AreTaken, HasPartner, IsPartnerOrNone, IsWindow};
+ghost use Rattle.window_core.specs.Readers.{AreReaders};
+
+use crate::ends::all_inputs;
+use crate::growing::take_gates;
+use crate::readers::{Readers, readers_of};
+use crate::rising::has;
+use crate::seen::all_outputs;
+use crate::shape::Window;
+use net_core::Net;
+use std::alloc::{AllocError, Global};
+
+/// Whether the partner, if there is one, is one of the gates.
+fn has_partner(partner: Option<u32>, gates: &[u32]) -> bool
+    ensures yes { result ≡ true → HasPartner partner gates.now }
+    ensures no { HasPartner partner gates.now → result ≡ true }
+{
+    match partner {
+        Some(place) => has(gates, place),
+        None => true,
+    }
+}
+
+/// The window of gates that were taken, if it counts.
+fn window_of(
+    alloc: Global,
+    net: &Net,
+    readers: &Readers,
+    root: u32,
+    partner: Option<u32>,
+    gates: Vec<u32>,
+) -> Result<Option<Window>, AllocError>
+    requires readers { AreReaders net.now readers.now }
+    requires taken { AreTaken net.now root partner gates.items }
+    requires some { 1 ≤ length gates.items }
+    requires few { length gates.items ≤ 8 }
+    ensures some { IfOk result (λ answer. IfSome answer (λ w. IsWindow net.now root partner (length gates.items) w)) }
+    ensures none { IfOk result (λ answer. IfNone answer ((w : definition.Window) → IsWindow net.now root partner (length gates.items) w → ⊥)) }
+{
+    let _sources = net.sources(); // says that the net is one
+    if !has_partner(partner, &gates) {
+        return Ok(None);
+    }
+    let inputs = all_inputs(alloc, net, &gates)?;
+    if inputs.len() > 6 {
+        return Ok(None);
+    }
+    let outputs = all_outputs(alloc, net, readers, &gates)?;
+    Ok(Some(Window::new(root, partner, gates, inputs, outputs)))
+}
+
+/// The window of a root, a partner or none, and a count from 1 to 8, where it counts, by the index of the net. None
+/// comes exactly where there are no such many gates to take, the partner isn't among them, or they have more than 6
+/// inputs or 8 outputs.
+pub fn window_by(
+    alloc: Global,
+    net: &Net,
+    readers: &Readers,
+    root: u32,
+    partner: Option<u32>,
+    count: u32,
+) -> Result<Option<Window>, AllocError>
+    requires readers { AreReaders net.now readers.now }
+    requires root { IsGate net.now root }
+    requires partner { IsPartnerOrNone net.now root partner }
+    requires some { 1 ≤ count }
+    requires few { count ≤ 8 }
+    ensures some { IfOk result (λ answer. IfSome answer (λ w. IsWindow net.now root partner count w)) }
+    ensures none { IfOk result (λ answer. IfNone answer ((w : definition.Window) → IsWindow net.now root partner count w → ⊥)) }
+{
+    match take_gates(alloc, net, root, partner, count)? {
+        Some(gates) => window_of(alloc, net, readers, root, partner, gates),
+        None => Ok(None),
+    }
+}
+
+/// The same without an index: it is made for this window alone.
+pub fn window(
+    alloc: Global,
+    net: &Net,
+    root: u32,
+    partner: Option<u32>,
+    count: u32,
+) -> Result<Option<Window>, AllocError>
+    requires root { IsGate net.now root }
+    requires partner { IsPartnerOrNone net.now root partner }
+    requires some { 1 ≤ count }
+    requires few { count ≤ 8 }
+    ensures some { IfOk result (λ answer. IfSome answer (λ w. IsWindow net.now root partner count w)) }
+    ensures none { IfOk result (λ answer. IfNone answer ((w : definition.Window) → IsWindow net.now root partner count w → ⊥)) }
+{
+    let readers = readers_of(alloc, net)?;
+    window_by(alloc, net, &readers, root, partner, count)
+}

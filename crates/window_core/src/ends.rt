@@ -1,0 +1,42 @@
+//! What goes in and out of some gates of a net.
+
+ghost use Rattle.std.specs.Prelude.{◌≡◌, ℕ, ◌≤◌, ◌<◌, true, [], length, IfSome, IfNone, IfOk, OnOk};
+ghost use Rattle.window_theory.specs.Places.{among, IsRising, AreJust};
+ghost use Rattle.window_theory.specs.Paths.{IsGate};
+ghost use Rattle.window_theory.specs.Window.{IsInput};
+ghost use Rattle.window_core.specs.Ends.{AreFound};
+ghost use Rattle.window_core.specs.Rising.{put_outside};
+
+use crate::growing::gate_at;
+use crate::rising::{has, put};
+use net_core::{Net, Sig};
+use std::alloc::{AllocError, Global};
+
+/// Puts what a signal names, if it isn't one of the gates.
+fn put_outside(inputs: &mut Vec<u32>, gates: &[u32], sig: Sig) -> Result<(), AllocError>
+    requires { IsRising inputs.old.items }
+    ensures { OnOk result (inputs.new.items ≡ put_outside gates.now sig inputs.old.items) }
+{
+    if let Sig::Place(place) = sig {
+        if !has(gates, place) {
+            put(inputs, place)?;
+        }
+    }
+    Ok(())
+}
+
+/// The places outside that some gates read, rising.
+pub fn all_inputs(alloc: Global, net: &Net, gates: &[u32]) -> Result<Vec<u32>, AllocError>
+    requires { (p : ℕ) → among gates.now p ≡ true → IsGate net.now p }
+    ensures { IfOk result (λ inputs. AreJust (IsInput net.now gates.now) inputs.items) }
+{
+    let mut inputs = Vec::new(alloc);
+    let mut left = gates;
+    while let Some((place, rest)) = left.split_first() {
+        let gate = gate_at(net, *place);
+        put_outside(&mut inputs, gates, gate.a)?;
+        put_outside(&mut inputs, gates, gate.b)?;
+        left = rest;
+    }
+    Ok(inputs)
+}

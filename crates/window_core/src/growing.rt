@@ -1,0 +1,118 @@
+//! Which gates a window has: the greatest candidate is taken, as often as needed. What could be taken and isn't
+//! stands below the gate that was taken last, so that no candidate has to be looked for among those that are taken.
+
+ghost use Rattle.std.specs.Prelude.{◌≡◌, ℕ, ◌+◌, ◌≤◌, true, [], length, IfSome, IfNone, IfOk};
+ghost use Rattle.net_theory.specs.Net.{IsNet};
+ghost use Rattle.window_theory.specs.Paths.{IsGate};
+ghost use Rattle.window_theory.specs.Window.{IsCandidate, IsGreatestCandidate, AreTaken, IsWindow};
+ghost use Rattle.window_theory.specs.Window as window;
+ghost use Rattle.window_theory.specs.Places.{among};
+ghost use Rattle.window_core.specs.Gates.{IsGateOf, IsGreater, IsGreaterIn, IsGreaterSig, IsSought, bound_of as bound_of_taken};
+
+use net_core::{Gate, Net, Sig};
+use std::alloc::{AllocError, Global};
+
+/// The gate at a place.
+pub fn gate_at(net: &Net, place: u32) -> &Gate
+    requires { IsGate net.now place }
+    ensures gate { IsGateOf net.now place result.now }
+    ensures net { IsNet net.now }
+{
+    &net.gates()[(place - net.sources() - 1) as usize]
+}
+
+/// The greater of two places, if the second is below a bound.
+fn greater(bound: u32, best: u32, place: u32) -> u32
+    ensures { IsGreater bound best place result }
+{
+    if best < place && place < bound {
+        place
+    } else {
+        best
+    }
+}
+
+/// The same where there may be no second.
+fn greater_in(bound: u32, best: u32, place: Option<u32>) -> u32
+    ensures { IsGreaterIn bound best place result }
+{
+    match place {
+        Some(place) => greater(bound, best, place),
+        None => best,
+    }
+}
+
+/// The same of what a signal names.
+fn greater_sig(bound: u32, best: u32, sig: Sig) -> u32
+    ensures { IsGreaterSig bound best sig result }
+{
+    match sig {
+        Sig::Place(place) => greater(bound, best, place),
+        _ => best,
+    }
+}
+
+/// The least of the gates that are taken, or the first number that is no place.
+fn bound_of(net: &Net, taken: &[u32]) -> u32
+    ensures { result ≡ bound_of_taken net.now taken.now }
+{
+    match taken.split_first() {
+        Some((least, _)) => *least,
+        None => net.sources() + 1 + net.gates().len() as u32,
+    }
+}
+
+/// The greatest place below the bound that is the root, the partner or read by a gate that is taken; the last source
+/// where that is no gate.
+fn greatest(net: &Net, root: u32, partner: Option<u32>, taken: &[u32], bound: u32) -> u32
+    requires { (p : ℕ) → among taken.now p ≡ true → IsGate net.now p }
+    ensures { IsSought net.now root partner taken.now bound [] result }
+{
+    let first = greater(bound, net.sources(), root);
+    let mut best = greater_in(bound, first, partner);
+    let mut left = taken;
+    while let Some((place, rest)) = left.split_first() {
+        let gate = gate_at(net, *place);
+        let first = greater_sig(bound, best, gate.a);
+        best = greater_sig(bound, first, gate.b);
+        left = rest;
+    }
+    best
+}
+
+/// The greatest gate that can be taken.
+fn next_gate(net: &Net, root: u32, partner: Option<u32>, taken: &[u32]) -> Option<u32>
+    requires { AreTaken net.now root partner taken.now }
+    ensures some { IfSome result (λ p. IsGreatestCandidate net.now root partner taken.now p) }
+    ensures none { IfNone result ((p : ℕ) → IsCandidate net.now root partner taken.now p → ⊥) }
+{
+    let bound = bound_of(net, taken);
+    let best = greatest(net, root, partner, taken, bound);
+    if best == net.sources() {
+        return None;
+    }
+    Some(best)
+}
+
+/// The gates that a root, a partner or none, and a count take, if there are so many; they rise, since each stands
+/// below those that were taken before it.
+pub fn take_gates(
+    alloc: Global,
+    net: &Net,
+    root: u32,
+    partner: Option<u32>,
+    count: u32,
+) -> Result<Option<Vec<u32>>, AllocError>
+    ensures some { IfOk result (λ answer. IfSome answer (λ taken. AreTaken net.now root partner taken.items)) }
+    ensures count { IfOk result (λ answer. IfSome answer (λ taken. length taken.items ≡ count)) }
+    ensures none { IfOk result (λ answer. IfNone answer ((w : window.Window) → IsWindow net.now root partner count w → ⊥)) }
+{
+    let mut taken = Vec::new(alloc);
+    for _taken in 0..count {
+        let Some(place) = next_gate(net, root, partner, &taken) else {
+            return Ok(None);
+        };
+        taken.insert(0, place)?;
+    }
+    Ok(Some(taken))
+}

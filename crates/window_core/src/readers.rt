@@ -1,0 +1,181 @@
+//! The index of a net, made in two passes over its gates: how often each place is named, and for each gate the
+//! greatest gates below it that read what it reads. It serves all windows of the net.
+
+ghost use Rattle.std.specs.Prelude.{◌≡◌, ℕ, ◌+◌, ◌≤◌, ◌<◌, min, List, [], length, slice_index_or, All, IfOk, OnOk};
+ghost use Rattle.net_theory.specs.declared.data.Gate.{Gate as GateValue};
+ghost use Rattle.net_theory.specs.Net.{end_of};
+ghost use Rattle.window_theory.specs.Paths.{IsGate};
+ghost use Rattle.window_core.specs.Gates.{IsGateOf};
+ghost use Rattle.window_core.specs.Readers.{named_by, named_by_gate, named_by_sinks, sum_gates, uses_of, place_of as place_named, AreReaders, AreEarlier, IsEarlierOf};
+ghost use Rattle.window_core.specs.Noting.{IsBefore, AreBefore, AreGrown, IsNoted, HasNoted};
+
+use net_core::{Gate, Net, Sig};
+use std::alloc::{AllocError, Global};
+use std::marker::Model;
+
+/// The greatest gates below a gate that read its first and its second operand; 0 where there is none.
+#[derive(Clone, Copy, Debug)]
+pub struct Earlier {
+    pub first: u32,
+    pub second: u32,
+}
+
+/// The index of a net: how many operands and sinks name each place, 255 for 255 or more, and the earlier readers of
+/// what each gate reads.
+#[derive(Debug, Drop)]
+pub struct Readers {
+    uses: Vec<u8>,
+    earlier: Vec<Earlier>,
+}
+
+impl Model for Readers {
+    ghost use Rattle.window_core.specs.Readers as readers;
+
+    ghost Value = { readers.Readers };
+
+    ghost view = { λ r. record { uses = r.uses.items; earlier = r.earlier.items } };
+}
+
+/// Counts a use of what a signal names.
+fn count_use(uses: &mut [u8], sig: Sig)
+    requires { IsBefore (length uses.old) sig }
+    ensures { AreGrown (λ p. named_by p sig) uses.old uses.new }
+{
+    if let Sig::Place(place) = sig {
+        uses[place as usize] = uses[place as usize].saturating_add(1);
+    }
+}
+
+/// Counts the uses by gates.
+fn count_gates(uses: &mut [u8], gates: &[Gate])
+    requires { AreBefore (length uses.old) gates.now }
+    ensures { AreGrown (λ p. sum_gates (λ q g. named_by_gate p g) 0 gates.now) uses.old uses.new }
+{
+    let mut left = gates;
+    while let Some((gate, rest)) = left.split_first() {
+        count_use(uses, gate.a);
+        count_use(uses, gate.b);
+        left = rest;
+    }
+}
+
+/// Counts the uses by sinks.
+fn count_sinks(uses: &mut [u8], sinks: &[Sig])
+    requires { All (IsBefore (length uses.old)) sinks.now }
+    ensures { AreGrown (λ p. named_by_sinks p sinks.now) uses.old uses.new }
+{
+    let mut left = sinks;
+    while let Some((sink, rest)) = left.split_first() {
+        count_use(uses, *sink);
+        left = rest;
+    }
+}
+
+/// The place that a signal names, 0 for a constant.
+pub fn place_of(sig: Sig) -> u32
+    ensures { result ≡ place_named sig }
+{
+    match sig {
+        Sig::Place(place) => place,
+        _ => 0,
+    }
+}
+
+/// Notes a gate as the last reader of what a signal names.
+fn note(last: &mut [u32], sig: Sig, place: u32)
+    requires { IsBefore (length last.old) sig }
+    ensures { IsNoted sig place last.old last.new }
+{
+    if let Sig::Place(read) = sig {
+        last[read as usize] = place;
+    }
+}
+
+/// The last readers of a gate's operands, which it becomes itself. Both are looked up before it is noted, since a
+/// gate may read one place twice.
+fn note_gate(last: &mut [u32], place: u32, gate: &Gate) -> Earlier
+    requires some { 0 < length last.old }
+    requires first { IsBefore (length last.old) gate.now.a }
+    requires second { IsBefore (length last.old) gate.now.b }
+    ensures first { result.first ≡ slice_index_or last.old (place_named gate.now.a) 0 }
+    ensures second { result.second ≡ slice_index_or last.old (place_named gate.now.b) 0 }
+    ensures noted { (mid : List ℕ) × IsNoted gate.now.a place last.old mid × IsNoted gate.now.b place mid last.new }
+{
+    let first = last[place_of(gate.a) as usize];
+    let second = last[place_of(gate.b) as usize];
+    note(last, gate.a, place);
+    note(last, gate.b, place);
+    Earlier { first, second }
+}
+
+/// The earlier readers of what the gates read, by a table of last readers that has none yet.
+fn note_gates(last: &mut [u32], earlier: &mut Vec<Earlier>, net: &Net) -> Result<(), AllocError>
+    requires noted { HasNoted net.now 0 last.old }
+    requires none { earlier.old.items ≡ [] }
+    ensures { OnOk result (AreEarlier net.now earlier.new.items) }
+{
+    let gates = net.gates();
+    let first = net.sources() + 1;
+    for i in 0..gates.len() {
+        let pair = note_gate(last, first + i as u32, &gates[i]);
+        earlier.push(pair)?;
+    }
+    Ok(())
+}
+
+/// The earlier readers of what each gate reads.
+fn all_earlier(alloc: Global, net: &Net) -> Result<Vec<Earlier>, AllocError>
+    ensures { IfOk result (λ earlier. AreEarlier net.now earlier.items) }
+{
+    let gates = net.gates().len();
+    let mut last = vec![in alloc; 0u32; net.sources() as usize + 1 + gates]?;
+    let mut earlier = Vec::with_capacity(alloc, gates)?;
+    note_gates(&mut last, &mut earlier, net)?;
+    Ok(earlier)
+}
+
+/// Counts all uses in a net.
+fn count_all(uses: &mut [u8], net: &Net)
+    requires { length uses.old ≡ end_of net.now }
+    ensures { AreGrown (uses_of net.now) uses.old uses.new }
+{
+    count_gates(uses, net.gates());
+    count_sinks(uses, net.sinks());
+}
+
+/// How often each place of a net is named.
+fn all_uses(alloc: Global, net: &Net) -> Result<Vec<u8>, AllocError>
+    ensures size { IfOk result (λ uses. length uses.items ≡ end_of net.now) }
+    ensures each { IfOk result (λ uses. (p : ℕ) → p < end_of net.now → slice_index_or uses.items p 0 ≡ min (uses_of net.now p) 255) }
+{
+    let mut uses = vec![in alloc; 0u8; net.sources() as usize + 1 + net.gates().len()]?;
+    count_all(&mut uses, net);
+    Ok(uses)
+}
+
+/// The index of a net.
+pub fn readers_of(alloc: Global, net: &Net) -> Result<Readers, AllocError>
+    ensures { IfOk result (λ readers. AreReaders net.now readers) }
+{
+    let uses = all_uses(alloc, net)?;
+    let earlier = all_earlier(alloc, net)?;
+    Ok(Readers { uses, earlier })
+}
+
+/// The earlier readers of what a gate reads.
+pub fn earlier_of(net: &Net, readers: &Readers, place: u32) -> Earlier
+    requires index { AreReaders net.now readers.now }
+    requires gate { IsGate net.now place }
+    ensures { (g : GateValue) → IsGateOf net.now place g → IsEarlierOf net.now place g result }
+{
+    readers.earlier[(place - net.sources() - 1) as usize]
+}
+
+/// How often a place is named, 255 for 255 or more.
+pub fn uses_at(readers: &Readers, net: &Net, place: u32) -> u8
+    requires index { AreReaders net.now readers.now }
+    requires place { place < end_of net.now }
+    ensures { result ≡ min (uses_of net.now place) 255 }
+{
+    readers.uses[place as usize]
+}

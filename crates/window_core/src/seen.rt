@@ -1,0 +1,93 @@
+//! Which gates of a window are seen outside: a place is named as often by the gates inside as by all, or it is an
+//! output. So no pass over the net is needed.
+
+ghost use Rattle.std.specs.Prelude.{◌≡◌, ℕ, ◌≤◌, ◌<◌, true, min, nat_lt, length, IfOk};
+ghost use Rattle.net_theory.specs.declared.data.Sig.{Sig as SigValue};
+ghost use Rattle.net_theory.specs.Reach.{is_place};
+ghost use Rattle.window_theory.specs.Places.{among, IsRising, AreJust};
+ghost use Rattle.window_theory.specs.Paths.{IsGate};
+ghost use Rattle.window_theory.specs.Window.{IsOutput};
+ghost use Rattle.window_core.specs.Readers.{named_by, named_by_gate, uses_of, AreReaders};
+ghost use Rattle.window_core.specs.Seen.{inside_of};
+
+use crate::growing::gate_at;
+use crate::readers::{Readers, uses_at};
+use net_core::{Gate, Net, Sig};
+use std::alloc::{AllocError, Global};
+
+/// How often a signal names a place.
+fn named(place: u32, sig: Sig) -> u32
+    ensures { result ≡ named_by place sig }
+{
+    match sig {
+        Sig::Place(named) => u32::from(named == place),
+        _ => 0,
+    }
+}
+
+/// How often the operands of a gate name a place.
+fn named_in(place: u32, gate: &Gate) -> u32
+    ensures value { result ≡ named_by_gate place gate.now }
+    ensures few { result ≤ 2 }
+{
+    named(place, gate.a) + named(place, gate.b)
+}
+
+/// How often gates of a net name a place.
+fn inside_uses(net: &Net, gates: &[u32], place: u32) -> u32
+    requires rising { IsRising gates.now }
+    requires gates { (p : ℕ) → among gates.now p ≡ true → IsGate net.now p }
+    requires few { length gates.now ≤ 8 }
+    ensures value { result ≡ inside_of net.now gates.now place }
+    ensures few { result ≤ 16 }
+{
+    let mut uses = 0;
+    let mut left = gates;
+    while let Some((inside, rest)) = left.split_first() {
+        uses += named_in(place, gate_at(net, *inside));
+        left = rest;
+    }
+    uses
+}
+
+/// Whether a gate of a window is an output.
+fn is_output(net: &Net, readers: &Readers, gates: &[u32], place: u32) -> bool
+    requires index { AreReaders net.now readers.now }
+    requires rising { IsRising gates.now }
+    requires gates { (p : ℕ) → among gates.now p ≡ true → IsGate net.now p }
+    requires few { length gates.now ≤ 8 }
+    requires inside { among gates.now place ≡ true }
+    ensures yes { result ≡ true → IsOutput net.now gates.now place }
+    ensures no { IsOutput net.now gates.now place → result ≡ true }
+{
+    let inside = inside_uses(net, gates, place);
+    let all = uses_at(readers, net, place);
+    inside < u32::from(all)
+}
+
+/// The gates of a window that a gate outside or a sink reads, rising.
+pub fn all_outputs(
+    alloc: Global,
+    net: &Net,
+    readers: &Readers,
+    gates: &[u32],
+) -> Result<Vec<u32>, AllocError>
+    requires index { AreReaders net.now readers.now }
+    requires rising { IsRising gates.now }
+    requires gates { (p : ℕ) → among gates.now p ≡ true → IsGate net.now p }
+    requires few { length gates.now ≤ 8 }
+    ensures outputs { IfOk result (λ outputs. AreJust (IsOutput net.now gates.now) outputs.items) }
+    ensures few { IfOk result (λ outputs. length outputs.items ≤ 8) }
+{
+    let mut outputs = Vec::new(alloc);
+    let mut left = gates;
+    while let Some((place, rest)) = left.split_first() {
+        if is_output(net, readers, gates, *place) {
+            outputs.push(*place)?;
+            left = rest;
+            continue;
+        }
+        left = rest;
+    }
+    Ok(outputs)
+}

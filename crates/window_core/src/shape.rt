@@ -1,0 +1,88 @@
+//! Windows. That the lists rise and are short is the invariant of the type, so that one word holds a window's rows.
+
+ghost use Rattle.std.specs.Prelude.{◌≡◌};
+ghost use Rattle.window_core.specs.Shape.{IsShaped};
+
+use std::marker::Model;
+
+/// A part of a net: the root that it grew from, its partner, and the places of its 1 to 8 gates, of at most 6 inputs
+/// and of at most 8 outputs, each list rising.
+#[derive(Debug, Drop)]
+pub struct Window {
+    root: u32,
+    partner: Option<u32>,
+    gates: Vec<u32>,
+    inputs: Vec<u32>,
+    outputs: Vec<u32>,
+}
+
+impl Model for Window {
+    ghost use Rattle.window_theory.specs.Window as window;
+    ghost use Rattle.window_core.specs.Shape.{IsShaped};
+
+    ghost Value = { window.Window };
+
+    ghost view = { λ w. record { root = w.root; partner = w.partner; gates = w.gates.items; inputs = w.inputs.items; outputs = w.outputs.items } };
+
+    ghost invariant = { λ w. IsShaped (record { root = w.root; partner = w.partner; gates = w.gates.items; inputs = w.inputs.items; outputs = w.outputs.items }) };
+}
+
+impl Window {
+    /// The window of this root, partner, gates, inputs and outputs.
+    pub fn new(
+        root: u32,
+        partner: Option<u32>,
+        gates: Vec<u32>,
+        inputs: Vec<u32>,
+        outputs: Vec<u32>,
+    ) -> Window
+        requires { IsShaped (record { root = root; partner = partner; gates = gates.items; inputs = inputs.items; outputs = outputs.items }) }
+        ensures { result ≡ record { root = root; partner = partner; gates = gates.items; inputs = inputs.items; outputs = outputs.items } }
+    {
+        Window {
+            root,
+            partner,
+            gates,
+            inputs,
+            outputs,
+        }
+    }
+
+    /// The place of the gate that the window grew from.
+    pub fn root(&self) -> u32
+        ensures { result ≡ self.now.root }
+    {
+        self.root
+    }
+
+    /// The place of the root's partner, if the window has one.
+    pub fn partner(&self) -> Option<u32>
+        ensures { result ≡ self.now.partner }
+    {
+        self.partner
+    }
+
+    /// The places of the gates, rising.
+    pub fn gates(&self) -> &[u32]
+        ensures value { result.now ≡ self.now.gates }
+        ensures whole { IsShaped self.now }
+    {
+        &self.gates
+    }
+
+    /// The places of the inputs, rising.
+    pub fn inputs(&self) -> &[u32]
+        ensures value { result.now ≡ self.now.inputs }
+        ensures whole { IsShaped self.now }
+    {
+        &self.inputs
+    }
+
+    /// The places of the outputs, rising.
+    pub fn outputs(&self) -> &[u32]
+        ensures value { result.now ≡ self.now.outputs }
+        ensures whole { IsShaped self.now }
+    {
+        &self.outputs
+    }
+}
