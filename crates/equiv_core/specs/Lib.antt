@@ -1,0 +1,7 @@
+pub mod Rows
+pub mod RowLaws
+pub mod Limits
+pub mod MiteringLaws
+pub mod SinkLaws
+pub mod Comparing
+pub mod AlikeLaws

@@ -1,0 +1,45 @@
+//! What is answered of two circuits, and why none is.
+ghost use Rattle.std.specs.Prelude.{◌≡◌};
+ghost use Rattle.equiv_core.specs.declared.answer.EquivError.TheVariants.{Memory};
+
+use cnf_core::Assign;
+use lrat_text::Log;
+use std::alloc::{AllocError, AllocFailed};
+
+/// Whether two circuits do the same.
+#[derive(Debug, Drop)]
+pub enum Equiv {
+    /// They do: the log refutes their miter.
+    Equal(Log),
+    /// They don't: under the bits `at` of the sources, source 1 first, the values of the sink differ. Sinks are
+    /// counted from 1, and it is the first that differs.
+    Differ { sink: u32, at: Assign },
+    /// It isn't known: the log has spent the budget on the miter, and keeps at least half of what it adds.
+    Undecided(Log),
+}
+
+/// Why two circuits weren't compared.
+#[derive(Clone, Copy, Debug, PartialEq, Eq)]
+pub enum EquivError {
+    /// The inputs, outputs or clocks aren't the same names in the same order, or the latches don't agree in number,
+    /// order, output, control and first value.
+    DifferentInterface,
+    /// There was no memory left.
+    Memory,
+}
+
+impl From<AllocError> for EquivError {
+    ghost from_gives = { λ _ e. e ≡ Memory };
+
+    fn from(_error: AllocError) -> EquivError {
+        EquivError::Memory
+    }
+}
+
+impl<T: Drop> From<AllocFailed<T>> for EquivError {
+    ghost from_gives = { λ _ e. e ≡ Memory };
+
+    fn from(_error: AllocFailed<T>) -> EquivError {
+        EquivError::Memory
+    }
+}

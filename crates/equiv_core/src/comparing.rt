@@ -1,0 +1,116 @@
+//! Two circuits compared: their miter is given to the solver, whose log refutes it or is spent, and whose
+//! solution has an input at which the circuits differ.
+ghost use Rattle.std.specs.Prelude.{◌≡◌, ◌≤◌, ◌<◌, ◌^◌, length, IfOk, IfErr};
+ghost use Rattle.sat_theory.specs.Formula.{bits_of, Satisfies};
+ghost use Rattle.sat_theory.specs.Log.{Refutes, IsSpent, IsKept};
+ghost use Rattle.net_theory.specs.Circuit.{IsProper};
+ghost use Rattle.net_document.specs.Alike.{AreAlike};
+ghost use Rattle.equiv_theory.specs.Miter.{miter as miter_of, variables};
+ghost use Rattle.equiv_theory.specs.Difference.{AreComparable, HaveSameInterface, IsFirstDifference};
+ghost use Rattle.equiv_core.specs.declared.answer.EquivError.TheVariants.{DifferentInterface};
+ghost use Rattle.equiv_core.specs.Limits.{IsSmall};
+ghost use Rattle.equiv_core.specs.Comparing.{IfEqual, IfDiffer, IfUndecided, IsDecided};
+
+use crate::answer::{Equiv, EquivError};
+use crate::interface::same_interface;
+use crate::mitering::miter;
+use crate::values::first_difference;
+use cdcl_core::{Solved, solve};
+use cnf_core::{Assign, Cnf};
+use net_core::{Circuit, Net};
+use std::alloc::{AllocError, Global};
+
+/// A sink, counted from 1, and bits of the sources under which its values differ.
+#[derive(Debug, Drop)]
+struct Difference {
+    sink: u32,
+    at: Assign,
+}
+
+/// Where two nets differ, by a solution of their miter.
+fn difference_of(
+    alloc: Global,
+    first: &Net,
+    second: &Net,
+    assign: &Assign,
+) -> Result<Difference, AllocError>
+    requires comparable { AreComparable first.now second.now }
+    requires small { IsSmall first.now }
+    requires long { length assign.now ≡ variables first.now second.now }
+    requires solution { Satisfies (bits_of assign.now) (miter_of first.now second.now) }
+    ensures { IfOk result (λ d. IsFirstDifference first.now second.now d.sink d.at) }
+{
+    let (front, _) = assign.bits().split_at(first.sources() as usize);
+    let Some(place) = first_difference(alloc, first, second, front)? else {
+        unreachable!()
+    };
+    let mut at = Vec::new(alloc);
+    at.extend_from_slice(front)?;
+    Ok(Difference {
+        sink: place as u32 + 1,
+        at: Assign::new(at),
+    })
+}
+
+/// What the solver says of the miter of two nets.
+#[tactic(auto, using(crate::specs::SinkLaws::miter_variables))]
+fn compare(
+    alloc: Global,
+    first: &Net,
+    second: &Net,
+    cnf: &Cnf,
+    budget: u32,
+) -> Result<Equiv, AllocError>
+    requires comparable { AreComparable first.now second.now }
+    requires small { IsSmall first.now }
+    requires miter { cnf.now ≡ miter_of first.now second.now }
+    requires budget { (1 ≤ budget) × (budget ≤ 10000000) }
+    ensures equal { IfOk result (λ e. IfEqual e (Refutes (miter_of first.now second.now))) }
+    ensures differ { IfOk result (λ e. IfDiffer e (IsFirstDifference first.now second.now)) }
+    ensures undecided { IfOk result (λ e. IfUndecided e (λ lines. IsSpent (miter_of first.now second.now) lines budget)) }
+    ensures kept { IfOk result (λ e. IfUndecided e (IsKept (miter_of first.now second.now))) }
+    ensures decides { 3 ^ variables first.now second.now ≤ budget → IfOk result IsDecided }
+{
+    match solve(alloc, cnf, budget)? {
+        Solved::Unsat(log) => Ok(Equiv::Equal(log)),
+        Solved::Open(log) => Ok(Equiv::Undecided(log)),
+        Solved::Sat(assign) => {
+            let Difference { sink, at } = difference_of(alloc, first, second, &assign)?;
+            Ok(Equiv::Differ { sink, at })
+        }
+    }
+}
+
+/// Decides whether two proper circuits of one interface, each of fewer than 300,000,000 sources and sinks, do the
+/// same, unless it takes more than `budget` learnt clauses, from 1 to 10,000,000.
+///
+/// They are equal only with a log that refutes their miter, so that anybody can check it; they differ only at an
+/// input that shows it, at the first sink that does; and it is undecided only with a log that has spent the
+/// budget. Circuits of different interfaces aren't compared, and no others are refused but for want of memory.
+#[tactic(auto, using(equiv_theory::specs::CircuitLaws::comparable))]
+pub fn equiv(
+    alloc: Global,
+    first: &Circuit,
+    second: &Circuit,
+    budget: u32,
+) -> Result<Equiv, EquivError>
+    requires first { IsProper first.now }
+    requires second { IsProper second.now }
+    requires small { IsSmall first.now.net }
+    requires other { IsSmall second.now.net }
+    requires budget { (1 ≤ budget) × (budget ≤ 10000000) }
+    ensures equal { IfOk result (λ e. IfEqual e (Refutes (miter_of first.now.net second.now.net))) }
+    ensures alike { IfOk result (λ e. IfEqual e (λ _. AreAlike first.now second.now)) }
+    ensures differ { IfOk result (λ e. IfDiffer e (IsFirstDifference first.now.net second.now.net)) }
+    ensures undecided { IfOk result (λ e. IfUndecided e (λ lines. IsSpent (miter_of first.now.net second.now.net) lines budget)) }
+    ensures kept { IfOk result (λ e. IfUndecided e (IsKept (miter_of first.now.net second.now.net))) }
+    ensures decides { 3 ^ variables first.now.net second.now.net ≤ budget → IfOk result IsDecided }
+    ensures interface { IfOk result (λ _. HaveSameInterface first.now second.now) }
+    ensures refused { IfErr result (λ e. e ≡ DifferentInterface → HaveSameInterface first.now second.now → ⊥) }
+{
+    if !same_interface(first, second) {
+        return Err(EquivError::DifferentInterface);
+    }
+    let cnf = miter(alloc, first, second)?;
+    Ok(compare(alloc, &first.net, &second.net, &cnf, budget)?)
+}

@@ -1,0 +1,31 @@
+//! Two circuits compared: do they do the same? Their miter, which `equiv_theory` defines, is written clause by
+//! clause and given to the solver of `cdcl_core`.
+//!
+//! The theorem is that of `equiv`: two circuits of one interface are equal only with a log that refutes their
+//! miter, which anybody can check, and then they do the same under every assignment; they differ only at bits
+//! of the sources under which a sink differs, and it is the first that does; and they are undecided only with a
+//! log that has spent the budget. `miter` is exactly the formula of the definition.
+//!
+//! ```text
+//! match equiv(alloc, &first, &second, 100000)? {
+//!     Equiv::Equal(log) => ..,           // refutes `miter(alloc, &first, &second)?`
+//!     Equiv::Differ { sink, at } => ..,  // sink 1 is the first output
+//!     Equiv::Undecided(log) => ..,
+//! }
+//! ```
+//!
+//! - `src/rows.rt`, `src/mitering.rt`: the clauses. `src/interface.rt`: what is asked of two circuits.
+//! - `src/values.rt`: where two nets differ. `src/comparing.rt`: the three answers.
+#![tactic(auto)]
+
+mod answer;
+mod comparing;
+mod interface;
+mod mitering;
+mod numbering;
+mod rows;
+mod values;
+
+pub use answer::{Equiv, EquivError};
+pub use comparing::equiv;
+pub use mitering::miter;

@@ -1,0 +1,81 @@
+//! The miter of two circuits, written clause by clause.
+ghost use Rattle.std.specs.Prelude.{◌≡◌, ◌+◌, ◌≤◌, ◌<◌, ◌∷◌, [], length, All, IfOk, OnOk};
+ghost use Rattle.net_theory.specs.Circuit.{IsProper};
+ghost use Rattle.equiv_theory.specs.Miter.{miter as miter_of, variables, some_row as some_row_of};
+ghost use Rattle.equiv_theory.specs.Difference.{AreComparable, HaveSameInterface};
+ghost use Rattle.clause_core.specs.Clauses.{IsWithin};
+ghost use Rattle.equiv_core.specs.Rows.{IsAdded};
+ghost use Rattle.equiv_core.specs.Limits.{AreSmall, IsSmall};
+
+use crate::numbering::Numbering;
+use crate::rows::{push_gates, push_sinks, some_row};
+use clause_core::ClauseList;
+use cnf_core::Cnf;
+use net_core::{Circuit, Net};
+use std::alloc::{AllocError, Global};
+
+/// The clauses of the miter of two nets.
+fn list_miter(alloc: Global, first: &Net, second: &Net) -> Result<ClauseList, AllocError>
+    requires comparable { AreComparable first.now second.now }
+    requires small { AreSmall first.now second.now }
+    ensures { IfOk result (λ list. list ≡ miter_of first.now second.now) }
+{
+    let sources = first.sources();
+    let before = first.gates().len() as u32;
+    let behind = second.gates().len() as u32;
+    let count = first.sinks().len() as u32;
+    let one = Numbering {
+        sources,
+        before: 0,
+        end: sources + 1 + before,
+    };
+    let others = second.sources();
+    let other = Numbering {
+        sources: others,
+        before,
+        end: others + 1 + behind,
+    };
+    let difference = sources + before + behind + 1;
+    let mut list = ClauseList::new(alloc, sources + before + behind + count)?;
+    push_gates(alloc, &mut list, one, sources + 1, first.gates())?;
+    push_gates(alloc, &mut list, other, others + 1, second.gates())?;
+    push_sinks(
+        alloc,
+        &mut list,
+        (one, other),
+        difference,
+        first.sinks(),
+        second.sinks(),
+    )?;
+    let row = some_row(alloc, difference, count)?;
+    list.push(alloc, &row)?;
+    Ok(list)
+}
+
+/// The miter of two nets.
+#[tactic(auto, using(crate::specs::MiteringLaws::few_clauses))]
+fn miter_nets(alloc: Global, first: &Net, second: &Net) -> Result<Cnf, AllocError>
+    requires comparable { AreComparable first.now second.now }
+    requires small { AreSmall first.now second.now }
+    ensures { IfOk result (λ cnf. cnf ≡ miter_of first.now second.now) }
+{
+    let list = list_miter(alloc, first, second)?;
+    list.into_cnf(alloc)
+}
+
+/// The miter of two proper circuits of one interface, each of fewer than 300,000,000 sources and sinks: a
+/// formula that some assignment satisfies exactly where some assignment of the sources gives some sink two
+/// different values (Brand, "Verification of large synthesized designs", 1993).
+///
+/// Its variables are the sources, the gates of the first and then of the second circuit, and one for each
+/// sink, each in order. It takes time linear in both.
+#[tactic(auto, using(equiv_theory::specs::CircuitLaws::comparable))]
+pub fn miter(alloc: Global, first: &Circuit, second: &Circuit) -> Result<Cnf, AllocError>
+    requires first { IsProper first.now }
+    requires second { IsProper second.now }
+    requires interface { HaveSameInterface first.now second.now }
+    requires small { IsSmall first.now.net }
+    ensures { IfOk result (λ cnf. cnf ≡ miter_of first.now.net second.now.net) }
+{
+    miter_nets(alloc, &first.net, &second.net)
+}

@@ -1,0 +1,165 @@
+//! The clauses of the miter, gate by gate and sink by sink.
+ghost use Rattle.std.specs.Prelude.{◌≡◌, ◌+◌, ◌≤◌, ◌<◌, ◌^◌, ◌-◌, [], ◌∷◌, length, map, All, OnOk, IfOk};
+ghost use Rattle.std.specs.List.{range_with_len};
+ghost use Rattle.clause_core.specs.declared.raw.Raw.TheVariants.{Var};
+ghost use Rattle.net_theory.specs.Net.{IsGateAt, IsSigBelow};
+ghost use Rattle.net_core.specs.Marks.{AreAt};
+ghost use Rattle.equiv_theory.specs.Miter.{gate_row, gate_rows, gates_rows, sink_row, sink_rows, sinks_rows, some_row as some_row_of};
+ghost use Rattle.equiv_core.specs.Rows.{numbered, HasRoom, IsAdded};
+
+use crate::numbering::Numbering;
+use clause_core::{ClauseList, Raw};
+use net_core::{Gate, Sig};
+use std::alloc::{AllocError, Global};
+
+/// Adds that a gate has its operator's value where its operands have these bits.
+#[tactic(auto, using(crate::specs::RowLaws::gate_within, crate::specs::RowLaws::added_one), unfolding(equiv_theory::specs::Miter::gate_row))]
+fn push_gate_row(
+    alloc: Global,
+    list: &mut ClauseList,
+    numbering: Numbering,
+    place: u32,
+    gate: &Gate,
+    a: bool,
+    b: bool,
+) -> Result<(), AllocError>
+    requires room { HasRoom numbering list.old.vars }
+    requires place { (1 ≤ place) × (place < numbering.end) }
+    requires gate { IsGateAt place gate.now }
+    ensures { OnOk result (IsAdded list.old list.new (gate_row (numbered numbering) place gate.now a b ∷ [])) }
+{
+    let first = numbering.signal_is(gate.a, !a);
+    let second = numbering.signal_is(gate.b, !b);
+    let value = Raw::Var(numbering.variable(place), gate.op.apply(a, b));
+    list.push(alloc, &[first, second, value])
+}
+
+/// Adds that a gate has its operator's value.
+#[tactic(auto, using(crate::specs::RowLaws::gate_added))]
+fn push_gate(
+    alloc: Global,
+    list: &mut ClauseList,
+    numbering: Numbering,
+    place: u32,
+    gate: &Gate,
+) -> Result<(), AllocError>
+    requires room { HasRoom numbering list.old.vars }
+    requires place { (1 ≤ place) × (place < numbering.end) }
+    requires gate { IsGateAt place gate.now }
+    ensures { OnOk result (IsAdded list.old list.new (gate_rows (numbered numbering) place gate.now)) }
+{
+    push_gate_row(alloc, list, numbering, place, gate, false, false)?;
+    push_gate_row(alloc, list, numbering, place, gate, false, true)?;
+    push_gate_row(alloc, list, numbering, place, gate, true, false)?;
+    push_gate_row(alloc, list, numbering, place, gate, true, true)
+}
+
+/// Adds the clauses of gates, the first at this place.
+pub(crate) fn push_gates(
+    alloc: Global,
+    list: &mut ClauseList,
+    numbering: Numbering,
+    first: u32,
+    gates: &[Gate],
+) -> Result<(), AllocError>
+    requires room { HasRoom numbering list.old.vars }
+    requires place { (1 ≤ first) × (first + length gates.now ≤ numbering.end) }
+    requires gates { AreAt first gates.now }
+    ensures { OnOk result (IsAdded list.old list.new (gates_rows (numbered numbering) first gates.now)) }
+{
+    let mut place = first;
+    let mut left = gates;
+    while let Some((gate, rest)) = left.split_first() {
+        push_gate(alloc, list, numbering, place, gate)?;
+        place += 1;
+        left = rest;
+    }
+    Ok(())
+}
+
+/// Adds that where a sink's variable is true the two signals aren't both of the other bit.
+#[tactic(auto, using(crate::specs::RowLaws::added_one), unfolding(equiv_theory::specs::Miter::sink_row))]
+fn push_sink_row(
+    alloc: Global,
+    list: &mut ClauseList,
+    numberings: (Numbering, Numbering),
+    difference: u32,
+    signals: (Sig, Sig),
+    bit: bool,
+) -> Result<(), AllocError>
+    requires first { HasRoom numberings.0 list.old.vars }
+    requires second { HasRoom numberings.1 list.old.vars }
+    requires difference { (1 ≤ difference) × (difference ≤ list.old.vars) }
+    requires signal { IsSigBelow numberings.0.end signals.0 }
+    requires other { IsSigBelow numberings.1.end signals.1 }
+    ensures { OnOk result (IsAdded list.old list.new (sink_row (numbered numberings.0) (numbered numberings.1) difference signals.0 signals.1 bit ∷ [])) }
+{
+    let told = Raw::Var(difference, false);
+    let first = numberings.0.signal_is(signals.0, bit);
+    let second = numberings.1.signal_is(signals.1, bit);
+    list.push(alloc, &[told, first, second])
+}
+
+/// Adds that where a sink's variable is true the two signals differ.
+#[tactic(auto, using(crate::specs::RowLaws::sink_added))]
+fn push_sink(
+    alloc: Global,
+    list: &mut ClauseList,
+    numberings: (Numbering, Numbering),
+    difference: u32,
+    signals: (Sig, Sig),
+) -> Result<(), AllocError>
+    requires first { HasRoom numberings.0 list.old.vars }
+    requires second { HasRoom numberings.1 list.old.vars }
+    requires difference { (1 ≤ difference) × (difference ≤ list.old.vars) }
+    requires signal { IsSigBelow numberings.0.end signals.0 }
+    requires other { IsSigBelow numberings.1.end signals.1 }
+    ensures { OnOk result (IsAdded list.old list.new (sink_rows (numbered numberings.0) (numbered numberings.1) difference signals.0 signals.1)) }
+{
+    push_sink_row(alloc, list, numberings, difference, signals, false)?;
+    push_sink_row(alloc, list, numberings, difference, signals, true)
+}
+
+/// Adds the clauses of sinks, of which the first has this variable.
+pub(crate) fn push_sinks(
+    alloc: Global,
+    list: &mut ClauseList,
+    numberings: (Numbering, Numbering),
+    first: u32,
+    sinks: &[Sig],
+    others: &[Sig],
+) -> Result<(), AllocError>
+    requires first { HasRoom numberings.0 list.old.vars }
+    requires second { HasRoom numberings.1 list.old.vars }
+    requires difference { (1 ≤ first) × (first + length sinks.now ≤ list.old.vars + 1) }
+    requires signals { All (IsSigBelow numberings.0.end) sinks.now }
+    requires others { All (IsSigBelow numberings.1.end) others.now }
+    ensures { OnOk result (IsAdded list.old list.new (sinks_rows (numbered numberings.0) (numbered numberings.1) first sinks.now others.now)) }
+{
+    let mut difference = first;
+    let mut left = sinks;
+    let mut right = others;
+    while let Some((signal, signals)) = left.split_first() {
+        let Some((other, behind)) = right.split_first() else {
+            return Ok(());
+        };
+        push_sink(alloc, list, numberings, difference, (*signal, *other))?;
+        difference += 1;
+        left = signals;
+        right = behind;
+    }
+    Ok(())
+}
+
+/// That some sink differs, among so many, of which the first has this variable.
+#[tactic(auto, using(clause_core::specs::RangeLaws::loops), unfolding(equiv_theory::specs::Miter::some_row))]
+pub(crate) fn some_row(alloc: Global, difference: u32, count: u32) -> Result<Vec<Raw>, AllocError>
+    requires { difference + count < 2 ^ 32 }
+    ensures { IfOk result (λ row. row.items ≡ some_row_of difference count) }
+{
+    let mut row = Vec::new(alloc);
+    for variable in difference..difference + count {
+        row.push(Raw::Var(variable, true))?;
+    }
+    Ok(row)
+}
