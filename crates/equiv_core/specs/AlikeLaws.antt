@@ -1,5 +1,4 @@
 -- Circuits of which the miter was refuted do the same.
-use Rattle.sat_theory.specs.Line as theory
 use Rattle.sat_theory.specs.Log.{Refutes}
 use Rattle.sat_theory.specs.Soundness.{no_assignment}
 use Rattle.lrat_text.specs.Values.{line_values}

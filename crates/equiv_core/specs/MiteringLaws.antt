@@ -1,12 +1,11 @@
 -- The four parts of a miter, one added after the other.
-use Rattle.std.proofs.Common.{◌≡◌, ℕ, suc, ◌+◌, ◌≤◌, ◌<◌, Bool, List, [], ◌∷◌, ◌++◌, All, length, refl, sym, ap, ◌∙◌, subst, arith, append-nil}
+use Rattle.std.proofs.Common.{◌≡◌, ℕ, ◌+◌, ◌≤◌, ◌<◌, List, [], ◌∷◌, ◌++◌, All, length, refl, ap, ◌∙◌, arith}
 use Rattle.std.specs.List.{flat_map}
 use Rattle.sat_theory.specs.Formula.{Formula}
 use Rattle.clause_core.specs.declared.raw.Raw.{Raw}
 use Rattle.clause_core.specs.Clauses.{written, IsWithin}
 use Rattle.net_theory.specs.Net.{Net}
 use Rattle.equiv_theory.specs.Miter.{first_variable, second_variable, first_difference, variables, gates_rows, sinks_rows, some_row, miter_rows, miter}
-use Rattle.equiv_theory.specs.Difference.{AreComparable}
 use Rattle.equiv_theory.specs.FormulaLaws.{some_row_of, miter_few}
 use Rattle.equiv_core.specs.Rows.{IsAdded}
 use Rattle.equiv_core.specs.RowLaws.{added_both, row_within}

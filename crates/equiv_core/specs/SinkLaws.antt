@@ -1,5 +1,5 @@
 -- Values of sinks, computed.
-use Rattle.std.proofs.Common.{◌≡◌, ◌≢◌, ℕ, suc, ◌+◌, ◌-◌, ◌≤◌, ◌<◌, Bool, true, false, List, [], ◌∷◌, ◌++◌, All, length, map, append_assoc, refl, sym, ap, ◌∙◌, subst, arith, ⊎_elim}
+use Rattle.std.proofs.Common.{◌≡◌, ◌≢◌, ℕ, ◌+◌, ◌-◌, ◌≤◌, ◌<◌, Bool, false, List, [], ◌∷◌, ◌++◌, All, length, map, append_assoc, refl, sym, ap, ◌∙◌, subst, arith, ⊎_elim}
 use Rattle.std.specs.Prelude.{slice_index_or, take, Option, None, Some, IfNone}
 use Rattle.std.proofs.lemmas.Bool.{cases_eq, ne_eqb}
 use Rattle.std.proofs.lemmas.List.{get_or-take, length-map}
@@ -8,7 +8,7 @@ use Rattle.sat_theory.specs.Formula.{bits_of, Satisfies}
 use Rattle.net_theory.specs.declared.data.Sig.{Sig}
 use Rattle.net_theory.specs.declared.data.Sig.TheVariants.{Zero, One, Place}
 use Rattle.net_theory.specs.Net.{Net, IsNet, IsSigBelow, sig_value, value, bit_of, end_of, sink_values}
-use Rattle.net_theory.specs.ValueLaws.{values_after-same, sig_value-same}
+use Rattle.net_theory.specs.ValueLaws.{values_after-same}
 use Rattle.equiv_theory.specs.Miter.{miter, variables}
 use Rattle.equiv_theory.specs.Difference.{sink_bit, AreComparable, DifferAt, DifferFirstAt}
 use Rattle.equiv_theory.specs.MiterLaws.{satisfied_differ}

@@ -1,6 +1,5 @@
-use Rattle.std.proofs.Common.{◌≡◌, ℕ, ◌+◌, ◌∙◌, [], ◌∷◌, List, length, ap, arith, sym}
+use Rattle.std.proofs.Common.{◌+◌, ◌∙◌, length, ap, arith}
 use Rattle.sat_theory.specs.Formula.{Formula}
-use Rattle.equiv_theory.specs.Miter.{some_row, first_difference, variables}
 use Rattle.equiv_core.specs.RowLaws.{added_one}
 use Rattle.equiv_core.specs.MiteringLaws.{some_within, miter_added}
 use Rattle.equiv_core.proofs.mitering.list_miter.Goals as goal

@@ -1,4 +1,4 @@
-use Rattle.std.proofs.Common.{◌≡◌, ◌+◌, ◌≤◌, length}
+use Rattle.std.proofs.Common.{◌+◌, ◌≤◌, length}
 use Rattle.sat_theory.specs.Formula.{Formula}
 use Rattle.net_core.specs.Marks.{AreAt}
 use Rattle.equiv_theory.specs.Miter.{gates_rows}
