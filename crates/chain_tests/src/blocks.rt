@@ -30,10 +30,10 @@ const SEVENTEEN_STEPS: &[u8] = b"chain 17\n\
     out x19\n";
 
 #[test]
-fn values_follow_the_steps(rt: HostRuntime) -> Result<(), Fail> {
+fn a_full_adder_adds(rt: HostRuntime) -> Result<(), Fail> {
     let (adder, used) = read_chain(rt.alloc(), FULL_ADDER, 1, 3, 2)?;
     assert_eq!(rt; used, FULL_ADDER.len());
-    assert!(rt; adder.steps().len() == 5);
+    assert!(rt; adder.n() == 3 && adder.steps().len() == 5);
     for row in 0..8u32 {
         let ones = row.count_ones();
         assert_eq!(rt; out_value(&adder, row, 1), ones % 2 == 1, "sum of {row}");
@@ -41,6 +41,11 @@ fn values_follow_the_steps(rt: HostRuntime) -> Result<(), Fail> {
         assert_eq!(rt; value(&adder, row, 1), row >= 4, "x1 on {row}");
         assert_eq!(rt; value(&adder, row, 3), row % 2 == 1, "x3 on {row}");
     }
+    Ok(())
+}
+
+#[test]
+fn values_follow_the_steps(rt: HostRuntime) -> Result<(), Fail> {
     let (mixed, _) = read_chain(rt.alloc(), MIXED, 1, 1, 4)?;
     assert!(rt; mixed.steps().len() == 2);
     for (row, h, bit) in [
@@ -64,8 +69,6 @@ fn values_follow_the_steps(rt: HostRuntime) -> Result<(), Fail> {
             })
     );
     assert!(rt; mixed.outs()[0] == Out::One);
-    let empty = Chain::new(0, Vec::new(rt.alloc()), Vec::new(rt.alloc()));
-    assert_eq!(rt; empty.n(), 0);
     Ok(())
 }
 

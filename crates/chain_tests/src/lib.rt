@@ -1,18 +1,8 @@
-//! Tests of the crates of chains, tables, bounds, texts and ports: worked examples of what their definitions
-//! mean, refusals with their lines, and calls that take memory.
+//! Tests of `chain_theory` and `chain_core`: worked examples of what the definitions mean, and chain blocks read,
+//! refused and written.
 #![tactic(auto)]
 
 #[cfg(test)]
 mod blocks;
 #[cfg(test)]
-mod bounds;
-#[cfg(test)]
-mod operators;
-#[cfg(test)]
 mod plain;
-#[cfg(test)]
-mod ports;
-#[cfg(test)]
-mod tables;
-#[cfg(test)]
-mod texts;

@@ -1,8 +1,8 @@
 //! The solver: formulas against all assignments, formulas in steps of difficulty, and each log fed to the checker.
-use crate::building::{clause, formula, next_random, push_within};
 use cdcl_core::{Solved, solve};
 use cnf_core::{Assign, Cnf, satisfied};
 use lrat_check::Checker;
+use lrat_tests::building::{clause, formula, next_random, push_within};
 use lrat_text::{Log, read_line, write_line};
 use std::alloc::{AllocError, Global};
 use std::test::Fail;

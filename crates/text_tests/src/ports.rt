@@ -16,6 +16,35 @@ fn bytes_of(alloc: Global, length: usize) -> Result<Vec<u8>, AllocError> {
     Ok(bytes)
 }
 
+/// Whether a source of so many bytes that fails at one call is read with this error, or whole, and with so many
+/// faults.
+fn is_read(
+    alloc: Global,
+    length: usize,
+    failing: u64,
+    limit: usize,
+    error: Option<ReadError>,
+    faults: u64,
+) -> Result<bool, AllocError> {
+    let bytes = bytes_of(alloc, length)?;
+    let mut source = MemorySource::new(bytes.clone()?, vec![in alloc; failing]?);
+    let read = read_all(alloc, &mut source, limit);
+    if source.faults() != faults {
+        return Ok(false);
+    }
+    match read {
+        Ok(all) => Ok(error.is_none() && all.as_slice() == bytes.as_slice()),
+        Err(told) => Ok(error == Some(told)),
+    }
+}
+
+/// Whether a source that never fails is read to its end, where the limit allows it, and has no fault.
+fn is_read_steadily(alloc: Global, length: usize, limit: usize) -> Result<bool, AllocError> {
+    let mut steady = SteadySource::new(bytes_of(alloc, length)?);
+    let read = read_all(alloc, &mut steady, limit).is_ok();
+    Ok(read == (length <= limit) && steady.faults() == 0)
+}
+
 #[test]
 fn reads_memory(rt: HostRuntime) -> Result<(), Fail> {
     let cases = [
@@ -31,23 +60,23 @@ fn reads_memory(rt: HostRuntime) -> Result<(), Fail> {
         (5000, 2, 5000, Some(ReadError::ReadFault), 1),
     ];
     for (length, failing, limit, error, faults) in cases {
-        let bytes = bytes_of(rt.alloc(), length)?;
-        let mut source = MemorySource::new(bytes.clone()?, [failing].to_vec(rt.alloc())?);
-        let result = read_all(rt.alloc(), &mut source, limit);
-        assert_eq!(rt; source.faults(), faults, "{length} {failing} {limit}");
-        match result {
-            Ok(all) => {
-                assert_eq!(rt; error, None, "{length} {failing} {limit}");
-                assert_eq!(rt; all.as_slice(), bytes.as_slice());
-            }
-            Err(other) => assert_eq!(rt; Some(other), error, "{length} {failing} {limit}"),
-        }
-        let mut steady = SteadySource::new(bytes);
-        let read = read_all(rt.alloc(), &mut steady, limit).is_ok();
-        assert_eq!(rt; read, length <= limit, "{length} {limit}");
-        assert_eq!(rt; steady.faults(), 0);
+        let right = is_read(rt.alloc(), length, failing, limit, error, faults)?;
+        assert!(rt; right, "{length} {failing} {limit}");
+        assert!(rt;
+            is_read_steadily(rt.alloc(), length, limit)?,
+            "{length} {limit}"
+        );
     }
     Ok(())
+}
+
+/// Whether a sink that fails at one call has this text after two calls, and so many faults.
+fn is_written(alloc: Global, failing: u64, text: &str, faults: u64) -> Result<bool, AllocError> {
+    let mut sink = MemorySink::new(alloc, vec![in alloc; failing]?);
+    let first = write_all(&mut sink, b"abc");
+    let second = write_all(&mut sink, b"def");
+    let failed = first.is_err() == (failing == 1) && second.is_err() == (failing == 2);
+    Ok(failed && sink.written() == text.as_bytes() && sink.faults() == faults)
 }
 
 #[test]
@@ -60,13 +89,10 @@ fn writes_memory(rt: HostRuntime) -> Result<(), Fail> {
         (3, "abcdef", 0),
     ];
     for (failing, text, faults) in cases {
-        let mut sink = MemorySink::new(rt.alloc(), [failing].to_vec(rt.alloc())?);
-        let first = write_all(&mut sink, b"abc");
-        let second = write_all(&mut sink, b"def");
-        assert_eq!(rt; first.is_err(), failing == 1);
-        assert_eq!(rt; second.is_err(), failing == 2);
-        assert_eq!(rt; sink.written(), text.as_bytes(), "call {failing} fails");
-        assert_eq!(rt; sink.faults(), faults, "call {failing} fails");
+        assert!(rt;
+            is_written(rt.alloc(), failing, text, faults)?,
+            "call {failing} fails"
+        );
     }
     Ok(())
 }

@@ -4,7 +4,7 @@ use lrat_text::{Line, read_line};
 use std::alloc::{AllocError, Global};
 
 /// The clause of an addition that a text spells; the empty one where it spells none.
-pub(crate) fn clause(alloc: Global, text: &[u8]) -> Clause {
+pub fn clause(alloc: Global, text: &[u8]) -> Clause {
     match read_line(alloc, text) {
         Ok(Line::Add { lits, .. }) => Clause::new(lits),
         _ => Clause::new(Vec::new(alloc)),
@@ -12,7 +12,7 @@ pub(crate) fn clause(alloc: Global, text: &[u8]) -> Clause {
 }
 
 /// Adds a clause whose variables are the formula's.
-pub(crate) fn push_within(cnf: &mut Cnf, clause: Clause) -> Result<(), AllocError> {
+pub fn push_within(cnf: &mut Cnf, clause: Clause) -> Result<(), AllocError> {
     if clause.is_within(cnf.vars()) && cnf.clauses().len() < 9999 {
         cnf.push(clause)?;
     }
@@ -20,7 +20,7 @@ pub(crate) fn push_within(cnf: &mut Cnf, clause: Clause) -> Result<(), AllocErro
 }
 
 /// The formula of some clauses over the variables 1 to `vars`.
-pub(crate) fn formula(alloc: Global, vars: u32, clauses: &[&[u8]]) -> Result<Cnf, AllocError> {
+pub fn formula(alloc: Global, vars: u32, clauses: &[&[u8]]) -> Result<Cnf, AllocError> {
     let mut cnf = Cnf::new(alloc, vars.min(99));
     for text in clauses {
         push_within(&mut cnf, clause(alloc, text))?;
@@ -29,7 +29,7 @@ pub(crate) fn formula(alloc: Global, vars: u32, clauses: &[&[u8]]) -> Result<Cnf
 }
 
 /// The next of a row of numbers that look random.
-pub(crate) fn next_random(seed: u64) -> u64 {
+pub fn next_random(seed: u64) -> u64 {
     seed.wrapping_mul(6364136223846793005)
         .wrapping_add(1442695040888963407)
 }

@@ -1,6 +1,5 @@
 //! How many steps tables ask for at least.
 use bound_core::lower_bound;
-use std::test::Fail;
 use tt_core::read_tables;
 
 /// The exclusive or of six inputs.

@@ -28,13 +28,19 @@ fn contradiction(alloc: Global) -> Result<PlainState, AllocError> {
     Ok(state)
 }
 
-#[test]
-fn assignments_satisfy(rt: HostRuntime) -> Result<(), Fail> {
-    let alloc = rt.alloc();
+/// 1 or 2, and 2 unless 1.
+fn two_clauses(alloc: Global) -> Result<Vec<PlainClause>, AllocError> {
     let mut clauses = Vec::new(alloc);
     for lits in [[1, 2], [-1, 2]] {
         clauses.push(PlainClause::new(1, vector(alloc, &lits)?))?;
     }
+    Ok(clauses)
+}
+
+#[test]
+fn assignments_satisfy(rt: HostRuntime) -> Result<(), Fail> {
+    let alloc = rt.alloc();
+    let mut clauses = two_clauses(alloc)?;
     for (bits, yes) in [
         ([false, false], false),
         ([false, true], true),
@@ -50,9 +56,9 @@ fn assignments_satisfy(rt: HostRuntime) -> Result<(), Fail> {
 }
 
 #[test]
-fn lines_hold(rt: HostRuntime) -> Result<(), Fail> {
+fn additions_hold(rt: HostRuntime) -> Result<(), Fail> {
     let alloc = rt.alloc();
-    let mut state = contradiction(alloc)?;
+    let state = contradiction(alloc)?;
     for (id, lit, hints, yes) in [
         (5, 2, &[1u32, 2] as &[u32], true),
         (5, 2, &[2u32, 1], true),
@@ -71,6 +77,12 @@ fn lines_hold(rt: HostRuntime) -> Result<(), Fail> {
             "{id} {lit} {hints:?}"
         );
     }
+    Ok(())
+}
+
+#[test]
+fn deletions_hold(rt: HostRuntime) -> Result<(), Fail> {
+    let state = contradiction(rt.alloc())?;
     for (ids, yes) in [
         (&[7u32] as &[u32], false),
         (&[1u32, 1], false),
@@ -79,12 +91,27 @@ fn lines_hold(rt: HostRuntime) -> Result<(), Fail> {
     ] {
         assert_eq!(rt; state.deletion_holds(ids), yes, "{ids:?}");
     }
+    Ok(())
+}
+
+/// Whether the empty clause holds as line 6 by these hints.
+fn is_empty_clause_shown(
+    alloc: Global,
+    state: &PlainState,
+    hints: &[u32],
+) -> Result<bool, AllocError> {
+    state.addition_holds(alloc, 6, &[], hints)
+}
+
+#[test]
+fn clauses_come_and_go(rt: HostRuntime) -> Result<(), Fail> {
+    let alloc = rt.alloc();
+    let mut state = contradiction(alloc)?;
     state.add(5, vector(alloc, &[2])?)?;
-    assert!(rt; state.addition_holds(alloc, 6, &[], &[5, 3, 4])?);
-    assert!(rt; !state.addition_holds(alloc, 6, &[], &[3, 4])?);
+    assert!(rt; is_empty_clause_shown(alloc, &state, &[5, 3, 4])?);
+    assert!(rt; !is_empty_clause_shown(alloc, &state, &[3, 4])?);
     state.remove(&[1, 5]);
-    assert!(rt; !state.addition_holds(alloc, 6, &[], &[5, 3, 4])?);
-    assert!(rt; !state.addition_holds(alloc, 6, &[2], &[1, 2])?);
+    assert!(rt; !is_empty_clause_shown(alloc, &state, &[5, 3, 4])?);
     assert!(rt; !state.deletion_holds(&[1]));
     Ok(())
 }

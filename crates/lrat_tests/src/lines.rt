@@ -1,6 +1,21 @@
 //! Lines of logs as texts: what is read and written, and which fault is told.
 use lrat_text::{Line, LineError, read_line, write_line};
+use std::alloc::{AllocError, Global};
 use std::test::Fail;
+
+/// Whether a line, whose text ends with a LF, is read, and is written behind what stood there.
+fn is_written_again(alloc: Global, text: &[u8]) -> Result<bool, AllocError> {
+    let Some((_, body)) = text.split_last() else {
+        return Ok(false);
+    };
+    let Ok(line) = read_line(alloc, body) else {
+        return Ok(false);
+    };
+    let mut out = vec![in alloc; b'x']?;
+    write_line(&line, &mut out)?;
+    let (_, written) = out.split_at(1);
+    Ok(written == text)
+}
 
 #[test]
 fn lines_are_read_and_written(rt: HostRuntime) -> Result<(), Fail> {
@@ -15,14 +30,14 @@ fn lines_are_read_and_written(rt: HostRuntime) -> Result<(), Fail> {
         b"4294967295 -2147483647 2147483646 0 1 4294967295 0\n",
         b"1 d 4294967295 0\n",
     ] {
-        let line = read_line(alloc, &text[..text.len() - 1])?;
-        let mut out = vec![in alloc; b'x']?;
-        write_line(&line, &mut out)?;
-        assert!(rt;
-            out.len() == text.len() + 1 && out.ends_with(text),
-            "{text:?}"
-        );
+        assert!(rt; is_written_again(alloc, text)?, "{text:?}");
     }
+    Ok(())
+}
+
+#[test]
+fn an_addition_has_its_parts(rt: HostRuntime) -> Result<(), Fail> {
+    let alloc = rt.alloc();
     let Line::Add { id, lits, hints } = read_line(alloc, b"7 -3 12 0 4 1 0")? else {
         return Ok(());
     };
@@ -83,6 +98,21 @@ fn faults_are_told_from_the_left(rt: HostRuntime) {
     }
 }
 
+/// Whether a clause of the variables 1 to `greatest`, with one literal more, is read; none where its text is refused
+/// for another fault than a variable that stands twice.
+fn is_read_with(alloc: Global, greatest: i32, last: i32) -> Result<Option<bool>, AllocError> {
+    let mut text = format!(in alloc; "9")?;
+    for variable in 1..=greatest {
+        text.push_str(format!(in alloc; " {variable}")?.as_str())?;
+    }
+    text.push_str(format!(in alloc; " {last} 0 1 0")?.as_str())?;
+    match read_line(alloc, text.as_bytes()) {
+        Ok(_line) => Ok(Some(true)),
+        Err(LineError::RepeatedVariable) => Ok(Some(false)),
+        Err(_) => Ok(None),
+    }
+}
+
 #[test]
 fn long_clauses_repeat_no_variable(rt: HostRuntime) -> Result<(), Fail> {
     let alloc = rt.alloc();
@@ -97,18 +127,8 @@ fn long_clauses_repeat_no_variable(rt: HostRuntime) -> Result<(), Fail> {
         (32, 33, false),
         (33, 34, false),
     ] {
-        let mut text = format!(in alloc; "9")?;
-        for variable in 1..=greatest {
-            text.push_str(format!(in alloc; " {variable}")?.as_str())?;
-        }
-        text.push_str(format!(in alloc; " {last} 0 1 0")?.as_str())?;
-        match read_line(alloc, text.as_bytes()) {
-            Ok(_line) => assert!(rt; !repeated, "{greatest} {last}"),
-            Err(told) => assert!(rt;
-                repeated && told == LineError::RepeatedVariable,
-                "{greatest} {last}"
-            ),
-        }
+        let read = is_read_with(alloc, greatest, last)?;
+        assert!(rt; read == Some(!repeated), "{greatest} {last}");
     }
     Ok(())
 }

@@ -1,0 +1,11 @@
+//! Tests of `sat_theory`, `lrat_text` and `lrat_check`: lines of logs as texts, and the checker against the program
+//! that follows the definitions. Formulas for tests are made in `building`.
+#![tactic(auto)]
+
+pub mod building;
+#[cfg(test)]
+mod checking;
+#[cfg(test)]
+mod lines;
+#[cfg(test)]
+mod plain;
