@@ -1,0 +1,10 @@
+pub use Rattle.net_theory.specs.Document
+pub use Rattle.net_theory.specs.WellFormed
+pub use Rattle.net_theory.specs.Circuit
+pub use Rattle.net_document.specs.Listed
+pub use Rattle.net_document.specs.Format
+pub use Rattle.bench_text.specs.Statements
+pub use Rattle.blif_core.specs.Written
+pub mod Gates
+pub mod Spelling
+pub mod Bench

@@ -1,0 +1,23 @@
+//! BENCH netlists (the ISCAS benchmark files) read and written. `read_bench` answers the circuit of a text
+//! exactly where the text lists a well-formed document, and else the first fault; `write_bench` appends
+//! the text of a circuit, as whose document the tables stand that BLIF would have, each as a gate of the
+//! same function. What a text means is said in `net_theory` and `bench_text`.
+//!
+//! The one theorem: the circuit that is read does what its text's document does, under every assignment
+//! of inputs and latches, with as many gates as the document costs.
+//!
+//! ```text
+//! let circuit = read_bench(alloc, b"INPUT(a)\nINPUT(b)\nOUTPUT(y)\ny = NAND(a, b)\n")?;
+//! write_bench(&circuit, &mut out)?;
+//! ```
+#![tactic(auto)]
+
+mod gates;
+mod reading;
+mod spelling;
+mod writing;
+
+pub use net_core::{Circuit, NetError};
+pub use reading::read_bench;
+pub use spelling::write_document;
+pub use writing::{first_source, write_bench};

@@ -1,0 +1,49 @@
+//! The one writer: the document as which BLIF would write a circuit, spelled as gates in a text of its own
+//! and appended at once, so that nothing is appended where memory is wanting.
+
+ghost use Rattle.std.specs.Prelude.{◌≡◌, ◌++◌, OnOk, OnErr};
+ghost use Rattle.net_theory.specs.Circuit.{IsProper};
+ghost use Rattle.net_core.specs.Names.{HasRoom};
+ghost use Rattle.bench_core.specs.Gates.{first_source as first_source_of};
+ghost use Rattle.bench_core.specs.Spelling.{circuit_text};
+
+use crate::spelling::write_document;
+use blif_core::document_of;
+use net_core::Circuit;
+use std::alloc::AllocError;
+
+/// The name of the first source: an input, or the output of a latch where there is no input. It is empty
+/// where there is neither.
+#[tactic(auto, using(crate::proofs::Firsts::firsts))]
+pub fn first_source(circuit: &Circuit) -> &[u8]
+    ensures { result.now ≡ first_source_of circuit.now }
+{
+    if let Some((name, _)) = circuit.inputs.split_first() {
+        return name.get();
+    }
+    match circuit.latches.split_first() {
+        Some((latch, _)) => latch.output.get(),
+        None => &[],
+    }
+}
+
+/// Appends the BENCH text of a circuit: the inputs, the outputs, the latches, the gates in the order of
+/// their places under the names that `gate_names` tells, the constants that latches need, and the outputs
+/// whose names weren't written.
+///
+/// The text has no model, no clocks, and no controls and first values of latches. A gate that reads two
+/// different places has a key where its operator is AND, OR, XOR or the complement of one, and is written
+/// as XNOR else. A constant is made of the first source.
+#[tactic(auto, using(crate::proofs::Small::smalls))]
+pub fn write_bench(circuit: &Circuit, out: &mut Vec<u8>) -> Result<(), AllocError>
+    requires { IsProper circuit.now }
+    ensures ok { OnOk result (out.new.items ≡ out.old.items ++ circuit_text circuit.now) }
+    ensures room { OnOk result (HasRoom circuit.now) }
+    ensures err { OnErr result (out.new.items ≡ out.old.items) }
+{
+    let alloc = *out.allocator();
+    let document = document_of(alloc, circuit)?;
+    let mut text = Vec::new(alloc);
+    write_document(&mut text, first_source(circuit), &document)?;
+    out.extend_from_slice(&text)
+}

@@ -1,0 +1,9 @@
+-- What a walk over a line answers.
+use Rattle.std.specs.Prelude.{ℕ, List, [], ◌∷◌, Option, Some, None}
+use Rattle.std.specs.Borrow.{Bor}
+use Rattle.bench_text.specs.Items.{items_of}
+
+-- the items of an answer
+abbrev pub items_in : Option (Bor (List ℕ) × Bor (List ℕ)) → List (List ℕ)
+items_in None = []
+items_in (Some x) = x.0.now ∷ items_of x.1.now

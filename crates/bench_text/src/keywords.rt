@@ -1,0 +1,122 @@
+//! Keys, which are read without regard to case.
+
+ghost use Rattle.std.specs.Prelude.{◌≡◌};
+ghost use Rattle.bench_text.specs.Statements.{gate_key, lower as lower_of, is_key as is_key_of, gate_key_of as gate_key_of_word, keyword_of as keyword_of_word};
+
+use net_core::Connective;
+
+/// The function of a gate: AND, OR or XOR of its operands, or the complement where `on` is false. A single
+/// one has one operand.
+#[derive(Clone, Copy, Debug, PartialEq, Eq)]
+pub struct GateKey {
+    pub connective: Connective,
+    pub on: bool,
+    pub is_single: bool,
+}
+
+/// What a word asks for at the place of a key.
+#[derive(Clone, Copy, Debug, PartialEq, Eq)]
+pub enum Keyword {
+    /// `INPUT`
+    Input,
+    /// `OUTPUT`
+    Output,
+    /// A gate.
+    Gate(GateKey),
+    /// `DFF`: a latch.
+    Dff,
+    /// `LUT`, which isn't supported.
+    Lut,
+    /// `vdd` or `gnd`, which aren't supported.
+    Constant,
+    /// Another word.
+    Unknown,
+}
+
+/// A capital letter as a small one.
+fn lower(byte: u8) -> u8
+    ensures { result ≡ lower_of byte }
+{
+    if byte >= b'A' && byte <= b'Z' {
+        byte + 32
+    } else {
+        byte
+    }
+}
+
+/// Whether a word is a key, which is given in small letters.
+#[tactic(auto, unfolding(crate::specs::Statements::is_key))]
+fn is_key(word: &[u8], key: &[u8]) -> bool
+    ensures { result ≡ is_key_of word.now key.now }
+{
+    let mut left = word;
+    let mut wanted = key;
+    while let Some((byte, rest)) = left.split_first() {
+        let Some((first, others)) = wanted.split_first() else {
+            return false;
+        };
+        if lower(*byte) != *first {
+            return false;
+        }
+        left = rest;
+        wanted = others;
+    }
+    wanted.is_empty()
+}
+
+/// A gate's key.
+fn gate(connective: Connective, on: bool, is_single: bool) -> Keyword
+    ensures { result ≡ gate_key connective on is_single }
+{
+    Keyword::Gate(GateKey {
+        connective,
+        on,
+        is_single,
+    })
+}
+
+/// What a word asks for as the key of a gate.
+#[tactic(auto, unfolding(crate::specs::Statements::gate_key_of))]
+fn gate_key_of(word: &[u8]) -> Keyword
+    ensures { result ≡ gate_key_of_word word.now }
+{
+    if is_key(word, b"and") {
+        gate(Connective::And, true, false)
+    } else if is_key(word, b"nand") {
+        gate(Connective::And, false, false)
+    } else if is_key(word, b"or") {
+        gate(Connective::Or, true, false)
+    } else if is_key(word, b"nor") {
+        gate(Connective::Or, false, false)
+    } else if is_key(word, b"xor") {
+        gate(Connective::Xor, true, false)
+    } else if is_key(word, b"xnor") {
+        gate(Connective::Xor, false, false)
+    } else if is_key(word, b"not") {
+        gate(Connective::And, false, true)
+    } else if is_key(word, b"buff") || is_key(word, b"buf") {
+        gate(Connective::And, true, true)
+    } else {
+        Keyword::Unknown
+    }
+}
+
+/// What a word asks for.
+#[tactic(auto, unfolding(crate::specs::Statements::keyword_of))]
+pub fn keyword_of(word: &[u8]) -> Keyword
+    ensures { result ≡ keyword_of_word word.now }
+{
+    if is_key(word, b"input") {
+        Keyword::Input
+    } else if is_key(word, b"output") {
+        Keyword::Output
+    } else if is_key(word, b"dff") {
+        Keyword::Dff
+    } else if is_key(word, b"lut") {
+        Keyword::Lut
+    } else if is_key(word, b"vdd") || is_key(word, b"gnd") {
+        Keyword::Constant
+    } else {
+        gate_key_of(word)
+    }
+}

@@ -1,0 +1,241 @@
+//! Lines, one function for each kind: what a line does to the document so far is the right side of its
+//! definition, and nothing is listed by a line that is refused.
+
+ghost use Rattle.std.specs.Prelude.{◌≡◌, ◌<◌, ◌≤◌, [], ◌∷◌, length};
+ghost use Rattle.blif_text.specs.Reading.{Gives};
+ghost use Rattle.bench_text.specs.Items.{items_of};
+ghost use Rattle.bench_text.specs.Statements.{is_counted as is_counted_of, gate_table, table_of as table_of_names, latch_of as latch_of_names};
+ghost use Rattle.bench_text.specs.Statements.{ported, driven, driven_by, keyword_of as keyword_of_word, stated, step};
+ghost use Rattle.bench_text.specs.declared.keywords.Keyword.TheVariants.{Input, Output, Gate, Dff};
+
+use crate::items::{has_long, is_item, is_mark_item, next_item};
+use crate::keywords::{GateKey, Keyword, keyword_of};
+use crate::operands::{alone, names_of, port_of};
+use net_core::Whole;
+use net_document::{Body, Latch, LatchLine, Listed, Name, NetError, Table, add_copies};
+use net_text::{content_of, is_long_line, is_name};
+use std::alloc::Global;
+
+/// `INPUT(a)`
+#[tactic(auto, unfolding(crate::specs::Statements::ported))]
+fn take_input(alloc: Global, line: u32, listed: &mut Listed, text: &[u8]) -> Result<(), NetError>
+    ensures { Gives (λ _. listed.new) result (ported line listed.old (items_of text.now) Input) }
+{
+    let name = port_of(alloc, line, text)?;
+    listed.driven.push(name.copied()?)?;
+    listed.document.inputs.push(name)?;
+    Ok(())
+}
+
+/// `OUTPUT(a)`
+#[tactic(auto, unfolding(crate::specs::Statements::ported))]
+fn take_output(alloc: Global, line: u32, listed: &mut Listed, text: &[u8]) -> Result<(), NetError>
+    ensures { Gives (λ _. listed.new) result (ported line listed.old (items_of text.now) Output) }
+{
+    let name = port_of(alloc, line, text)?;
+    listed.document.outputs.push(name)?;
+    Ok(())
+}
+
+/// A line that begins with a word and no `=` behind it.
+#[tactic(auto, unfolding(crate::specs::Statements::ported))]
+fn port(
+    alloc: Global,
+    line: u32,
+    listed: &mut Listed,
+    word: &[u8],
+    text: &[u8],
+) -> Result<(), NetError>
+    ensures { Gives (λ _. listed.new) result (ported line listed.old (items_of text.now) (keyword_of_word word.now)) }
+{
+    match keyword_of(word) {
+        Keyword::Input => take_input(alloc, line, listed, text),
+        Keyword::Output => take_output(alloc, line, listed, text),
+        _ => Err(NetError::Syntax(line)),
+    }
+}
+
+/// Whether a gate can have so many operands.
+fn is_counted(key: GateKey, inputs: &[Name]) -> bool
+    ensures { result ≡ is_counted_of key inputs.now }
+{
+    !key.is_single || inputs.len() == 1
+}
+
+/// The table of a gate.
+#[tactic(auto, unfolding(crate::specs::Statements::table_of))]
+fn table_of(
+    alloc: Global,
+    line: u32,
+    key: GateKey,
+    output: &[u8],
+    inputs: Vec<Name>,
+) -> Result<Table, NetError>
+    requires some { 0 < length inputs.items }
+    requires few { length inputs.items ≤ 256 }
+    ensures { Gives (λ t. t) result (table_of_names line key output.now inputs.items) }
+{
+    if !is_name(output) || !is_counted(key, &inputs) {
+        return Err(NetError::Syntax(line));
+    }
+    let whole = Whole {
+        connective: key.connective,
+        width: inputs.len() as u32,
+        on: key.on,
+    };
+    Ok(Table {
+        inputs,
+        output: Name::of(alloc, output)?,
+        body: Body::Joined(whole),
+    })
+}
+
+/// A gate.
+#[tactic(auto, unfolding(crate::specs::Statements::driven))]
+fn take_gate(
+    alloc: Global,
+    line: u32,
+    listed: &mut Listed,
+    output: &[u8],
+    key: GateKey,
+    word: &[u8],
+    text: &[u8],
+) -> Result<(), NetError>
+    ensures { Gives (λ _. listed.new) result (driven line listed.old output.now word.now (items_of text.now) (Gate key)) }
+{
+    let inputs = names_of(alloc, line, text)?;
+    let table = table_of(alloc, line, key, output, inputs)?;
+    listed.driven.push(table.output.copied()?)?;
+    add_copies(&mut listed.used, &table.inputs)?;
+    listed.document.tables.push(table)?;
+    Ok(())
+}
+
+/// The latch of `DFF(a)`.
+#[tactic(auto, unfolding(crate::specs::Statements::latch_of))]
+fn latch_of(
+    alloc: Global,
+    line: u32,
+    output: &[u8],
+    inputs: Vec<Name>,
+) -> Result<LatchLine, NetError>
+    ensures { Gives (λ l. l) result (latch_of_names line output.now inputs.items) }
+{
+    let input = alone(line, inputs)?;
+    if !is_name(output) {
+        return Err(NetError::Syntax(line));
+    }
+    Ok(LatchLine {
+        input,
+        latch: Latch {
+            output: Name::of(alloc, output)?,
+            control: None,
+            init: None,
+        },
+    })
+}
+
+/// `q = DFF(d)`
+#[tactic(auto, unfolding(crate::specs::Statements::driven))]
+fn take_latch(
+    alloc: Global,
+    line: u32,
+    listed: &mut Listed,
+    output: &[u8],
+    word: &[u8],
+    text: &[u8],
+) -> Result<(), NetError>
+    ensures { Gives (λ _. listed.new) result (driven line listed.old output.now word.now (items_of text.now) Dff) }
+{
+    let inputs = names_of(alloc, line, text)?;
+    let LatchLine { input, latch } = latch_of(alloc, line, output, inputs)?;
+    listed.driven.push(latch.output.copied()?)?;
+    listed.used.push(input.copied()?)?;
+    listed.document.latches.push(LatchLine { input, latch })?;
+    Ok(())
+}
+
+/// A line `output = word ..`.
+#[tactic(auto, unfolding(crate::specs::Statements::driven))]
+fn drive(
+    alloc: Global,
+    line: u32,
+    listed: &mut Listed,
+    output: &[u8],
+    word: &[u8],
+    text: &[u8],
+) -> Result<(), NetError>
+    ensures { Gives (λ _. listed.new) result (driven line listed.old output.now word.now (items_of text.now) (keyword_of_word word.now)) }
+{
+    match keyword_of(word) {
+        Keyword::Gate(key) => take_gate(alloc, line, listed, output, key, word, text),
+        Keyword::Dff => take_latch(alloc, line, listed, output, word, text),
+        Keyword::Lut => Err(NetError::NotSupported(line, Name::of(alloc, word)?)),
+        Keyword::Constant => {
+            if next_item(text).is_some() {
+                return Err(NetError::Syntax(line));
+            }
+            Err(NetError::NotSupported(line, Name::of(alloc, word)?))
+        }
+        _ => Err(NetError::Syntax(line)),
+    }
+}
+
+/// A line `output = ..`.
+#[tactic(auto, unfolding(crate::specs::Statements::driven_by))]
+fn drive_by(
+    alloc: Global,
+    line: u32,
+    listed: &mut Listed,
+    output: &[u8],
+    text: &[u8],
+) -> Result<(), NetError>
+    ensures { Gives (λ _. listed.new) result (driven_by line listed.old output.now (items_of text.now)) }
+{
+    let Some((word, rest)) = next_item(text) else {
+        return Err(NetError::Syntax(line));
+    };
+    drive(alloc, line, listed, output, word, rest)
+}
+
+/// A line, by its items.
+#[tactic(auto, unfolding(crate::specs::Statements::stated))]
+fn state(alloc: Global, line: u32, listed: &mut Listed, text: &[u8]) -> Result<(), NetError>
+    ensures { Gives (λ _. listed.new) result (stated line listed.old (items_of text.now)) }
+{
+    let Some((word, behind)) = next_item(text) else {
+        return Ok(());
+    };
+    let Some((mark, rest)) = next_item(behind) else {
+        return Err(NetError::Syntax(line));
+    };
+    if is_mark_item(word) {
+        return Err(NetError::Syntax(line));
+    }
+    if is_item(mark, b'=') {
+        drive_by(alloc, line, listed, word, rest)
+    } else {
+        port(alloc, line, listed, word, behind)
+    }
+}
+
+/// A line of the text, without its LF.
+#[tactic(auto, unfolding(crate::specs::Statements::step))]
+pub fn take_line(
+    alloc: Global,
+    line: u32,
+    listed: &mut Listed,
+    text: &[u8],
+    ended: bool,
+) -> Result<(), NetError>
+    ensures { Gives (λ _. listed.new) result (step line listed.old (record { text = text.now; ended = ended })) }
+{
+    if is_long_line(text.len()) {
+        return Err(NetError::LineTooLong(line));
+    }
+    let said = content_of(text, ended);
+    if has_long(said) {
+        return Err(NetError::NameTooLong(line));
+    }
+    state(alloc, line, listed, said)
+}

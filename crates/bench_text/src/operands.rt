@@ -1,0 +1,116 @@
+//! Operands in brackets.
+
+ghost use Rattle.std.specs.Prelude.{◌≡◌, ◌<◌, ◌≤◌, [], length, IfOk, IfSome};
+ghost use Rattle.std.specs.List.{list_all};
+ghost use Rattle.net_theory.specs.Document.{is_name as is_name_of};
+ghost use Rattle.blif_text.specs.Reading.{Gives};
+ghost use Rattle.bench_text.specs.Items.{items_of};
+ghost use Rattle.bench_text.specs.Statements.{operands_of as operands_of_items, operands_from, names_of as names_of_items, port_of as port_of_items, alone as alone_of};
+ghost use Rattle.std.specs.Option.{option_map};
+
+use crate::items::{is_item, is_mark_item, next_item};
+use net_document::{Name, NetError};
+use net_text::is_name;
+use std::alloc::{AllocError, Global};
+
+/// The words up to the closing bracket, which ends the text; None where they aren't parted by commas.
+#[tactic(auto, unfolding(crate::specs::Statements::operands_from))]
+fn closed_operands(alloc: Global, text: &[u8]) -> Result<Option<Vec<Name>>, AllocError>
+    ensures operands { IfOk result (λ found. option_map (λ names. names.items) found ≡ operands_from [] (items_of text.now)) }
+    ensures some { IfOk result (λ found. IfSome found (λ names. 0 < length names.items)) }
+{
+    let mut names = Vec::new(alloc);
+    let mut left = text;
+    while let Some((word, rest)) = next_item(left) {
+        let Some((mark, rest)) = next_item(rest) else {
+            return Ok(None);
+        };
+        if is_mark_item(word) {
+            return Ok(None);
+        }
+        names.push(Name::of(alloc, word)?)?;
+        if is_item(mark, b')') {
+            if next_item(rest).is_some() {
+                return Ok(None);
+            }
+            return Ok(Some(names));
+        }
+        if is_item(mark, b',') {
+            left = rest;
+            continue;
+        }
+        return Ok(None);
+    }
+    Ok(None)
+}
+
+/// The words in brackets.
+#[tactic(auto, unfolding(crate::specs::Statements::operands_of))]
+fn operands_of(alloc: Global, text: &[u8]) -> Result<Option<Vec<Name>>, AllocError>
+    ensures operands { IfOk result (λ found. option_map (λ names. names.items) found ≡ operands_of_items (items_of text.now)) }
+    ensures some { IfOk result (λ found. IfSome found (λ names. 0 < length names.items)) }
+{
+    let Some((mark, rest)) = next_item(text) else {
+        return Ok(None);
+    };
+    if !is_item(mark, b'(') {
+        return Ok(None);
+    }
+    closed_operands(alloc, rest)
+}
+
+/// Whether all are names.
+fn are_names(names: &[Name]) -> bool
+    ensures { result ≡ list_all is_name_of names.now }
+{
+    names.iter().all(|name| is_name(name.get()))
+}
+
+/// The names in brackets: at most 256.
+#[tactic(auto, unfolding(crate::specs::Statements::names_of))]
+pub fn names_of(alloc: Global, line: u32, text: &[u8]) -> Result<Vec<Name>, NetError>
+    ensures names { Gives (λ names. names.items) result (names_of_items line (items_of text.now)) }
+    ensures some { IfOk result (λ names. 0 < length names.items) }
+    ensures few { IfOk result (λ names. length names.items ≤ 256) }
+{
+    let Some(names) = operands_of(alloc, text)? else {
+        return Err(NetError::Syntax(line));
+    };
+    if names.len() > 256 {
+        return Err(NetError::TooWide(line));
+    }
+    if !are_names(&names) {
+        return Err(NetError::Syntax(line));
+    }
+    Ok(names)
+}
+
+/// The one name of a list.
+pub fn alone(line: u32, names: Vec<Name>) -> Result<Name, NetError>
+    ensures { Gives (λ n. n) result (alone_of line names.items) }
+{
+    let mut left = names;
+    let Some(name) = left.pop() else {
+        return Err(NetError::Syntax(line));
+    };
+    if left.is_empty() {
+        Ok(name)
+    } else {
+        Err(NetError::Syntax(line))
+    }
+}
+
+/// The one name in brackets.
+#[tactic(auto, unfolding(crate::specs::Statements::port_of))]
+pub fn port_of(alloc: Global, line: u32, text: &[u8]) -> Result<Name, NetError>
+    ensures { Gives (λ n. n) result (port_of_items line (items_of text.now)) }
+{
+    let Some(names) = operands_of(alloc, text)? else {
+        return Err(NetError::Syntax(line));
+    };
+    let name = alone(line, names)?;
+    if !is_name(name.get()) {
+        return Err(NetError::Syntax(line));
+    }
+    Ok(name)
+}
