@@ -1,0 +1,6 @@
+-- No chain of fewer steps agrees than the sizes so far.
+use Rattle.decide_core.specs.Decided.{Fewer}
+use Rattle.decide_core.proofs.deciding.search_from.Given as goal
+
+abbrev pub invariant-loop-size : goal.invariant-loop-size
+invariant-loop-size l = Fewer l.heading l.size

@@ -1,0 +1,43 @@
+-- What is known of chains of at most so many steps as a heading says.
+use Rattle.std.specs.Prelude.{◌≡◌, ℕ, ◌+◌}
+use Rattle.chain_theory.specs.Chain.{Chain}
+use Rattle.chain_theory.specs.Agreement.{NoneBelow}
+use Rattle.tt_core.specs.Words.{specification}
+use Rattle.op_basis.specs.Basis.{members}
+use Rattle.cert_theory.specs.declared.data.Heading.{Heading}
+use Rattle.cert_theory.specs.declared.data.Verdict.{Verdict}
+use Rattle.cert_theory.specs.declared.data.Verdict.TheVariants as verdicts
+use Rattle.cert_theory.specs.Bundle.{Bundle, IsValid, IsFound, HasOutput}
+use Rattle.size_loop.specs.Thrift.{AreThrifty}
+use Rattle.decide_core.specs.declared.deciding.Decided.{Decided}
+use Rattle.decide_core.specs.declared.deciding.Decided.TheVariants.{Shorter, Least, Open}
+
+-- no chain of fewer steps than this agrees, over the basis
+abbrev pub Fewer : Heading → ℕ → Type 0
+Fewer h size = NoneBelow (specification h.spec) (members h.basis) size
+
+-- no chain of at most so many steps does
+abbrev pub HasNone : Heading → Type 0
+HasNone h = Fewer h (h.max + 1)
+
+-- a chain that agrees, over the basis
+pub record IsShorter (h : Heading) (c : Chain) : Type 0 where
+  pub size : ℕ
+  pub found : IsFound h size c
+
+pub record IsOpenVerdict (v : Verdict) : Type 0 where
+  pub low : ℕ
+  pub verdict_is : v ≡ verdicts.Open low
+
+-- a valid certificate for the heading, which leaves a size open
+pub record IsLeftOpen (h : Heading) (b : Bundle) : Type 0 where
+  pub heading : b.heading ≡ h
+  pub valid : IsValid b
+  pub output : HasOutput b
+  pub thrifty : AreThrifty b.heading b.sections
+  pub verdict : IsOpenVerdict b.verdict
+
+abbrev pub IsDecided : Heading → Decided → Type 0
+IsDecided h (Shorter c low) = IsShorter h c × Fewer h low
+IsDecided h Least = HasNone h
+IsDecided h (Open b) = IsLeftOpen h b

@@ -1,0 +1,89 @@
+-- What counting, a size and a whole search say of chains.
+use Rattle.std.proofs.Common.{◌≡◌, ℕ, ◌+◌, ◌<◌, ◌≤◌, true, false, All, ap, List, [], ◌∷◌, length, Option, Some, None, refl, sym, subst, arith, ◌∙◌}
+use Rattle.std.proofs.lemmas.Grind.{common_steps}
+use Rattle.chain_theory.specs.Chain.{Step, Chain, IsChain}
+use Rattle.chain_theory.specs.Operator.{Basis}
+use Rattle.tt_core.specs.Words.{specification}
+use Rattle.op_basis.specs.Basis.{members}
+use Rattle.cert_theory.specs.declared.data.Heading.{Heading}
+use Rattle.cert_theory.specs.declared.data.Verdict.{Verdict}
+use Rattle.cert_theory.specs.declared.data.Verdict.TheVariants as verdicts
+use Rattle.cert_theory.specs.Bundle.{Section, Bundle, IsHeading, IsSection, AreSections, is_open, first_open, IsFound, IsEnding, IsValid}
+use Rattle.cert_theory.specs.Meaning.{Means}
+use Rattle.cert_laws.specs.CodingLaws.{method_is_coding}
+use Rattle.cert_laws.specs.Meanings.{all_refuted, verdict_true}
+use Rattle.size_loop.specs.Thrift.{AreThrifty}
+use Rattle.decide_core.specs.Decided.{Fewer, HasNone, IsShorter, IsOpenVerdict, IsLeftOpen}
+
+-- ---- sizes
+
+pub size_found : (h : Heading) (size : ℕ) (c : Chain) → IsFound h size c → IsShorter h c
+size_found h size c found = record { size = size; found = found }
+
+one_section : (h : Heading) (size : ℕ) (s : Section) → IsSection h size s → AreSections h size (s ∷ [])
+unfolding AreSections
+one_section h size s is = (is, tt)
+
+none_open : (s : Section) → is_open s ≡ false → first_open (s ∷ []) ≡ None
+none_open s e = rw e refl
+
+pub size_refuted : (h : Heading) (size : ℕ) (s : Section) → IsHeading h → size ≤ h.max → IsSection h size s → is_open s ≡ false → Fewer h size → Fewer h (size + 1)
+size_refuted h size s heading few is refuted fewer =
+    all_refuted h (s ∷ []) size heading (method_is_coding h.method) (one_section h size s is) (omega (arith, few)) (none_open s refuted) fewer
+
+pub fewer_none : (h : Heading) → Fewer h 0
+fewer_none h q low has = absurd (omega (arith, low))
+
+-- what counting says
+pub fewer_below : (h : Heading) (from : ℕ) → h.max < from → Fewer h from → HasNone h
+fewer_below h from high fewer q low has = fewer q (omega (arith, high, low)) has
+
+-- ---- whole searches
+
+same_heading : (h k : Heading) → k ≡ h → HasNone k → HasNone h
+same_heading h k same none = subst HasNone same none
+
+least_by : (h : Heading) (count : ℕ) (low : Option ℕ) (v : Verdict) → (IsOpenVerdict v → ⊥) → IsEnding h count low None v → v ≡ verdicts.NoChain h.max
+least_by h count None v closed ending = ending.1
+least_by h count (Some low) v closed ending = absurd (closed (record { low = low; verdict_is = ending.1 }))
+
+none_by : (h : Heading) (v : Verdict) → v ≡ verdicts.NoChain h.max → Means (specification h.spec) (members h.basis) v → HasNone h
+none_by h v e means q low has =
+    let none : Means (specification h.spec) (members h.basis) (verdicts.NoChain h.max) = subst (λ (x : Verdict). Means (specification h.spec) (members h.basis) x) e means in
+    none q (omega (arith, low)) has
+
+ending_of : (b : Bundle) (o : Option Chain) → b.chain ≡ o → IsValid b → IsEnding b.heading (length b.sections) (first_open b.sections) o b.verdict
+ending_of b o e valid = subst (λ (x : Option Chain). IsEnding b.heading (length b.sections) (first_open b.sections) x b.verdict) e valid.ending
+
+pub whole_none : (h : Heading) (b : Bundle) → b.heading ≡ h → IsValid b → (IsOpenVerdict b.verdict → ⊥) → b.chain ≡ None → HasNone h
+whole_none h b same valid closed none =
+    same_heading h b.heading same (none_by b.heading b.verdict (least_by b.heading (length b.sections) (first_open b.sections) b.verdict closed (ending_of b None none valid)) (verdict_true b valid))
+
+pub whole_found : (h : Heading) (b : Bundle) (c : Chain) → b.heading ≡ h → IsValid b → b.chain ≡ Some c → IsShorter h c
+whole_found h b c same valid has = record { size = length b.sections; found = subst (λ (k : Heading). IsFound k (length b.sections) c) same (ending_of b (Some c) has valid).0 }
+
+pub whole_open : (h : Heading) (b : Bundle) → b.heading ≡ h → 0 < length h.spec.on → IsValid b → AreThrifty b.heading b.sections → IsOpenVerdict b.verdict → IsLeftOpen h b
+whole_open h b same output valid thrifty verdict = record { heading = same; valid = valid; output = subst (λ (k : Heading). 0 < length k.spec.on) (sym same) output; thrifty = thrifty; verdict = verdict }
+
+-- ---- nothing is asked
+
+none_over : (basis : Basis) (steps : List Step) → steps ≡ [] → All (λ (s : Step). basis s.op ≡ true) steps
+none_over basis steps e = subst (λ (ss : List Step). All (λ (s : Step). basis s.op ≡ true) ss) (sym e) (λ k d low. absurd (omega (arith, low)))
+
+pub nothing_asked : (h : Heading) (c : Chain) → IsChain c → c.n ≡ h.spec.n → c.steps ≡ [] → length c.outs ≡ 0 → length h.spec.on ≡ 0 → IsShorter h c
+nothing_asked h c chain inputs steps outs none = record {
+  size = 0;
+  found = record {
+    chain = chain;
+    size_is = ap (λ (ss : List Step). length ss) steps;
+    size_to = omega arith;
+    over = none_over (members h.basis) c.steps steps;
+    agrees = record {
+      inputs = inputs;
+      outputs = outs ∙ sym none;
+      cells = λ k t low high row. absurd (omega (arith, low, high, none));
+    };
+  };
+}
+
+pub ruleset deciding = (common_steps, size_found, size_refuted, fewer_none, fewer_below, whole_none, whole_found, whole_open, nothing_asked)

@@ -1,0 +1,3 @@
+pub use Rattle.cert_theory.specs.Bundle
+pub mod Decided
+pub mod DecidedLaws

@@ -1,0 +1,17 @@
+//! Whether a specification has a chain of fewer steps than some number: for the windows of a net, of which
+//! most have none, by counting, and the others few steps.
+//!
+//! It stands on `bound_core` for what counting says, and on `size_loop` for the search of a size. The search begins
+//! at the size that counting leaves. A certificate is made only where a size stays open: then the whole search
+//! is made again, and its own verdict holds.
+//!
+//! ```text
+//! let heading = Heading { spec, basis, method, conflicts, max: 2 };
+//! decide(alloc, &heading)? // Shorter(chain) of at most 2 steps, Least, or Open(bundle)
+//! ```
+#![tactic(auto)]
+
+mod deciding;
+
+pub use bundle_core::{Bundle, Heading};
+pub use deciding::{Decided, decide};

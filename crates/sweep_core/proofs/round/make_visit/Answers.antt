@@ -1,0 +1,14 @@
+-- The window that was left open joins those that are named.
+use Rattle.std.proofs.Common.{subst, sym}
+use Rattle.sweep_core.specs.declared.trial.Tried.{Tried}
+use Rattle.sweep_core.specs.Outcomes.{IsTried}
+use Rattle.sweep_core.specs.SweptLaws.{swept_open}
+use Rattle.sweep_core.proofs.round.make_visit.Goals as goal
+
+pub returns-in_ok-push-in-Open : goal.returns-in_ok-push-in-Open
+returns-in_ok-push-in-Open g c =
+    let s = g.T.Trial.settings_of c.args.trial.now in
+    let n = g.T.Trial.net_of c.args.trial.now in
+    let m = g.T.Trial.net_of c.attempt.new.self in
+    let tried = subst (λ (tried : Tried). IsTried s n m c.args.visit tried) c.in-Open.is c.in_ok-attempt.ensures.tried in
+    swept_open s (g.T.Trial.settings_of c.attempt.new.self) n m c.args.round.now c.round.inside.changed c.round.inside.named.items c.push.new.self.items (record { visit = c.args.visit; search = c.in-Open.search }) c.in_ok-attempt.ensures.asked tried.0 tried.1 (sym c.round.view_is) c.in_ok-push-in-Open.ensures.items

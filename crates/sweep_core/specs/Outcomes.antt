@@ -1,0 +1,46 @@
+-- What a visit comes to.
+use Rattle.std.specs.Prelude.{◌≡◌, ℕ, ◌<◌, true, length, slice_get, Some, ◌⊎◌}
+use Rattle.chain_theory.specs.Operator.{Basis}
+use Rattle.net_theory.specs.declared.data.Gate.{Gate}
+use Rattle.net_theory.specs.Net.{Net}
+use Rattle.net_theory.specs.Answers.{IsPruned}
+use Rattle.op_basis.specs.Basis.{members}
+use Rattle.window_theory.specs.Paths.{IsGate}
+use Rattle.window_theory.specs.Window.{IsPartnerOrNone}
+use Rattle.settings.specs.declared.improve.ImproveSettings.{ImproveSettings}
+use Rattle.sweep_core.specs.declared.visit.Visit.{Visit}
+use Rattle.sweep_core.specs.declared.trial.Tried.{Tried}
+use Rattle.sweep_core.specs.declared.trial.Tried.TheVariants.{Passed, Open, Smaller}
+use Rattle.sweep_core.specs.Settled.{IsLeast}
+use Rattle.sweep_core.specs.Undecided.{IsUndecided}
+
+-- ---- nets that take each other's place
+
+-- some gate of the net has the operator
+pub record HasOperator (n : Net) (op : ℕ) : Type 0 where
+  pub index : ℕ
+  pub gate : Gate
+  pub at : slice_get n.gates index ≡ Some gate
+  pub same : gate.op ≡ op
+
+-- each operator of the second net is of the basis, or some gate of the first net has it
+pub record HasOperatorsWithin (basis : Basis) (n m : Net) : Type 0 where
+  pub each : (i : ℕ) (g : Gate) → slice_get m.gates i ≡ Some g → (basis g.op ≡ true) ⊎ HasOperator n g.op
+
+-- What a net n can stand for, without dead gates, m can stand for too; and its operators are of the basis or of n.
+pub record Leads (basis : Basis) (n m : Net) : Type 0 where
+  pub pruned : (first : Net) → IsPruned first n → IsPruned first m
+  pub operators : HasOperatorsWithin basis n m
+
+-- ---- visits
+
+-- The window of a visit, if the root is a gate and the partner one of it, has no shorter chain, where it counts.
+pub record IsDone (n : Net) (basis : Basis) (v : Visit) : Type 0 where
+  pub done : IsGate n v.root → IsPartnerOrNone n v.root v.partner → IsLeast n basis v
+
+-- Passed: nothing is left to be found, and the net is as it was. Open: the visit is undecided, by the certificate.
+-- Smaller: the net can take the place of the one before, and has fewer gates.
+abbrev pub IsTried : ImproveSettings → Net → Net → Visit → Tried → Type 0
+IsTried s n m v Passed = (m ≡ n) × IsDone n (members s.basis) v
+IsTried s n m v (Open search) = (m ≡ n) × IsUndecided n s (record { visit = v; search = search })
+IsTried s n m v Smaller = Leads (members s.basis) n m × (length m.gates < length n.gates)

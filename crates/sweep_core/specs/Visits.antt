@@ -1,0 +1,55 @@
+-- Which visits the parts of a round make, and the order of partners.
+use Rattle.std.specs.Prelude.{◌≡◌, ℕ, ◌≤◌, ◌<◌, Option, None, Some}
+use Rattle.net_theory.specs.Net.{Net}
+use Rattle.window_theory.specs.Paths.{IsGate}
+use Rattle.window_theory.specs.Partner.{IsPartner}
+use Rattle.sweep_core.specs.declared.visit.Visit.{Visit}
+
+-- ---- partners, from the greatest to the least
+
+pub record HasNoPartner (n : Net) (root below : ℕ) : Type 0 where
+  pub none : (h : ℕ) → IsGate n root → IsPartner n root h → h < below → ⊥
+
+pub record IsGreatestPartner (n : Net) (root below partner : ℕ) : Type 0 where
+  pub low : partner < below
+  pub partner_is : IsPartner n root partner
+  pub greatest : (h : ℕ) → IsPartner n root h → h < below → h ≤ partner
+
+-- the greatest partner below a place, if there is one
+abbrev pub IsNextPartner : Net → ℕ → ℕ → Option ℕ → Type 0
+IsNextPartner n root below None = HasNoPartner n root below
+IsNextPartner n root below (Some partner) = IsGreatestPartner n root below partner
+
+-- ---- visits
+
+-- this visit
+abbrev pub IsThis : Visit → Visit → Type 0
+IsThis this v = v ≡ this
+
+-- a root with a partner or none, by the counts from one on and below another
+pub record IsOfCounts (root : ℕ) (partner : Option ℕ) (first end : ℕ) (v : Visit) : Type 0 where
+  pub root_is : v.root ≡ root
+  pub partner_is : v.partner ≡ partner
+  pub from : first ≤ v.count
+  pub to : v.count < end
+
+-- a root with any partner from a place on
+pub record IsOfPartners (root cap from : ℕ) (v : Visit) : Type 0 where
+  pub root_is : v.root ≡ root
+  pub partner : ℕ
+  pub partner_is : v.partner ≡ Some partner
+  pub high : from ≤ partner
+  pub some : 1 ≤ v.count
+  pub to : v.count ≤ cap
+
+-- a root with any partner or none
+pub record IsOfRoot (root cap : ℕ) (v : Visit) : Type 0 where
+  pub root_is : v.root ≡ root
+  pub some : 1 ≤ v.count
+  pub to : v.count ≤ cap
+
+-- any root below a place
+pub record IsOfRoots (cap end : ℕ) (v : Visit) : Type 0 where
+  pub root_low : v.root < end
+  pub some : 1 ≤ v.count
+  pub to : v.count ≤ cap

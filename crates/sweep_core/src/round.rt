@@ -1,0 +1,165 @@
+//! One round: the visits in their order.
+ghost use Rattle.std.specs.Prelude.{◌+◌, ◌≤◌, ◌<◌, None, Some, IfOk, OnOk};
+ghost use Rattle.sweep_core.specs.Visits.{IsThis, IsOfCounts, IsOfPartners, IsOfRoot, IsOfRoots, IsNextPartner};
+ghost use Rattle.net_theory.specs.Net.{end_of};
+ghost use Rattle.sweep_core.specs.Swept.{stage, IsSwept};
+
+use crate::places::{end_place, first_place, has_gate};
+use crate::trial::{Trial, Tried};
+use crate::undecided::Undecided;
+use crate::visit::Visit;
+use std::alloc::{AllocError, Global};
+use std::marker::Model;
+
+/// A round so far: whether it has changed the net, and, if not, the visits that it has left undecided.
+#[derive(Debug, Drop)]
+pub struct Round {
+    pub changed: bool,
+    pub named: Vec<Undecided>,
+}
+
+impl Model for Round {
+    ghost use Rattle.sweep_core.specs.Swept as theory;
+
+    ghost Value = { theory.Round };
+
+    ghost view = { λ r. record { changed = r.changed; named = r.named.items } };
+}
+
+/// Makes a visit. Where its root is no gate there is nothing to visit.
+#[tactic(auto, using(crate::specs::SweptLaws::visiting))]
+fn make_visit<T: Trial>(
+    alloc: Global,
+    trial: &mut T,
+    round: &mut Round,
+    visit: Visit,
+) -> Result<(), AllocError>
+    requires from { 1 ≤ visit.count }
+    requires to { visit.count ≤ (T.settings_of trial.old).cap }
+    ensures { OnOk result (IsSwept (IsThis visit)
+        (stage (T.settings_of trial.old) (T.net_of trial.old) round.old)
+        (stage (T.settings_of trial.new) (T.net_of trial.new) round.new)) }
+{
+    if !has_gate(trial.net(), visit.root) {
+        return Ok(());
+    }
+    match trial.attempt(alloc, visit)? {
+        Tried::Passed => {}
+        Tried::Open(search) => round.named.push(Undecided { visit, search })?,
+        Tried::Smaller => {
+            round.changed = true;
+            round.named.clear();
+        }
+    }
+    Ok(())
+}
+
+/// Visits a root with a partner or none, by the counts from `first` to the cap.
+#[tactic(auto, using(crate::specs::SweptLaws::visiting))]
+fn visit_counts<T: Trial>(
+    alloc: Global,
+    trial: &mut T,
+    round: &mut Round,
+    root: u32,
+    partner: Option<u32>,
+    first: u32,
+) -> Result<(), AllocError>
+    requires first { 1 ≤ first }
+    requires within { first ≤ (T.settings_of trial.old).cap + 1 }
+    ensures { OnOk result (IsSwept (IsOfCounts root partner first ((T.settings_of trial.old).cap + 1))
+        (stage (T.settings_of trial.old) (T.net_of trial.old) round.old)
+        (stage (T.settings_of trial.new) (T.net_of trial.new) round.new)) }
+{
+    let end = trial.settings().cap + 1;
+    for count in first..end {
+        make_visit(
+            alloc,
+            trial,
+            round,
+            Visit {
+                root,
+                partner,
+                count,
+            },
+        )?;
+    }
+    Ok(())
+}
+
+/// The greatest partner of a root below a place; None where there is none, or the root is no gate.
+fn next_partner<T: Trial>(
+    alloc: Global,
+    trial: &T,
+    root: u32,
+    below: u32,
+) -> Result<Option<u32>, AllocError>
+    ensures { IfOk result (λ next. IsNextPartner (T.net_of trial.now) root below next) }
+{
+    if !has_gate(trial.net(), root) {
+        return Ok(None);
+    }
+    trial.next_partner(alloc, root, below)
+}
+
+/// Visits a root with each of its partners, from the greatest to the least.
+#[tactic(auto, using(crate::specs::SweptLaws::visiting))]
+fn visit_partners<T: Trial>(
+    alloc: Global,
+    trial: &mut T,
+    round: &mut Round,
+    root: u32,
+) -> Result<(), AllocError>
+    requires cap { 1 ≤ (T.settings_of trial.old).cap }
+    ensures { OnOk result (IsSwept (IsOfPartners root (T.settings_of trial.old).cap 0)
+        (stage (T.settings_of trial.old) (T.net_of trial.old) round.old)
+        (stage (T.settings_of trial.new) (T.net_of trial.new) round.new)) }
+{
+    let mut below = root;
+    loop {
+        match next_partner(alloc, trial, root, below)? {
+            None => return Ok(()),
+            Some(partner) => {
+                visit_counts(alloc, trial, round, root, Some(partner), 2)?;
+                below = partner;
+            }
+        }
+    }
+}
+
+/// Visits a root without a partner, and then with each of its partners.
+#[tactic(auto, using(crate::specs::SweptLaws::visiting))]
+fn visit_root<T: Trial>(
+    alloc: Global,
+    trial: &mut T,
+    round: &mut Round,
+    root: u32,
+) -> Result<(), AllocError>
+    requires cap { 1 ≤ (T.settings_of trial.old).cap }
+    ensures { OnOk result (IsSwept (IsOfRoot root (T.settings_of trial.old).cap)
+        (stage (T.settings_of trial.old) (T.net_of trial.old) round.old)
+        (stage (T.settings_of trial.new) (T.net_of trial.new) round.new)) }
+{
+    visit_counts(alloc, trial, round, root, None, 1)?;
+    visit_partners(alloc, trial, round, root)?;
+    Ok(())
+}
+
+/// Visits all roots that the net has at first, in rising place.
+#[tactic(auto, using(crate::specs::SweptLaws::visiting))]
+pub fn visit_all<T: Trial>(
+    alloc: Global,
+    trial: &mut T,
+    round: &mut Round,
+) -> Result<(), AllocError>
+    requires cap { 1 ≤ (T.settings_of trial.old).cap }
+    ensures { OnOk result (IsSwept (IsOfRoots (T.settings_of trial.old).cap (end_of (T.net_of trial.old)))
+        (stage (T.settings_of trial.old) (T.net_of trial.old) round.old)
+        (stage (T.settings_of trial.new) (T.net_of trial.new) round.new)) }
+{
+    let first = first_place(trial.net());
+    let end = end_place(trial.net());
+    for root in first..end {
+        visit_root(alloc, trial, round, root)?;
+    }
+    Ok(())
+}

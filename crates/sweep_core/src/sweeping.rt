@@ -1,0 +1,58 @@
+//! The sweep: rounds, until one changes nothing.
+ghost use Rattle.std.specs.Prelude.{◌≡◌, ◌+◌, ◌≤◌, true, false, [], length, All, IfOk};
+ghost use Rattle.op_basis.specs.Basis.{members};
+ghost use Rattle.sweep_core.specs.Settled.{IsSettled};
+ghost use Rattle.sweep_core.specs.Undecided.{visits, IsUndecided};
+ghost use Rattle.sweep_core.specs.Outcomes.{Leads};
+
+use crate::round::{Round, visit_all};
+use crate::trial::Trial;
+use crate::undecided::Undecided;
+use std::alloc::{AllocError, Global};
+
+/// What a sweep came to, beside its net.
+#[derive(Debug, Drop)]
+pub struct Swept {
+    /// Whether the last round changed nothing.
+    pub settled: bool,
+    /// The windows that it left undecided, in the order of their visits. Where it isn't settled, none.
+    pub undecided: Vec<Undecided>,
+}
+
+/// Sweeps the net of a trial: rounds, until one changes nothing or so many as the settings say have changed
+/// something. The cap is 1 at least.
+///
+/// What the net could stand for it can stand for in the end. Settled, it has no window up to the cap with a shorter
+/// chain, but for those that are named; else it has lost as many gates as there were rounds.
+#[tactic(auto, using(crate::specs::SweptLaws::sweeping))]
+pub fn sweep<T: Trial>(alloc: Global, trial: &mut T) -> Result<Swept, AllocError>
+    requires cap { 1 ≤ (T.settings_of trial.old).cap }
+    ensures leads { IfOk result (λ _.
+        Leads (members (T.settings_of trial.old).basis) (T.net_of trial.old) (T.net_of trial.new)) }
+    ensures settled { IfOk result (λ swept. swept.settled ≡ true →
+        IsSettled (T.net_of trial.new) (members (T.settings_of trial.old).basis) (T.settings_of trial.old).cap (visits swept.undecided.items)) }
+    ensures undecided { IfOk result (λ swept. All (IsUndecided (T.net_of trial.new) (T.settings_of trial.old)) swept.undecided.items) }
+    ensures stopped { IfOk result (λ swept. swept.settled ≡ false →
+        length (T.net_of trial.new).gates + (T.settings_of trial.old).rounds ≤ length (T.net_of trial.old).gates) }
+    ensures none { IfOk result (λ swept. swept.settled ≡ false → swept.undecided.items ≡ []) }
+{
+    let rounds = trial.settings().rounds;
+    for _round in 0..rounds {
+        let mut round = Round {
+            changed: false,
+            named: Vec::new(alloc),
+        };
+        visit_all(alloc, trial, &mut round)?;
+        let Round { changed, named } = round;
+        if !changed {
+            return Ok(Swept {
+                settled: true,
+                undecided: named,
+            });
+        }
+    }
+    Ok(Swept {
+        settled: false,
+        undecided: Vec::new(alloc),
+    })
+}

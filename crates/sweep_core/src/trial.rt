@@ -1,0 +1,57 @@
+//! What the sweep asks of whoever tries a window.
+use crate::visit::Visit;
+use bundle_core::Bundle;
+use net_core::Net;
+use settings::ImproveSettings;
+use std::alloc::{AllocError, Global};
+
+/// What a visit came to.
+#[derive(Debug, Drop)]
+pub enum Tried {
+    /// There is no such window, or it doesn't count, or it has no chain of fewer steps than it has gates.
+    Passed,
+    /// A search has spent its budget: its certificate.
+    Open(Bundle),
+    /// A shorter chain took the window's place, and the net is smaller.
+    Smaller,
+}
+
+/// A net whose windows can be tried one after the other, by some settings.
+pub trait Trial {
+    ghost use Rattle.std.specs.Prelude.{◌≡◌, ◌≤◌, IfOk};
+    ghost use Rattle.net_theory.specs.Net.{Net};
+    ghost use Rattle.settings.specs.declared.improve.ImproveSettings.{ImproveSettings};
+    ghost use Rattle.settings.specs.Improve.{IsInRange};
+    ghost use Rattle.window_theory.specs.Paths.{IsGate};
+    ghost use Rattle.sweep_core.specs.Visits.{IsNextPartner};
+    ghost use Rattle.sweep_core.specs.Outcomes.{IsTried};
+
+    /// The settings.
+    ghost settings_of: { Self → ImproveSettings };
+
+    /// The net as it is.
+    ghost net_of: { Self → Net };
+
+    /// The settings.
+    fn settings(&self) -> ImproveSettings
+        ensures value { result ≡ settings_of self.now }
+        ensures range { IsInRange result };
+
+    /// The net as it is.
+    fn net(&self) -> &Net
+        ensures { result.now ≡ net_of self.now };
+
+    /// Tries the window of a root, a partner or none, and a count from 1 to the cap. There may be no such
+    /// window, and the place of the partner may be none of a partner.
+    fn attempt(&mut self, alloc: Global, visit: Visit) -> Result<Tried, AllocError>
+        requires gate { IsGate (net_of self.old) visit.root }
+        requires from { 1 ≤ visit.count }
+        requires to { visit.count ≤ (settings_of self.old).cap }
+        ensures asked { IfOk result (λ _. settings_of self.new ≡ settings_of self.old) }
+        ensures tried { IfOk result (λ tried. IsTried (settings_of self.old) (net_of self.old) (net_of self.new) visit tried) };
+
+    /// The greatest partner of a gate below a place.
+    fn next_partner(&self, alloc: Global, root: u32, below: u32) -> Result<Option<u32>, AllocError>
+        requires gate { IsGate (net_of self.now) root }
+        ensures { IfOk result (λ next. IsNextPartner (net_of self.now) root below next) };
+}

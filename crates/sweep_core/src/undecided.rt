@@ -1,0 +1,19 @@
+//! Windows that a search left undecided.
+use crate::visit::Visit;
+use bundle_core::Bundle;
+use std::marker::Model;
+
+/// A window that a search left undecided, and the certificate of the search.
+#[derive(Debug, Drop)]
+pub struct Undecided {
+    pub visit: Visit,
+    pub search: Bundle,
+}
+
+impl Model for Undecided {
+    ghost use Rattle.sweep_core.specs.Undecided as theory;
+
+    ghost Value = { theory.Undecided };
+
+    ghost view = { λ u. record { visit = u.visit; search = u.search } };
+}
