@@ -1,6 +1,5 @@
 -- A chain's steps behind the gates that are kept, and its outs.
 use Rattle.std.proofs.Common.{◌≡◌, ℕ, zero, suc, ◌+◌, ◌-◌, ◌≤◌, ◌<◌, Bool, true, List, [], ◌∷◌, ◌++◌, length, length-append, map, set, get_or, ltb, if◌then◌else◌, add-zero, refl, ◌∙◌, ap, sym, subst, arith, ⊎_elim}
-use Rattle.std.specs.List.{slice_get}
 use Rattle.std.specs.Prelude.{Some, slice_index_or, ◌==◌}
 use Rattle.std.proofs.lemmas.Bool.{cases_eq, cases_lt, lt-ltb, le-ltb, cond-true, cond-false, eq-eqb, ne_eqb}
 use Rattle.std.proofs.lemmas.Option.{slice_get_within, slice_get-get_or}
@@ -21,6 +20,7 @@ use Rattle.net_theory.specs.MovingLaws.{moved_gate-same, places_low, AreMarkedAt
 use Rattle.net_core.specs.Marks.{places_of, kept}
 use Rattle.window_theory.specs.Window.{Window}
 use Rattle.window_theory.specs.Splice.{Fits, input_place, step_gate, out_sig, with_sigs}
+use Rattle.subst_core.specs.MapLaws.{map_same, map_like}
 use Rattle.subst_core.specs.Placing.{chain_sig, chain_gate, steps_kept, with_chain}
 
 -- ---- gates that are all kept
@@ -69,14 +69,6 @@ all_gates sources k place (g ∷ gs) are =
     ∙ ap (λ (h : Gate). k.gates ++ (h ∷ map (moved_gate last.places) gs)) own
 
 -- ---- a chain
-
-map_like : {A B C : Type 0} (f : A → B) (g : B → C) (h : A → C) (xs : List A) → ((i : ℕ) (x : A) → slice_get xs i ≡ Some x → g (f x) ≡ h x) → map g (map f xs) ≡ map h xs
-map_like f g h [] same = refl
-map_like f g h (x ∷ xs) same = rw (same 0 x refl, map_like f g h xs (λ i y e. same (suc i) y e)) refl
-
-map_same : {A B : Type 0} (f g : A → B) (xs : List A) → ((i : ℕ) (x : A) → slice_get xs i ≡ Some x → f x ≡ g x) → map f xs ≡ map g xs
-map_same f g [] same = refl
-map_same f g (x ∷ xs) same = rw (same 0 x refl, map_same f g xs (λ i y e. same (suc i) y e)) refl
 
 -- a place of the chain is where it is said to be
 chain_placed : (sources : ℕ) (w : Window) (c : Chain) (k : Kept) (j : ℕ) → Fits w c → 1 ≤ j → j ≤ c.n + length c.steps → (steps_kept sources w c k).places j ≡ chain_sig k.places w.inputs (sources + 1 + length k.gates) j

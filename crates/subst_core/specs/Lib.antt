@@ -4,6 +4,8 @@ pub use Rattle.window_theory.specs.Window
 pub use Rattle.window_theory.specs.Splice
 pub mod Lists
 pub mod ListsLaws
+pub mod MapLaws
 pub mod Placing
 pub mod Substitution
 pub mod SubstitutionLaws
+pub mod WatchLaws

@@ -1,11 +1,12 @@
 -- A chain that agrees, in the place of a window.
-use Rattle.std.specs.Prelude.{◌≡◌, ℕ, ◌+◌, ◌<◌, ◌^◌, Bool, length, map, slice_get, Some, ◌⊎◌}
+use Rattle.std.specs.Prelude.{◌≡◌, ℕ, ◌+◌, ◌<◌, ◌^◌, Bool, true, List, length, map, slice_get, Some, ◌⊎◌}
 use Rattle.chain_theory.specs.Specification.{Specification}
 use Rattle.chain_theory.specs.Chain.{Step, Chain, IsChain}
 use Rattle.chain_theory.specs.Agreement.{Agrees}
 use Rattle.net_theory.specs.declared.data.Gate.{Gate}
-use Rattle.net_theory.specs.Net.{Net, sig_value, sink_values}
-use Rattle.window_theory.specs.Window.{Window}
+use Rattle.net_theory.specs.Net.{Net, sig_value, value, sink_values}
+use Rattle.window_theory.specs.Places.{among}
+use Rattle.window_theory.specs.Window.{Window, IsOutput}
 use Rattle.window_theory.specs.Care.{IsSpecificationOf}
 use Rattle.window_theory.specs.Splice.{spliced_value, IsSpliced}
 
@@ -27,6 +28,17 @@ pub record Meets (n : Net) (w : Window) (c : Chain) : Type 0 where
 -- differ where the source 1 is 0.
 abbrev pub KeepsSinks : Net → Window → Chain → Type 0
 KeepsSinks n w c = (given : ℕ → Bool) → map (sig_value (spliced_value n w c given)) n.sinks ≡ sink_values n given
+
+-- the window's gates, and maybe more
+abbrev pub HasGates : Window → List ℕ → Type 0
+HasGates w gates = (p : ℕ) → among w.gates p ≡ true → among gates p ≡ true
+
+-- What is seen of these gates outside has the values that it had, where the window's outputs take the values of the
+-- chain's outs. So the outs may differ as far as the gates that read them hide it.
+-- Example: where the gate 4 is AND of the gate 3 and the source 1, and nothing else reads the gate 3, then of the
+-- gates 3 and 4 only 4 is seen.
+abbrev pub KeepOutputs : Net → Window → Chain → List ℕ → Type 0
+KeepOutputs n w c gates = (given : ℕ → Bool) (p : ℕ) → IsOutput n gates p → spliced_value n w c given p ≡ value n given p
 
 -- m is n where a chain has taken a window's place, and its sinks have the values that they had.
 -- Example: of NAND of the sources at place 3 and NOT of it at place 4, which is the sink, the window of both and the

@@ -1,6 +1,6 @@
 //! What the definitions come to. Each law is the contract of a function that does nothing.
 
-ghost use Rattle.std.specs.Prelude.{◌≤◌, length};
+ghost use Rattle.std.specs.Prelude.{ℕ, ◌≤◌, List, length};
 ghost use Rattle.chain_theory.specs.Chain.{Chain};
 ghost use Rattle.chain_theory.specs.Specification.{Specification};
 ghost use Rattle.net_theory.specs.Net.{Net, IsNet};
@@ -9,7 +9,7 @@ ghost use Rattle.window_theory.specs.Window.{Window, Belongs};
 ghost use Rattle.window_theory.specs.Care.{IsSpecificationOf};
 ghost use Rattle.window_theory.specs.Splice.{Fits, IsSpliced};
 ghost use Rattle.subst_core.specs.Lists.{HaveSameLists};
-ghost use Rattle.subst_core.specs.Substitution.{Meets, KeepsSinks, IsSubstituted, HasOldOperators};
+ghost use Rattle.subst_core.specs.Substitution.{Meets, KeepsSinks, HasGates, KeepOutputs, IsSubstituted, HasOldOperators};
 
 /// Of a window only its three lists matter where a chain takes its place.
 pub fn roots_do_not_matter()
@@ -23,11 +23,14 @@ pub fn roots_do_not_matter()
 
 /// A net in which a chain that agrees has taken a window's place, and with it what is left of that net, can stand
 /// in the old one's place, where the chain has no more steps than the window has gates. All its gates have operators
-/// of the net or of the chain. It is enough that no sink tells the chain's outs from the window's outputs.
+/// of the net or of the chain. It is enough that no sink tells the chain's outs from the window's outputs, and for that,
+/// that what is seen of more gates than the window's keeps its values.
 pub fn substitution_keeps_the_sinks()
     ensures values { (n m : Net) (w : Window) (c : Chain) → IsNet n → Belongs n w →
         Meets n w c → IsSpliced n w c m → IsSubstituted n w c m }
     ensures agree { (n : Net) (w : Window) (c : Chain) → IsNet n → Belongs n w → Meets n w c → KeepsSinks n w c }
+    ensures outputs { (n : Net) (w : Window) (c : Chain) (gates : List ℕ) → IsNet n → Belongs n w →
+        HasGates w gates → KeepOutputs n w c gates → KeepsSinks n w c }
     ensures kept { (n m : Net) (w : Window) (c : Chain) → KeepsSinks n w c → IsSpliced n w c m → IsSubstituted n w c m }
     ensures answers { (n m : Net) (w : Window) (c : Chain) → IsSubstituted n w c m → length c.steps ≤ length w.gates → Answers n m }
     ensures pruned { (first n m left : Net) (w : Window) (c : Chain) → IsPruned first n → IsSubstituted n w c m →

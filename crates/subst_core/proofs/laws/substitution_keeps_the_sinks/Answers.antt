@@ -1,4 +1,5 @@
 use Rattle.subst_core.specs.SubstitutionLaws.{substituted_is, agrees_keeps, kept_substituted, substituted_stands, pruned_on, spliced_operators}
+use Rattle.subst_core.specs.WatchLaws.{outputs_keep}
 use Rattle.subst_core.proofs.laws.substitution_keeps_the_sinks.Goals as goal
 
 pub returns-clause-values : goal.returns-clause-values
@@ -6,6 +7,9 @@ returns-clause-values c = substituted_is
 
 pub returns-clause-agree : goal.returns-clause-agree
 returns-clause-agree c = agrees_keeps
+
+pub returns-clause-outputs : goal.returns-clause-outputs
+returns-clause-outputs c = outputs_keep
 
 pub returns-clause-kept : goal.returns-clause-kept
 returns-clause-kept c = kept_substituted
