@@ -19,4 +19,4 @@ pub use cone::Cone;
 pub use net_theory::{Gate, Sig};
 pub use showing::patterns;
 pub use simulation::cone_words;
-pub use words::Words;
+pub use words::{Words, lanes_of};

@@ -5,3 +5,6 @@ pub mod NotingLaws
 pub mod WalkingLaws
 pub mod SeenLaws
 pub mod BoundingLaws
+pub mod SurroundingLaws
+pub mod ConeLaws
+pub mod MaskingLaws

@@ -149,7 +149,7 @@ named_low end sigs.Zero some low = some
 named_low end sigs.One some low = some
 named_low end (sigs.Place p) some low = low
 
-at_last : {A : Type 0} (xs : List A) (x : A) (j : ℕ) (y : A) → slice_get (xs ++ x ∷ []) j ≡ Some y → (slice_get xs j ≡ Some y) ⊎ ((j ≡ length xs) × (x ≡ y))
+pub at_last : {A : Type 0} (xs : List A) (x : A) (j : ℕ) (y : A) → slice_get (xs ++ x ∷ []) j ≡ Some y → (slice_get xs j ≡ Some y) ⊎ ((j ≡ length xs) × (x ≡ y))
 at_last [] x zero y e = inr (refl, cc)
 at_last [] x (suc j) y e = absurd cc
 at_last (z ∷ xs) x zero y e = inl e

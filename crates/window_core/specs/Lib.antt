@@ -6,3 +6,5 @@ pub mod Readers
 pub mod Noting
 pub mod Walking
 pub mod Seen
+pub mod Surrounding
+pub mod Masking

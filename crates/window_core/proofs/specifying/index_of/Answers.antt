@@ -1,0 +1,5 @@
+use Rattle.window_core.proofs.MaskingLaws.{index_found}
+use Rattle.window_core.proofs.specifying.index_of.Goals as goal
+
+pub returns : goal.returns
+returns c = index_found c.args.places.now c.loop-index.index c.args.place c.loop-index.invariant c.loop-index-test.false

@@ -1,0 +1,14 @@
+use Rattle.std.proofs.Common.{◌∙◌, ℕ, List, ap, sym, subst}
+use Rattle.window_theory.specs.Places.{among}
+use Rattle.window_core.specs.Masking.{IsCareMask}
+use Rattle.window_core.proofs.MaskingLaws.{specification_is, inputs_within}
+use Rattle.window_core.proofs.specifying.spec_of.Goals as goal
+
+pub care_rows-requires-clause-within : goal.care_rows-requires-clause-within
+care_rows-requires-clause-within c = λ p e.
+    inputs_within c.args.net.now c.args.window.now p c.sources-sources.ensures.net c.requires (ap (λ (xs : List ℕ). among xs p) (sym c.inputs.ensures.value) ∙ e)
+
+pub returns : goal.returns
+returns c =
+    specification_is c.args.net.now c.args.window.now c.in_ok-cone.cone c.in_ok-mask.mask c.in_ok-spec.spec c.sources-sources.ensures.net c.requires c.in_ok-cone.ensures.leaves c.in_ok-cone.ensures.places c.in_ok-cone.ensures.gates
+    (subst (λ (ps : List ℕ). IsCareMask c.args.net.now ps c.in_ok-mask.mask) c.inputs.ensures.value c.in_ok-mask.ensures) c.in_ok-spec.ensures.n c.in_ok-spec.ensures.masked

@@ -1,0 +1,34 @@
+-- The words of a window's specification, while they are found.
+use Rattle.std.specs.Prelude.{◌≡◌, ℕ, ◌<◌, ◌^◌, true, List, ◌++◌, length, slice_get, Some, bit_and}
+use Rattle.chain_theory.specs.Operator.{digit}
+use Rattle.net_theory.specs.declared.data.Gate.{Gate}
+use Rattle.net_theory.specs.Net.{Net}
+use Rattle.lane_sim.specs.Cone.{Cone, value_in}
+use Rattle.window_theory.specs.Care.{IsCareRow}
+use Rattle.window_core.specs.Gates.{IsGateOf}
+use Rattle.window_core.specs.Surrounding.{gate_places}
+
+-- The digits of a mask are 1 at just the care rows of some places.
+-- Example: of AND and OR of two sources the mask is 1101 in binary, since row 10 is no care row.
+pub record IsCareMask (n : Net) (places : List ℕ) (mask : ℕ) : Type 0 where
+  pub low : (t : ℕ) → digit mask t ≡ true → t < 2 ^ length places
+  pub only : (t : ℕ) → digit mask t ≡ true → IsCareRow n places t
+  pub all : (t : ℕ) → t < 2 ^ length places → IsCareRow n places t → digit mask t ≡ true
+
+-- The gates of the first places were looked up, and these places are left.
+pub record ArePlaced (n : Net) (places left : List ℕ) (gates : List (ℕ × Gate)) : Type 0 where
+  pub parts : gate_places gates ++ left ≡ places
+  pub own : (i : ℕ) (x : ℕ × Gate) → slice_get gates i ≡ Some x → IsGateOf n x.0 x.1
+
+-- a word has the values of a place of a cone, as far as there are rows
+abbrev pub HasValues : Cone → ℕ → ℕ → Type 0
+HasValues c p word = (t : ℕ) → t < 2 ^ length c.leaves → digit word t ≡ value_in c t p
+
+-- The words of the first outputs were put down, with the care rows alone, and these outputs are left.
+pub record AreMasked (c : Cone) (mask : ℕ) (outputs left on care : List ℕ) : Type 0 where
+  pub done : List ℕ
+  pub parts : done ++ left ≡ outputs
+  pub size : length on ≡ length done
+  pub care_size : length care ≡ length done
+  pub each : (i p w : ℕ) → slice_get done i ≡ Some p → slice_get on i ≡ Some w → (word : ℕ) × (w ≡ bit_and word mask) × HasValues c p word
+  pub masks : (i m : ℕ) → slice_get care i ≡ Some m → m ≡ mask

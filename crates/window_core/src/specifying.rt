@@ -1,0 +1,149 @@
+//! The specification of a window. Its care rows are the patterns that its inputs show in their surround, and its values
+//! come from its gates by themselves, on all rows of its inputs at once.
+
+ghost use Rattle.std.specs.Prelude.{◌≡◌, ℕ, ◌+◌, ◌≤◌, ◌<◌, ◌^◌, true, [], length, map, slice_get, Some, IfOk};
+ghost use Rattle.chain_theory.specs.Operator.{digit};
+ghost use Rattle.net_theory.specs.declared.data.Sig.TheVariants as sigs;
+ghost use Rattle.net_theory.specs.Net.{end_of};
+ghost use Rattle.tt_core.specs.Words.{specification};
+ghost use Rattle.lane_sim.specs.Cone.{places as places_of, value_in};
+ghost use Rattle.lane_sim.specs.Words.{AreWords};
+ghost use Rattle.window_theory.specs.Places.{among, IsRising};
+ghost use Rattle.window_theory.specs.Paths.{IsGate};
+ghost use Rattle.window_theory.specs.Window.{Belongs};
+ghost use Rattle.window_theory.specs.Care.{IsSpecificationOf};
+ghost use Rattle.window_core.specs.Surrounding.{AreAbove, gate_places};
+ghost use Rattle.window_core.specs.Masking.{IsCareMask, ArePlaced, HasValues, AreMasked};
+
+use crate::growing::gate_at;
+use crate::shape::Window;
+use crate::surrounding::surround;
+use lane_sim::{Cone, Words, cone_words, lanes_of, patterns};
+use net_core::{Gate, Net, Sig};
+use std::alloc::{AllocError, Global};
+use tt_core::Spec;
+
+/// Signals that name these places.
+fn signals_of(alloc: Global, places: &[u32]) -> Result<Vec<Sig>, AllocError>
+    ensures { IfOk result (λ signals. signals.items ≡ map sigs.Place places.now) }
+{
+    places.iter().map(|place| Sig::Place(*place)).collect(alloc)
+}
+
+/// The care rows of some places, as the digits of a mask.
+fn care_rows(alloc: Global, net: &Net, places: &[u32]) -> Result<u64, AllocError>
+    requires rising { IsRising places.now }
+    requires few { length places.now ≤ 6 }
+    requires within { (p : ℕ) → among places.now p ≡ true → p < end_of net.now }
+    ensures { IfOk result (λ mask. IsCareMask net.now places.now mask) }
+{
+    let _sources = net.sources(); // says that the net is one
+    let cone = surround(alloc, net, places)?;
+    let words = cone_words(alloc, &cone)?;
+    let signals = signals_of(alloc, places)?;
+    let _leaves = cone.leaves(); // says that the cone is one
+    Ok(patterns(&words, &cone, &signals))
+}
+
+/// The gates at some places, with their places.
+fn placed_gates(alloc: Global, net: &Net, places: &[u32]) -> Result<Vec<(u32, Gate)>, AllocError>
+    requires { (p : ℕ) → among places.now p ≡ true → IsGate net.now p }
+    ensures { IfOk result (λ gates. ArePlaced net.now places.now [] gates.items) }
+{
+    let mut gates = Vec::with_capacity(alloc, places.len())?;
+    let mut left = places;
+    while let Some((place, rest)) = left.split_first() {
+        let gate = gate_at(net, *place);
+        gates.push((
+            *place,
+            Gate {
+                op: gate.op,
+                a: gate.a,
+                b: gate.b,
+            },
+        ))?;
+        left = rest;
+    }
+    Ok(gates)
+}
+
+/// The gates of a window as a cone over its inputs.
+fn inner_cone(alloc: Global, net: &Net, window: &Window) -> Result<Cone, AllocError>
+    requires { Belongs net.now window.now }
+    ensures leaves { IfOk result (λ cone. cone.leaves ≡ window.now.inputs) }
+    ensures places { IfOk result (λ cone. gate_places cone.gates ≡ window.now.gates) }
+    ensures gates { IfOk result (λ cone. AreAbove net.now cone.leaves cone.gates) }
+{
+    let _sources = net.sources(); // says that the net is one
+    let mut inputs = Vec::with_capacity(alloc, 6)?;
+    inputs.extend_from_slice(window.inputs())?;
+    let gates = placed_gates(alloc, net, window.gates())?;
+    Ok(Cone::new(inputs, gates))
+}
+
+/// Where a place stands among some places.
+fn index_of(places: &[u32], place: u32) -> usize
+    requires { among places.now place ≡ true }
+    ensures { slice_get places.now result ≡ Some place }
+{
+    let mut index = 0;
+    while places[index] != place {
+        index += 1;
+    }
+    index
+}
+
+/// The word of one of a window's gates, on all rows of the inputs.
+fn gate_word(window: &Window, cone: &Cone, words: &Words, place: u32) -> u64
+    requires words { AreWords cone.now words.now }
+    requires leaves { cone.now.leaves ≡ window.now.inputs }
+    requires gates { gate_places cone.now.gates ≡ window.now.gates }
+    requires few { length window.now.inputs ≤ 6 }
+    requires place { among window.now.gates place ≡ true }
+    ensures { HasValues cone.now place result }
+{
+    let inputs = window.inputs().len();
+    lanes_of(words)[inputs + index_of(window.gates(), place)]
+}
+
+/// The specification by a mask of care rows and the words of all gates.
+fn masked_spec(
+    alloc: Global,
+    window: &Window,
+    cone: &Cone,
+    words: &Words,
+    mask: u64,
+) -> Result<Spec, AllocError>
+    requires words { AreWords cone.now words.now }
+    requires leaves { cone.now.leaves ≡ window.now.inputs }
+    requires gates { gate_places cone.now.gates ≡ window.now.gates }
+    requires outputs { (p : ℕ) → among window.now.outputs p ≡ true → among window.now.gates p ≡ true }
+    requires low { (t : ℕ) → digit mask t ≡ true → t < 2 ^ length window.now.inputs }
+    ensures n { IfOk result (λ s. s.n ≡ length window.now.inputs) }
+    ensures masked { IfOk result (λ s. AreMasked cone.now mask window.now.outputs [] s.on s.care) }
+{
+    let mut on = Vec::with_capacity(alloc, 8)?;
+    let mut cares = Vec::with_capacity(alloc, 8)?;
+    let inputs = window.inputs().len();
+    let mut left = window.outputs();
+    while let Some((place, rest)) = left.split_first() {
+        on.push(gate_word(window, cone, words, *place) & mask)?;
+        cares.push(mask)?;
+        left = rest;
+    }
+    Ok(Spec::new(inputs as u32, on, cares))
+}
+
+/// The specification of a window: on a care row of its inputs, in rising place, the cells are the values of its
+/// outputs, in rising place, and all other cells are free.
+pub fn spec_of(alloc: Global, net: &Net, window: &Window) -> Result<Spec, AllocError>
+    requires { Belongs net.now window.now }
+    ensures { IfOk result (λ s. IsSpecificationOf net.now window.now (specification s)) }
+{
+    let _sources = net.sources(); // says that the net is one
+    let mask = care_rows(alloc, net, window.inputs())?;
+    let cone = inner_cone(alloc, net, window)?;
+    let words = cone_words(alloc, &cone)?;
+    let spec = masked_spec(alloc, window, &cone, &words, mask)?;
+    Ok(spec)
+}

@@ -1,0 +1,152 @@
+//! The surround of some places: as long as the greatest leaf is a gate, what it reads comes in its place, if at most
+//! 12 leaves are left. Gates are opened from the greatest place down, so that the leaves stand below all of them.
+
+ghost use Rattle.std.specs.Prelude.{◌≡◌, ℕ, ◌+◌, ◌≤◌, ◌<◌, true, false, List, ◌∷◌, [], ◌++◌, length, reverse, if◌then◌else◌, IfSome, IfNone, IfOk, OnOk};
+ghost use Rattle.net_theory.specs.Net.{end_of};
+ghost use Rattle.lane_sim.specs.Cone.{places as places_of};
+ghost use Rattle.window_theory.specs.Places.{among, IsRising};
+ghost use Rattle.window_theory.specs.Paths.{IsGate};
+ghost use Rattle.window_theory.specs.Surround.{LeadsTo, IsLast};
+ghost use Rattle.window_core.specs.Rising.{put_sig as put_sig_in};
+ghost use Rattle.window_core.specs.Surrounding.{AreAbove, AreCovered, IsOpened, behind_of, same_place as same_place_of};
+
+use crate::growing::gate_at;
+use crate::rising::{has, put_sig};
+use lane_sim::Cone;
+use net_core::{Gate, Net, Sig};
+use std::alloc::{AllocError, Global};
+
+/// Whether a signal names a place that isn't among these.
+fn is_new(places: &[u32], sig: Sig) -> bool
+    requires { IsRising places.now }
+    ensures { length (put_sig_in sig places.now) ≡ length places.now + (if result then 1 else 0) }
+{
+    match sig {
+        Sig::Place(place) => !has(places, place),
+        _ => false,
+    }
+}
+
+/// Whether two signals name one place.
+fn same_place(a: Sig, b: Sig) -> bool
+    ensures { result ≡ same_place_of a b }
+{
+    match a {
+        Sig::Place(a) => match b {
+            Sig::Place(b) => a == b,
+            _ => false,
+        },
+        _ => false,
+    }
+}
+
+/// Whether the first holds and the second doesn't.
+fn and_not(a: bool, b: bool) -> bool
+    ensures { result ≡ (if a then (if b then false else true) else false) }
+{
+    a && !b
+}
+
+/// One for what holds, and else none.
+fn one_if(holds: bool) -> usize
+    ensures { result ≡ (if holds then 1 else 0) }
+{
+    if holds { 1 } else { 0 }
+}
+
+/// How many leaves there are when the gate behind the others is opened.
+fn count_behind(front: &[u32], gate: &Gate) -> usize
+    requires { IsRising front.now }
+    ensures { result ≡ length (behind_of front.now gate.now) }
+{
+    let first = is_new(front, gate.a);
+    let second = is_new(front, gate.b);
+    let other = and_not(second, same_place(gate.a, gate.b));
+    front.len() + one_if(first) + one_if(other)
+}
+
+/// Whether more than 12 leaves come of opening the greatest one.
+fn is_too_much(leaves: &[u32], gate: &Gate) -> bool
+    requires { IsRising leaves.now }
+    ensures yes { result ≡ true → (front : List ℕ) (p : ℕ) → leaves.now ≡ front ++ p ∷ [] → 12 < length (behind_of front gate.now) }
+    ensures no { result ≡ false → (front : List ℕ) (p : ℕ) → leaves.now ≡ front ++ p ∷ [] → length (behind_of front gate.now) ≤ 12 }
+{
+    match leaves.split_last() {
+        Some((_last, front)) => count_behind(front, gate) > 12,
+        None => false,
+    }
+}
+
+/// The greatest leaf, if it is a gate.
+fn last_gate(net: &Net, leaves: &[u32]) -> Option<u32>
+    requires rising { IsRising leaves.now }
+    requires within { (p : ℕ) → among leaves.now p ≡ true → p < end_of net.now }
+    ensures some { IfSome result (λ p. (front : List ℕ) × (leaves.now ≡ front ++ p ∷ []) × IsGate net.now p) }
+    ensures none { IfNone result (IsLast net.now leaves.now) }
+{
+    let Some((last, _front)) = leaves.split_last() else {
+        return None;
+    };
+    if *last <= net.sources() {
+        return None;
+    }
+    Some(*last)
+}
+
+/// Opens the greatest leaf, if it is a gate and not too many leaves come of it, and says whether it was opened.
+fn open(net: &Net, leaves: &mut Vec<u32>, gates: &mut Vec<(u32, Gate)>) -> Result<bool, AllocError>
+    requires rising { IsRising leaves.old.items }
+    requires within { (p : ℕ) → among leaves.old.items p ≡ true → p < end_of net.now }
+    ensures opened { IfOk result (λ more. more ≡ true → IsOpened net.now leaves.old.items leaves.new.items gates.old.items gates.new.items) }
+    ensures last { IfOk result (λ more. more ≡ false → IsLast net.now leaves.old.items) }
+    ensures leaves { IfOk result (λ more. more ≡ false → leaves.new.items ≡ leaves.old.items) }
+    ensures gates { IfOk result (λ more. more ≡ false → gates.new.items ≡ gates.old.items) }
+{
+    let Some(place) = last_gate(net, leaves) else {
+        return Ok(false);
+    };
+    let gate = gate_at(net, place);
+    if is_too_much(leaves, gate) {
+        return Ok(false);
+    }
+    leaves.pop();
+    put_sig(leaves, gate.a)?;
+    put_sig(leaves, gate.b)?;
+    gates.push((
+        place,
+        Gate {
+            op: gate.op,
+            a: gate.a,
+            b: gate.b,
+        },
+    ))?;
+    Ok(true)
+}
+
+/// The cone of leaves and of gates that were opened from the greatest on.
+fn cone_of(net: &Net, leaves: Vec<u32>, gates: Vec<(u32, Gate)>) -> Cone
+    requires { AreAbove net.now leaves.items (reverse gates.items) }
+    ensures { result ≡ record { leaves = leaves.items; gates = reverse gates.items } }
+{
+    let _sources = net.sources(); // says that the net is one
+    let mut rising = gates;
+    rising.reverse();
+    Cone::new(leaves, rising)
+}
+
+/// The surround of some places: a cone whose leaves are those that the places lead to.
+pub fn surround(alloc: Global, net: &Net, places: &[u32]) -> Result<Cone, AllocError>
+    requires rising { IsRising places.now }
+    requires few { length places.now ≤ 12 }
+    requires within { (p : ℕ) → among places.now p ≡ true → p < end_of net.now }
+    ensures leaves { IfOk result (λ cone. LeadsTo net.now places.now cone.leaves) }
+    ensures gates { IfOk result (λ cone. AreAbove net.now cone.leaves cone.gates) }
+    ensures covered { IfOk result (λ cone. AreCovered cone.leaves cone.gates places.now) }
+{
+    let _sources = net.sources(); // says that the net is one
+    let mut leaves = Vec::with_capacity(alloc, 16)?;
+    leaves.extend_from_slice(places)?;
+    let mut gates = Vec::with_capacity(alloc, 16)?;
+    while open(net, &mut leaves, &mut gates)? {}
+    Ok(cone_of(net, leaves, gates))
+}
