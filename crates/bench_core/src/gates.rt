@@ -1,11 +1,10 @@
 //! Gates as they are written: what a table of at most two inputs is as a gate.
 
-ghost use Rattle.std.specs.Prelude.{◌≡◌, ◌<◌, ◌∷◌, ◌++◌, [], false, true, length, OnOk};
+ghost use Rattle.std.specs.Prelude.{◌≡◌, ◌++◌, OnOk};
 ghost use Rattle.std.specs.Option.{option_copied};
-ghost use Rattle.net_theory.specs.Cover.{cover_value};
 ghost use Rattle.net_theory.specs.Expansion.{binary_word as binary_word_of};
 ghost use Rattle.net_core.specs.Wholes.{cover_of, IsBody};
-ghost use Rattle.bench_core.specs.Gates.{key_by, constant_line, unary_line, binary_key as binary_key_of, binary_line};
+ghost use Rattle.bench_core.specs.Gates.{key_by, constant_line, unary_line, binary_key as binary_key_of};
 ghost use Rattle.bench_core.specs.Spelling.{key_text as key_text_of, gate_text, table_text, IsSmallTable};
 
 use bench_text::GateKey;

@@ -1,6 +1,6 @@
 //! Documents as texts.
 
-ghost use Rattle.std.specs.Prelude.{◌≡◌, ◌++◌, All, OnOk, codes};
+ghost use Rattle.std.specs.Prelude.{◌≡◌, ◌++◌, All, OnOk};
 ghost use Rattle.std.specs.List.{flat_map};
 ghost use Rattle.bench_core.specs.Spelling as spelling;
 ghost use Rattle.bench_core.specs.Spelling.{IsSmallTable};

@@ -1,10 +1,10 @@
 //! Lines, one function for each kind: what a line does to the document so far is the right side of its
 //! definition, and nothing is listed by a line that is refused.
 
-ghost use Rattle.std.specs.Prelude.{◌≡◌, ◌<◌, ◌≤◌, [], ◌∷◌, length};
+ghost use Rattle.std.specs.Prelude.{◌≡◌, ◌<◌, ◌≤◌, length};
 ghost use Rattle.blif_text.specs.Reading.{Gives};
 ghost use Rattle.bench_text.specs.Items.{items_of};
-ghost use Rattle.bench_text.specs.Statements.{is_counted as is_counted_of, gate_table, table_of as table_of_names, latch_of as latch_of_names};
+ghost use Rattle.bench_text.specs.Statements.{is_counted as is_counted_of, table_of as table_of_names, latch_of as latch_of_names};
 ghost use Rattle.bench_text.specs.Statements.{ported, driven, driven_by, keyword_of as keyword_of_word, stated, step};
 ghost use Rattle.bench_text.specs.declared.keywords.Keyword.TheVariants.{Input, Output, Gate, Dff};
 

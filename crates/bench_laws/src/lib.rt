@@ -1,0 +1,27 @@
+//! Laws of BENCH texts, each of them the contract of a function that does nothing. The definitions that they
+//! speak of stand in `net_theory`, `net_document`, `bench_text` and `bench_core`.
+#![tactic(auto)]
+
+ghost use Rattle.std.specs.Prelude.{◌≡◌, ℕ, List, All, true, slice_get, Some};
+ghost use Rattle.net_theory.specs.declared.data.Gate.{Gate};
+ghost use Rattle.net_theory.specs.Document.{Name, Document, has, source_names};
+ghost use Rattle.net_theory.specs.WellFormed.{IsWellFormed};
+ghost use Rattle.net_theory.specs.Cost.{cost};
+ghost use Rattle.net_theory.specs.Circuit.{Circuit, Describes};
+ghost use Rattle.net_document.specs.Format.{IsCircuitOfText};
+ghost use Rattle.bench_core.specs.Gates.{as_gates};
+ghost use Rattle.bench_laws.specs.Spelled.{CanSpell};
+ghost use Rattle.bench_core.specs.Bench.{bench_format, is_gate_word};
+
+/// Each gate of the circuit of a BENCH text has the operator of a gate: AND, OR, XOR or the complement of one.
+pub fn gates_have_operators_of_gates()
+    ensures { (bytes : List ℕ) (c : Circuit) (i : ℕ) (g : Gate) → IsCircuitOfText bench_format bytes c → slice_get c.net.gates i ≡ Some g → is_gate_word g.op ≡ true }
+{}
+
+/// A well-formed document of small tables, each of which has a gate of its function, does the same and costs the
+/// same with its tables as gates, where tables without inputs are made of one of its sources.
+pub fn documents_of_gates_do_the_same()
+    ensures well { (source : Name) (d : Document) → IsWellFormed d → All CanSpell d.tables → has (source_names d) source ≡ true → IsWellFormed (as_gates source d) }
+    ensures describes { (source : Name) (d : Document) (c : Circuit) → IsWellFormed d → All CanSpell d.tables → has (source_names d) source ≡ true → Describes d c → Describes (as_gates source d) c }
+    ensures cost { (source : Name) (d : Document) → IsWellFormed d → All CanSpell d.tables → has (source_names d) source ≡ true → cost (as_gates source d) ≡ cost d }
+{}

@@ -1,0 +1,6 @@
+use Rattle.std.proofs.Common.{◌≡◌}
+use Rattle.gen_core.specs.Generated.{of_blocks, block_outputs}
+use Rattle.gen_core.proofs.generating.outputs.Given as goal
+
+abbrev pub invariant-loop-block : goal.invariant-loop-block
+invariant-loop-block l = l.names.items ≡ of_blocks block_outputs l.block

@@ -1,0 +1,15 @@
+//! A netlist from a number: blocks of three kinds in turn, each with fewer gates than it is written with.
+//! It stands on `blif_core` for the text.
+//!
+//! The one theorem is that of `generate`: it appends exactly the BLIF text of the netlist that
+//! `specs/Generated.antt` defines.
+//!
+//! ```text
+//! generate(1, &mut out)?; // .model gen, .inputs a0 b0, .outputs y0, three tables, .end
+//! ```
+#![tactic(auto)]
+
+mod blocks;
+mod generating;
+
+pub use generating::generate;
