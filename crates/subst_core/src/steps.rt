@@ -1,7 +1,8 @@
 //! A chain's steps as gates of a net. Its inputs are where the window's inputs went, and its steps have the places
 //! behind the gates that are there.
 
-ghost use Rattle.std.specs.Prelude.{◌≡◌, ◌+◌, ◌-◌, ◌≤◌, ◌<◌, ◌^◌, ◌++◌, length, map, All, OnOk, IfOk, vec_len};
+ghost use Rattle.std.specs.Prelude.{◌≡◌, ◌+◌, ◌-◌, ◌≤◌, ◌<◌, ◌^◌, ◌++◌};
+ghost use Rattle.std.specs.Prelude.{length, map, All, OnOk, IfOk, vec_len};
 ghost use Rattle.chain_theory.specs.Chain.{AreSteps, NamesPlace};
 ghost use Rattle.chain_core.specs.Steps.{step_of, steps_of};
 ghost use Rattle.net_core.specs.Marks.{places_of, kept};
