@@ -12,18 +12,18 @@ use Rattle.chain_app.specs.declared.agree.Answer.{Answer}
 use Rattle.chain_app.specs.declared.agree.Answer.TheVariants.{Agrees, Differs}
 use Rattle.chain_app.specs.declared.agree.AgreeError.{AgreeError}
 use Rattle.chain_app.specs.declared.agree.AgreeError.TheVariants as errors
-use Rattle.chain_app.specs.declared.status.Status.TheVariants.{Done, Undecided, Refused}
+use Rattle.frame_core.specs.declared.status.Status.TheVariants.{Done, Undecided, Refused}
 use Rattle.command_line.specs.declared.command.Command.TheVariants.{Agree}
 use Rattle.command_line.specs.CommandLine.{AsksFor}
 use Rattle.chain_app.specs.Agree.{Question, IsQuestion, IsAnswer, HasAnswer}
 use Rattle.chain_app.specs.AgreeReport.{answer_status, error_status, spec_status, chain_status, agree_reply, agree_task}
-use Rattle.chain_app.specs.Task.{IsAnswerable}
-use Rattle.chain_app.specs.Run.{Run}
-use Rattle.chain_app.specs.Promise.{OutputHeld, Stands, Replies, Faults, CommandPromise}
+use Rattle.frame_core.specs.Task.{IsAnswerable}
+use Rattle.frame_core.specs.Run.{Run}
+use Rattle.frame_core.specs.Promise.{OutputHeld, Stands, Replies, Faults, CommandPromise}
 use Rattle.chain_app.specs.AgreePromise.{TellsDifference, AgreePromise}
 use Rattle.chain_app.proofs.Agreeing.{one_question, no_question}
-use Rattle.chain_app.proofs.Keeping.{of_input}
-use Rattle.chain_app.proofs.ReadOff.{gets}
+use Rattle.frame_core.specs.KeepingLaws.{of_input}
+use Rattle.frame_core.specs.ReadOffLaws.{gets}
 
 -- ---- a question has one answer
 

@@ -8,12 +8,12 @@ use Rattle.chain_app.specs.declared.agree.Answer.{Answer}
 use Rattle.chain_app.specs.declared.agree.Answer.TheVariants.{Agrees, Differs}
 use Rattle.chain_app.specs.declared.agree.AgreeError.{AgreeError}
 use Rattle.chain_app.specs.declared.agree.AgreeError.TheVariants as errors
-use Rattle.chain_app.specs.declared.status.Status.TheVariants.{Memory}
+use Rattle.frame_core.specs.declared.status.Status.TheVariants.{Memory}
 use Rattle.chain_app.specs.Agree.{Question, IsQuestion, HasFault, question_of, IsCause, Fails, most_of_tables, HasAnswer}
 use Rattle.chain_app.specs.AgreeReport.{answer_status, error_status, agree_reply, named_spec, named_chain, named_error, agree_refusal, agree_task}
-use Rattle.chain_app.specs.Told.{Reply, Refusal, memory_refusal}
-use Rattle.chain_app.specs.Task.{IsAnswerStatus, IsRefusalStatus, IsTask, Tells, Refuses}
-use Rattle.chain_app.proofs.TaskKinds.{at_once_task}
+use Rattle.frame_core.specs.Told.{Reply, Refusal, memory_refusal}
+use Rattle.frame_core.specs.Task.{IsAnswerStatus, IsRefusalStatus, IsTask, Tells, Refuses}
+use Rattle.frame_core.specs.TaskLaws.{at_once_task}
 
 -- What the readers answer within the limit is the cause of their error.
 pub cause_of : (bytes : List ℕ) (error : AgreeError) → length bytes ≤ most_of_tables → Fails error (question_of bytes) → IsCause bytes error

@@ -1,20 +1,24 @@
 -- What a run's ending says to its caller.
-use Rattle.std.specs.Prelude.{◌≡◌, List, ℕ, Option, Some, None, Ok, Err}
+use Rattle.std.specs.Prelude.{◌≡◌, List, ℕ, ◌≤◌, length, Option, Some, None, Ok, Err}
 use Rattle.std.proofs.Common.{sym, ◌∙◌, ap, subst}
 use Rattle.command_line.specs.declared.command.Command.{Command}
 use Rattle.command_line.specs.declared.command.Command.TheVariants.{Agree, Recheck, Synth, Improve}
 use Rattle.command_line.specs.declared.command.WordsError.{WordsError}
 use Rattle.command_line.specs.CommandLine.{command_of, or_usage, read, AsksFor}
-use Rattle.chain_app.specs.declared.status.Status.TheVariants.{Usage}
-use Rattle.chain_app.specs.Told.{usage}
-use Rattle.chain_app.specs.Run.{Run}
+use Rattle.frame_core.specs.declared.status.Status.TheVariants.{Done, Usage}
+use Rattle.frame_core.specs.Told.{usage}
+use Rattle.frame_core.specs.Run.{Run}
 use Rattle.chain_app.specs.Ending.{Ending, Idle, Ran, IsIdle, IsEnding}
-use Rattle.chain_app.specs.Promise.{CommandPromise}
+use Rattle.frame_core.specs.Promise.{AllSteady, CommandPromise}
+use Rattle.net_document.specs.Format.{IsNetlist}
+use Rattle.blif_core.specs.Blif.{blif_format}
+use Rattle.chain_app.specs.ImproveReport.{most_of_netlist}
+use Rattle.chain_app.specs.Runs.{Runs}
 use Rattle.chain_app.specs.Tasks.{task_of}
 use Rattle.chain_app.specs.RunPromise.{RunPromise}
 use Rattle.chain_app.specs.KeepsPromises.{KeepsPromises}
-use Rattle.chain_app.proofs.Keeping.{not_usage, promised}
-use Rattle.chain_app.proofs.Sending.{is_task}
+use Rattle.frame_core.specs.KeepingLaws.{not_usage, promised}
+use Rattle.chain_app.proofs.Commands.{is_task}
 use Rattle.chain_app.proofs.AgreeKeeping.{agree_promised}
 use Rattle.chain_app.proofs.Rechecking.{recheck_promised}
 use Rattle.chain_app.proofs.Synthesising.{synth_promised}
@@ -73,3 +77,7 @@ kept r e ends = record {
   synth = synth_promised r (λ asked asks. keeps r e (Synth asked) ends asks);
   improve = improve_promised r (λ asks. keeps r e Improve ends asks);
 }
+
+-- So a netlist has the status 0 where no call failed at all.
+pub improved : (r : Run) (input : List ℕ) → KeepsPromises r → Runs Improve r input → length input ≤ most_of_netlist → IsNetlist blif_format input → AllSteady r → r.status ≡ Done
+improved r input keeps run within netlist steady = (keeps.improve.complete input run within netlist steady).stands.status_is

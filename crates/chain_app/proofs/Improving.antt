@@ -11,16 +11,16 @@ use Rattle.improve_core.specs.Improving.{IsReported}
 use Rattle.improve_core.specs.ImprovingLaws.{fault_one, fault_never, reported_netlist}
 use Rattle.command_line.specs.declared.command.Command.TheVariants.{Improve}
 use Rattle.command_line.specs.CommandLine.{AsksFor}
-use Rattle.chain_app.specs.declared.status.Status.{Status}
-use Rattle.chain_app.specs.declared.status.Status.TheVariants.{Done, Undecided, Refused}
+use Rattle.frame_core.specs.declared.status.Status.{Status}
+use Rattle.frame_core.specs.declared.status.Status.TheVariants.{Done, Undecided, Refused}
 use Rattle.chain_app.specs.ImproveReport.{most_of_netlist, net_status, named_net, Improvement, improve_reply, improve_refusal, IsImprovement, HasNetlistFault, improve_task}
-use Rattle.chain_app.specs.Told.{Reply, Refusal, memory_refusal}
-use Rattle.chain_app.specs.Task.{IsRefusalStatus, IsAnswerable, IsTask, Tells, Refuses}
-use Rattle.chain_app.specs.Run.{Run}
-use Rattle.chain_app.specs.Promise.{Stands, Replies, Faults, CommandPromise}
+use Rattle.frame_core.specs.Told.{Reply, Refusal, memory_refusal}
+use Rattle.frame_core.specs.Task.{IsRefusalStatus, IsAnswerable, IsTask, Tells, Refuses}
+use Rattle.frame_core.specs.Run.{Run}
+use Rattle.frame_core.specs.Promise.{Stands, Replies, Faults, CommandPromise}
 use Rattle.chain_app.specs.ImprovePromise.{ImprovePromise}
-use Rattle.chain_app.proofs.TaskKinds.{at_once_task}
-use Rattle.chain_app.proofs.Keeping.{of_input}
+use Rattle.frame_core.specs.TaskLaws.{at_once_task}
+use Rattle.frame_core.specs.KeepingLaws.{of_input}
 
 -- ---- what is answered
 

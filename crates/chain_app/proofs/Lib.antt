@@ -2,14 +2,10 @@ pub mod AgreeKeeping
 pub mod Agreeing
 pub mod Asking
 pub mod Certified
+pub mod Commands
 pub mod Ends
 pub mod Faults
 pub mod Improving
-pub mod Keeping
-pub mod Pieces
-pub mod ReadOff
 pub mod Rechecking
-pub mod Sending
 pub mod Synthesising
 pub mod TablesRead
-pub mod TaskKinds

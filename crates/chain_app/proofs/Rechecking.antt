@@ -17,17 +17,17 @@ use Rattle.cert_theory.specs.Gives.{Gives, Fails}
 use Rattle.cert_laws.specs.QuestionLaws.{bundle_asks, verdict_answers}
 use Rattle.command_line.specs.declared.command.Command.TheVariants.{Recheck}
 use Rattle.command_line.specs.CommandLine.{AsksFor}
-use Rattle.chain_app.specs.declared.status.Status.{Status}
-use Rattle.chain_app.specs.declared.status.Status.TheVariants.{Done, Limit, Undecided, Refused}
+use Rattle.frame_core.specs.declared.status.Status.{Status}
+use Rattle.frame_core.specs.declared.status.Status.TheVariants.{Done, Limit, Undecided, Refused}
 use Rattle.chain_app.specs.RecheckReport.{most_of_bundle, bundle_status, named_bundle, recheck_reply, recheck_refusal, GivesVerdict, HasBundleFault, recheck_task}
-use Rattle.chain_app.specs.Told.{Reply, Refusal, memory_refusal}
-use Rattle.chain_app.specs.Task.{IsRefusalStatus, IsTask, Tells, Refuses}
-use Rattle.chain_app.specs.Run.{Run}
-use Rattle.chain_app.specs.Promise.{OutputHeld, Stands, Replies, Faults, OfInput, IsTooLong, CommandPromise}
+use Rattle.frame_core.specs.Told.{Reply, Refusal, memory_refusal}
+use Rattle.frame_core.specs.Task.{IsRefusalStatus, IsTask, Tells, Refuses}
+use Rattle.frame_core.specs.Run.{Run}
+use Rattle.frame_core.specs.Promise.{OutputHeld, Stands, Replies, Faults, OfInput, IsTooLong, CommandPromise}
 use Rattle.chain_app.specs.RecheckPromise.{TellsVerdict, RecheckPromise}
-use Rattle.chain_app.proofs.TaskKinds.{at_once_task}
-use Rattle.chain_app.proofs.Keeping.{of_input}
-use Rattle.chain_app.proofs.ReadOff.{gets}
+use Rattle.frame_core.specs.TaskLaws.{at_once_task}
+use Rattle.frame_core.specs.KeepingLaws.{of_input}
+use Rattle.frame_core.specs.ReadOffLaws.{gets}
 
 -- ---- what the judge of bundles answers
 

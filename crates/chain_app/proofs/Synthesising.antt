@@ -16,20 +16,20 @@ use Rattle.settings.specs.declared.synth.SynthSettings.{SynthSettings}
 use Rattle.synth_core.specs.Certifying.{IsCertificate}
 use Rattle.synth_core.specs.Tables.{words_alone, tables_alone}
 use Rattle.command_line.specs.CommandLine.{AsksFor}
-use Rattle.chain_app.specs.declared.status.Status.TheVariants.{Done, Undecided, Refused}
+use Rattle.frame_core.specs.declared.status.Status.TheVariants.{Done, Undecided, Refused}
 use Rattle.chain_app.specs.Agree.{most_of_tables}
 use Rattle.chain_app.specs.AgreeReport.{spec_status, named_spec}
 use Rattle.chain_app.specs.SynthReport.{verdict_status, Certified, synth_reply, synth_refusal, AreTables, IsCertified, HasTablesFault, synth_task}
-use Rattle.chain_app.specs.Told.{Reply, Refusal, memory_refusal}
-use Rattle.chain_app.specs.Task.{IsAnswerStatus, IsRefusalStatus, IsTask, Tells, Refuses}
+use Rattle.frame_core.specs.Told.{Reply, Refusal, memory_refusal}
+use Rattle.frame_core.specs.Task.{IsAnswerStatus, IsRefusalStatus, IsTask, Tells, Refuses}
 use Rattle.command_line.specs.declared.command.Command.TheVariants.{Synth}
-use Rattle.chain_app.specs.Run.{Run}
-use Rattle.chain_app.specs.Promise.{OutputHeld, Replies, Faults, CommandPromise}
+use Rattle.frame_core.specs.Run.{Run}
+use Rattle.frame_core.specs.Promise.{OutputHeld, Replies, Faults, CommandPromise}
 use Rattle.chain_app.specs.SynthPromise.{SynthPromise}
 use Rattle.chain_app.proofs.Certified.{certified}
-use Rattle.chain_app.proofs.TaskKinds.{at_once_task}
-use Rattle.chain_app.proofs.Keeping.{of_input}
-use Rattle.chain_app.proofs.ReadOff.{gets}
+use Rattle.frame_core.specs.TaskLaws.{at_once_task}
+use Rattle.frame_core.specs.KeepingLaws.{of_input}
+use Rattle.frame_core.specs.ReadOffLaws.{gets}
 
 -- ---- what the search answers
 

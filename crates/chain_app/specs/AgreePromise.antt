@@ -5,12 +5,12 @@ use Rattle.command_line.specs.CommandLine.{AsksFor}
 use Rattle.chain_app.specs.declared.agree.Answer.{Answer}
 use Rattle.chain_app.specs.declared.agree.Answer.TheVariants.{Agrees, Differs}
 use Rattle.chain_app.specs.declared.agree.AgreeError.{AgreeError}
-use Rattle.chain_app.specs.declared.status.Status.TheVariants.{Done, Undecided, Refused}
+use Rattle.frame_core.specs.declared.status.Status.TheVariants.{Done, Undecided, Refused}
 use Rattle.chain_app.specs.Agree.{Question, IsQuestion, IsAnswer, HasAnswer, HasFault}
 use Rattle.chain_app.specs.AgreeReport.{agree_reply, agree_refusal, agree_task}
-use Rattle.chain_app.specs.Run.{Run}
+use Rattle.frame_core.specs.Run.{Run}
 use Rattle.chain_app.specs.Runs.{Runs}
-use Rattle.chain_app.specs.Promise.{InputHeld, OutputHeld, Stands, TellsError, Replies}
+use Rattle.frame_core.specs.Promise.{InputHeld, OutputHeld, Stands, TellsError, Replies}
 
 -- The first difference stands on the output.
 pub record TellsDifference (r : Run) (input : List ℕ) : Type 0 where

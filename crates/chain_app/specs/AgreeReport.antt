@@ -8,11 +8,11 @@ use Rattle.chain_app.specs.declared.agree.Answer.{Answer}
 use Rattle.chain_app.specs.declared.agree.Answer.TheVariants.{Agrees, Differs}
 use Rattle.chain_app.specs.declared.agree.AgreeError.{AgreeError}
 use Rattle.chain_app.specs.declared.agree.AgreeError.TheVariants as errors
-use Rattle.chain_app.specs.declared.status.Status.{Status}
-use Rattle.chain_app.specs.declared.status.Status.TheVariants.{Done, Malformed, Limit, Memory, Refused}
+use Rattle.frame_core.specs.declared.status.Status.{Status}
+use Rattle.frame_core.specs.declared.status.Status.TheVariants.{Done, Malformed, Limit, Memory, Refused}
 use Rattle.chain_app.specs.Agree.{HasAnswer, HasFault, most_of_tables}
-use Rattle.chain_app.specs.Told.{Reply, Field, Refusal, plain, at, too_long, memory}
-use Rattle.chain_app.specs.Task.{Task, at_once}
+use Rattle.frame_core.specs.Told.{Reply, Field, Refusal, plain, at, too_long, memory}
+use Rattle.frame_core.specs.Task.{Task, at_once}
 
 -- An answer that the chain differs is a refusal.
 abbrev pub answer_status : Answer → Status

@@ -2,10 +2,10 @@
 use Rattle.std.specs.Prelude.{◌≡◌}
 use Rattle.command_line.specs.declared.command.Command.{Command}
 use Rattle.command_line.specs.CommandLine.{AsksFor}
-use Rattle.chain_app.specs.declared.status.Status.TheVariants.{Usage}
-use Rattle.chain_app.specs.Outside.{Writes}
-use Rattle.chain_app.specs.Told.{error_line, usage}
-use Rattle.chain_app.specs.Run.{Outcome, Run, IsRun}
+use Rattle.frame_core.specs.declared.status.Status.TheVariants.{Usage}
+use Rattle.frame_core.specs.Outside.{Writes}
+use Rattle.frame_core.specs.Told.{error_line, usage}
+use Rattle.frame_core.specs.Run.{Outcome, Run, IsRun}
 use Rattle.chain_app.specs.Tasks.{task_of}
 
 -- the words asked for nothing, or for a command, whose run had an outcome

@@ -5,11 +5,11 @@ use Rattle.command_line.specs.CommandLine.{AsksFor}
 use Rattle.net_core.specs.declared.error.NetError.{NetError}
 use Rattle.net_document.specs.Format.{IsNetlist}
 use Rattle.blif_core.specs.Blif.{blif_format}
-use Rattle.chain_app.specs.declared.status.Status.TheVariants.{Done, Undecided, Refused}
+use Rattle.frame_core.specs.declared.status.Status.TheVariants.{Done, Undecided, Refused}
 use Rattle.chain_app.specs.ImproveReport.{most_of_netlist, improve_refusal, HasNetlistFault, improve_task}
-use Rattle.chain_app.specs.Run.{Run}
+use Rattle.frame_core.specs.Run.{Run}
 use Rattle.chain_app.specs.Runs.{Runs}
-use Rattle.chain_app.specs.Promise.{InputHeld, OutputHeld, AllSteady, TellsError, Replies, ReportCut}
+use Rattle.frame_core.specs.Promise.{InputHeld, OutputHeld, AllSteady, TellsError, Replies, ReportCut}
 
 pub record ImprovePromise (r : Run) : Type 0 where
   -- Where no call failed at all, a netlist gets one that does the same with no more gates, and its report.

@@ -5,10 +5,10 @@ use Rattle.net_core.specs.declared.error.NetError.TheVariants as nets
 use Rattle.net_document.specs.Format.{HasNetFault}
 use Rattle.blif_core.specs.Blif.{blif_format}
 use Rattle.improve_core.specs.Improving.{IsReported}
-use Rattle.chain_app.specs.declared.status.Status.{Status}
-use Rattle.chain_app.specs.declared.status.Status.TheVariants.{Done, Malformed, Limit, Memory}
-use Rattle.chain_app.specs.Told.{Reply, Field, Word, Number, Refusal, at, memory}
-use Rattle.chain_app.specs.Task.{Task, at_once}
+use Rattle.frame_core.specs.declared.status.Status.{Status}
+use Rattle.frame_core.specs.declared.status.Status.TheVariants.{Done, Malformed, Limit, Memory}
+use Rattle.frame_core.specs.Told.{Reply, Field, Word, Number, Refusal, at, memory}
+use Rattle.frame_core.specs.Task.{Task, at_once}
 
 -- the most bytes of a netlist that are read
 abbrev pub most_of_netlist : ℕ

@@ -1,5 +1,5 @@
 -- What the top call promises: the table of contents of its theorem.
-use Rattle.chain_app.specs.Run.{Run}
+use Rattle.frame_core.specs.Run.{Run}
 use Rattle.chain_app.specs.Ending.{Ending, IsEnding}
 use Rattle.chain_app.specs.RunPromise.{RunPromise}
 use Rattle.chain_app.specs.AgreePromise.{AgreePromise}

@@ -6,17 +6,10 @@ pub mod Ending
 pub mod ImprovePromise
 pub mod ImproveReport
 pub mod KeepsPromises
-pub mod Outside
-pub mod Promise
 pub mod RecheckPromise
 pub mod RecheckReport
-pub mod Run
 pub mod RunPromise
 pub mod Runs
-pub mod Statuses
 pub mod SynthPromise
 pub mod SynthReport
-pub mod Task
 pub mod Tasks
-pub mod Told
-pub mod Views

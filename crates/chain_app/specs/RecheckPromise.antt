@@ -10,11 +10,11 @@ use Rattle.cert_theory.specs.Bundle.{Bundle}
 use Rattle.cert_theory.specs.Meaning.{Means}
 use Rattle.cert_theory.specs.Spelling.{IsBundle}
 use Rattle.cert_theory.specs.Question.{HasQuestion}
-use Rattle.chain_app.specs.declared.status.Status.TheVariants.{Done, Limit, Undecided, Refused}
+use Rattle.frame_core.specs.declared.status.Status.TheVariants.{Done, Limit, Undecided, Refused}
 use Rattle.chain_app.specs.RecheckReport.{most_of_bundle, recheck_reply, recheck_refusal, HasBundleFault, GivesVerdict, recheck_task}
-use Rattle.chain_app.specs.Run.{Run}
+use Rattle.frame_core.specs.Run.{Run}
 use Rattle.chain_app.specs.Runs.{Runs}
-use Rattle.chain_app.specs.Promise.{InputHeld, OutputHeld, Stands, TellsError, Replies, Faults}
+use Rattle.frame_core.specs.Promise.{InputHeld, OutputHeld, Stands, TellsError, Replies, Faults}
 
 -- The verdict that the bytes have stands on the output. Behind their first line they spell tables and a
 -- basis, and what it says of all chains is true of whatever tables and basis they spell there.

@@ -12,10 +12,10 @@ use Rattle.cert_theory.specs.Bundle.{Bundle}
 use Rattle.cert_theory.specs.Meaning.{Means}
 use Rattle.cert_theory.specs.Spelling.{verdict_line, IsBundle, HasVerdict}
 use Rattle.cert_theory.specs.Judging.{bundle_of}
-use Rattle.chain_app.specs.declared.status.Status.{Status}
-use Rattle.chain_app.specs.declared.status.Status.TheVariants.{Done, Malformed, Memory, Refused}
-use Rattle.chain_app.specs.Told.{Reply, Field, Word, Number, Refusal, at, memory}
-use Rattle.chain_app.specs.Task.{Task, at_once}
+use Rattle.frame_core.specs.declared.status.Status.{Status}
+use Rattle.frame_core.specs.declared.status.Status.TheVariants.{Done, Malformed, Memory, Refused}
+use Rattle.frame_core.specs.Told.{Reply, Field, Word, Number, Refusal, at, memory}
+use Rattle.frame_core.specs.Task.{Task, at_once}
 
 -- the most bytes of a bundle that are read
 abbrev pub most_of_bundle : ℕ

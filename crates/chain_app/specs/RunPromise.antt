@@ -2,10 +2,10 @@
 use Rattle.std.specs.Prelude.{◌≡◌}
 use Rattle.command_line.specs.declared.command.Command.{Command}
 use Rattle.command_line.specs.CommandLine.{AsksFor}
-use Rattle.chain_app.specs.declared.status.Status.TheVariants.{Usage}
-use Rattle.chain_app.specs.Run.{Run}
+use Rattle.frame_core.specs.declared.status.Status.TheVariants.{Usage}
+use Rattle.frame_core.specs.Run.{Run}
 use Rattle.chain_app.specs.Ending.{IsIdle}
-use Rattle.chain_app.specs.Promise.{CommandPromise}
+use Rattle.frame_core.specs.Promise.{CommandPromise}
 use Rattle.chain_app.specs.Tasks.{task_of}
 
 pub record RunPromise (r : Run) : Type 0 where

@@ -2,7 +2,7 @@
 use Rattle.std.specs.Prelude.{◌≡◌, ℕ, List, Some}
 use Rattle.command_line.specs.declared.command.Command.{Command}
 use Rattle.command_line.specs.CommandLine.{AsksFor}
-use Rattle.chain_app.specs.Run.{Run}
+use Rattle.frame_core.specs.Run.{Run}
 
 -- The words asked for this command, and the source told these bytes.
 pub record Runs (command : Command) (r : Run) (input : List ℕ) : Type 0 where

@@ -4,12 +4,12 @@ use Rattle.tt_core.specs.Words.{Words}
 use Rattle.tt_core.specs.declared.error.SpecError.{SpecError}
 use Rattle.command_line.specs.CommandLine.{AsksFor}
 use Rattle.settings.specs.declared.synth.SynthSettings.{SynthSettings}
-use Rattle.chain_app.specs.declared.status.Status.TheVariants.{Done, Undecided, Refused}
+use Rattle.frame_core.specs.declared.status.Status.TheVariants.{Done, Undecided, Refused}
 use Rattle.chain_app.specs.SynthReport.{synth_refusal, AreTables, HasTablesFault, synth_task}
 use Rattle.command_line.specs.declared.command.Command.TheVariants.{Synth}
-use Rattle.chain_app.specs.Run.{Run}
+use Rattle.frame_core.specs.Run.{Run}
 use Rattle.chain_app.specs.Runs.{Runs}
-use Rattle.chain_app.specs.Promise.{InputHeld, OutputHeld, TellsError, Replies}
+use Rattle.frame_core.specs.Promise.{InputHeld, OutputHeld, TellsError, Replies}
 
 pub record SynthPromise (r : Run) : Type 0 where
   -- Tables get a certificate, and the status of its verdict.

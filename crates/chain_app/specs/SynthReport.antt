@@ -12,13 +12,13 @@ use Rattle.cert_theory.specs.Judging.{bundle_of}
 use Rattle.settings.specs.declared.synth.SynthSettings.{SynthSettings}
 use Rattle.synth_core.specs.Certifying.{IsCertificate}
 use Rattle.synth_core.specs.Tables.{tables_alone}
-use Rattle.chain_app.specs.declared.status.Status.{Status}
-use Rattle.chain_app.specs.declared.status.Status.TheVariants.{Done, Undecided}
+use Rattle.frame_core.specs.declared.status.Status.{Status}
+use Rattle.frame_core.specs.declared.status.Status.TheVariants.{Done, Undecided}
 use Rattle.chain_app.specs.Agree.{most_of_tables}
 use Rattle.chain_app.specs.AgreeReport.{spec_status, named_spec}
 use Rattle.chain_app.specs.RecheckReport.{most_of_bundle, GivesVerdict}
-use Rattle.chain_app.specs.Told.{Reply, Refusal}
-use Rattle.chain_app.specs.Task.{Task, at_once}
+use Rattle.frame_core.specs.Told.{Reply, Refusal}
+use Rattle.frame_core.specs.Task.{Task, at_once}
 
 -- Where the fewest steps are known, or no chain is within the limit, that is an answer; a budget that
 -- was spent before leaves it undecided.

@@ -2,12 +2,11 @@
 ghost use Rattle.std.specs.Prelude.{◌≡◌, ◌≤◌, IfOk, length};
 ghost use Rattle.chain_app.specs.Agree.{most_of_tables};
 ghost use Rattle.chain_app.specs.AgreeReport.{answer_text, answer_status, error_status, spec_status as spec_status_of, chain_status as chain_status_of, named_spec, named_chain, named_error, agree_reply, agree_refusal, agree_task};
-ghost use Rattle.chain_app.specs.Views.{line_value, reply_value, refusal_value, Judges};
+ghost use Rattle.frame_core.specs.Views.{line_value, reply_value, refusal_value, Judges};
 
 use crate::judging::judge;
-use crate::replies::{ErrorLine, Refusal, Reply, Stop};
-use crate::status::Status;
 use chain_core::ChainError;
+use frame_core::{ErrorLine, Refusal, Reply, Status, Stop};
 use std::alloc::{AllocError, Global};
 use text_core::push_number;
 use tt_core::SpecError;
@@ -94,7 +93,7 @@ fn chain_status(error: ChainError) -> Status
 }
 
 /// What the error line of tables names.
-#[tactic(auto, unfolding(crate::specs::AgreeReport::named_spec, crate::specs::Told::memory))]
+#[tactic(auto, unfolding(crate::specs::AgreeReport::named_spec, frame_core::specs::Told::memory))]
 pub(crate) fn name_spec(error: SpecError) -> ErrorLine
     ensures { line_value result ≡ named_spec error }
 {
@@ -110,7 +109,7 @@ pub(crate) fn name_spec(error: SpecError) -> ErrorLine
 }
 
 /// What the error line of a chain block names.
-#[tactic(auto, unfolding(crate::specs::AgreeReport::named_chain, crate::specs::Told::memory))]
+#[tactic(auto, unfolding(crate::specs::AgreeReport::named_chain, frame_core::specs::Told::memory))]
 fn name_chain(error: ChainError) -> ErrorLine
     ensures { line_value result ≡ named_chain error }
 {
@@ -125,7 +124,7 @@ fn name_chain(error: ChainError) -> ErrorLine
 }
 
 /// What an error's line names.
-#[tactic(auto, unfolding(crate::specs::AgreeReport::named_error, crate::specs::Told::too_long, crate::specs::Told::memory))]
+#[tactic(auto, unfolding(crate::specs::AgreeReport::named_error, frame_core::specs::Told::too_long, frame_core::specs::Told::memory))]
 fn name_error(error: AgreeError) -> ErrorLine
     ensures { line_value result ≡ named_error error }
 {

@@ -1,10 +1,9 @@
 //! The command `improve`: what it tells of bytes.
 ghost use Rattle.std.specs.Prelude.{◌≡◌, ◌≤◌, length};
 ghost use Rattle.chain_app.specs.ImproveReport.{most_of_netlist, net_status as net_status_of, of_name as of_name_text, at_name as at_name_text, named_net, improve_reply, improve_refusal, improve_task};
-ghost use Rattle.chain_app.specs.Views.{line_value, reply_value, refusal_value, Judges};
+ghost use Rattle.frame_core.specs.Views.{line_value, reply_value, refusal_value, Judges};
 
-use crate::replies::{ErrorLine, Field, Refusal, Reply, Stop};
-use crate::status::Status;
+use frame_core::{ErrorLine, Field, Refusal, Reply, Report, Status, Stop};
 use improve_core::{ImprovedText, NetError, improve as improve_netlist};
 use net_core::Name;
 use std::alloc::Global;
@@ -28,7 +27,7 @@ fn net_status(error: &NetError) -> Status
 }
 
 /// A variant with a name of the netlist.
-#[tactic(auto, unfolding(crate::specs::Views::shown))]
+#[tactic(auto, unfolding(frame_core::specs::Views::shown))]
 fn of_name(variant: &'static [u8], name: Name) -> ErrorLine
     ensures { line_value result ≡ of_name_text variant.now name }
 {
@@ -36,7 +35,7 @@ fn of_name(variant: &'static [u8], name: Name) -> ErrorLine
 }
 
 /// A variant with a line and a name.
-#[tactic(auto, unfolding(crate::specs::Views::shown))]
+#[tactic(auto, unfolding(frame_core::specs::Views::shown))]
 fn at_name(variant: &'static [u8], line: u32, name: Name) -> ErrorLine
     ensures { line_value result ≡ at_name_text variant.now line name }
 {
@@ -49,7 +48,7 @@ fn at_name(variant: &'static [u8], line: u32, name: Name) -> ErrorLine
 }
 
 /// What the error line of a netlist names.
-#[tactic(auto, unfolding(crate::specs::ImproveReport::named_net, crate::specs::Told::memory))]
+#[tactic(auto, unfolding(crate::specs::ImproveReport::named_net, frame_core::specs::Told::memory))]
 fn name_net(error: NetError) -> ErrorLine
     ensures { line_value result ≡ named_net error }
 {
@@ -86,7 +85,7 @@ fn reply_of(improved: ImprovedText) -> Reply
 {
     Reply {
         text: improved.text,
-        report: Some(improved.report),
+        report: Some(Report::whole(improved.report)),
         status: Status::Done,
     }
 }

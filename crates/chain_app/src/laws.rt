@@ -6,13 +6,13 @@ ghost use Rattle.net_document.specs.Format.{IsNetlist};
 ghost use Rattle.blif_core.specs.Blif.{blif_format};
 ghost use Rattle.chain_app.specs.Agree.{Question, question_of};
 ghost use Rattle.chain_app.specs.Asked.{AsksQuestion};
-ghost use Rattle.chain_app.specs.declared.status.Status.TheVariants.{Done};
+ghost use Rattle.frame_core.specs.declared.status.Status.TheVariants.{Done};
 ghost use Rattle.chain_app.specs.ImproveReport.{most_of_netlist};
 ghost use Rattle.chain_app.specs.KeepsPromises.{KeepsPromises};
-ghost use Rattle.chain_app.specs.Promise.{AllSteady};
-ghost use Rattle.chain_app.specs.Run.{Run};
+ghost use Rattle.frame_core.specs.Promise.{AllSteady};
+ghost use Rattle.frame_core.specs.Run.{Run};
 ghost use Rattle.chain_app.specs.Runs.{Runs};
-ghost use Rattle.chain_app.specs.Task.{IsTask};
+ghost use Rattle.frame_core.specs.Task.{IsTask};
 ghost use Rattle.chain_app.specs.Tasks.{task_of};
 
 /// Bytes ask a question exactly where it is spelled so, each line of it.
@@ -28,6 +28,7 @@ pub fn commands_are_tasks()
 {}
 
 /// A run that keeps its promises improves: where no call failed at all, a netlist has the status 0.
+#[tactic(auto, using(crate::proofs::Ends::improved))]
 pub fn netlists_are_improved()
     ensures { (r : Run) (input : List ℕ) →
         KeepsPromises r →

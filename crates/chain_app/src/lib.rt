@@ -12,19 +12,17 @@
 #![tactic(auto)]
 
 mod agree;
+mod asked;
 mod improve;
 mod judging;
 pub mod laws;
 mod recheck;
-mod replies;
-mod reporting;
 mod running;
-mod status;
 mod synth;
 
 pub use agree::{AgreeError, Answer};
+pub use frame_core::Status;
 pub use running::run;
-pub use status::Status;
 
 #[cfg(test)]
 mod tests;

@@ -1,11 +1,10 @@
 //! The command `recheck`: what it tells of bytes.
 ghost use Rattle.std.specs.Prelude.{◌≡◌, ◌≤◌, ◌∷◌, [], IfOk, length};
 ghost use Rattle.chain_app.specs.RecheckReport.{most_of_bundle, verdict_text, bundle_status as bundle_status_of, refused_step, two_of, named_step, named_bundle, recheck_reply, recheck_refusal, recheck_task};
-ghost use Rattle.chain_app.specs.Views.{shown, line_value, reply_value, refusal_value, Judges};
+ghost use Rattle.frame_core.specs.Views.{shown, line_value, reply_value, refusal_value, Judges};
 
-use crate::replies::{ErrorLine, Field, Refusal, Reply, Stop};
-use crate::status::Status;
 use cert_file::{BundleError, Verdict, check_bundle};
+use frame_core::{ErrorLine, Field, Refusal, Reply, Status, Stop};
 use lrat_check::CheckError;
 use std::alloc::{AllocError, Global};
 use text_core::push_number;
@@ -32,7 +31,7 @@ fn bundle_status(error: BundleError) -> Status
 }
 
 /// A refused step: its line, the name of its fault, and what that speaks of.
-#[tactic(auto, unfolding(crate::specs::Views::shown))]
+#[tactic(auto, unfolding(frame_core::specs::Views::shown))]
 fn step(line: u32, word: &'static [u8], of: Field) -> ErrorLine
     ensures { line_value result ≡ refused_step line word.now (shown (of ∷ [])) }
 {
@@ -40,7 +39,7 @@ fn step(line: u32, word: &'static [u8], of: Field) -> ErrorLine
 }
 
 /// What the error line of a refused step names.
-#[tactic(auto, unfolding(crate::specs::RecheckReport::named_step, crate::specs::Views::shown))]
+#[tactic(auto, unfolding(crate::specs::RecheckReport::named_step, frame_core::specs::Views::shown))]
 fn name_step(line: u32, error: CheckError) -> ErrorLine
     ensures { line_value result ≡ named_step line error }
 {
@@ -60,7 +59,7 @@ fn name_step(line: u32, error: CheckError) -> ErrorLine
 }
 
 /// A variant with two numbers.
-#[tactic(auto, unfolding(crate::specs::Views::shown))]
+#[tactic(auto, unfolding(frame_core::specs::Views::shown))]
 fn two(name: &'static [u8], number: u32, last: u32) -> ErrorLine
     ensures { line_value result ≡ two_of name.now number last }
 {
@@ -73,7 +72,7 @@ fn two(name: &'static [u8], number: u32, last: u32) -> ErrorLine
 }
 
 /// What a fault's error line names.
-#[tactic(auto, unfolding(crate::specs::RecheckReport::named_bundle, crate::specs::Told::memory))]
+#[tactic(auto, unfolding(crate::specs::RecheckReport::named_bundle, frame_core::specs::Told::memory))]
 fn name_bundle(error: BundleError) -> ErrorLine
     ensures { line_value result ≡ named_bundle error }
 {

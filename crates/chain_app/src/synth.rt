@@ -3,11 +3,10 @@ ghost use Rattle.std.specs.Prelude.{◌≡◌, ◌≤◌, length};
 ghost use Rattle.settings.specs.Synth.{IsInRange};
 ghost use Rattle.chain_app.specs.Agree.{most_of_tables};
 ghost use Rattle.chain_app.specs.SynthReport.{verdict_status as verdict_status_of, synth_reply, synth_refusal, synth_task};
-ghost use Rattle.chain_app.specs.Views.{reply_value, refusal_value, Judges};
+ghost use Rattle.frame_core.specs.Views.{reply_value, refusal_value, Judges};
 
 use crate::agree::{name_spec, spec_status};
-use crate::replies::{Refusal, Reply, Stop};
-use crate::status::Status;
+use frame_core::{Refusal, Reply, Status, Stop};
 use std::alloc::Global;
 use synth_core::{Certificate, SynthSettings, Verdict, synthesise};
 use tt_core::SpecError;

@@ -1,0 +1,392 @@
+-- What the outcome of a command's run says to its caller.
+use Rattle.std.specs.Prelude.{◌≡◌, ◌≢◌, ℕ, ◌≤◌, ◌⊎◌, Bool, true, false, List, [], Option, Some, None}
+use Rattle.std.proofs.Common.{sym, ◌∙◌, ap, subst, inl, inr}
+use Rattle.std.proofs.Math.Logic.{⊎_elim}
+use Rattle.port_io.specs.Bytes.{Appends}
+use Rattle.port_io.specs.Faults.{Rose}
+use Rattle.port_io.specs.CountLaws.{rose_later}
+use Rattle.frame_core.specs.declared.status.Status.{Status}
+use Rattle.frame_core.specs.declared.status.Status.TheVariants as statuses
+use Rattle.frame_core.specs.Outside.{Side, Writes}
+use Rattle.frame_core.specs.Told.{Reply, Refusal, error_line, read_fault, write_fault, too_long, memory, too_long_refusal, read_fault_refusal, memory_refusal}
+use Rattle.frame_core.specs.Task.{Task, Tells, Refuses, IsBeyond, IsAnswerable, IsRefusalStatus, IsTask}
+use Rattle.frame_core.specs.Run.{Outcome, ReadFault, TooLong, Memory, Answered, CutShort, Starved, ReportCut, NoAnswer, status_of, Run, IsRun, IsInput, HasInput, SourceRead, SourceLeft, SourceAfter, OutAfter, Reports, ReportsFront}
+use Rattle.frame_core.specs.Promise.{InputHeld, OutputHeld, AllSteady, Stands, TellsError, Replies, Faults, ReplyCut, ReportCut as CutReport, ReplyStarved, OfInput, IsTooLong, CommandPromise}
+
+-- ---- the input
+
+-- what was judged is the input
+pub input_is : (reads : Option ℕ) (left : Option (List ℕ)) (bytes input : List ℕ) → IsInput reads left bytes → HasInput reads left input → bytes ≡ input
+input_is None left bytes input are told = are ∙ sym told
+input_is (Some most) left bytes input are told = are input told
+
+-- what holds of it holds of the input
+pub of_input : (task : Task) (r : Run) (Holds : List ℕ → Type 0) (input : List ℕ) → OfInput task r Holds → HasInput task.reads r.source.bytes input → Holds input
+of_input task r Holds input of told = subst Holds (input_is task.reads r.source.bytes of.bytes input of.are told) of.holds
+
+-- ---- each outcome
+
+-- what went to the notes where no report did
+line_alone : (old between new : Side) (text : List ℕ) → between ≡ old → Writes between new text → Writes old new text
+line_alone old between new text same writes = subst (λ (s : Side). Writes s new text) same writes
+
+-- what stands where the bytes have an answer
+replies : (task : Task) (r : Run) (reply : Reply) → IsRun task r (Answered reply) → OfInput task r (Replies task r)
+replies task r reply run =
+    let tells : Tells task run.bytes reply = run.judged.1 in
+    let here : Stands r reply = record {
+      status_is = run.status_is;
+      on_out = run.on_out;
+      on_note = subst (λ (s : Side). Reports r.note s reply.report) (sym run.on_note.line) run.on_note.report;
+    } in
+    record {
+      bytes = run.bytes;
+      are = run.judged.0;
+      holds = record { answer = tells.answer; has = tells.has; stands = subst (λ (x : Reply). Stands r x) tells.is here };
+    }
+
+reply_cut : (task : Task) (r : Run) → IsRun task r CutShort → OfInput task r (ReplyCut task r)
+reply_cut task r run = record {
+  bytes = run.bytes;
+  are = run.judged;
+  holds = record {
+    front = run.on_out.0.front;
+    leaves = run.on_out.0.leaves;
+    on_out = run.on_out.0.on_out;
+    rose = run.on_out.1;
+    on_note = line_alone r.note run.on_note.between r.note' (error_line write_fault) run.on_note.report run.on_note.line;
+  };
+}
+
+starved : (task : Task) (r : Run) → IsRun task r Starved → OfInput task r (ReplyStarved task r)
+starved task r run = record {
+  bytes = run.bytes;
+  are = run.judged.0;
+  holds = record {
+    in_pieces = run.judged.1;
+    front = run.on_out.front;
+    leaves = run.on_out.leaves;
+    on_out = run.on_out.on_out;
+    on_note = line_alone r.note run.on_note.between r.note' (error_line memory) run.on_note.report run.on_note.line;
+  };
+}
+
+-- a report that was cut met a fault of the notes
+report_rose : (old between new : Side) (report : Option (List ℕ)) → old.faults ≤ between.faults → ReportsFront old between report → between.faults ≤ new.faults → Rose old.faults new.faults
+report_rose old between new None first front then = absurd front
+report_rose old between new (Some text) first front then = rose_later old.faults between.faults new.faults first front.1 then
+
+report_cut : (task : Task) (r : Run) (reply : Reply) → IsRun task r (ReportCut reply) → OfInput task r (CutReport task r)
+report_cut task r reply run =
+    let tells : Tells task run.bytes reply = run.judged.1 in
+    record {
+      bytes = run.bytes;
+      are = run.judged.0;
+      holds = record {
+        answer = tells.answer;
+        has = tells.has;
+        status_is = run.status_is;
+        on_out = subst (λ (x : Reply). Appends r.out.bytes r.out'.bytes x.text) tells.is run.on_out;
+        rose = report_rose r.note run.on_note.between r.note' reply.report run.on_note.first run.on_note.report run.on_note.then;
+        between = run.on_note.between;
+        front = subst (λ (x : Reply). ReportsFront r.note run.on_note.between x.report) tells.is run.on_note.report;
+        line = run.on_note.line;
+      };
+    }
+
+tells_error : (task : Task) (r : Run) (refusal : Refusal) → IsRun task r (NoAnswer refusal) → TellsError r refusal
+tells_error task r refusal run = record { status_is = run.status_is; on_out = run.on_out; on_note = line_alone r.note run.on_note.between r.note' (error_line refusal.named) run.on_note.report run.on_note.line }
+
+faults : (task : Task) (r : Run) (refusal : Refusal) → IsRun task r (NoAnswer refusal) → OfInput task r (Faults task r)
+faults task r refusal run =
+    let refuses : Refuses task run.bytes refusal = run.judged.1 in
+    record {
+      bytes = run.bytes;
+      are = run.judged.0;
+      holds = record { fault = refuses.fault; meets = refuses.meets; told = subst (λ (x : Refusal). TellsError r x) refuses.is (tells_error task r refusal run) };
+    }
+
+long_told : (task : Task) (r : Run) → IsRun task r TooLong → TellsError r too_long_refusal
+long_told task r run = record { status_is = run.status_is; on_out = run.on_out; on_note = line_alone r.note run.on_note.between r.note' (error_line too_long) run.on_note.report run.on_note.line }
+
+fault_told : (task : Task) (r : Run) → IsRun task r ReadFault → TellsError r read_fault_refusal
+fault_told task r run = record { status_is = run.status_is; on_out = run.on_out; on_note = line_alone r.note run.on_note.between r.note' (error_line read_fault) run.on_note.report run.on_note.line }
+
+memory_told : (task : Task) (r : Run) → IsRun task r Memory → TellsError r memory_refusal
+memory_told task r run = record { status_is = run.status_is; on_out = run.on_out; on_note = line_alone r.note run.on_note.between r.note' (error_line memory) run.on_note.report run.on_note.line }
+
+-- a read fault is one of the source
+source_rose : (reads : Option ℕ) (old new : Side) → SourceAfter reads old new ReadFault → Rose old.faults new.faults
+source_rose None old new after = absurd after
+source_rose (Some most) old new after = after
+
+-- ---- what input gets
+
+answered : (task : Task) (r : Run) (o : Outcome) (input : List ℕ) → IsRun task r o → HasInput task.reads r.source.bytes input → IsAnswerable task input → OutputHeld r → Replies task r input ⊎ CutReport task r input
+answered task r ReadFault input run told may held = absurd (held.input.source (source_rose task.reads r.source r.source' run.on_source))
+answered task r TooLong input run told may held = absurd (may.within (run.judged input told))
+answered task r Memory input run told may held = absurd (held.input.memory run.status_is)
+answered task r (Answered reply) input run told may held = inl (of_input task r (Replies task r) input (replies task r reply run) told)
+answered task r CutShort input run told may held = absurd (held.out run.on_out.1)
+answered task r Starved input run told may held = absurd (held.input.memory run.status_is)
+answered task r (ReportCut reply) input run told may held = inr (of_input task r (CutReport task r) input (report_cut task r reply run) told)
+answered task r (NoAnswer refusal) input run told may held =
+    let f : Faults task r input = of_input task r (Faults task r) input (faults task r refusal run) told in
+    absurd (may.sound f.fault f.meets)
+
+complete : (task : Task) (r : Run) (o : Outcome) (input : List ℕ) → IsRun task r o → HasInput task.reads r.source.bytes input → IsAnswerable task input → AllSteady r → Replies task r input
+complete task r o input run told may steady =
+    ⊎_elim
+    (λ (got : Replies task r input). got)
+    (λ (cut : CutReport task r input). absurd (steady.note cut.rose))
+    (answered task r o input run told may steady.output)
+
+-- an answer that the bytes judged have is one that the input has
+has_answer : {A : Type 0} (task : Task) (r : Run) (bytes input : List ℕ) (reply : Reply) → IsInput task.reads r.source.bytes bytes → HasInput task.reads r.source.bytes input → Tells task bytes reply → ((answer : task.Answer) → task.Has input answer → ⊥) → A
+has_answer task r bytes input reply are told tells none =
+    absurd (none tells.answer (subst (λ (bs : List ℕ). task.Has bs tells.answer) (input_is task.reads r.source.bytes bytes input are told) tells.has))
+
+refused : (task : Task) (r : Run) (o : Outcome) (input : List ℕ) (fault : task.Fault) → IsTask task → IsRun task r o → HasInput task.reads r.source.bytes input → task.Meets input fault → InputHeld r → TellsError r (task.refusal fault)
+refused task r ReadFault input fault is run told meets held = absurd (held.source (source_rose task.reads r.source r.source' run.on_source))
+refused task r TooLong input fault is run told meets held = absurd (is.fault_within input fault meets (run.judged input told))
+refused task r Memory input fault is run told meets held = absurd (held.memory run.status_is)
+refused task r (Answered reply) input fault is run told meets held = has_answer task r run.bytes input reply run.judged.0 told run.judged.1 (λ answer has. is.apart input answer fault has meets)
+refused task r CutShort input fault is run told meets held =
+    let cut : ReplyCut task r input = of_input task r (ReplyCut task r) input (reply_cut task r run) told in
+    absurd (is.cut_apart input cut.front fault cut.leaves meets)
+refused task r Starved input fault is run told meets held = absurd (held.memory run.status_is)
+refused task r (ReportCut reply) input fault is run told meets held = has_answer task r run.bytes input reply run.judged.0 told run.judged.1 (λ answer has. is.apart input answer fault has meets)
+refused task r (NoAnswer refusal) input fault is run told meets held =
+    let f : Faults task r input = of_input task r (Faults task r) input (faults task r refusal run) told in
+    subst (λ (x : Refusal). TellsError r x) (is.one input f.fault fault f.meets meets) f.told
+
+too_long_told : (task : Task) (r : Run) (o : Outcome) (input : List ℕ) → IsTask task → IsRun task r o → HasInput task.reads r.source.bytes input → IsBeyond task.reads input → InputHeld r → TellsError r too_long_refusal
+too_long_told task r ReadFault input is run told long held = absurd (held.source (source_rose task.reads r.source r.source' run.on_source))
+too_long_told task r TooLong input is run told long held = long_told task r run
+too_long_told task r Memory input is run told long held = absurd (held.memory run.status_is)
+too_long_told task r (Answered reply) input is run told long held = has_answer task r run.bytes input reply run.judged.0 told run.judged.1 (λ answer has. is.answer_within input answer has long)
+too_long_told task r CutShort input is run told long held =
+    let cut : ReplyCut task r input = of_input task r (ReplyCut task r) input (reply_cut task r run) told in
+    absurd (is.cut_within input cut.front cut.leaves long)
+too_long_told task r Starved input is run told long held = absurd (held.memory run.status_is)
+too_long_told task r (ReportCut reply) input is run told long held = has_answer task r run.bytes input reply run.judged.0 told run.judged.1 (λ answer has. is.answer_within input answer has long)
+too_long_told task r (NoAnswer refusal) input is run told long held =
+    let f : Faults task r input = of_input task r (Faults task r) input (faults task r refusal run) told in
+    absurd (is.fault_within input f.fault f.meets long)
+
+-- ---- what a status says
+
+-- a status that an outcome hasn't
+apart : {A : Type 0} (task : Task) (r : Run) (o : Outcome) (s : Status) → IsRun task r o → r.status ≡ s → (status_of o ≡ s → ⊥) → A
+apart task r o s run is other = absurd (other (sym run.status_is ∙ is))
+
+-- nor a reply, nor a refusal
+no_reply : {A : Type 0} (task : Task) (r : Run) (reply : Reply) (s : Status) → IsTask task → IsRun task r (Answered reply) → r.status ≡ s → (statuses.Done ≡ s → ⊥) → (statuses.Undecided ≡ s → ⊥) → (statuses.Refused ≡ s → ⊥) → A
+no_reply task r reply s is_task run is a b c =
+    let tells : Tells task run.bytes reply = run.judged.1 in
+    let has : (task.reply tells.answer).status ≡ s = sym (ap (λ (x : Reply). x.status) tells.is) ∙ sym run.status_is ∙ is in
+    absurd (⊎_elim (λ (e : (task.reply tells.answer).status ≡ statuses.Done). a (sym e ∙ has)) (λ rest. ⊎_elim (λ (e : (task.reply tells.answer).status ≡ statuses.Undecided). b (sym e ∙ has)) (λ (e : (task.reply tells.answer).status ≡ statuses.Refused). c (sym e ∙ has)) rest) (is_task.replies tells.answer))
+
+no_refusal : {A : Type 0} (task : Task) (r : Run) (refusal : Refusal) (s : Status) → IsTask task → IsRun task r (NoAnswer refusal) → r.status ≡ s → (statuses.Malformed ≡ s → ⊥) → (statuses.Limit ≡ s → ⊥) → (statuses.Refused ≡ s → ⊥) → (statuses.Memory ≡ s → ⊥) → A
+no_refusal task r refusal s is_task run is a b c d =
+    let refuses : Refuses task run.bytes refusal = run.judged.1 in
+    let told : Refusal = task.refusal refuses.fault in
+    let has : told.status ≡ s = sym (ap (λ (x : Refusal). x.status) refuses.is) ∙ sym run.status_is ∙ is in
+    let of_status : IsRefusalStatus told.status → ⊥ = λ status. ⊎_elim (λ (e : told.status ≡ statuses.Malformed). a (sym e ∙ has)) (λ rest. ⊎_elim (λ (e : told.status ≡ statuses.Limit). b (sym e ∙ has)) (λ (e : told.status ≡ statuses.Refused). c (sym e ∙ has)) rest) status in
+    let of_memory : told ≡ memory_refusal → ⊥ = λ same. d (sym (ap (λ (x : Refusal). x.status) same) ∙ has) in
+    absurd (⊎_elim of_status of_memory (is_task.refusals refuses.fault))
+
+done_only : (task : Task) (r : Run) (o : Outcome) → IsTask task → IsRun task r o → r.status ≡ statuses.Done → OfInput task r (Replies task r)
+done_only task r ReadFault is_task run is = apart task r ReadFault statuses.Done run is (λ e. cc)
+done_only task r TooLong is_task run is = apart task r TooLong statuses.Done run is (λ e. cc)
+done_only task r Memory is_task run is = apart task r Memory statuses.Done run is (λ e. cc)
+done_only task r (Answered reply) is_task run is = replies task r reply run
+done_only task r CutShort is_task run is = apart task r CutShort statuses.Done run is (λ e. cc)
+done_only task r Starved is_task run is = apart task r Starved statuses.Done run is (λ e. cc)
+done_only task r (ReportCut reply) is_task run is = apart task r (ReportCut reply) statuses.Done run is (λ e. cc)
+done_only task r (NoAnswer refusal) is_task run is = no_refusal task r refusal statuses.Done is_task run is (λ e. cc) (λ e. cc) (λ e. cc) (λ e. cc)
+
+undecided_only : (task : Task) (r : Run) (o : Outcome) → IsTask task → IsRun task r o → r.status ≡ statuses.Undecided → OfInput task r (Replies task r)
+undecided_only task r ReadFault is_task run is = apart task r ReadFault statuses.Undecided run is (λ e. cc)
+undecided_only task r TooLong is_task run is = apart task r TooLong statuses.Undecided run is (λ e. cc)
+undecided_only task r Memory is_task run is = apart task r Memory statuses.Undecided run is (λ e. cc)
+undecided_only task r (Answered reply) is_task run is = replies task r reply run
+undecided_only task r CutShort is_task run is = apart task r CutShort statuses.Undecided run is (λ e. cc)
+undecided_only task r Starved is_task run is = apart task r Starved statuses.Undecided run is (λ e. cc)
+undecided_only task r (ReportCut reply) is_task run is = apart task r (ReportCut reply) statuses.Undecided run is (λ e. cc)
+undecided_only task r (NoAnswer refusal) is_task run is = no_refusal task r refusal statuses.Undecided is_task run is (λ e. cc) (λ e. cc) (λ e. cc) (λ e. cc)
+
+either_left : (task : Task) (r : Run) (P Q : List ℕ → Type 0) → OfInput task r P → OfInput task r (λ input. P input ⊎ Q input)
+either_left task r P Q of = record { bytes = of.bytes; are = of.are; holds = inl of.holds }
+
+either_right : (task : Task) (r : Run) (P Q : List ℕ → Type 0) → OfInput task r Q → OfInput task r (λ input. P input ⊎ Q input)
+either_right task r P Q of = record { bytes = of.bytes; are = of.are; holds = inr of.holds }
+
+refused_only : (task : Task) (r : Run) (o : Outcome) → IsTask task → IsRun task r o → r.status ≡ statuses.Refused → OfInput task r (λ input. Replies task r input ⊎ Faults task r input)
+refused_only task r ReadFault is_task run is = apart task r ReadFault statuses.Refused run is (λ e. cc)
+refused_only task r TooLong is_task run is = apart task r TooLong statuses.Refused run is (λ e. cc)
+refused_only task r Memory is_task run is = apart task r Memory statuses.Refused run is (λ e. cc)
+refused_only task r (Answered reply) is_task run is = either_left task r (Replies task r) (Faults task r) (replies task r reply run)
+refused_only task r CutShort is_task run is = apart task r CutShort statuses.Refused run is (λ e. cc)
+refused_only task r Starved is_task run is = apart task r Starved statuses.Refused run is (λ e. cc)
+refused_only task r (ReportCut reply) is_task run is = apart task r (ReportCut reply) statuses.Refused run is (λ e. cc)
+refused_only task r (NoAnswer refusal) is_task run is = either_right task r (Replies task r) (Faults task r) (faults task r refusal run)
+
+malformed_only : (task : Task) (r : Run) (o : Outcome) → IsTask task → IsRun task r o → r.status ≡ statuses.Malformed → OfInput task r (Faults task r)
+malformed_only task r ReadFault is_task run is = apart task r ReadFault statuses.Malformed run is (λ e. cc)
+malformed_only task r TooLong is_task run is = apart task r TooLong statuses.Malformed run is (λ e. cc)
+malformed_only task r Memory is_task run is = apart task r Memory statuses.Malformed run is (λ e. cc)
+malformed_only task r (Answered reply) is_task run is = no_reply task r reply statuses.Malformed is_task run is (λ e. cc) (λ e. cc) (λ e. cc)
+malformed_only task r CutShort is_task run is = apart task r CutShort statuses.Malformed run is (λ e. cc)
+malformed_only task r Starved is_task run is = apart task r Starved statuses.Malformed run is (λ e. cc)
+malformed_only task r (ReportCut reply) is_task run is = apart task r (ReportCut reply) statuses.Malformed run is (λ e. cc)
+malformed_only task r (NoAnswer refusal) is_task run is = faults task r refusal run
+
+limit_only : (task : Task) (r : Run) (o : Outcome) → IsTask task → IsRun task r o → r.status ≡ statuses.Limit → OfInput task r (Faults task r) ⊎ IsTooLong task r
+limit_only task r ReadFault is_task run is = apart task r ReadFault statuses.Limit run is (λ e. cc)
+limit_only task r TooLong is_task run is = inr (record { beyond = run.judged; told = long_told task r run })
+limit_only task r Memory is_task run is = apart task r Memory statuses.Limit run is (λ e. cc)
+limit_only task r (Answered reply) is_task run is = no_reply task r reply statuses.Limit is_task run is (λ e. cc) (λ e. cc) (λ e. cc)
+limit_only task r CutShort is_task run is = apart task r CutShort statuses.Limit run is (λ e. cc)
+limit_only task r Starved is_task run is = apart task r Starved statuses.Limit run is (λ e. cc)
+limit_only task r (ReportCut reply) is_task run is = apart task r (ReportCut reply) statuses.Limit run is (λ e. cc)
+limit_only task r (NoAnswer refusal) is_task run is = inl (faults task r refusal run)
+
+write_fault_only : (task : Task) (r : Run) (o : Outcome) → IsTask task → IsRun task r o → r.status ≡ statuses.WriteFault → OfInput task r (λ input. ReplyCut task r input ⊎ CutReport task r input)
+write_fault_only task r ReadFault is_task run is = apart task r ReadFault statuses.WriteFault run is (λ e. cc)
+write_fault_only task r TooLong is_task run is = apart task r TooLong statuses.WriteFault run is (λ e. cc)
+write_fault_only task r Memory is_task run is = apart task r Memory statuses.WriteFault run is (λ e. cc)
+write_fault_only task r (Answered reply) is_task run is = no_reply task r reply statuses.WriteFault is_task run is (λ e. cc) (λ e. cc) (λ e. cc)
+write_fault_only task r CutShort is_task run is = either_left task r (ReplyCut task r) (CutReport task r) (reply_cut task r run)
+write_fault_only task r Starved is_task run is = apart task r Starved statuses.WriteFault run is (λ e. cc)
+write_fault_only task r (ReportCut reply) is_task run is = either_right task r (ReplyCut task r) (CutReport task r) (report_cut task r reply run)
+write_fault_only task r (NoAnswer refusal) is_task run is = no_refusal task r refusal statuses.WriteFault is_task run is (λ e. cc) (λ e. cc) (λ e. cc) (λ e. cc)
+
+write_rose : (task : Task) (r : Run) (o : Outcome) → IsTask task → IsRun task r o → r.status ≡ statuses.WriteFault → Rose r.out.faults r.out'.faults ⊎ Rose r.note.faults r.note'.faults
+write_rose task r o is_task run is =
+    let of : OfInput task r (λ input. ReplyCut task r input ⊎ CutReport task r input) = write_fault_only task r o is_task run is in
+    ⊎_elim
+    (λ (cut : ReplyCut task r of.bytes). inl cut.rose)
+    (λ (cut : CutReport task r of.bytes). inr cut.rose)
+    of.holds
+
+read_fault_only : (task : Task) (r : Run) (o : Outcome) → IsTask task → IsRun task r o → r.status ≡ statuses.ReadFault → Rose r.source.faults r.source'.faults × TellsError r read_fault_refusal
+read_fault_only task r ReadFault is_task run is = (source_rose task.reads r.source r.source' run.on_source, fault_told task r run)
+read_fault_only task r TooLong is_task run is = apart task r TooLong statuses.ReadFault run is (λ e. cc)
+read_fault_only task r Memory is_task run is = apart task r Memory statuses.ReadFault run is (λ e. cc)
+read_fault_only task r (Answered reply) is_task run is = no_reply task r reply statuses.ReadFault is_task run is (λ e. cc) (λ e. cc) (λ e. cc)
+read_fault_only task r CutShort is_task run is = apart task r CutShort statuses.ReadFault run is (λ e. cc)
+read_fault_only task r Starved is_task run is = apart task r Starved statuses.ReadFault run is (λ e. cc)
+read_fault_only task r (ReportCut reply) is_task run is = apart task r (ReportCut reply) statuses.ReadFault run is (λ e. cc)
+read_fault_only task r (NoAnswer refusal) is_task run is = no_refusal task r refusal statuses.ReadFault is_task run is (λ e. cc) (λ e. cc) (λ e. cc) (λ e. cc)
+
+-- a refusal for want of memory is that
+memory_refused : (task : Task) (r : Run) (refusal : Refusal) → IsTask task → IsRun task r (NoAnswer refusal) → r.status ≡ statuses.Memory → TellsError r memory_refusal
+memory_refused task r refusal is_task run is =
+    let refuses : Refuses task run.bytes refusal = run.judged.1 in
+    let told : Refusal = task.refusal refuses.fault in
+    let here : TellsError r told = subst (λ (x : Refusal). TellsError r x) refuses.is (tells_error task r refusal run) in
+    let has : told.status ≡ statuses.Memory = sym here.status_is ∙ is in
+    let apart_from : IsRefusalStatus told.status → ⊥ = λ status. ⊎_elim (λ (e : told.status ≡ statuses.Malformed). other (sym e ∙ has) (λ x. cc)) (λ rest. ⊎_elim (λ (e : told.status ≡ statuses.Limit). other (sym e ∙ has) (λ x. cc)) (λ (e : told.status ≡ statuses.Refused). other (sym e ∙ has) (λ x. cc)) rest) status in
+    ⊎_elim
+    (λ (status : IsRefusalStatus told.status). absurd (apart_from status))
+    (λ (same : told ≡ memory_refusal). subst (λ (x : Refusal). TellsError r x) same here)
+    (is_task.refusals refuses.fault)
+  where
+    other : {s t : Status} → s ≡ t → (s ≡ t → ⊥) → ⊥
+    other is isnt = isnt is
+
+memory_only : (task : Task) (r : Run) (o : Outcome) → IsTask task → IsRun task r o → r.status ≡ statuses.Memory → TellsError r memory_refusal ⊎ OfInput task r (ReplyStarved task r)
+memory_only task r ReadFault is_task run is = apart task r ReadFault statuses.Memory run is (λ e. cc)
+memory_only task r TooLong is_task run is = apart task r TooLong statuses.Memory run is (λ e. cc)
+memory_only task r Memory is_task run is = inl (memory_told task r run)
+memory_only task r (Answered reply) is_task run is = no_reply task r reply statuses.Memory is_task run is (λ e. cc) (λ e. cc) (λ e. cc)
+memory_only task r CutShort is_task run is = apart task r CutShort statuses.Memory run is (λ e. cc)
+memory_only task r Starved is_task run is = inr (starved task r run)
+memory_only task r (ReportCut reply) is_task run is = apart task r (ReportCut reply) statuses.Memory run is (λ e. cc)
+memory_only task r (NoAnswer refusal) is_task run is = inl (memory_refused task r refusal is_task run is)
+
+-- no command is told to be none
+pub not_usage : {A : Type 0} (task : Task) (r : Run) (o : Outcome) → IsTask task → IsRun task r o → r.status ≡ statuses.Usage → A
+not_usage task r ReadFault is_task run is = apart task r ReadFault statuses.Usage run is (λ e. cc)
+not_usage task r TooLong is_task run is = apart task r TooLong statuses.Usage run is (λ e. cc)
+not_usage task r Memory is_task run is = apart task r Memory statuses.Usage run is (λ e. cc)
+not_usage task r (Answered reply) is_task run is = no_reply task r reply statuses.Usage is_task run is (λ e. cc) (λ e. cc) (λ e. cc)
+not_usage task r CutShort is_task run is = apart task r CutShort statuses.Usage run is (λ e. cc)
+not_usage task r Starved is_task run is = apart task r Starved statuses.Usage run is (λ e. cc)
+not_usage task r (ReportCut reply) is_task run is = apart task r (ReportCut reply) statuses.Usage run is (λ e. cc)
+not_usage task r (NoAnswer refusal) is_task run is = no_refusal task r refusal statuses.Usage is_task run is (λ e. cc) (λ e. cc) (λ e. cc) (λ e. cc)
+
+-- ---- the source
+
+-- what wrote read to the end
+unread_by : (o : Outcome) (task : Task) (bytes : List ℕ) (source source' out out' : Side) (input : List ℕ) → SourceRead source source' o → OutAfter task bytes out out' o → source.bytes ≡ Some input → (source'.bytes ≡ Some [] → ⊥) → out' ≡ out
+unread_by ReadFault task bytes source source' out out' input read after told left = after
+unread_by TooLong task bytes source source' out out' input read after told left = after
+unread_by Memory task bytes source source' out out' input read after told left = after
+unread_by (Answered reply) task bytes source source' out out' input read after told left = absurd (left (read input told))
+unread_by CutShort task bytes source source' out out' input read after told left = absurd (left (read input told))
+unread_by Starved task bytes source source' out out' input read after told left = absurd (left (read input told))
+unread_by (ReportCut reply) task bytes source source' out out' input read after told left = absurd (left (read input told))
+unread_by (NoAnswer refusal) task bytes source source' out out' input read after told left = after
+
+unread : (task : Task) (r : Run) (o : Outcome) (most : ℕ) (input : List ℕ) → IsRun task r o → task.reads ≡ Some most → r.source.bytes ≡ Some input → (r.source'.bytes ≡ Some [] → ⊥) → r.out' ≡ r.out
+unread task r o most input run reads told left =
+    unread_by o task run.bytes r.source r.source' r.out r.out' input (subst (λ (m : Option ℕ). SourceAfter m r.source r.source' o) reads run.on_source) run.on_out told left
+
+left_alone : (o : Outcome) (old new : Side) → SourceLeft old new o → new ≡ old
+left_alone ReadFault old new after = absurd after
+left_alone TooLong old new after = absurd after
+left_alone Memory old new after = after
+left_alone (Answered reply) old new after = after
+left_alone CutShort old new after = after
+left_alone Starved old new after = after
+left_alone (ReportCut reply) old new after = after
+left_alone (NoAnswer refusal) old new after = after
+
+untouched : (task : Task) (r : Run) (o : Outcome) → IsRun task r o → task.reads ≡ None → r.source' ≡ r.source
+untouched task r o run reads = left_alone o r.source r.source' (subst (λ (m : Option ℕ). SourceAfter m r.source r.source' o) reads run.on_source)
+
+-- ---- the output
+
+not_done : {A : Type 0} (task : Task) (r : Run) (reply : Reply) → IsTask task → IsRun task r (Answered reply) → r.status ≢ statuses.Done → r.status ≢ statuses.Undecided → r.status ≢ statuses.Refused → A
+not_done task r reply is_task run a b c =
+    let tells : Tells task run.bytes reply = run.judged.1 in
+    let has : r.status ≡ (task.reply tells.answer).status = run.status_is ∙ ap (λ (x : Reply). x.status) tells.is in
+    absurd (⊎_elim (λ (e : (task.reply tells.answer).status ≡ statuses.Done). a (has ∙ e)) (λ rest. ⊎_elim (λ (e : (task.reply tells.answer).status ≡ statuses.Undecided). b (has ∙ e)) (λ (e : (task.reply tells.answer).status ≡ statuses.Refused). c (has ∙ e)) rest) (is_task.replies tells.answer))
+
+both : {A : Type 0} (b : Bool) → b ≡ true → b ≡ false → A
+both b is isnt = absurd cc
+
+unchanged : (task : Task) (r : Run) (o : Outcome) → IsTask task → IsRun task r o → r.status ≢ statuses.Done → r.status ≢ statuses.Undecided → r.status ≢ statuses.Refused → r.status ≢ statuses.WriteFault → (r.status ≡ statuses.Memory → task.in_pieces ≡ false) → r.out' ≡ r.out
+unchanged task r ReadFault is_task run a b c d whole = run.on_out
+unchanged task r TooLong is_task run a b c d whole = run.on_out
+unchanged task r Memory is_task run a b c d whole = run.on_out
+unchanged task r (Answered reply) is_task run a b c d whole = not_done task r reply is_task run a b c
+unchanged task r CutShort is_task run a b c d whole = absurd (d run.status_is)
+unchanged task r Starved is_task run a b c d whole = both task.in_pieces run.judged.1 (whole run.status_is)
+unchanged task r (ReportCut reply) is_task run a b c d whole = absurd (d run.status_is)
+unchanged task r (NoAnswer refusal) is_task run a b c d whole = run.on_out
+
+-- ---- the promise
+
+-- All that is promised follows from a run's having an outcome.
+pub promised : (task : Task) (r : Run) (o : Outcome) → IsTask task → IsRun task r o → CommandPromise task r
+promised task r o is_task run = record {
+  complete = λ input told may steady. complete task r o input run told may steady;
+  answered = λ input told may held. answered task r o input run told may held;
+  refused = λ input fault told meets held. refused task r o input fault is_task run told meets held;
+  too_long = λ input told long held. too_long_told task r o input is_task run told long held;
+  done_only = λ is. done_only task r o is_task run is;
+  undecided_only = λ is. undecided_only task r o is_task run is;
+  refused_only = λ is. refused_only task r o is_task run is;
+  malformed_only = λ is. malformed_only task r o is_task run is;
+  limit_only = λ is. limit_only task r o is_task run is;
+  read_fault_only = λ is. read_fault_only task r o is_task run is;
+  write_fault_only = λ is. write_fault_only task r o is_task run is;
+  write_rose = λ is. write_rose task r o is_task run is;
+  memory_only = λ is. memory_only task r o is_task run is;
+  unchanged = λ a b c d whole. unchanged task r o is_task run a b c d whole;
+  unread = λ most input reads told left. unread task r o most input run reads told left;
+  untouched = λ reads. untouched task r o run reads;
+}

@@ -1,0 +1,13 @@
+pub mod KeepingLaws
+pub mod Outside
+pub mod Performing
+pub mod PerformingLaws
+pub mod PiecesLaws
+pub mod Promise
+pub mod ReadOffLaws
+pub mod Run
+pub mod Statuses
+pub mod Task
+pub mod TaskLaws
+pub mod Told
+pub mod Views

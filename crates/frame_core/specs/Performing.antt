@@ -1,0 +1,78 @@
+-- What a command does with bytes, and what performing it comes to.
+use Rattle.std.specs.Prelude.{◌≡◌, ℕ, ◌≤◌, true, List, Result, Ok, Err}
+use Rattle.port_io.specs.Bytes.{Appends, AppendsFront}
+use Rattle.port_io.specs.Faults.{Rose}
+use Rattle.frame_core.specs.declared.replies.Reply.{Reply}
+use Rattle.frame_core.specs.declared.replies.Stop.{Stop}
+use Rattle.frame_core.specs.declared.replies.Stop.TheVariants as stops
+use Rattle.frame_core.specs.declared.replies.Ended.{Ended}
+use Rattle.frame_core.specs.Outside.{Side}
+use Rattle.frame_core.specs.Told as told
+use Rattle.frame_core.specs.Task.{Task, Tells, Refuses}
+use Rattle.frame_core.specs.Run.{Outcome, ReadFault, TooLong, Memory, Answered, CutShort, Starved, ReportCut, NoAnswer, IsOutcome, SourceAfter, OutAfter, ReportAfter}
+use Rattle.frame_core.specs.Views.{reply_value, refusal_value, Ends}
+
+-- The outcome is that of bytes which are judged.
+abbrev pub IsJudged : Task → List ℕ → Outcome → Type 0
+IsJudged task bytes ReadFault = ⊥
+IsJudged task bytes TooLong = ⊥
+IsJudged task bytes Memory = Unit {0}
+IsJudged task bytes (Answered reply) = Tells task bytes reply
+IsJudged task bytes CutShort = Unit {0}
+IsJudged task bytes Starved = task.in_pieces ≡ true
+IsJudged task bytes (ReportCut reply) = Tells task bytes reply
+IsJudged task bytes (NoAnswer refusal) = Refuses task bytes refusal
+
+-- A command answered bytes: that came to an outcome, and left outside what the outcome leaves.
+pub record Answers (task : Task) (bytes : List ℕ) (e : Ended) (out note : Side × Side) : Type 0 where
+  pub outcome : Outcome
+  pub ends : Ends e outcome
+  pub judged : IsJudged task bytes outcome
+  pub on_out : OutAfter task bytes out.0 out.1 outcome
+  pub on_note : ReportAfter note.0 note.1 outcome
+  pub never_falls : note.0.faults ≤ note.1.faults
+
+-- A command was performed, up to the error line.
+pub record Performs (task : Task) (e : Ended) (source out note : Side × Side) : Type 0 where
+  pub outcome : Outcome
+  pub ends : Ends e outcome
+  pub bytes : List ℕ
+  pub judged : IsOutcome task source.0.bytes bytes outcome
+  pub on_source : SourceAfter task.reads source.0 source.1 outcome
+  pub on_out : OutAfter task bytes out.0 out.1 outcome
+  pub on_note : ReportAfter note.0 note.1 outcome
+  pub never_falls : note.0.faults ≤ note.1.faults
+
+-- ---- sending a reply
+
+-- It ends with the reply, whole or cut.
+abbrev pub IsSent : told.Reply → Outcome → Type 0
+IsSent reply (Answered sent) = sent ≡ reply
+IsSent reply CutShort = Unit {0}
+IsSent reply (ReportCut sent) = sent ≡ reply
+IsSent reply outcome = ⊥
+
+-- Its text stands on the output, or a front of it where the output failed.
+abbrev pub OutSent : List ℕ → Side → Side → Outcome → Type 0
+OutSent text old new CutShort = AppendsFront old.bytes new.bytes text × Rose old.faults new.faults
+OutSent text old new outcome = Appends old.bytes new.bytes text
+
+pub record Sent (reply : told.Reply) (e : Ended) (out note : Side × Side) : Type 0 where
+  pub outcome : Outcome
+  pub ends : Ends e outcome
+  pub is : IsSent reply outcome
+  pub on_out : OutSent reply.text out.0 out.1 outcome
+  pub on_note : ReportAfter note.0 note.1 outcome
+  pub never_falls : note.0.faults ≤ note.1.faults
+
+-- Nothing was sent, and the outcome is this one.
+pub record Withheld (outcome : Outcome) (e : Ended) (out note : Side × Side) : Type 0 where
+  pub ends : Ends e outcome
+  pub on_out : out.1 ≡ out.0
+  pub on_note : note.1 ≡ note.0
+
+-- What was told at once was sent out, or there was nothing to send.
+abbrev pub Finishes : Result Reply Stop → Ended → Side × Side → Side × Side → Type 0
+Finishes (Ok reply) e out note = Sent (reply_value reply) e out note
+Finishes (Err stops.NoMemory) e out note = Withheld Memory e out note
+Finishes (Err (stops.NoAnswer refusal)) e out note = Withheld (NoAnswer (refusal_value refusal)) e out note

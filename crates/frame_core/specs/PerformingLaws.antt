@@ -1,0 +1,268 @@
+-- From what a command did with bytes to what performing it comes to.
+use Rattle.std.specs.Prelude.{◌≡◌, ℕ, ◌<◌, ◌≤◌, true, List, [], Option, Some, None, take, drop, Result, Ok, Err}
+use Rattle.std.proofs.Common.{sym, ◌∙◌, ap, subst, refl, arith}
+use Rattle.std.proofs.lemmas.Grind.{common_steps}
+use Rattle.port_io.specs.Bytes.{Appends, AppendsFront}
+use Rattle.port_io.specs.Faults.{Rose}
+use Rattle.frame_core.specs.declared.status.Status.{Status}
+use Rattle.frame_core.specs.declared.replies.Reply.{Reply}
+use Rattle.frame_core.specs.declared.replies.Stop.{Stop}
+use Rattle.frame_core.specs.declared.replies.Stop.TheVariants as stops
+use Rattle.frame_core.specs.declared.replies.Ended.{Ended}
+use Rattle.frame_core.specs.declared.replies.Ended.TheVariants as ended
+use Rattle.frame_core.specs.Outside.{Side, Writes}
+use Rattle.frame_core.specs.Told as told
+use Rattle.frame_core.specs.Told.{error_line}
+use Rattle.frame_core.specs.Task.{Task, Tells, IsBeyond, IsTask}
+use Rattle.frame_core.specs.Run.{Outcome, ReadFault, TooLong, Memory, Answered, CutShort, Starved, ReportCut, NoAnswer, IsWhole, IsInput, HasInput, IsLeft, IsOutcome, IsReadToEnd, SourceRead, SourceAfter, OutAfter, Reports, ReportsFront, Run, run_of, IsRun, LineAfter, line_of}
+use Rattle.frame_core.specs.Views.{reply_value, refusal_value, status_in, line_in, Ends, Judges}
+use Rattle.frame_core.specs.Performing.{IsJudged, Answers, Performs, IsSent, OutSent, Sent, Withheld, Finishes}
+
+-- ---- from bytes to the input
+
+-- the source was read to its end, or not at all
+abbrev pub WasRead : Option ℕ → Side → Side → Type 0
+WasRead None old new = new ≡ old
+WasRead (Some most) old new = IsReadToEnd old new
+
+outcome_by : (task : Task) (left : Option (List ℕ)) (bytes : List ℕ) (o : Outcome) → IsInput task.reads left bytes → IsJudged task bytes o → IsOutcome task left bytes o
+outcome_by task left bytes ReadFault are judged = absurd judged
+outcome_by task left bytes TooLong are judged = absurd judged
+outcome_by task left bytes Memory are judged = judged
+outcome_by task left bytes (Answered reply) are judged = (are, judged)
+outcome_by task left bytes CutShort are judged = are
+outcome_by task left bytes Starved are judged = (are, judged)
+outcome_by task left bytes (ReportCut reply) are judged = (are, judged)
+outcome_by task left bytes (NoAnswer refusal) are judged = (are, judged)
+
+source_read : (task : Task) (bytes : List ℕ) (old new : Side) (o : Outcome) → IsReadToEnd old new → IsJudged task bytes o → SourceRead old new o
+source_read task bytes old new ReadFault read judged = absurd judged
+source_read task bytes old new TooLong read judged = absurd judged
+source_read task bytes old new Memory read judged = judged
+source_read task bytes old new (Answered reply) read judged = read
+source_read task bytes old new CutShort read judged = read
+source_read task bytes old new Starved read judged = read
+source_read task bytes old new (ReportCut reply) read judged = read
+source_read task bytes old new (NoAnswer refusal) read judged = read
+
+source_left : (task : Task) (bytes : List ℕ) (old new : Side) (o : Outcome) → new ≡ old → IsJudged task bytes o → SourceAfter None old new o
+source_left task bytes old new ReadFault same judged = judged
+source_left task bytes old new TooLong same judged = judged
+source_left task bytes old new Memory same judged = same
+source_left task bytes old new (Answered reply) same judged = same
+source_left task bytes old new CutShort same judged = same
+source_left task bytes old new Starved same judged = same
+source_left task bytes old new (ReportCut reply) same judged = same
+source_left task bytes old new (NoAnswer refusal) same judged = same
+
+source_by : (reads : Option ℕ) (task : Task) (bytes : List ℕ) (old new : Side) (o : Outcome) → WasRead reads old new → IsJudged task bytes o → SourceAfter reads old new o
+source_by None task bytes old new o read judged = source_left task bytes old new o read judged
+source_by (Some most) task bytes old new o read judged = source_read task bytes old new o read judged
+
+-- What was read was answered.
+pub performed : (task : Task) (reads : Option ℕ) (bytes : List ℕ) (e : Ended) (source out note : Side × Side) → reads ≡ task.reads → IsInput reads source.0.bytes bytes → WasRead reads source.0 source.1 → Answers task bytes e out note → Performs task e source out note
+performed task reads bytes e source out note same are read answers = record {
+  outcome = answers.outcome;
+  ends = answers.ends;
+  bytes = bytes;
+  judged = outcome_by task source.0.bytes bytes answers.outcome (subst (λ (r : Option ℕ). IsInput r source.0.bytes bytes) same are) answers.judged;
+  on_source = source_by task.reads task bytes source.0 source.1 answers.outcome (subst (λ (r : Option ℕ). WasRead r source.0 source.1) same read) answers.judged;
+  on_out = answers.on_out;
+  on_note = answers.on_note;
+  never_falls = answers.never_falls;
+}
+
+-- Reading failed, gave too many bytes, or lacked memory.
+pub fault_read : (task : Task) (most : ℕ) (source out note : Side × Side) → Some most ≡ task.reads → Rose source.0.faults source.1.faults → out.1 ≡ out.0 → note.1 ≡ note.0 → Performs task ended.ReadFault source out note
+fault_read task most source out note same rose on_out on_note = record {
+  outcome = ReadFault;
+  ends = record { status_is = refl; line_is = refl };
+  bytes = [];
+  judged = tt;
+  on_source = subst (λ (r : Option ℕ). SourceAfter r source.0 source.1 ReadFault) same rose;
+  on_out = on_out;
+  on_note = on_note;
+  never_falls = let counts : note.1.faults ≡ note.0.faults = ap (λ (s : Side). s.faults) on_note in omega arith;
+}
+
+pub long_read : (task : Task) (most : ℕ) (source out note : Side × Side) → Some most ≡ task.reads → ((input : List ℕ) → source.0.bytes ≡ Some input → IsBeyond (Some most) input) → out.1 ≡ out.0 → note.1 ≡ note.0 → Performs task ended.TooLong source out note
+long_read task most source out note same long on_out on_note = record {
+  outcome = TooLong;
+  ends = record { status_is = refl; line_is = refl };
+  bytes = [];
+  judged = subst (λ (r : Option ℕ). (input : List ℕ) → HasInput r source.0.bytes input → IsBeyond r input) same long;
+  on_source = subst (λ (r : Option ℕ). SourceAfter r source.0 source.1 TooLong) same tt;
+  on_out = on_out;
+  on_note = on_note;
+  never_falls = let counts : note.1.faults ≡ note.0.faults = ap (λ (s : Side). s.faults) on_note in omega arith;
+}
+
+pub want_read : (task : Task) (most : ℕ) (source out note : Side × Side) → Some most ≡ task.reads → out.1 ≡ out.0 → note.1 ≡ note.0 → Performs task ended.Memory source out note
+want_read task most source out note same on_out on_note = record {
+  outcome = Memory;
+  ends = record { status_is = refl; line_is = refl };
+  bytes = [];
+  judged = tt;
+  on_source = subst (λ (r : Option ℕ). SourceAfter r source.0 source.1 Memory) same tt;
+  on_out = on_out;
+  on_note = on_note;
+  never_falls = let counts : note.1.faults ≡ note.0.faults = ap (λ (s : Side). s.faults) on_note in omega arith;
+}
+
+-- ---- what is told at once
+
+-- A front of an answer's text may be left of it.
+pub left_of : (task : Task) (bytes : List ℕ) (reply : told.Reply) (old new : Side) → IsTask task → Tells task bytes reply → AppendsFront old.bytes new.bytes reply.text → IsLeft task bytes old new
+left_of task bytes reply old new is tells front =
+    let text : List ℕ = (task.reply tells.answer).text in
+    let same : reply.text ≡ text = ap (λ (x : told.Reply). x.text) tells.is in
+    record {
+      front = take front.count text;
+      leaves = is.fronts bytes (take front.count text) tells.answer tells.has (record { rest = drop front.count text; is = grind (arith, common_steps) });
+      on_out = subst (λ (t : List ℕ). Appends old.bytes new.bytes (take front.count t)) same front.appends;
+    }
+
+sent_judged : (task : Task) (bytes : List ℕ) (reply : told.Reply) (o : Outcome) → Tells task bytes reply → IsSent reply o → IsJudged task bytes o
+sent_judged task bytes reply ReadFault tells is = absurd is
+sent_judged task bytes reply TooLong tells is = absurd is
+sent_judged task bytes reply Memory tells is = absurd is
+sent_judged task bytes reply (Answered x) tells is = subst (λ (y : told.Reply). Tells task bytes y) (sym is) tells
+sent_judged task bytes reply CutShort tells is = is
+sent_judged task bytes reply Starved tells is = absurd is
+sent_judged task bytes reply (ReportCut x) tells is = subst (λ (y : told.Reply). Tells task bytes y) (sym is) tells
+sent_judged task bytes reply (NoAnswer refusal) tells is = absurd is
+
+sent_out : (task : Task) (bytes : List ℕ) (reply : told.Reply) (o : Outcome) (old new : Side) → IsTask task → Tells task bytes reply → IsSent reply o → OutSent reply.text old new o → OutAfter task bytes old new o
+sent_out task bytes reply ReadFault old new task_is tells is out = absurd is
+sent_out task bytes reply TooLong old new task_is tells is out = absurd is
+sent_out task bytes reply Memory old new task_is tells is out = absurd is
+sent_out task bytes reply (Answered x) old new task_is tells is out = subst (λ (y : told.Reply). Appends old.bytes new.bytes y.text) (sym is) out
+sent_out task bytes reply CutShort old new task_is tells is out = (left_of task bytes reply old new task_is tells out.0, out.1)
+sent_out task bytes reply Starved old new task_is tells is out = absurd is
+sent_out task bytes reply (ReportCut x) old new task_is tells is out = subst (λ (y : told.Reply). Appends old.bytes new.bytes y.text) (sym is) out
+sent_out task bytes reply (NoAnswer refusal) old new task_is tells is out = absurd is
+
+-- What judged the bytes rightly, and was sent out, answers them.
+pub answered : (task : Task) (bytes : List ℕ) (x : Result Reply Stop) (e : Ended) (out note : Side × Side) → IsTask task → Judges task bytes x → Finishes x e out note → Answers task bytes e out note
+answered task bytes (Ok reply) e out note task_is judges sent = record {
+  outcome = sent.outcome;
+  ends = sent.ends;
+  judged = sent_judged task bytes (reply_value reply) sent.outcome judges sent.is;
+  on_out = sent_out task bytes (reply_value reply) sent.outcome out.0 out.1 task_is judges sent.is sent.on_out;
+  on_note = sent.on_note;
+  never_falls = sent.never_falls;
+}
+answered task bytes (Err stops.NoMemory) e out note task_is judges held = record {
+  outcome = Memory;
+  ends = held.ends;
+  judged = tt;
+  on_out = held.on_out;
+  on_note = held.on_note;
+  never_falls = let counts : note.1.faults ≡ note.0.faults = ap (λ (s : Side). s.faults) held.on_note in omega arith;
+}
+answered task bytes (Err (stops.NoAnswer refusal)) e out note task_is judges held = record {
+  outcome = NoAnswer (refusal_value refusal);
+  ends = held.ends;
+  judged = judges;
+  on_out = held.on_out;
+  on_note = held.on_note;
+  never_falls = let counts : note.1.faults ≡ note.0.faults = ap (λ (s : Side). s.faults) held.on_note in omega arith;
+}
+
+-- ---- with the error line behind it
+
+-- What was performed, and whose error line was told, is a run.
+pub is_run : (task : Task) (words : List (List ℕ)) (e : Ended) (status : Status) (source out : Side × Side) (note between note' : Side) → Performs task e source out (note, between) → status ≡ status_in e → LineAfter between note' (line_in e) → between.faults ≤ note'.faults → (outcome : Outcome) × IsRun task (run_of words source out (note, note') status) outcome
+is_run task words e status source out note between note' performs same line then = (
+  performs.outcome,
+  record {
+    bytes = performs.bytes;
+    judged = performs.judged;
+    status_is = same ∙ performs.ends.status_is;
+    on_source = performs.on_source;
+    on_out = performs.on_out;
+    on_note = record {
+      between = between;
+      report = performs.on_note;
+      line = subst (λ (l : Option (List told.Field)). LineAfter between note' l) performs.ends.line_is line;
+      first = performs.never_falls;
+      then = then;
+    };
+  },
+)
+
+-- ---- how a reply is sent
+
+-- Its text was cut.
+pub text_cut : (reply : told.Reply) (text : List ℕ) (out note : Side × Side) → text ≡ reply.text → AppendsFront out.0.bytes out.1.bytes text → Rose out.0.faults out.1.faults → note.1 ≡ note.0 → Sent reply ended.CutShort out note
+text_cut reply text out note same front rose on_note = record {
+  outcome = CutShort;
+  ends = record { status_is = refl; line_is = refl };
+  is = tt;
+  on_out = (subst (λ (t : List ℕ). AppendsFront out.0.bytes out.1.bytes t) same front, rose);
+  on_note = on_note;
+  never_falls = let counts : note.1.faults ≡ note.0.faults = ap (λ (s : Side). s.faults) on_note in omega arith;
+}
+
+-- It stands whole, and so does its report.
+pub all_sent : (reply : told.Reply) (text : List ℕ) (out note : Side × Side) → text ≡ reply.text → Appends out.0.bytes out.1.bytes text → Reports note.0 note.1 reply.report → note.0.faults ≤ note.1.faults → Sent reply (ended.Answered reply.status) out note
+all_sent reply text out note same on_out reports never = record {
+  outcome = Answered reply;
+  ends = record { status_is = refl; line_is = refl };
+  is = refl;
+  on_out = subst (λ (t : List ℕ). Appends out.0.bytes out.1.bytes t) same on_out;
+  on_note = reports;
+  never_falls = never;
+}
+
+-- Its report was cut.
+pub report_cut : (reply : told.Reply) (text : List ℕ) (out note : Side × Side) → text ≡ reply.text → Appends out.0.bytes out.1.bytes text → ReportsFront note.0 note.1 reply.report → note.0.faults ≤ note.1.faults → Sent reply ended.ReportCut out note
+report_cut reply text out note same on_out front never = record {
+  outcome = ReportCut reply;
+  ends = record { status_is = refl; line_is = refl };
+  is = refl;
+  on_out = subst (λ (t : List ℕ). Appends out.0.bytes out.1.bytes t) same on_out;
+  on_note = front;
+  never_falls = never;
+}
+
+-- ---- how a text goes out in pieces
+
+-- All of it did.
+pub pieces_sent : (task : Task) (bytes : List ℕ) (reply : told.Reply) (out note : Side × Side) → Tells task bytes reply → reply.report ≡ None → Appends out.0.bytes out.1.bytes reply.text → note.1 ≡ note.0 → Answers task bytes (ended.Answered reply.status) out note
+pieces_sent task bytes reply out note tells none on_out on_note = record {
+  outcome = Answered reply;
+  ends = record { status_is = refl; line_is = refl };
+  judged = tells;
+  on_out = on_out;
+  on_note = subst (λ (report : Option (List ℕ)). Reports note.0 note.1 report) (sym none) on_note;
+  never_falls = let counts : note.1.faults ≡ note.0.faults = ap (λ (s : Side). s.faults) on_note in omega arith;
+}
+
+-- The output failed in it.
+pub pieces_cut : (task : Task) (bytes : List ℕ) (out note : Side × Side) → IsLeft task bytes out.0 out.1 → Rose out.0.faults out.1.faults → note.1 ≡ note.0 → Answers task bytes ended.CutShort out note
+pieces_cut task bytes out note left rose on_note = record {
+  outcome = CutShort;
+  ends = record { status_is = refl; line_is = refl };
+  judged = tt;
+  on_out = (left, rose);
+  on_note = on_note;
+  never_falls = let counts : note.1.faults ≡ note.0.faults = ap (λ (s : Side). s.faults) on_note in omega arith;
+}
+
+-- Memory ran out in it.
+pub pieces_starved : (task : Task) (bytes : List ℕ) (out note : Side × Side) → task.in_pieces ≡ true → IsLeft task bytes out.0 out.1 → note.1 ≡ note.0 → Answers task bytes ended.Starved out note
+pieces_starved task bytes out note pieces left on_note = record {
+  outcome = Starved;
+  ends = record { status_is = refl; line_is = refl };
+  judged = pieces;
+  on_out = left;
+  on_note = on_note;
+  never_falls = let counts : note.1.faults ≡ note.0.faults = ap (λ (s : Side). s.faults) on_note in omega arith;
+}
+
+-- ---- lines
+
+-- Fields by another name are told as they are.
+pub named_as : (old new : Side) (a b : List told.Field) → a ≡ b → Writes old new (error_line a) → Writes old new (error_line b)
+named_as old new a b same writes = subst (λ (n : List told.Field). Writes old new (error_line n)) same writes

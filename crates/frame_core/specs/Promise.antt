@@ -1,0 +1,148 @@
+-- What every command promises, for every source and every sink.
+use Rattle.std.specs.Prelude.{◌≡◌, ◌≢◌, ℕ, ◌⊎◌, List, [], true, false, Some, None}
+use Rattle.port_io.specs.Bytes.{Appends}
+use Rattle.port_io.specs.Faults.{Rose}
+use Rattle.frame_core.specs.declared.status.Status.TheVariants.{Done, Malformed, Limit, Undecided, ReadFault, WriteFault, Memory, Refused}
+use Rattle.frame_core.specs.Outside.{Side, Writes}
+use Rattle.frame_core.specs.Told.{Reply, Refusal, error_line, write_fault, memory, too_long_refusal, read_fault_refusal, memory_refusal}
+use Rattle.frame_core.specs.Task.{Task, IsBeyond, IsAnswerable}
+use Rattle.frame_core.specs.Run.{Run, IsInput, HasInput, Reports, ReportsFront}
+
+-- ---- what didn't fail
+
+-- No call on it failed.
+abbrev pub IsSteady : Side → Side → Type 0
+IsSteady old new = Rose old.faults new.faults → ⊥
+
+-- No call on the source failed, and memory sufficed.
+pub record InputHeld (r : Run) : Type 0 where
+  pub source : IsSteady r.source r.source'
+  pub memory : r.status ≢ Memory
+
+-- Nor did a call on the output.
+pub record OutputHeld (r : Run) : Type 0 where
+  pub input : InputHeld r
+  pub out : IsSteady r.out r.out'
+
+-- Nor did one on the notes: no call failed at all.
+pub record AllSteady (r : Run) : Type 0 where
+  pub output : OutputHeld r
+  pub note : IsSteady r.note r.note'
+
+-- ---- what a caller sees
+
+-- The reply stands outside, whole and alone.
+pub record Stands (r : Run) (reply : Reply) : Type 0 where
+  pub status_is : r.status ≡ reply.status
+  pub on_out : Appends r.out.bytes r.out'.bytes reply.text
+  pub on_note : Reports r.note r.note' reply.report
+
+-- The output is as before, and the error is told.
+pub record TellsError (r : Run) (refusal : Refusal) : Type 0 where
+  pub status_is : r.status ≡ refusal.status
+  pub on_out : r.out' ≡ r.out
+  pub on_note : Writes r.note r.note' (error_line refusal.named)
+
+-- The input has an answer, and it stands outside.
+pub record Replies (task : Task) (r : Run) (input : List ℕ) : Type 0 where
+  pub answer : task.Answer
+  pub has : task.Has input answer
+  pub stands : Stands r (task.reply answer)
+
+-- It has a fault, which is told.
+pub record Faults (task : Task) (r : Run) (input : List ℕ) : Type 0 where
+  pub fault : task.Fault
+  pub meets : task.Meets input fault
+  pub told : TellsError r (task.refusal fault)
+
+-- The output failed in the text of an answer: what may be left of it stands there, and the fault is told.
+pub record ReplyCut (task : Task) (r : Run) (input : List ℕ) : Type 0 where
+  pub front : List ℕ
+  pub leaves : task.Leaves input front
+  pub on_out : Appends r.out.bytes r.out'.bytes front
+  pub rose : Rose r.out.faults r.out'.faults
+  pub on_note : Writes r.note r.note' (error_line write_fault)
+
+-- The notes failed in the report of an answer: its text stands on the output, whole, a front of its report
+-- on the notes, and then the fault is told.
+pub record ReportCut (task : Task) (r : Run) (input : List ℕ) : Type 0 where
+  pub answer : task.Answer
+  pub has : task.Has input answer
+  pub status_is : r.status ≡ WriteFault
+  pub on_out : Appends r.out.bytes r.out'.bytes (task.reply answer).text
+  pub rose : Rose r.note.faults r.note'.faults
+  pub between : Side
+  pub front : ReportsFront r.note between (task.reply answer).report
+  pub line : Writes between r.note' (error_line write_fault)
+
+-- Memory ran out while the text of an answer went out in pieces: what may be left of it stands there, and
+-- the want is told.
+pub record ReplyStarved (task : Task) (r : Run) (input : List ℕ) : Type 0 where
+  pub in_pieces : task.in_pieces ≡ true
+  pub front : List ℕ
+  pub leaves : task.Leaves input front
+  pub on_out : Appends r.out.bytes r.out'.bytes front
+  pub on_note : Writes r.note r.note' (error_line memory)
+
+-- This holds of what the command judged: of all that the source told, where it tells its bytes.
+pub record OfInput (task : Task) (r : Run) (Holds : List ℕ → Type 0) : Type 0 where
+  pub bytes : List ℕ
+  pub are : IsInput task.reads r.source.bytes bytes
+  pub holds : Holds bytes
+
+-- The input was longer than the command reads, which is told.
+pub record IsTooLong (task : Task) (r : Run) : Type 0 where
+  pub beyond : (input : List ℕ) → HasInput task.reads r.source.bytes input → IsBeyond task.reads input
+  pub told : TellsError r too_long_refusal
+
+-- ---- the promise
+
+pub record CommandPromise (task : Task) (r : Run) : Type 0 where
+  -- Where no call failed at all, input without a fault gets an answer.
+  pub complete : (input : List ℕ)
+      → HasInput task.reads r.source.bytes input
+      → IsAnswerable task input
+      → AllSteady r
+      → Replies task r input
+  -- Where the notes may have failed, it does, or they failed in its report.
+  pub answered : (input : List ℕ)
+      → HasInput task.reads r.source.bytes input
+      → IsAnswerable task input
+      → OutputHeld r
+      → Replies task r input ⊎ ReportCut task r input
+  -- Input with a fault is told it, and so is input that is too long.
+  pub refused : (input : List ℕ) (fault : task.Fault)
+      → HasInput task.reads r.source.bytes input
+      → task.Meets input fault
+      → InputHeld r
+      → TellsError r (task.refusal fault)
+  pub too_long : (input : List ℕ)
+      → HasInput task.reads r.source.bytes input
+      → IsBeyond task.reads input
+      → InputHeld r
+      → TellsError r too_long_refusal
+  -- Each status comes for its cause alone.
+  pub done_only : r.status ≡ Done → OfInput task r (Replies task r)
+  pub undecided_only : r.status ≡ Undecided → OfInput task r (Replies task r)
+  pub refused_only : r.status ≡ Refused → OfInput task r (λ input. Replies task r input ⊎ Faults task r input)
+  pub malformed_only : r.status ≡ Malformed → OfInput task r (Faults task r)
+  pub limit_only : r.status ≡ Limit → OfInput task r (Faults task r) ⊎ IsTooLong task r
+  pub read_fault_only : r.status ≡ ReadFault → Rose r.source.faults r.source'.faults × TellsError r read_fault_refusal
+  pub write_fault_only : r.status ≡ WriteFault → OfInput task r (λ input. ReplyCut task r input ⊎ ReportCut task r input)
+  pub write_rose : r.status ≡ WriteFault → Rose r.out.faults r.out'.faults ⊎ Rose r.note.faults r.note'.faults
+  pub memory_only : r.status ≡ Memory → TellsError r memory_refusal ⊎ OfInput task r (ReplyStarved task r)
+  -- Without an answer the output is as before.
+  pub unchanged : r.status ≢ Done
+      → r.status ≢ Undecided
+      → r.status ≢ Refused
+      → r.status ≢ WriteFault
+      → (r.status ≡ Memory → task.in_pieces ≡ false)
+      → r.out' ≡ r.out
+  -- Nothing goes out before the input was read to its end.
+  pub unread : (most : ℕ) (input : List ℕ)
+      → task.reads ≡ Some most
+      → r.source.bytes ≡ Some input
+      → (r.source'.bytes ≡ Some [] → ⊥)
+      → r.out' ≡ r.out
+  -- A command that reads nothing makes no call on its source.
+  pub untouched : task.reads ≡ None → r.source' ≡ r.source

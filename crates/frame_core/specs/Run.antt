@@ -1,0 +1,169 @@
+-- What a run comes to, for every command.
+use Rattle.std.specs.Prelude.{◌≡◌, ℕ, ◌≤◌, true, List, [], Option, Some, None}
+use Rattle.port_io.specs.Bytes.{Appends, AppendsFront}
+use Rattle.port_io.specs.Faults.{Rose}
+use Rattle.frame_core.specs.declared.status.Status.{Status}
+use Rattle.frame_core.specs.declared.status.Status.TheVariants as statuses
+use Rattle.frame_core.specs.Outside.{Side, side, Writes}
+use Rattle.frame_core.specs.Told.{Reply, Field, Refusal, error_line, read_fault, write_fault, too_long, memory}
+use Rattle.frame_core.specs.Task.{Task, Tells, Refuses, IsBeyond}
+
+-- How the run of a command ends: the source failed; it had more bytes than are read; want of memory
+-- before anything went out; the reply stands outside, whole; the output failed in its text; want of memory
+-- while the text went out in pieces; the notes failed in its report; there is no answer.
+pub data Outcome : Type 0 where
+  ReadFault : Outcome
+  TooLong : Outcome
+  Memory : Outcome
+  Answered : (reply : Reply) → Outcome
+  CutShort : Outcome
+  Starved : Outcome
+  ReportCut : (reply : Reply) → Outcome
+  NoAnswer : (refusal : Refusal) → Outcome
+
+abbrev pub status_of : Outcome → Status
+status_of ReadFault = statuses.ReadFault
+status_of TooLong = statuses.Limit
+status_of Memory = statuses.Memory
+status_of (Answered reply) = reply.status
+status_of CutShort = statuses.WriteFault
+status_of Starved = statuses.Memory
+status_of (ReportCut reply) = statuses.WriteFault
+status_of (NoAnswer refusal) = refusal.status
+
+-- what the error line names, nothing where the reply stands
+abbrev pub line_of : Outcome → Option (List Field)
+line_of ReadFault = Some read_fault
+line_of TooLong = Some too_long
+line_of Memory = Some memory
+line_of (Answered reply) = None
+line_of CutShort = Some write_fault
+line_of Starved = Some memory
+line_of (ReportCut reply) = Some write_fault
+line_of (NoAnswer refusal) = Some refusal.named
+
+-- where the source told its bytes, these are all of them
+abbrev pub IsWhole : Option (List ℕ) → List ℕ → Type 0
+IsWhole left bytes = (input : List ℕ) → left ≡ Some input → bytes ≡ input
+
+-- the bytes that a command judged: what was read, and nothing where it reads nothing
+abbrev pub IsInput : Option ℕ → Option (List ℕ) → List ℕ → Type 0
+IsInput None left bytes = bytes ≡ []
+IsInput (Some most) left bytes = IsWhole left bytes
+
+-- The input is known to be this: the source told it, or the command reads nothing.
+abbrev pub HasInput : Option ℕ → Option (List ℕ) → List ℕ → Type 0
+HasInput None left input = input ≡ []
+HasInput (Some most) left input = left ≡ Some input
+
+-- what stands on the output where the text was cut
+pub record IsLeft (task : Task) (bytes : List ℕ) (old new : Side) : Type 0 where
+  pub front : List ℕ
+  pub leaves : task.Leaves bytes front
+  pub on_out : Appends old.bytes new.bytes front
+
+-- The outcome is that of the bytes which were judged.
+abbrev pub IsOutcome : Task → Option (List ℕ) → List ℕ → Outcome → Type 0
+IsOutcome task left bytes ReadFault = Unit {0}
+IsOutcome task left bytes TooLong = (input : List ℕ) → HasInput task.reads left input → IsBeyond task.reads input
+IsOutcome task left bytes Memory = Unit {0}
+IsOutcome task left bytes (Answered reply) = IsInput task.reads left bytes × Tells task bytes reply
+IsOutcome task left bytes CutShort = IsInput task.reads left bytes
+IsOutcome task left bytes Starved = IsInput task.reads left bytes × (task.in_pieces ≡ true)
+IsOutcome task left bytes (ReportCut reply) = IsInput task.reads left bytes × Tells task bytes reply
+IsOutcome task left bytes (NoAnswer refusal) = IsInput task.reads left bytes × Refuses task bytes refusal
+
+-- what was told to be left was read to its end
+abbrev pub IsReadToEnd : Side → Side → Type 0
+IsReadToEnd old new = (input : List ℕ) → old.bytes ≡ Some input → new.bytes ≡ Some []
+
+-- Bytes that are judged were read to their end.
+abbrev pub SourceRead : Side → Side → Outcome → Type 0
+SourceRead old new ReadFault = Rose old.faults new.faults
+SourceRead old new TooLong = Unit {0}
+SourceRead old new Memory = Unit {0}
+SourceRead old new (Answered reply) = IsReadToEnd old new
+SourceRead old new CutShort = IsReadToEnd old new
+SourceRead old new Starved = IsReadToEnd old new
+SourceRead old new (ReportCut reply) = IsReadToEnd old new
+SourceRead old new (NoAnswer refusal) = IsReadToEnd old new
+
+-- A source that isn't read can't fail or be too long.
+abbrev pub SourceLeft : Side → Side → Outcome → Type 0
+SourceLeft old new ReadFault = ⊥
+SourceLeft old new TooLong = ⊥
+SourceLeft old new outcome = new ≡ old
+
+abbrev pub SourceAfter : Option ℕ → Side → Side → Outcome → Type 0
+SourceAfter None old new outcome = SourceLeft old new outcome
+SourceAfter (Some most) old new outcome = SourceRead old new outcome
+
+-- The reply's text stands on the output whole. What may be left of it stands there where the output failed,
+-- or memory ran out. With every other outcome the output is as before.
+abbrev pub OutAfter : Task → List ℕ → Side → Side → Outcome → Type 0
+OutAfter task bytes old new ReadFault = new ≡ old
+OutAfter task bytes old new TooLong = new ≡ old
+OutAfter task bytes old new Memory = new ≡ old
+OutAfter task bytes old new (Answered reply) = Appends old.bytes new.bytes reply.text
+OutAfter task bytes old new CutShort = IsLeft task bytes old new × Rose old.faults new.faults
+OutAfter task bytes old new Starved = IsLeft task bytes old new
+OutAfter task bytes old new (ReportCut reply) = Appends old.bytes new.bytes reply.text
+OutAfter task bytes old new (NoAnswer refusal) = new ≡ old
+
+-- A report went to the notes whole, or a front of it. Without one they are as before.
+abbrev pub Reports : Side → Side → Option (List ℕ) → Type 0
+Reports old new None = new ≡ old
+Reports old new (Some text) = Appends old.bytes new.bytes text
+
+abbrev pub ReportsFront : Side → Side → Option (List ℕ) → Type 0
+ReportsFront old new None = ⊥
+ReportsFront old new (Some text) = AppendsFront old.bytes new.bytes text × Rose old.faults new.faults
+
+abbrev pub ReportAfter : Side → Side → Outcome → Type 0
+ReportAfter old new (Answered reply) = Reports old new reply.report
+ReportAfter old new (ReportCut reply) = ReportsFront old new reply.report
+ReportAfter old new outcome = new ≡ old
+
+-- the error line behind it, where there is one
+abbrev pub LineAfter : Side → Side → Option (List Field) → Type 0
+LineAfter old new None = new ≡ old
+LineAfter old new (Some fields) = Writes old new (error_line fields)
+
+-- The report, and then the error line. The count of faults between them is between the counts before and
+-- behind.
+pub record NoteAfter (old new : Side) (outcome : Outcome) : Type 0 where
+  pub between : Side
+  pub report : ReportAfter old between outcome
+  pub line : LineAfter between new (line_of outcome)
+  pub first : old.faults ≤ between.faults
+  pub then : between.faults ≤ new.faults
+
+-- ---- runs
+
+-- what a caller sees of a run: the words, and each side before and after it
+pub record Run : Type 0 where
+  pub words : List (List ℕ)
+  pub source : Side
+  pub source' : Side
+  pub out : Side
+  pub out' : Side
+  pub note : Side
+  pub note' : Side
+  pub status : Status
+
+-- a source or a sink before and after
+abbrev pub before_after : {T : Type 0} → (T → Option (List ℕ)) → (T → ℕ) → T → T → Side × Side
+before_after bytes faults old new = (side bytes faults old, side bytes faults new)
+
+-- a run of these words
+abbrev pub run_of : List (List ℕ) → Side × Side → Side × Side → Side × Side → Status → Run
+run_of words source out note status = record { words = words; source = source.0; source' = source.1; out = out.0; out' = out.1; note = note.0; note' = note.1; status = status }
+
+-- A run of a command had an outcome, and what its caller sees follows from it.
+pub record IsRun (task : Task) (r : Run) (outcome : Outcome) : Type 0 where
+  pub bytes : List ℕ
+  pub judged : IsOutcome task r.source.bytes bytes outcome
+  pub status_is : r.status ≡ status_of outcome
+  pub on_source : SourceAfter task.reads r.source r.source' outcome
+  pub on_out : OutAfter task bytes r.out r.out' outcome
+  pub on_note : NoteAfter r.note r.note' outcome

@@ -1,0 +1,149 @@
+-- What a command is.
+use Rattle.std.specs.Prelude.{◌≡◌, ℕ, ◌<◌, ◌≤◌, ◌⊎◌, ◌++◌, Bool, true, false, List, [], length, Option, Some, None}
+use Rattle.frame_core.specs.declared.status.Status.{Status}
+use Rattle.frame_core.specs.declared.status.Status.TheVariants.{Done, Malformed, Limit, Undecided, Refused}
+use Rattle.frame_core.specs.Told.{Reply, Refusal, memory_refusal}
+
+pub record Task : Type 1 where
+  -- the most bytes that it reads; one without a number makes no call on its source
+  pub reads : Option ℕ
+  -- its answers, the bytes that have them, and how it tells them
+  pub Answer : Type 0
+  pub Has : List ℕ → Answer → Type 0
+  pub reply : Answer → Reply
+  -- the faults of bytes without an answer, the bytes that have them, and how it tells them
+  pub Fault : Type 0
+  pub Meets : List ℕ → Fault → Type 0
+  pub refusal : Fault → Refusal
+  -- whether the text goes out in pieces, while more of it is made. Else it goes out at once, when nothing
+  -- takes memory any more.
+  pub in_pieces : Bool
+  -- what may stand on the output where the text was cut
+  pub Leaves : List ℕ → List ℕ → Type 0
+
+-- The front is one of the text.
+pub record IsFront (front text : List ℕ) : Type 0 where
+  pub rest : List ℕ
+  pub is : text ≡ front ++ rest
+
+-- The front is one of the text of an answer that the bytes have.
+pub record IsAnswerFront (Answer : Type 0) (Has : List ℕ → Answer → Type 0) (reply : Answer → Reply) (bytes front : List ℕ) : Type 0 where
+  pub answer : Answer
+  pub has : Has bytes answer
+  pub is_front : IsFront front (reply answer).text
+
+-- A command that reads, and whose text goes out at once. Where it was cut a front of an answer stands there.
+abbrev pub at_once : ℕ → (Answer : Type 0) → (List ℕ → Answer → Type 0) → (Answer → Reply) → (Fault : Type 0) → (List ℕ → Fault → Type 0) → (Fault → Refusal) → Task
+at_once most Answer Has reply Fault Meets refusal = record {
+  reads = Some most;
+  Answer = Answer;
+  Has = Has;
+  reply = reply;
+  Fault = Fault;
+  Meets = Meets;
+  refusal = refusal;
+  in_pieces = false;
+  Leaves = IsAnswerFront Answer Has reply;
+}
+
+-- A command whose text goes out in pieces. Where it was cut a front of an answer stands there too.
+abbrev pub in_pieces : Option ℕ → (Answer : Type 0) → (List ℕ → Answer → Type 0) → (Answer → Reply) → (Fault : Type 0) → (List ℕ → Fault → Type 0) → (Fault → Refusal) → Task
+in_pieces reads Answer Has reply Fault Meets refusal = record {
+  reads = reads;
+  Answer = Answer;
+  Has = Has;
+  reply = reply;
+  Fault = Fault;
+  Meets = Meets;
+  refusal = refusal;
+  in_pieces = true;
+  Leaves = IsAnswerFront Answer Has reply;
+}
+
+-- A command that reads nothing, has no faults, and whose text goes out at once.
+abbrev pub from_nothing : (Answer : Type 0) → (Answer → Type 0) → (Answer → Reply) → Task
+from_nothing Answer Is reply = record {
+  reads = None;
+  Answer = Answer;
+  Has = λ (bytes : List ℕ) (answer : Answer). Is answer;
+  reply = reply;
+  Fault = ⊥;
+  Meets = λ (bytes : List ℕ) (fault : ⊥). ⊥;
+  refusal = λ (fault : ⊥). absurd fault;
+  in_pieces = false;
+  Leaves = IsAnswerFront Answer (λ (bytes : List ℕ) (answer : Answer). Is answer) reply;
+}
+
+-- The bytes have an answer that this reply tells.
+pub record Tells (task : Task) (bytes : List ℕ) (reply : Reply) : Type 0 where
+  pub answer : task.Answer
+  pub has : task.Has bytes answer
+  pub is : reply ≡ task.reply answer
+
+-- They have a fault that this refusal tells.
+pub record Refuses (task : Task) (bytes : List ℕ) (refusal : Refusal) : Type 0 where
+  pub fault : task.Fault
+  pub meets : task.Meets bytes fault
+  pub is : refusal ≡ task.refusal fault
+
+-- more bytes than are read
+abbrev pub IsBeyond : Option ℕ → List ℕ → Type 0
+IsBeyond None bytes = ⊥
+IsBeyond (Some most) bytes = most < length bytes
+
+-- no more bytes than are read, and none where nothing is
+abbrev pub IsWithin : Option ℕ → List ℕ → Type 0
+IsWithin None bytes = bytes ≡ []
+IsWithin (Some most) bytes = length bytes ≤ most
+
+-- no more bytes than are read, without a fault
+pub record IsAnswerable (task : Task) (bytes : List ℕ) : Type 0 where
+  pub within : IsBeyond task.reads bytes → ⊥
+  pub sound : (fault : task.Fault) → task.Meets bytes fault → ⊥
+
+-- ---- what a task has to be
+
+abbrev pub IsAnswerStatus : Status → Type 0
+IsAnswerStatus s = (s ≡ Done) ⊎ ((s ≡ Undecided) ⊎ (s ≡ Refused))
+
+abbrev pub IsRefusalStatus : Status → Type 0
+IsRefusalStatus s = (s ≡ Malformed) ⊎ ((s ≡ Limit) ⊎ (s ≡ Refused))
+
+-- Bytes have answers or one refusal at most, never both, and beyond the limit neither.
+pub record IsTask (task : Task) : Type 0 where
+  pub replies : (answer : task.Answer) → IsAnswerStatus (task.reply answer).status
+  pub refusals : (fault : task.Fault) → IsRefusalStatus (task.refusal fault).status ⊎ (task.refusal fault ≡ memory_refusal)
+  pub apart : (bytes : List ℕ) (answer : task.Answer) (fault : task.Fault)
+      → task.Has bytes answer
+      → task.Meets bytes fault
+      → ⊥
+  pub one : (bytes : List ℕ) (a b : task.Fault)
+      → task.Meets bytes a
+      → task.Meets bytes b
+      → task.refusal a ≡ task.refusal b
+  pub answer_within : (bytes : List ℕ) (answer : task.Answer)
+      → task.Has bytes answer
+      → IsBeyond task.reads bytes
+      → ⊥
+  pub fault_within : (bytes : List ℕ) (fault : task.Fault)
+      → task.Meets bytes fault
+      → IsBeyond task.reads bytes
+      → ⊥
+  -- Where the text of an answer was cut, what stands there may. What stands there is of good input alone.
+  pub fronts : (bytes front : List ℕ) (answer : task.Answer)
+      → task.Has bytes answer
+      → IsFront front (task.reply answer).text
+      → task.Leaves bytes front
+  -- Where the text goes out at once, nothing else may.
+  pub cut_is : (bytes front : List ℕ)
+      → task.in_pieces ≡ false
+      → task.Leaves bytes front
+      → IsAnswerFront task.Answer task.Has task.reply bytes front
+  pub cut_apart : (bytes front : List ℕ) (fault : task.Fault)
+      → task.Leaves bytes front
+      → task.Meets bytes fault
+      → ⊥
+  pub cut_within : (bytes front : List ℕ)
+      → task.Leaves bytes front
+      → IsBeyond task.reads bytes
+      → ⊥

@@ -1,0 +1,69 @@
+-- When a command is a task.
+use Rattle.std.specs.Prelude.{◌≡◌, ℕ, ◌<◌, ◌≤◌, ◌⊎◌, List, length, Option}
+use Rattle.std.proofs.Common.{arith}
+use Rattle.frame_core.specs.Told.{Reply, Refusal, memory_refusal}
+use Rattle.frame_core.specs.Task.{at_once, in_pieces, from_nothing, IsBeyond, IsAnswerStatus, IsRefusalStatus, IsTask}
+
+not_beyond : (most : ℕ) (bytes : List ℕ) → length bytes ≤ most → most < length bytes → ⊥
+not_beyond most bytes within long = omega arith
+
+-- one whose text goes out at once
+pub at_once_task : (most : ℕ) (Answer : Type 0) (Has : List ℕ → Answer → Type 0) (reply : Answer → Reply) (Fault : Type 0) (Meets : List ℕ → Fault → Type 0) (refusal : Fault → Refusal)
+    → ((answer : Answer) → IsAnswerStatus (reply answer).status)
+    → ((fault : Fault) → IsRefusalStatus (refusal fault).status ⊎ (refusal fault ≡ memory_refusal))
+    → ((bytes : List ℕ) (answer : Answer) (fault : Fault) → Has bytes answer → Meets bytes fault → ⊥)
+    → ((bytes : List ℕ) (a b : Fault) → Meets bytes a → Meets bytes b → refusal a ≡ refusal b)
+    → ((bytes : List ℕ) (answer : Answer) → Has bytes answer → length bytes ≤ most)
+    → ((bytes : List ℕ) (fault : Fault) → Meets bytes fault → length bytes ≤ most)
+    → IsTask (at_once most Answer Has reply Fault Meets refusal)
+at_once_task most Answer Has reply Fault Meets refusal replies refusals apart one answer_within fault_within = record {
+  replies = replies;
+  refusals = refusals;
+  apart = apart;
+  one = one;
+  answer_within = λ bytes answer has long. not_beyond most bytes (answer_within bytes answer has) long;
+  fault_within = λ bytes fault meets long. not_beyond most bytes (fault_within bytes fault meets) long;
+  fronts = λ bytes front answer has is_front. record { answer = answer; has = has; is_front = is_front };
+  cut_is = λ bytes front whole cut. cut;
+  cut_apart = λ bytes front fault cut meets. apart bytes cut.answer fault cut.has meets;
+  cut_within = λ bytes front cut long. not_beyond most bytes (answer_within bytes cut.answer cut.has) long;
+}
+
+-- one whose text goes out in pieces
+pub in_pieces_task : (reads : Option ℕ) (Answer : Type 0) (Has : List ℕ → Answer → Type 0) (reply : Answer → Reply) (Fault : Type 0) (Meets : List ℕ → Fault → Type 0) (refusal : Fault → Refusal)
+    → ((answer : Answer) → IsAnswerStatus (reply answer).status)
+    → ((fault : Fault) → IsRefusalStatus (refusal fault).status ⊎ (refusal fault ≡ memory_refusal))
+    → ((bytes : List ℕ) (answer : Answer) (fault : Fault) → Has bytes answer → Meets bytes fault → ⊥)
+    → ((bytes : List ℕ) (a b : Fault) → Meets bytes a → Meets bytes b → refusal a ≡ refusal b)
+    → ((bytes : List ℕ) (answer : Answer) → Has bytes answer → IsBeyond reads bytes → ⊥)
+    → ((bytes : List ℕ) (fault : Fault) → Meets bytes fault → IsBeyond reads bytes → ⊥)
+    → IsTask (in_pieces reads Answer Has reply Fault Meets refusal)
+in_pieces_task reads Answer Has reply Fault Meets refusal replies refusals apart one answer_within fault_within = record {
+  replies = replies;
+  refusals = refusals;
+  apart = apart;
+  one = one;
+  answer_within = answer_within;
+  fault_within = fault_within;
+  fronts = λ bytes front answer has is_front. record { answer = answer; has = has; is_front = is_front };
+  cut_is = λ bytes front whole cut. cut;
+  cut_apart = λ bytes front fault cut meets. apart bytes cut.answer fault cut.has meets;
+  cut_within = λ bytes front cut long. answer_within bytes cut.answer cut.has long;
+}
+
+-- one that reads nothing
+pub from_nothing_task : (Answer : Type 0) (Is : Answer → Type 0) (reply : Answer → Reply)
+    → ((answer : Answer) → IsAnswerStatus (reply answer).status)
+    → IsTask (from_nothing Answer Is reply)
+from_nothing_task Answer Is reply replies = record {
+  replies = replies;
+  refusals = λ fault. absurd fault;
+  apart = λ bytes answer fault has meets. meets;
+  one = λ bytes a b x y. absurd x;
+  answer_within = λ bytes answer has long. long;
+  fault_within = λ bytes fault meets long. meets;
+  fronts = λ bytes front answer has is_front. record { answer = answer; has = has; is_front = is_front };
+  cut_is = λ bytes front whole cut. cut;
+  cut_apart = λ bytes front fault cut meets. meets;
+  cut_within = λ bytes front cut long. long;
+}

@@ -1,0 +1,28 @@
+//! The frame of commands: reading the input, sending what a command tells, and the error line.
+//!
+//! For a program of several commands, each of which reads an input or none, and writes an answer at once
+//! or in pieces. A command is a `Job`: it says how much it reads, and what it does with bytes. It stands on
+//! `port_io` for sources and sinks, and on `net_core` for the names that an error line may bear.
+//!
+//! What a command is to its caller is a value (`specs/Task`): the bytes that have answers and faults, and
+//! how each is told. The theorem, for every command, every source and every sink: what `perform` does is a
+//! run with an outcome that fits the bytes (`specs/Run`), and it keeps what every command promises
+//! (`specs/Promise`). Most commands tell what they found at once (`finish`); one whose text goes out in pieces
+//! finds the laws of that in `specs/PiecesLaws`.
+//!
+//! ```text
+//! let status = perform(alloc, &job, &mut source, &mut out, &mut note);
+//! ```
+#![tactic(auto)]
+
+mod performing;
+mod replies;
+mod reporting;
+mod sending;
+mod status;
+
+pub use performing::{Job, perform};
+pub use replies::{Ended, ErrorLine, Field, Refusal, Reply, Report, Stop};
+pub use reporting::tell_error;
+pub use sending::finish;
+pub use status::Status;

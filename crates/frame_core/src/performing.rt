@@ -1,0 +1,96 @@
+//! Commands, and what performing one comes to.
+ghost use Rattle.std.specs.Prelude.{◌≡◌, ℕ, List};
+ghost use Rattle.frame_core.specs.Task.{Task, IsWithin, IsTask};
+ghost use Rattle.frame_core.specs.Run.{Outcome, IsRun, run_of, before_after};
+ghost use Rattle.frame_core.specs.Promise.{CommandPromise};
+ghost use Rattle.frame_core.specs.Performing.{Answers, Performs};
+
+use crate::replies::Ended;
+use crate::reporting::tell;
+use crate::status::Status;
+use port_io::{ReadError, Sink, Source, read_all};
+use std::alloc::Global;
+
+/// A command.
+pub trait Job {
+    /// What it is to its caller.
+    ghost task: { Self → Task };
+
+    /// What has to hold of what it is asked with.
+    ghost ready: { Self → Type 0 };
+
+    /// The most bytes that it reads; None where it makes no call on its source.
+    fn reads(&self) -> Option<usize>
+        ensures { result ≡ (task self.now).reads };
+
+    /// Answers bytes, no more than it reads: writes the text of an answer on `out`, at once or in pieces,
+    /// and its report on `note`, or has no answer.
+    fn answer<O: Sink, N: Sink>(
+        &self,
+        alloc: Global,
+        bytes: &[u8],
+        out: &mut O,
+        note: &mut N,
+    ) -> Ended
+        requires within { IsWithin (task self.now).reads bytes.now }
+        requires ready { ready self.now }
+        ensures { Answers (task self.now) bytes.now result
+            (before_after O.written O.faults out.old out.new)
+            (before_after N.written N.faults note.old note.new) };
+}
+
+/// Does what a command asks, up to the error line: reads `source` where it reads, and answers what was read.
+fn attempt<J: Job, S: Source, O: Sink, N: Sink>(
+    alloc: Global,
+    job: &J,
+    source: &mut S,
+    out: &mut O,
+    note: &mut N,
+) -> Ended
+    requires { J.ready job.now }
+    ensures { Performs (J.task job.now) result
+        (before_after S.left S.faults source.old source.new)
+        (before_after O.written O.faults out.old out.new)
+        (before_after N.written N.faults note.old note.new) }
+{
+    let Some(most) = job.reads() else {
+        return job.answer(alloc, b"", out, note);
+    };
+    let bytes = match read_all(alloc, source, most) {
+        Ok(bytes) => bytes,
+        Err(ReadError::ReadFault) => return Ended::ReadFault,
+        Err(ReadError::TooLong) => return Ended::TooLong,
+        Err(ReadError::Memory) => return Ended::Memory,
+    };
+    job.answer(alloc, &bytes, out, note)
+}
+
+/// Does what a command asks, and tells how that ended: reads `source` where the command reads, writes its
+/// answer on `out`, and on `note` its report, and one error line where there is no answer.
+pub fn perform<J: Job, S: Source, O: Sink, N: Sink>(
+    alloc: Global,
+    job: &J,
+    source: &mut S,
+    out: &mut O,
+    note: &mut N,
+) -> Status
+    requires { J.ready job.now }
+    // It is a run with an outcome, whatever words asked for it,
+    ensures run { (words : List (List ℕ)) → (outcome : Outcome) × IsRun (J.task job.now)
+        (run_of words
+        (before_after S.left S.faults source.old source.new)
+        (before_after O.written O.faults out.old out.new)
+        (before_after N.written N.faults note.old note.new)
+        result) outcome }
+    // and keeps what every command promises.
+    ensures promise { (words : List (List ℕ)) → IsTask (J.task job.now) → CommandPromise (J.task job.now)
+        (run_of words
+        (before_after S.left S.faults source.old source.new)
+        (before_after O.written O.faults out.old out.new)
+        (before_after N.written N.faults note.old note.new)
+        result) }
+{
+    let ended = attempt(alloc, job, source, out, note);
+    tell(note, &ended);
+    ended.status()
+}

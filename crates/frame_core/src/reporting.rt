@@ -1,0 +1,153 @@
+//! The texts of the notes: a report, and the error line.
+ghost use Rattle.std.specs.Prelude.{◌≤◌, ◌++◌, OnOk, OnErr};
+ghost use Rattle.port_io.specs.Bytes.{Appends, AppendsFront};
+ghost use Rattle.port_io.specs.Faults.{Rose};
+ghost use Rattle.frame_core.specs.Told.{joined, error_line};
+ghost use Rattle.frame_core.specs.Outside.{side, Writes};
+ghost use Rattle.frame_core.specs.Run.{LineAfter};
+ghost use Rattle.frame_core.specs.Views.{part_text, parts_text, texts_of, report_text, line_value, line_in};
+
+use crate::replies::{Ended, ErrorLine, Field, Report};
+use itoa::Buffer;
+use port_io::{Sink, WriteFault, write_all};
+
+/// Writes two texts, one after the other.
+#[tactic(auto, using(port_io::specs::TextLaws::texts, port_io::specs::CountLaws::counts))]
+fn write_two<N: Sink>(note: &mut N, first: &[u8], second: &[u8]) -> Result<(), WriteFault>
+    ensures all { OnOk result (Appends (N.written note.old) (N.written note.new) (first.now ++ second.now)) }
+    ensures front { AppendsFront (N.written note.old) (N.written note.new) (first.now ++ second.now) }
+    ensures only_if_rose { OnErr result (Rose (N.faults note.old) (N.faults note.new)) }
+    ensures never_falls { N.faults note.old ≤ N.faults note.new }
+{
+    write_all(note, first)?;
+    write_all(note, second)
+}
+
+/// Writes a field behind a blank, and nothing where there is none.
+fn write_field<N: Sink>(note: &mut N, field: &Field) -> Result<(), WriteFault>
+    ensures all { OnOk result (Appends (N.written note.old) (N.written note.new) (part_text field.now)) }
+    ensures front { AppendsFront (N.written note.old) (N.written note.new) (part_text field.now) }
+    ensures only_if_rose { OnErr result (Rose (N.faults note.old) (N.faults note.new)) }
+    ensures never_falls { N.faults note.old ≤ N.faults note.new }
+{
+    match field {
+        Field::Nothing => write_all(note, b""),
+        Field::Known(word) => write_two(note, b" ", word),
+        Field::Count(number) => {
+            let mut buffer = Buffer::new();
+            write_two(note, b" ", buffer.format(*number).as_bytes())
+        }
+        Field::Name(name) => write_two(note, b" ", name.get()),
+    }
+}
+
+/// Writes fields, each behind a blank.
+#[tactic(auto, unfolding(crate::specs::Views::parts_text), using(port_io::specs::TextLaws::texts, port_io::specs::CountLaws::counts))]
+fn write_fields<N: Sink>(note: &mut N, fields: &[Field]) -> Result<(), WriteFault>
+    ensures all { OnOk result (Appends (N.written note.old) (N.written note.new) (parts_text fields.now)) }
+    ensures front { AppendsFront (N.written note.old) (N.written note.new) (parts_text fields.now) }
+    ensures only_if_rose { OnErr result (Rose (N.faults note.old) (N.faults note.new)) }
+    ensures never_falls { N.faults note.old ≤ N.faults note.new }
+{
+    let Some((first, rest)) = fields.split_first() else {
+        return Ok(());
+    };
+    write_field(note, first)?;
+    write_fields(note, rest)
+}
+
+/// Writes fields, and a text behind them.
+#[tactic(auto, using(port_io::specs::TextLaws::texts, port_io::specs::CountLaws::counts))]
+fn write_ended<N: Sink>(note: &mut N, fields: &[Field], end: &[u8]) -> Result<(), WriteFault>
+    ensures all { OnOk result (Appends (N.written note.old) (N.written note.new) (parts_text fields.now ++ end.now)) }
+    ensures front { AppendsFront (N.written note.old) (N.written note.new) (parts_text fields.now ++ end.now) }
+    ensures only_if_rose { OnErr result (Rose (N.faults note.old) (N.faults note.new)) }
+    ensures never_falls { N.faults note.old ≤ N.faults note.new }
+{
+    write_fields(note, fields)?;
+    write_all(note, end)
+}
+
+/// Writes a line of fields, with its first word and its end.
+#[tactic(auto, using(port_io::specs::TextLaws::texts, port_io::specs::CountLaws::counts))]
+fn write_line<N: Sink>(
+    note: &mut N,
+    start: &[u8],
+    fields: &[Field],
+    end: &[u8],
+) -> Result<(), WriteFault>
+    ensures all { OnOk result (Appends (N.written note.old) (N.written note.new) (start.now ++ (parts_text fields.now ++ end.now))) }
+    ensures front { AppendsFront (N.written note.old) (N.written note.new) (start.now ++ (parts_text fields.now ++ end.now)) }
+    ensures only_if_rose { OnErr result (Rose (N.faults note.old) (N.faults note.new)) }
+    ensures never_falls { N.faults note.old ≤ N.faults note.new }
+{
+    write_all(note, start)?;
+    write_ended(note, fields, end)
+}
+
+/// Writes texts, one behind the other.
+#[tactic(auto, using(crate::specs::PiecesLaws::texts_left))]
+fn write_parts<N: Sink>(note: &mut N, parts: &[Vec<u8>]) -> Result<(), WriteFault>
+    ensures all { OnOk result (Appends (N.written note.old) (N.written note.new) (joined (texts_of parts.now))) }
+    ensures front { AppendsFront (N.written note.old) (N.written note.new) (joined (texts_of parts.now)) }
+    ensures only_if_rose { OnErr result (Rose (N.faults note.old) (N.faults note.new)) }
+    ensures never_falls { N.faults note.old ≤ N.faults note.new }
+{
+    let mut left = parts;
+    while let Some((part, rest)) = left.split_first() {
+        write_all(note, part)?;
+        left = rest;
+    }
+    Ok(())
+}
+
+/// Writes texts, and a last one behind them.
+#[tactic(auto, using(port_io::specs::TextLaws::texts, port_io::specs::CountLaws::counts))]
+fn write_to_last<N: Sink>(note: &mut N, parts: &[Vec<u8>], last: &[u8]) -> Result<(), WriteFault>
+    ensures all { OnOk result (Appends (N.written note.old) (N.written note.new) (joined (texts_of parts.now) ++ last.now)) }
+    ensures front { AppendsFront (N.written note.old) (N.written note.new) (joined (texts_of parts.now) ++ last.now) }
+    ensures only_if_rose { OnErr result (Rose (N.faults note.old) (N.faults note.new)) }
+    ensures never_falls { N.faults note.old ≤ N.faults note.new }
+{
+    write_parts(note, parts)?;
+    write_all(note, last)
+}
+
+/// Writes a report.
+#[tactic(auto, using(port_io::specs::TextLaws::texts, port_io::specs::CountLaws::counts))]
+pub(crate) fn write_report<N: Sink>(note: &mut N, report: &Report) -> Result<(), WriteFault>
+    ensures all { OnOk result (Appends (N.written note.old) (N.written note.new) (report_text report.now)) }
+    ensures front { AppendsFront (N.written note.old) (N.written note.new) (report_text report.now) }
+    ensures only_if_rose { OnErr result (Rose (N.faults note.old) (N.faults note.new)) }
+    ensures never_falls { N.faults note.old ≤ N.faults note.new }
+{
+    write_all(note, &report.first)?;
+    write_to_last(note, &report.parts, &report.last)
+}
+
+/// Writes an error line. It takes no memory, so that it also tells of its want. A fault in writing it is
+/// let pass: the run's status has been decided.
+pub fn tell_error<N: Sink>(note: &mut N, line: &ErrorLine)
+    ensures line { Writes (side N.written N.faults note.old) (side N.written N.faults note.new) (error_line (line_value line.now)) }
+    ensures never_falls { N.faults note.old ≤ N.faults note.new }
+{
+    let _ = write_line(note, b"error:", &line.fields, b"\n");
+}
+
+/// Writes the error line of a run that has one.
+#[tactic(auto, unfolding(crate::specs::Told::too_long, crate::specs::Told::memory))]
+pub(crate) fn tell<N: Sink>(note: &mut N, ended: &Ended)
+    ensures line { LineAfter (side N.written N.faults note.old) (side N.written N.faults note.new) (line_in ended.now) }
+    ensures never_falls { N.faults note.old ≤ N.faults note.new }
+{
+    match ended {
+        Ended::ReadFault => tell_error(note, &ErrorLine::plain(b"ReadFault")),
+        Ended::TooLong => tell_error(note, &ErrorLine::plain(b"TooLong")),
+        Ended::Memory => tell_error(note, &ErrorLine::plain(b"Memory")),
+        Ended::Answered(_) => {}
+        Ended::Starved => tell_error(note, &ErrorLine::plain(b"Memory")),
+        Ended::CutShort => tell_error(note, &ErrorLine::plain(b"WriteFault")),
+        Ended::ReportCut => tell_error(note, &ErrorLine::plain(b"WriteFault")),
+        Ended::NoAnswer(refusal) => tell_error(note, &refusal.line),
+    }
+}

@@ -1,0 +1,39 @@
+//! What a command told at once, sent out.
+ghost use Rattle.frame_core.specs.Run.{before_after};
+ghost use Rattle.frame_core.specs.Performing.{Sent, Finishes};
+ghost use Rattle.frame_core.specs.Views.{reply_value};
+
+use crate::replies::{Ended, Reply, Stop};
+use crate::reporting::write_report;
+use port_io::{Sink, WriteFault, write_all};
+
+/// Sends a reply out: its text, and then its report where it has one.
+fn send<O: Sink, N: Sink>(out: &mut O, note: &mut N, reply: &Reply) -> Ended
+    ensures { Sent (reply_value reply.now) result
+        (before_after O.written O.faults out.old out.new)
+        (before_after N.written N.faults note.old note.new) }
+{
+    if let Err(WriteFault::WriteFault) = write_all(out, &reply.text) {
+        return Ended::CutShort;
+    }
+    let Some(report) = &reply.report else {
+        return Ended::Answered(reply.status);
+    };
+    match write_report(note, report) {
+        Ok(()) => Ended::Answered(reply.status),
+        Err(WriteFault::WriteFault) => Ended::ReportCut,
+    }
+}
+
+/// Ends what a command told at once: sends its reply out, and writes nothing where there is none.
+pub fn finish<O: Sink, N: Sink>(told: Result<Reply, Stop>, out: &mut O, note: &mut N) -> Ended
+    ensures { Finishes told result
+        (before_after O.written O.faults out.old out.new)
+        (before_after N.written N.faults note.old note.new) }
+{
+    match told {
+        Ok(reply) => send(out, note, &reply),
+        Err(Stop::NoMemory) => Ended::Memory,
+        Err(Stop::NoAnswer(refusal)) => Ended::NoAnswer(refusal),
+    }
+}

@@ -1,0 +1,42 @@
+-- Two small commands.
+use Rattle.std.specs.Prelude.{◌≡◌, ℕ, ◌≤◌, List, [], ◌∷◌, map, length, codes, Some, None}
+use Rattle.frame_core.specs.declared.status.Status.TheVariants.{Done}
+use Rattle.port_io.specs.Bytes.{Appends, AppendsFront}
+use Rattle.port_io.specs.Faults.{Rose}
+use Rattle.frame_core.specs.declared.replies.Ended.{Ended}
+use Rattle.frame_core.specs.declared.replies.Ended.TheVariants as ended
+use Rattle.frame_core.specs.Outside.{Side}
+use Rattle.frame_core.specs.Told.{Reply, joined, parted}
+use Rattle.frame_core.specs.Task.{Task, from_nothing, in_pieces}
+
+-- It reads nothing, greets, and reports in parts.
+abbrev pub greeting : Unit {0} → Reply
+greeting u = record { text = codes "hello\n"; report = Some (parted (codes "2 parts\n") (codes "one\n" ∷ codes "two\n" ∷ []) (codes "done\n")); status = Done }
+
+abbrev pub greeting_task : Task
+greeting_task = from_nothing (Unit {0}) (λ (u : Unit {0}). Unit {0}) greeting
+
+-- It writes each byte of at most three on a line of its own, a line at a time.
+abbrev pub line_of : ℕ → List ℕ
+line_of byte = byte ∷ 10 ∷ []
+
+abbrev pub lines_text : List ℕ → List ℕ
+lines_text bytes = joined (map line_of bytes)
+
+abbrev pub lines_reply : List ℕ → Reply
+lines_reply bytes = record { text = lines_text bytes; report = None; status = Done }
+
+-- These are the bytes, and no more than three.
+pub record AreBytes (bytes answer : List ℕ) : Type 0 where
+  pub are : answer ≡ bytes
+  pub within : length bytes ≤ 3
+
+abbrev pub lines_task : Task
+lines_task = in_pieces (Some 3) (List ℕ) AreBytes lines_reply ⊥ (λ (bytes : List ℕ) (fault : ⊥). ⊥) (λ (fault : ⊥). absurd fault)
+
+-- What the writer of lines leaves on the output.
+abbrev pub WritesLines : List ℕ → Ended → Side → Side → Type 0
+WritesLines bytes (ended.Answered status) old new = (status ≡ Done) × Appends old.bytes new.bytes (lines_text bytes)
+WritesLines bytes ended.CutShort old new = AppendsFront old.bytes new.bytes (lines_text bytes) × Rose old.faults new.faults
+WritesLines bytes ended.Starved old new = AppendsFront old.bytes new.bytes (lines_text bytes)
+WritesLines bytes e old new = ⊥

@@ -1,0 +1,61 @@
+//! A command whose text goes out in pieces.
+ghost use Rattle.std.specs.Prelude.{◌≡◌, IfOk};
+ghost use Rattle.frame_core.specs.Outside.{side};
+ghost use Rattle.frame_tests.specs.Small.{line_of as line_text, lines_task, WritesLines};
+
+use frame_core::{Ended, Job, Status};
+use port_io::{Sink, WriteFault, write_all};
+use std::alloc::{AllocError, Global};
+
+/// A command that writes each byte of its input, three at most, on a line of its own.
+pub struct Lines;
+
+/// A byte's line.
+fn line_of(alloc: Global, byte: u8) -> Result<Vec<u8>, AllocError>
+    ensures { IfOk result (λ line. line.items ≡ line_text byte) }
+{
+    let mut line = Vec::new(alloc);
+    line.push(byte)?;
+    line.push(b'\n')?;
+    Ok(line)
+}
+
+/// Writes each byte on a line.
+#[tactic(auto, using(frame_core::specs::PiecesLaws::texts_left))]
+fn write_lines<O: Sink>(alloc: Global, bytes: &[u8], out: &mut O) -> Ended
+    ensures { WritesLines bytes.now result (side O.written O.faults out.old) (side O.written O.faults out.new) }
+{
+    let mut left = bytes;
+    while let Some((byte, rest)) = left.split_first() {
+        let Ok(line) = line_of(alloc, *byte) else {
+            return Ended::Starved;
+        };
+        if let Err(WriteFault::WriteFault) = write_all(out, &line) {
+            return Ended::CutShort;
+        }
+        left = rest;
+    }
+    Ended::Answered(Status::Done)
+}
+
+impl Job for Lines {
+    ghost task = { λ _. lines_task };
+
+    ghost ready = { λ _. Unit {0} };
+
+    fn reads(&self) -> Option<usize> {
+        Some(3)
+    }
+
+    #[tactic(auto, using(crate::proofs::Smalls::lines_answered))]
+    fn answer<O: Sink, N: Sink>(
+        &self,
+        alloc: Global,
+        bytes: &[u8],
+        out: &mut O,
+        note: &mut N,
+    ) -> Ended {
+        let _untouched = note;
+        write_lines(alloc, bytes, out)
+    }
+}
