@@ -1,10 +1,8 @@
 //! The miter of two circuits, written clause by clause.
-ghost use Rattle.std.specs.Prelude.{◌≡◌, ◌+◌, ◌≤◌, ◌<◌, ◌∷◌, [], length, All, IfOk, OnOk};
+ghost use Rattle.std.specs.Prelude.{◌≡◌, IfOk};
 ghost use Rattle.net_theory.specs.Circuit.{IsProper};
-ghost use Rattle.equiv_theory.specs.Miter.{miter as miter_of, variables, some_row as some_row_of};
+ghost use Rattle.equiv_theory.specs.Miter.{miter as miter_of};
 ghost use Rattle.equiv_theory.specs.Difference.{AreComparable, HaveSameInterface};
-ghost use Rattle.clause_core.specs.Clauses.{IsWithin};
-ghost use Rattle.equiv_core.specs.Rows.{IsAdded};
 ghost use Rattle.equiv_core.specs.Limits.{AreSmall, IsSmall};
 
 use crate::numbering::Numbering;

@@ -1,6 +1,5 @@
 //! The clauses of the miter, gate by gate and sink by sink.
-ghost use Rattle.std.specs.Prelude.{◌≡◌, ◌+◌, ◌≤◌, ◌<◌, ◌^◌, ◌-◌, [], ◌∷◌, length, map, All, OnOk, IfOk};
-ghost use Rattle.std.specs.List.{range_with_len};
+ghost use Rattle.std.specs.Prelude.{◌≡◌, ◌+◌, ◌≤◌, ◌<◌, ◌^◌, ◌-◌, [], ◌∷◌, length, All, OnOk, IfOk};
 ghost use Rattle.clause_core.specs.declared.raw.Raw.TheVariants.{Var};
 ghost use Rattle.net_theory.specs.Net.{IsGateAt, IsSigBelow};
 ghost use Rattle.net_core.specs.Marks.{AreAt};

@@ -1,0 +1,146 @@
+-- Two netlists in one text, one behind the other: how they compare, and why they aren't compared.
+use Rattle.std.specs.Prelude.{◌≡◌, ◌≢◌, ℕ, ◌-◌, ◌≤◌, ◌<◌, Bool, false, List, length, map, take, drop, slice_index_or, Some, None, Ok}
+use Rattle.sat_theory.specs.Line.{Line}
+use Rattle.sat_theory.specs.Log.{Refutes, IsSpent, IsKept}
+use Rattle.net_theory.specs.Document.{Name, Document, latches_of, source_names, sink_names}
+use Rattle.net_theory.specs.Behaviour.{IsMapOf, Same}
+use Rattle.net_theory.specs.WellFormed.{IsWellFormed}
+use Rattle.net_theory.specs.Net.{Net}
+use Rattle.net_theory.specs.NetOf.{net_of}
+use Rattle.net_core.specs.declared.error.NetError.{NetError}
+use Rattle.net_document.specs.Listed.{Listed}
+use Rattle.net_document.specs.Format.{IsNetlist, HasNetFault}
+use Rattle.blif_core.specs.Blif.{blif_format}
+use Rattle.equiv_theory.specs.Miter.{miter}
+use Rattle.equiv_run.specs.declared.answer.Standing.{Standing}
+use Rattle.equiv_run.specs.declared.answer.Standing.TheVariants.{Equal, Differ, Undecided}
+use Rattle.equiv_run.specs.declared.answer.CompareError.{CompareError}
+use Rattle.equiv_run.specs.declared.answer.CompareError.TheVariants.{NoSecond, First, Second, DifferentInterface, Memory}
+use Rattle.equiv_run.specs.Split.{split_of}
+use Rattle.equiv_run.specs.Texts.{equal_text, undecided_text, differ_text}
+
+-- the most bytes of two netlists that are read
+abbrev pub most_of_two : ℕ
+most_of_two = 33554432
+
+-- ---- two documents
+
+-- The text is a BLIF netlist, and this is its document.
+pub record Lists (bytes : List ℕ) (d : Document) : Type 0 where
+  pub listed : Listed
+  pub said : blif_format.listed bytes ≡ Ok listed
+  pub is : listed.document ≡ d
+  pub well : IsWellFormed d
+
+-- The text is two BLIF netlists, the first of which ends where the text is split, and these are their documents.
+pub record AreTwo (bytes : List ℕ) (d e : Document) : Type 0 where
+  pub place : ℕ
+  pub parted : split_of bytes ≡ Some place
+  pub first : Lists (take place bytes) d
+  pub second : Lists (drop place bytes) e
+
+-- The documents have the same inputs, outputs and clocks, and their latches agree in order, output, control and
+-- first value.
+pub record ShareInterface (d e : Document) : Type 0 where
+  pub inputs : d.inputs ≡ e.inputs
+  pub outputs : d.outputs ≡ e.outputs
+  pub clocks : d.clocks ≡ e.clocks
+  pub latches : latches_of d ≡ latches_of e
+
+-- the bit of the output or next state at a place, in a map of a document
+abbrev pub sink_in : Document → (Name → Bool) → ℕ → Bool
+sink_in d v i = slice_index_or (map v (sink_names d)) i false
+
+-- Some assignment gives the sources these bits, and whichever does, the maps of the two documents differ at this
+-- output or next state, counted from 1, and agree at each one before it.
+pub record DocumentsDiffer (d e : Document) (sink : ℕ) (bits : List Bool) : Type 0 where
+  pub each_source : length bits ≡ length (source_names d)
+  pub counted : 1 ≤ sink
+  pub below : sink ≤ length (sink_names d)
+  pub some : (given : Name → Bool) × (map given (source_names d) ≡ bits)
+  pub differ : (given v w : Name → Bool) → map given (source_names d) ≡ bits → IsMapOf d given v → IsMapOf e given w → sink_in d v (sink - 1) ≢ sink_in e w (sink - 1)
+  pub least : (given v w : Name → Bool) → map given (source_names d) ≡ bits → IsMapOf d given v → IsMapOf e given w → (j : ℕ) → j < sink - 1 → sink_in d v j ≡ sink_in e w j
+
+-- the miter of the documents' nets
+pub record HasMiter (d e : Document) (first second : Net) : Type 0 where
+  pub first_is : net_of d ≡ Some first
+  pub second_is : net_of e ≡ Some second
+
+-- ---- what is told
+
+-- They do the same, and the lines refute the miter of their nets.
+pub record IsEqualTold (d e : Document) (text : List ℕ) : Type 0 where
+  pub same : Same d e
+  pub first : Net
+  pub second : Net
+  pub nets : HasMiter d e first second
+  pub lines : List Line
+  pub refutes : Refutes (miter first second) lines
+  pub text_is : text ≡ equal_text lines
+
+-- They differ under the bits that are told, at the sink that is told and at none before it.
+pub record IsDifferTold (d e : Document) (text : List ℕ) : Type 0 where
+  pub sink : ℕ
+  pub bits : List Bool
+  pub differ : DocumentsDiffer d e sink bits
+  pub text_is : text ≡ differ_text d.outputs (latches_of d) sink bits
+
+-- The lines have spent the budget on the miter of their nets, and keep at least half of what they add.
+pub record IsUndecidedTold (budget : ℕ) (d e : Document) (text : List ℕ) : Type 0 where
+  pub first : Net
+  pub second : Net
+  pub nets : HasMiter d e first second
+  pub lines : List Line
+  pub spent : IsSpent (miter first second) lines budget
+  pub kept : IsKept (miter first second) lines
+  pub text_is : text ≡ undecided_text lines
+
+abbrev pub IsTold : ℕ → Document → Document → List ℕ → Standing → Type 0
+IsTold budget d e text Equal = IsEqualTold d e text
+IsTold budget d e text Differ = IsDifferTold d e text
+IsTold budget d e text Undecided = IsUndecidedTold budget d e text
+
+-- The bytes are two netlists of one interface, and this is told of them.
+pub record IsAnswer (budget : ℕ) (bytes text : List ℕ) (standing : Standing) : Type 0 where
+  pub first : Document
+  pub second : Document
+  pub two : AreTwo bytes first second
+  pub interface : ShareInterface first second
+  pub told : IsTold budget first second text standing
+
+-- ---- what is refused
+
+-- a fault of the first text, and one of the second, whose lines are numbered from 1, behind a first without one
+pub record HasFirstFault (bytes : List ℕ) (e : NetError) : Type 0 where
+  pub place : ℕ
+  pub parted : split_of bytes ≡ Some place
+  pub fault : HasNetFault blif_format (take place bytes) e
+
+pub record HasSecondFault (bytes : List ℕ) (e : NetError) : Type 0 where
+  pub place : ℕ
+  pub parted : split_of bytes ≡ Some place
+  pub first : IsNetlist blif_format (take place bytes)
+  pub fault : HasNetFault blif_format (drop place bytes) e
+
+-- two netlists of different interfaces
+pub record HasOtherInterface (bytes : List ℕ) : Type 0 where
+  pub first : Document
+  pub second : Document
+  pub two : AreTwo bytes first second
+  pub other : ShareInterface first second → ⊥
+
+-- Why the bytes aren't two netlists that can be compared. Want of memory is none.
+abbrev pub HasPairFault : List ℕ → CompareError → Type 0
+HasPairFault bytes NoSecond = split_of bytes ≡ None
+HasPairFault bytes (First e) = HasFirstFault bytes e
+HasPairFault bytes (Second e) = HasSecondFault bytes e
+HasPairFault bytes DifferentInterface = HasOtherInterface bytes
+HasPairFault bytes Memory = ⊥
+
+-- Want of memory may come anywhere.
+abbrev pub IsRefusedPair : List ℕ → CompareError → Type 0
+IsRefusedPair bytes NoSecond = HasPairFault bytes NoSecond
+IsRefusedPair bytes (First e) = HasPairFault bytes (First e)
+IsRefusedPair bytes (Second e) = HasPairFault bytes (Second e)
+IsRefusedPair bytes DifferentInterface = HasPairFault bytes DifferentInterface
+IsRefusedPair bytes Memory = Unit {0}

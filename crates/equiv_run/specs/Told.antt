@@ -1,0 +1,75 @@
+-- What is told of two circuits, before it is said of the texts that they were read of.
+use Rattle.std.specs.Prelude.{◌≡◌, ℕ, Bool, List}
+use Rattle.sat_theory.specs.Line.{Line}
+use Rattle.sat_theory.specs.Log.{Refutes, IsSpent, IsKept}
+use Rattle.net_theory.specs.Circuit.{Circuit}
+use Rattle.net_document.specs.Alike.{AreAlike}
+use Rattle.net_document.specs.Format.{HasNetFault}
+use Rattle.blif_core.specs.Blif.{blif_format}
+use Rattle.equiv_theory.specs.Miter.{miter}
+use Rattle.equiv_theory.specs.Difference.{HaveSameInterface, IsFirstDifference}
+use Rattle.equiv_run.specs.declared.answer.Standing.{Standing}
+use Rattle.equiv_run.specs.declared.answer.Standing.TheVariants.{Equal, Differ, Undecided}
+use Rattle.equiv_run.specs.declared.answer.CompareError.{CompareError}
+use Rattle.equiv_run.specs.declared.answer.CompareError.TheVariants.{NoSecond, First, Second, DifferentInterface, Memory}
+use Rattle.equiv_run.specs.Texts.{equal_text, undecided_text, differ_text}
+
+pub record AreEqual (c k : Circuit) (text : List ℕ) : Type 0 where
+  pub interface : HaveSameInterface c k
+  pub alike : AreAlike c k
+  pub lines : List Line
+  pub refutes : Refutes (miter c.net k.net) lines
+  pub text_is : text ≡ equal_text lines
+
+pub record AreDifferent (c k : Circuit) (text : List ℕ) : Type 0 where
+  pub interface : HaveSameInterface c k
+  pub sink : ℕ
+  pub bits : List Bool
+  pub differ : IsFirstDifference c.net k.net sink bits
+  pub text_is : text ≡ differ_text c.outputs c.latches sink bits
+
+pub record AreUndecided (budget : ℕ) (c k : Circuit) (text : List ℕ) : Type 0 where
+  pub interface : HaveSameInterface c k
+  pub lines : List Line
+  pub spent : IsSpent (miter c.net k.net) lines budget
+  pub kept : IsKept (miter c.net k.net) lines
+  pub text_is : text ≡ undecided_text lines
+
+abbrev pub IsCircuitTold : ℕ → Circuit → Circuit → List ℕ → Standing → Type 0
+IsCircuitTold budget c k text Equal = AreEqual c k text
+IsCircuitTold budget c k text Differ = AreDifferent c k text
+IsCircuitTold budget c k text Undecided = AreUndecided budget c k text
+
+-- why two circuits weren't compared
+abbrev pub IsOther : Circuit → Circuit → CompareError → Type 0
+IsOther c k DifferentInterface = HaveSameInterface c k → ⊥
+IsOther c k Memory = Unit {0}
+IsOther c k NoSecond = ⊥
+IsOther c k (First e) = ⊥
+IsOther c k (Second e) = ⊥
+
+-- why the first text isn't read, and the second
+abbrev pub IsFirstRefused : List ℕ → CompareError → Type 0
+IsFirstRefused bytes (First e) = HasNetFault blif_format bytes e
+IsFirstRefused bytes Memory = Unit {0}
+IsFirstRefused bytes NoSecond = ⊥
+IsFirstRefused bytes (Second e) = ⊥
+IsFirstRefused bytes DifferentInterface = ⊥
+
+abbrev pub IsSecondRefused : List ℕ → CompareError → Type 0
+IsSecondRefused bytes (Second e) = HasNetFault blif_format bytes e
+IsSecondRefused bytes Memory = Unit {0}
+IsSecondRefused bytes NoSecond = ⊥
+IsSecondRefused bytes (First e) = ⊥
+IsSecondRefused bytes DifferentInterface = ⊥
+
+-- ---- each of the three
+
+pub tell_equal : (budget : ℕ) (c k : Circuit) (lines : List Line) (text : List ℕ) → HaveSameInterface c k → AreAlike c k → Refutes (miter c.net k.net) lines → text ≡ equal_text lines → IsCircuitTold budget c k text Equal
+tell_equal budget c k lines text interface alike refutes is = record { interface = interface; alike = alike; lines = lines; refutes = refutes; text_is = is }
+
+pub tell_differ : (budget : ℕ) (c k : Circuit) (sink : ℕ) (bits : List Bool) (text : List ℕ) → HaveSameInterface c k → IsFirstDifference c.net k.net sink bits → text ≡ differ_text c.outputs c.latches sink bits → IsCircuitTold budget c k text Differ
+tell_differ budget c k sink bits text interface differ is = record { interface = interface; sink = sink; bits = bits; differ = differ; text_is = is }
+
+pub tell_undecided : (budget : ℕ) (c k : Circuit) (lines : List Line) (text : List ℕ) → HaveSameInterface c k → IsSpent (miter c.net k.net) lines budget → IsKept (miter c.net k.net) lines → text ≡ undecided_text lines → IsCircuitTold budget c k text Undecided
+tell_undecided budget c k lines text interface spent kept is = record { interface = interface; lines = lines; spent = spent; kept = kept; text_is = is }

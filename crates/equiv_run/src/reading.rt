@@ -1,0 +1,112 @@
+//! Two netlists read, and compared.
+ghost use Rattle.std.specs.Prelude.{◌≡◌, ◌≤◌, ◌<◌, ◌^◌, length, IfOk, IfErr};
+ghost use Rattle.net_theory.specs.Circuit.{IsProper};
+ghost use Rattle.net_document.specs.Format.{IsCircuitOfText};
+ghost use Rattle.blif_core.specs.Blif.{blif_format};
+ghost use Rattle.equiv_core.specs.Limits.{IsSmall};
+ghost use Rattle.equiv_run.specs.Pairs.{most_of_two, IsAnswer, IsRefusedPair};
+ghost use Rattle.equiv_run.specs.Told.{IsCircuitTold, IsOther, IsFirstRefused, IsSecondRefused};
+
+use crate::answer::{CompareError, Compared, Standing};
+use crate::splitting::split;
+use crate::writing::{differ_text, logged_text_of};
+use blif_core::{Circuit, NetError, read_blif};
+use equiv_core::{Equiv, EquivError, equiv};
+use std::alloc::Global;
+
+/// The circuit of the first text.
+fn read_first(alloc: Global, bytes: &[u8]) -> Result<Circuit, CompareError>
+    requires { length bytes.now < 2 ^ 31 }
+    ensures circuit { IfOk result (IsCircuitOfText blif_format bytes.now) }
+    ensures refused { IfErr result (IsFirstRefused bytes.now) }
+{
+    match read_blif(alloc, bytes) {
+        Ok(circuit) => Ok(circuit),
+        Err(NetError::Memory) => Err(CompareError::Memory),
+        Err(error) => Err(CompareError::First(error)),
+    }
+}
+
+/// The circuit of the second text.
+fn read_second(alloc: Global, bytes: &[u8]) -> Result<Circuit, CompareError>
+    requires { length bytes.now < 2 ^ 31 }
+    ensures circuit { IfOk result (IsCircuitOfText blif_format bytes.now) }
+    ensures refused { IfErr result (IsSecondRefused bytes.now) }
+{
+    match read_blif(alloc, bytes) {
+        Ok(circuit) => Ok(circuit),
+        Err(NetError::Memory) => Err(CompareError::Memory),
+        Err(error) => Err(CompareError::Second(error)),
+    }
+}
+
+/// How two circuits compare, as a text.
+#[tactic(auto, using(crate::specs::Told::tell_equal, crate::specs::Told::tell_differ, crate::specs::Told::tell_undecided), unfolding(crate::specs::Texts::equal_text, crate::specs::Texts::undecided_text))]
+fn compare_circuits(
+    alloc: Global,
+    first: &Circuit,
+    second: &Circuit,
+    conflicts: u32,
+) -> Result<Compared, CompareError>
+    requires first { IsProper first.now }
+    requires second { IsProper second.now }
+    requires small { IsSmall first.now.net }
+    requires other { IsSmall second.now.net }
+    requires budget { (1 ≤ conflicts) × (conflicts ≤ 10000000) }
+    ensures told { IfOk result (λ c. IsCircuitTold conflicts first.now second.now c.text.items c.standing) }
+    ensures refused { IfErr result (IsOther first.now second.now) }
+{
+    match equiv(alloc, first, second, conflicts) {
+        Ok(Equiv::Equal(log)) => {
+            let text = logged_text_of(alloc, b"equal\n", &log)?;
+            Ok(Compared {
+                text,
+                standing: Standing::Equal,
+            })
+        }
+        Ok(Equiv::Differ { sink, at }) => {
+            let text = differ_text(
+                alloc,
+                &first.outputs,
+                &first.latches,
+                sink as usize,
+                at.bits(),
+            )?;
+            Ok(Compared {
+                text,
+                standing: Standing::Differ,
+            })
+        }
+        Ok(Equiv::Undecided(log)) => {
+            let text = logged_text_of(alloc, b"undecided\n", &log)?;
+            Ok(Compared {
+                text,
+                standing: Standing::Undecided,
+            })
+        }
+        Err(EquivError::DifferentInterface) => Err(CompareError::DifferentInterface),
+        Err(EquivError::Memory) => Err(CompareError::Memory),
+    }
+}
+
+/// How two BLIF netlists compare that stand one behind the other, the first up to the first line `.end`, in at
+/// most 33,554,432 bytes, with a budget of 1 to 10,000,000 learnt clauses.
+///
+/// A text that isn't two netlists is refused by what comes first: no second, the first fault of the first, the first
+/// fault of the second, whose lines are numbered from 1, different interfaces. Two netlists of one interface are
+/// refused for want of memory alone.
+pub fn compare_texts(alloc: Global, bytes: &[u8], conflicts: u32) -> Result<Compared, CompareError>
+    requires small { length bytes.now ≤ most_of_two }
+    requires budget { (1 ≤ conflicts) × (conflicts ≤ 10000000) }
+    ensures answer { IfOk result (λ c. IsAnswer conflicts bytes.now c.text.items c.standing) }
+    ensures refused { IfErr result (IsRefusedPair bytes.now) }
+{
+    let Some(place) = split(bytes) else {
+        return Err(CompareError::NoSecond);
+    };
+    let (front, behind) = bytes.split_at(place);
+    let first = read_first(alloc, front)?;
+    let second = read_second(alloc, behind)?;
+    let compared = compare_circuits(alloc, &first, &second, conflicts)?;
+    Ok(compared)
+}

@@ -1,0 +1,99 @@
+//! The texts that tell how two netlists compare.
+ghost use Rattle.std.specs.Prelude.{◌≡◌, ◌++◌, ◌+◌, ◌≤◌, length, codes, OnOk, IfOk};
+ghost use Rattle.lrat_text.specs.Values.{line_values};
+ghost use Rattle.equiv_run.specs.Texts.{log_text, logged_text, characters, bits_text as bits_text_of, sink_text, differ_text as differ_text_of};
+
+use lrat_text::{Line, Log, write_line};
+use net_core::{Latch, Name};
+use std::alloc::{AllocError, Global};
+
+/// Appends the lines of a log.
+#[tactic(auto, using(crate::specs::TextLaws::logs))]
+fn push_log(text: &mut Vec<u8>, lines: &[Line]) -> Result<(), AllocError>
+    ensures { OnOk result (text.new.items ≡ text.old.items ++ log_text (line_values lines.now)) }
+{
+    let mut left = lines;
+    while let Some((line, rest)) = left.split_first() {
+        write_line(line, text)?;
+        left = rest;
+    }
+    Ok(())
+}
+
+/// A word, the lines of a log, and `done`.
+pub(crate) fn logged_text_of(alloc: Global, word: &[u8], log: &Log) -> Result<Vec<u8>, AllocError>
+    ensures { IfOk result (λ text. text.items ≡ logged_text word.now (line_values log.now.lines.items)) }
+{
+    let mut text = Vec::new(alloc);
+    text.extend_from_slice(word)?;
+    push_log(&mut text, &log.lines)?;
+    text.extend_from_slice(b"done\n")?;
+    Ok(text)
+}
+
+/// Appends bits as characters.
+#[tactic(auto, using(crate::specs::TextLaws::bits))]
+fn push_characters(text: &mut Vec<u8>, bits: &[bool]) -> Result<(), AllocError>
+    ensures { OnOk result (text.new.items ≡ text.old.items ++ characters bits.now) }
+{
+    let mut left = bits;
+    while let Some((bit, rest)) = left.split_first() {
+        let byte = if *bit { b'1' } else { b'0' };
+        text.push(byte)?;
+        left = rest;
+    }
+    Ok(())
+}
+
+/// Appends bits as characters, or `-` where there are none.
+#[tactic(auto, using(crate::specs::TextLaws::some_bits, crate::specs::TextLaws::no_bits))]
+fn push_bits(text: &mut Vec<u8>, bits: &[bool]) -> Result<(), AllocError>
+    ensures { OnOk result (text.new.items ≡ text.old.items ++ bits_text_of bits.now) }
+{
+    if bits.is_empty() {
+        text.push(b'-')?;
+        return Ok(());
+    }
+    push_characters(text, bits)
+}
+
+/// Appends the name of a sink, counted from 1.
+#[tactic(auto, unfolding(crate::specs::Texts::sink_text))]
+fn push_sink(
+    text: &mut Vec<u8>,
+    outputs: &[Name],
+    latches: &[Latch],
+    sink: usize,
+) -> Result<(), AllocError>
+    requires { (1 ≤ sink) × (sink ≤ length outputs.now + length latches.now) }
+    ensures { OnOk result (text.new.items ≡ text.old.items ++ sink_text outputs.now latches.now sink) }
+{
+    if sink <= outputs.len() {
+        text.extend_from_slice(b"output ")?;
+        return text.extend_from_slice(outputs[sink - 1].get());
+    }
+    text.extend_from_slice(b"latch ")?;
+    let latch = &latches[sink - 1 - outputs.len()];
+    text.extend_from_slice(latch.output.get())
+}
+
+/// That two netlists differ at a sink, counted from 1, under these bits of the sources.
+#[tactic(auto, unfolding(crate::specs::Texts::differ_text))]
+pub(crate) fn differ_text(
+    alloc: Global,
+    outputs: &[Name],
+    latches: &[Latch],
+    sink: usize,
+    bits: &[bool],
+) -> Result<Vec<u8>, AllocError>
+    requires { (1 ≤ sink) × (sink ≤ length outputs.now + length latches.now) }
+    ensures { IfOk result (λ text. text.items ≡ differ_text_of outputs.now latches.now sink bits.now) }
+{
+    let mut text = Vec::new(alloc);
+    text.extend_from_slice(b"differ ")?;
+    push_sink(&mut text, outputs, latches, sink)?;
+    text.extend_from_slice(b"\nat ")?;
+    push_bits(&mut text, bits)?;
+    text.extend_from_slice(b"\n")?;
+    Ok(text)
+}
