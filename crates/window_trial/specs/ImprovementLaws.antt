@@ -1,0 +1,75 @@
+-- A sweep behind the loss of dead gates is an improvement.
+use Rattle.std.specs.Prelude.{◌≡◌, ℕ, ◌+◌, ◌≤◌, Bool, true, false, List, [], length, slice_get, Some, All, ◌⊎◌, refl}
+use Rattle.std.proofs.Common.{arith, sym, ◌∙◌, subst, inl, inr, ⊎_elim}
+use Rattle.std.proofs.lemmas.Bool.{both_ways}
+use Rattle.std.proofs.lemmas.Grind.{common_steps}
+use Rattle.chain_theory.specs.Operator.{Basis}
+use Rattle.op_basis.specs.Basis.{members}
+use Rattle.net_theory.specs.declared.data.Gate.{Gate}
+use Rattle.net_theory.specs.Net.{Net, IsNet}
+use Rattle.net_theory.specs.Answers.{IsPruned}
+use Rattle.net_theory.specs.Dead.{dropped}
+use Rattle.net_theory.specs.DeadLaws.{dropped_is, dropped_operators}
+use Rattle.settings.specs.declared.improve.ImproveSettings.{ImproveSettings}
+use Rattle.sweep_core.specs.Settled.{IsSettled}
+use Rattle.sweep_core.specs.Undecided.{Undecided, visits, IsUndecided}
+use Rattle.sweep_core.specs.Outcomes.{HasOperator, HasOperatorsWithin, Leads}
+use Rattle.window_trial.specs.Improvement.{Leaves}
+
+dropped_has : (n : Net) (i : ℕ) (g : Gate) → IsNet n → slice_get (dropped n).gates i ≡ Some g → HasOperator n g.op
+dropped_has n i g net at =
+    let old = dropped_operators n i g net at in
+    record { index = old.0; gate = old.1; at = old.2; same = sym old.3 }
+
+dropped_within : (basis : Basis) (n : Net) → IsNet n → HasOperatorsWithin basis n (dropped n)
+dropped_within basis n net = record { each = λ i g at. inr (dropped_has n i g net at) }
+
+none_listed : (m : Net) (basis : Basis) (named : List Undecided) → IsSettled m basis 0 (visits named)
+none_listed m basis named = record { each = λ v is. absurd (omega (arith, is.from, is.to)) }
+
+nothing_named : (m : Net) (s : ImproveSettings) (named : List Undecided) → named ≡ [] → All (IsUndecided m s) named
+nothing_named m s named e = subst (λ (us : List Undecided). All (IsUndecided m s) us) (sym e) (λ k d low. absurd (omega (arith, low)))
+
+idle : (s : ImproveSettings) (n : Net) (named : List Undecided) → IsNet n → s.cap ≡ 0 → named ≡ [] → Leaves s n (dropped n) true named
+idle s n named net cap none =
+    record {
+      pruned = dropped_is n net;
+      operators = dropped_within (members s.basis) n net;
+      settled_is = λ e. subst (λ (k : ℕ). IsSettled (dropped n) (members s.basis) k (visits named)) (sym cap) (none_listed (dropped n) (members s.basis) named);
+      undecided_are = nothing_named (dropped n) s named none;
+      stopped = λ e. absurd (both_ways true e refl);
+      none_named = λ e. none;
+      untouched = λ e. (refl, refl);
+    }
+
+pub leaves_idle : (s : ImproveSettings) (n m : Net) (named : List Undecided) → IsNet n → s.cap ≡ 0 → m ≡ dropped n → named ≡ [] → Leaves s n m true named
+leaves_idle s n m named net cap same none = subst (λ (x : Net). Leaves s n x true named) (sym same) (idle s n named net cap none)
+
+within_on : (basis : Basis) (n m : Net) → IsNet n → HasOperatorsWithin basis (dropped n) m → HasOperatorsWithin basis n m
+within_on basis n m net within = record {
+  each = λ i g at. ⊎_elim
+      (λ on. inl on)
+      (λ has. let old = dropped_has n has.index has.gate net has.at in inr (record { index = old.index; gate = old.gate; at = old.at; same = old.same ∙ has.same }))
+      (within.each i g at);
+}
+
+pub leaves_swept : (s : ImproveSettings) (n d m : Net) (settled : Bool) (named : List Undecided) → IsNet n → 1 ≤ s.cap → d ≡ dropped n → Leads (members s.basis) d m → (settled ≡ true → IsSettled m (members s.basis) s.cap (visits named)) → All (IsUndecided m s) named → (settled ≡ false → length m.gates + s.rounds ≤ length d.gates) → (settled ≡ false → named ≡ []) → Leaves s n m settled named
+leaves_swept s n d m settled named net cap same leads settles undecided stops none =
+    record {
+      pruned = leads.pruned n (subst (IsPruned n) (sym same) (dropped_is n net));
+      operators = within_on (members s.basis) n m net (subst (λ (x : Net). HasOperatorsWithin (members s.basis) x m) same leads.operators);
+      settled_is = settles;
+      undecided_are = undecided;
+      stopped = λ e. subst (λ (x : Net). length m.gates + s.rounds ≤ length x.gates) same (stops e);
+      none_named = none;
+      untouched = λ e. absurd (omega (arith, e, cap));
+    }
+
+pub swept_leaves : (s t : ImproveSettings) (n d e m k : Net) (settled : Bool) (named : List Undecided) → IsNet n → 1 ≤ s.cap → t ≡ s → e ≡ d → d ≡ dropped n → k ≡ m → Leads (members t.basis) e m → (settled ≡ true → IsSettled m (members t.basis) t.cap (visits named)) → All (IsUndecided m t) named → (settled ≡ false → length m.gates + t.rounds ≤ length e.gates) → (settled ≡ false → named ≡ []) → Leaves s n k settled named
+swept_leaves s t n d e m k settled named net cap asked begun same last leads settles undecided stops none =
+    let low : 1 ≤ t.cap = subst (λ (x : ImproveSettings). 1 ≤ x.cap) (sym asked) cap in
+    subst (λ (x : Net). Leaves s n x settled named) (sym last)
+    (subst (λ (x : ImproveSettings). Leaves x n m settled named) asked
+    (leaves_swept t n e m settled named net low (begun ∙ same) leads settles undecided stops none))
+
+pub ruleset improving = (common_steps, leaves_idle, leaves_swept)

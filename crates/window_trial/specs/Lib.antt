@@ -1,0 +1,7 @@
+pub use Rattle.sweep_core.specs.Settled
+pub mod PartnerLaws
+pub mod ReplacingLaws
+pub mod Trying
+pub mod TryingLaws
+pub mod Improvement
+pub mod ImprovementLaws

@@ -1,0 +1,152 @@
+-- What is known of a visit, by what was found of its window.
+use Rattle.std.specs.Prelude.{◌≡◌, ℕ, ◌+◌, ◌≤◌, ◌<◌, List, length, Option, refl}
+use Rattle.std.proofs.Common.{arith, sym, ◌∙◌, ap, subst}
+use Rattle.std.proofs.lemmas.Grind.{common_steps}
+use Rattle.chain_theory.specs.Operator.{Basis}
+use Rattle.chain_theory.specs.Chain.{Chain}
+use Rattle.chain_theory.specs.Agreement.{IsOver, NoneBelow}
+use Rattle.tt_core.specs.Words.{Words, IsSpec, specification}
+use Rattle.op_basis.specs.Basis.{members}
+use Rattle.net_theory.specs.Net.{Net, IsNet}
+use Rattle.window_theory.specs.PlaceLaws.{rising_same}
+use Rattle.window_theory.specs.Paths.{IsGate}
+use Rattle.window_theory.specs.Window.{Window, IsPartnerOrNone, IsWindow, Belongs}
+use Rattle.window_theory.specs.WindowLaws.{taken_rising, window_one, window_belongs}
+use Rattle.window_theory.specs.Care.{IsSpecificationOf, HasNoFewer}
+use Rattle.settings.specs.declared.improve.ImproveSettings.{ImproveSettings}
+use Rattle.settings.specs.Improve.{IsInRange}
+use Rattle.cert_theory.specs.declared.data.Heading.{Heading}
+use Rattle.cert_theory.specs.Bundle.{Bundle, IsHeading}
+use Rattle.decide_core.specs.declared.deciding.Decided.{Decided}
+use Rattle.decide_core.specs.declared.deciding.Decided.TheVariants as decisions
+use Rattle.decide_core.specs.Decided.{HasNone, IsLeftOpen, IsDecided}
+use Rattle.sweep_core.specs.declared.visit.Visit.{Visit}
+use Rattle.sweep_core.specs.Settled.{IsListed}
+use Rattle.sweep_core.specs.Undecided.{IsUndecided}
+use Rattle.sweep_core.specs.Outcomes.{IsDone}
+use Rattle.subst_core.specs.Substitution.{Meets}
+use Rattle.window_trial.specs.Trying.{AsksFor, IsDecidedFor}
+
+-- ---- headings
+
+abbrev heading_by : ImproveSettings → Words → ℕ → Heading
+heading_by s spec max = record { spec = spec; basis = s.basis; method = s.method; conflicts = s.conflicts; max = max }
+
+pub asked_well : (s : ImproveSettings) (spec : Words) (max : ℕ) → IsInRange s → IsSpec spec → s.basis < 65536 → max ≤ 16 → IsHeading (record { spec = spec; basis = s.basis; method = s.method; conflicts = s.conflicts; max = max })
+asked_well s spec max range tables basis few =
+    record {
+      tables = tables;
+      basis_below = basis;
+      asked = record { basis_from = range.basis_from; max_to = few; conflicts_from = range.conflicts_from; conflicts_to = range.conflicts_to };
+    }
+
+pub decided_by : (s : ImproveSettings) (n : Net) (w : Window) (spec : Words) (max : ℕ) (d : Decided) → IsSpecificationOf n w (specification spec) → max + 1 ≡ length w.gates → IsDecided (record { spec = spec; basis = s.basis; method = s.method; conflicts = s.conflicts; max = max }) d → IsDecidedFor s n w d
+decided_by s n w spec max d tables size is =
+    record {
+      heading = heading_by s spec max;
+      asks = record { tables = tables; basis_is = refl; method_is = refl; conflicts_is = refl; max_is = size };
+      decided = is;
+    }
+
+-- ---- windows
+
+-- a window has as many gates as it counts
+pub window_size : (n : Net) (root : ℕ) (partner : Option ℕ) (count : ℕ) (w : Window) → IsNet n → IsWindow n root partner count w → length w.gates ≡ count
+window_size n root partner count w net is =
+    let taken : List ℕ = is.takes.taken in
+    let same : w.gates ≡ taken = rising_same w.gates taken is.takes.gates_are.rising (taken_rising n root partner taken net is.takes.are) is.takes.gates_are.only is.takes.gates_are.all in
+    ap (λ (ps : List ℕ). length ps) same ∙ is.takes.count_is
+
+-- the window of a visit
+abbrev IsOf : Net → Visit → Window → Type 0
+IsOf n v w = IsWindow n v.root v.partner v.count w
+
+-- ---- what is left as it is
+
+least_of : (n : Net) (basis : Basis) (v : Visit) (w : Window) → IsOf n v w → HasNoFewer n basis w v.count → IsDone n basis v
+least_of n basis v w is least = record {
+  done = λ gate partner. record {
+    least = λ u other. subst (λ (x : Window). HasNoFewer n basis x v.count) (window_one n v.root v.partner v.count w u is other) least;
+  };
+}
+
+none_of : (s : ImproveSettings) (n : Net) (v : Visit) (w : Window) (h : Heading) → IsNet n → IsOf n v w → AsksFor s n w h → HasNone h → HasNoFewer n (members s.basis) w v.count
+none_of s n v w h net is asks none =
+    let size : h.max + 1 ≡ v.count = asks.max_is ∙ window_size n v.root v.partner v.count w net is in
+    record {
+      specification = specification h.spec;
+      is = asks.tables;
+      none = subst (λ (k : ℕ). NoneBelow (specification h.spec) (members s.basis) k) size (subst (λ (b : ℕ). NoneBelow (specification h.spec) (members b) (h.max + 1)) asks.basis_is none);
+    }
+
+decided_as : (s : ImproveSettings) (n : Net) (w : Window) (d e : Decided) → d ≡ e → IsDecidedFor s n w d → IsDecidedFor s n w e
+decided_as s n w d e same is = subst (λ (x : Decided). IsDecidedFor s n w x) same is
+
+least_by : (s : ImproveSettings) (n : Net) (v : Visit) (w : Window) → IsNet n → IsOf n v w → IsDecidedFor s n w decisions.Least → IsDone n (members s.basis) v
+least_by s n v w net is decided = least_of n (members s.basis) v w is (none_of s n v w decided.heading net is decided.asks decided.decided)
+
+pub trial_least : (s : ImproveSettings) (n : Net) (v : Visit) (w : Window) (d : Decided) → IsNet n → IsWindow n v.root v.partner v.count w → IsDecidedFor s n w d → d ≡ decisions.Least → IsDone n (members s.basis) v
+trial_least s n v w d net is decided e = least_by s n v w net is (decided_as s n w d decisions.Least e decided)
+
+-- no partner, or no window
+pub trial_apart : (n : Net) (basis : Basis) (v : Visit) → (IsPartnerOrNone n v.root v.partner → ⊥) → IsDone n basis v
+trial_apart n basis v none = record { done = λ gate partner. absurd (none partner) }
+
+pub trial_none : (n : Net) (basis : Basis) (v : Visit) → ((w : Window) → IsWindow n v.root v.partner v.count w → ⊥) → IsDone n basis v
+trial_none n basis v none = record { done = λ gate partner. record { least = λ w is. absurd (none w is) } }
+
+shorter_meets : (s : ImproveSettings) (n : Net) (w : Window) (c : Chain) (low : ℕ) → IsDecidedFor s n w (decisions.Shorter c low) → Meets n w c
+shorter_meets s n w c low is = record { chain = is.decided.0.found.chain; specification = specification is.heading.spec; is = is.asks.tables; agrees = is.decided.0.found.agrees }
+
+shorter_fewer : (s : ImproveSettings) (n : Net) (w : Window) (c : Chain) (low : ℕ) → IsDecidedFor s n w (decisions.Shorter c low) → length c.steps < length w.gates
+shorter_fewer s n w c low is = omega (arith, is.decided.0.found.size_is, is.decided.0.found.size_to, is.asks.max_is)
+
+shorter_over : (s : ImproveSettings) (n : Net) (w : Window) (c : Chain) (low : ℕ) → IsDecidedFor s n w (decisions.Shorter c low) → IsOver (members s.basis) c
+shorter_over s n w c low is = subst (λ (b : ℕ). IsOver (members b) c) is.asks.basis_is is.decided.0.found.over
+
+-- ---- what stays open
+
+open_by : (s : ImproveSettings) (n : Net) (v : Visit) (w : Window) (h : Heading) (b : Bundle) → IsNet n → IsListed n s.cap v → IsOf n v w → AsksFor s n w h → IsLeftOpen h b → IsUndecided n s (record { visit = v; search = b })
+open_by s n v w h b net listed is asks left =
+    record {
+      listed = listed;
+      window = w;
+      is = is;
+      tables = subst (λ (k : Heading). IsSpecificationOf n w (specification k.spec)) (sym left.heading) asks.tables;
+      basis_is = ap (λ (k : Heading). k.basis) left.heading ∙ asks.basis_is;
+      method_is = ap (λ (k : Heading). k.method) left.heading ∙ asks.method_is;
+      conflicts_is = ap (λ (k : Heading). k.conflicts) left.heading ∙ asks.conflicts_is;
+      max_is = ap (λ (k : Heading). k.max + 1) left.heading ∙ asks.max_is ∙ window_size n v.root v.partner v.count w net is;
+      valid = left.valid;
+      output = left.output;
+      low = left.verdict.low;
+      verdict_is = left.verdict.verdict_is;
+      thrifty = left.thrifty;
+    }
+
+left_by : (s : ImproveSettings) (n : Net) (v : Visit) (w : Window) (b : Bundle) → IsNet n → IsListed n s.cap v → IsOf n v w → IsDecidedFor s n w (decisions.Open b) → IsUndecided n s (record { visit = v; search = b })
+left_by s n v w b net listed is decided = open_by s n v w decided.heading b net listed is decided.asks decided.decided
+
+pub trial_open : (s : ImproveSettings) (n : Net) (v : Visit) (w : Window) (d : Decided) (b : Bundle) → IsNet n → IsListed n s.cap v → IsWindow n v.root v.partner v.count w → IsDecidedFor s n w d → d ≡ decisions.Open b → IsUndecided n s (record { visit = v; search = b })
+trial_open s n v w d b net listed is decided e = left_by s n v w b net listed is (decided_as s n w d (decisions.Open b) e decided)
+
+-- ---- shorter chains
+
+pub trial_meets : (s : ImproveSettings) (n : Net) (w : Window) (d : Decided) (c : Chain) (low : ℕ) → IsDecidedFor s n w d → d ≡ decisions.Shorter c low → Meets n w c
+trial_meets s n w d c low decided e = shorter_meets s n w c low (decided_as s n w d (decisions.Shorter c low) e decided)
+
+pub trial_fewer : (s : ImproveSettings) (n : Net) (w : Window) (d : Decided) (c : Chain) (low : ℕ) → IsDecidedFor s n w d → d ≡ decisions.Shorter c low → length c.steps < length w.gates
+trial_fewer s n w d c low decided e = shorter_fewer s n w c low (decided_as s n w d (decisions.Shorter c low) e decided)
+
+pub trial_over : (s : ImproveSettings) (n : Net) (w : Window) (d : Decided) (c : Chain) (low : ℕ) → IsDecidedFor s n w d → d ≡ decisions.Shorter c low → IsOver (members s.basis) c
+trial_over s n w d c low decided e = shorter_over s n w c low (decided_as s n w d (decisions.Shorter c low) e decided)
+
+-- ---- visits
+
+pub visit_belongs : (n : Net) (root : ℕ) (partner : Option ℕ) (count : ℕ) (w : Window) → IsNet n → IsWindow n root partner count w → Belongs n w
+visit_belongs n root partner count w net is = window_belongs n root partner count w net is
+
+pub visit_listed : (n : Net) (cap : ℕ) (v : Visit) → IsGate n v.root → IsPartnerOrNone n v.root v.partner → 1 ≤ v.count → v.count ≤ cap → IsListed n cap v
+visit_listed n cap v gate partner some most = record { root = gate; partner = partner; from = some; to = most }
+
+pub ruleset trying = (common_steps, asked_well, decided_by, trial_least, trial_apart, trial_none, trial_open, trial_meets, trial_fewer, trial_over, visit_belongs, visit_listed)

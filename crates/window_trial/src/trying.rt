@@ -1,0 +1,206 @@
+//! The trial of a window: its specification, the search, and the new net.
+ghost use Rattle.std.specs.Prelude.{◌≡◌, ◌≤◌, IfOk, OnOk};
+ghost use Rattle.settings.specs.Improve.{IsInRange};
+ghost use Rattle.window_theory.specs.Paths.{IsGate};
+ghost use Rattle.window_theory.specs.Window.{IsWindow, Belongs};
+ghost use Rattle.sweep_core.specs.Settled.{IsListed};
+ghost use Rattle.window_core.specs.Readers.{AreReaders};
+ghost use Rattle.window_trial.specs.Trying.{IsDecidedFor, IsOutcome};
+
+use crate::partners::{is_partner_or_none, next_partner};
+use crate::replacing::with_chain;
+use decide_core::{Decided, Heading, decide};
+use net_core::Net;
+use settings::ImproveSettings;
+use std::alloc::{AllocError, Global};
+use std::marker::Model;
+use sweep_core::{Trial, Tried, Visit};
+use window_core::{Readers, Window, readers_of, spec_of, window_by};
+
+/// A net whose windows are tried, with its index, and the settings.
+#[derive(Debug, Drop)]
+pub struct WindowTrial {
+    settings: ImproveSettings,
+    net: Net,
+    readers: Readers,
+}
+
+impl Model for WindowTrial {
+    ghost use Rattle.window_trial.specs.Trying.{Trying, IsTrying};
+
+    ghost Value = { Trying };
+
+    ghost view = { λ t. record { settings = t.settings; net = t.net; readers = t.readers } };
+
+    ghost invariant = { λ t. IsTrying (record { settings = t.settings; net = t.net; readers = t.readers }) };
+}
+
+/// Whether a window of a net has a shorter chain, by a heading that asks for its specification.
+#[tactic(auto, using(crate::specs::TryingLaws::trying))]
+fn decide_window(
+    alloc: Global,
+    net: &Net,
+    window: &Window,
+    settings: ImproveSettings,
+) -> Result<Decided, AllocError>
+    requires belongs { Belongs net.now window.now }
+    requires range { IsInRange settings }
+    ensures { IfOk result (λ decided. IsDecidedFor settings net.now window.now decided) }
+{
+    let max = window.gates().len() as u32 - 1;
+    let spec = spec_of(alloc, net, window)?;
+    // brings what the types of tables and bases say
+    let _inputs = spec.n();
+    let _operators = settings.basis.get();
+    let heading = Heading {
+        spec,
+        basis: settings.basis,
+        method: settings.method,
+        conflicts: settings.conflicts,
+        max,
+    };
+    let decided = decide(alloc, &heading)?;
+    Ok(decided)
+}
+
+/// What a visit came to, with the net that takes the place of the one before, if one does.
+#[derive(Debug, Drop)]
+enum Outcome {
+    Passed,
+    Open(decide_core::Bundle),
+    Smaller(Net),
+}
+
+/// Tries a window of a net.
+#[tactic(auto, using(crate::specs::TryingLaws::trying))]
+fn try_window(
+    alloc: Global,
+    net: &Net,
+    window: &Window,
+    settings: ImproveSettings,
+    visit: Visit,
+) -> Result<Outcome, AllocError>
+    requires window { IsWindow net.now visit.root visit.partner visit.count window.now }
+    requires belongs { Belongs net.now window.now }
+    requires range { IsInRange settings }
+    requires listed { IsListed net.now settings.cap visit }
+    ensures { IfOk result (λ outcome. IsOutcome settings net.now visit outcome) }
+{
+    // brings what the type of a net says
+    let _gates = net.gates();
+    match decide_window(alloc, net, window, settings)? {
+        Decided::Least => Ok(Outcome::Passed),
+        Decided::Open(search) => Ok(Outcome::Open(search)),
+        Decided::Shorter { chain, low: _ } => Ok(Outcome::Smaller(with_chain(
+            alloc,
+            net,
+            window,
+            &chain,
+            settings.basis,
+        )?)),
+    }
+}
+
+/// Tries the window of a visit, if there is one that counts.
+#[tactic(auto, using(crate::specs::TryingLaws::trying))]
+fn try_visit(
+    alloc: Global,
+    net: &Net,
+    readers: &Readers,
+    settings: ImproveSettings,
+    visit: Visit,
+) -> Result<Outcome, AllocError>
+    requires readers { AreReaders net.now readers.now }
+    requires range { IsInRange settings }
+    requires gate { IsGate net.now visit.root }
+    requires from { 1 ≤ visit.count }
+    requires to { visit.count ≤ settings.cap }
+    ensures { IfOk result (λ outcome. IsOutcome settings net.now visit outcome) }
+{
+    // brings what the type of a net says
+    let _gates = net.gates();
+    if !is_partner_or_none(alloc, net, readers, visit.root, visit.partner)? {
+        return Ok(Outcome::Passed);
+    }
+    match window_by(alloc, net, readers, visit.root, visit.partner, visit.count)? {
+        None => Ok(Outcome::Passed),
+        Some(window) => try_window(alloc, net, &window, settings, visit),
+    }
+}
+
+impl WindowTrial {
+    /// A net whose windows are to be tried by some settings.
+    pub fn new(
+        alloc: Global,
+        net: Net,
+        settings: ImproveSettings,
+    ) -> Result<WindowTrial, AllocError>
+        requires { IsInRange settings }
+        ensures net { IfOk result (λ trial. trial.net ≡ net) }
+        ensures settings { IfOk result (λ trial. trial.settings ≡ settings) }
+    {
+        let readers = readers_of(alloc, &net)?;
+        Ok(WindowTrial {
+            settings,
+            net,
+            readers,
+        })
+    }
+
+    /// The net as it is in the end.
+    pub fn into_net(self) -> Net
+        ensures { result ≡ self.net }
+    {
+        let WindowTrial {
+            settings: _,
+            net,
+            readers: _,
+        } = self;
+        net
+    }
+
+    /// Puts a net in the place of the one before.
+    fn put(&mut self, alloc: Global, net: Net) -> Result<(), AllocError>
+        ensures net { OnOk result (self.new.net ≡ net) }
+        ensures settings { OnOk result (self.new.settings ≡ self.old.settings) }
+    {
+        self.readers = readers_of(alloc, &net)?;
+        self.net = net;
+        Ok(())
+    }
+}
+
+impl Trial for WindowTrial {
+    ghost settings_of = { λ t. t.settings };
+
+    ghost net_of = { λ t. t.net };
+
+    fn settings(&self) -> ImproveSettings {
+        self.settings
+    }
+
+    fn net(&self) -> &Net {
+        &self.net
+    }
+
+    #[tactic(auto, using(crate::specs::TryingLaws::trying))]
+    fn attempt(&mut self, alloc: Global, visit: Visit) -> Result<Tried, AllocError> {
+        match try_visit(alloc, &self.net, &self.readers, self.settings, visit)? {
+            Outcome::Passed => Ok(Tried::Passed),
+            Outcome::Open(search) => Ok(Tried::Open(search)),
+            Outcome::Smaller(net) => {
+                self.put(alloc, net)?;
+                Ok(Tried::Smaller)
+            }
+        }
+    }
+
+    fn next_partner(
+        &self,
+        alloc: Global,
+        root: u32,
+        below: u32,
+    ) -> Result<Option<u32>, AllocError> {
+        next_partner(alloc, &self.net, &self.readers, root, below)
+    }
+}
