@@ -1,22 +1,37 @@
 //! Chains that take the places of windows.
 
-ghost use Rattle.std.specs.Prelude.{◌≡◌, length, []};
+ghost use Rattle.std.specs.Prelude.{◌≤◌, length, IfOk, IfSome, IsTrue};
+ghost use Rattle.window_theory.specs.Window.{Belongs};
+ghost use Rattle.window_theory.specs.Splice.{Fits};
+ghost use Rattle.subst_core.specs.Substitution.{Meets};
 
 use crate::nets::{gate, net_of};
-use chain_core::{Chain, read_chain};
+use chain_core::{Chain, first_difference, read_chain};
 use net_core::{Gate, Net, Sig};
 use std::alloc::{AllocError, Global};
 use subst_core::{WindowLists, replace, splice, substitute};
-use window_core::window;
+use window_core::{Window, spec_of, window};
 
-/// The net in which the chain of a block has taken the place of the window of a root and a count.
-fn spliced_net(
+/// A window, and a chain that fits it.
+#[derive(Drop)]
+struct Pair {
+    window: Window,
+    chain: Chain,
+}
+
+/// The window of a root and a count with the chain of a block, if the chain fits and has no more steps than
+/// the window has gates.
+fn pair_of(
     alloc: Global,
     net: &Net,
     root: u32,
     count: u32,
     block: &[u8],
-) -> Result<Option<Net>, AllocError> {
+) -> Result<Option<Pair>, AllocError>
+    ensures belongs { IfOk result (λ answer. IfSome answer (λ pair. Belongs net.now pair.window)) }
+    ensures fits { IfOk result (λ answer. IfSome answer (λ pair. Fits pair.window pair.chain)) }
+    ensures few { IfOk result (λ answer. IfSome answer (λ pair. length pair.chain.steps ≤ length pair.window.gates)) }
+{
     let sources = net.sources();
     if root <= sources || root as usize > sources as usize + net.gates().len() {
         return Ok(None);
@@ -35,12 +50,57 @@ fn spliced_net(
     if chain.steps().len() > window.gates().len() {
         return Ok(None);
     }
-    let lists = WindowLists {
-        gates: window.gates(),
-        inputs: window.inputs(),
-        outputs: window.outputs(),
+    Ok(Some(Pair { window, chain }))
+}
+
+/// The net in which the chain of a block has taken the place of the window of a root and a count.
+fn spliced_net(
+    alloc: Global,
+    net: &Net,
+    root: u32,
+    count: u32,
+    block: &[u8],
+) -> Result<Option<Net>, AllocError> {
+    let Some(pair) = pair_of(alloc, net, root, count, block)? else {
+        return Ok(None);
     };
-    Ok(Some(splice(alloc, net, &lists, &chain)?))
+    let _sources = net.sources();
+    let lists = WindowLists {
+        gates: pair.window.gates(),
+        inputs: pair.window.inputs(),
+        outputs: pair.window.outputs(),
+    };
+    Ok(Some(splice(alloc, net, &lists, &pair.chain)?))
+}
+
+/// Whether a chain agrees with what a window has to compute.
+fn agrees(alloc: Global, net: &Net, pair: &Pair) -> Result<bool, AllocError>
+    requires belongs { Belongs net.now pair.now.window }
+    requires fits { Fits pair.now.window pair.now.chain }
+    ensures { IfOk result (λ answer. IsTrue answer → Meets net.now pair.now.window pair.now.chain) }
+{
+    let spec = spec_of(alloc, net, &pair.window)?;
+    Ok(first_difference(&pair.chain, &spec).is_none())
+}
+
+/// The nets that the chain leaves, with its dead gates and without, if it agrees.
+fn substituted_nets(alloc: Global, net: &Net, pair: &Pair) -> Result<Option<(Net, Net)>, AllocError>
+    requires belongs { Belongs net.now pair.now.window }
+    requires fits { Fits pair.now.window pair.now.chain }
+    requires few { length pair.now.chain.steps ≤ length pair.now.window.gates }
+{
+    if !agrees(alloc, net, pair)? {
+        return Ok(None);
+    }
+    let _sources = net.sources();
+    let lists = WindowLists {
+        gates: pair.window.gates(),
+        inputs: pair.window.inputs(),
+        outputs: pair.window.outputs(),
+    };
+    let all = substitute(alloc, net, &lists, &pair.chain)?;
+    let left = replace(alloc, net, &lists, &pair.chain)?;
+    Ok(Some((all, left)))
 }
 
 /// The same of a net that may be none.
@@ -181,49 +241,52 @@ fn other_gates_stand_behind_the_steps(rt: HostRuntime) -> Result<(), AllocError>
     Ok(())
 }
 
-/// The net where an empty chain takes the place of an empty window.
-fn substituted(alloc: Global, net: &Net, none: &[u32], chain: &Chain) -> Result<Net, AllocError>
-    requires none { length none.now ≡ 0 }
-    requires chain { chain.now ≡ record { n = 0; steps = []; outs = [] } }
-{
-    let _net = net.sources();
-    let _chain = chain.steps();
-    let window = WindowLists {
-        gates: none,
-        inputs: none,
-        outputs: none,
+/// The nets that are left of a net, with dead gates and without, if the chain agrees.
+fn substituted(
+    alloc: Global,
+    net: Option<Net>,
+    root: u32,
+    count: u32,
+    block: &[u8],
+) -> Result<Option<(Net, Net)>, AllocError> {
+    let Some(net) = net else {
+        return Ok(None);
     };
-    substitute(alloc, net, &window, chain)
-}
-
-/// The same without dead gates.
-fn replaced(alloc: Global, net: &Net, none: &[u32], chain: &Chain) -> Result<Net, AllocError>
-    requires none { length none.now ≡ 0 }
-    requires chain { chain.now ≡ record { n = 0; steps = []; outs = [] } }
-{
-    let _net = net.sources();
-    let _chain = chain.steps();
-    let window = WindowLists {
-        gates: none,
-        inputs: none,
-        outputs: none,
+    let Some(pair) = pair_of(alloc, &net, root, count, block)? else {
+        return Ok(None);
     };
-    replace(alloc, net, &window, chain)
+    substituted_nets(alloc, &net, &pair)
 }
 
 #[test]
-fn where_nothing_changes_dead_gates_go(rt: HostRuntime) -> Result<(), AllocError> {
-    let gates = [gate(1, at(1), at(2)), gate(6, at(1), at(2))];
-    let sinks = [at(4), at(2)];
-    let Some(net) = net_of(rt.alloc(), 2, gates.as_slice(), sinks.as_slice())? else {
-        return Ok(());
+fn a_chain_that_agrees_takes_the_place(rt: HostRuntime) -> Result<(), AllocError> {
+    let gates = [
+        gate(14, at(1), at(2)),
+        gate(14, at(3), at(3)),
+        gate(6, at(1), at(2)),
+    ];
+    let net = net_of(rt.alloc(), 2, gates.as_slice(), [at(4), at(2)].as_slice())?;
+    let new = substituted(rt.alloc(), net, 4, 2, b"chain 1\nx3 x1 x2 0001\nout x3\n")?;
+    let (all, left) = match new {
+        Some((all, left)) => (Some(all), Some(left)),
+        None => (None, None),
     };
-    let chain = Chain::new(0, Vec::new(rt.alloc()), Vec::new(rt.alloc()));
-    let none: [u32; 0] = [];
-    let same = substituted(rt.alloc(), &net, none.as_slice(), &chain)?;
-    assert!(rt; is_left(Some(same), gates.as_slice(), sinks.as_slice()));
-    let less = replaced(rt.alloc(), &net, none.as_slice(), &chain)?;
-    let gates = [gate(6, at(1), at(2))];
-    assert!(rt; is_left(Some(less), gates.as_slice(), [at(3), at(2)].as_slice()));
+    let gates = [gate(1, at(1), at(2)), gate(6, at(1), at(2))];
+    assert!(rt; is_left(all, gates.as_slice(), [at(3), at(2)].as_slice()));
+    assert!(rt;
+        is_left(
+            left,
+            [gate(1, at(1), at(2))].as_slice(),
+            [at(3), at(2)].as_slice()
+        )
+    );
+    Ok(())
+}
+
+#[test]
+fn a_chain_that_differs_is_not_taken(rt: HostRuntime) -> Result<(), AllocError> {
+    let net = three_gates(rt.alloc())?;
+    let new = substituted(rt.alloc(), net, 3, 1, b"chain 1\nx3 x1 x2 0111\nout x3\n")?;
+    assert!(rt; new.is_none());
     Ok(())
 }
