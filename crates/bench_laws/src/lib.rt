@@ -8,9 +8,10 @@ ghost use Rattle.net_theory.specs.Document.{Name, Document, has, source_names};
 ghost use Rattle.net_theory.specs.WellFormed.{IsWellFormed};
 ghost use Rattle.net_theory.specs.Cost.{cost};
 ghost use Rattle.net_theory.specs.Circuit.{Circuit, Describes};
-ghost use Rattle.net_document.specs.Format.{IsCircuitOfText};
+ghost use Rattle.net_document.specs.Format.{IsCircuitOfText, IsReadBack};
+ghost use Rattle.bench_core.specs.Spelling.{spelled};
 ghost use Rattle.bench_core.specs.Gates.{as_gates};
-ghost use Rattle.bench_laws.specs.Spelled.{CanSpell};
+ghost use Rattle.bench_laws.specs.Spelled.{CanSpell, IsSpelled};
 ghost use Rattle.bench_core.specs.Bench.{bench_format, is_gate_word};
 
 /// Each gate of the circuit of a BENCH text has the operator of a gate: AND, OR, XOR or the complement of one.
@@ -24,4 +25,9 @@ pub fn documents_of_gates_do_the_same()
     ensures well { (source : Name) (d : Document) → IsWellFormed d → All CanSpell d.tables → has (source_names d) source ≡ true → IsWellFormed (as_gates source d) }
     ensures describes { (source : Name) (d : Document) (c : Circuit) → IsWellFormed d → All CanSpell d.tables → has (source_names d) source ≡ true → Describes d c → Describes (as_gates source d) c }
     ensures cost { (source : Name) (d : Document) → IsWellFormed d → All CanSpell d.tables → has (source_names d) source ≡ true → cost (as_gates source d) ≡ cost d }
+{}
+
+/// A document that can be spelled is read back from its text, with its tables as gates.
+pub fn documents_are_read_back()
+    ensures { (source : Name) (d : Document) → IsSpelled source d → IsReadBack bench_format (spelled source d) (as_gates source d) }
 {}
