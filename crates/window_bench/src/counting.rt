@@ -1,0 +1,90 @@
+//! Counts what all windows of a net have.
+
+ghost use Rattle.std.specs.Prelude.{◌≡◌, ◌≤◌, ◌<◌, length, slice_get, Some};
+ghost use Rattle.net_theory.specs.Net.{end_of};
+ghost use Rattle.window_theory.specs.Paths.{IsGate};
+ghost use Rattle.window_theory.specs.Window.{IsPartnerOrNone};
+ghost use Rattle.window_theory.specs.Partner.{ArePartners};
+ghost use Rattle.window_core.specs.Readers.{AreReaders};
+
+use net_core::Net;
+use std::alloc::{AllocError, Global};
+use window_core::{Readers, partners_by, readers_of, spec_of, window_by};
+
+/// How many windows there are, and what they have together.
+#[derive(Clone, Copy, Debug)]
+pub struct Count {
+    pub windows: u64,
+    pub gates: u64,
+    pub inputs: u64,
+    pub outputs: u64,
+    pub rows: u64,
+}
+
+/// The windows of a root and a partner or none, with these counts.
+fn count_windows(
+    alloc: Global,
+    net: &Net,
+    readers: &Readers,
+    root: u32,
+    partner: Option<u32>,
+    first: u32,
+    count: &mut Count,
+) -> Result<(), AllocError>
+    requires readers { AreReaders net.now readers.now }
+    requires root { IsGate net.now root }
+    requires partner { IsPartnerOrNone net.now root partner }
+    requires first { 1 ≤ first }
+{
+    let _sources = net.sources();
+    for size in first..6 {
+        let Some(window) = window_by(alloc, net, readers, root, partner, size)? else {
+            continue;
+        };
+        let spec = spec_of(alloc, net, &window)?;
+        count.windows = count.windows.wrapping_add(1);
+        count.gates = count.gates.wrapping_add(window.gates().len() as u64);
+        count.inputs = count.inputs.wrapping_add(window.inputs().len() as u64);
+        count.outputs = count.outputs.wrapping_add(window.outputs().len() as u64);
+        if let Some(mask) = spec.care().first() {
+            count.rows = count.rows.wrapping_add(u64::from(mask.count_ones()));
+        }
+    }
+    Ok(())
+}
+
+/// The windows of a root, alone and with each of its partners.
+fn count_root(
+    alloc: Global,
+    net: &Net,
+    readers: &Readers,
+    root: u32,
+    count: &mut Count,
+) -> Result<(), AllocError>
+    requires readers { AreReaders net.now readers.now }
+    requires root { IsGate net.now root }
+{
+    count_windows(alloc, net, readers, root, None, 1, count)?;
+    let partners = partners_by(alloc, net, readers, root)?;
+    for i in 0..partners.len() {
+        count_windows(alloc, net, readers, root, Some(partners[i]), 2, count)?;
+    }
+    Ok(())
+}
+
+/// The windows of all roots.
+pub fn count_all(alloc: Global, net: &Net) -> Result<Count, AllocError> {
+    let mut count = Count {
+        windows: 0,
+        gates: 0,
+        inputs: 0,
+        outputs: 0,
+        rows: 0,
+    };
+    let readers = readers_of(alloc, net)?;
+    let first = net.sources() + 1;
+    for i in 0..net.gates().len() {
+        count_root(alloc, net, &readers, first + i as u32, &mut count)?;
+    }
+    Ok(count)
+}
