@@ -52,7 +52,8 @@ HasRow bits places t = (i : ℕ) → i < length places → bits (slice_index_or 
 
 -- ---- care rows
 
--- A row of some places is a care row where an assignment of their surround's leaves gives them its bits.
+-- A row of k places, a number below 2 ^ k, is a care row where an assignment of their surround's leaves gives them
+-- its bits. (Of a greater number only its last k digits count; whoever uses this keeps to rows.)
 -- Example: of gate 3 = AND(1, 2) and gate 4 = OR(1, 2) the row 10 is none, since no bits of 1 and 2 give it.
 pub record IsCareRow (n : Net) (places : List ℕ) (t : ℕ) : Type 0 where
   pub leaves : List ℕ
@@ -77,7 +78,8 @@ pub record IsSpecificationOf (n : Net) (w : Window) (s : Specification) : Type 0
 
 -- No chain over the basis of fewer steps than the count does what the window has to. It doesn't matter of which
 -- specification of the window this is said, since all have the same chains (a law says so).
--- Example: a window of the one gate XOR of two sources has no chain of fewer than 1 steps over any basis.
+-- Example: where XOR of two sources is a sink, the window of this one gate has no chain of fewer than 1 steps over
+-- any basis. (A gate that nothing reads gives a window without outputs, which needs no step.)
 pub record HasNoFewer (n : Net) (basis : Basis) (w : Window) (count : ℕ) : Type 0 where
   pub specification : Specification
   pub is : IsSpecificationOf n w specification

@@ -25,3 +25,4 @@ pub mod ReplacementLaws
 pub mod CarePartLaws
 pub mod Examples
 pub mod RowExamples
+pub mod WindowExamples

@@ -51,17 +51,17 @@ and_or_net =
 
 -- ---- the leaves
 
-none_among : (q : ℕ) → among [] q ≡ true → ⊥
+pub none_among : (q : ℕ) → among [] q ≡ true → ⊥
 none_among q e = let x : false ≡ true = e in absurd cc
 
 -- one of two or of three places
-two_cases : (a b q : ℕ) → among (a ∷ b ∷ []) q ≡ true → (q ≡ a) ⊎ (q ≡ b)
+pub two_cases : (a b q : ℕ) → among (a ∷ b ∷ []) q ≡ true → (q ≡ a) ⊎ (q ≡ b)
 two_cases a b q e = ⊎_elim (λ one. inl one) (λ rest. ⊎_elim (λ two. inr two) (λ none. absurd (none_among q none)) (among_cases b q [] rest)) (among_cases a q (b ∷ []) e)
 
 three_cases : (a b c q : ℕ) → among (a ∷ b ∷ c ∷ []) q ≡ true → (q ≡ a) ⊎ ((q ≡ b) ⊎ (q ≡ c))
 three_cases a b c q e = ⊎_elim (λ one. inl one) (λ rest. inr (two_cases b c q rest)) (among_cases a q (b ∷ c ∷ []) e)
 
-low_two : (q : ℕ) → 1 ≤ q → q < 3 → among (1 ∷ 2 ∷ []) q ≡ true
+pub low_two : (q : ℕ) → 1 ≤ q → q < 3 → among (1 ∷ 2 ∷ []) q ≡ true
 low_two q some low = ⊎_elim (λ (one : q ≡ 1). subst (λ (x : ℕ). among (1 ∷ 2 ∷ []) x ≡ true) (sym one) refl) (λ other. let two : 2 ≡ q = omega (arith, other, some, low) in subst (λ (x : ℕ). among (1 ∷ 2 ∷ []) x ≡ true) two refl) (cases_eq q 1)
 
 low_three : (q : ℕ) → 1 ≤ q → q < 4 → among (1 ∷ 2 ∷ 3 ∷ []) q ≡ true
@@ -70,7 +70,7 @@ low_three q some low = ⊎_elim
     (λ other. ⊎_elim (λ (one : q ≡ 1). subst (λ (x : ℕ). among (1 ∷ 2 ∷ 3 ∷ []) x ≡ true) (sym one) refl) (λ more. let two : 2 ≡ q = omega (arith, other, more, some, low) in subst (λ (x : ℕ). among (1 ∷ 2 ∷ 3 ∷ []) x ≡ true) two refl) (cases_eq q 1))
     (cases_eq q 3)
 
-rising_two : IsRising (1 ∷ 2 ∷ [])
+pub rising_two : IsRising (1 ∷ 2 ∷ [])
 unfolding IsRising
 rising_two =
     let last : IsRising (2 ∷ []) = (λ q e. absurd (none_among q e), tt) in

@@ -38,8 +38,8 @@ pub record IsGreatestCandidate (n : Net) (root : ℕ) (partner : Option ℕ) (ta
   pub greatest : (q : ℕ) → IsCandidate n root partner taken q → q ≤ p
 
 -- Gates that were taken one after the other, the first of the list last: each was the greatest candidate.
--- Example: from the root 5, which reads the gates 3 and 4, come 5, then 4, and then 3 or what 4 reads,
--- whichever is the greater.
+-- Example: from the root 9, which reads the gates 3 and 8, where 8 reads the gate 6 and a source, come 9, 8, 6,
+-- and then 3 or a gate that 6 reads, whichever is the greatest.
 unfoldable pub AreTaken : Net → ℕ → Option ℕ → List ℕ → Type 0
 AreTaken n root partner [] = Unit {0}
 AreTaken n root partner (p ∷ before) = IsGreatestCandidate n root partner before p × AreTaken n root partner before

@@ -1,7 +1,8 @@
 //! Worked examples, each the contract of a function that does nothing: the definitions, computed on small nets
-//! (`specs/Examples.antt` and `RowExamples.antt` have the nets, and say the gates of each).
-ghost use Rattle.std.specs.Prelude.{◌≡◌, [], ◌∷◌};
+//! (`specs/Examples.antt`, `RowExamples.antt` and `WindowExamples.antt` have the nets, and say the gates of each).
+ghost use Rattle.std.specs.Prelude.{◌≡◌, Some, [], ◌∷◌};
 ghost use Rattle.window_theory.specs.Partner.{ArePartners};
+ghost use Rattle.window_theory.specs.Window.{IsWindow};
 ghost use Rattle.window_theory.specs.Surround.{LeadsTo};
 ghost use Rattle.window_theory.specs.Care.{IsCareRow};
 ghost use Rattle.window_theory.specs.Splice.{spliced};
@@ -9,6 +10,7 @@ ghost use Rattle.window_theory.specs.Examples.{nand_not, both_gates, and_chain, 
 ghost use Rattle.window_theory.specs.Examples.{three_gates, first_gate, input_chain, one_chain, with_input, with_one};
 ghost use Rattle.window_theory.specs.Examples.{two_ands, both_ands, one_for_two, one_and};
 ghost use Rattle.window_theory.specs.RowExamples.{and_or};
+ghost use Rattle.window_theory.specs.WindowExamples.{side_by_side};
 
 /// A chain in a window's place: one step for two gates; outs that are an input or a constant, where a gate and a sink
 /// outside read the output; two outs on one step.
@@ -23,6 +25,11 @@ pub fn chains_in_place()
 pub fn partners_side_by_side()
     ensures second { ArePartners two_ands 4 (3 ∷ []) }
     ensures first { ArePartners two_ands 3 [] }
+{}
+
+/// The window of the second gate with its partner, the first, and the count 2 has both gates.
+pub fn window_of_partners()
+    ensures { IsWindow two_ands 4 (Some 3) 2 side_by_side }
 {}
 
 /// Of AND and OR of two sources the leaves are the sources, and row 10 is no care row: no bits of the sources give

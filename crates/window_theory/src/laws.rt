@@ -62,13 +62,15 @@ pub fn parts_have_values()
 {}
 
 /// Places of a net have leaves, and one list of them, and under every assignment of the sources the bits of
-/// the places are a care row.
+/// the places are a care row. So the bits of a window's inputs always are one of its rows, and this a care row.
 pub fn real_rows_are_care_rows()
     ensures leaves { (n : Net) (places : List ℕ) → IsNet n → AreBelow (end_of n) places → (leaves : List ℕ) × LeadsTo n places leaves }
     ensures one { (n : Net) (places a b : List ℕ) → LeadsTo n places a → LeadsTo n places b → a ≡ b }
     ensures values { (n : Net) (fixed given : ℕ → Bool) (p : ℕ) → IsNet n → values_with n fixed (value n given) p ≡ value n given p }
     ensures rows { (n : Net) (places : List ℕ) (given : ℕ → Bool) (t : ℕ) → IsNet n → AreBelow (end_of n) places →
         HasRow (value n given) places t → IsCareRow n places t }
+    ensures window { (n : Net) (w : Window) (given : ℕ → Bool) → IsNet n → Belongs n w →
+        (t : ℕ) × (t < 2 ^ length w.inputs) × HasRow (value n given) w.inputs t × IsCareRow n w.inputs t }
 {}
 
 /// Care rows are found by evaluating the surround by itself: a row that a part of the net shows, from bits of the

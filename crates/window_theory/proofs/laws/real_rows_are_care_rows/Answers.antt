@@ -1,5 +1,5 @@
 use Rattle.window_theory.specs.SurroundLaws.{has_leaves, leaves_one}
-use Rattle.window_theory.specs.CareLaws.{values_real, care_real}
+use Rattle.window_theory.specs.CareLaws.{values_real, care_real, window_real}
 use Rattle.window_theory.proofs.laws.real_rows_are_care_rows.Goals as goal
 
 pub returns-clause-leaves : goal.returns-clause-leaves
@@ -13,3 +13,6 @@ returns-clause-values c = values_real
 
 pub returns-clause-rows : goal.returns-clause-rows
 returns-clause-rows c = care_real
+
+pub returns-clause-window : goal.returns-clause-window
+returns-clause-window c = window_real
