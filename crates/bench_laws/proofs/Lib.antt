@@ -6,3 +6,6 @@ pub mod TextLaws
 pub mod Lines
 pub mod LineKinds
 pub mod ReadBack
+pub mod FreeNames
+pub mod WrittenGates
+pub mod CircuitTexts

@@ -1,8 +1,13 @@
 -- Tables that have a gate of the same function.
-use Rattle.std.specs.Prelude.{◌≡◌, true, List, [], ◌∷◌, All, option_to_list, codes}
-use Rattle.net_theory.specs.Document.{Name, Table, Document}
+use Rattle.std.specs.Prelude.{◌≡◌, ◌<◌, true, false, List, [], ◌∷◌, All, None, option_to_list, codes}
+use Rattle.std.specs.List.{list_any}
+use Rattle.net_theory.specs.declared.data.Gate.{Gate}
+use Rattle.net_theory.specs.Circuit.{Circuit, IsProper}
+use Rattle.net_core.specs.Names.{HasRoom}
+use Rattle.bench_text.specs.Items.{is_mark}
+use Rattle.net_theory.specs.Document.{Name, Table, Latch, Document}
 use Rattle.net_theory.specs.Expansion.{binary_word}
-use Rattle.bench_text.specs.declared.keywords.Keyword.TheVariants.{Gate}
+use Rattle.bench_text.specs.declared.keywords.Keyword.TheVariants.{Gate as GateWord}
 use Rattle.bench_text.specs.Statements.{keyword_of, is_counted}
 use Rattle.bench_text.specs.SaidLaws.{IsPlainName, IsPlainLatch}
 use Rattle.bench_core.specs.Gates.{GateLine, line_of}
@@ -24,7 +29,7 @@ pub record IsPlainLine (l : GateLine) : Type 0 where
   pub output : IsPlainName l.output
   pub first : IsPlainName l.first
   pub second : All IsPlainName (option_to_list l.second)
-  pub key : keyword_of (key_text l.key) ≡ Gate l.key
+  pub key : keyword_of (key_text l.key) ≡ GateWord l.key
   pub counted : is_counted l.key (l.first ∷ option_to_list l.second) ≡ true
 
 -- A document that can be spelled: it is called `top` and has no clocks, its names have no marks in them, its
@@ -36,3 +41,27 @@ pub record IsSpelled (source : Name) (d : Document) : Type 0 where
   pub clocks : d.clocks ≡ []
   pub latches : All IsPlainLatch d.latches
   pub tables : All (λ (t : Table). IsPlainLine (line_of source t)) d.tables
+
+-- no mark stands in a name
+abbrev pub IsFree : Name → Type 0
+IsFree n = list_any is_mark n ≡ false
+
+-- a latch without a control and a first value
+pub record IsPlainState (l : Latch) : Type 0 where
+  pub output : IsPlainName l.output
+  pub control : l.control ≡ None
+  pub init : l.init ≡ None
+
+-- A circuit whose text says what it is: it is called `top` and has no clocks, its names have no marks in them,
+-- its latches have no controls and first values, its gates are AND, OR, XOR and their complements, and it has a
+-- source, of which constants can be made.
+pub record CanWrite (c : Circuit) : Type 0 where
+  pub proper : IsProper c
+  pub room : HasRoom c
+  pub model : c.model ≡ codes "top"
+  pub inputs : All IsPlainName c.inputs
+  pub outputs : All IsPlainName c.outputs
+  pub clocks : c.clocks ≡ []
+  pub latches : All IsPlainState c.latches
+  pub operators : All (λ (g : Gate). is_gate_word g.op ≡ true) c.net.gates
+  pub source : 0 < c.net.sources

@@ -8,11 +8,13 @@ ghost use Rattle.net_theory.specs.Document.{Name, Document, has, source_names};
 ghost use Rattle.net_theory.specs.WellFormed.{IsWellFormed};
 ghost use Rattle.net_theory.specs.Cost.{cost};
 ghost use Rattle.net_theory.specs.Circuit.{Circuit, Describes};
-ghost use Rattle.net_document.specs.Format.{IsCircuitOfText, IsReadBack};
-ghost use Rattle.bench_core.specs.Spelling.{spelled};
+ghost use Rattle.net_document.specs.Format.{IsCircuitOfText, IsReadBack, IsTextOf};
+ghost use Rattle.bench_core.specs.Spelling.{spelled, circuit_text};
 ghost use Rattle.bench_core.specs.Gates.{as_gates};
-ghost use Rattle.bench_laws.specs.Spelled.{CanSpell, IsSpelled};
+ghost use Rattle.bench_laws.specs.Spelled.{CanSpell, IsSpelled, CanWrite};
 ghost use Rattle.bench_core.specs.Bench.{bench_format, is_gate_word};
+
+use blif_laws::blif_is_a_format;
 
 /// Each gate of the circuit of a BENCH text has the operator of a gate: AND, OR, XOR or the complement of one.
 pub fn gates_have_operators_of_gates()
@@ -31,3 +33,11 @@ pub fn documents_of_gates_do_the_same()
 pub fn documents_are_read_back()
     ensures { (source : Name) (d : Document) → IsSpelled source d → IsReadBack bench_format (spelled source d) (as_gates source d) }
 {}
+
+/// The text of a circuit that can be written lists a well-formed document that does what the circuit does, under
+/// every assignment, and costs no more than the circuit has gates.
+pub fn circuits_are_read_back()
+    ensures { (c : Circuit) → CanWrite c → IsTextOf bench_format (circuit_text c) c }
+{
+    blif_is_a_format();
+}
