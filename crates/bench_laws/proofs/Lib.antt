@@ -9,3 +9,4 @@ pub mod ReadBack
 pub mod FreeNames
 pub mod WrittenGates
 pub mod CircuitTexts
+pub mod TextFormats

@@ -1,5 +1,5 @@
 -- The document as which a circuit is written can be spelled, where the circuit can be written.
-use Rattle.std.proofs.Common.{◌≡◌, ℕ, Bool, true, false, List, [], ◌∷◌, ◌++◌, None, refl, ◌∙◌, sym, subst}
+use Rattle.std.proofs.Common.{zero, ◌≡◌, ℕ, Bool, true, false, List, [], ◌∷◌, ◌++◌, None, refl, ◌∙◌, sym, subst, drop, length, ap, suc}
 use Rattle.std.specs.Prelude.{◌==◌, ◌||◌, All}
 use Rattle.std.specs.List.{list_any}
 use Rattle.std.proofs.lemmas.Bool.{cond_both, eqb-true}
@@ -273,15 +273,54 @@ pub written_model : (c : Circuit) → (written c).model ≡ c.model
 unfolding written
 written_model c = refl
 
-pub written_spelled : (c : Circuit) (source : Name) → CanWrite c → IsPlainName source → IsWellFormed (written c) → IsSpelled source (written c)
-written_spelled c source can s well = record {
+pub lines_plain : (c : Circuit) (source : Name) → CanWrite c → IsPlainName source → IsWellFormed (written c) → All (λ (t : Table). IsPlainLine (line_of source t)) (written c).tables
+lines_plain c source can s well = at_all (λ (t : Table). IsPlainLine (line_of source t)) (written c).tables (λ k t e. table_plain source t s (all_at IsTable (written c).tables k t well.tables e) (all_at IsFit (written c).tables k t (written_fit c can) e))
+
+pub written_spelled : (c : Circuit) (source : Name) → CanWrite c → All (λ (t : Table). IsPlainLine (line_of source t)) (written c).tables → IsWellFormed (written c) → IsSpelled source (written c)
+written_spelled c source can lines well = record {
   model = written_model c ∙ can.model;
   inputs = subst (All IsPlainName) (sym (written_inputs c)) can.inputs;
   outputs = subst (All IsPlainName) (sym (written_outputs c)) can.outputs;
   clocks = written_clocks c ∙ can.clocks;
   latches = at_all IsPlainLatch (written c).latches (λ k l e. latch_plain l (all_at IsLatchLine (written c).latches k l well.latches e) (all_at IsQuiet (written c).latches k l (written_quiet c can) e));
-  tables = at_all (λ (t : Table). IsPlainLine (line_of source t)) (written c).tables (λ k t e. table_plain source t s (all_at IsTable (written c).tables k t well.tables e) (all_at IsFit (written c).tables k t (written_fit c can) e));
+  tables = lines;
 }
 
 pub written_spell : (c : Circuit) → CanWrite c → All CanSpell (written c).tables
 written_spell c can = at_all CanSpell (written c).tables (λ k t e. (all_at IsFit (written c).tables k t (written_fit c can) e).spell)
+
+-- ---- circuits without gates and sinks
+
+no_gates : (name : ℕ → Name) (gs : List Gate) (ns : List Name) → gs ≡ [] → gate_tables name gs ns ≡ []
+unfolding gate_tables
+no_gates name [] ns e = refl
+no_gates name (g ∷ gs) ns e = absurd cc
+
+no_outputs : (name : ℕ → Name) (done outs : List Name) (sinks : List Sig) → sinks ≡ [] → output_tables name done outs sinks ≡ []
+unfolding output_tables
+no_outputs name done [] sinks e = refl
+no_outputs name done (o ∷ os) [] e = refl
+no_outputs name done (o ∷ os) (s ∷ sinks) e = absurd cc
+
+no_ifs : (z w : Bool) (t u : Table) → z ≡ false → w ≡ false → table_if z t ++ table_if w u ≡ []
+no_ifs false false t u e f = refl
+no_ifs true w t u e f = absurd cc
+no_ifs false true t u e f = absurd cc
+
+drop_none : (k : ℕ) (xs : List Sig) → xs ≡ [] → drop k xs ≡ []
+drop_none zero xs e = e
+drop_none (suc k) [] e = refl
+drop_none (suc k) (x ∷ xs) e = absurd cc
+
+no_constants : (c : Circuit) → c.net.sinks ≡ [] → constant_tables c ≡ []
+unfolding constant_tables
+no_constants c e =
+    let none : next_states c ≡ [] = drop_none (length c.outputs) c.net.sinks e in
+    no_ifs (list_any is_zero (next_states c)) (list_any is_one (next_states c)) (constant_table false (first_spare c)) (constant_table true (one_name c)) (ap (list_any is_zero) none) (ap (list_any is_one) none)
+
+pub no_tables : (c : Circuit) → c.net.gates ≡ [] → c.net.sinks ≡ [] → (written c).tables ≡ []
+unfolding written
+no_tables c e f =
+    ap (λ (ts : List Table). (ts ++ constant_tables c) ++ output_tables (place_name c) (driven_before c) c.outputs c.net.sinks) (no_gates (place_name c) c.net.gates (gate_names c) e)
+    ∙ ap (λ (ts : List Table). ts ++ output_tables (place_name c) (driven_before c) c.outputs c.net.sinks) (no_constants c f)
+    ∙ no_outputs (place_name c) (driven_before c) c.outputs c.net.sinks f

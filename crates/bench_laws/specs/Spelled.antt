@@ -1,5 +1,5 @@
 -- Tables that have a gate of the same function.
-use Rattle.std.specs.Prelude.{◌≡◌, ◌<◌, true, false, List, [], ◌∷◌, All, None, option_to_list, codes}
+use Rattle.std.specs.Prelude.{◌≡◌, ◌<◌, ◌⊎◌, true, false, List, [], ◌∷◌, All, None, option_to_list, codes}
 use Rattle.std.specs.List.{list_any}
 use Rattle.net_theory.specs.declared.data.Gate.{Gate}
 use Rattle.net_theory.specs.Circuit.{Circuit, IsProper}
@@ -53,8 +53,8 @@ pub record IsPlainState (l : Latch) : Type 0 where
   pub init : l.init ≡ None
 
 -- A circuit whose text says what it is: it is called `top` and has no clocks, its names have no marks in them,
--- its latches have no controls and first values, its gates are AND, OR, XOR and their complements, and it has a
--- source, of which constants can be made.
+-- its latches have no controls and first values, and its gates are AND, OR, XOR and their complements. It has a
+-- source, of which constants can be made, or there is nothing that could be one.
 pub record CanWrite (c : Circuit) : Type 0 where
   pub proper : IsProper c
   pub room : HasRoom c
@@ -64,4 +64,4 @@ pub record CanWrite (c : Circuit) : Type 0 where
   pub clocks : c.clocks ≡ []
   pub latches : All IsPlainState c.latches
   pub operators : All (λ (g : Gate). is_gate_word g.op ≡ true) c.net.gates
-  pub source : 0 < c.net.sources
+  pub source : (0 < c.net.sources) ⊎ ((c.net.gates ≡ []) × (c.net.sinks ≡ []))

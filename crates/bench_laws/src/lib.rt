@@ -8,7 +8,7 @@ ghost use Rattle.net_theory.specs.Document.{Name, Document, has, source_names};
 ghost use Rattle.net_theory.specs.WellFormed.{IsWellFormed};
 ghost use Rattle.net_theory.specs.Cost.{cost};
 ghost use Rattle.net_theory.specs.Circuit.{Circuit, Describes};
-ghost use Rattle.net_document.specs.Format.{IsCircuitOfText, IsReadBack, IsTextOf};
+ghost use Rattle.net_document.specs.Format.{IsCircuitOfText, IsReadBack, IsTextOf, IsFormat};
 ghost use Rattle.bench_core.specs.Spelling.{spelled, circuit_text};
 ghost use Rattle.bench_core.specs.Gates.{as_gates};
 ghost use Rattle.bench_laws.specs.Spelled.{CanSpell, IsSpelled, CanWrite};
@@ -38,6 +38,14 @@ pub fn documents_are_read_back()
 /// every assignment, and costs no more than the circuit has gates.
 pub fn circuits_are_read_back()
     ensures { (c : Circuit) → CanWrite c → IsTextOf bench_format (circuit_text c) c }
+{
+    blif_is_a_format();
+}
+
+/// BENCH is a format: its texts list documents of gates, what is written of a circuit that can be written is read
+/// back, and the circuit of each text can be written, also with another net of such gates that answers the same.
+pub fn bench_is_a_format()
+    ensures { IsFormat bench_format CanWrite }
 {
     blif_is_a_format();
 }

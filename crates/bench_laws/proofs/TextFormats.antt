@@ -1,0 +1,151 @@
+-- BENCH is a format.
+use Rattle.std.proofs.Common.{◌≡◌, ℕ, zero, suc, ◌+◌, ◌<◌, true, List, [], ◌∷◌, length, map, Some, refl, ap, ◌∙◌, sym, subst, arith, inl, inr, ⊎_elim, length-append}
+use Rattle.std.specs.Prelude.{All, slice_get, sum_by, ◌⊎◌}
+use Rattle.std.specs.List.{flat_map}
+use Rattle.std.proofs.lemmas.List.{length-map}
+use Rattle.std.proofs.lemmas.List.Elements.{All-nil, All-cons, All-head, All-tail}
+use Rattle.net_theory.specs.declared.data.Sig.{Sig}
+use Rattle.net_theory.specs.declared.data.Gate.{Gate}
+use Rattle.net_theory.specs.Net.{Net}
+use Rattle.net_theory.specs.Document.{Name, has, Table, Latch, LatchLine, Document, latch_of, latch_input, table_output, source_names, sink_names, driven_names, used_names, table_inputs}
+use Rattle.net_theory.specs.NameLaws.{has_first, has_none, has_left, has_right, has_either, has_flat_at, all_has, all_at, at_all}
+use Rattle.net_theory.specs.WellFormed.{IsWellFormed}
+use Rattle.net_theory.specs.Cost.{table_cost, cost}
+use Rattle.net_theory.specs.Circuit.{Circuit}
+use Rattle.net_theory.specs.Answers.{Answers}
+use Rattle.net_theory.specs.ExchangeLaws.{with_net, exchanged_proper}
+use Rattle.net_theory.specs.NetOf.{driver_of, graph_of}
+use Rattle.net_theory.specs.GraphLaws.{driver_finds, kept_in, length-graph_of, reads_of-graph, graph_closed, acyclic_order}
+use Rattle.graph_core.specs.Visit.{has_ended}
+use Rattle.graph_core.specs.VisitLaws.{Comes, IsOrder, order_is}
+use Rattle.net_core.specs.Names.{HasRoom}
+use Rattle.net_document.specs.Format.{IsCircuitOfText, CanOperate, IsFormat}
+use Rattle.blif_core.specs.Blif as blif
+use Rattle.bench_text.specs.SaidLaws.{IsPlainName, IsPlainLatch, IsGateTable}
+use Rattle.bench_text.specs.ListingLaws.{text_fine, texts_list}
+use Rattle.bench_core.specs.Bench.{bench_format, is_gate_word}
+use Rattle.bench_laws.specs.Spelled.{IsPlainState, CanWrite}
+use Rattle.bench_laws.proofs.Operators.{IsGateWord, net_words}
+use Rattle.bench_laws.proofs.CircuitTexts.{interface_sources, text_is}
+
+-- ---- documents without sources
+
+-- a table that comes first reads no table
+first_reads : (d : Document) (k : ℕ) (t : Table) → IsWellFormed d → IsGateTable t → slice_get d.tables k ≡ Some t → Comes (graph_of d.tables) (length (graph_of d.tables)) [] k → source_names d ≡ [] → ⊥
+first_reads d k t well is at comes none = by t.inputs refl is.some where
+  by : (ns : List Name) → t.inputs ≡ ns → 0 < length t.inputs → ⊥
+  by [] e some = omega (arith, some, ap (length {A = Name}) e)
+  by (n ∷ ns) e some =
+      let there : has t.inputs n ≡ true = subst (λ (xs : List Name). has xs n ≡ true) (sym e) (has_first n ns) in
+      let used : has (used_names d) n ≡ true = has_left (flat_map table_inputs d.tables) (sink_names d) n (has_flat_at table_inputs d.tables k t n at there) in
+      let driven = all_has (λ (m : Name). has (driven_names d) m ≡ true) (used_names d) n well.used_driven used in
+      let output : has (map table_output d.tables) n ≡ true = ⊎_elim (λ source. absurd (has_none n (subst (λ (xs : List Name). has xs n ≡ true) none source))) (λ table. table) (has_either (source_names d) (map table_output d.tables) n driven) in
+      let found = driver_finds 0 d.tables n output in
+      let reads = kept_in (driver_of d.tables) t.inputs n found.0 there found.1 in
+      absurd (let r = comes.ready found.0 (subst (λ (xs : List ℕ). has_ended xs found.0 ≡ true) (sym (reads_of-graph d.tables k t at)) reads) in cc)
+
+low_table : (ts : List Table) (k : ℕ) → k < length ts → (t : Table) × (slice_get ts k ≡ Some t)
+low_table [] k low = absurd (omega arith)
+low_table (t ∷ ts) zero low = (t, refl)
+low_table (t ∷ ts) (suc k) low = low_table ts k (omega arith)
+
+first_of : (d : Document) (order : List ℕ) → IsWellFormed d → All IsGateTable d.tables → source_names d ≡ [] → IsOrder (graph_of d.tables) order → 0 < length d.tables → ⊥
+first_of d [] well are none is some = absurd (let w = is.whole 0 (omega (arith, some, length-graph_of d.tables)) in cc)
+first_of d (k ∷ order) well are none is some =
+    let comes = is.run.0 in
+    let t = low_table d.tables k (omega (arith, comes.low, length-graph_of d.tables)) in
+    first_reads d k t.0 well (all_at IsGateTable d.tables k t.0 are t.1) t.1 comes none
+
+tables_none : (ts : List Table) → (0 < length ts → ⊥) → ts ≡ []
+tables_none [] h = refl
+tables_none (t ∷ ts) h = absurd (h (omega arith))
+
+no_tables : (d : Document) → IsWellFormed d → All IsGateTable d.tables → source_names d ≡ [] → d.tables ≡ []
+no_tables d well are none =
+    let order = acyclic_order d well.acyclic in
+    tables_none d.tables (λ some. first_of d order.0 well are none (order_is (graph_of d.tables) order.0 (graph_closed d) order.1) some)
+
+list_none : {A : Type 0} (xs : List A) → length xs ≡ 0 → xs ≡ []
+list_none [] e = refl
+list_none (x ∷ xs) e = absurd (omega (arith, e))
+
+names_none : (ns : List Name) → ((n : Name) → has ns n ≡ true → ⊥) → ns ≡ []
+names_none [] h = refl
+names_none (n ∷ ns) h = absurd (h n (has_first n ns))
+
+sinks_none : (d : Document) → IsWellFormed d → d.tables ≡ [] → source_names d ≡ [] → sink_names d ≡ []
+sinks_none d well empty none =
+    names_none (sink_names d) (λ n there.
+    let driven = all_has (λ (m : Name). has (driven_names d) m ≡ true) (used_names d) n well.used_driven (has_right (flat_map table_inputs d.tables) (sink_names d) n there) in
+    ⊎_elim
+    (λ source. has_none n (subst (λ (xs : List Name). has xs n ≡ true) none source))
+    (λ table. has_none n (subst (λ (ts : List Table). has (map table_output ts) n ≡ true) empty table))
+    (has_either (source_names d) (map table_output d.tables) n driven))
+
+-- ---- what is read can be written
+
+states_of : (ls : List LatchLine) → All IsPlainLatch ls → All IsPlainState (map latch_of ls)
+states_of [] all = All-nil IsPlainState
+states_of (l ∷ ls) all =
+    let is = All-head IsPlainLatch l ls all in
+    All-cons IsPlainState l.latch (map latch_of ls) (record { output = is.output; control = is.control; init = is.init }) (states_of ls (All-tail IsPlainLatch l ls all))
+
+some_or_none : (k : ℕ) → (0 < k) ⊎ (k ≡ 0)
+some_or_none zero = inr refl
+some_or_none (suc k) = inl (omega arith)
+
+cost_none : (d : Document) → d.tables ≡ [] → cost d ≡ 0
+unfolding cost
+cost_none d e = ap (λ (ts : List Table). sum_by table_cost ts) e
+
+empty_circuit : (bytes : List ℕ) (c : Circuit) (is : IsCircuitOfText bench_format bytes c) → c.net.sources ≡ 0 → (c.net.gates ≡ []) × (c.net.sinks ≡ [])
+empty_circuit bytes c is zero_sources =
+    let d = is.listed.document in
+    let fine = text_fine bytes is.listed is.said in
+    let none : source_names d ≡ [] = list_none (source_names d) (ap (length {A = Name}) (interface_sources d c is.circuit.describes) ∙ sym is.circuit.proper.source_count ∙ zero_sources) in
+    let empty = no_tables d is.well fine.tables none in
+    let sinks : length (sink_names d) ≡ 0 = ap (length {A = Name}) (sinks_none d is.well empty none) in
+    let count : length (sink_names d) ≡ length d.outputs + length d.latches = length-append d.outputs (map latch_input d.latches) ∙ ap (λ (k : ℕ). length d.outputs + k) (length-map d.latches latch_input) in
+    let outs : length d.outputs ≡ length c.outputs = ap (length {A = Name}) is.circuit.describes.outputs in
+    let latches : length d.latches ≡ length c.latches = sym (length-map d.latches latch_of) ∙ ap (length {A = Latch}) is.circuit.describes.latches in
+    (list_none c.net.gates (sym is.circuit.gates ∙ cost_none d empty), list_none c.net.sinks (omega (arith, is.circuit.proper.sink_count, sinks, count, outs, latches)))
+
+kept_is : (bytes : List ℕ) (c : Circuit) → IsCircuitOfText bench_format bytes c → HasRoom c → CanWrite c
+kept_is bytes c is room =
+    let d = is.listed.document in
+    let fine = text_fine bytes is.listed is.said in
+    record {
+      proper = is.circuit.proper;
+      room = room;
+      model = sym is.circuit.model ∙ fine.model;
+      inputs = subst (All IsPlainName) is.circuit.describes.inputs fine.inputs;
+      outputs = subst (All IsPlainName) is.circuit.describes.outputs fine.outputs;
+      clocks = sym is.circuit.describes.clocks ∙ fine.clocks;
+      latches = subst (All IsPlainState) is.circuit.describes.latches (states_of d.latches fine.latches);
+      operators = net_words d c.net fine.tables is.circuit.net;
+      source = ⊎_elim (λ some. inl some) (λ none. inr (empty_circuit bytes c is none)) (some_or_none c.net.sources);
+    }
+
+-- ---- other nets
+
+exchanged_is : (c : Circuit) (m : Net) → CanWrite c → Answers c.net m → CanOperate bench_format c.net m → CanWrite (with_net c m)
+exchanged_is c m can answers operate = record {
+  proper = exchanged_proper c m can.proper answers;
+  room = can.room;
+  model = can.model;
+  inputs = can.inputs;
+  outputs = can.outputs;
+  clocks = can.clocks;
+  latches = can.latches;
+  operators = at_all IsGateWord m.gates (λ j h at. ⊎_elim (λ has_it. has_it) (λ old. subst (λ (op : ℕ). is_gate_word op ≡ true) (sym old.3) (all_at IsGateWord c.net.gates old.0 old.1 can.operators old.2)) (operate j h at));
+  source = ⊎_elim (λ some. inl (omega (arith, some, answers.sources))) (λ none. inr (list_none m.gates (omega (arith, answers.fewer, ap (length {A = Gate}) none.0)), list_none m.sinks (omega (arith, answers.sink_count, ap (length {A = Sig}) none.1)))) can.source;
+}
+
+pub bench_is_format : IsFormat blif.blif_format blif.CanWrite → IsFormat bench_format CanWrite
+bench_is_format format = record {
+  lists = texts_list;
+  proper = λ c can. can.proper;
+  read_back = λ c can. text_is c format can;
+  kept = kept_is;
+  exchanged = exchanged_is;
+}
