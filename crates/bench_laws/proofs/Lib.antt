@@ -10,3 +10,4 @@ pub mod FreeNames
 pub mod WrittenGates
 pub mod CircuitTexts
 pub mod TextFormats
+pub mod LineFaults

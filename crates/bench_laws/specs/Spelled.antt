@@ -4,6 +4,8 @@ use Rattle.std.specs.List.{list_any}
 use Rattle.net_theory.specs.declared.data.Gate.{Gate}
 use Rattle.net_theory.specs.Circuit.{Circuit, IsProper}
 use Rattle.net_core.specs.Names.{HasRoom}
+use Rattle.net_core.specs.declared.error.NetError.{NetError}
+use Rattle.net_core.specs.declared.error.NetError.TheVariants.{Syntax, NotSupported, TooWide, LineTooLong, NameTooLong}
 use Rattle.bench_text.specs.Items.{is_mark}
 use Rattle.net_theory.specs.Document.{Name, Table, Latch, Document}
 use Rattle.net_theory.specs.Expansion.{binary_word}
@@ -65,3 +67,12 @@ pub record CanWrite (c : Circuit) : Type 0 where
   pub latches : All IsPlainState c.latches
   pub operators : All (λ (g : Gate). is_gate_word g.op ≡ true) c.net.gates
   pub source : (0 < c.net.sources) ⊎ ((c.net.gates ≡ []) × (c.net.sinks ≡ []))
+
+-- the faults that lines of BENCH have; there is no cover whose lines could be mixed or too many
+abbrev pub IsLineFault : NetError → Type 0
+IsLineFault (Syntax line) = Unit {0}
+IsLineFault (NotSupported line word) = Unit {0}
+IsLineFault (TooWide line) = Unit {0}
+IsLineFault (LineTooLong line) = Unit {0}
+IsLineFault (NameTooLong line) = Unit {0}
+IsLineFault e = ⊥

@@ -2,7 +2,7 @@
 //! speak of stand in `net_theory`, `net_document`, `bench_text` and `bench_core`.
 #![tactic(auto)]
 
-ghost use Rattle.std.specs.Prelude.{◌≡◌, ℕ, List, All, true, slice_get, Some};
+ghost use Rattle.std.specs.Prelude.{◌≡◌, ℕ, List, All, true, slice_get, Some, IfErr};
 ghost use Rattle.net_theory.specs.declared.data.Gate.{Gate};
 ghost use Rattle.net_theory.specs.Document.{Name, Document, has, source_names};
 ghost use Rattle.net_theory.specs.WellFormed.{IsWellFormed};
@@ -11,7 +11,8 @@ ghost use Rattle.net_theory.specs.Circuit.{Circuit, Describes};
 ghost use Rattle.net_document.specs.Format.{IsCircuitOfText, IsReadBack, IsTextOf, IsFormat};
 ghost use Rattle.bench_core.specs.Spelling.{spelled, circuit_text};
 ghost use Rattle.bench_core.specs.Gates.{as_gates};
-ghost use Rattle.bench_laws.specs.Spelled.{CanSpell, IsSpelled, CanWrite};
+ghost use Rattle.bench_laws.specs.Spelled.{CanSpell, IsSpelled, CanWrite, IsLineFault};
+ghost use Rattle.bench_text.specs.Statements.{listed_of};
 ghost use Rattle.bench_core.specs.Bench.{bench_format, is_gate_word};
 
 use blif_laws::blif_is_a_format;
@@ -49,3 +50,8 @@ pub fn bench_is_a_format()
 {
     blif_is_a_format();
 }
+
+/// The lines of a BENCH text are refused as Syntax, NotSupported, TooWide, LineTooLong or NameTooLong alone.
+pub fn lines_have_few_faults()
+    ensures { (bytes : List ℕ) → IfErr (listed_of bytes) IsLineFault }
+{}
