@@ -3,12 +3,14 @@
 
     bench/make_miter.py FIRST.blif SECOND.blif > miter.cnf
 
-Each table has to have at most two inputs, as in what `improve` writes; a table is then one gate, and the gates
-stand in the order in which a depth-first visit of the tables, in the order of the text, finishes them. This is
-a second writer: it shares nothing with the program, so that a log that `equiv` wrote can be judged by any
-checker of LRAT against the formula that this script wrote.
+Both have to be well formed. A table of at most two different inputs is one gate or none; a wider one is a gate
+for each literal but the last, as docs/FORMATS.md says ("What a netlist costs"). The gates stand in the order in
+which a depth-first visit of the tables, in the order of the text, finishes them. This is a second writer: it
+shares nothing with the program, so that a log that `equiv` wrote can be judged by any checker of LRAT against
+the formula that this script wrote.
 """
 
+import itertools
 import sys
 
 
@@ -27,27 +29,29 @@ def logical_lines(text):
 
 
 class Netlist:
-    """The lists of a BLIF text: inputs, outputs, latches as (input, output), tables as (inputs, output, rows, value)."""
+    """The lists of a BLIF text: inputs, outputs, clocks, latches as (input, what the interface has: output, control
+    and first value), tables as (inputs, output, cubes, value)."""
 
     def __init__(self, text):
-        self.inputs, self.outputs, self.latches, self.tables = [], [], [], []
+        self.inputs, self.outputs, self.clocks, self.latches, self.tables = [], [], [], [], []
         for words in logical_lines(text):
             self.say(words)
-        self.sources = self.inputs + [output for _, output in self.latches]
+        self.sources = self.inputs + [latch[0] for _, latch in self.latches]
         self.sinks = self.outputs + [name for name, _ in self.latches]
+        self.interface = (self.inputs, self.outputs, self.clocks, [latch for _, latch in self.latches])
 
     def say(self, words):
-        if not words or words[0] in (".model", ".clock", ".end"):
+        if not words or words[0] in (".model", ".end"):
             return
         if words[0] == ".inputs":
             self.inputs += words[1:]
         elif words[0] == ".outputs":
             self.outputs += words[1:]
+        elif words[0] == ".clock":
+            self.clocks += words[1:]
         elif words[0] == ".latch":
-            self.latches.append((words[1], words[2]))
+            self.latches.append((words[1], words[2:]))
         elif words[0] == ".names":
-            if len(words) > 4:
-                sys.exit("a table has more than two inputs: let `improve` write the netlist first")
             self.tables.append((words[1:-1], words[-1], [], [True]))
         elif words[0][0] == ".":
             sys.exit(f"not supported: {words[0]}")
@@ -62,33 +66,68 @@ class Netlist:
         return hit == on[0]
 
 
+class Builder:
+    """Tables become gates, each (operands, values at 00, 01, 10, 11). An operand is True, False or a place."""
+
+    def __init__(self, sources):
+        self.sources, self.gates = sources, []
+
+    def gate(self, operands, cells):
+        self.gates.append((operands, cells))
+        return self.sources + len(self.gates)
+
+    def small(self, operands, cells):
+        """A table of at most two different inputs, by its values: a constant, a copy, NOT of one input, or a gate."""
+        if all(cells) or not any(cells):
+            return cells[0]
+        if len(operands) == 2 and cells[:2] == cells[2:]:
+            return self.small(operands[1:], cells[:2])
+        if len(operands) == 2 and cells[0] == cells[1] and cells[2] == cells[3]:
+            return self.small(operands[:1], cells[::2])
+        if len(operands) == 2:
+            return self.gate(operands, cells)
+        return operands[0] if cells[1] else self.inverse(operands[0])
+
+    def inverse(self, operand):
+        return self.gate([operand, operand], [True, True, True, False])
+
+    def join(self, signed, joins):
+        """(signal, sign) joined from the left, with the signs inside the operators; `joins` is `all` or `any`."""
+        left, turned = signed[0]
+        for right, sign in signed[1:]:
+            left = self.gate([left, right], [joins((a != turned, b != sign)) for a in (False, True) for b in (False, True)])
+            turned = False
+        return left, turned
+
+    def wide(self, operands, cubes, on):
+        """A table of more inputs: each cube ANDs its literals, and the cubes are ORed."""
+        if not cubes or any(set(cube) == {"-"} for cube in cubes):
+            return on and bool(cubes)
+        before = len(self.gates)
+        literals = [[(operands[i], c == "0") for i, c in enumerate(cube) if c != "-"] for cube in cubes]
+        signal, turned = self.join([self.join(cube, all) for cube in literals], any)
+        if turned != on:
+            return signal
+        if len(self.gates) == before:
+            return self.inverse(signal)
+        last, cells = self.gates[-1]
+        self.gates[-1] = (last, [not cell for cell in cells])
+        return signal
+
+
 def signals(netlist):
-    """The gates as (operands, values by operands), and the signal of each name: True, False or a place."""
+    """The gates, and the signals of the sinks."""
     table_of = {table[1]: table for table in netlist.tables}
     signal = {name: place + 1 for place, name in enumerate(netlist.sources)}
-    gates = []
+    builder = Builder(len(netlist.sources))
 
     def finish(table):
         names = list(dict.fromkeys(table[0]))
-        rows = [[bool(k >> i & 1) for i in reversed(range(len(names)))] for k in range(1 << len(names))]
+        if len(names) > 2:
+            return builder.wide([signal[name] for name in table[0]], table[2], table[3][0])
+        rows = itertools.product((False, True), repeat=len(names))
         cells = [netlist.value(table, [row[names.index(name)] for name in table[0]]) for row in rows]
-        signal[table[1]] = made([signal[name] for name in names], cells)
-
-    def made(operands, cells):
-        """A constant, a copy, NOT of one operand, or a gate of two."""
-        if all(cells) or not any(cells):
-            return cells[0]
-        if len(operands) == 2 and cells[0] == cells[1]:
-            return made(operands[:1], [cells[0], cells[2]]) if cells[2] == cells[3] else gate(operands, cells)
-        if len(operands) == 2 and cells[0] == cells[2] and cells[1] == cells[3]:
-            return made(operands[1:], cells[:2])
-        if len(operands) == 1:
-            return operands[0] if cells[1] else gate(operands * 2, [True, True, True, False])
-        return gate(operands, cells)
-
-    def gate(operands, cells):
-        gates.append((operands, cells))
-        return len(netlist.sources) + len(gates)
+        return builder.small([signal[name] for name in names], cells)
 
     for first in netlist.tables:
         stack = [(first, 0)]
@@ -97,12 +136,12 @@ def signals(netlist):
             if table[1] in signal:
                 continue
             if at == len(table[0]):
-                finish(table)
+                signal[table[1]] = finish(table)
                 continue
             stack.append((table, at + 1))
             if table[0][at] not in signal:
                 stack.append((table_of[table[0][at]], 0))
-    return gates, [signal[name] for name in netlist.sinks]
+    return builder.gates, [signal[name] for name in netlist.sinks]
 
 
 def clause_of(raws):
@@ -134,7 +173,7 @@ def gate_rows(gates, sources, variable):
 
 def miter(first, second):
     """The number of variables, and the clauses."""
-    if (first.sources, len(first.sinks)) != (second.sources, len(second.sinks)):
+    if first.interface != second.interface:
         sys.exit("the interfaces differ")
     n = len(first.sources)
     gates, sinks = signals(first)
@@ -152,6 +191,8 @@ def miter(first, second):
 
 
 def main():
+    if len(sys.argv) != 3:
+        sys.exit(__doc__.strip())
     first, second = (Netlist(open(name, encoding="latin-1").read()) for name in sys.argv[1:3])
     variables, clauses = miter(first, second)
     print(f"p cnf {variables} {len(clauses)}")
