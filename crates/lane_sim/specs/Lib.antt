@@ -1,3 +1,5 @@
+pub mod Checking
+pub mod CheckingLaws
 pub mod Combining
 pub mod Cone
 pub mod ConeLaws

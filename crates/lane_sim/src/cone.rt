@@ -1,9 +1,10 @@
 //! Cones. That operands are leaves or earlier gates and that no place stands twice is the invariant of the
 //! type, so that a walk over the gates in order has each operand before it is read.
 
-ghost use Rattle.std.specs.Prelude.{◌≡◌};
+ghost use Rattle.std.specs.Prelude.{◌≡◌, IfSome, IfNone};
 ghost use Rattle.lane_sim.specs.Cone.{IsCone};
 
+use crate::checking::{are_new, are_next};
 use net_theory::Gate;
 use std::marker::Model;
 
@@ -33,6 +34,26 @@ impl Cone {
         ensures { result ≡ record { leaves = leaves.items; gates = gates.items } }
     {
         Cone { leaves, gates }
+    }
+
+    /// The cone of these leaves and gates, where they are one. It takes no memory, and time that grows with the
+    /// square of the number of places.
+    #[tactic(auto, using(crate::specs::CheckingLaws::checked_cone, crate::specs::CheckingLaws::cone_next))]
+    pub fn checked(leaves: Vec<u32>, gates: Vec<(u32, Gate)>) -> Option<Cone>
+        ensures some { IfSome result (λ c. c ≡ record { leaves = leaves.items; gates = gates.items }) }
+        ensures is { IfSome result (λ c. IsCone (record { leaves = leaves.items; gates = gates.items })) }
+        ensures none { IfNone result (IsCone (record { leaves = leaves.items; gates = gates.items }) → ⊥) }
+    {
+        if leaves.len() > 12 {
+            return None;
+        }
+        if !are_new(&leaves) {
+            return None;
+        }
+        if !are_next(&leaves, &gates) {
+            return None;
+        }
+        Some(Cone { leaves, gates })
     }
 
     /// The places of the leaves.

@@ -6,6 +6,7 @@
 //! patterns leaves none out and adds none.
 #![tactic(auto)]
 
+mod checking;
 mod combining;
 mod cone;
 pub mod laws;

@@ -67,7 +67,7 @@ fn seen_rows(lanes: &[u64], rows: u32, operands: &[Operand]) -> u64
 }
 
 /// Where a place stands among the leaves.
-fn leaf_at(leaves: &[u32], place: u32) -> Option<usize>
+pub fn leaf_at(leaves: &[u32], place: u32) -> Option<usize>
     ensures some { IfSome result (λ k. slice_get leaves.now k ≡ Some place) }
     ensures none { IfNone result ((k d : ℕ) → k < length leaves.now → slice_index_or leaves.now k d ≡ place → ⊥) }
 {
@@ -80,7 +80,7 @@ fn leaf_at(leaves: &[u32], place: u32) -> Option<usize>
 }
 
 /// Where a place stands among those of the gates.
-fn gate_at(gates: &[(u32, Gate)], place: u32) -> Option<usize>
+pub fn gate_at(gates: &[(u32, Gate)], place: u32) -> Option<usize>
     ensures some { IfSome result (λ k. (k < length gates.now) × ((d : ℕ × GateValue) → place_of (slice_index_or gates.now k d) ≡ place)) }
     ensures none { IfNone result ((k : ℕ) (d : ℕ × GateValue) → k < length gates.now → place_of (slice_index_or gates.now k d) ≡ place → ⊥) }
 {

@@ -1,0 +1,76 @@
+//! Whether leaves and gates are a cone. Each place is looked for among those before it, and so is each operand;
+//! a cone is small, so that no table of places is made.
+
+ghost use Rattle.std.specs.Prelude.{ℕ, IsTrue, IsFalse};
+ghost use Rattle.net_theory.specs.declared.data.Sig.TheVariants.{Place};
+ghost use Rattle.lane_sim.specs.Cone.{IsSigAmong};
+ghost use Rattle.lane_sim.specs.Checking.{placed, IsNext, AreNew, AreNext};
+
+use crate::showing::{gate_at, leaf_at};
+use net_theory::{Gate, Sig};
+
+/// Whether a place is one of these leaves and gates.
+fn is_placed(leaves: &[u32], gates: &[(u32, Gate)], place: u32) -> bool
+    ensures yes { IsTrue result → IsSigAmong (placed leaves.now gates.now) (Place place) }
+    ensures no { IsFalse result → IsSigAmong (placed leaves.now gates.now) (Place place) → ⊥ }
+{
+    match leaf_at(leaves, place) {
+        Some(_) => true,
+        None => match gate_at(gates, place) {
+            Some(_) => true,
+            None => false,
+        },
+    }
+}
+
+/// Whether a signal is a constant or one of these leaves and gates.
+fn is_known(leaves: &[u32], gates: &[(u32, Gate)], sig: Sig) -> bool
+    ensures yes { IsTrue result → IsSigAmong (placed leaves.now gates.now) sig }
+    ensures no { IsFalse result → IsSigAmong (placed leaves.now gates.now) sig → ⊥ }
+{
+    match sig {
+        Sig::Zero => true,
+        Sig::One => true,
+        Sig::Place(place) => is_placed(leaves, gates, place),
+    }
+}
+
+/// Whether a gate may stand behind these leaves and gates.
+fn is_next(leaves: &[u32], gates: &[(u32, Gate)], gate: &(u32, Gate)) -> bool
+    ensures yes { IsTrue result → IsNext (placed leaves.now gates.now) gate.now }
+    ensures no { IsFalse result → IsNext (placed leaves.now gates.now) gate.now → ⊥ }
+{
+    let (place, gate) = *gate;
+    if is_placed(leaves, gates, place) {
+        return false;
+    }
+    is_known(leaves, gates, gate.a) && is_known(leaves, gates, gate.b)
+}
+
+/// Whether each gate may stand behind the leaves and the gates before it.
+pub fn are_next(leaves: &[u32], gates: &[(u32, Gate)]) -> bool
+    ensures yes { IsTrue result → AreNext leaves.now gates.now }
+    ensures no { IsFalse result → AreNext leaves.now gates.now → ⊥ }
+{
+    for i in 0..gates.len() {
+        let (before, _) = gates.split_at(i);
+        if !is_next(leaves, before, &gates[i]) {
+            return false;
+        }
+    }
+    true
+}
+
+/// Whether no leaf stands twice.
+pub fn are_new(leaves: &[u32]) -> bool
+    ensures yes { IsTrue result → AreNew leaves.now }
+    ensures no { IsFalse result → AreNew leaves.now → ⊥ }
+{
+    for i in 0..leaves.len() {
+        let (before, _) = leaves.split_at(i);
+        if is_placed(before, &[], leaves[i]) {
+            return false;
+        }
+    }
+    true
+}
