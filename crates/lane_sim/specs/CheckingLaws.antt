@@ -22,7 +22,9 @@ leaf_placed leaves gates p k e = (k, at_front leaves (map place_of gates) k p e)
 pub gate_placed : (leaves : List ℕ) (gates : List (ℕ × Gate)) (p k : ℕ) → (k < length gates) × ((d : ℕ × Gate) → place_of (slice_index_or gates k d) ≡ p) → IsSigAmong (placed leaves gates) (Place p)
 gate_placed leaves gates p k at = let r = gate_operand (cone_of leaves gates) p k 1 at.0 at.1 in (r.0, r.1)
 
-pub none_placed : (leaves : List ℕ) (gates : List (ℕ × Gate)) (p : ℕ) → ((i d : ℕ) → i < length leaves → slice_index_or leaves i d ≡ p → ⊥) → ((i : ℕ) (d : ℕ × Gate) → i < length gates → place_of (slice_index_or gates i d) ≡ p → ⊥) → IsSigAmong (placed leaves gates) (Place p) → ⊥
+pub none_placed :
+    (leaves : List ℕ) (gates : List (ℕ × Gate)) (p : ℕ) → ((i d : ℕ) → i < length leaves → slice_index_or leaves i d ≡ p → ⊥) →
+    ((i : ℕ) (d : ℕ × Gate) → i < length gates → place_of (slice_index_or gates i d) ≡ p → ⊥) → IsSigAmong (placed leaves gates) (Place p) → ⊥
 none_placed leaves gates p leaf gate known = no_operand (cone_of leaves gates) p known leaf gate
 
 -- ---- lists by their beginnings

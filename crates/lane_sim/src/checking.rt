@@ -1,7 +1,7 @@
 //! Whether leaves and gates are a cone. Each place is looked for among those before it, and so is each operand;
 //! a cone is small, so that no table of places is made.
 
-ghost use Rattle.std.specs.Prelude.{ℕ, IsTrue, IsFalse};
+ghost use Rattle.std.specs.Prelude.{IsTrue, IsFalse};
 ghost use Rattle.net_theory.specs.declared.data.Sig.TheVariants.{Place};
 ghost use Rattle.lane_sim.specs.Cone.{IsSigAmong};
 ghost use Rattle.lane_sim.specs.Checking.{placed, IsNext, AreNew, AreNext};
