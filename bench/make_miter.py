@@ -190,14 +190,16 @@ def miter(first, second):
     return difference + len(sinks) - 1, clauses
 
 
+def dimacs(first, second):
+    """The text of the miter."""
+    variables, clauses = miter(first, second)
+    return f"p cnf {variables} {len(clauses)}\n" + "".join(" ".join(map(str, clause + [0])) + "\n" for clause in clauses)
+
+
 def main():
     if len(sys.argv) != 3:
         sys.exit(__doc__.strip())
-    first, second = (Netlist(open(name, encoding="latin-1").read()) for name in sys.argv[1:3])
-    variables, clauses = miter(first, second)
-    print(f"p cnf {variables} {len(clauses)}")
-    for clause in clauses:
-        print(*clause, 0)
+    sys.stdout.write(dimacs(*(Netlist(open(name, encoding="latin-1").read()) for name in sys.argv[1:3])))
 
 
 if __name__ == "__main__":
