@@ -8,3 +8,4 @@ pub mod BoundingLaws
 pub mod SurroundingLaws
 pub mod ConeLaws
 pub mod MaskingLaws
+pub mod LookingLaws

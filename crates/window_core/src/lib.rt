@@ -31,5 +31,5 @@ pub use bounding::{window, window_by};
 pub use net_core::{Gate, Net, Sig};
 pub use readers::{Readers, readers_of};
 pub use shape::Window;
-pub use sharing::{partners, partners_by};
+pub use sharing::{is_partner_by, partners, partners_by};
 pub use specifying::spec_of;

@@ -1,9 +1,9 @@
 //! Partners of a gate: the gates below it that read what it reads, the eight greatest. They are found by going from
 //! each reader of its operands to the reader before, however many readers there are.
 
-ghost use Rattle.std.specs.Prelude.{ℕ, ◌≤◌, ◌<◌, IfOk};
+ghost use Rattle.std.specs.Prelude.{◌≡◌, ℕ, ◌≤◌, ◌<◌, true, ◌||◌, IfOk};
 ghost use Rattle.window_theory.specs.Paths.{IsGate};
-ghost use Rattle.window_theory.specs.Partner.{ArePartners};
+ghost use Rattle.window_theory.specs.Partner.{ArePartners, IsPartner};
 ghost use Rattle.window_core.specs.Readers.{AreReaders, IsEarlier};
 
 use crate::growing::gate_at;
@@ -66,4 +66,37 @@ pub fn partners(alloc: Global, net: &Net, root: u32) -> Result<Vec<u32>, AllocEr
 {
     let readers = readers_of(alloc, net)?;
     partners_by(alloc, net, &readers, root)
+}
+
+/// Whether one of two holds.
+fn either(a: bool, b: bool) -> bool
+    ensures { result ≡ (a || b) }
+{
+    a || b
+}
+
+/// Whether a place is a partner of a gate. It takes no memory.
+pub fn is_partner_by(net: &Net, readers: &Readers, root: u32, place: u32) -> bool
+    requires readers { AreReaders net.now readers.now }
+    requires root { IsGate net.now root }
+    ensures yes { result ≡ true → IsPartner net.now root place }
+    ensures no { IsPartner net.now root place → result ≡ true }
+{
+    let gate = gate_at(net, root);
+    let first = place_of(gate.a);
+    let second = place_of(gate.b);
+    let earlier = earlier_of(net, readers, root);
+    let mut a = earlier.first;
+    let mut b = earlier.second;
+    let mut found = false;
+    for _found in 0..8u32 {
+        let next = a.max(b);
+        if next == 0 {
+            return found;
+        }
+        a = onward(net, readers, first, a, next);
+        b = onward(net, readers, second, b, next);
+        found = either(found, place == next);
+    }
+    found
 }
