@@ -1,10 +1,9 @@
 //! What goes in and out of some gates of a net.
 
-ghost use Rattle.std.specs.Prelude.{◌≡◌, ℕ, ◌≤◌, ◌<◌, true, [], length, IfSome, IfNone, IfOk, OnOk};
+ghost use Rattle.std.specs.Prelude.{◌≡◌, ℕ, ◌<◌, true, IfOk, OnOk};
 ghost use Rattle.window_theory.specs.Places.{among, IsRising, AreJust};
 ghost use Rattle.window_theory.specs.Paths.{IsGate};
 ghost use Rattle.window_theory.specs.Window.{IsInput};
-ghost use Rattle.window_core.specs.Ends.{AreFound};
 ghost use Rattle.window_core.specs.Rising.{put_outside};
 
 use crate::growing::gate_at;

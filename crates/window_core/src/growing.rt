@@ -1,7 +1,7 @@
 //! Which gates a window has: the greatest candidate is taken, as often as needed. What could be taken and isn't
 //! stands below the gate that was taken last, so that no candidate has to be looked for among those that are taken.
 
-ghost use Rattle.std.specs.Prelude.{◌≡◌, ℕ, ◌+◌, ◌≤◌, true, [], length, IfSome, IfNone, IfOk};
+ghost use Rattle.std.specs.Prelude.{◌≡◌, ℕ, ◌+◌, true, [], length, IfSome, IfNone, IfOk};
 ghost use Rattle.net_theory.specs.Net.{IsNet};
 ghost use Rattle.window_theory.specs.Paths.{IsGate};
 ghost use Rattle.window_theory.specs.Window.{IsCandidate, IsGreatestCandidate, AreTaken, IsWindow};

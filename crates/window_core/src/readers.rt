@@ -1,7 +1,7 @@
 //! The index of a net, made in two passes over its gates: how often each place is named, and for each gate the
 //! greatest gates below it that read what it reads. It serves all windows of the net.
 
-ghost use Rattle.std.specs.Prelude.{◌≡◌, ℕ, ◌+◌, ◌≤◌, ◌<◌, min, List, [], length, slice_index_or, All, IfOk, OnOk};
+ghost use Rattle.std.specs.Prelude.{◌≡◌, ℕ, ◌+◌, ◌<◌, min, List, [], length, slice_index_or, All, IfOk, OnOk};
 ghost use Rattle.net_theory.specs.declared.data.Gate.{Gate as GateValue};
 ghost use Rattle.net_theory.specs.Net.{end_of};
 ghost use Rattle.window_theory.specs.Paths.{IsGate};

@@ -1,13 +1,11 @@
 //! Which gates of a window are seen outside: a place is named as often by the gates inside as by all, or it is an
 //! output. So no pass over the net is needed.
 
-ghost use Rattle.std.specs.Prelude.{◌≡◌, ℕ, ◌≤◌, ◌<◌, true, min, nat_lt, length, IfOk};
-ghost use Rattle.net_theory.specs.declared.data.Sig.{Sig as SigValue};
-ghost use Rattle.net_theory.specs.Reach.{is_place};
+ghost use Rattle.std.specs.Prelude.{◌≡◌, ℕ, ◌≤◌, ◌<◌, true, length, IfOk};
 ghost use Rattle.window_theory.specs.Places.{among, IsRising, AreJust};
 ghost use Rattle.window_theory.specs.Paths.{IsGate};
 ghost use Rattle.window_theory.specs.Window.{IsOutput};
-ghost use Rattle.window_core.specs.Readers.{named_by, named_by_gate, uses_of, AreReaders};
+ghost use Rattle.window_core.specs.Readers.{named_by, named_by_gate, AreReaders};
 ghost use Rattle.window_core.specs.Seen.{inside_of};
 
 use crate::growing::gate_at;

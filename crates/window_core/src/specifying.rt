@@ -6,7 +6,6 @@ ghost use Rattle.chain_theory.specs.Operator.{digit};
 ghost use Rattle.net_theory.specs.declared.data.Sig.TheVariants as sigs;
 ghost use Rattle.net_theory.specs.Net.{end_of};
 ghost use Rattle.tt_core.specs.Words.{specification};
-ghost use Rattle.lane_sim.specs.Cone.{places as places_of, value_in};
 ghost use Rattle.lane_sim.specs.Words.{AreWords};
 ghost use Rattle.window_theory.specs.Places.{among, IsRising};
 ghost use Rattle.window_theory.specs.Paths.{IsGate};

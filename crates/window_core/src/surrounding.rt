@@ -1,9 +1,8 @@
 //! The surround of some places: as long as the greatest leaf is a gate, what it reads comes in its place, if at most
 //! 12 leaves are left. Gates are opened from the greatest place down, so that the leaves stand below all of them.
 
-ghost use Rattle.std.specs.Prelude.{◌≡◌, ℕ, ◌+◌, ◌≤◌, ◌<◌, true, false, List, ◌∷◌, [], ◌++◌, length, reverse, if◌then◌else◌, IfSome, IfNone, IfOk, OnOk};
+ghost use Rattle.std.specs.Prelude.{◌≡◌, ℕ, ◌+◌, ◌≤◌, ◌<◌, true, false, List, ◌∷◌, [], ◌++◌, length, reverse, if◌then◌else◌, IfSome, IfNone, IfOk};
 ghost use Rattle.net_theory.specs.Net.{end_of};
-ghost use Rattle.lane_sim.specs.Cone.{places as places_of};
 ghost use Rattle.window_theory.specs.Places.{among, IsRising};
 ghost use Rattle.window_theory.specs.Paths.{IsGate};
 ghost use Rattle.window_theory.specs.Surround.{LeadsTo, IsLast};
