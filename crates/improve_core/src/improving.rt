@@ -37,9 +37,9 @@ pub struct ImprovedText {
 
 /// The document as which a circuit is written, and what it costs.
 #[derive(Debug, Drop)]
-struct CostedDocument {
-    document: Document,
-    cost: u32,
+pub struct CostedDocument {
+    pub document: Document,
+    pub cost: u32,
 }
 
 /// A circuit that was improved, and the document as which it is written.
@@ -61,7 +61,7 @@ fn document_cost(alloc: Global, document: &Document) -> Result<u32, AllocError>
 
 /// The document as which a circuit is written, and what it costs.
 #[tactic(auto, using(crate::proofs::Improvements::tidying))]
-fn costed(alloc: Global, circuit: &Circuit) -> Result<CostedDocument, AllocError>
+pub fn costed(alloc: Global, circuit: &Circuit) -> Result<CostedDocument, AllocError>
     requires { IsProper circuit.now }
     ensures document { IfOk result (λ w. w.document ≡ written_of circuit.now) }
     ensures cost { IfOk result (λ w. w.cost ≡ cost (written_of circuit.now)) }

@@ -17,5 +17,5 @@ mod laws;
 mod reporting;
 
 pub use blif_core::{Circuit, NetError};
-pub use improving::{Improved, ImprovedText, improve, improve_circuit};
+pub use improving::{CostedDocument, Improved, ImprovedText, costed, improve, improve_circuit};
 pub use laws::faults_are_one;

@@ -1,0 +1,66 @@
+-- Netlists that were improved by their windows: the same behaviour, no more gates, and, where it is settled, no
+-- listed window with a shorter chain but for those that are named.
+use Rattle.std.specs.Prelude.{◌≡◌, ℕ, ◌≤◌, Bool, List, length, Ok, Some}
+use Rattle.net_theory.specs.Behaviour.{Same}
+use Rattle.net_theory.specs.Cost.{cost}
+use Rattle.net_theory.specs.Net.{Net}
+use Rattle.net_theory.specs.NetOf.{net_of}
+use Rattle.net_theory.specs.Naming.{gate_names}
+use Rattle.net_theory.specs.Circuit.{Circuit, IsProper, Describes}
+use Rattle.net_theory.specs.WellFormed.{IsWellFormed}
+use Rattle.net_document.specs.Listed.{Listed}
+use Rattle.net_document.specs.Format.{Format}
+use Rattle.net_document.specs.Alike.{AreAlike}
+use Rattle.settings.specs.declared.improve.ImproveSettings.{ImproveSettings}
+use Rattle.sweep_core.specs.Undecided.{Undecided}
+use Rattle.window_trial.specs.Improvement.{Leaves}
+use Rattle.improve_windows.specs.Report.{report_text}
+
+-- ---- circuits
+
+-- k stands in the place of c. It is proper, has the model of c and does what c does, and its net is what the
+-- settings leave of that of c. The numbers are the gates of c and what k costs where it is written in the format,
+-- and the second is no more than the first.
+pub record IsBetter (f : Format) (s : ImproveSettings) (c k : Circuit) (before after : ℕ) (settled : Bool) (undecided : List Undecided) : Type 0 where
+  pub proper : IsProper k
+  pub model : c.model ≡ k.model
+  pub alike : AreAlike c k
+  pub left : Leaves s c.net k.net settled undecided
+  pub before_is : before ≡ length c.net.gates
+  pub after_is : after ≡ cost (f.written k)
+  pub fewer : after ≤ before
+
+-- ---- texts
+
+-- The bytes list a well-formed document, and the text is that of a proper circuit with its model, which does
+-- what the document does. The net of that circuit is what the settings leave of the document's net. The text lists
+-- a well-formed document again, which does what the first one does: the outputs and the next states are the same
+-- under every assignment. The numbers are what the two documents cost, and the second is no more than the first.
+pub record IsImproved (f : Format) (s : ImproveSettings) (bytes text : List ℕ) (circuit : Circuit) (before after : ℕ) (settled : Bool) (undecided : List Undecided) : Type 0 where
+  pub read : Listed
+  pub said : f.listed bytes ≡ Ok read
+  pub well : IsWellFormed read.document
+  pub proper : IsProper circuit
+  pub model : read.document.model ≡ circuit.model
+  pub describes : Describes read.document circuit
+  pub spelled : text ≡ f.text circuit
+  pub first : Net
+  pub first_is : net_of read.document ≡ Some first
+  pub left : Leaves s first circuit.net settled undecided
+  pub again : Listed
+  pub said_again : f.listed text ≡ Ok again
+  pub well_again : IsWellFormed again.document
+  pub same : Same read.document again.document
+  pub before_is : before ≡ cost read.document
+  pub after_is : after ≡ cost again.document
+  pub fewer : after ≤ before
+
+-- with its report, which names the windows by the gates of the circuit whose text was written
+pub record IsReported (f : Format) (s : ImproveSettings) (bytes text report : List ℕ) : Type 0 where
+  pub circuit : Circuit
+  pub before : ℕ
+  pub after : ℕ
+  pub settled : Bool
+  pub undecided : List Undecided
+  pub improved : IsImproved f s bytes text circuit before after settled undecided
+  pub told : report ≡ report_text (gate_names circuit) circuit.net.sources before after settled undecided

@@ -1,0 +1,97 @@
+-- What is improved does the same, is no larger, and is read back.
+use Rattle.std.specs.Prelude.{◌≡◌, ℕ, ◌≤◌, Bool, List, length, All, Result, Ok, Err, IfErr, refl}
+use Rattle.std.specs.Result.{IsErrAnd}
+use Rattle.std.proofs.Common.{arith, sym, ◌∙◌, ap, subst}
+use Rattle.std.proofs.lemmas.Grind.{common_steps}
+use Rattle.net_theory.specs.Cost.{cost}
+use Rattle.net_theory.specs.Net.{Net}
+use Rattle.net_theory.specs.Naming.{gate_names}
+use Rattle.net_theory.specs.Circuit.{Circuit, IsProper}
+use Rattle.net_theory.specs.ExchangeLaws.{exchanged_proper}
+use Rattle.net_document.specs.Format.{Format, IsNetlist, IsCircuitOfText, IsFormat}
+use Rattle.net_document.specs.AlikeLaws.{alike_same, alike_exchanged, describes_alike}
+use Rattle.net_core.specs.declared.error.NetError.{NetError}
+use Rattle.net_core.specs.declared.error.NetError.TheVariants.{Memory}
+use Rattle.net_core.specs.Names.{HasRoom}
+use Rattle.blif_core.specs.Spelling.{circuit_text}
+use Rattle.blif_core.specs.Blif.{blif_format, CanWrite}
+use Rattle.settings.specs.declared.improve.ImproveSettings.{ImproveSettings}
+use Rattle.sweep_core.specs.Undecided.{Undecided, IsUndecided}
+use Rattle.window_trial.specs.Improvement.{Leaves}
+use Rattle.improve_windows.specs.Report.{report_text}
+use Rattle.improve_windows.specs.ReportLaws.{CanBeWritten}
+use Rattle.improve_windows.specs.Improving.{IsBetter, IsImproved, IsReported}
+
+-- ---- improving a circuit
+
+pub left_proper : (s : ImproveSettings) (c k : Circuit) (settled : Bool) (named : List Undecided) → k ≡ record c { net = k.net } → IsProper c → Leaves s c.net k.net settled named → IsProper k
+left_proper s c k settled named same is left = subst IsProper (sym same) (exchanged_proper c k.net is left.pruned.answers)
+
+better_at : (f : Format) (s : ImproveSettings) (c : Circuit) (m : Net) (before after : ℕ) (settled : Bool) (named : List Undecided) → IsProper c → Leaves s c.net m settled named → before ≡ length c.net.gates → after ≡ cost (f.written (record c { net = m })) → after ≤ length m.gates → IsBetter f s c (record c { net = m }) before after settled named
+better_at f s c m before after settled named is left before_is after_is cheap =
+    record {
+      proper = exchanged_proper c m is left.pruned.answers;
+      model = refl;
+      alike = alike_exchanged c m left.pruned.answers;
+      left = left;
+      before_is = before_is;
+      after_is = after_is;
+      fewer = omega (arith, cheap, before_is, left.pruned.answers.fewer);
+    }
+
+pub better : (f : Format) (s : ImproveSettings) (c k : Circuit) (m : Net) (before after : ℕ) (settled : Bool) (named : List Undecided) → IsProper c → k ≡ record c { net = m } → Leaves s c.net m settled named → before ≡ length c.net.gates → after ≡ cost (f.written k) → after ≤ length k.net.gates → IsBetter f s c k before after settled named
+better f s c k m before after settled named is same left before_is after_is cheap =
+    subst (λ (x : Circuit). IsBetter f s c x before after settled named) (sym same)
+    (better_at f s c m before after settled named is left before_is (after_is ∙ ap (λ (x : Circuit). cost (f.written x)) same)
+    (subst (λ (x : Circuit). after ≤ length x.net.gates) same cheap))
+
+-- ---- certificates
+
+pub named_can : (m : Net) (s : ImproveSettings) (named : List Undecided) → All (IsUndecided m s) named → All CanBeWritten named
+named_can m s named are = λ k d low. let is = are k d low in record { valid = is.valid; output = is.output }
+
+-- ---- improving a text
+
+pub improved_is : (f : Format) (Can : Circuit → Type 0) (s : ImproveSettings) (bytes : List ℕ) (c k : Circuit) (before after : ℕ) (settled : Bool) (named : List Undecided) → IsFormat f Can → IsCircuitOfText f bytes c → IsBetter f s c k before after settled named → Can k → IsImproved f s bytes (f.text k) k before after settled named
+improved_is f Can s bytes c k before after settled named format is better can =
+    let text = format.read_back k can in
+    record {
+      read = is.listed;
+      said = is.said;
+      well = is.well;
+      proper = better.proper;
+      model = is.circuit.model ∙ better.model;
+      describes = describes_alike is.listed.document c k is.circuit.describes better.alike;
+      spelled = refl;
+      first = c.net;
+      first_is = is.circuit.net;
+      left = better.left;
+      again = text.listed;
+      said_again = text.said;
+      well_again = text.well;
+      same = alike_same is.listed.document text.listed.document c k is.circuit.describes text.describes better.alike;
+      before_is = better.before_is ∙ sym is.circuit.gates;
+      after_is = better.after_is ∙ ap cost (sym text.document);
+      fewer = better.fewer;
+    }
+
+pub text_improved : (s : ImproveSettings) (bytes text report : List ℕ) (c k : Circuit) (before after : ℕ) (settled : Bool) (named : List Undecided) → IsFormat blif_format CanWrite → IsCircuitOfText blif_format bytes c → IsBetter blif_format s c k before after settled named → HasRoom k → text ≡ circuit_text k → report ≡ report_text (gate_names k) k.net.sources before after settled named → IsReported blif_format s bytes text report
+text_improved s bytes text report c k before after settled named format is better room spelled told = record {
+  circuit = k;
+  before = before;
+  after = after;
+  settled = settled;
+  undecided = named;
+  improved = subst (λ (t : List ℕ). IsImproved blif_format s bytes t k before after settled named) (sym spelled) (improved_is blif_format CanWrite s bytes c k before after settled named format is better (better.proper, room));
+  told = told;
+}
+
+pub text_proper : (bytes : List ℕ) (c : Circuit) → IsCircuitOfText blif_format bytes c → IsProper c
+text_proper bytes c is = is.circuit.proper
+
+-- an error that is handed on
+pub err_complete : {A : Type 0} (bytes : List ℕ) (r : Result A NetError) (e : NetError) → IsErrAnd r (λ d. d ≡ e) → (IsNetlist blif_format bytes → e ≡ Memory) → IfErr r (λ d. IsNetlist blif_format bytes → d ≡ Memory)
+err_complete bytes (Ok x) e is complete = absurd is
+err_complete bytes (Err d) e is complete = λ netlist. is ∙ complete netlist
+
+pub ruleset improving = (common_steps, left_proper, better, named_can, text_proper, text_improved)

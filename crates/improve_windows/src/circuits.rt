@@ -1,0 +1,130 @@
+//! A circuit improved: its net, and what it costs where it is written.
+ghost use Rattle.std.specs.Prelude.{◌≡◌, All, IfOk};
+ghost use Rattle.net_theory.specs.Circuit.{IsProper};
+ghost use Rattle.net_theory.specs.Cost.{cost};
+ghost use Rattle.net_core.specs.Names.{HasRoom};
+ghost use Rattle.blif_core.specs.Written.{written as written_of};
+ghost use Rattle.blif_core.specs.Spelling.{HasInit};
+ghost use Rattle.blif_core.specs.Blif.{blif_format};
+ghost use Rattle.settings.specs.Improve.{IsInRange};
+ghost use Rattle.window_trial.specs.Improvement.{Leaves};
+ghost use Rattle.improve_windows.specs.Improving.{IsBetter};
+
+use blif_core::Circuit;
+use improve_core::{CostedDocument, costed};
+use net_document::Document;
+use std::alloc::{AllocError, Global};
+use window_trial::{ImproveSettings, ImprovedNet, Undecided, improve_net};
+
+/// A circuit that was improved.
+#[derive(Debug, Drop)]
+pub struct Improved {
+    pub circuit: Circuit,
+    /// How many gates it had.
+    pub before: u32,
+    /// What it costs where it is written.
+    pub after: u32,
+    /// Whether no window up to the cap has a shorter chain, but for those that are undecided.
+    pub settled: bool,
+    /// The windows that a search left undecided, in the order of their visits; none where it isn't settled.
+    pub undecided: Vec<Undecided>,
+}
+
+/// A circuit that was improved, and the document as which it is written.
+#[derive(Debug, Drop)]
+pub(crate) struct Written {
+    pub(crate) improved: Improved,
+    pub(crate) document: Document,
+}
+
+/// A circuit with what is left of its net.
+#[derive(Debug, Drop)]
+struct Left {
+    circuit: Circuit,
+    settled: bool,
+    undecided: Vec<Undecided>,
+}
+
+/// What the settings leave of a circuit.
+fn left_of(alloc: Global, circuit: Circuit, settings: ImproveSettings) -> Result<Left, AllocError>
+    requires { IsInRange settings }
+    ensures circuit { IfOk result (λ left. left.circuit ≡ record circuit { net = left.circuit.net }) }
+    ensures left { IfOk result (λ left. Leaves settings circuit.net left.circuit.net left.settled left.undecided.items) }
+{
+    let Circuit {
+        model,
+        inputs,
+        outputs,
+        clocks,
+        latches,
+        net,
+    } = circuit;
+    let ImprovedNet {
+        net,
+        settled,
+        undecided,
+    } = improve_net(alloc, &net, settings)?;
+    let circuit = Circuit {
+        model,
+        inputs,
+        outputs,
+        clocks,
+        latches,
+        net,
+    };
+    Ok(Left {
+        circuit,
+        settled,
+        undecided,
+    })
+}
+
+/// A circuit improved, and the document as which it is written.
+#[tactic(auto, using(crate::specs::ImprovingLaws::improving))]
+pub(crate) fn improve_written(
+    alloc: Global,
+    circuit: Circuit,
+    settings: ImproveSettings,
+) -> Result<Written, AllocError>
+    requires proper { IsProper circuit }
+    requires range { IsInRange settings }
+    ensures better { IfOk result (λ w. IsBetter blif_format settings circuit w.improved.circuit
+        w.improved.before w.improved.after w.improved.settled w.improved.undecided.items) }
+    ensures document { IfOk result (λ w. w.document ≡ written_of w.improved.circuit) }
+    ensures inits { IfOk result (λ w. All HasInit w.document.latches) }
+    ensures room { IfOk result (λ w. HasRoom w.improved.circuit) }
+{
+    let before = circuit.net.gates().len() as u32;
+    let Left {
+        circuit,
+        settled,
+        undecided,
+    } = left_of(alloc, circuit, settings)?;
+    let CostedDocument { document, cost } = costed(alloc, &circuit)?;
+    let improved = Improved {
+        circuit,
+        before,
+        after: cost,
+        settled,
+        undecided,
+    };
+    Ok(Written { improved, document })
+}
+
+/// Improves a circuit: drops its dead gates, and then puts shorter chains in the place of windows, until no window
+/// up to the cap has one, or so many rounds as the settings say have changed something.
+pub fn improve_circuit(
+    alloc: Global,
+    circuit: Circuit,
+    settings: ImproveSettings,
+) -> Result<Improved, AllocError>
+    requires proper { IsProper circuit }
+    requires range { IsInRange settings }
+    ensures { IfOk result (λ i. IsBetter blif_format settings circuit i.circuit i.before i.after i.settled i.undecided.items) }
+{
+    let Written {
+        improved,
+        document: _,
+    } = improve_written(alloc, circuit, settings)?;
+    Ok(improved)
+}

@@ -1,0 +1,85 @@
+//! BLIF texts improved.
+ghost use Rattle.std.specs.Prelude.{◌≡◌, ◌<◌, ◌^◌, length, All, IfOk, IfErr};
+ghost use Rattle.net_theory.specs.Circuit.{IsProper};
+ghost use Rattle.net_theory.specs.Naming.{gate_names as gate_names_of};
+ghost use Rattle.net_core.specs.declared.error.NetError.TheVariants.{Memory};
+ghost use Rattle.net_document.specs.Format.{IsNetlist, IsRefusedText};
+ghost use Rattle.blif_core.specs.Spelling.{spelled, HasInit};
+ghost use Rattle.blif_core.specs.Blif.{blif_format};
+ghost use Rattle.settings.specs.Improve.{IsInRange};
+ghost use Rattle.improve_windows.specs.Report.{report_text};
+ghost use Rattle.improve_windows.specs.ReportLaws.{CanBeWritten};
+ghost use Rattle.improve_windows.specs.Improving.{IsReported};
+
+use crate::circuits::{Improved, Written, improve_written};
+use crate::reporting::report_of;
+use blif_core::{NetError, read_blif, write_document};
+use blif_laws::blif_is_a_format;
+use net_core::gate_names;
+use net_document::Document;
+use std::alloc::{AllocError, Global};
+use window_trial::ImproveSettings;
+
+/// A netlist as it is written, and the report.
+#[derive(Debug, Drop)]
+pub struct ImprovedText {
+    pub text: Vec<u8>,
+    pub report: Vec<u8>,
+}
+
+/// The report of a circuit that was improved.
+fn told(alloc: Global, improved: &Improved) -> Result<Vec<u8>, AllocError>
+    requires proper { IsProper improved.now.circuit }
+    requires undecided { All CanBeWritten improved.now.undecided.items }
+    ensures { IfOk result (λ report. report.items ≡
+        report_text (gate_names_of improved.now.circuit) improved.now.circuit.net.sources improved.now.before
+        improved.now.after improved.now.settled improved.now.undecided.items) }
+{
+    let names = gate_names(alloc, &improved.circuit)?;
+    let report = report_of(
+        alloc,
+        &names,
+        improved.circuit.net.sources(),
+        improved.before,
+        improved.after,
+        improved.settled,
+        &improved.undecided,
+    )?;
+    Ok(report)
+}
+
+/// The text of a document.
+fn text_of(alloc: Global, document: &Document) -> Result<Vec<u8>, AllocError>
+    requires { All HasInit document.now.latches }
+    ensures { IfOk result (λ text. text.items ≡ spelled document.now) }
+{
+    let mut text = Vec::new(alloc);
+    write_document(&mut text, document)?;
+    Ok(text)
+}
+
+/// Improves a BLIF netlist by the settings, writes the netlist that is left, and reports what it cost and costs
+/// now, the windows that stay undecided with their certificates, and whether all others are settled.
+///
+/// Lines are judged in their order, and the first at fault is told; then a control that a table drives,
+/// more than 100,000 gates, a name that is driven twice, one that is used and not driven, and a table
+/// that depends on itself. A well-formed netlist is refused for want of memory alone.
+#[tactic(auto, using(crate::specs::ImprovingLaws::improving))]
+pub fn improve(
+    alloc: Global,
+    bytes: &[u8],
+    settings: ImproveSettings,
+) -> Result<ImprovedText, NetError>
+    requires size { length bytes.now < 2 ^ 31 }
+    requires range { IsInRange settings }
+    ensures improved { IfOk result (λ i. IsReported blif_format settings bytes.now i.text.items i.report.items) }
+    ensures refused { IfErr result (IsRefusedText blif_format bytes.now) }
+    ensures complete { IfErr result (λ e. IsNetlist blif_format bytes.now → e ≡ Memory) }
+{
+    blif_is_a_format();
+    let circuit = read_blif(alloc, bytes)?;
+    let Written { improved, document } = improve_written(alloc, circuit, settings)?;
+    let text = text_of(alloc, &document)?;
+    let report = told(alloc, &improved)?;
+    Ok(ImprovedText { text, report })
+}
