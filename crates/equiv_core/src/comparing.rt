@@ -1,6 +1,6 @@
 //! Two circuits compared: their miter is given to the solver, whose log refutes it or is spent, and whose
 //! solution has an input at which the circuits differ.
-ghost use Rattle.std.specs.Prelude.{◌≡◌, ◌≤◌, ◌<◌, ◌^◌, length, IfOk, IfErr};
+ghost use Rattle.std.specs.Prelude.{◌≡◌, ◌≤◌, ◌<◌, ◌^◌, length, Err, IfOk, IfErr};
 ghost use Rattle.sat_theory.specs.Formula.{bits_of, Satisfies};
 ghost use Rattle.sat_theory.specs.Log.{Refutes, IsSpent, IsKept};
 ghost use Rattle.net_theory.specs.Circuit.{IsProper};
@@ -107,6 +107,7 @@ pub fn equiv(
     ensures decides { 3 ^ variables first.now.net second.now.net ≤ budget → IfOk result IsDecided }
     ensures interface { IfOk result (λ _. HaveSameInterface first.now second.now) }
     ensures refused { IfErr result (λ e. e ≡ DifferentInterface → HaveSameInterface first.now second.now → ⊥) }
+    ensures other { (HaveSameInterface first.now second.now → ⊥) → result ≡ Err DifferentInterface }
 {
     if !same_interface(first, second) {
         return Err(EquivError::DifferentInterface);

@@ -67,6 +67,8 @@ sinks_counted d c of describes =
 
 documents_differ : (d e : Document) (c k : Circuit) (sink : ℕ) (bits : List Bool) → IsProper c → IsProper k → Describes d c → Describes e k → HaveSameInterface c k → IsFirstDifference c.net k.net sink bits → DocumentsDiffer d e sink bits
 documents_differ d e c k sink bits of_c of_k of_d of_e same first = record {
+  first_has_one = of_d.one;
+  second_has_one = of_e.one;
   each_source = first.each_source ∙ of_c.source_count ∙ ap length (sym (names_same d c of_d));
   counted = first.counted;
   below = omega (arith, first.first_sink.here.below, first.counted, sinks_counted d c of_c of_d);
@@ -108,6 +110,7 @@ told_of budget d e c k text Undecided of_d of_e told = record {
   lines = told.lines;
   spent = told.spent;
   kept = told.kept;
+  small = told.small;
   text_is = told.text_is;
 }
 

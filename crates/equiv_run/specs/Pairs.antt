@@ -1,9 +1,9 @@
 -- Two netlists in one text, one behind the other: how they compare, and why they aren't compared.
-use Rattle.std.specs.Prelude.{◌≡◌, ◌≢◌, ℕ, ◌-◌, ◌≤◌, ◌<◌, Bool, false, List, length, map, take, drop, slice_index_or, Some, None, Ok}
+use Rattle.std.specs.Prelude.{◌≡◌, ◌≢◌, ℕ, ◌-◌, ◌^◌, ◌≤◌, ◌<◌, Bool, false, List, length, map, take, drop, slice_index_or, Some, None, Ok}
 use Rattle.sat_theory.specs.Line.{Line}
 use Rattle.sat_theory.specs.Log.{Refutes, IsSpent, IsKept}
 use Rattle.net_theory.specs.Document.{Name, Document, latches_of, source_names, sink_names}
-use Rattle.net_theory.specs.Behaviour.{IsMapOf, Same}
+use Rattle.net_theory.specs.Behaviour.{IsMapOf, HasOneMap, Same}
 use Rattle.net_theory.specs.WellFormed.{IsWellFormed}
 use Rattle.net_theory.specs.Net.{Net}
 use Rattle.net_theory.specs.NetOf.{net_of}
@@ -11,7 +11,7 @@ use Rattle.net_core.specs.declared.error.NetError.{NetError}
 use Rattle.net_document.specs.Listed.{Listed}
 use Rattle.net_document.specs.Format.{IsNetlist, HasNetFault}
 use Rattle.blif_core.specs.Blif.{blif_format}
-use Rattle.equiv_theory.specs.Miter.{miter}
+use Rattle.equiv_theory.specs.Miter.{variables, miter}
 use Rattle.equiv_run.specs.declared.answer.Standing.{Standing}
 use Rattle.equiv_run.specs.declared.answer.Standing.TheVariants.{Equal, Differ, Undecided}
 use Rattle.equiv_run.specs.declared.answer.CompareError.{CompareError}
@@ -51,9 +51,11 @@ pub record ShareInterface (d e : Document) : Type 0 where
 abbrev pub sink_in : Document → (Name → Bool) → ℕ → Bool
 sink_in d v i = slice_index_or (map v (sink_names d)) i false
 
--- Some assignment gives the sources these bits, and whichever does, the maps of the two documents differ at this
--- output or next state, counted from 1, and agree at each one before it.
+-- Each of the two documents has one map for each assignment. Some assignment gives the sources these bits, and
+-- whichever does, the two maps differ at this output or next state, counted from 1, and agree at each one before it.
 pub record DocumentsDiffer (d e : Document) (sink : ℕ) (bits : List Bool) : Type 0 where
+  pub first_has_one : (given : Name → Bool) → HasOneMap d given
+  pub second_has_one : (given : Name → Bool) → HasOneMap e given
   pub each_source : length bits ≡ length (source_names d)
   pub counted : 1 ≤ sink
   pub below : sink ≤ length (sink_names d)
@@ -85,7 +87,8 @@ pub record IsDifferTold (d e : Document) (text : List ℕ) : Type 0 where
   pub differ : DocumentsDiffer d e sink bits
   pub text_is : text ≡ differ_text d.outputs (latches_of d) sink bits
 
--- The lines have spent the budget on the miter of their nets, and keep at least half of what they add.
+-- The lines have spent the budget on the miter of their nets, and keep at least half of what they add. A budget of
+-- three to the number of the miter's variables is never spent.
 pub record IsUndecidedTold (budget : ℕ) (d e : Document) (text : List ℕ) : Type 0 where
   pub first : Net
   pub second : Net
@@ -93,6 +96,7 @@ pub record IsUndecidedTold (budget : ℕ) (d e : Document) (text : List ℕ) : T
   pub lines : List Line
   pub spent : IsSpent (miter first second) lines budget
   pub kept : IsKept (miter first second) lines
+  pub small : budget < 3 ^ variables first second
   pub text_is : text ≡ undecided_text lines
 
 abbrev pub IsTold : ℕ → Document → Document → List ℕ → Standing → Type 0

@@ -1,12 +1,13 @@
 -- What is told of two circuits, before it is said of the texts that they were read of.
-use Rattle.std.specs.Prelude.{◌≡◌, ℕ, Bool, List}
+use Rattle.std.specs.Prelude.{◌≡◌, ℕ, ◌^◌, ◌≤◌, ◌<◌, Bool, List}
+use Rattle.std.proofs.Common.{arith}
 use Rattle.sat_theory.specs.Line.{Line}
 use Rattle.sat_theory.specs.Log.{Refutes, IsSpent, IsKept}
 use Rattle.net_theory.specs.Circuit.{Circuit}
 use Rattle.net_document.specs.Alike.{AreAlike}
 use Rattle.net_document.specs.Format.{HasNetFault}
 use Rattle.blif_core.specs.Blif.{blif_format}
-use Rattle.equiv_theory.specs.Miter.{miter}
+use Rattle.equiv_theory.specs.Miter.{variables, miter}
 use Rattle.equiv_theory.specs.Difference.{HaveSameInterface, IsFirstDifference}
 use Rattle.equiv_run.specs.declared.answer.Standing.{Standing}
 use Rattle.equiv_run.specs.declared.answer.Standing.TheVariants.{Equal, Differ, Undecided}
@@ -33,6 +34,7 @@ pub record AreUndecided (budget : ℕ) (c k : Circuit) (text : List ℕ) : Type 
   pub lines : List Line
   pub spent : IsSpent (miter c.net k.net) lines budget
   pub kept : IsKept (miter c.net k.net) lines
+  pub small : budget < 3 ^ variables c.net k.net
   pub text_is : text ≡ undecided_text lines
 
 abbrev pub IsCircuitTold : ℕ → Circuit → Circuit → List ℕ → Standing → Type 0
@@ -65,11 +67,14 @@ IsSecondRefused bytes DifferentInterface = ⊥
 
 -- ---- each of the three
 
+more : (n budget : ℕ) → (n ≤ budget → ⊥) → budget < n
+more n budget not = omega (arith, not)
+
 pub tell_equal : (budget : ℕ) (c k : Circuit) (lines : List Line) (text : List ℕ) → HaveSameInterface c k → AreAlike c k → Refutes (miter c.net k.net) lines → text ≡ equal_text lines → IsCircuitTold budget c k text Equal
 tell_equal budget c k lines text interface alike refutes is = record { interface = interface; alike = alike; lines = lines; refutes = refutes; text_is = is }
 
 pub tell_differ : (budget : ℕ) (c k : Circuit) (sink : ℕ) (bits : List Bool) (text : List ℕ) → HaveSameInterface c k → IsFirstDifference c.net k.net sink bits → text ≡ differ_text c.outputs c.latches sink bits → IsCircuitTold budget c k text Differ
 tell_differ budget c k sink bits text interface differ is = record { interface = interface; sink = sink; bits = bits; differ = differ; text_is = is }
 
-pub tell_undecided : (budget : ℕ) (c k : Circuit) (lines : List Line) (text : List ℕ) → HaveSameInterface c k → IsSpent (miter c.net k.net) lines budget → IsKept (miter c.net k.net) lines → text ≡ undecided_text lines → IsCircuitTold budget c k text Undecided
-tell_undecided budget c k lines text interface spent kept is = record { interface = interface; lines = lines; spent = spent; kept = kept; text_is = is }
+pub tell_undecided : (budget : ℕ) (c k : Circuit) (lines : List Line) (text : List ℕ) → HaveSameInterface c k → IsSpent (miter c.net k.net) lines budget → IsKept (miter c.net k.net) lines → (3 ^ variables c.net k.net ≤ budget → ⊥) → text ≡ undecided_text lines → IsCircuitTold budget c k text Undecided
+tell_undecided budget c k lines text interface spent kept not is = record { interface = interface; lines = lines; spent = spent; kept = kept; small = more (3 ^ variables c.net k.net) budget not; text_is = is }

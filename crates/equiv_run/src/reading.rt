@@ -1,9 +1,11 @@
 //! Two netlists read, and compared.
-ghost use Rattle.std.specs.Prelude.{◌≡◌, ◌≤◌, ◌<◌, ◌^◌, length, IfOk, IfErr};
+ghost use Rattle.std.specs.Prelude.{◌≡◌, ◌≤◌, ◌<◌, ◌^◌, length, None, Err, IfOk, IfErr};
 ghost use Rattle.net_theory.specs.Circuit.{IsProper};
 ghost use Rattle.net_document.specs.Format.{IsCircuitOfText};
 ghost use Rattle.blif_core.specs.Blif.{blif_format};
 ghost use Rattle.equiv_core.specs.Limits.{IsSmall};
+ghost use Rattle.equiv_run.specs.declared.answer.CompareError.TheVariants.{NoSecond};
+ghost use Rattle.equiv_run.specs.Split.{split_of};
 ghost use Rattle.equiv_run.specs.Pairs.{most_of_two, IsAnswer, IsRefusedPair};
 ghost use Rattle.equiv_run.specs.Told.{IsCircuitTold, IsOther, IsFirstRefused, IsSecondRefused};
 
@@ -94,12 +96,13 @@ fn compare_circuits(
 ///
 /// A text that isn't two netlists is refused by what comes first: no second, the first fault of the first, the first
 /// fault of the second, whose lines are numbered from 1, different interfaces. Two netlists of one interface are
-/// refused for want of memory alone.
+/// refused for want of memory alone. No second is told before memory is asked for.
 pub fn compare_texts(alloc: Global, bytes: &[u8], conflicts: u32) -> Result<Compared, CompareError>
     requires small { length bytes.now ≤ most_of_two }
     requires budget { (1 ≤ conflicts) × (conflicts ≤ 10000000) }
     ensures answer { IfOk result (λ c. IsAnswer conflicts bytes.now c.text.items c.standing) }
     ensures refused { IfErr result (IsRefusedPair bytes.now) }
+    ensures second { split_of bytes.now ≡ None → result ≡ Err NoSecond }
 {
     let Some(place) = split(bytes) else {
         return Err(CompareError::NoSecond);
