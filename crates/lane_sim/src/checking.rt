@@ -24,7 +24,7 @@ fn is_placed(leaves: &[u32], gates: &[(u32, Gate)], place: u32) -> bool
 }
 
 /// Whether a signal is a constant or one of these leaves and gates.
-fn is_known(leaves: &[u32], gates: &[(u32, Gate)], sig: Sig) -> bool
+pub fn is_known(leaves: &[u32], gates: &[(u32, Gate)], sig: Sig) -> bool
     ensures yes { IsTrue result → IsSigAmong (placed leaves.now gates.now) sig }
     ensures no { IsFalse result → IsSigAmong (placed leaves.now gates.now) sig → ⊥ }
 {

@@ -1,11 +1,11 @@
 //! Cones. That operands are leaves or earlier gates and that no place stands twice is the invariant of the
 //! type, so that a walk over the gates in order has each operand before it is read.
 
-ghost use Rattle.std.specs.Prelude.{◌≡◌, IfSome, IfNone};
-ghost use Rattle.lane_sim.specs.Cone.{IsCone};
+ghost use Rattle.std.specs.Prelude.{◌≡◌, IsTrue, IsFalse, IfSome, IfNone};
+ghost use Rattle.lane_sim.specs.Cone.{IsCone, IsSigAmong, places};
 
-use crate::checking::{are_new, are_next};
-use net_theory::Gate;
+use crate::checking::{are_new, are_next, is_known};
+use net_theory::{Gate, Sig};
 use std::marker::Model;
 
 /// Leaves, at most 12, and gates above them, each with its place. All places differ, and a gate's operands
@@ -70,5 +70,13 @@ impl Cone {
         ensures whole { IsCone self.now }
     {
         &self.gates
+    }
+
+    /// Whether a signal is a constant, a leaf or a gate of the cone.
+    pub fn has(&self, sig: Sig) -> bool
+        ensures yes { IsTrue result → IsSigAmong (places self.now) sig }
+        ensures no { IsFalse result → IsSigAmong (places self.now) sig → ⊥ }
+    {
+        is_known(&self.leaves, &self.gates, sig)
     }
 }

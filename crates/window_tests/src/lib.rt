@@ -1,9 +1,11 @@
-//! Tests of the public calls of the crates of windows: windows with their specifications, beside a plain program, and chains
-//! that take their places.
+//! Tests of the public calls of the crates of windows: windows with their specifications and cones with their words, beside
+//! plain programs, and chains that take the places of windows.
 #![tactic(auto)]
 
 #[cfg(test)]
 mod chains;
+#[cfg(test)]
+mod lanes;
 #[cfg(test)]
 mod nets;
 #[cfg(test)]
