@@ -9,7 +9,7 @@ use Rattle.frame_core.specs.declared.status.Status.{Status}
 use Rattle.frame_core.specs.declared.status.Status.TheVariants as statuses
 use Rattle.frame_core.specs.Outside.{Side, Writes}
 use Rattle.frame_core.specs.Told.{Reply, Refusal, error_line, read_fault, write_fault, too_long, memory, too_long_refusal, read_fault_refusal, memory_refusal}
-use Rattle.frame_core.specs.Task.{Task, Tells, Refuses, IsBeyond, IsAnswerable, IsRefusalStatus, IsTask}
+use Rattle.frame_core.specs.Task.{Task, Tells, Refuses, HasNoReport, IsBeyond, IsAnswerable, IsRefusalStatus, IsTask}
 use Rattle.frame_core.specs.Run.{Outcome, ReadFault, TooLong, Memory, Answered, CutShort, Starved, ReportCut, NoAnswer, status_of, Run, IsRun, IsInput, HasInput, SourceRead, SourceLeft, SourceAfter, OutAfter, Reports, ReportsFront}
 use Rattle.frame_core.specs.Promise.{InputHeld, OutputHeld, AllSteady, Stands, TellsError, Replies, Faults, ReplyCut, ReportCut as CutReport, ReplyStarved, OfInput, IsTooLong, CommandPromise}
 
@@ -91,6 +91,7 @@ report_cut task r reply run =
         between = run.on_note.between;
         front = subst (λ (x : Reply). ReportsFront r.note run.on_note.between x.report) tells.is run.on_note.report;
         line = run.on_note.line;
+        then = run.on_note.then;
       };
     }
 
@@ -153,7 +154,7 @@ refused task r Memory input fault is run told meets held = absurd (held.memory r
 refused task r (Answered reply) input fault is run told meets held = has_answer task r run.bytes input reply run.judged.0 told run.judged.1 (λ answer has. is.apart input answer fault has meets)
 refused task r CutShort input fault is run told meets held =
     let cut : ReplyCut task r input = of_input task r (ReplyCut task r) input (reply_cut task r run) told in
-    absurd (is.cut_apart input cut.front fault cut.leaves meets)
+    absurd (is.apart input cut.leaves.answer fault cut.leaves.has meets)
 refused task r Starved input fault is run told meets held = absurd (held.memory run.status_is)
 refused task r (ReportCut reply) input fault is run told meets held = has_answer task r run.bytes input reply run.judged.0 told run.judged.1 (λ answer has. is.apart input answer fault has meets)
 refused task r (NoAnswer refusal) input fault is run told meets held =
@@ -167,7 +168,7 @@ too_long_told task r Memory input is run told long held = absurd (held.memory ru
 too_long_told task r (Answered reply) input is run told long held = has_answer task r run.bytes input reply run.judged.0 told run.judged.1 (λ answer has. is.answer_within input answer has long)
 too_long_told task r CutShort input is run told long held =
     let cut : ReplyCut task r input = of_input task r (ReplyCut task r) input (reply_cut task r run) told in
-    absurd (is.cut_within input cut.front cut.leaves long)
+    absurd (is.answer_within input cut.leaves.answer cut.leaves.has long)
 too_long_told task r Starved input is run told long held = absurd (held.memory run.status_is)
 too_long_told task r (ReportCut reply) input is run told long held = has_answer task r run.bytes input reply run.judged.0 told run.judged.1 (λ answer has. is.answer_within input answer has long)
 too_long_told task r (NoAnswer refusal) input is run told long held =
@@ -270,6 +271,19 @@ write_rose task r o is_task run is =
     (λ (cut : CutReport task r of.bytes). inr cut.rose)
     of.holds
 
+-- where there is no report, of the output alone
+cut_rose : (task : Task) (r : Run) (input : List ℕ) → HasNoReport task → ReplyCut task r input ⊎ CutReport task r input → Rose r.out.faults r.out'.faults
+cut_rose task r input none cut =
+    ⊎_elim
+    (λ (c : ReplyCut task r input). c.rose)
+    (λ (c : CutReport task r input). absurd (subst (λ (report : Option (List ℕ)). ReportsFront r.note c.between report) (none c.answer) c.front))
+    cut
+
+out_rose : (task : Task) (r : Run) (o : Outcome) → IsTask task → IsRun task r o → HasNoReport task → r.status ≡ statuses.WriteFault → Rose r.out.faults r.out'.faults
+out_rose task r o is_task run none is =
+    let of : OfInput task r (λ input. ReplyCut task r input ⊎ CutReport task r input) = write_fault_only task r o is_task run is in
+    cut_rose task r of.bytes none of.holds
+
 read_fault_only : (task : Task) (r : Run) (o : Outcome) → IsTask task → IsRun task r o → r.status ≡ statuses.ReadFault → Rose r.source.faults r.source'.faults × TellsError r read_fault_refusal
 read_fault_only task r ReadFault is_task run is = (source_rose task.reads r.source r.source' run.on_source, fault_told task r run)
 read_fault_only task r TooLong is_task run is = apart task r TooLong statuses.ReadFault run is (λ e. cc)
@@ -347,6 +361,21 @@ left_alone (NoAnswer refusal) old new after = after
 untouched : (task : Task) (r : Run) (o : Outcome) → IsRun task r o → task.reads ≡ None → r.source' ≡ r.source
 untouched task r o run reads = left_alone o r.source r.source' (subst (λ (m : Option ℕ). SourceAfter m r.source r.source' o) reads run.on_source)
 
+-- a source that isn't read has no fault
+no_fault : (reads : Option ℕ) (old new : Side) → reads ≡ None → SourceAfter reads old new ReadFault → ⊥
+no_fault None old new none after = after
+no_fault (Some most) old new none after = absurd cc
+
+never_read : (task : Task) (r : Run) (o : Outcome) → IsTask task → IsRun task r o → task.reads ≡ None → r.status ≡ statuses.ReadFault → ⊥
+never_read task r ReadFault is_task run reads is = no_fault task.reads r.source r.source' reads run.on_source
+never_read task r TooLong is_task run reads is = apart task r TooLong statuses.ReadFault run is (λ e. cc)
+never_read task r Memory is_task run reads is = apart task r Memory statuses.ReadFault run is (λ e. cc)
+never_read task r (Answered reply) is_task run reads is = no_reply task r reply statuses.ReadFault is_task run is (λ e. cc) (λ e. cc) (λ e. cc)
+never_read task r CutShort is_task run reads is = apart task r CutShort statuses.ReadFault run is (λ e. cc)
+never_read task r Starved is_task run reads is = apart task r Starved statuses.ReadFault run is (λ e. cc)
+never_read task r (ReportCut reply) is_task run reads is = apart task r (ReportCut reply) statuses.ReadFault run is (λ e. cc)
+never_read task r (NoAnswer refusal) is_task run reads is = no_refusal task r refusal statuses.ReadFault is_task run is (λ e. cc) (λ e. cc) (λ e. cc) (λ e. cc)
+
 -- ---- the output
 
 not_done : {A : Type 0} (task : Task) (r : Run) (reply : Reply) → IsTask task → IsRun task r (Answered reply) → r.status ≢ statuses.Done → r.status ≢ statuses.Undecided → r.status ≢ statuses.Refused → A
@@ -385,8 +414,10 @@ promised task r o is_task run = record {
   read_fault_only = λ is. read_fault_only task r o is_task run is;
   write_fault_only = λ is. write_fault_only task r o is_task run is;
   write_rose = λ is. write_rose task r o is_task run is;
+  out_rose = λ none is. out_rose task r o is_task run none is;
   memory_only = λ is. memory_only task r o is_task run is;
   unchanged = λ a b c d whole. unchanged task r o is_task run a b c d whole;
   unread = λ most input reads told left. unread task r o most input run reads told left;
   untouched = λ reads. untouched task r o run reads;
+  never_read = λ reads is. never_read task r o is_task run reads is;
 }

@@ -1,5 +1,5 @@
 -- From what a command did with bytes to what performing it comes to.
-use Rattle.std.specs.Prelude.{◌≡◌, ℕ, ◌<◌, ◌≤◌, true, List, [], Option, Some, None, take, drop, Result, Ok, Err}
+use Rattle.std.specs.Prelude.{◌≡◌, ℕ, ◌≤◌, true, List, [], Option, Some, None, take, drop, Result, Ok, Err}
 use Rattle.std.proofs.Common.{sym, ◌∙◌, ap, subst, refl, arith}
 use Rattle.std.proofs.lemmas.Grind.{common_steps}
 use Rattle.port_io.specs.Bytes.{Appends, AppendsFront}
@@ -14,9 +14,9 @@ use Rattle.frame_core.specs.Outside.{Side, Writes}
 use Rattle.frame_core.specs.Told as told
 use Rattle.frame_core.specs.Told.{error_line}
 use Rattle.frame_core.specs.Task.{Task, Tells, IsBeyond, IsTask}
-use Rattle.frame_core.specs.Run.{Outcome, ReadFault, TooLong, Memory, Answered, CutShort, Starved, ReportCut, NoAnswer, IsWhole, IsInput, HasInput, IsLeft, IsOutcome, IsReadToEnd, SourceRead, SourceAfter, OutAfter, Reports, ReportsFront, Run, run_of, IsRun, LineAfter, line_of}
-use Rattle.frame_core.specs.Views.{reply_value, refusal_value, status_in, line_in, Ends, Judges}
-use Rattle.frame_core.specs.Performing.{IsJudged, Answers, Performs, IsSent, OutSent, Sent, Withheld, Finishes}
+use Rattle.frame_core.specs.Run.{Outcome, ReadFault, TooLong, Memory, Answered, CutShort, Starved, ReportCut, NoAnswer, IsInput, HasInput, IsLeft, IsOutcome, IsReadToEnd, SourceRead, SourceAfter, OutAfter, Reports, ReportsFront, run_of, IsRun, LineAfter}
+use Rattle.frame_core.specs.Views.{reply_value, refusal_value, status_in, line_in, Judges}
+use Rattle.frame_core.specs.Performing.{IsJudged, Answers, Performs, IsSent, OutSent, Sent, Finishes}
 
 -- ---- from bytes to the input
 
@@ -112,13 +112,13 @@ want_read task most source out note same on_out on_note = record {
 -- ---- what is told at once
 
 -- A front of an answer's text may be left of it.
-pub left_of : (task : Task) (bytes : List ℕ) (reply : told.Reply) (old new : Side) → IsTask task → Tells task bytes reply → AppendsFront old.bytes new.bytes reply.text → IsLeft task bytes old new
-left_of task bytes reply old new is tells front =
+pub left_of : (task : Task) (bytes : List ℕ) (reply : told.Reply) (old new : Side) → Tells task bytes reply → AppendsFront old.bytes new.bytes reply.text → IsLeft task bytes old new
+left_of task bytes reply old new tells front =
     let text : List ℕ = (task.reply tells.answer).text in
     let same : reply.text ≡ text = ap (λ (x : told.Reply). x.text) tells.is in
     record {
       front = take front.count text;
-      leaves = is.fronts bytes (take front.count text) tells.answer tells.has (record { rest = drop front.count text; is = grind (arith, common_steps) });
+      leaves = record { answer = tells.answer; has = tells.has; is_front = record { rest = drop front.count text; is = grind (arith, common_steps) } };
       on_out = subst (λ (t : List ℕ). Appends old.bytes new.bytes (take front.count t)) same front.appends;
     }
 
@@ -132,15 +132,15 @@ sent_judged task bytes reply Starved tells is = absurd is
 sent_judged task bytes reply (ReportCut x) tells is = subst (λ (y : told.Reply). Tells task bytes y) (sym is) tells
 sent_judged task bytes reply (NoAnswer refusal) tells is = absurd is
 
-sent_out : (task : Task) (bytes : List ℕ) (reply : told.Reply) (o : Outcome) (old new : Side) → IsTask task → Tells task bytes reply → IsSent reply o → OutSent reply.text old new o → OutAfter task bytes old new o
-sent_out task bytes reply ReadFault old new task_is tells is out = absurd is
-sent_out task bytes reply TooLong old new task_is tells is out = absurd is
-sent_out task bytes reply Memory old new task_is tells is out = absurd is
-sent_out task bytes reply (Answered x) old new task_is tells is out = subst (λ (y : told.Reply). Appends old.bytes new.bytes y.text) (sym is) out
-sent_out task bytes reply CutShort old new task_is tells is out = (left_of task bytes reply old new task_is tells out.0, out.1)
-sent_out task bytes reply Starved old new task_is tells is out = absurd is
-sent_out task bytes reply (ReportCut x) old new task_is tells is out = subst (λ (y : told.Reply). Appends old.bytes new.bytes y.text) (sym is) out
-sent_out task bytes reply (NoAnswer refusal) old new task_is tells is out = absurd is
+sent_out : (task : Task) (bytes : List ℕ) (reply : told.Reply) (o : Outcome) (old new : Side) → Tells task bytes reply → IsSent reply o → OutSent reply.text old new o → OutAfter task bytes old new o
+sent_out task bytes reply ReadFault old new tells is out = absurd is
+sent_out task bytes reply TooLong old new tells is out = absurd is
+sent_out task bytes reply Memory old new tells is out = absurd is
+sent_out task bytes reply (Answered x) old new tells is out = subst (λ (y : told.Reply). Appends old.bytes new.bytes y.text) (sym is) out
+sent_out task bytes reply CutShort old new tells is out = (left_of task bytes reply old new tells out.0, out.1)
+sent_out task bytes reply Starved old new tells is out = absurd is
+sent_out task bytes reply (ReportCut x) old new tells is out = subst (λ (y : told.Reply). Appends old.bytes new.bytes y.text) (sym is) out
+sent_out task bytes reply (NoAnswer refusal) old new tells is out = absurd is
 
 -- What judged the bytes rightly, and was sent out, answers them.
 pub answered : (task : Task) (bytes : List ℕ) (x : Result Reply Stop) (e : Ended) (out note : Side × Side) → IsTask task → Judges task bytes x → Finishes x e out note → Answers task bytes e out note
@@ -148,7 +148,7 @@ answered task bytes (Ok reply) e out note task_is judges sent = record {
   outcome = sent.outcome;
   ends = sent.ends;
   judged = sent_judged task bytes (reply_value reply) sent.outcome judges sent.is;
-  on_out = sent_out task bytes (reply_value reply) sent.outcome out.0 out.1 task_is judges sent.is sent.on_out;
+  on_out = sent_out task bytes (reply_value reply) sent.outcome out.0 out.1 judges sent.is sent.on_out;
   on_note = sent.on_note;
   never_falls = sent.never_falls;
 }

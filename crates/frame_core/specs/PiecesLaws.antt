@@ -1,5 +1,5 @@
 -- Texts that go out in pieces, one behind the other.
-use Rattle.std.proofs.Common.{◌≡◌, ℕ, List, [], ◌∷◌, ◌++◌, length, Option, sym, subst, arith}
+use Rattle.std.proofs.Common.{◌≡◌, ℕ, List, [], ◌∷◌, length, Option, sym, subst, arith}
 use Rattle.std.proofs.lemmas.Grind.{common_steps}
 use Rattle.port_io.specs.Bytes.{Appends, AppendsFront}
 use Rattle.port_io.specs.TextLaws.{appended-none, front_none, front_whole, front_one, front_two, appends_two}

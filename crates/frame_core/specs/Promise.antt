@@ -1,11 +1,11 @@
 -- What every command promises, for every source and every sink.
-use Rattle.std.specs.Prelude.{◌≡◌, ◌≢◌, ℕ, ◌⊎◌, List, [], true, false, Some, None}
+use Rattle.std.specs.Prelude.{◌≡◌, ◌≢◌, ℕ, ◌≤◌, ◌⊎◌, List, [], true, false, Some, None}
 use Rattle.port_io.specs.Bytes.{Appends}
 use Rattle.port_io.specs.Faults.{Rose}
 use Rattle.frame_core.specs.declared.status.Status.TheVariants.{Done, Malformed, Limit, Undecided, ReadFault, WriteFault, Memory, Refused}
 use Rattle.frame_core.specs.Outside.{Side, Writes}
 use Rattle.frame_core.specs.Told.{Reply, Refusal, error_line, write_fault, memory, too_long_refusal, read_fault_refusal, memory_refusal}
-use Rattle.frame_core.specs.Task.{Task, IsBeyond, IsAnswerable}
+use Rattle.frame_core.specs.Task.{Task, IsAnswerFront, HasNoReport, IsBeyond, IsAnswerable}
 use Rattle.frame_core.specs.Run.{Run, IsInput, HasInput, Reports, ReportsFront}
 
 -- ---- what didn't fail
@@ -55,10 +55,10 @@ pub record Faults (task : Task) (r : Run) (input : List ℕ) : Type 0 where
   pub meets : task.Meets input fault
   pub told : TellsError r (task.refusal fault)
 
--- The output failed in the text of an answer: what may be left of it stands there, and the fault is told.
+-- The output failed in the text of an answer: a front of it stands there, and the fault is told.
 pub record ReplyCut (task : Task) (r : Run) (input : List ℕ) : Type 0 where
   pub front : List ℕ
-  pub leaves : task.Leaves input front
+  pub leaves : IsAnswerFront task input front
   pub on_out : Appends r.out.bytes r.out'.bytes front
   pub rose : Rose r.out.faults r.out'.faults
   pub on_note : Writes r.note r.note' (error_line write_fault)
@@ -74,13 +74,14 @@ pub record ReportCut (task : Task) (r : Run) (input : List ℕ) : Type 0 where
   pub between : Side
   pub front : ReportsFront r.note between (task.reply answer).report
   pub line : Writes between r.note' (error_line write_fault)
+  pub then : between.faults ≤ r.note'.faults
 
--- Memory ran out while the text of an answer went out in pieces: what may be left of it stands there, and
--- the want is told.
+-- Memory ran out while the text of an answer went out in pieces: a front of it stands there, and the want
+-- is told.
 pub record ReplyStarved (task : Task) (r : Run) (input : List ℕ) : Type 0 where
   pub in_pieces : task.in_pieces ≡ true
   pub front : List ℕ
-  pub leaves : task.Leaves input front
+  pub leaves : IsAnswerFront task input front
   pub on_out : Appends r.out.bytes r.out'.bytes front
   pub on_note : Writes r.note r.note' (error_line memory)
 
@@ -131,6 +132,8 @@ pub record CommandPromise (task : Task) (r : Run) : Type 0 where
   pub write_fault_only : r.status ≡ WriteFault → OfInput task r (λ input. ReplyCut task r input ⊎ ReportCut task r input)
   pub write_rose : r.status ≡ WriteFault → Rose r.out.faults r.out'.faults ⊎ Rose r.note.faults r.note'.faults
   pub memory_only : r.status ≡ Memory → TellsError r memory_refusal ⊎ OfInput task r (ReplyStarved task r)
+  -- A command without a report is never told a fault of the notes.
+  pub out_rose : HasNoReport task → r.status ≡ WriteFault → Rose r.out.faults r.out'.faults
   -- Without an answer the output is as before.
   pub unchanged : r.status ≢ Done
       → r.status ≢ Undecided
@@ -144,5 +147,6 @@ pub record CommandPromise (task : Task) (r : Run) : Type 0 where
       → r.source.bytes ≡ Some input
       → (r.source'.bytes ≡ Some [] → ⊥)
       → r.out' ≡ r.out
-  -- A command that reads nothing makes no call on its source.
+  -- A command that reads nothing makes no call on its source, and is told no fault of it.
   pub untouched : task.reads ≡ None → r.source' ≡ r.source
+  pub never_read : task.reads ≡ None → r.status ≢ ReadFault

@@ -6,7 +6,7 @@ use Rattle.frame_core.specs.declared.status.Status.{Status}
 use Rattle.frame_core.specs.declared.status.Status.TheVariants as statuses
 use Rattle.frame_core.specs.Outside.{Side, side, Writes}
 use Rattle.frame_core.specs.Told.{Reply, Field, Refusal, error_line, read_fault, write_fault, too_long, memory}
-use Rattle.frame_core.specs.Task.{Task, Tells, Refuses, IsBeyond}
+use Rattle.frame_core.specs.Task.{Task, IsAnswerFront, Tells, Refuses, IsBeyond}
 
 -- How the run of a command ends: the source failed; it had more bytes than are read; want of memory
 -- before anything went out; the reply stands outside, whole; the output failed in its text; want of memory
@@ -56,10 +56,10 @@ abbrev pub HasInput : Option ℕ → Option (List ℕ) → List ℕ → Type 0
 HasInput None left input = input ≡ []
 HasInput (Some most) left input = left ≡ Some input
 
--- what stands on the output where the text was cut
+-- A front of an answer's text stands on the output.
 pub record IsLeft (task : Task) (bytes : List ℕ) (old new : Side) : Type 0 where
   pub front : List ℕ
-  pub leaves : task.Leaves bytes front
+  pub leaves : IsAnswerFront task bytes front
   pub on_out : Appends old.bytes new.bytes front
 
 -- The outcome is that of the bytes which were judged.
@@ -98,8 +98,8 @@ abbrev pub SourceAfter : Option ℕ → Side → Side → Outcome → Type 0
 SourceAfter None old new outcome = SourceLeft old new outcome
 SourceAfter (Some most) old new outcome = SourceRead old new outcome
 
--- The reply's text stands on the output whole. What may be left of it stands there where the output failed,
--- or memory ran out. With every other outcome the output is as before.
+-- The reply's text stands on the output whole, and a front of one where the output failed, or memory ran
+-- out. With every other outcome the output is as before.
 abbrev pub OutAfter : Task → List ℕ → Side → Side → Outcome → Type 0
 OutAfter task bytes old new ReadFault = new ≡ old
 OutAfter task bytes old new TooLong = new ≡ old

@@ -18,21 +18,20 @@ pub record Task : Type 1 where
   -- whether the text goes out in pieces, while more of it is made. Else it goes out at once, when nothing
   -- takes memory any more.
   pub in_pieces : Bool
-  -- what may stand on the output where the text was cut
-  pub Leaves : List ℕ → List ℕ → Type 0
 
 -- The front is one of the text.
 pub record IsFront (front text : List ℕ) : Type 0 where
   pub rest : List ℕ
   pub is : text ≡ front ++ rest
 
--- The front is one of the text of an answer that the bytes have.
-pub record IsAnswerFront (Answer : Type 0) (Has : List ℕ → Answer → Type 0) (reply : Answer → Reply) (bytes front : List ℕ) : Type 0 where
-  pub answer : Answer
-  pub has : Has bytes answer
-  pub is_front : IsFront front (reply answer).text
+-- It is one of the text of an answer that the bytes have. Nothing else may stand on the output where a text
+-- was cut, also where it goes out in pieces: these begin an answer, however many of them there are yet.
+pub record IsAnswerFront (task : Task) (bytes front : List ℕ) : Type 0 where
+  pub answer : task.Answer
+  pub has : task.Has bytes answer
+  pub is_front : IsFront front (task.reply answer).text
 
--- A command that reads, and whose text goes out at once. Where it was cut a front of an answer stands there.
+-- A command that reads, and whose text goes out at once.
 abbrev pub at_once : ℕ → (Answer : Type 0) → (List ℕ → Answer → Type 0) → (Answer → Reply) → (Fault : Type 0) → (List ℕ → Fault → Type 0) → (Fault → Refusal) → Task
 at_once most Answer Has reply Fault Meets refusal = record {
   reads = Some most;
@@ -43,10 +42,9 @@ at_once most Answer Has reply Fault Meets refusal = record {
   Meets = Meets;
   refusal = refusal;
   in_pieces = false;
-  Leaves = IsAnswerFront Answer Has reply;
 }
 
--- A command whose text goes out in pieces. Where it was cut a front of an answer stands there too.
+-- A command whose text goes out in pieces.
 abbrev pub in_pieces : Option ℕ → (Answer : Type 0) → (List ℕ → Answer → Type 0) → (Answer → Reply) → (Fault : Type 0) → (List ℕ → Fault → Type 0) → (Fault → Refusal) → Task
 in_pieces reads Answer Has reply Fault Meets refusal = record {
   reads = reads;
@@ -57,7 +55,6 @@ in_pieces reads Answer Has reply Fault Meets refusal = record {
   Meets = Meets;
   refusal = refusal;
   in_pieces = true;
-  Leaves = IsAnswerFront Answer Has reply;
 }
 
 -- A command that reads nothing, has no faults, and whose text goes out at once.
@@ -71,7 +68,6 @@ from_nothing Answer Is reply = record {
   Meets = λ (bytes : List ℕ) (fault : ⊥). ⊥;
   refusal = λ (fault : ⊥). absurd fault;
   in_pieces = false;
-  Leaves = IsAnswerFront Answer (λ (bytes : List ℕ) (answer : Answer). Is answer) reply;
 }
 
 -- The bytes have an answer that this reply tells.
@@ -101,6 +97,10 @@ pub record IsAnswerable (task : Task) (bytes : List ℕ) : Type 0 where
   pub within : IsBeyond task.reads bytes → ⊥
   pub sound : (fault : task.Fault) → task.Meets bytes fault → ⊥
 
+-- It has no report.
+abbrev pub HasNoReport : Task → Type 0
+HasNoReport task = (answer : task.Answer) → (task.reply answer).report ≡ None
+
 -- ---- what a task has to be
 
 abbrev pub IsAnswerStatus : Status → Type 0
@@ -127,23 +127,5 @@ pub record IsTask (task : Task) : Type 0 where
       → ⊥
   pub fault_within : (bytes : List ℕ) (fault : task.Fault)
       → task.Meets bytes fault
-      → IsBeyond task.reads bytes
-      → ⊥
-  -- Where the text of an answer was cut, what stands there may. What stands there is of good input alone.
-  pub fronts : (bytes front : List ℕ) (answer : task.Answer)
-      → task.Has bytes answer
-      → IsFront front (task.reply answer).text
-      → task.Leaves bytes front
-  -- Where the text goes out at once, nothing else may.
-  pub cut_is : (bytes front : List ℕ)
-      → task.in_pieces ≡ false
-      → task.Leaves bytes front
-      → IsAnswerFront task.Answer task.Has task.reply bytes front
-  pub cut_apart : (bytes front : List ℕ) (fault : task.Fault)
-      → task.Leaves bytes front
-      → task.Meets bytes fault
-      → ⊥
-  pub cut_within : (bytes front : List ℕ)
-      → task.Leaves bytes front
       → IsBeyond task.reads bytes
       → ⊥

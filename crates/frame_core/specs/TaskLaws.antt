@@ -23,10 +23,6 @@ at_once_task most Answer Has reply Fault Meets refusal replies refusals apart on
   one = one;
   answer_within = λ bytes answer has long. not_beyond most bytes (answer_within bytes answer has) long;
   fault_within = λ bytes fault meets long. not_beyond most bytes (fault_within bytes fault meets) long;
-  fronts = λ bytes front answer has is_front. record { answer = answer; has = has; is_front = is_front };
-  cut_is = λ bytes front whole cut. cut;
-  cut_apart = λ bytes front fault cut meets. apart bytes cut.answer fault cut.has meets;
-  cut_within = λ bytes front cut long. not_beyond most bytes (answer_within bytes cut.answer cut.has) long;
 }
 
 -- one whose text goes out in pieces
@@ -45,10 +41,6 @@ in_pieces_task reads Answer Has reply Fault Meets refusal replies refusals apart
   one = one;
   answer_within = answer_within;
   fault_within = fault_within;
-  fronts = λ bytes front answer has is_front. record { answer = answer; has = has; is_front = is_front };
-  cut_is = λ bytes front whole cut. cut;
-  cut_apart = λ bytes front fault cut meets. apart bytes cut.answer fault cut.has meets;
-  cut_within = λ bytes front cut long. answer_within bytes cut.answer cut.has long;
 }
 
 -- one that reads nothing
@@ -62,8 +54,4 @@ from_nothing_task Answer Is reply replies = record {
   one = λ bytes a b x y. absurd x;
   answer_within = λ bytes answer has long. long;
   fault_within = λ bytes fault meets long. meets;
-  fronts = λ bytes front answer has is_front. record { answer = answer; has = has; is_front = is_front };
-  cut_is = λ bytes front whole cut. cut;
-  cut_apart = λ bytes front fault cut meets. meets;
-  cut_within = λ bytes front cut long. long;
 }

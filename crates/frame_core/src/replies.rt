@@ -24,7 +24,7 @@ pub enum Field {
 #[derive(Drop)]
 pub struct ErrorLine {
     /// The fields, the variant's name first.
-    pub fields: [Field; 5],
+    pub fields: [Field; 4],
 }
 
 impl ErrorLine {
@@ -50,7 +50,7 @@ impl ErrorLine {
         ensures { line_value result ≡ Word name.now ∷ shown (first ∷ second ∷ third ∷ []) }
     {
         ErrorLine {
-            fields: [Field::Known(name), first, second, third, Field::Nothing],
+            fields: [Field::Known(name), first, second, third],
         }
     }
 }

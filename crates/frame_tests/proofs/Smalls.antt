@@ -1,20 +1,17 @@
 -- The small commands are what their tasks say.
-use Rattle.std.specs.Prelude.{◌≡◌, ℕ, ◌≤◌, ◌<◌, List, [], map, length, take, Some}
-use Rattle.std.proofs.Common.{arith, refl, sym, ap, subst, inl}
+use Rattle.std.specs.Prelude.{◌≡◌, ℕ, ◌≤◌, ◌<◌, List, length, Some}
+use Rattle.std.proofs.Common.{arith, refl, sym, subst, inl}
 use Rattle.std.proofs.lemmas.Grind.{common_steps}
-use Rattle.port_io.specs.Bytes.{Appends, AppendsFront}
-use Rattle.port_io.specs.Faults.{Rose}
 use Rattle.frame_core.specs.declared.status.Status.{Status}
-use Rattle.frame_core.specs.declared.status.Status.TheVariants.{Done}
 use Rattle.frame_core.specs.declared.replies.Ended.{Ended}
 use Rattle.frame_core.specs.declared.replies.Ended.TheVariants as ended
 use Rattle.frame_core.specs.Outside.{Side}
 use Rattle.frame_core.specs.Told.{Reply}
-use Rattle.frame_core.specs.Task.{Tells, IsTask, IsFront}
+use Rattle.frame_core.specs.Task.{Tells, IsTask, IsFront, IsAnswerFront}
 use Rattle.frame_core.specs.TaskLaws.{from_nothing_task, in_pieces_task}
 use Rattle.frame_core.specs.Performing.{Answers}
 use Rattle.frame_core.specs.PerformingLaws.{left_of, answered, pieces_sent, pieces_cut, pieces_starved}
-use Rattle.frame_tests.specs.Small.{greeting, greeting_task, line_of, lines_text, lines_reply, AreBytes, lines_task, WritesLines}
+use Rattle.frame_tests.specs.Small.{greeting, greeting_task, lines_text, lines_reply, AreBytes, lines_task, WritesLines}
 
 pub greeting_is_task : IsTask greeting_task
 greeting_is_task = from_nothing_task (Unit {0}) (λ (u : Unit {0}). Unit {0}) greeting (λ u. inl refl)
@@ -46,13 +43,13 @@ lines_answered bytes (ended.Answered status) out note within writes same =
     subst (λ (s : Status). Answers lines_task bytes (ended.Answered s) out note) (sym writes.0)
     (pieces_sent lines_task bytes (lines_reply bytes) out note (lines_tell bytes within) refl writes.1 same)
 lines_answered bytes ended.CutShort out note within writes same =
-    pieces_cut lines_task bytes out note (left_of lines_task bytes (lines_reply bytes) out.0 out.1 lines_is_task (lines_tell bytes within) writes.0) writes.1 same
+    pieces_cut lines_task bytes out note (left_of lines_task bytes (lines_reply bytes) out.0 out.1 (lines_tell bytes within) writes.0) writes.1 same
 lines_answered bytes ended.Starved out note within writes same =
-    pieces_starved lines_task bytes out note refl (left_of lines_task bytes (lines_reply bytes) out.0 out.1 lines_is_task (lines_tell bytes within) writes) same
+    pieces_starved lines_task bytes out note refl (left_of lines_task bytes (lines_reply bytes) out.0 out.1 (lines_tell bytes within) writes) same
 lines_answered bytes ended.ReportCut out note within writes same = absurd writes
 lines_answered bytes (ended.NoAnswer refusal) out note within writes same = absurd writes
 
-pub lines_left : (bytes front : List ℕ) → lines_task.Leaves bytes front → IsFront front (lines_text bytes)
+pub lines_left : (bytes front : List ℕ) → IsAnswerFront lines_task bytes front → IsFront front (lines_text bytes)
 lines_left bytes front left = subst (λ (xs : List ℕ). IsFront front (lines_text xs)) left.has.are left.is_front
 
 pub ruleset telling = (common_steps, greeting_is_task, greets, answered)

@@ -6,7 +6,7 @@ use port_io::{MemorySink, MemorySource};
 use std::alloc::{AllocError, Global};
 use std::test::Fail;
 
-/// What a run came to: its status, what is left of the source, and what stands on the output and the notes.
+/// What a run came to: its status, how many reads failed, and what stands on the output and the notes.
 #[derive(Debug, Drop)]
 struct Seen {
     status: u8,

@@ -1,10 +1,10 @@
-use Rattle.std.proofs.Common.{◌≡◌, List, ℕ, Option, Some, refl, sym, subst, ◌∙◌, rules}
+use Rattle.std.proofs.Common.{◌≡◌, List, ℕ, Some, refl, sym, subst, ◌∙◌, rules}
 use Rattle.std.proofs.lemmas.Grind.{common_steps}
 use Rattle.port_io.specs.Faults.{Rose}
 use Rattle.frame_core.specs.Run.{before_after}
 use Rattle.frame_core.specs.Task.{IsBeyond}
 use Rattle.frame_core.specs.Performing.{Answers}
-use Rattle.frame_core.specs.PerformingLaws.{WasRead, performed, fault_read, long_read, want_read}
+use Rattle.frame_core.specs.PerformingLaws.{performed, fault_read, long_read, want_read}
 use Rattle.frame_core.proofs.performing.attempt.Goals as goal
 
 pub returns-in-Err-ReadFault : goal.returns-in-Err-ReadFault
