@@ -6,9 +6,9 @@
 //!
 //! What a command is to its caller is a value (`specs/Task`): the bytes that have answers and faults, and
 //! how each is told. The theorem, for every command, every source and every sink: what `perform` does is a
-//! run with an outcome that fits the bytes (`specs/Run`), and it keeps what every command promises
-//! (`specs/Promise`). Most commands tell what they found at once (`finish`); one whose text goes out in pieces
-//! finds the laws of that in `specs/PiecesLaws`.
+//! run with an outcome that fits the bytes (`specs/Run`), and where that value is a task (`IsTask`) the run
+//! keeps what every command promises (`specs/Promise`). Most commands tell what they found at once
+//! (`finish`); one whose text goes out in pieces finds the laws of that in `specs/PiecesLaws`.
 //!
 //! ```text
 //! let status = perform(alloc, &job, &mut source, &mut out, &mut note);

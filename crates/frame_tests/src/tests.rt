@@ -87,6 +87,12 @@ fn a_report_goes_out_in_parts(rt: HostRuntime) -> Result<(), Fail> {
         (("", "1"), 6, "hello\n", "error: WriteFault\n"),
         (("", "2"), 6, "hello\n", "2 parts\nerror: WriteFault\n"),
         (
+            ("", "3"),
+            6,
+            "hello\n",
+            "2 parts\none\nerror: WriteFault\n",
+        ),
+        (
             ("", "4"),
             6,
             "hello\n",
