@@ -86,12 +86,7 @@ fn a_report_goes_out_in_parts(rt: HostRuntime) -> Result<(), Fail> {
         (("1", ""), 6, "", "error: WriteFault\n"),
         (("", "1"), 6, "hello\n", "error: WriteFault\n"),
         (("", "2"), 6, "hello\n", "2 parts\nerror: WriteFault\n"),
-        (
-            ("", "3"),
-            6,
-            "hello\n",
-            "2 parts\none\nerror: WriteFault\n",
-        ),
+        (("", "3"), 6, "hello\n", "2 parts\none\nerror: WriteFault\n"),
         (
             ("", "4"),
             6,
