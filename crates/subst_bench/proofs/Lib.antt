@@ -1,0 +1,2 @@
+mod Nets
+mod There
