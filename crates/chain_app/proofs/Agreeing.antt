@@ -88,7 +88,7 @@ pub agree_is_task : IsTask agree_task
 agree_is_task =
     at_once_task most_of_tables Answer HasAnswer agree_reply AgreeError HasFault agree_refusal
     answer_statuses
-    statuses_of
+    (λ bytes fault meets. statuses_of fault)
     (λ bytes answer error has fault. no_question bytes has.question error has.asked fault)
     (λ bytes a b x y. ap agree_refusal (one_fault bytes a b x y))
     (λ bytes answer has. has.asked.within)

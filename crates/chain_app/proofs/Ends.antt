@@ -2,7 +2,7 @@
 use Rattle.std.specs.Prelude.{◌≡◌, List, ℕ, ◌≤◌, length, Option, Some, None, Ok, Err}
 use Rattle.std.proofs.Common.{sym, ◌∙◌, ap, subst}
 use Rattle.command_line.specs.declared.command.Command.{Command}
-use Rattle.command_line.specs.declared.command.Command.TheVariants.{Agree, Recheck, Synth, Improve}
+use Rattle.command_line.specs.declared.command.Command.TheVariants.{Agree, Recheck, Synth, Improve, Equiv}
 use Rattle.command_line.specs.declared.command.WordsError.{WordsError}
 use Rattle.command_line.specs.CommandLine.{command_of, or_usage, read, AsksFor}
 use Rattle.frame_core.specs.declared.status.Status.TheVariants.{Done, Usage}
@@ -23,6 +23,7 @@ use Rattle.chain_app.proofs.AgreeKeeping.{agree_promised}
 use Rattle.chain_app.proofs.Rechecking.{recheck_promised}
 use Rattle.chain_app.proofs.Synthesising.{synth_promised}
 use Rattle.chain_app.proofs.Improving.{improve_promised}
+use Rattle.chain_app.proofs.Equating.{equiv_promised}
 
 -- words ask for one command
 one_command : (words : List (List ℕ)) (a b : Command) → AsksFor words a → AsksFor words b → a ≡ b
@@ -76,6 +77,7 @@ kept r e ends = record {
   recheck = recheck_promised r (λ asks. keeps r e Recheck ends asks);
   synth = synth_promised r (λ asked asks. keeps r e (Synth asked) ends asks);
   improve = improve_promised r (λ asks. keeps r e Improve ends asks);
+  equiv = equiv_promised r (λ budget asks. keeps r e (Equiv budget) ends asks);
 }
 
 -- So a netlist has the status 0 where no call failed at all.

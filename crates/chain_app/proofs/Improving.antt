@@ -64,11 +64,26 @@ statuses_of : (e : NetError) → IsRefusalStatus (net_status e) ⊎ (improve_ref
 unfolding IsStatus
 statuses_of e = statuses e
 
+-- what isn't want of memory has the status of a refusal
+pub status_kind : (e : NetError) → (e ≡ nets.Memory → ⊥) → IsRefusalStatus (net_status e)
+status_kind (nets.Syntax line) other = inl refl
+status_kind (nets.NotSupported line name) other = inl refl
+status_kind (nets.MixedCover line) other = inl refl
+status_kind (nets.TooWide line) other = inr (inl refl)
+status_kind (nets.TooManyGates count) other = inr (inl refl)
+status_kind (nets.DrivenTwice name) other = inl refl
+status_kind (nets.Undriven name) other = inl refl
+status_kind (nets.Cycle name) other = inl refl
+status_kind (nets.LineTooLong line) other = inr (inl refl)
+status_kind (nets.TooManyRows line) other = inr (inl refl)
+status_kind (nets.NameTooLong line) other = inr (inl refl)
+status_kind nets.Memory other = absurd (other refl)
+
 pub improve_is_task : IsTask improve_task
 improve_is_task =
     at_once_task most_of_netlist Improvement IsImprovement improve_reply NetError HasNetlistFault improve_refusal
     (λ i. inl refl)
-    statuses_of
+    (λ bytes fault meets. statuses_of fault)
     (λ bytes i error has fault. fault_never bytes error (reported_netlist blif_format bytes i.text i.report has.reported) fault.fault)
     (λ bytes a b x y. ap improve_refusal (fault_one bytes a b x.fault y.fault))
     (λ bytes i has. has.within)
@@ -86,7 +101,7 @@ answerable input within netlist = record {
 done_only : (r : Run) (input : List ℕ) → CommandPromise improve_task r → r.source.bytes ≡ Some input → r.status ≡ Done → Replies improve_task r input
 done_only r input promise told is = of_input improve_task r (Replies improve_task r) input (promise.done_only is) told
 
-not_refused : (e : NetError) → net_status e ≡ Refused → ⊥
+pub not_refused : (e : NetError) → net_status e ≡ Refused → ⊥
 not_refused (nets.Syntax line) is = cc
 not_refused (nets.NotSupported line name) is = cc
 not_refused (nets.MixedCover line) is = cc

@@ -4,6 +4,7 @@ pub mod Asking
 pub mod Certified
 pub mod Commands
 pub mod Ends
+pub mod Equating
 pub mod Faults
 pub mod Improving
 pub mod Rechecking

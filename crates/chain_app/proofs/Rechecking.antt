@@ -112,7 +112,7 @@ pub recheck_is_task : IsTask recheck_task
 recheck_is_task =
     at_once_task most_of_bundle Verdict GivesVerdict recheck_reply BundleError HasBundleFault recheck_refusal
     (λ verdict. inl refl)
-    statuses_of
+    (λ bytes fault meets. statuses_of fault)
     (λ bytes verdict error gives fault. not_both (bundle_of (lines_of bytes)) verdict error gives.read fault.fault)
     (λ bytes a b x y. ap recheck_refusal (one_error (bundle_of (lines_of bytes)) a b x.fault y.fault))
     (λ bytes verdict gives. gives.within)

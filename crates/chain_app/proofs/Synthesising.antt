@@ -101,7 +101,7 @@ pub synth_is_task : (asked : SynthSettings) → IsTask (synth_task asked)
 synth_is_task asked =
     at_once_task most_of_tables Certified (IsCertified asked) synth_reply SpecError HasTablesFault synth_refusal
     (λ c. answer_statuses c.verdict)
-    statuses_of
+    (λ bytes fault meets. statuses_of fault)
     (λ bytes c error has fault. no_fault has.certificate.bundle.heading.spec (lines_of bytes) error (its_tables asked bytes c.text c.verdict has.certificate) has.certificate.tables fault.fault)
     (λ bytes a b x y. ap synth_refusal (one_error (tables_alone (lines_of bytes)) a b x.fault y.fault))
     (λ bytes c has. has.within)

@@ -6,6 +6,7 @@ use Rattle.chain_app.specs.AgreePromise.{AgreePromise}
 use Rattle.chain_app.specs.RecheckPromise.{RecheckPromise}
 use Rattle.chain_app.specs.SynthPromise.{SynthPromise}
 use Rattle.chain_app.specs.ImprovePromise.{ImprovePromise}
+use Rattle.chain_app.specs.EquivPromise.{EquivPromise}
 
 pub record KeepsPromises (r : Run) : Type 0 where
   -- The run had an ending, from which all follows that can be seen of it.
@@ -17,3 +18,4 @@ pub record KeepsPromises (r : Run) : Type 0 where
   pub recheck : RecheckPromise r
   pub synth : SynthPromise r
   pub improve : ImprovePromise r
+  pub equiv : EquivPromise r

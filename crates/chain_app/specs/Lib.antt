@@ -3,6 +3,8 @@ pub mod AgreePromise
 pub mod AgreeReport
 pub mod Asked
 pub mod Ending
+pub mod EquivPromise
+pub mod EquivReport
 pub mod ImprovePromise
 pub mod ImproveReport
 pub mod KeepsPromises

@@ -5,7 +5,7 @@ ghost use Rattle.frame_core.specs.Task.{IsWithin};
 ghost use Rattle.frame_core.specs.Views.{Judges};
 ghost use Rattle.chain_app.specs.Tasks.{task_of};
 
-use crate::{agree, improve, recheck, synth};
+use crate::{agree, equiv, improve, recheck, synth};
 use command_line::Command;
 use frame_core::{Ended, Job, Reply, Stop, finish};
 use port_io::Sink;
@@ -20,6 +20,7 @@ fn most_bytes(command: &Command) -> Option<usize>
         Command::Recheck => Some(recheck::MOST_BYTES),
         Command::Synth(_) => Some(synth::MOST_BYTES),
         Command::Improve => Some(improve::MOST_BYTES),
+        Command::Equiv(_) => Some(equiv::MOST_BYTES),
     }
 }
 
@@ -34,6 +35,7 @@ fn judge(alloc: Global, command: &Command, bytes: &[u8]) -> Result<Reply, Stop>
         Command::Recheck => recheck::recheck(alloc, bytes),
         Command::Synth(settings) => synth::synth(alloc, bytes, settings),
         Command::Improve => improve::improve(alloc, bytes),
+        Command::Equiv(budget) => equiv::equiv(alloc, bytes, *budget),
     }
 }
 

@@ -13,9 +13,11 @@
 
 mod agree;
 mod asked;
+mod equiv;
 mod improve;
 mod judging;
 pub mod laws;
+mod nets;
 mod recheck;
 mod running;
 mod synth;

@@ -231,6 +231,52 @@ fn reports_are_cut_where_the_notes_fail(rt: HostRuntime) -> Result<(), Fail> {
     Ok(())
 }
 
+/// AND of two inputs, and a constant 0.
+const AND: &str = ".model p\n.inputs a b\n.outputs y\n.names a b y\n11 1\n.end\n";
+
+const ZERO: &str = ".model q\n.inputs a b\n.outputs y\n.names y\n.end\n";
+
+/// Those texts one behind the other.
+fn joined(alloc: Global, first: &str, second: &str) -> Result<String, AllocError> {
+    let mut both = String::from_str(alloc, first)?;
+    both.push_str(second)?;
+    Ok(both)
+}
+
+#[test]
+fn equiv_tells(rt: HostRuntime) -> Result<(), Fail> {
+    for (first, second, status, out, note) in [
+        (AND, ZERO, 8, "differ output y\nat 11\n", ""),
+        (
+            AND,
+            ".model q\n.inputs b a\n.outputs y\n.names y\n.end\n",
+            8,
+            "",
+            "error: DifferentInterface\n",
+        ),
+        (".model p\n.inputs a\n", "", 2, "", "error: NoSecond\n"),
+        (
+            AND,
+            ".model q\n.outputs y\n.end\n",
+            2,
+            "",
+            "error: Second Undriven y\n",
+        ),
+        (
+            ".model p\n.outputs y\n",
+            ZERO,
+            2,
+            "",
+            "error: First NotSupported 3 .model\n",
+        ),
+    ] {
+        let input = joined(rt.alloc(), first, second)?;
+        let seen = told(rt.alloc(), "equiv", input.as_bytes())?;
+        assert!(rt; seen.is(status, out, note), "{input}");
+    }
+    Ok(())
+}
+
 /// So many zeros.
 fn zeros(alloc: Global, length: usize) -> Result<String, AllocError> {
     let mut zeros = String::new(alloc);

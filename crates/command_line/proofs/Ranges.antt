@@ -14,10 +14,10 @@ use Rattle.settings.specs.Synth.{IsInRange}
 use Rattle.command_line.specs.declared.command.Command.{Command}
 use Rattle.command_line.specs.declared.command.Command.TheVariants as commands
 use Rattle.command_line.specs.declared.table.Kind.{Kind}
-use Rattle.command_line.specs.declared.table.Kind.TheVariants.{Agree, Recheck, Synth, Improve}
+use Rattle.command_line.specs.declared.table.Kind.TheVariants.{Agree, Recheck, Synth, Improve, Equiv}
 use Rattle.command_line.specs.declared.table.Format.{Format}
 use Rattle.command_line.specs.Options.{Row, from_on, number_within, basis_or_none, basis_in, basis_row, method_row, max_row, conflicts_row, cap_row, format_row, kind_named, options_of}
-use Rattle.command_line.specs.CommandLine.{word_behind, are_options, value_in, value, synth_from, improve_from, command_with, command_in, command_of, IsAskable}
+use Rattle.command_line.specs.CommandLine.{word_behind, are_options, value_in, value, synth_from, improve_from, equiv_from, command_with, command_in, command_of, IsAskable}
 
 pub some_is : {A : Type 0} (a b : A) → Some a ≡ Some b → a ≡ b
 some_is a b e = cc
@@ -66,6 +66,10 @@ improve_made (Some n) (Some f) c e = (n, f, some_is _ c e, refl, refl)
 improve_made (Some n) None c e = absurd cc
 improve_made None format c e = absurd cc
 
+pub equiv_made : (conflicts : Option ℕ) (c : Command) → equiv_from conflicts ≡ Some c → (n : ℕ) × (commands.Equiv n ≡ c) × (conflicts ≡ Some n)
+equiv_made (Some n) c e = (n, some_is _ c e, refl)
+equiv_made None c e = absurd cc
+
 max_range : (words : List (List ℕ)) (n : ℕ) → value max_row words ≡ Some n → n ≤ 16
 max_range words n e =
     in_row max_row (λ (x : ℕ). x ≤ 16)
@@ -104,6 +108,9 @@ kind_range Synth words c e = synth_range words c e
 kind_range Improve words c e =
     let made = improve_made (value cap_row words) (value format_row words) c e in
     askable commands.Improve c made.2 tt
+kind_range Equiv words c e =
+    let made = equiv_made (value conflicts_row words) c e in
+    askable (commands.Equiv made.0) c made.1 (conflicts_range words made.0 made.2)
 
 -- what a test lets through
 pub passed : {A : Type 0} (t : Bool) (o : Option A) (x : A) → cond t o None ≡ Some x → (t ≡ true) × (o ≡ Some x)

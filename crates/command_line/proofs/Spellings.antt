@@ -15,13 +15,13 @@ use Rattle.std.proofs.lemmas.Map.Views.{lookup-from_Contains, Contains-from_look
 use Rattle.command_line.specs.declared.command.Command.{Command}
 use Rattle.command_line.specs.declared.command.Command.TheVariants as commands
 use Rattle.command_line.specs.declared.table.Kind.{Kind}
-use Rattle.command_line.specs.declared.table.Kind.TheVariants.{Agree, Recheck, Synth, Improve}
+use Rattle.command_line.specs.declared.table.Kind.TheVariants.{Agree, Recheck, Synth, Improve, Equiv}
 use Rattle.command_line.specs.declared.table.Format.{Format}
 use Rattle.command_line.specs.declared.table.Format.TheVariants.{Blif}
 use Rattle.command_line.specs.Options.{Row, is_word, is_among, basis_row, method_row, max_row, conflicts_row, cap_row, format_row, kind_text, kind_named, options_of}
 use Rattle.command_line.specs.CommandLine.{word_behind, is_named, are_options, value_in, value, command_with, command_in, command_of, AsksFor}
 use Rattle.command_line.specs.Spelling.{Pair, both, flat, Gives, GivesSynth, GivesImprove, GivesAll, kind_of, Spells}
-use Rattle.command_line.proofs.Ranges.{some_is, passed, synth_made, improve_made, in_row, number_range}
+use Rattle.command_line.proofs.Ranges.{some_is, passed, synth_made, improve_made, equiv_made, in_row, number_range}
 
 -- ---- tests
 
@@ -181,6 +181,9 @@ made Improve pairs c once e =
       format = gives format_row pairs Blif once (m.4 ∙ ap (λ (f : Format). Some f) (blif_it_is m.1));
     } in
     subst (λ (d : Command). IsMade Improve pairs d) m.2 (refl, all)
+made Equiv pairs c once e =
+    let m = equiv_made (value conflicts_row (flat pairs)) c e in
+    subst (λ (d : Command). IsMade Equiv pairs d) m.1 (refl, gives conflicts_row pairs m.0 once m.2)
 
 made_back : (c : Command) (pairs : List Pair) → IsDistinct is_word (keys_of pairs) → GivesAll pairs c → command_with (kind_of c) (flat pairs) ≡ Some c
 made_back commands.Agree pairs once all = refl
@@ -189,6 +192,7 @@ made_back (commands.Synth s) pairs once all =
     rw (value_is basis_row pairs s.basis once all.basis, value_is method_row pairs s.method once all.method, value_is max_row pairs s.max once all.max, value_is conflicts_row pairs s.conflicts once all.conflicts) refl
 made_back commands.Improve pairs once all =
     rw (value_is cap_row pairs 0 once all.cap, value_is format_row pairs Blif once all.format) refl
+made_back (commands.Equiv budget) pairs once all = rw (value_is conflicts_row pairs budget once all) refl
 
 given_again : (c : Command) (pairs other : List Pair) → IsPermutation pairs other → GivesAll pairs c → GivesAll other c
 given_again commands.Agree pairs other moved all = tt
@@ -203,6 +207,7 @@ given_again commands.Improve pairs other moved all = record {
   cap = gives_again cap_row pairs other 0 moved all.cap;
   format = gives_again format_row pairs other Blif moved all.format;
 }
+given_again (commands.Equiv budget) pairs other moved all = gives_again conflicts_row pairs other budget moved all
 
 -- ---- names of commands
 
@@ -219,13 +224,15 @@ kind_is name kind =
     (kind_by name kind Recheck _
     (kind_by name kind Synth _
     (kind_by name kind Improve _
-    (λ (e : None ≡ Some kind). absurd cc))))
+    (kind_by name kind Equiv _
+    (λ (e : None ≡ Some kind). absurd cc)))))
 
 kind_back : (kind : Kind) → kind_named (kind_text kind) ≡ Some kind
 kind_back Agree = refl
 kind_back Recheck = refl
 kind_back Synth = refl
 kind_back Improve = refl
+kind_back Equiv = refl
 
 -- ---- both directions
 

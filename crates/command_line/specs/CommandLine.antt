@@ -1,9 +1,9 @@
 -- The command lines that the program takes. Any other list of words is none.
-use Rattle.std.specs.Prelude.{◌≡◌, ℕ, List, [], ◌∷◌, map, Bool, true, false, not, ◌&&◌, Option, Some, None, is_some, Result, Ok, Err, Vec, String, if◌then◌else◌}
+use Rattle.std.specs.Prelude.{◌≡◌, ℕ, ◌≤◌, List, [], ◌∷◌, map, Bool, true, false, not, ◌&&◌, Option, Some, None, is_some, Result, Ok, Err, Vec, String, if◌then◌else◌}
 use Rattle.std.specs.Global.{Global}
 use Rattle.std.specs.String.{string_bytes}
 use Rattle.enc_theory.specs.declared.data.Method.{Method}
-use Rattle.settings.specs.Synth.{IsInRange}
+use Rattle.settings.specs.Synth.{most_conflicts, IsInRange}
 use Rattle.command_line.specs.declared.command.Command.{Command}
 use Rattle.command_line.specs.declared.command.Command.TheVariants as commands
 use Rattle.command_line.specs.declared.command.WordsError.{WordsError}
@@ -58,12 +58,20 @@ improve_from cap format = None
 abbrev pub improve_in : List (List ℕ) → Option Command
 improve_in words = improve_from (value cap_row words) (value format_row words)
 
+abbrev pub equiv_from : Option ℕ → Option Command
+equiv_from (Some conflicts) = Some (commands.Equiv conflicts)
+equiv_from None = None
+
+abbrev pub equiv_in : List (List ℕ) → Option Command
+equiv_in words = equiv_from (value conflicts_row words)
+
 -- a command with the values of its options
 abbrev pub command_with : Kind → List (List ℕ) → Option Command
 command_with kinds.Agree words = Some commands.Agree
 command_with kinds.Recheck words = Some commands.Recheck
 command_with kinds.Synth words = synth_in words
 command_with kinds.Improve words = improve_in words
+command_with kinds.Equiv words = equiv_in words
 
 abbrev pub command_in : Option Kind → List (List ℕ) → Option Command
 command_in None words = None
@@ -87,9 +95,14 @@ read words = or_usage (command_of words)
 abbrev pub AsksFor : List (List ℕ) → Command → Type 0
 AsksFor words command = command_of words ≡ Some command
 
+-- a budget of learnt clauses
+abbrev pub IsBudget : ℕ → Type 0
+IsBudget conflicts = (1 ≤ conflicts) × (conflicts ≤ most_conflicts)
+
 -- what a command is asked with is in its ranges
 abbrev pub IsAskable : Command → Type 0
 IsAskable commands.Agree = Unit {0}
 IsAskable commands.Recheck = Unit {0}
 IsAskable (commands.Synth settings) = IsInRange settings
 IsAskable commands.Improve = Unit {0}
+IsAskable (commands.Equiv conflicts) = IsBudget conflicts

@@ -9,7 +9,7 @@ use Rattle.enc_theory.specs.declared.data.Method.{Method}
 use Rattle.settings.specs.Methods.{method_named}
 use Rattle.settings.specs.Synth.{usual, most_steps, most_conflicts}
 use Rattle.command_line.specs.declared.table.Kind.{Kind}
-use Rattle.command_line.specs.declared.table.Kind.TheVariants.{Agree, Recheck, Synth, Improve}
+use Rattle.command_line.specs.declared.table.Kind.TheVariants.{Agree, Recheck, Synth, Improve, Equiv}
 use Rattle.command_line.specs.declared.table.Format.{Format}
 use Rattle.command_line.specs.declared.table.Format.TheVariants.{Blif}
 
@@ -78,6 +78,7 @@ kind_text Agree = codes "agree"
 kind_text Recheck = codes "recheck"
 kind_text Synth = codes "synth"
 kind_text Improve = codes "improve"
+kind_text Equiv = codes "equiv"
 
 -- the command of a name
 abbrev pub kind_named : List ℕ → Option Kind
@@ -86,7 +87,8 @@ kind_named name =
     else (if is_word name (kind_text Recheck) then Some Recheck
     else (if is_word name (kind_text Synth) then Some Synth
     else (if is_word name (kind_text Improve) then Some Improve
-    else None)))
+    else (if is_word name (kind_text Equiv) then Some Equiv
+    else None))))
 
 -- the names of the options that a command takes
 abbrev pub options_of : Kind → List (List ℕ)
@@ -94,3 +96,4 @@ options_of Agree = []
 options_of Recheck = []
 options_of Synth = basis_row.name ∷ method_row.name ∷ max_row.name ∷ conflicts_row.name ∷ []
 options_of Improve = cap_row.name ∷ format_row.name ∷ []
+options_of Equiv = conflicts_row.name ∷ []

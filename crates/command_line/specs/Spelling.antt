@@ -43,12 +43,14 @@ GivesAll pairs commands.Agree = Unit {0}
 GivesAll pairs commands.Recheck = Unit {0}
 GivesAll pairs (commands.Synth settings) = GivesSynth pairs settings
 GivesAll pairs commands.Improve = GivesImprove pairs
+GivesAll pairs (commands.Equiv budget) = Gives conflicts_row pairs budget
 
 abbrev pub kind_of : Command → Kind
 kind_of commands.Agree = kinds.Agree
 kind_of commands.Recheck = kinds.Recheck
 kind_of (commands.Synth settings) = kinds.Synth
 kind_of commands.Improve = kinds.Improve
+kind_of (commands.Equiv budget) = kinds.Equiv
 
 -- Words are a command's name and then pairs. Each pair's name is that of an option which the command
 -- takes, no name comes twice, and the pairs give what the command is asked with.

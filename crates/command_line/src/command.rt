@@ -13,6 +13,8 @@ pub enum Command {
     Synth(SynthSettings),
     /// Write a netlist again that does the same, without the gates that nothing reads.
     Improve,
+    /// Say whether two netlists do the same, with a budget of so many learnt clauses.
+    Equiv(u32),
 }
 
 /// Why words aren't a command.

@@ -4,8 +4,8 @@ ghost use Rattle.std.specs.List.Sorted.{IsPermutation};
 ghost use Rattle.settings.specs.declared.synth.SynthSettings.{SynthSettings};
 ghost use Rattle.settings.specs.Synth.{IsInRange};
 ghost use Rattle.command_line.specs.declared.command.Command.{Command};
-ghost use Rattle.command_line.specs.declared.command.Command.TheVariants.{Synth};
-ghost use Rattle.command_line.specs.CommandLine.{AsksFor};
+ghost use Rattle.command_line.specs.declared.command.Command.TheVariants.{Synth, Equiv};
+ghost use Rattle.command_line.specs.CommandLine.{AsksFor, IsBudget};
 ghost use Rattle.command_line.specs.Spelling.{Pair, flat, Spells};
 
 /// Words ask for a command exactly where they are its name and pairs of a name and a value: each name
@@ -21,7 +21,8 @@ pub fn order_of_options_is_free()
         AsksFor (name ∷ flat pairs) command → AsksFor (name ∷ flat other) command }
 {}
 
-/// What `synth` is asked with is in its ranges.
+/// What `synth` is asked with is in its ranges, and so is the budget of `equiv`.
 pub fn settings_are_in_range()
-    ensures { (words : List (List ℕ)) (settings : SynthSettings) → AsksFor words (Synth settings) → IsInRange settings }
+    ensures synth { (words : List (List ℕ)) (settings : SynthSettings) → AsksFor words (Synth settings) → IsInRange settings }
+    ensures equiv { (words : List (List ℕ)) (budget : ℕ) → AsksFor words (Equiv budget) → IsBudget budget }
 {}

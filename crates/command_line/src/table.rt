@@ -17,6 +17,7 @@ pub(crate) enum Kind {
     Recheck,
     Synth,
     Improve,
+    Equiv,
 }
 
 /// A format of netlists.
@@ -53,6 +54,9 @@ pub(crate) fn kind_named(name: &[u8]) -> Option<Kind>
     if is_word(name, b"improve") {
         return Some(Kind::Improve);
     }
+    if is_word(name, b"equiv") {
+        return Some(Kind::Equiv);
+    }
     None
 }
 
@@ -69,6 +73,7 @@ pub(crate) fn takes(kind: Kind, name: &[u8]) -> bool
                 || is_word(name, CONFLICTS)
         }
         Kind::Improve => is_word(name, CAP) || is_word(name, FORMAT),
+        Kind::Equiv => is_word(name, CONFLICTS),
     }
 }
 

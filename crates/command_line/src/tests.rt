@@ -27,6 +27,8 @@ fn lines_ask_for_commands(rt: HostRuntime) -> Result<(), Fail> {
         ("recheck", Command::Recheck),
         ("improve --cap 0", Command::Improve),
         ("improve --format blif --cap 0", Command::Improve),
+        ("equiv", Command::Equiv(100_000)),
+        ("equiv --conflicts 7", Command::Equiv(7)),
     ] {
         assert_eq!(rt; asked(rt.alloc(), line)?, Some(command), "{line}");
     }
@@ -80,6 +82,8 @@ fn other_words_ask_for_none(rt: HostRuntime) -> Result<(), Fail> {
         "Agree",
         "agree agree",
         "recheck --depth yes",
+        "equiv --conflicts 0",
+        "equiv --max 3",
         "synth --method",
         "synth plain",
         "synth --method Plain",

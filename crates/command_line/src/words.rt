@@ -43,6 +43,16 @@ fn improve_in(words: &[String]) -> Option<Command>
     }
 }
 
+/// `equiv` with the value of its option.
+fn equiv_in(words: &[String]) -> Option<Command>
+    ensures { result ≡ spec.equiv_in (map string_bytes words.now) }
+{
+    match given_conflicts(words) {
+        Some(conflicts) => Some(Command::Equiv(conflicts)),
+        None => None,
+    }
+}
+
 /// A command with the values of its options.
 fn command_with(kind: Kind, words: &[String]) -> Option<Command>
     ensures { result ≡ spec.command_with kind (map string_bytes words.now) }
@@ -52,6 +62,7 @@ fn command_with(kind: Kind, words: &[String]) -> Option<Command>
         Kind::Recheck => Some(Command::Recheck),
         Kind::Synth => synth_in(words),
         Kind::Improve => improve_in(words),
+        Kind::Equiv => equiv_in(words),
     }
 }
 

@@ -195,7 +195,7 @@ no_refusal task r refusal s is_task run is a b c d =
     let has : told.status ≡ s = sym (ap (λ (x : Refusal). x.status) refuses.is) ∙ sym run.status_is ∙ is in
     let of_status : IsRefusalStatus told.status → ⊥ = λ status. ⊎_elim (λ (e : told.status ≡ statuses.Malformed). a (sym e ∙ has)) (λ rest. ⊎_elim (λ (e : told.status ≡ statuses.Limit). b (sym e ∙ has)) (λ (e : told.status ≡ statuses.Refused). c (sym e ∙ has)) rest) status in
     let of_memory : told ≡ memory_refusal → ⊥ = λ same. d (sym (ap (λ (x : Refusal). x.status) same) ∙ has) in
-    absurd (⊎_elim of_status of_memory (is_task.refusals refuses.fault))
+    absurd (⊎_elim of_status of_memory (is_task.refusals run.bytes refuses.fault refuses.meets))
 
 done_only : (task : Task) (r : Run) (o : Outcome) → IsTask task → IsRun task r o → r.status ≡ statuses.Done → OfInput task r (Replies task r)
 done_only task r ReadFault is_task run is = apart task r ReadFault statuses.Done run is (λ e. cc)
@@ -305,7 +305,7 @@ memory_refused task r refusal is_task run is =
     ⊎_elim
     (λ (status : IsRefusalStatus told.status). absurd (apart_from status))
     (λ (same : told ≡ memory_refusal). subst (λ (x : Refusal). TellsError r x) same here)
-    (is_task.refusals refuses.fault)
+    (is_task.refusals run.bytes refuses.fault refuses.meets)
   where
     other : {s t : Status} → s ≡ t → (s ≡ t → ⊥) → ⊥
     other is isnt = isnt is

@@ -112,7 +112,9 @@ IsRefusalStatus s = (s ≡ Malformed) ⊎ ((s ≡ Limit) ⊎ (s ≡ Refused))
 -- Bytes have answers or one refusal at most, never both, and beyond the limit neither.
 pub record IsTask (task : Task) : Type 0 where
   pub replies : (answer : task.Answer) → IsAnswerStatus (task.reply answer).status
-  pub refusals : (fault : task.Fault) → IsRefusalStatus (task.refusal fault).status ⊎ (task.refusal fault ≡ memory_refusal)
+  pub refusals : (bytes : List ℕ) (fault : task.Fault)
+      → task.Meets bytes fault
+      → IsRefusalStatus (task.refusal fault).status ⊎ (task.refusal fault ≡ memory_refusal)
   pub apart : (bytes : List ℕ) (answer : task.Answer) (fault : task.Fault)
       → task.Has bytes answer
       → task.Meets bytes fault

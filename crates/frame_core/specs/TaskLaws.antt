@@ -10,7 +10,7 @@ not_beyond most bytes within long = omega arith
 -- one whose text goes out at once
 pub at_once_task : (most : ℕ) (Answer : Type 0) (Has : List ℕ → Answer → Type 0) (reply : Answer → Reply) (Fault : Type 0) (Meets : List ℕ → Fault → Type 0) (refusal : Fault → Refusal)
     → ((answer : Answer) → IsAnswerStatus (reply answer).status)
-    → ((fault : Fault) → IsRefusalStatus (refusal fault).status ⊎ (refusal fault ≡ memory_refusal))
+    → ((bytes : List ℕ) (fault : Fault) → Meets bytes fault → IsRefusalStatus (refusal fault).status ⊎ (refusal fault ≡ memory_refusal))
     → ((bytes : List ℕ) (answer : Answer) (fault : Fault) → Has bytes answer → Meets bytes fault → ⊥)
     → ((bytes : List ℕ) (a b : Fault) → Meets bytes a → Meets bytes b → refusal a ≡ refusal b)
     → ((bytes : List ℕ) (answer : Answer) → Has bytes answer → length bytes ≤ most)
@@ -28,7 +28,7 @@ at_once_task most Answer Has reply Fault Meets refusal replies refusals apart on
 -- one whose text goes out in pieces
 pub in_pieces_task : (reads : Option ℕ) (Answer : Type 0) (Has : List ℕ → Answer → Type 0) (reply : Answer → Reply) (Fault : Type 0) (Meets : List ℕ → Fault → Type 0) (refusal : Fault → Refusal)
     → ((answer : Answer) → IsAnswerStatus (reply answer).status)
-    → ((fault : Fault) → IsRefusalStatus (refusal fault).status ⊎ (refusal fault ≡ memory_refusal))
+    → ((bytes : List ℕ) (fault : Fault) → Meets bytes fault → IsRefusalStatus (refusal fault).status ⊎ (refusal fault ≡ memory_refusal))
     → ((bytes : List ℕ) (answer : Answer) (fault : Fault) → Has bytes answer → Meets bytes fault → ⊥)
     → ((bytes : List ℕ) (a b : Fault) → Meets bytes a → Meets bytes b → refusal a ≡ refusal b)
     → ((bytes : List ℕ) (answer : Answer) → Has bytes answer → IsBeyond reads bytes → ⊥)
@@ -49,7 +49,7 @@ pub from_nothing_task : (Answer : Type 0) (Is : Answer → Type 0) (reply : Answ
     → IsTask (from_nothing Answer Is reply)
 from_nothing_task Answer Is reply replies = record {
   replies = replies;
-  refusals = λ fault. absurd fault;
+  refusals = λ bytes fault meets. absurd fault;
   apart = λ bytes answer fault has meets. meets;
   one = λ bytes a b x y. absurd x;
   answer_within = λ bytes answer has long. long;

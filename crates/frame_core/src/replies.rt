@@ -1,5 +1,5 @@
 //! What a command tells: a reply or a refusal, and how its run ended.
-ghost use Rattle.std.specs.Prelude.{◌≡◌, ◌∷◌, []};
+ghost use Rattle.std.specs.Prelude.{◌≡◌, ◌++◌, ◌∷◌, []};
 ghost use Rattle.frame_core.specs.Told.{Word, plain as plain_of, at as at_of};
 ghost use Rattle.frame_core.specs.Views.{shown, line_value, report_text, status_in};
 
@@ -42,6 +42,16 @@ impl ErrorLine {
         ensures { line_value result ≡ at_of name.now number }
     {
         ErrorLine::of(name, Field::Count(number), Field::Nothing, Field::Nothing)
+    }
+
+    /// A variant with at most two fields, behind a word where `lead` is one.
+    #[tactic(auto, unfolding(crate::specs::Views::shown), using(crate::proofs::Leads::leading))]
+    pub fn led(lead: Field, name: &'static [u8], first: Field, second: Field) -> ErrorLine
+        ensures { line_value result ≡ shown (lead ∷ []) ++ (Word name.now ∷ shown (first ∷ second ∷ [])) }
+    {
+        ErrorLine {
+            fields: [lead, Field::Known(name), first, second, Field::Nothing],
+        }
     }
 
     /// A variant with at most three fields.

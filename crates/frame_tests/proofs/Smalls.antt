@@ -23,7 +23,7 @@ pub lines_is_task : IsTask lines_task
 lines_is_task =
     in_pieces_task (Some 3) (List ℕ) AreBytes lines_reply ⊥ (λ (bytes : List ℕ) (fault : ⊥). ⊥) (λ (fault : ⊥). absurd fault)
     (λ answer. inl refl)
-    (λ fault. absurd fault)
+    (λ bytes fault meets. absurd fault)
     (λ bytes answer fault has meets. meets)
     (λ bytes a b x y. absurd x)
     (λ bytes answer has long. too_many bytes has.within long)

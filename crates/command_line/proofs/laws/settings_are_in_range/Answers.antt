@@ -1,6 +1,9 @@
-use Rattle.command_line.specs.declared.command.Command.TheVariants.{Synth}
+use Rattle.command_line.specs.declared.command.Command.TheVariants.{Synth, Equiv}
 use Rattle.command_line.proofs.Ranges.{command_range}
 use Rattle.command_line.proofs.laws.settings_are_in_range.Goals as goal
 
-pub returns : goal.returns
-returns c words settings = command_range words (Synth settings)
+pub returns-clause-synth : goal.returns-clause-synth
+returns-clause-synth c words settings = command_range words (Synth settings)
+
+pub returns-clause-equiv : goal.returns-clause-equiv
+returns-clause-equiv c words budget = command_range words (Equiv budget)

@@ -1,0 +1,17 @@
+-- A word in front of a line's fields.
+use Rattle.std.specs.Prelude.{◌≡◌, List, [], ◌∷◌, ◌++◌}
+use Rattle.std.proofs.Common.{refl}
+use Rattle.std.proofs.lemmas.Grind.{common_steps}
+use Rattle.frame_core.specs.declared.replies.Field.{Field}
+use Rattle.frame_core.specs.declared.replies.Field.TheVariants.{Nothing, Known, Count, Name}
+use Rattle.frame_core.specs.Told as told
+use Rattle.frame_core.specs.Views.{shown}
+
+pub shown_behind : (lead : Field) (fields : List Field) → shown (lead ∷ fields) ≡ shown (lead ∷ []) ++ shown fields
+unfolding shown
+shown_behind Nothing fields = refl
+shown_behind (Known word) fields = refl
+shown_behind (Count number) fields = refl
+shown_behind (Name name) fields = refl
+
+pub ruleset leading = (common_steps, shown_behind)
