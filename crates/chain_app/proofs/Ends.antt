@@ -2,12 +2,12 @@
 use Rattle.std.specs.Prelude.{◌≡◌, List, ℕ, ◌≤◌, length, Option, Some, None, Ok, Err}
 use Rattle.std.proofs.Common.{sym, ◌∙◌, ap, subst}
 use Rattle.command_line.specs.declared.command.Command.{Command}
-use Rattle.command_line.specs.declared.command.Command.TheVariants.{Agree, Recheck, Synth, Improve, Equiv}
+use Rattle.command_line.specs.declared.command.Command.TheVariants.{Agree, Recheck, Synth, Improve, Equiv, Gen}
 use Rattle.command_line.specs.declared.command.WordsError.{WordsError}
 use Rattle.command_line.specs.CommandLine.{command_of, or_usage, read, AsksFor}
 use Rattle.frame_core.specs.declared.status.Status.TheVariants.{Done, Usage}
 use Rattle.frame_core.specs.Told.{usage}
-use Rattle.frame_core.specs.Run.{Run}
+use Rattle.frame_core.specs.Run.{Run, Outcome, IsRun}
 use Rattle.chain_app.specs.Ending.{Ending, Idle, Ran, IsIdle, IsEnding}
 use Rattle.frame_core.specs.Promise.{AllSteady, CommandPromise}
 use Rattle.net_document.specs.Format.{IsNetlist}
@@ -24,6 +24,7 @@ use Rattle.chain_app.proofs.Rechecking.{recheck_promised}
 use Rattle.chain_app.proofs.Synthesising.{synth_promised}
 use Rattle.chain_app.proofs.Improving.{improve_promised}
 use Rattle.chain_app.proofs.Equating.{equiv_promised}
+use Rattle.chain_app.proofs.Generating.{gen_promised}
 
 -- words ask for one command
 one_command : (words : List (List ℕ)) (a b : Command) → AsksFor words a → AsksFor words b → a ≡ b
@@ -53,6 +54,10 @@ keeps r Idle command ends asks = absurd (ends.no_line command asks)
 keeps r (Ran found o) command ends asks =
     subst (λ (c : Command). CommandPromise (task_of c) r) (one_command r.words found command ends.0 asks) (promised (task_of found) r o (is_task found) ends.1)
 
+ran : (r : Run) (e : Ending) (command : Command) → IsEnding r e → AsksFor r.words command → (o : Outcome) × IsRun (task_of command) r o
+ran r Idle command ends asks = absurd (ends.no_line command asks)
+ran r (Ran found o) command ends asks = (o, subst (λ (c : Command). IsRun (task_of c) r o) (one_command r.words found command ends.0 asks) ends.1)
+
 idle : (r : Run) (e : Ending) → IsEnding r e → ((command : Command) → AsksFor r.words command → ⊥) → IsIdle r
 idle r Idle ends none = ends
 idle r (Ran command o) ends none = absurd (none command ends.0)
@@ -78,6 +83,7 @@ kept r e ends = record {
   synth = synth_promised r (λ asked asks. keeps r e (Synth asked) ends asks);
   improve = improve_promised r (λ asks. keeps r e Improve ends asks);
   equiv = equiv_promised r (λ budget asks. keeps r e (Equiv budget) ends asks);
+  gen = gen_promised r (λ blocks asks. keeps r e (Gen blocks) ends asks) (λ blocks asks. ran r e (Gen blocks) ends asks);
 }
 
 -- So a netlist has the status 0 where no call failed at all.

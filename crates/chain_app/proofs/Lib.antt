@@ -6,6 +6,7 @@ pub mod Commands
 pub mod Ends
 pub mod Equating
 pub mod Faults
+pub mod Generating
 pub mod Improving
 pub mod Rechecking
 pub mod Synthesising

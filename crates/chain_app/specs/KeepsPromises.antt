@@ -7,6 +7,7 @@ use Rattle.chain_app.specs.RecheckPromise.{RecheckPromise}
 use Rattle.chain_app.specs.SynthPromise.{SynthPromise}
 use Rattle.chain_app.specs.ImprovePromise.{ImprovePromise}
 use Rattle.chain_app.specs.EquivPromise.{EquivPromise}
+use Rattle.chain_app.specs.GenPromise.{GenPromise}
 
 pub record KeepsPromises (r : Run) : Type 0 where
   -- The run had an ending, from which all follows that can be seen of it.
@@ -19,3 +20,4 @@ pub record KeepsPromises (r : Run) : Type 0 where
   pub synth : SynthPromise r
   pub improve : ImprovePromise r
   pub equiv : EquivPromise r
+  pub gen : GenPromise r

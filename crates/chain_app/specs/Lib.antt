@@ -5,6 +5,8 @@ pub mod Asked
 pub mod Ending
 pub mod EquivPromise
 pub mod EquivReport
+pub mod GenPromise
+pub mod GenReport
 pub mod ImprovePromise
 pub mod ImproveReport
 pub mod KeepsPromises

@@ -1,12 +1,13 @@
 -- What each command is.
 use Rattle.command_line.specs.declared.command.Command.{Command}
-use Rattle.command_line.specs.declared.command.Command.TheVariants.{Agree, Recheck, Synth, Improve, Equiv}
+use Rattle.command_line.specs.declared.command.Command.TheVariants.{Agree, Recheck, Synth, Improve, Equiv, Gen}
 use Rattle.frame_core.specs.Task.{Task}
 use Rattle.chain_app.specs.AgreeReport.{agree_task}
 use Rattle.chain_app.specs.RecheckReport.{recheck_task}
 use Rattle.chain_app.specs.SynthReport.{synth_task}
 use Rattle.chain_app.specs.ImproveReport.{improve_task}
 use Rattle.chain_app.specs.EquivReport.{equiv_task}
+use Rattle.chain_app.specs.GenReport.{gen_task}
 
 abbrev pub task_of : Command → Task
 task_of Agree = agree_task
@@ -14,3 +15,4 @@ task_of Recheck = recheck_task
 task_of (Synth settings) = synth_task settings
 task_of Improve = improve_task
 task_of (Equiv budget) = equiv_task budget
+task_of (Gen blocks) = gen_task blocks

@@ -14,6 +14,7 @@
 mod agree;
 mod asked;
 mod equiv;
+mod gen;
 mod improve;
 mod judging;
 pub mod laws;

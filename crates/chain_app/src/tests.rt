@@ -277,6 +277,27 @@ fn equiv_tells(rt: HostRuntime) -> Result<(), Fail> {
     Ok(())
 }
 
+#[test]
+fn gen_tells(rt: HostRuntime) -> Result<(), Fail> {
+    let one =
+        ".model gen\n.inputs a0 b0\n.outputs y0\n.names a0 b0 p0\n10 1\n.names a0 b0 q0\n01 1\n.names p0 q0 y0\n1- 1\n-1 1\n.end\n";
+    for (line, fails, status, out, note) in [
+        ("gen --blocks 1", ("1", "", ""), 0, one, ""),
+        (
+            "gen --blocks 1",
+            ("", "1", ""),
+            6,
+            "",
+            "error: WriteFault\n",
+        ),
+        ("gen --blocks 0", ("", "", ""), 1, "", "error: Usage\n"),
+    ] {
+        let seen = run_on(rt.alloc(), line, b"unread", fails)?;
+        assert!(rt; seen.is(status, out, note), "{line} {fails:?}");
+    }
+    Ok(())
+}
+
 /// So many zeros.
 fn zeros(alloc: Global, length: usize) -> Result<String, AllocError> {
     let mut zeros = String::new(alloc);

@@ -14,10 +14,11 @@ use Rattle.settings.specs.Synth.{IsInRange}
 use Rattle.command_line.specs.declared.command.Command.{Command}
 use Rattle.command_line.specs.declared.command.Command.TheVariants as commands
 use Rattle.command_line.specs.declared.table.Kind.{Kind}
-use Rattle.command_line.specs.declared.table.Kind.TheVariants.{Agree, Recheck, Synth, Improve, Equiv}
+use Rattle.command_line.specs.declared.table.Kind.TheVariants.{Agree, Recheck, Synth, Improve, Equiv, Gen}
+use Rattle.command_line.specs.declared.table.Deed.{Deed}
 use Rattle.command_line.specs.declared.table.Format.{Format}
-use Rattle.command_line.specs.Options.{Row, from_on, number_within, basis_or_none, basis_in, basis_row, method_row, max_row, conflicts_row, cap_row, format_row, kind_named, options_of}
-use Rattle.command_line.specs.CommandLine.{word_behind, are_options, value_in, value, synth_from, improve_from, equiv_from, command_with, command_in, command_of, IsAskable}
+use Rattle.command_line.specs.Options.{Row, from_on, number_within, basis_or_none, basis_in, basis_row, method_row, max_row, conflicts_row, cap_row, format_row, blocks_row, run_row, kind_named, options_of}
+use Rattle.command_line.specs.CommandLine.{word_behind, are_options, value_in, value, synth_from, improve_from, equiv_from, gen_from, command_with, command_in, command_of, IsAskable}
 
 pub some_is : {A : Type 0} (a b : A) → Some a ≡ Some b → a ≡ b
 some_is a b e = cc
@@ -70,6 +71,18 @@ pub equiv_made : (conflicts : Option ℕ) (c : Command) → equiv_from conflicts
 equiv_made (Some n) c e = (n, some_is _ c e, refl)
 equiv_made None c e = absurd cc
 
+pub gen_made : (blocks : Option ℕ) (deed : Option Deed) (c : Command) → gen_from blocks deed ≡ Some c → (n : ℕ) × (d : Deed) × (commands.Gen n ≡ c) × (blocks ≡ Some n) × (deed ≡ Some d)
+gen_made (Some n) (Some d) c e = (n, d, some_is _ c e, refl, refl)
+gen_made (Some n) None c e = absurd cc
+gen_made None deed c e = absurd cc
+
+blocks_range : (words : List (List ℕ)) (n : ℕ) → value blocks_row words ≡ Some n → (1 ≤ n) × (n ≤ 10000)
+blocks_range words n e =
+    in_row blocks_row (λ (x : ℕ). (1 ≤ x) × (x ≤ 10000))
+    (λ (word : List ℕ) (x : ℕ) at. number_range 1 10000 x word (omega arith) at)
+    (λ (x : ℕ) at. absurd cc)
+    (word_behind blocks_row.name words) n e
+
 max_range : (words : List (List ℕ)) (n : ℕ) → value max_row words ≡ Some n → n ≤ 16
 max_range words n e =
     in_row max_row (λ (x : ℕ). x ≤ 16)
@@ -111,6 +124,9 @@ kind_range Improve words c e =
 kind_range Equiv words c e =
     let made = equiv_made (value conflicts_row words) c e in
     askable (commands.Equiv made.0) c made.1 (conflicts_range words made.0 made.2)
+kind_range Gen words c e =
+    let made = gen_made (value blocks_row words) (value run_row words) c e in
+    askable (commands.Gen made.0) c made.2 (blocks_range words made.0 made.3)
 
 -- what a test lets through
 pub passed : {A : Type 0} (t : Bool) (o : Option A) (x : A) → cond t o None ≡ Some x → (t ≡ true) × (o ≡ Some x)

@@ -15,13 +15,15 @@ use Rattle.std.proofs.lemmas.Map.Views.{lookup-from_Contains, Contains-from_look
 use Rattle.command_line.specs.declared.command.Command.{Command}
 use Rattle.command_line.specs.declared.command.Command.TheVariants as commands
 use Rattle.command_line.specs.declared.table.Kind.{Kind}
-use Rattle.command_line.specs.declared.table.Kind.TheVariants.{Agree, Recheck, Synth, Improve, Equiv}
+use Rattle.command_line.specs.declared.table.Kind.TheVariants.{Agree, Recheck, Synth, Improve, Equiv, Gen}
+use Rattle.command_line.specs.declared.table.Deed.{Deed}
+use Rattle.command_line.specs.declared.table.Deed.TheVariants.{Write}
 use Rattle.command_line.specs.declared.table.Format.{Format}
 use Rattle.command_line.specs.declared.table.Format.TheVariants.{Blif}
-use Rattle.command_line.specs.Options.{Row, is_word, is_among, basis_row, method_row, max_row, conflicts_row, cap_row, format_row, kind_text, kind_named, options_of}
+use Rattle.command_line.specs.Options.{Row, is_word, is_among, basis_row, method_row, max_row, conflicts_row, cap_row, format_row, blocks_row, run_row, kind_text, kind_named, options_of}
 use Rattle.command_line.specs.CommandLine.{word_behind, is_named, are_options, value_in, value, command_with, command_in, command_of, AsksFor}
-use Rattle.command_line.specs.Spelling.{Pair, both, flat, Gives, GivesSynth, GivesImprove, GivesAll, kind_of, Spells}
-use Rattle.command_line.proofs.Ranges.{some_is, passed, synth_made, improve_made, equiv_made, in_row, number_range}
+use Rattle.command_line.specs.Spelling.{Pair, both, flat, Gives, GivesSynth, GivesImprove, GivesGen, GivesAll, kind_of, Spells}
+use Rattle.command_line.proofs.Ranges.{some_is, passed, synth_made, improve_made, equiv_made, gen_made, in_row, number_range}
 
 -- ---- tests
 
@@ -154,6 +156,9 @@ cap_zero words n e =
     (λ (x : ℕ) at. absurd cc)
     (word_behind cap_row.name words) n e
 
+write_it_is : (d : Deed) → d ≡ Write
+write_it_is Write = refl
+
 blif_it_is : (f : Format) → f ≡ Blif
 blif_it_is Blif = refl
 
@@ -184,6 +189,13 @@ made Improve pairs c once e =
 made Equiv pairs c once e =
     let m = equiv_made (value conflicts_row (flat pairs)) c e in
     subst (λ (d : Command). IsMade Equiv pairs d) m.1 (refl, gives conflicts_row pairs m.0 once m.2)
+made Gen pairs c once e =
+    let m = gen_made (value blocks_row (flat pairs)) (value run_row (flat pairs)) c e in
+    let all : GivesGen pairs m.0 = record {
+      blocks = gives blocks_row pairs m.0 once m.3;
+      run = gives run_row pairs Write once (m.4 ∙ ap (λ (d : Deed). Some d) (write_it_is m.1));
+    } in
+    subst (λ (d : Command). IsMade Gen pairs d) m.2 (refl, all)
 
 made_back : (c : Command) (pairs : List Pair) → IsDistinct is_word (keys_of pairs) → GivesAll pairs c → command_with (kind_of c) (flat pairs) ≡ Some c
 made_back commands.Agree pairs once all = refl
@@ -193,6 +205,8 @@ made_back (commands.Synth s) pairs once all =
 made_back commands.Improve pairs once all =
     rw (value_is cap_row pairs 0 once all.cap, value_is format_row pairs Blif once all.format) refl
 made_back (commands.Equiv budget) pairs once all = rw (value_is conflicts_row pairs budget once all) refl
+made_back (commands.Gen blocks) pairs once all =
+    rw (value_is blocks_row pairs blocks once all.blocks, value_is run_row pairs Write once all.run) refl
 
 given_again : (c : Command) (pairs other : List Pair) → IsPermutation pairs other → GivesAll pairs c → GivesAll other c
 given_again commands.Agree pairs other moved all = tt
@@ -208,6 +222,10 @@ given_again commands.Improve pairs other moved all = record {
   format = gives_again format_row pairs other Blif moved all.format;
 }
 given_again (commands.Equiv budget) pairs other moved all = gives_again conflicts_row pairs other budget moved all
+given_again (commands.Gen blocks) pairs other moved all = record {
+  blocks = gives_again blocks_row pairs other blocks moved all.blocks;
+  run = gives_again run_row pairs other Write moved all.run;
+}
 
 -- ---- names of commands
 
@@ -225,7 +243,8 @@ kind_is name kind =
     (kind_by name kind Synth _
     (kind_by name kind Improve _
     (kind_by name kind Equiv _
-    (λ (e : None ≡ Some kind). absurd cc)))))
+    (kind_by name kind Gen _
+    (λ (e : None ≡ Some kind). absurd cc))))))
 
 kind_back : (kind : Kind) → kind_named (kind_text kind) ≡ Some kind
 kind_back Agree = refl
@@ -233,6 +252,7 @@ kind_back Recheck = refl
 kind_back Synth = refl
 kind_back Improve = refl
 kind_back Equiv = refl
+kind_back Gen = refl
 
 -- ---- both directions
 

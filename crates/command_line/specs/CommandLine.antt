@@ -10,8 +10,9 @@ use Rattle.command_line.specs.declared.command.WordsError.{WordsError}
 use Rattle.command_line.specs.declared.command.WordsError.TheVariants.{Usage}
 use Rattle.command_line.specs.declared.table.Kind.{Kind}
 use Rattle.command_line.specs.declared.table.Kind.TheVariants as kinds
+use Rattle.command_line.specs.declared.table.Deed.{Deed}
 use Rattle.command_line.specs.declared.table.Format.{Format}
-use Rattle.command_line.specs.Options.{Row, is_word, is_among, basis_row, method_row, max_row, conflicts_row, cap_row, format_row, kind_named, options_of}
+use Rattle.command_line.specs.Options.{Row, is_word, is_among, basis_row, method_row, max_row, conflicts_row, cap_row, format_row, most_blocks, blocks_row, run_row, kind_named, options_of}
 
 -- the bytes of each word
 abbrev pub spelled : Vec (String Global) Global → List (List ℕ)
@@ -65,6 +66,13 @@ equiv_from None = None
 abbrev pub equiv_in : List (List ℕ) → Option Command
 equiv_in words = equiv_from (value conflicts_row words)
 
+abbrev pub gen_from : Option ℕ → Option Deed → Option Command
+gen_from (Some blocks) (Some deed) = Some (commands.Gen blocks)
+gen_from blocks deed = None
+
+abbrev pub gen_in : List (List ℕ) → Option Command
+gen_in words = gen_from (value blocks_row words) (value run_row words)
+
 -- a command with the values of its options
 abbrev pub command_with : Kind → List (List ℕ) → Option Command
 command_with kinds.Agree words = Some commands.Agree
@@ -72,6 +80,7 @@ command_with kinds.Recheck words = Some commands.Recheck
 command_with kinds.Synth words = synth_in words
 command_with kinds.Improve words = improve_in words
 command_with kinds.Equiv words = equiv_in words
+command_with kinds.Gen words = gen_in words
 
 abbrev pub command_in : Option Kind → List (List ℕ) → Option Command
 command_in None words = None
@@ -106,3 +115,4 @@ IsAskable commands.Recheck = Unit {0}
 IsAskable (commands.Synth settings) = IsInRange settings
 IsAskable commands.Improve = Unit {0}
 IsAskable (commands.Equiv conflicts) = IsBudget conflicts
+IsAskable (commands.Gen blocks) = (1 ≤ blocks) × (blocks ≤ most_blocks)

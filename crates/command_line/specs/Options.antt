@@ -9,7 +9,9 @@ use Rattle.enc_theory.specs.declared.data.Method.{Method}
 use Rattle.settings.specs.Methods.{method_named}
 use Rattle.settings.specs.Synth.{usual, most_steps, most_conflicts}
 use Rattle.command_line.specs.declared.table.Kind.{Kind}
-use Rattle.command_line.specs.declared.table.Kind.TheVariants.{Agree, Recheck, Synth, Improve, Equiv}
+use Rattle.command_line.specs.declared.table.Kind.TheVariants.{Agree, Recheck, Synth, Improve, Equiv, Gen}
+use Rattle.command_line.specs.declared.table.Deed.{Deed}
+use Rattle.command_line.specs.declared.table.Deed.TheVariants.{Write}
 use Rattle.command_line.specs.declared.table.Format.{Format}
 use Rattle.command_line.specs.declared.table.Format.TheVariants.{Blif}
 
@@ -48,6 +50,9 @@ basis_in word = basis_or_none (basis_of word)
 abbrev pub format_in : List ℕ → Option Format
 format_in word = if is_word word (codes "blif") then Some Blif else None
 
+abbrev pub deed_in : List ℕ → Option Deed
+deed_in word = if is_word word (codes "write") then Some Write else None
+
 -- ---- the rows
 
 abbrev pub basis_row : Row ℕ
@@ -71,6 +76,17 @@ cap_row = number_row (codes "--cap") 0 0 None
 abbrev pub format_row : Row Format
 format_row = record { name = codes "--format"; read = format_in; default = Some Blif }
 
+-- how many blocks are generated; the number has to be named
+abbrev pub most_blocks : ℕ
+most_blocks = 10000
+
+abbrev pub blocks_row : Row ℕ
+blocks_row = number_row (codes "--blocks") 1 most_blocks None
+
+-- what is done with them: they are written, and nothing else so far
+abbrev pub run_row : Row Deed
+run_row = record { name = codes "--run"; read = deed_in; default = Some Write }
+
 -- ---- which command takes which
 
 abbrev pub kind_text : Kind → List ℕ
@@ -79,6 +95,7 @@ kind_text Recheck = codes "recheck"
 kind_text Synth = codes "synth"
 kind_text Improve = codes "improve"
 kind_text Equiv = codes "equiv"
+kind_text Gen = codes "gen"
 
 -- the command of a name
 abbrev pub kind_named : List ℕ → Option Kind
@@ -88,7 +105,8 @@ kind_named name =
     else (if is_word name (kind_text Synth) then Some Synth
     else (if is_word name (kind_text Improve) then Some Improve
     else (if is_word name (kind_text Equiv) then Some Equiv
-    else None))))
+    else (if is_word name (kind_text Gen) then Some Gen
+    else None)))))
 
 -- the names of the options that a command takes
 abbrev pub options_of : Kind → List (List ℕ)
@@ -97,3 +115,4 @@ options_of Recheck = []
 options_of Synth = basis_row.name ∷ method_row.name ∷ max_row.name ∷ conflicts_row.name ∷ []
 options_of Improve = cap_row.name ∷ format_row.name ∷ []
 options_of Equiv = conflicts_row.name ∷ []
+options_of Gen = blocks_row.name ∷ run_row.name ∷ []

@@ -7,8 +7,9 @@ use Rattle.command_line.specs.declared.command.Command.{Command}
 use Rattle.command_line.specs.declared.command.Command.TheVariants as commands
 use Rattle.command_line.specs.declared.table.Kind.{Kind}
 use Rattle.command_line.specs.declared.table.Kind.TheVariants as kinds
+use Rattle.command_line.specs.declared.table.Deed.TheVariants.{Write}
 use Rattle.command_line.specs.declared.table.Format.TheVariants.{Blif}
-use Rattle.command_line.specs.Options.{Row, is_word, is_among, basis_row, method_row, max_row, conflicts_row, cap_row, format_row, kind_text, options_of}
+use Rattle.command_line.specs.Options.{Row, is_word, is_among, basis_row, method_row, max_row, conflicts_row, cap_row, format_row, blocks_row, run_row, kind_text, options_of}
 
 -- a name and the word behind it
 abbrev pub Pair : Type 0
@@ -37,6 +38,10 @@ pub record GivesImprove (pairs : List Pair) : Type 0 where
   pub cap : Gives cap_row pairs 0
   pub format : Gives format_row pairs Blif
 
+pub record GivesGen (pairs : List Pair) (count : ℕ) : Type 0 where
+  pub blocks : Gives blocks_row pairs count
+  pub run : Gives run_row pairs Write
+
 -- pairs give what a command is asked with
 abbrev pub GivesAll : List Pair → Command → Type 0
 GivesAll pairs commands.Agree = Unit {0}
@@ -44,6 +49,7 @@ GivesAll pairs commands.Recheck = Unit {0}
 GivesAll pairs (commands.Synth settings) = GivesSynth pairs settings
 GivesAll pairs commands.Improve = GivesImprove pairs
 GivesAll pairs (commands.Equiv budget) = Gives conflicts_row pairs budget
+GivesAll pairs (commands.Gen blocks) = GivesGen pairs blocks
 
 abbrev pub kind_of : Command → Kind
 kind_of commands.Agree = kinds.Agree
@@ -51,6 +57,7 @@ kind_of commands.Recheck = kinds.Recheck
 kind_of (commands.Synth settings) = kinds.Synth
 kind_of commands.Improve = kinds.Improve
 kind_of (commands.Equiv budget) = kinds.Equiv
+kind_of (commands.Gen blocks) = kinds.Gen
 
 -- Words are a command's name and then pairs. Each pair's name is that of an option which the command
 -- takes, no name comes twice, and the pairs give what the command is asked with.

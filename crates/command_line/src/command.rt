@@ -15,6 +15,8 @@ pub enum Command {
     Improve,
     /// Say whether two netlists do the same, with a budget of so many learnt clauses.
     Equiv(u32),
+    /// Write a netlist of so many blocks, 1 to 10,000.
+    Gen(u32),
 }
 
 /// Why words aren't a command.

@@ -18,6 +18,13 @@ pub(crate) enum Kind {
     Synth,
     Improve,
     Equiv,
+    Gen,
+}
+
+/// What is done with a netlist that was generated.
+#[derive(Clone, Copy, Debug, PartialEq, Eq)]
+pub(crate) enum Deed {
+    Write,
 }
 
 /// A format of netlists.
@@ -38,6 +45,13 @@ const CAP: &[u8] = b"--cap";
 
 const FORMAT: &[u8] = b"--format";
 
+const BLOCKS: &[u8] = b"--blocks";
+
+const RUN: &[u8] = b"--run";
+
+// The most blocks of a netlist that is generated.
+const MOST_BLOCKS: u32 = 10_000;
+
 /// The command of a name.
 pub(crate) fn kind_named(name: &[u8]) -> Option<Kind>
     ensures { result ≡ spec.kind_named name.now }
@@ -57,6 +71,9 @@ pub(crate) fn kind_named(name: &[u8]) -> Option<Kind>
     if is_word(name, b"equiv") {
         return Some(Kind::Equiv);
     }
+    if is_word(name, b"gen") {
+        return Some(Kind::Gen);
+    }
     None
 }
 
@@ -74,6 +91,7 @@ pub(crate) fn takes(kind: Kind, name: &[u8]) -> bool
         }
         Kind::Improve => is_word(name, CAP) || is_word(name, FORMAT),
         Kind::Equiv => is_word(name, CONFLICTS),
+        Kind::Gen => is_word(name, BLOCKS) || is_word(name, RUN),
     }
 }
 
@@ -149,6 +167,24 @@ pub(crate) fn given_format(words: &[String]) -> Option<Format>
     match word_behind(FORMAT, words) {
         None => Some(Format::Blif),
         Some(word) if is_word(word, b"blif") => Some(Format::Blif),
+        Some(_) => None,
+    }
+}
+
+/// The value of `--blocks`, which has to be named.
+pub(crate) fn given_blocks(words: &[String]) -> Option<u32>
+    ensures { result ≡ value spec.blocks_row (map string_bytes words.now) }
+{
+    number(BLOCKS, 1, MOST_BLOCKS, None, words)
+}
+
+/// The value of `--run`.
+pub(crate) fn given_deed(words: &[String]) -> Option<Deed>
+    ensures { result ≡ value spec.run_row (map string_bytes words.now) }
+{
+    match word_behind(RUN, words) {
+        None => Some(Deed::Write),
+        Some(word) if is_word(word, b"write") => Some(Deed::Write),
         Some(_) => None,
     }
 }

@@ -29,6 +29,8 @@ fn lines_ask_for_commands(rt: HostRuntime) -> Result<(), Fail> {
         ("improve --format blif --cap 0", Command::Improve),
         ("equiv", Command::Equiv(100_000)),
         ("equiv --conflicts 7", Command::Equiv(7)),
+        ("gen --blocks 3", Command::Gen(3)),
+        ("gen --run write --blocks 10000", Command::Gen(10_000)),
     ] {
         assert_eq!(rt; asked(rt.alloc(), line)?, Some(command), "{line}");
     }
@@ -84,6 +86,9 @@ fn other_words_ask_for_none(rt: HostRuntime) -> Result<(), Fail> {
         "recheck --depth yes",
         "equiv --conflicts 0",
         "equiv --max 3",
+        "gen",
+        "gen --blocks 0",
+        "gen --blocks 3 --run improve",
         "synth --method",
         "synth plain",
         "synth --method Plain",

@@ -6,8 +6,8 @@ ghost use Rattle.command_line.specs.CommandLine as spec;
 use crate::command::{Command, WordsError};
 use crate::pairs::are_options;
 use crate::table::{
-    Kind, given_basis, given_cap, given_conflicts, given_format, given_max, given_method,
-    kind_named,
+    Kind, given_basis, given_blocks, given_cap, given_conflicts, given_deed, given_format,
+    given_max, given_method, kind_named,
 };
 use settings::SynthSettings;
 
@@ -53,6 +53,16 @@ fn equiv_in(words: &[String]) -> Option<Command>
     }
 }
 
+/// `gen` with the values of its options.
+fn gen_in(words: &[String]) -> Option<Command>
+    ensures { result ≡ spec.gen_in (map string_bytes words.now) }
+{
+    match (given_blocks(words), given_deed(words)) {
+        (Some(blocks), Some(_)) => Some(Command::Gen(blocks)),
+        _ => None,
+    }
+}
+
 /// A command with the values of its options.
 fn command_with(kind: Kind, words: &[String]) -> Option<Command>
     ensures { result ≡ spec.command_with kind (map string_bytes words.now) }
@@ -63,6 +73,7 @@ fn command_with(kind: Kind, words: &[String]) -> Option<Command>
         Kind::Synth => synth_in(words),
         Kind::Improve => improve_in(words),
         Kind::Equiv => equiv_in(words),
+        Kind::Gen => gen_in(words),
     }
 }
 
