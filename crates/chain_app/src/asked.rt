@@ -5,7 +5,7 @@ ghost use Rattle.frame_core.specs.Task.{IsWithin};
 ghost use Rattle.frame_core.specs.Views.{Judges};
 ghost use Rattle.chain_app.specs.Tasks.{task_of};
 
-use crate::{agree, equiv, gen, improve, recheck, synth};
+use crate::{agree, equiv, improve, netlists, recheck, synth};
 use command_line::Command;
 use frame_core::{Ended, Job, Reply, Stop, finish};
 use port_io::Sink;
@@ -37,7 +37,7 @@ fn judge(alloc: Global, command: &Command, bytes: &[u8]) -> Result<Reply, Stop>
         Command::Synth(settings) => synth::synth(alloc, bytes, settings),
         Command::Improve => improve::improve(alloc, bytes),
         Command::Equiv(budget) => equiv::equiv(alloc, bytes, *budget),
-        Command::Gen(blocks) => gen::gen(alloc, *blocks),
+        Command::Gen(blocks) => netlists::netlist(alloc, *blocks),
     }
 }
 

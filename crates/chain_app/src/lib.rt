@@ -14,10 +14,10 @@
 mod agree;
 mod asked;
 mod equiv;
-mod gen;
 mod improve;
 mod judging;
 pub mod laws;
+mod netlists;
 mod nets;
 mod recheck;
 mod running;

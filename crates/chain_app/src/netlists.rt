@@ -22,7 +22,7 @@ fn reply_of(alloc: Global, blocks: u32) -> Result<Reply, AllocError>
 
 /// What `gen` tells.
 #[tactic(auto, using(crate::proofs::Generating::telling))]
-pub(crate) fn gen(alloc: Global, blocks: u32) -> Result<Reply, Stop>
+pub(crate) fn netlist(alloc: Global, blocks: u32) -> Result<Reply, Stop>
     ensures { (bytes : List ℕ) → Judges (gen_task blocks) bytes result }
 {
     match reply_of(alloc, blocks) {
