@@ -50,7 +50,7 @@ impl ErrorLine {
         ensures { line_value result ≡ shown (lead ∷ []) ++ (Word name.now ∷ shown (first ∷ second ∷ [])) }
     {
         ErrorLine {
-            fields: [lead, Field::Known(name), first, second, Field::Nothing],
+            fields: [lead, Field::Known(name), first, second],
         }
     }
 
