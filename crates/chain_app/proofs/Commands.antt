@@ -23,7 +23,7 @@ pub is_task : (command : Command) → IsTask (task_of command)
 is_task Agree = agree_is_task
 is_task Recheck = recheck_is_task
 is_task (Synth settings) = synth_is_task settings
-is_task Improve = improve_is_task
+is_task (Improve settings) = improve_is_task settings
 is_task (Equiv budget) = equiv_is_task budget
 is_task (Gen blocks) = gen_is_task blocks
 

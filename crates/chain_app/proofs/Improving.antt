@@ -7,8 +7,9 @@ use Rattle.net_core.specs.declared.error.NetError.{NetError}
 use Rattle.net_core.specs.declared.error.NetError.TheVariants as nets
 use Rattle.net_document.specs.Format.{IsNetlist, IsRefusedText}
 use Rattle.blif_core.specs.Blif.{blif_format}
-use Rattle.improve_core.specs.Improving.{IsReported}
-use Rattle.improve_core.specs.ImprovingLaws.{fault_one, fault_never, reported_netlist}
+use Rattle.settings.specs.declared.improve.ImproveSettings.{ImproveSettings}
+use Rattle.improve_core.specs.ImprovingLaws.{fault_one, fault_never}
+use Rattle.improve_windows.specs.Improving.{IsReported}
 use Rattle.command_line.specs.declared.command.Command.TheVariants.{Improve}
 use Rattle.command_line.specs.CommandLine.{AsksFor}
 use Rattle.frame_core.specs.declared.status.Status.{Status}
@@ -24,15 +25,15 @@ use Rattle.frame_core.specs.KeepingLaws.{of_input}
 
 -- ---- what is answered
 
-pub tells : (bytes text report : List ℕ) (reply : Reply) → length bytes ≤ most_of_netlist → IsReported blif_format bytes text report → reply ≡ improve_reply (record { text = text; report = report }) → Tells improve_task bytes reply
-tells bytes text report reply within reported is = record {
+pub tells : (asked : ImproveSettings) (bytes text report : List ℕ) (reply : Reply) → length bytes ≤ most_of_netlist → IsReported blif_format asked bytes text report → reply ≡ improve_reply (record { text = text; report = report }) → Tells (improve_task asked) bytes reply
+tells asked bytes text report reply within reported is = record {
   answer = record { text = text; report = report };
   has = record { within = within; reported = reported };
   is = is;
 }
 
-pub refuses : (bytes : List ℕ) (e : NetError) (refusal : Refusal) → length bytes ≤ most_of_netlist → (e ≡ nets.Memory → ⊥) → IsRefusedText blif_format bytes e → refusal ≡ improve_refusal e → Refuses improve_task bytes refusal
-refuses bytes e refusal within other fault is = record {
+pub refuses : (asked : ImproveSettings) (bytes : List ℕ) (e : NetError) (refusal : Refusal) → length bytes ≤ most_of_netlist → (e ≡ nets.Memory → ⊥) → IsRefusedText blif_format bytes e → refusal ≡ improve_refusal e → Refuses (improve_task asked) bytes refusal
+refuses asked bytes e refusal within other fault is = record {
   fault = e;
   meets = record { within = within; fault = (fault, other) };
   is = is;
@@ -79,12 +80,16 @@ status_kind (nets.TooManyRows line) other = inr (inl refl)
 status_kind (nets.NameTooLong line) other = inr (inl refl)
 status_kind nets.Memory other = absurd (other refl)
 
-pub improve_is_task : IsTask improve_task
-improve_is_task =
-    at_once_task most_of_netlist Improvement IsImprovement improve_reply NetError HasNetlistFault improve_refusal
+-- what was improved is a netlist
+reported_netlist : (asked : ImproveSettings) (bytes text report : List ℕ) → IsReported blif_format asked bytes text report → IsNetlist blif_format bytes
+reported_netlist asked bytes text report is = record { listed = is.improved.read; said = is.improved.said; well = is.improved.well }
+
+pub improve_is_task : (asked : ImproveSettings) → IsTask (improve_task asked)
+improve_is_task asked =
+    at_once_task most_of_netlist Improvement (IsImprovement asked) improve_reply NetError HasNetlistFault improve_refusal
     (λ i. inl refl)
     (λ bytes fault meets. statuses_of fault)
-    (λ bytes i error has fault. fault_never bytes error (reported_netlist blif_format bytes i.text i.report has.reported) fault.fault)
+    (λ bytes i error has fault. fault_never bytes error (reported_netlist asked bytes i.text i.report has.reported) fault.fault)
     (λ bytes a b x y. ap improve_refusal (fault_one bytes a b x.fault y.fault))
     (λ bytes i has. has.within)
     (λ bytes error fault. fault.within)
@@ -92,14 +97,14 @@ improve_is_task =
 -- ---- what it promises besides
 
 -- a netlist has no fault
-answerable : (input : List ℕ) → length input ≤ most_of_netlist → IsNetlist blif_format input → IsAnswerable improve_task input
-answerable input within netlist = record {
+answerable : (asked : ImproveSettings) (input : List ℕ) → length input ≤ most_of_netlist → IsNetlist blif_format input → IsAnswerable (improve_task asked) input
+answerable asked input within netlist = record {
   within = λ long. omega arith;
   sound = λ error fault. fault_never input error netlist fault.fault;
 }
 
-done_only : (r : Run) (input : List ℕ) → CommandPromise improve_task r → r.source.bytes ≡ Some input → r.status ≡ Done → Replies improve_task r input
-done_only r input promise told is = of_input improve_task r (Replies improve_task r) input (promise.done_only is) told
+done_only : (r : Run) (asked : ImproveSettings) (input : List ℕ) → CommandPromise (improve_task asked) r → r.source.bytes ≡ Some input → r.status ≡ Done → Replies (improve_task asked) r input
+done_only r asked input promise told is = of_input (improve_task asked) r (Replies (improve_task asked) r) input (promise.done_only is) told
 
 pub not_refused : (e : NetError) → net_status e ≡ Refused → ⊥
 not_refused (nets.Syntax line) is = cc
@@ -119,26 +124,26 @@ not_refused nets.Memory is = cc
 not_done : (r : Run) (s : Status) (i : Improvement) → Stands r (improve_reply i) → r.status ≡ s → (Done ≡ s → ⊥) → ⊥
 not_done r s i stands is other = other (sym stands.status_is ∙ is)
 
-never_refused : (r : Run) → CommandPromise improve_task r → r.status ≡ Refused → ⊥
-never_refused r promise is =
+never_refused : (r : Run) (asked : ImproveSettings) → CommandPromise (improve_task asked) r → r.status ≡ Refused → ⊥
+never_refused r asked promise is =
     let of = promise.refused_only is in
     ⊎_elim
-    (λ (got : Replies improve_task r of.bytes). not_done r Refused got.answer got.stands is (λ e. cc))
-    (λ (none : Faults improve_task r of.bytes). not_refused none.fault (sym none.told.status_is ∙ is))
+    (λ (got : Replies (improve_task asked) r of.bytes). not_done r Refused got.answer got.stands is (λ e. cc))
+    (λ (none : Faults (improve_task asked) r of.bytes). not_refused none.fault (sym none.told.status_is ∙ is))
     of.holds
 
-decided : (r : Run) → CommandPromise improve_task r → r.status ≡ Undecided → ⊥
-decided r promise is =
+decided : (r : Run) (asked : ImproveSettings) → CommandPromise (improve_task asked) r → r.status ≡ Undecided → ⊥
+decided r asked promise is =
     let got = promise.undecided_only is in
     not_done r Undecided got.holds.answer got.holds.stands is (λ e. cc)
 
 -- All that `improve` promises besides.
-pub improve_promised : (r : Run) → (AsksFor r.words Improve → CommandPromise improve_task r) → ImprovePromise r
+pub improve_promised : (r : Run) → ((asked : ImproveSettings) → AsksFor r.words (Improve asked) → CommandPromise (improve_task asked) r) → ImprovePromise r
 improve_promised r keeps = record {
-  complete = λ input run within netlist steady. (keeps run.asks).complete input run.told (answerable input within netlist) steady;
-  answered = λ input run within netlist held. (keeps run.asks).answered input run.told (answerable input within netlist) held;
-  done_only = λ input run is. done_only r input (keeps run.asks) run.told is;
-  decided = λ asks is. decided r (keeps asks) is;
-  never_refused = λ asks is. never_refused r (keeps asks) is;
-  refused = λ input error run fault held. (keeps run.asks).refused input error run.told fault held;
+  complete = λ asked input run within netlist steady. (keeps asked run.asks).complete input run.told (answerable asked input within netlist) steady;
+  answered = λ asked input run within netlist held. (keeps asked run.asks).answered input run.told (answerable asked input within netlist) held;
+  done_only = λ asked input run is. done_only r asked input (keeps asked run.asks) run.told is;
+  decided = λ asked asks is. decided r asked (keeps asked asks) is;
+  never_refused = λ asked asks is. never_refused r asked (keeps asked asks) is;
+  refused = λ asked input error run fault held. (keeps asked run.asks).refused input error run.told fault held;
 }

@@ -4,7 +4,8 @@ use Rattle.net_core.specs.declared.error.NetError.{NetError}
 use Rattle.net_core.specs.declared.error.NetError.TheVariants as nets
 use Rattle.net_document.specs.Format.{HasNetFault}
 use Rattle.blif_core.specs.Blif.{blif_format}
-use Rattle.improve_core.specs.Improving.{IsReported}
+use Rattle.settings.specs.declared.improve.ImproveSettings.{ImproveSettings}
+use Rattle.improve_windows.specs.Improving.{IsReported}
 use Rattle.frame_core.specs.declared.status.Status.{Status}
 use Rattle.frame_core.specs.declared.status.Status.TheVariants.{Done, Malformed, Limit, Memory}
 use Rattle.frame_core.specs.Told.{Reply, Field, Word, Number, Refusal, at, memory}
@@ -63,16 +64,17 @@ improve_reply i = record { text = i.text; report = Some i.report; status = Done 
 abbrev pub improve_refusal : NetError → Refusal
 improve_refusal error = record { status = net_status error; named = named_net error }
 
--- The bytes are a netlist, the text is one that does the same with no more gates, and the report says
--- what both cost.
-pub record IsImprovement (bytes : List ℕ) (i : Improvement) : Type 0 where
+-- The bytes are a netlist, and the text is one that does the same with no more gates, as the settings leave it.
+-- The report says what both cost, which windows are undecided, each with a certificate, and whether all others
+-- are settled.
+pub record IsImprovement (asked : ImproveSettings) (bytes : List ℕ) (i : Improvement) : Type 0 where
   pub within : length bytes ≤ most_of_netlist
-  pub reported : IsReported blif_format bytes i.text i.report
+  pub reported : IsReported blif_format asked bytes i.text i.report
 
 -- The bytes are no netlist, and this is their first fault.
 pub record HasNetlistFault (bytes : List ℕ) (error : NetError) : Type 0 where
   pub within : length bytes ≤ most_of_netlist
   pub fault : HasNetFault blif_format bytes error
 
-abbrev pub improve_task : Task
-improve_task = at_once most_of_netlist Improvement IsImprovement improve_reply NetError HasNetlistFault improve_refusal
+abbrev pub improve_task : ImproveSettings → Task
+improve_task asked = at_once most_of_netlist Improvement (IsImprovement asked) improve_reply NetError HasNetlistFault improve_refusal

@@ -19,7 +19,7 @@ fn most_bytes(command: &Command) -> Option<usize>
         Command::Agree => Some(agree::MOST_BYTES),
         Command::Recheck => Some(recheck::MOST_BYTES),
         Command::Synth(_) => Some(synth::MOST_BYTES),
-        Command::Improve => Some(improve::MOST_BYTES),
+        Command::Improve(_) => Some(improve::MOST_BYTES),
         Command::Equiv(_) => Some(equiv::MOST_BYTES),
         Command::Gen(_) => None,
     }
@@ -35,7 +35,7 @@ fn judge(alloc: Global, command: &Command, bytes: &[u8]) -> Result<Reply, Stop>
         Command::Agree => agree::agree(alloc, bytes),
         Command::Recheck => recheck::recheck(alloc, bytes),
         Command::Synth(settings) => synth::synth(alloc, bytes, settings),
-        Command::Improve => improve::improve(alloc, bytes),
+        Command::Improve(settings) => improve::improve(alloc, bytes, settings),
         Command::Equiv(budget) => equiv::equiv(alloc, bytes, *budget),
         Command::Gen(blocks) => netlists::netlist(alloc, *blocks),
     }

@@ -1,11 +1,12 @@
 //! The command `improve`: what it tells of bytes.
 ghost use Rattle.std.specs.Prelude.{◌≡◌, ◌≤◌, length};
+ghost use Rattle.settings.specs.Improve.{IsInRange};
 ghost use Rattle.chain_app.specs.ImproveReport.{most_of_netlist, improve_reply, improve_refusal, improve_task};
 ghost use Rattle.frame_core.specs.Views.{reply_value, refusal_value, Judges};
 
 use crate::nets::{name_net, net_status};
 use frame_core::{Field, Refusal, Reply, Report, Status, Stop};
-use improve_core::{ImprovedText, NetError, improve as improve_netlist};
+use improve_windows::{ImproveSettings, ImprovedText, NetError, improve as improve_netlist};
 use std::alloc::Global;
 
 /// The most bytes that `improve` reads.
@@ -36,11 +37,16 @@ fn reply_of(improved: ImprovedText) -> Reply
 
 /// What `improve` tells of bytes.
 #[tactic(auto, using(crate::proofs::Improving::telling))]
-pub(crate) fn improve(alloc: Global, bytes: &[u8]) -> Result<Reply, Stop>
-    requires { length bytes.now ≤ most_of_netlist }
-    ensures { Judges improve_task bytes.now result }
+pub(crate) fn improve(
+    alloc: Global,
+    bytes: &[u8],
+    settings: &ImproveSettings,
+) -> Result<Reply, Stop>
+    requires length { length bytes.now ≤ most_of_netlist }
+    requires range { IsInRange settings.now }
+    ensures { Judges (improve_task settings.now) bytes.now result }
 {
-    match improve_netlist(alloc, bytes) {
+    match improve_netlist(alloc, bytes, *settings) {
         Ok(improved) => Ok(reply_of(improved)),
         Err(NetError::Memory) => Err(Stop::NoMemory),
         Err(error) => Err(Stop::NoAnswer(refusal_of(error))),

@@ -2,6 +2,7 @@
 ghost use Rattle.std.specs.Prelude.{◌≡◌, ◌↔◌, ℕ, ◌≤◌, List, length, Ok};
 ghost use Rattle.command_line.specs.declared.command.Command.{Command};
 ghost use Rattle.command_line.specs.declared.command.Command.TheVariants.{Improve};
+ghost use Rattle.settings.specs.declared.improve.ImproveSettings.{ImproveSettings};
 ghost use Rattle.net_document.specs.Format.{IsNetlist};
 ghost use Rattle.blif_core.specs.Blif.{blif_format};
 ghost use Rattle.chain_app.specs.Agree.{Question, question_of};
@@ -30,9 +31,9 @@ pub fn commands_are_tasks()
 /// A run that keeps its promises improves: where no call failed at all, a netlist has the status 0.
 #[tactic(auto, using(crate::proofs::Ends::improved))]
 pub fn netlists_are_improved()
-    ensures { (r : Run) (input : List ℕ) →
+    ensures { (r : Run) (asked : ImproveSettings) (input : List ℕ) →
         KeepsPromises r →
-        Runs Improve r input →
+        Runs (Improve asked) r input →
         length input ≤ most_of_netlist →
         IsNetlist blif_format input →
         AllSteady r → r.status ≡ Done }

@@ -318,25 +318,54 @@ fn inputs_have_a_greatest_length(rt: HostRuntime) -> Result<(), Fail> {
     Ok(())
 }
 
+/// XOR of two inputs by three gates, and by one.
+const THREE_GATES: &str =
+    ".model s\n.inputs a b\n.outputs y\n.names a b p\n10 1\n.names a b q\n01 1\n.names p q y\n1- 1\n-1 1\n.end\n";
+
+const ONE_GATE: &str = ".model s\n.inputs a b\n.outputs y\n.names a b y\n01 1\n10 1\n.end\n";
+
 #[test]
 fn improve_tells(rt: HostRuntime) -> Result<(), Fail> {
-    for (input, status, out, note) in [
-        (TWO, 0, ONE_LEFT, "gates 2 -> 1\nsettled\n"),
+    for (line, input, status, out, note) in [
         (
+            "improve --cap 0",
+            TWO,
+            0,
+            ONE_LEFT,
+            "gates 2 -> 1\nsettled\n",
+        ),
+        (
+            "improve",
+            THREE_GATES,
+            0,
+            ONE_GATE,
+            "gates 3 -> 1\nsettled\n",
+        ),
+        (
+            "improve --rounds 1",
+            THREE_GATES,
+            0,
+            ONE_GATE,
+            "gates 3 -> 1\nstopped\n",
+        ),
+        (
+            "improve",
             ".model u\n.inputs a\n.outputs y\n.end\n",
             2,
             "",
             "error: Undriven y\n",
         ),
         (
+            "improve --cap 8",
             ".model s\n.subckt half a=a\n.end\n",
             2,
             "",
             "error: NotSupported 2 .subckt\n",
         ),
+        ("improve --cap 9", TWO, 1, "", "error: Usage\n"),
     ] {
-        let seen = told(rt.alloc(), "improve --cap 0", input.as_bytes())?;
-        assert!(rt; seen.is(status, out, note), "{input}");
+        let seen = told(rt.alloc(), line, input.as_bytes())?;
+        assert!(rt; seen.is(status, out, note), "{line}");
     }
     Ok(())
 }

@@ -10,14 +10,16 @@ use Rattle.op_basis.specs.ListLaws.{basis_some}
 use Rattle.op_basis.specs.declared.error.BasisError.{BasisError}
 use Rattle.enc_theory.specs.declared.data.Method.{Method}
 use Rattle.settings.specs.declared.synth.SynthSettings.{SynthSettings}
+use Rattle.settings.specs.declared.improve.ImproveSettings.{ImproveSettings}
 use Rattle.settings.specs.Synth.{IsInRange}
+use Rattle.settings.specs.Improve as improver
 use Rattle.command_line.specs.declared.command.Command.{Command}
 use Rattle.command_line.specs.declared.command.Command.TheVariants as commands
 use Rattle.command_line.specs.declared.table.Kind.{Kind}
 use Rattle.command_line.specs.declared.table.Kind.TheVariants.{Agree, Recheck, Synth, Improve, Equiv, Gen}
 use Rattle.command_line.specs.declared.table.Deed.{Deed}
 use Rattle.command_line.specs.declared.table.Format.{Format}
-use Rattle.command_line.specs.Options.{Row, from_on, number_within, basis_or_none, basis_in, basis_row, method_row, max_row, conflicts_row, cap_row, format_row, blocks_row, run_row, kind_named, options_of}
+use Rattle.command_line.specs.Options.{Row, from_on, number_within, basis_or_none, basis_in, basis_row, method_row, max_row, conflicts_row, cap_row, rounds_row, format_row, blocks_row, run_row, kind_named, options_of}
 use Rattle.command_line.specs.CommandLine.{word_behind, are_options, value_in, value, synth_from, improve_from, equiv_from, gen_from, command_with, command_in, command_of, IsAskable}
 
 pub some_is : {A : Type 0} (a b : A) → Some a ≡ Some b → a ≡ b
@@ -62,10 +64,43 @@ synth_made (Some b) (Some m) None conflicts c e = absurd cc
 synth_made (Some b) None max conflicts c e = absurd cc
 synth_made None method max conflicts c e = absurd cc
 
-pub improve_made : (cap : Option ℕ) (format : Option Format) (c : Command) → improve_from cap format ≡ Some c → (n : ℕ) × (f : Format) × (commands.Improve ≡ c) × (cap ≡ Some n) × (format ≡ Some f)
-improve_made (Some n) (Some f) c e = (n, f, some_is _ c e, refl, refl)
-improve_made (Some n) None c e = absurd cc
-improve_made None format c e = absurd cc
+-- `improve` has the values of all its options
+pub record IsImproveOf (basis : Option ℕ) (method : Option Method) (cap rounds conflicts : Option ℕ) (format : Option Format) (c : Command) : Type 0 where
+  pub s : ImproveSettings
+  pub f : Format
+  pub is : commands.Improve s ≡ c
+  pub basis_is : basis ≡ Some s.basis
+  pub method_is : method ≡ Some s.method
+  pub cap_is : cap ≡ Some s.cap
+  pub rounds_is : rounds ≡ Some s.rounds
+  pub conflicts_is : conflicts ≡ Some s.conflicts
+  pub format_is : format ≡ Some f
+
+pub improve_made : (basis : Option ℕ) (method : Option Method) (cap rounds conflicts : Option ℕ) (format : Option Format) (c : Command) → improve_from basis method cap rounds conflicts format ≡ Some c → IsImproveOf basis method cap rounds conflicts format c
+improve_made (Some b) (Some m) (Some n) (Some r) (Some x) (Some f) c e = record {
+  s = record { basis = b; method = m; cap = n; rounds = r; conflicts = x };
+  f = f;
+  is = some_is _ c e;
+  basis_is = refl;
+  method_is = refl;
+  cap_is = refl;
+  rounds_is = refl;
+  conflicts_is = refl;
+  format_is = refl;
+}
+improve_made (Some b) (Some m) (Some n) (Some r) (Some x) None c e = absurd cc
+improve_made (Some b) (Some m) (Some n) (Some r) None format c e = absurd cc
+improve_made (Some b) (Some m) (Some n) None conflicts format c e = absurd cc
+improve_made (Some b) (Some m) None rounds conflicts format c e = absurd cc
+improve_made (Some b) None cap rounds conflicts format c e = absurd cc
+improve_made None method cap rounds conflicts format c e = absurd cc
+
+-- those of words
+abbrev pub IsImproveIn : List (List ℕ) → Command → Type 0
+IsImproveIn words c = IsImproveOf (value basis_row words) (value method_row words) (value cap_row words) (value rounds_row words) (value conflicts_row words) (value format_row words) c
+
+pub improve_in_made : (words : List (List ℕ)) (c : Command) → command_with Improve words ≡ Some c → IsImproveIn words c
+improve_in_made words c e = improve_made (value basis_row words) (value method_row words) (value cap_row words) (value rounds_row words) (value conflicts_row words) (value format_row words) c e
 
 pub equiv_made : (conflicts : Option ℕ) (c : Command) → equiv_from conflicts ≡ Some c → (n : ℕ) × (commands.Equiv n ≡ c) × (conflicts ≡ Some n)
 equiv_made (Some n) c e = (n, some_is _ c e, refl)
@@ -89,6 +124,20 @@ max_range words n e =
     (λ (word : List ℕ) (x : ℕ) at. (number_range 0 16 x word (omega arith) at).1)
     (λ (x : ℕ) at. let same = some_is 16 x at in omega (arith, same))
     (word_behind max_row.name words) n e
+
+cap_range : (words : List (List ℕ)) (n : ℕ) → value cap_row words ≡ Some n → n ≤ 8
+cap_range words n e =
+    in_row cap_row (λ (x : ℕ). x ≤ 8)
+    (λ (word : List ℕ) (x : ℕ) at. (number_range 0 8 x word (omega arith) at).1)
+    (λ (x : ℕ) at. let same = some_is 5 x at in omega (arith, same))
+    (word_behind cap_row.name words) n e
+
+rounds_range : (words : List (List ℕ)) (n : ℕ) → value rounds_row words ≡ Some n → (1 ≤ n) × (n ≤ 100000)
+rounds_range words n e =
+    in_row rounds_row (λ (x : ℕ). (1 ≤ x) × (x ≤ 100000))
+    (λ (word : List ℕ) (x : ℕ) at. number_range 1 100000 x word (omega arith) at)
+    (λ (x : ℕ) at. let same = some_is 1000 x at in (omega (arith, same), omega (arith, same)))
+    (word_behind rounds_row.name words) n e
 
 conflicts_range : (words : List (List ℕ)) (n : ℕ) → value conflicts_row words ≡ Some n → (1 ≤ n) × (n ≤ 10000000)
 conflicts_range words n e =
@@ -114,13 +163,19 @@ synth_range words c e =
     let is : IsInRange made.0 = record { basis_from = bases_range words made.0.basis made.2; max_to = max_range words made.0.max made.4; conflicts_from = within.0; conflicts_to = within.1 } in
     askable (commands.Synth made.0) c made.1 is
 
+improve_range : (words : List (List ℕ)) (c : Command) → command_with Improve words ≡ Some c → IsAskable c
+improve_range words c e =
+    let made = improve_in_made words c e in
+    let rounds = rounds_range words made.s.rounds made.rounds_is in
+    let conflicts = conflicts_range words made.s.conflicts made.conflicts_is in
+    let is : improver.IsInRange made.s = record { basis_from = bases_range words made.s.basis made.basis_is; cap_to = cap_range words made.s.cap made.cap_is; rounds_from = rounds.0; rounds_to = rounds.1; conflicts_from = conflicts.0; conflicts_to = conflicts.1 } in
+    askable (commands.Improve made.s) c made.is is
+
 kind_range : (kind : Kind) (words : List (List ℕ)) (c : Command) → command_with kind words ≡ Some c → IsAskable c
 kind_range Agree words c e = askable commands.Agree c (some_is _ c e) tt
 kind_range Recheck words c e = askable commands.Recheck c (some_is _ c e) tt
 kind_range Synth words c e = synth_range words c e
-kind_range Improve words c e =
-    let made = improve_made (value cap_row words) (value format_row words) c e in
-    askable commands.Improve c made.2 tt
+kind_range Improve words c e = improve_range words c e
 kind_range Equiv words c e =
     let made = equiv_made (value conflicts_row words) c e in
     askable (commands.Equiv made.0) c made.1 (conflicts_range words made.0 made.2)

@@ -1,6 +1,6 @@
 -- Words ask for a command exactly where they are its name and pairs.
 use Rattle.std.specs.Prelude.{◌≡◌, ℕ, List, [], ◌∷◌, Bool, true, false, not, ◌&&◌, ◌||◌, cond, Option, Some, None, is_some, All}
-use Rattle.std.proofs.Common.{arith, sym, ◌∙◌, ap, subst, refl}
+use Rattle.std.proofs.Common.{sym, ◌∙◌, ap, subst, refl}
 use Rattle.std.specs.List.{IsDistinct, AllByRecursion, list_any}
 use Rattle.std.specs.List.Sorted.{IsPermutation}
 use Rattle.std.specs.Map.{lookup, keys_of}
@@ -20,10 +20,10 @@ use Rattle.command_line.specs.declared.table.Deed.{Deed}
 use Rattle.command_line.specs.declared.table.Deed.TheVariants.{Write}
 use Rattle.command_line.specs.declared.table.Format.{Format}
 use Rattle.command_line.specs.declared.table.Format.TheVariants.{Blif}
-use Rattle.command_line.specs.Options.{Row, is_word, is_among, basis_row, method_row, max_row, conflicts_row, cap_row, format_row, blocks_row, run_row, kind_text, kind_named, options_of}
+use Rattle.command_line.specs.Options.{Row, is_word, is_among, basis_row, method_row, max_row, conflicts_row, cap_row, rounds_row, format_row, blocks_row, run_row, kind_text, kind_named, options_of}
 use Rattle.command_line.specs.CommandLine.{word_behind, is_named, are_options, value_in, value, command_with, command_in, command_of, AsksFor}
 use Rattle.command_line.specs.Spelling.{Pair, both, flat, Gives, GivesSynth, GivesImprove, GivesGen, GivesAll, kind_of, Spells}
-use Rattle.command_line.proofs.Ranges.{some_is, passed, synth_made, improve_made, equiv_made, gen_made, in_row, number_range}
+use Rattle.command_line.proofs.Ranges.{some_is, passed, synth_made, improve_in_made, equiv_made, gen_made}
 
 -- ---- tests
 
@@ -149,13 +149,6 @@ gives_again row pairs other x moved g = record {
 
 -- ---- commands
 
-cap_zero : (words : List (List ℕ)) (n : ℕ) → value cap_row words ≡ Some n → n ≡ 0
-cap_zero words n e =
-    in_row cap_row (λ (x : ℕ). x ≡ 0)
-    (λ (word : List ℕ) (x : ℕ) at. let within = number_range 0 0 x word (omega arith) at in omega (arith, within.1))
-    (λ (x : ℕ) at. absurd cc)
-    (word_behind cap_row.name words) n e
-
 write_it_is : (d : Deed) → d ≡ Write
 write_it_is Write = refl
 
@@ -179,13 +172,16 @@ made Synth pairs c once e =
     } in
     subst (λ (d : Command). IsMade Synth pairs d) m.1 (refl, all)
 made Improve pairs c once e =
-    let m = improve_made (value cap_row (flat pairs)) (value format_row (flat pairs)) c e in
-    let zero_it_is : m.0 ≡ 0 = cap_zero (flat pairs) m.0 m.3 in
-    let all : GivesImprove pairs = record {
-      cap = gives cap_row pairs 0 once (m.3 ∙ ap (λ (n : ℕ). Some n) zero_it_is);
-      format = gives format_row pairs Blif once (m.4 ∙ ap (λ (f : Format). Some f) (blif_it_is m.1));
+    let m = improve_in_made (flat pairs) c e in
+    let all : GivesImprove pairs m.s = record {
+      basis = gives basis_row pairs m.s.basis once m.basis_is;
+      method = gives method_row pairs m.s.method once m.method_is;
+      cap = gives cap_row pairs m.s.cap once m.cap_is;
+      rounds = gives rounds_row pairs m.s.rounds once m.rounds_is;
+      conflicts = gives conflicts_row pairs m.s.conflicts once m.conflicts_is;
+      format = gives format_row pairs Blif once (m.format_is ∙ ap (λ (f : Format). Some f) (blif_it_is m.f));
     } in
-    subst (λ (d : Command). IsMade Improve pairs d) m.2 (refl, all)
+    subst (λ (d : Command). IsMade Improve pairs d) m.is (refl, all)
 made Equiv pairs c once e =
     let m = equiv_made (value conflicts_row (flat pairs)) c e in
     subst (λ (d : Command). IsMade Equiv pairs d) m.1 (refl, gives conflicts_row pairs m.0 once m.2)
@@ -202,8 +198,8 @@ made_back commands.Agree pairs once all = refl
 made_back commands.Recheck pairs once all = refl
 made_back (commands.Synth s) pairs once all =
     rw (value_is basis_row pairs s.basis once all.basis, value_is method_row pairs s.method once all.method, value_is max_row pairs s.max once all.max, value_is conflicts_row pairs s.conflicts once all.conflicts) refl
-made_back commands.Improve pairs once all =
-    rw (value_is cap_row pairs 0 once all.cap, value_is format_row pairs Blif once all.format) refl
+made_back (commands.Improve s) pairs once all =
+    rw (value_is basis_row pairs s.basis once all.basis, value_is method_row pairs s.method once all.method, value_is cap_row pairs s.cap once all.cap, value_is rounds_row pairs s.rounds once all.rounds, value_is conflicts_row pairs s.conflicts once all.conflicts, value_is format_row pairs Blif once all.format) refl
 made_back (commands.Equiv budget) pairs once all = rw (value_is conflicts_row pairs budget once all) refl
 made_back (commands.Gen blocks) pairs once all =
     rw (value_is blocks_row pairs blocks once all.blocks, value_is run_row pairs Write once all.run) refl
@@ -217,8 +213,12 @@ given_again (commands.Synth s) pairs other moved all = record {
   max = gives_again max_row pairs other s.max moved all.max;
   conflicts = gives_again conflicts_row pairs other s.conflicts moved all.conflicts;
 }
-given_again commands.Improve pairs other moved all = record {
-  cap = gives_again cap_row pairs other 0 moved all.cap;
+given_again (commands.Improve s) pairs other moved all = record {
+  basis = gives_again basis_row pairs other s.basis moved all.basis;
+  method = gives_again method_row pairs other s.method moved all.method;
+  cap = gives_again cap_row pairs other s.cap moved all.cap;
+  rounds = gives_again rounds_row pairs other s.rounds moved all.rounds;
+  conflicts = gives_again conflicts_row pairs other s.conflicts moved all.conflicts;
   format = gives_again format_row pairs other Blif moved all.format;
 }
 given_again (commands.Equiv budget) pairs other moved all = gives_again conflicts_row pairs other budget moved all

@@ -4,6 +4,7 @@ use Rattle.std.specs.Global.{Global}
 use Rattle.std.specs.String.{string_bytes}
 use Rattle.enc_theory.specs.declared.data.Method.{Method}
 use Rattle.settings.specs.Synth.{most_conflicts, IsInRange}
+use Rattle.settings.specs.Improve as improver
 use Rattle.command_line.specs.declared.command.Command.{Command}
 use Rattle.command_line.specs.declared.command.Command.TheVariants as commands
 use Rattle.command_line.specs.declared.command.WordsError.{WordsError}
@@ -12,7 +13,7 @@ use Rattle.command_line.specs.declared.table.Kind.{Kind}
 use Rattle.command_line.specs.declared.table.Kind.TheVariants as kinds
 use Rattle.command_line.specs.declared.table.Deed.{Deed}
 use Rattle.command_line.specs.declared.table.Format.{Format}
-use Rattle.command_line.specs.Options.{Row, is_word, is_among, basis_row, method_row, max_row, conflicts_row, cap_row, format_row, most_blocks, blocks_row, run_row, kind_named, options_of}
+use Rattle.command_line.specs.Options.{Row, is_word, is_among, basis_row, method_row, max_row, conflicts_row, cap_row, rounds_row, format_row, most_blocks, blocks_row, run_row, kind_named, options_of}
 
 -- the bytes of each word
 abbrev pub spelled : Vec (String Global) Global → List (List ℕ)
@@ -52,12 +53,13 @@ synth_from basis method max conflicts = None
 abbrev pub synth_in : List (List ℕ) → Option Command
 synth_in words = synth_from (value basis_row words) (value method_row words) (value max_row words) (value conflicts_row words)
 
-abbrev pub improve_from : Option ℕ → Option Format → Option Command
-improve_from (Some cap) (Some format) = Some commands.Improve
-improve_from cap format = None
+abbrev pub improve_from : Option ℕ → Option Method → Option ℕ → Option ℕ → Option ℕ → Option Format → Option Command
+improve_from (Some basis) (Some method) (Some cap) (Some rounds) (Some conflicts) (Some format) =
+    Some (commands.Improve (record { basis = basis; method = method; cap = cap; rounds = rounds; conflicts = conflicts }))
+improve_from basis method cap rounds conflicts format = None
 
 abbrev pub improve_in : List (List ℕ) → Option Command
-improve_in words = improve_from (value cap_row words) (value format_row words)
+improve_in words = improve_from (value basis_row words) (value method_row words) (value cap_row words) (value rounds_row words) (value conflicts_row words) (value format_row words)
 
 abbrev pub equiv_from : Option ℕ → Option Command
 equiv_from (Some conflicts) = Some (commands.Equiv conflicts)
@@ -113,6 +115,6 @@ abbrev pub IsAskable : Command → Type 0
 IsAskable commands.Agree = Unit {0}
 IsAskable commands.Recheck = Unit {0}
 IsAskable (commands.Synth settings) = IsInRange settings
-IsAskable commands.Improve = Unit {0}
+IsAskable (commands.Improve settings) = improver.IsInRange settings
 IsAskable (commands.Equiv conflicts) = IsBudget conflicts
 IsAskable (commands.Gen blocks) = (1 ≤ blocks) × (blocks ≤ most_blocks)

@@ -8,6 +8,7 @@ use Rattle.op_basis.specs.declared.error.BasisError.{BasisError}
 use Rattle.enc_theory.specs.declared.data.Method.{Method}
 use Rattle.settings.specs.Methods.{method_named}
 use Rattle.settings.specs.Synth.{usual, most_steps, most_conflicts}
+use Rattle.settings.specs.Improve as improver
 use Rattle.command_line.specs.declared.table.Kind.{Kind}
 use Rattle.command_line.specs.declared.table.Kind.TheVariants.{Agree, Recheck, Synth, Improve, Equiv, Gen}
 use Rattle.command_line.specs.declared.table.Deed.{Deed}
@@ -69,9 +70,13 @@ max_row = number_row (codes "--max") 0 most_steps (Some usual.max)
 abbrev pub conflicts_row : Row ℕ
 conflicts_row = number_row (codes "--conflicts") 1 most_conflicts (Some usual.conflicts)
 
--- the most gates of a window: none so far, and it has to be named
+-- the most gates of a window
 abbrev pub cap_row : Row ℕ
-cap_row = number_row (codes "--cap") 0 0 None
+cap_row = number_row (codes "--cap") 0 improver.most_gates_of_window (Some improver.usual.cap)
+
+-- how many rounds may change something
+abbrev pub rounds_row : Row ℕ
+rounds_row = number_row (codes "--rounds") 1 improver.most_rounds (Some improver.usual.rounds)
 
 abbrev pub format_row : Row Format
 format_row = record { name = codes "--format"; read = format_in; default = Some Blif }
@@ -113,6 +118,6 @@ abbrev pub options_of : Kind → List (List ℕ)
 options_of Agree = []
 options_of Recheck = []
 options_of Synth = basis_row.name ∷ method_row.name ∷ max_row.name ∷ conflicts_row.name ∷ []
-options_of Improve = cap_row.name ∷ format_row.name ∷ []
+options_of Improve = basis_row.name ∷ method_row.name ∷ cap_row.name ∷ rounds_row.name ∷ conflicts_row.name ∷ format_row.name ∷ []
 options_of Equiv = conflicts_row.name ∷ []
 options_of Gen = blocks_row.name ∷ run_row.name ∷ []

@@ -3,13 +3,14 @@ use Rattle.std.specs.Prelude.{◌≡◌, ℕ, List, [], ◌∷◌, true, Some, A
 use Rattle.std.specs.List.{IsDistinct, flat_map}
 use Rattle.std.specs.Map.{keys_of}
 use Rattle.settings.specs.declared.synth.SynthSettings.{SynthSettings}
+use Rattle.settings.specs.declared.improve.ImproveSettings.{ImproveSettings}
 use Rattle.command_line.specs.declared.command.Command.{Command}
 use Rattle.command_line.specs.declared.command.Command.TheVariants as commands
 use Rattle.command_line.specs.declared.table.Kind.{Kind}
 use Rattle.command_line.specs.declared.table.Kind.TheVariants as kinds
 use Rattle.command_line.specs.declared.table.Deed.TheVariants.{Write}
 use Rattle.command_line.specs.declared.table.Format.TheVariants.{Blif}
-use Rattle.command_line.specs.Options.{Row, is_word, is_among, basis_row, method_row, max_row, conflicts_row, cap_row, format_row, blocks_row, run_row, kind_text, options_of}
+use Rattle.command_line.specs.Options.{Row, is_word, is_among, basis_row, method_row, max_row, conflicts_row, cap_row, rounds_row, format_row, blocks_row, run_row, kind_text, options_of}
 
 -- a name and the word behind it
 abbrev pub Pair : Type 0
@@ -34,8 +35,12 @@ pub record GivesSynth (pairs : List Pair) (s : SynthSettings) : Type 0 where
   pub max : Gives max_row pairs s.max
   pub conflicts : Gives conflicts_row pairs s.conflicts
 
-pub record GivesImprove (pairs : List Pair) : Type 0 where
-  pub cap : Gives cap_row pairs 0
+pub record GivesImprove (pairs : List Pair) (s : ImproveSettings) : Type 0 where
+  pub basis : Gives basis_row pairs s.basis
+  pub method : Gives method_row pairs s.method
+  pub cap : Gives cap_row pairs s.cap
+  pub rounds : Gives rounds_row pairs s.rounds
+  pub conflicts : Gives conflicts_row pairs s.conflicts
   pub format : Gives format_row pairs Blif
 
 pub record GivesGen (pairs : List Pair) (count : ℕ) : Type 0 where
@@ -47,7 +52,7 @@ abbrev pub GivesAll : List Pair → Command → Type 0
 GivesAll pairs commands.Agree = Unit {0}
 GivesAll pairs commands.Recheck = Unit {0}
 GivesAll pairs (commands.Synth settings) = GivesSynth pairs settings
-GivesAll pairs commands.Improve = GivesImprove pairs
+GivesAll pairs (commands.Improve settings) = GivesImprove pairs settings
 GivesAll pairs (commands.Equiv budget) = Gives conflicts_row pairs budget
 GivesAll pairs (commands.Gen blocks) = GivesGen pairs blocks
 
@@ -55,7 +60,7 @@ abbrev pub kind_of : Command → Kind
 kind_of commands.Agree = kinds.Agree
 kind_of commands.Recheck = kinds.Recheck
 kind_of (commands.Synth settings) = kinds.Synth
-kind_of commands.Improve = kinds.Improve
+kind_of (commands.Improve settings) = kinds.Improve
 kind_of (commands.Equiv budget) = kinds.Equiv
 kind_of (commands.Gen blocks) = kinds.Gen
 

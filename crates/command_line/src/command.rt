@@ -1,6 +1,6 @@
 //! What words can ask for.
 
-use settings::SynthSettings;
+use settings::{ImproveSettings, SynthSettings};
 
 /// What the program is asked to do.
 #[derive(Clone, Copy, Debug, PartialEq, Eq)]
@@ -11,8 +11,8 @@ pub enum Command {
     Recheck,
     /// Find a chain with the fewest steps, and write the certificate.
     Synth(SynthSettings),
-    /// Write a netlist again that does the same, without the gates that nothing reads.
-    Improve,
+    /// Write a netlist again that does the same with no more gates, by its windows.
+    Improve(ImproveSettings),
     /// Say whether two netlists do the same, with a budget of so many learnt clauses.
     Equiv(u32),
     /// Write a netlist of so many blocks, 1 to 10,000.

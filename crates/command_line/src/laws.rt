@@ -1,10 +1,12 @@
 //! What the definitions come to. Each law is the contract of a function that does nothing.
-ghost use Rattle.std.specs.Prelude.{◌↔◌, ℕ, List, ◌∷◌};
+ghost use Rattle.std.specs.Prelude.{◌↔◌, ℕ, List, [], ◌∷◌, codes};
 ghost use Rattle.std.specs.List.Sorted.{IsPermutation};
 ghost use Rattle.settings.specs.declared.synth.SynthSettings.{SynthSettings};
-ghost use Rattle.settings.specs.Synth.{IsInRange};
+ghost use Rattle.settings.specs.declared.improve.ImproveSettings.{ImproveSettings};
+ghost use Rattle.settings.specs.Synth.{usual, IsInRange};
+ghost use Rattle.settings.specs.Improve as improver;
 ghost use Rattle.command_line.specs.declared.command.Command.{Command};
-ghost use Rattle.command_line.specs.declared.command.Command.TheVariants.{Synth, Equiv};
+ghost use Rattle.command_line.specs.declared.command.Command.TheVariants.{Synth, Improve, Equiv};
 ghost use Rattle.command_line.specs.CommandLine.{AsksFor, IsBudget};
 ghost use Rattle.command_line.specs.Spelling.{Pair, flat, Spells};
 
@@ -21,8 +23,15 @@ pub fn order_of_options_is_free()
         AsksFor (name ∷ flat pairs) command → AsksFor (name ∷ flat other) command }
 {}
 
-/// What `synth` is asked with is in its ranges, and so is the budget of `equiv`.
+/// What `synth` and `improve` are asked with is in their ranges, and so is the budget of `equiv`.
 pub fn settings_are_in_range()
     ensures synth { (words : List (List ℕ)) (settings : SynthSettings) → AsksFor words (Synth settings) → IsInRange settings }
+    ensures improve { (words : List (List ℕ)) (settings : ImproveSettings) → AsksFor words (Improve settings) → improver.IsInRange settings }
     ensures equiv { (words : List (List ℕ)) (budget : ℕ) → AsksFor words (Equiv budget) → IsBudget budget }
+{}
+
+/// `synth` and `improve` alone ask with what is usual.
+pub fn names_alone_ask_for_what_is_usual()
+    ensures synth { AsksFor (codes "synth" ∷ []) (Synth usual) }
+    ensures improve { AsksFor (codes "improve" ∷ []) (Improve improver.usual) }
 {}

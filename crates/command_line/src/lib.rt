@@ -21,7 +21,7 @@ mod table;
 mod words;
 
 pub use command::{Command, WordsError};
-pub use settings::SynthSettings;
+pub use settings::{ImproveSettings, SynthSettings};
 pub use words::read_words;
 
 #[cfg(test)]

@@ -7,7 +7,10 @@ ghost use Rattle.command_line.specs.CommandLine.{value};
 
 use crate::pairs::{is_word, word_behind};
 use op_basis::{Basis, read_basis};
-use settings::{MOST_CONFLICTS, MOST_STEPS, Method, SynthSettings, method_named};
+use settings::{
+    ImproveSettings, MOST_CONFLICTS, MOST_GATES_OF_WINDOW, MOST_ROUNDS, MOST_STEPS, Method,
+    SynthSettings, method_named,
+};
 use text_core::number_up_to;
 
 /// A command by its name.
@@ -42,6 +45,8 @@ const MAX: &[u8] = b"--max";
 const CONFLICTS: &[u8] = b"--conflicts";
 
 const CAP: &[u8] = b"--cap";
+
+const ROUNDS: &[u8] = b"--rounds";
 
 const FORMAT: &[u8] = b"--format";
 
@@ -89,7 +94,14 @@ pub(crate) fn takes(kind: Kind, name: &[u8]) -> bool
                 || is_word(name, MAX)
                 || is_word(name, CONFLICTS)
         }
-        Kind::Improve => is_word(name, CAP) || is_word(name, FORMAT),
+        Kind::Improve => {
+            is_word(name, BASIS)
+                || is_word(name, METHOD)
+                || is_word(name, CAP)
+                || is_word(name, ROUNDS)
+                || is_word(name, CONFLICTS)
+                || is_word(name, FORMAT)
+        }
         Kind::Equiv => is_word(name, CONFLICTS),
         Kind::Gen => is_word(name, BLOCKS) || is_word(name, RUN),
     }
@@ -153,11 +165,20 @@ pub(crate) fn given_conflicts(words: &[String]) -> Option<u32>
     number(CONFLICTS, 1, MOST_CONFLICTS, Some(usual), words)
 }
 
-/// The value of `--cap`, which has to be named.
+/// The value of `--cap`.
 pub(crate) fn given_cap(words: &[String]) -> Option<u32>
     ensures { result ≡ value spec.cap_row (map string_bytes words.now) }
 {
-    number(CAP, 0, 0, None, words)
+    let usual = ImproveSettings::usual().cap;
+    number(CAP, 0, MOST_GATES_OF_WINDOW, Some(usual), words)
+}
+
+/// The value of `--rounds`.
+pub(crate) fn given_rounds(words: &[String]) -> Option<u32>
+    ensures { result ≡ value spec.rounds_row (map string_bytes words.now) }
+{
+    let usual = ImproveSettings::usual().rounds;
+    number(ROUNDS, 1, MOST_ROUNDS, Some(usual), words)
 }
 
 /// The value of `--format`.

@@ -1,6 +1,6 @@
 //! Lines and what they ask for.
 
-use crate::{Command, SynthSettings, WordsError, read_words};
+use crate::{Command, ImproveSettings, SynthSettings, WordsError, read_words};
 use op_basis::Basis;
 use settings::Method;
 use std::alloc::{AllocError, Global};
@@ -25,8 +25,6 @@ fn lines_ask_for_commands(rt: HostRuntime) -> Result<(), Fail> {
     for (line, command) in [
         ("agree", Command::Agree),
         ("recheck", Command::Recheck),
-        ("improve --cap 0", Command::Improve),
-        ("improve --format blif --cap 0", Command::Improve),
         ("equiv", Command::Equiv(100_000)),
         ("equiv --conflicts 7", Command::Equiv(7)),
         ("gen --blocks 3", Command::Gen(3)),
@@ -78,6 +76,47 @@ fn what_is_not_named_has_its_default(rt: HostRuntime) -> Result<(), Fail> {
 }
 
 #[test]
+fn improve_is_asked_with_settings(rt: HostRuntime) -> Result<(), Fail> {
+    for (line, basis, method, cap, rounds, conflicts) in [
+        ("improve", 65_535, Method::Ssv, 5, 1000, 100_000),
+        (
+            "improve --format blif --cap 0",
+            65_535,
+            Method::Ssv,
+            0,
+            1000,
+            100_000,
+        ),
+        (
+            "improve --rounds 1 --cap 8 --basis nand --conflicts 7 --method fence",
+            16_384,
+            Method::Fence,
+            8,
+            1,
+            7,
+        ),
+        (
+            "improve --rounds 100000 --conflicts 10000000",
+            65_535,
+            Method::Ssv,
+            5,
+            100_000,
+            10_000_000,
+        ),
+    ] {
+        let command = Command::Improve(ImproveSettings {
+            basis: Basis::new(basis),
+            method,
+            cap,
+            rounds,
+            conflicts,
+        });
+        assert_eq!(rt; asked(rt.alloc(), line)?, Some(command), "{line}");
+    }
+    Ok(())
+}
+
+#[test]
 fn other_words_ask_for_none(rt: HostRuntime) -> Result<(), Fail> {
     for line in [
         "",
@@ -102,7 +141,15 @@ fn other_words_ask_for_none(rt: HostRuntime) -> Result<(), Fail> {
         "synth --basis none",
         "synth -- --max 3",
         "improve --cap 0 --cap 0",
-        "improve --format bench --basis all",
+        "improve --cap 9",
+        "improve --cap 05",
+        "improve --rounds 0",
+        "improve --rounds 100001",
+        "improve --conflicts 0",
+        "improve --basis",
+        "improve --method none",
+        "improve --max 3",
+        "improve --format bench",
     ] {
         assert_eq!(rt; asked(rt.alloc(), line)?, None, "{line}");
     }

@@ -7,9 +7,9 @@ use crate::command::{Command, WordsError};
 use crate::pairs::are_options;
 use crate::table::{
     Kind, given_basis, given_blocks, given_cap, given_conflicts, given_deed, given_format,
-    given_max, given_method, kind_named,
+    given_max, given_method, given_rounds, kind_named,
 };
-use settings::SynthSettings;
+use settings::{ImproveSettings, SynthSettings};
 
 /// `synth` with the values of its options.
 fn synth_in(words: &[String]) -> Option<Command>
@@ -37,10 +37,19 @@ fn synth_in(words: &[String]) -> Option<Command>
 fn improve_in(words: &[String]) -> Option<Command>
     ensures { result ≡ spec.improve_in (map string_bytes words.now) }
 {
-    match (given_cap(words), given_format(words)) {
-        (Some(_), Some(_)) => Some(Command::Improve),
-        _ => None,
-    }
+    let basis = given_basis(words)?;
+    let method = given_method(words)?;
+    let cap = given_cap(words)?;
+    let rounds = given_rounds(words)?;
+    let conflicts = given_conflicts(words)?;
+    let _blif = given_format(words)?;
+    Some(Command::Improve(ImproveSettings {
+        basis,
+        method,
+        cap,
+        rounds,
+        conflicts,
+    }))
 }
 
 /// `equiv` with the value of its option.
@@ -94,8 +103,8 @@ fn command_of(words: &[String]) -> Option<Command>
     command_with(kind, options)
 }
 
-/// The command that the words ask for, the program's own name left out: `agree`, `recheck`, `synth`
-/// or `improve`, each with its options. Every other list of words, the empty one among them, is
+/// The command that the words ask for, the program's own name left out: `agree`, `recheck`, `synth`,
+/// `improve`, `equiv` or `gen`, each with its options. Every other list of words, the empty one among them, is
 /// `Usage`.
 #[tactic(auto, using(crate::proofs::Ranges::reading))]
 pub fn read_words(words: &Vec<String>) -> Result<Command, WordsError>

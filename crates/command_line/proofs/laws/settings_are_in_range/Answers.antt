@@ -1,9 +1,12 @@
-use Rattle.command_line.specs.declared.command.Command.TheVariants.{Synth, Equiv}
+use Rattle.command_line.specs.declared.command.Command.TheVariants.{Synth, Improve, Equiv}
 use Rattle.command_line.proofs.Ranges.{command_range}
 use Rattle.command_line.proofs.laws.settings_are_in_range.Goals as goal
 
 pub returns-clause-synth : goal.returns-clause-synth
 returns-clause-synth c words settings = command_range words (Synth settings)
+
+pub returns-clause-improve : goal.returns-clause-improve
+returns-clause-improve c words settings = command_range words (Improve settings)
 
 pub returns-clause-equiv : goal.returns-clause-equiv
 returns-clause-equiv c words budget = command_range words (Equiv budget)

@@ -1,0 +1,11 @@
+use Rattle.std.proofs.Common.{refl}
+use Rattle.command_line.specs.CommandLine.{command_of, are_options, word_behind}
+use Rattle.command_line.proofs.laws.names_alone_ask_for_what_is_usual.Goals as goal
+
+pub returns-clause-synth : goal.returns-clause-synth
+unfolding command_of are_options word_behind
+returns-clause-synth c = refl
+
+pub returns-clause-improve : goal.returns-clause-improve
+unfolding command_of are_options word_behind
+returns-clause-improve c = refl
