@@ -14,14 +14,14 @@ use window_core::{Window, spec_of, window};
 
 /// A window, and a chain that fits it.
 #[derive(Drop)]
-struct Pair {
+pub struct Pair {
     window: Window,
     chain: Chain,
 }
 
 /// The window of a root and a count with the chain of a block, if the chain fits and has no more steps than
 /// the window has gates.
-fn pair_of(
+pub fn pair_of(
     alloc: Global,
     net: &Net,
     root: u32,
@@ -84,7 +84,11 @@ fn agrees(alloc: Global, net: &Net, pair: &Pair) -> Result<bool, AllocError>
 }
 
 /// The nets that the chain leaves, with its dead gates and without, if it agrees.
-fn substituted_nets(alloc: Global, net: &Net, pair: &Pair) -> Result<Option<(Net, Net)>, AllocError>
+pub fn substituted_nets(
+    alloc: Global,
+    net: &Net,
+    pair: &Pair,
+) -> Result<Option<(Net, Net)>, AllocError>
     requires belongs { Belongs net.now pair.now.window }
     requires fits { Fits pair.now.window pair.now.chain }
     requires few { length pair.now.chain.steps ≤ length pair.now.window.gates }

@@ -11,4 +11,10 @@ mod nets;
 #[cfg(test)]
 mod plain;
 #[cfg(test)]
+mod specifications;
+#[cfg(test)]
+mod substitutions;
+#[cfg(test)]
+mod surrounds;
+#[cfg(test)]
 mod windows;

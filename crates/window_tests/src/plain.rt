@@ -7,7 +7,7 @@ use net_core::{Gate, Net, Sig};
 use std::alloc::{AllocError, Global};
 
 /// The gate at a place, if there is one.
-fn gate_of(net: &Net, place: u32) -> Option<&Gate> {
+pub fn gate_of(net: &Net, place: u32) -> Option<&Gate> {
     let first = net.sources() + 1;
     if place < first {
         return None;

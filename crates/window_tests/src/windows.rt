@@ -19,7 +19,7 @@ fn is_gate(net: &Net, place: u32) -> bool
 }
 
 /// The window of a root and a count, alone.
-fn alone(alloc: Global, net: &Net, root: u32, count: u32) -> Result<Option<Window>, AllocError>
+pub fn alone(alloc: Global, net: &Net, root: u32, count: u32) -> Result<Option<Window>, AllocError>
     ensures { IfOk result (λ answer. IfSome answer (λ w. IsWindow net.now root None count w)) }
 {
     if count == 0 || count > 8 || !is_gate(net, root) {
@@ -65,7 +65,7 @@ fn has_parts(window: Option<Window>, gates: &[u32], inputs: &[u32], outputs: &[u
 }
 
 /// A signal that is a place.
-fn at(place: u32) -> Sig {
+pub fn at(place: u32) -> Sig {
     Sig::Place(place)
 }
 
@@ -105,7 +105,7 @@ fn no_more_than_eight_are_partners(rt: HostRuntime) -> Result<(), AllocError> {
 }
 
 /// Whether the window of a root and a count, alone, has these words of values and care rows.
-fn has_words(
+pub fn has_words(
     alloc: Global,
     net: &Net,
     root: u32,
@@ -181,7 +181,7 @@ fn any_signal(state: &mut u32, place: u32) -> Sig {
 }
 
 /// A net of 2 to 4 sources and 4 to 12 gates.
-fn any_net(alloc: Global, state: &mut u32) -> Result<Option<Net>, AllocError> {
+pub fn any_net(alloc: Global, state: &mut u32) -> Result<Option<Net>, AllocError> {
     let sources = 2 + next(state) % 3;
     let count = 4 + next(state) % 9;
     let mut gates = Vec::new(alloc);
