@@ -10,7 +10,13 @@ fn refusal(error: CompareError) -> &'static [u8] {
         CompareError::NoSecond => b"NoSecond",
         CompareError::DifferentInterface => b"DifferentInterface",
         CompareError::Memory => b"Memory",
-        CompareError::First(NetError::NotSupported(6, _)) => b"First NotSupported 6",
+        CompareError::First(NetError::NotSupported(6, word)) => if word.get()
+            == b".model".as_slice()
+        {
+            b"First NotSupported 6 .model"
+        } else {
+            b"First NotSupported 6"
+        },
         CompareError::First(NetError::Syntax(2)) => b"First Syntax 2",
         CompareError::First(_) => b"First",
         CompareError::Second(NetError::Syntax(3)) => b"Second Syntax 3",
@@ -69,7 +75,7 @@ fn netlists_that_cannot_be_compared_are_refused(rt: HostRuntime) -> Result<(), A
         // without the first `.end` all is the first document
         (
             b".model p\n.inputs a b\n.outputs y\n.names a b y\n11 1\n.model q\n.inputs a b\n.outputs y\n.names y\n.end\n".as_slice(),
-            b"First NotSupported 6".as_slice(),
+            b"First NotSupported 6 .model".as_slice(),
         ),
         (
             b".model p\n.inputs a b\n.outputs y\n.names a b y\n11 1\n".as_slice(),
@@ -88,6 +94,11 @@ fn netlists_that_cannot_be_compared_are_refused(rt: HostRuntime) -> Result<(), A
         (
             b".inputs\n.end\n.outputs y\n.end\n".as_slice(),
             b"Second Undriven".as_slice(),
+        ),
+        // behind the `.end` of the second nothing may follow
+        (
+            b".inputs\n.end\n.inputs\n.end\nx\n".as_slice(),
+            b"Second Syntax 3".as_slice(),
         ),
         // the latches have different first values
         (
@@ -125,6 +136,32 @@ fn equal_and_undecided_netlists_are_told_with_a_log(rt: HostRuntime) -> Result<(
     ] {
         let text_told = told(rt.alloc(), text, conflicts)?;
         assert!(rt; is_log(&text_told, word));
+    }
+    Ok(())
+}
+
+#[test]
+fn netlists_are_equal_to_what_improve_writes(rt: HostRuntime) -> Result<(), AllocError> {
+    for text in [
+        // XOR by three gates and by one
+        b".model x\n.inputs a b\n.outputs y\n.names a b p\n10 1\n.names a b q\n01 1\n\
+            .names p q y\n1- 1\n-1 1\n.end\n\
+            .model x\n.inputs a b\n.outputs y\n.names a b y\n01 1\n10 1\n.end\n"
+            .as_slice(),
+        // a line that goes on, an output that is an input, a latch, rows of value 0, two outputs on one gate
+        b".model m\n.inputs a b \\\nclk\n.outputs a y z\n.latch d q re clk 2\n.names a b w\n00 0\n\
+            .names w q d\n11 1\n.names d y\n1 1\n.names d z\n1 1\n.end\n\
+            .model m\n.inputs a b clk\n.outputs a y z\n.latch y q re clk 2\n.names a b g1\n01 1\n10 1\n11 1\n\
+            .names g1 q y\n11 1\n.names y z\n1 1\n.end\n"
+            .as_slice(),
+        // a table of three inputs
+        b".model t\n.inputs a b c\n.outputs y\n.names a b c y\n1-0 1\n-11 1\n.end\n\
+            .model t\n.inputs a b c\n.outputs y\n.names a c g1\n10 1\n.names b c g2\n11 1\n\
+            .names g1 g2 y\n01 1\n10 1\n11 1\n.end\n"
+            .as_slice(),
+    ] {
+        let text_told = told(rt.alloc(), text, 1000)?;
+        assert!(rt; is_log(&text_told, b"equal\n"));
     }
     Ok(())
 }
