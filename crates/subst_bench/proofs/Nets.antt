@@ -1,7 +1,7 @@
-use Rattle.std.specs.Prelude.{◌≡◌, ℕ, zero, suc, ◌+◌, ◌<◌, List, [], ◌∷◌, ◌++◌, length, slice_get, Some, refl}
-use Rattle.std.proofs.Common.{arith, sym, ◌∙◌, ap, subst}
+use Rattle.std.specs.Prelude.{◌≡◌, ℕ, ◌+◌, List, [], ◌∷◌, ◌++◌, length}
+use Rattle.std.proofs.Common.{sym, subst}
 use Rattle.net_theory.specs.declared.data.Gate.{Gate}
-use Rattle.net_theory.specs.Net.{Net, IsGateAt, AreGates}
+use Rattle.net_theory.specs.Net.{IsGateAt, AreGates}
 use Rattle.net_theory.specs.ValueLaws.{gates_push}
 
 pub no_gates : (sources : ℕ) (gs : List Gate) → gs ≡ [] → AreGates sources gs

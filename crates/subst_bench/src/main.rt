@@ -6,8 +6,8 @@
 //! ```
 #![tactic(auto)]
 
-ghost use Rattle.std.specs.Prelude.{◌≡◌, ◌+◌, ◌≤◌, ◌<◌, ◌^◌, length, vec_len, OnOk, IfOk, All, []};
-ghost use Rattle.net_theory.specs.Net.{AreGates, IsSigBelow, IsNet};
+ghost use Rattle.std.specs.Prelude.{◌≡◌, ◌+◌, ◌≤◌, ◌<◌, ◌^◌, vec_len, IfOk, All};
+ghost use Rattle.net_theory.specs.Net.{AreGates, IsSigBelow};
 
 use chain_core::read_chain;
 use net_core::{Gate, Net, Op, Sig, drop_dead};

@@ -1,4 +1,4 @@
-use Rattle.std.proofs.Common.{◌≡◌, ◌+◌, length, vec_len, sym, ◌∙◌, arith}
+use Rattle.std.proofs.Common.{◌≡◌, length, vec_len, sym, ◌∙◌, arith}
 use Rattle.subst_bench.proofs.Nets.{push_gate, no_gates}
 use Rattle.subst_bench.proofs.gates.Goals as goal
 

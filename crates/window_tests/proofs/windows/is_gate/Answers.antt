@@ -1,4 +1,4 @@
-use Rattle.std.proofs.Common.{◌∙◌, arith}
+use Rattle.std.proofs.Common.{arith}
 use Rattle.std.proofs.lemmas.Bool.{ltb-true}
 use Rattle.window_theory.specs.WindowLaws.{gate_at}
 use Rattle.window_tests.proofs.windows.is_gate.Goals as goal
