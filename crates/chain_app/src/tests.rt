@@ -277,6 +277,36 @@ fn equiv_tells(rt: HostRuntime) -> Result<(), Fail> {
     Ok(())
 }
 
+/// XOR of four inputs as a tree, and as a row.
+const TREE: &str =
+    ".inputs a b c d\n.outputs y\n.names a b p\n10 1\n01 1\n.names c d q\n10 1\n01 1\n.names p q y\n10 1\n01 1\n.end\n";
+
+const ROW: &str =
+    ".inputs a b c d\n.outputs y\n.names a b p\n10 1\n01 1\n.names p c q\n10 1\n01 1\n.names q d y\n10 1\n01 1\n.end\n";
+
+/// Whether a run told a log behind this word, and nothing on the notes.
+fn tells_log(seen: &Seen, status: u8, word: &str) -> bool {
+    let out = seen.out.written();
+    seen.status == status
+        && out.starts_with(word.as_bytes())
+        && out.ends_with(b"done\n")
+        && seen.note.written().is_empty()
+}
+
+#[test]
+fn equiv_tells_its_log(rt: HostRuntime) -> Result<(), Fail> {
+    for (line, first, second, status, word) in [
+        ("equiv", THREE_GATES, ONE_GATE, 0, "equal\n"),
+        ("equiv", TREE, ROW, 0, "equal\n"),
+        ("equiv --conflicts 1", TREE, ROW, 4, "undecided\n"),
+    ] {
+        let input = joined(rt.alloc(), first, second)?;
+        let seen = told(rt.alloc(), line, input.as_bytes())?;
+        assert!(rt; tells_log(&seen, status, word), "{line}");
+    }
+    Ok(())
+}
+
 #[test]
 fn gen_tells(rt: HostRuntime) -> Result<(), Fail> {
     let one =

@@ -173,7 +173,7 @@ fn circuits_are_compared(rt: HostRuntime) {
 
 #[test]
 fn circuits_of_other_interfaces_are_not_compared(rt: HostRuntime) {
-    let rows: [(&[u8], &[u8]); 7] = [
+    let rows: [(&[u8], &[u8]); 8] = [
         // inputs in another order, one output more, one clock
         (b".inputs a b\n.end\n", b".inputs b a\n.end\n"),
         (
@@ -181,7 +181,7 @@ fn circuits_of_other_interfaces_are_not_compared(rt: HostRuntime) {
             b".inputs a\n.outputs a a\n.end\n",
         ),
         (b".clock c\n.end\n", b".end\n"),
-        // latches: their order, their number, a control, a first value
+        // latches: their order, their number, how and by what one is controlled, a first value
         (
             b".latch p p\n.latch q q\n.end\n",
             b".latch q q\n.latch p p\n.end\n",
@@ -190,6 +190,10 @@ fn circuits_of_other_interfaces_are_not_compared(rt: HostRuntime) {
         (
             b".clock c\n.latch p p re c 0\n.end\n",
             b".clock c\n.latch p p fe c 0\n.end\n",
+        ),
+        (
+            b".clock b c\n.latch p p re b 0\n.end\n",
+            b".clock b c\n.latch p p re c 0\n.end\n",
         ),
         (b".latch p p\n.end\n", b".latch p p 3\n.end\n"),
     ];

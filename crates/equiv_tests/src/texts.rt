@@ -19,6 +19,7 @@ fn refusal(error: CompareError) -> &'static [u8] {
         },
         CompareError::First(NetError::Syntax(2)) => b"First Syntax 2",
         CompareError::First(_) => b"First",
+        CompareError::Second(NetError::Syntax(1)) => b"Second Syntax 1",
         CompareError::Second(NetError::Syntax(3)) => b"Second Syntax 3",
         CompareError::Second(NetError::Undriven(_)) => b"Second Undriven",
         CompareError::Second(_) => b"Second",
@@ -95,6 +96,20 @@ fn netlists_that_cannot_be_compared_are_refused(rt: HostRuntime) -> Result<(), A
             b".inputs\n.end\n.outputs y\n.end\n".as_slice(),
             b"Second Undriven".as_slice(),
         ),
+        // the first's fault is told before the second's
+        (
+            b".inputs\nx y\n.end\nx\n.end\n".as_slice(),
+            b"First Syntax 2".as_slice(),
+        ),
+        // what stands between belongs to the second
+        (
+            b".inputs\n.end\nx\n.inputs\n.end\n".as_slice(),
+            b"Second Syntax 1".as_slice(),
+        ),
+        (
+            b".inputs\n.end\n# between\n\nx\n.inputs\n.end\n".as_slice(),
+            b"Second Syntax 3".as_slice(),
+        ),
         // behind the `.end` of the second nothing may follow
         (
             b".inputs\n.end\n.inputs\n.end\nx\n".as_slice(),
@@ -131,8 +146,15 @@ fn equal_and_undecided_netlists_are_told_with_a_log(rt: HostRuntime) -> Result<(
             1,
             b"undecided\n".as_slice(),
         ),
-        // no sink at all
+        // no sink at all, and a second without a line
         (b".end\n.end\n".as_slice(), 1, b"equal\n".as_slice()),
+        (b".end".as_slice(), 1, b"equal\n".as_slice()),
+        // lines between that say nothing, line ends of two bytes, and a second without its end
+        (
+            b".inputs a\r\n.outputs a\r\n.end\r\n\r\n# between\r\n.inputs a\r\n.outputs a".as_slice(),
+            1,
+            b"equal\n".as_slice(),
+        ),
     ] {
         let text_told = told(rt.alloc(), text, conflicts)?;
         assert!(rt; is_log(&text_told, word));
