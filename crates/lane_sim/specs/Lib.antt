@@ -1,5 +1,7 @@
 pub mod Checking
 pub mod CheckingLaws
+pub mod Chosen
+pub mod ChosenLaws
 pub mod Combining
 pub mod Cone
 pub mod ConeLaws

@@ -165,7 +165,7 @@ used_end c w signals os words are room = λ i o at.
     let s : Sig = get_or signals i sigs.Zero in
     operand_ends (places c) (width_of w.rows) (length w.lanes) s o (used_at (places c) (width_of w.rows) signals os i o s are room at (slice_get-get_or signals i sigs.Zero low)) (omega (arith, words.size))
 
-same_pattern : (c : Cone) (w : Words) (signals : List Sig) (os : List Operand) (j b : ℕ) → AreWords c w → AreOperands (places c) (width_of w.rows) signals (length signals) os → length signals ≤ length os → b < 64 → 64 * j + b < w.rows
+pub same_pattern : (c : Cone) (w : Words) (signals : List Sig) (os : List Operand) (j b : ℕ) → AreWords c w → AreOperands (places c) (width_of w.rows) signals (length signals) os → length signals ≤ length os → b < 64 → 64 * j + b < w.rows
     → pattern_at w.lanes (take (length signals) os) j b ≡ pattern_under c signals (64 * j + b)
 same_pattern c w signals os j b words are room low within =
     pattern_same (λ (o : Operand). digit (operand_word w.lanes o j) b) (sig_value (value_in c (64 * j + b))) (take (length signals) os) signals (length-take-le (length signals) os room)

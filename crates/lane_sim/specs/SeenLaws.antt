@@ -20,7 +20,7 @@ at_most_32 k few = pow_mono few
 
 -- ---- digits
 
-no_digit : (t : ℕ) → digit 0 t ≡ true → ⊥
+pub no_digit : (t : ℕ) → digit 0 t ≡ true → ⊥
 no_digit t e = true≢false (sym e ∙ ap (λ (x : ℕ). x == 1) (bit_at-zero t))
 
 -- a digit that is 1 stands below the number's end
@@ -43,7 +43,7 @@ not_bits (suc (suc x)) low = absurd (omega (arith, low))
 digit_not : (n i : ℕ) → n < 2 ^ 64 → i < 64 → digit (bit_not w64 n) i ≡ not (digit n i)
 digit_not n i low within = ap (λ (x : ℕ). x == 1) (bit_at_not w64 n i low within) ∙ not_bits (bit_at n i) (bit_at-lt n i)
 
-both_true : (a b : Bool) → (a && b) ≡ true → (a ≡ true) × (b ≡ true)
+pub both_true : (a b : Bool) → (a && b) ≡ true → (a ≡ true) × (b ≡ true)
 both_true true true e = (refl, refl)
 both_true true false e = absurd (true≢false (sym e))
 both_true false b e = absurd (true≢false (sym e))
@@ -55,7 +55,7 @@ or_bits (suc zero) y lx ly e = inl refl
 or_bits (suc (suc x)) y lx ly e = absurd (omega (arith, lx))
 or_bits zero (suc (suc y)) lx ly e = absurd (omega (arith, ly))
 
-digit_or : (a b t : ℕ) → digit (bit_or a b) t ≡ true → (digit a t ≡ true) ⊎ (digit b t ≡ true)
+pub digit_or : (a b t : ℕ) → digit (bit_or a b) t ≡ true → (digit a t ≡ true) ⊎ (digit b t ≡ true)
 digit_or a b t e = or_bits (bit_at a t) (bit_at b t) (bit_at-lt a t) (bit_at-lt b t) (sym (ap (λ (x : ℕ). x == 1) (bit_at_or a b t)) ∙ e)
 
 or_left_bits : (x y : ℕ) → x < 2 → y < 2 → (x == 1) ≡ true → (max x y == 1) ≡ true
@@ -72,10 +72,10 @@ or_right_bits (suc zero) (suc zero) lx ly e = refl
 or_right_bits (suc (suc x)) y lx ly e = absurd (omega (arith, lx))
 or_right_bits x (suc (suc y)) lx ly e = absurd (omega (arith, ly))
 
-digit_or_left : (a b t : ℕ) → digit a t ≡ true → digit (bit_or a b) t ≡ true
+pub digit_or_left : (a b t : ℕ) → digit a t ≡ true → digit (bit_or a b) t ≡ true
 digit_or_left a b t e = ap (λ (x : ℕ). x == 1) (bit_at_or a b t) ∙ or_left_bits (bit_at a t) (bit_at b t) (bit_at-lt a t) (bit_at-lt b t) e
 
-digit_or_right : (a b t : ℕ) → digit b t ≡ true → digit (bit_or a b) t ≡ true
+pub digit_or_right : (a b t : ℕ) → digit b t ≡ true → digit (bit_or a b) t ≡ true
 digit_or_right a b t e = ap (λ (x : ℕ). x == 1) (bit_at_or a b t) ∙ or_right_bits (bit_at a t) (bit_at b t) (bit_at-lt a t) (bit_at-lt b t) e
 
 -- ---- one word
@@ -163,7 +163,7 @@ below_none n at rows = record {
 }
 
 -- the mask of a word has a digit for each assignment that there is
-mask_only : (rows count b : ℕ) → AreRows rows → count < width_of rows → b < 64 → digit (2 ^ min rows 64 - 1) b ≡ true → 64 * count + b < rows
+pub mask_only : (rows count b : ℕ) → AreRows rows → count < width_of rows → b < 64 → digit (2 ^ min rows 64 - 1) b ≡ true → 64 * count + b < rows
 mask_only rows count b are within low e =
     ⊎_elim
     (λ (less : rows < 64).
@@ -173,7 +173,7 @@ mask_only rows count b are within low e =
     (λ (more : 64 ≤ rows). omega (arith, more, are.whole more, within, low))
     (cases_lt rows 64)
 
-mask_all : (rows count b : ℕ) → b < 64 → 64 * count + b < rows → digit (2 ^ min rows 64 - 1) b ≡ true
+pub mask_all : (rows count b : ℕ) → b < 64 → 64 * count + b < rows → digit (2 ^ min rows 64 - 1) b ≡ true
 mask_all rows count b low within = ap (λ (x : ℕ). x == 1) (bit_at_ones (min rows 64) b (omega (arith, low, within)))
 
 pub below_more : (n : ℕ) (at : ℕ → ℕ → ℕ) (rows count seen more : ℕ) → AreRows rows → count < width_of rows → AreSeenBelow n at rows count seen → AreSeen n (at count) (2 ^ min rows 64 - 1) more → AreSeenBelow n at rows (count + 1) (bit_or seen more)

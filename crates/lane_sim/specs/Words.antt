@@ -38,3 +38,11 @@ pattern_under c signals row = pattern (sig_value (value_in c row)) signals
 pub record ArePatterns (c : Cone) (signals : List Sig) (mask : ℕ) : Type 0 where
   pub only : (t : ℕ) → digit mask t ≡ true → (row : ℕ) × (row < 2 ^ length c.leaves) × (pattern_under c signals row ≡ t)
   pub all : (row : ℕ) → row < 2 ^ length c.leaves → digit mask (pattern_under c signals row) ≡ true
+
+-- The same of some assignments, those that pass a test: a digit is 1 exactly where one of them shows the signals in its
+-- pattern.
+-- Example: of the leaf 4 and the AND of the leaves 4 and 9, under the assignments that give 9 the bit 1, the patterns
+-- 0 and 3 are seen.
+pub record ArePatternsOf (c : Cone) (signals : List Sig) (when : ℕ → Bool) (mask : ℕ) : Type 0 where
+  pub only : (t : ℕ) → digit mask t ≡ true → (row : ℕ) × (row < 2 ^ length c.leaves) × (when row ≡ true) × (pattern_under c signals row ≡ t)
+  pub all : (row : ℕ) → row < 2 ^ length c.leaves → when row ≡ true → digit mask (pattern_under c signals row) ≡ true

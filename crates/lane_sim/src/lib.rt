@@ -3,10 +3,12 @@
 //! gates; what words hold and which patterns signals show is said in `specs/Words.antt`.
 //!
 //! The one theorem: the words are the plain values for every number of leaves from 0 to 12, and a mask of
-//! patterns leaves none out and adds none.
+//! patterns leaves none out and adds none. Patterns may be asked for of some assignments alone: those that give a
+//! further signal the bit 1, or those that words name.
 #![tactic(auto)]
 
 mod checking;
+mod choosing;
 mod combining;
 mod cone;
 pub mod laws;
@@ -16,6 +18,7 @@ mod showing;
 mod simulation;
 mod words;
 
+pub use choosing::{patterns_on, patterns_where};
 pub use cone::Cone;
 pub use net_theory::{Gate, Sig};
 pub use showing::patterns;

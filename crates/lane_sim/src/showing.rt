@@ -23,7 +23,7 @@ fn ones(count: u32) -> u64
 }
 
 /// A digit for each assignment of a word that there is: all 64, or as many as there are rows.
-fn word_mask(rows: u32) -> u64
+pub(crate) fn word_mask(rows: u32) -> u64
     requires { 1 ≤ rows }
     ensures { result ≡ 2 ^ min rows 64 - 1 }
 {
@@ -31,7 +31,7 @@ fn word_mask(rows: u32) -> u64
 }
 
 /// The patterns of the operands' words under the assignments of a mask.
-fn seen(mask: u64, lanes: &[u64], operands: &[Operand], j: usize) -> u64
+pub(crate) fn seen(mask: u64, lanes: &[u64], operands: &[Operand], j: usize) -> u64
     requires few { length operands.now ≤ 6 }
     requires ends { AllEnd (length lanes.now) (j + 1) operands.now }
     ensures { AreSeen (length operands.now) (pattern_at lanes.now operands.now j) mask result }
@@ -93,7 +93,7 @@ pub fn gate_at(gates: &[(u32, Gate)], place: u32) -> Option<usize>
 }
 
 /// The row of a signal among those of a cone.
-fn operand_in(cone: &Cone, width: usize, sig: Sig) -> Operand
+pub(crate) fn operand_in(cone: &Cone, width: usize, sig: Sig) -> Operand
     requires known { IsSigAmong (places cone.now) sig }
     requires room { length (places cone.now) * width < 2 ^ 64 }
     ensures { IsOperandOf (places cone.now) width sig result }
@@ -114,7 +114,7 @@ fn operand_in(cone: &Cone, width: usize, sig: Sig) -> Operand
 }
 
 /// Writes the rows of signals, in order.
-fn fill_operands(operands: &mut [Operand], cone: &Cone, width: usize, signals: &[Sig])
+pub(crate) fn fill_operands(operands: &mut [Operand], cone: &Cone, width: usize, signals: &[Sig])
     requires count { length signals.now ≤ length operands.old }
     requires known { All (IsSigAmong (places cone.now)) signals.now }
     requires room { length (places cone.now) * width < 2 ^ 64 }

@@ -8,3 +8,14 @@ pub mod Walking
 pub mod Seen
 pub mod Surrounding
 pub mod Masking
+pub mod GrowingLaws
+pub mod RisingLaws
+pub mod WalkingLaws
+pub mod SurroundingLaws
+pub mod ConeLaws
+pub mod NotingLaws
+pub mod EndsLaws
+pub mod BoundingLaws
+pub mod LookingLaws
+pub mod SeenLaws
+pub mod MaskingLaws

@@ -58,12 +58,15 @@ pub record AreEarlier (n : Net) (list : List Earlier) : Type 0 where
 pub record Readers : Type 0 where
   pub uses : List ℕ
   pub earlier : List Earlier
+  pub last : List ℕ
 
 -- Each place has the number of its uses, where 255 stands for all numbers from 255 on, and each gate the greatest
--- gates below it that read what it reads.
+-- gates below it that read what it reads; and each place has the last gate that reads it.
 -- Example: of XOR of two sources at place 3, which is the one sink, the uses of the places 1, 2 and 3 are 1, and
 -- there are no earlier readers.
 pub record AreReaders (n : Net) (r : Readers) : Type 0 where
   pub size : length r.uses ≡ end_of n
   pub uses : (p : ℕ) → p < end_of n → slice_index_or r.uses p 0 ≡ min (uses_of n p) 255
   pub earlier : AreEarlier n r.earlier
+  pub last_size : length r.last ≡ end_of n
+  pub last : (p : ℕ) → p < end_of n → IsEarlier n (end_of n) p (slice_index_or r.last p 0)

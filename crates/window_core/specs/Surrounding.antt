@@ -7,6 +7,7 @@ use Rattle.net_theory.specs.Net.{Net, end_of}
 use Rattle.net_theory.specs.Reach.{ReadsPlace}
 use Rattle.lane_sim.specs.Cone.{place_of}
 use Rattle.window_theory.specs.Places.{among, IsRising}
+use Rattle.window_theory.specs.Paths.{LeadsUp}
 use Rattle.window_theory.specs.Surround.{LeadsTo}
 use Rattle.window_core.specs.Gates.{IsGateOf}
 use Rattle.window_core.specs.Rising.{put_sig}
@@ -27,6 +28,12 @@ pub record AreAbove (n : Net) (leaves : List ℕ) (gates : List (ℕ × Gate)) :
 abbrev pub AreCovered : List ℕ → List (ℕ × Gate) → List ℕ → Type 0
 AreCovered leaves gates places = (p : ℕ) → among places p ≡ true → (among leaves p ≡ true) ⊎ (among (gate_places gates) p ≡ true)
 
+-- one of the places, or a place from which a path leads to one
+pub record IsBehind (n : Net) (places : List ℕ) (p : ℕ) : Type 0 where
+  pub place : ℕ
+  pub inside : among places place ≡ true
+  pub why : (p ≡ place) ⊎ LeadsUp n p place
+
 -- the leaves in front of a gate that is opened, with what it reads
 abbrev pub behind_of : List ℕ → Gate → List ℕ
 behind_of front g = put_sig g.b (put_sig g.a front)
@@ -38,6 +45,8 @@ pub record IsSurround (n : Net) (places leaves : List ℕ) (gates : List (ℕ ×
   pub within : (p : ℕ) → among leaves p ≡ true → p < end_of n
   pub covered : AreCovered leaves gates places
   pub leads : (last : List ℕ) → LeadsTo n leaves last → LeadsTo n places last
+  pub leaves_behind : (p : ℕ) → among leaves p ≡ true → IsBehind n places p
+  pub gates_behind : (p : ℕ) → among (gate_places gates) p ≡ true → IsBehind n places p
 
 -- The greatest leaf was opened.
 pub record IsOpened (n : Net) (old new : List ℕ) (before after : List (ℕ × Gate)) : Type 0 where

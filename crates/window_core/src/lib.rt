@@ -28,8 +28,13 @@ mod specifying;
 mod surrounding;
 
 pub use bounding::{window, window_by};
+pub use ends::all_inputs;
+pub use growing::gate_at;
 pub use net_core::{Gate, Net, Sig};
-pub use readers::{Readers, readers_of};
+pub use readers::{Readers, earlier_of, last_reader, place_of, readers_of};
+pub use rising::{has, put};
+pub use seen::all_outputs;
 pub use shape::Window;
 pub use sharing::{is_partner_by, partners, partners_by};
-pub use specifying::spec_of;
+pub use specifying::{signals_of, spec_of};
+pub use surrounding::surround;

@@ -6,7 +6,7 @@ ghost use Rattle.net_theory.specs.declared.data.Gate.{Gate as GateValue};
 ghost use Rattle.net_theory.specs.Net.{end_of};
 ghost use Rattle.window_theory.specs.Paths.{IsGate};
 ghost use Rattle.window_core.specs.Gates.{IsGateOf};
-ghost use Rattle.window_core.specs.Readers.{named_by, named_by_gate, named_by_sinks, sum_gates, uses_of, place_of as place_named, AreReaders, AreEarlier, IsEarlierOf};
+ghost use Rattle.window_core.specs.Readers.{named_by, named_by_gate, named_by_sinks, sum_gates, uses_of, place_of as place_named, AreReaders, AreEarlier, IsEarlier, IsEarlierOf};
 ghost use Rattle.window_core.specs.Noting.{IsBefore, AreBefore, AreGrown, IsNoted, HasNoted};
 
 use net_core::{Gate, Net, Sig};
@@ -20,12 +20,13 @@ pub struct Earlier {
     pub second: u32,
 }
 
-/// The index of a net: how many operands and sinks name each place, 255 for 255 or more, and the earlier readers of
-/// what each gate reads.
+/// The index of a net: how many operands and sinks name each place, 255 for 255 or more, the earlier readers of what
+/// each gate reads, and the last reader of each place.
 #[derive(Debug, Drop)]
 pub struct Readers {
     uses: Vec<u8>,
     earlier: Vec<Earlier>,
+    last: Vec<u32>,
 }
 
 impl Model for Readers {
@@ -33,7 +34,7 @@ impl Model for Readers {
 
     ghost Value = { readers.Readers };
 
-    ghost view = { λ r. record { uses = r.uses.items; earlier = r.earlier.items } };
+    ghost view = { λ r. record { uses = r.uses.items; earlier = r.earlier.items; last = r.last.items } };
 }
 
 /// Counts a use of what a signal names.
@@ -112,7 +113,8 @@ fn note_gate(last: &mut [u32], place: u32, gate: &Gate) -> Earlier
 fn note_gates(last: &mut [u32], earlier: &mut Vec<Earlier>, net: &Net) -> Result<(), AllocError>
     requires noted { HasNoted net.now 0 last.old }
     requires none { earlier.old.items ≡ [] }
-    ensures { OnOk result (AreEarlier net.now earlier.new.items) }
+    ensures earlier { OnOk result (AreEarlier net.now earlier.new.items) }
+    ensures last { OnOk result (HasNoted net.now (length net.now.gates) last.new) }
 {
     let gates = net.gates();
     let first = net.sources() + 1;
@@ -121,17 +123,6 @@ fn note_gates(last: &mut [u32], earlier: &mut Vec<Earlier>, net: &Net) -> Result
         earlier.push(pair)?;
     }
     Ok(())
-}
-
-/// The earlier readers of what each gate reads.
-fn all_earlier(alloc: Global, net: &Net) -> Result<Vec<Earlier>, AllocError>
-    ensures { IfOk result (λ earlier. AreEarlier net.now earlier.items) }
-{
-    let gates = net.gates().len();
-    let mut last = vec![in alloc; 0u32; net.sources() as usize + 1 + gates]?;
-    let mut earlier = Vec::with_capacity(alloc, gates)?;
-    note_gates(&mut last, &mut earlier, net)?;
-    Ok(earlier)
 }
 
 /// Counts all uses in a net.
@@ -158,8 +149,15 @@ pub fn readers_of(alloc: Global, net: &Net) -> Result<Readers, AllocError>
     ensures { IfOk result (λ readers. AreReaders net.now readers) }
 {
     let uses = all_uses(alloc, net)?;
-    let earlier = all_earlier(alloc, net)?;
-    Ok(Readers { uses, earlier })
+    let gates = net.gates().len();
+    let mut last = vec![in alloc; 0u32; net.sources() as usize + 1 + gates]?;
+    let mut earlier = Vec::with_capacity(alloc, gates)?;
+    note_gates(&mut last, &mut earlier, net)?;
+    Ok(Readers {
+        uses,
+        earlier,
+        last,
+    })
 }
 
 /// The earlier readers of what a gate reads.
@@ -178,4 +176,13 @@ pub fn uses_at(readers: &Readers, net: &Net, place: u32) -> u8
     ensures { result ≡ min (uses_of net.now place) 255 }
 {
     readers.uses[place as usize]
+}
+
+/// The last gate that reads a place, 0 if there is none.
+pub fn last_reader(readers: &Readers, net: &Net, place: u32) -> u32
+    requires index { AreReaders net.now readers.now }
+    requires place { place < end_of net.now }
+    ensures { IsEarlier net.now (end_of net.now) place result }
+{
+    readers.last[place as usize]
 }

@@ -35,9 +35,9 @@ fn named_in(place: u32, gate: &Gate) -> u32
 fn inside_uses(net: &Net, gates: &[u32], place: u32) -> u32
     requires rising { IsRising gates.now }
     requires gates { (p : ℕ) → among gates.now p ≡ true → IsGate net.now p }
-    requires few { length gates.now ≤ 8 }
+    requires few { length gates.now ≤ 24 }
     ensures value { result ≡ inside_of net.now gates.now place }
-    ensures few { result ≤ 16 }
+    ensures few { result ≤ 48 }
 {
     let mut uses = 0;
     let mut left = gates;
@@ -53,7 +53,7 @@ fn is_output(net: &Net, readers: &Readers, gates: &[u32], place: u32) -> bool
     requires index { AreReaders net.now readers.now }
     requires rising { IsRising gates.now }
     requires gates { (p : ℕ) → among gates.now p ≡ true → IsGate net.now p }
-    requires few { length gates.now ≤ 8 }
+    requires few { length gates.now ≤ 24 }
     requires inside { among gates.now place ≡ true }
     ensures yes { result ≡ true → IsOutput net.now gates.now place }
     ensures no { IsOutput net.now gates.now place → result ≡ true }
@@ -63,7 +63,7 @@ fn is_output(net: &Net, readers: &Readers, gates: &[u32], place: u32) -> bool
     inside < u32::from(all)
 }
 
-/// The gates of a window that a gate outside or a sink reads, rising.
+/// Those of some gates, at most 24, that a gate outside or a sink reads, rising.
 pub fn all_outputs(
     alloc: Global,
     net: &Net,
@@ -73,9 +73,9 @@ pub fn all_outputs(
     requires index { AreReaders net.now readers.now }
     requires rising { IsRising gates.now }
     requires gates { (p : ℕ) → among gates.now p ≡ true → IsGate net.now p }
-    requires few { length gates.now ≤ 8 }
+    requires few { length gates.now ≤ 24 }
     ensures outputs { IfOk result (λ outputs. AreJust (IsOutput net.now gates.now) outputs.items) }
-    ensures few { IfOk result (λ outputs. length outputs.items ≤ 8) }
+    ensures few { IfOk result (λ outputs. length outputs.items ≤ length gates.now) }
 {
     let mut outputs = Vec::new(alloc);
     let mut left = gates;

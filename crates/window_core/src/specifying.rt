@@ -23,7 +23,7 @@ use std::alloc::{AllocError, Global};
 use tt_core::Spec;
 
 /// Signals that name these places.
-fn signals_of(alloc: Global, places: &[u32]) -> Result<Vec<Sig>, AllocError>
+pub fn signals_of(alloc: Global, places: &[u32]) -> Result<Vec<Sig>, AllocError>
     ensures { IfOk result (λ signals. signals.items ≡ map sigs.Place places.now) }
 {
     places.iter().map(|place| Sig::Place(*place)).collect(alloc)

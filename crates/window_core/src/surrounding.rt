@@ -7,7 +7,7 @@ ghost use Rattle.window_theory.specs.Places.{among, IsRising};
 ghost use Rattle.window_theory.specs.Paths.{IsGate};
 ghost use Rattle.window_theory.specs.Surround.{LeadsTo, IsLast};
 ghost use Rattle.window_core.specs.Rising.{put_sig as put_sig_in};
-ghost use Rattle.window_core.specs.Surrounding.{AreAbove, AreCovered, IsOpened, behind_of, same_place as same_place_of};
+ghost use Rattle.window_core.specs.Surrounding.{AreAbove, AreCovered, IsBehind, IsOpened, behind_of, gate_places, same_place as same_place_of};
 
 use crate::growing::gate_at;
 use crate::rising::{has, put_sig};
@@ -133,7 +133,8 @@ fn cone_of(net: &Net, leaves: Vec<u32>, gates: Vec<(u32, Gate)>) -> Cone
     Cone::new(leaves, rising)
 }
 
-/// The surround of some places: a cone whose leaves are those that the places lead to.
+/// The surround of some places: a cone whose leaves are those that the places lead to. Its gates are some of the places,
+/// or what these are computed from.
 pub fn surround(alloc: Global, net: &Net, places: &[u32]) -> Result<Cone, AllocError>
     requires rising { IsRising places.now }
     requires few { length places.now ≤ 12 }
@@ -141,6 +142,7 @@ pub fn surround(alloc: Global, net: &Net, places: &[u32]) -> Result<Cone, AllocE
     ensures leaves { IfOk result (λ cone. LeadsTo net.now places.now cone.leaves) }
     ensures gates { IfOk result (λ cone. AreAbove net.now cone.leaves cone.gates) }
     ensures covered { IfOk result (λ cone. AreCovered cone.leaves cone.gates places.now) }
+    ensures behind { IfOk result (λ cone. (p : ℕ) → among (gate_places cone.gates) p ≡ true → IsBehind net.now places.now p) }
 {
     let _sources = net.sources(); // says that the net is one
     let mut leaves = Vec::with_capacity(alloc, 16)?;

@@ -3,8 +3,8 @@ use Rattle.std.proofs.lemmas.Bool.{both_ways}
 use Rattle.window_theory.specs.Places.{among, IsRising, AreJust}
 use Rattle.window_theory.specs.Window.{HasPartner, IsInput, IsOutput, IsWindow}
 use Rattle.window_theory.specs.WindowLaws.{taken_rising}
-use Rattle.window_core.proofs.GrowingLaws.{taken_gates}
-use Rattle.window_core.proofs.BoundingLaws.{no_partner, many_inputs, window_is, window_shaped}
+use Rattle.window_core.specs.GrowingLaws.{taken_gates}
+use Rattle.window_core.specs.BoundingLaws.{no_partner, many_inputs, window_is, window_shaped}
 use Rattle.window_core.proofs.bounding.window_of.Goals as goal
 
 pub returns-then-not-has_partner-clause-none : goal.returns-then-not-has_partner-clause-none
@@ -33,7 +33,7 @@ pub new-requires : goal.new-requires
 new-requires c =
     window_shaped c.args.net.now c.args.root c.args.partner c.args.gates.items c.in_ok-inputs.inputs.items c.in_ok-outputs.outputs.items c.sources-sources.ensures.net c.requires.taken c.requires.some c.requires.few
     (subst (λ (gs : List ℕ). AreJust (IsInput c.args.net.now gs) c.in_ok-inputs.inputs.items) c.deref-2.ensures.value c.in_ok-inputs.ensures) (omega (arith, c.if-len-gt6.false, c.len.ensures, c.in_ok-inputs.inputs.ok.0))
-    (subst (λ (gs : List ℕ). AreJust (IsOutput c.args.net.now gs) c.in_ok-outputs.outputs.items) c.deref-3.ensures.value c.in_ok-outputs.ensures.outputs) c.in_ok-outputs.ensures.few
+    (subst (λ (gs : List ℕ). AreJust (IsOutput c.args.net.now gs) c.in_ok-outputs.outputs.items) c.deref-3.ensures.value c.in_ok-outputs.ensures.outputs) (omega (arith, c.in_ok-outputs.ensures.few, ap (length {A = ℕ}) c.deref-3.ensures.value, c.requires.few))
 
 pub returns-clause-some : goal.returns-clause-some
 returns-clause-some c =
@@ -41,4 +41,4 @@ returns-clause-some c =
     (window_is c.args.net.now c.args.root c.args.partner c.args.gates.items c.in_ok-inputs.inputs.items c.in_ok-outputs.outputs.items c.sources-sources.ensures.net c.requires.taken
     (subst (HasPartner c.args.partner) c.deref.ensures.value (c.has_partner.ensures.yes c.if-not-has_partner.false))
     (subst (λ (gs : List ℕ). AreJust (IsInput c.args.net.now gs) c.in_ok-inputs.inputs.items) c.deref-2.ensures.value c.in_ok-inputs.ensures) (omega (arith, c.if-len-gt6.false, c.len.ensures, c.in_ok-inputs.inputs.ok.0))
-    (subst (λ (gs : List ℕ). AreJust (IsOutput c.args.net.now gs) c.in_ok-outputs.outputs.items) c.deref-3.ensures.value c.in_ok-outputs.ensures.outputs) c.in_ok-outputs.ensures.few)
+    (subst (λ (gs : List ℕ). AreJust (IsOutput c.args.net.now gs) c.in_ok-outputs.outputs.items) c.deref-3.ensures.value c.in_ok-outputs.ensures.outputs) (omega (arith, c.in_ok-outputs.ensures.few, ap (length {A = ℕ}) c.deref-3.ensures.value, c.requires.few)))

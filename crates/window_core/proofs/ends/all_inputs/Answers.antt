@@ -1,6 +1,6 @@
 use Rattle.std.proofs.Common.{subst, sym}
 use Rattle.window_theory.specs.Places.{IsRising}
-use Rattle.window_core.proofs.EndsLaws.{found_start, found_more, found_end, put_outside_rising}
+use Rattle.window_core.specs.EndsLaws.{found_start, found_more, found_end, put_outside_rising}
 use Rattle.window_core.proofs.ends.all_inputs.Goals as goal
 
 pub loop-place-init : goal.loop-place-init

@@ -1,4 +1,4 @@
-use Rattle.window_core.proofs.GrowingLaws.{sought_more}
+use Rattle.window_core.specs.GrowingLaws.{sought_more}
 use Rattle.window_core.proofs.growing.greatest.Goals as goal
 
 pub loop-place-preserved : goal.loop-place-preserved

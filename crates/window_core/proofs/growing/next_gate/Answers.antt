@@ -1,5 +1,5 @@
 use Rattle.std.proofs.Common.{◌∙◌, sym}
-use Rattle.window_core.proofs.GrowingLaws.{taken_gates, sought_none, sought_some}
+use Rattle.window_core.specs.GrowingLaws.{taken_gates, sought_none, sought_some}
 use Rattle.window_core.proofs.growing.next_gate.Goals as goal
 
 pub greatest-best-requires : goal.greatest-best-requires

@@ -1,6 +1,6 @@
 use Rattle.std.proofs.Common.{◌∙◌, ℕ, List, length, ap, sym, subst, arith}
 use Rattle.window_theory.specs.Window.{AreTaken, IsGreatestCandidate, IsCandidate}
-use Rattle.window_core.proofs.GrowingLaws.{none_taken, one_more, no_window}
+use Rattle.window_core.specs.GrowingLaws.{none_taken, one_more, no_window}
 use Rattle.window_core.proofs.growing.take_gates.Goals as goal
 
 pub loop-taken-init : goal.loop-taken-init

@@ -4,7 +4,7 @@ use Rattle.std.proofs.lemmas.List.{get_or-replicate}
 use Rattle.net_theory.specs.Net.{end_of}
 use Rattle.net_theory.specs.declared.data.Gate.{Gate}
 use Rattle.window_core.specs.Readers.{uses_of}
-use Rattle.window_core.proofs.NotingLaws.{uses_code}
+use Rattle.window_core.specs.NotingLaws.{uses_code}
 use Rattle.window_core.proofs.readers.all_uses.Goals as goal
 
 pub returns-clause-each : goal.returns-clause-each

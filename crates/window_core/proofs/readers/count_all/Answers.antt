@@ -3,7 +3,7 @@ use Rattle.net_theory.specs.declared.data.Sig.{Sig}
 use Rattle.net_theory.specs.declared.data.Gate.{Gate}
 use Rattle.window_core.specs.Readers.{named_by_gate, named_by_sinks, sum_gates}
 use Rattle.window_core.specs.Noting.{AreGrown}
-use Rattle.window_core.proofs.NotingLaws.{grown_both}
+use Rattle.window_core.specs.NotingLaws.{grown_both}
 use Rattle.window_core.proofs.readers.count_all.Goals as goal
 
 pub returns : goal.returns

@@ -1,7 +1,7 @@
 use Rattle.std.proofs.Common.{◌∙◌, ℕ, length, sym, subst}
 use Rattle.window_core.specs.Readers.{named_by_gate, sum_gates}
 use Rattle.window_core.specs.Noting.{IsBefore, AreBefore}
-use Rattle.window_core.proofs.NotingLaws.{before_first, before_rest, gates_step, counting_end, sum_none}
+use Rattle.window_core.specs.NotingLaws.{before_first, before_rest, gates_step, counting_end, sum_none}
 use Rattle.window_core.proofs.readers.count_gates.Goals as goal
 
 pub count_use-requires : goal.count_use-requires

@@ -3,7 +3,7 @@ use Rattle.std.specs.List.{All}
 use Rattle.std.proofs.lemmas.List.Elements.{All-rest}
 use Rattle.window_core.specs.Readers.{named_by, named_by_sinks}
 use Rattle.window_core.specs.Noting.{IsBefore}
-use Rattle.window_core.proofs.NotingLaws.{sinks_first, sinks_none, counting_step, counting_end}
+use Rattle.window_core.specs.NotingLaws.{sinks_first, sinks_none, counting_step, counting_end}
 use Rattle.window_core.proofs.readers.count_sinks.Goals as goal
 
 pub loop-sink-preserved : goal.loop-sink-preserved

@@ -1,6 +1,6 @@
 use Rattle.std.proofs.Common.{ap}
 use Rattle.window_core.specs.Readers.{Readers}
-use Rattle.window_core.proofs.WalkingLaws.{earlier_at}
+use Rattle.window_core.specs.WalkingLaws.{earlier_at}
 use Rattle.window_core.proofs.readers.earlier_of.Goals as goal
 
 pub returns : goal.returns

@@ -1,6 +1,6 @@
 use Rattle.std.proofs.Common.{◌+◌, length, ap, arith}
 use Rattle.net_theory.specs.declared.data.Gate.{Gate}
-use Rattle.window_core.proofs.NotingLaws.{list_code}
+use Rattle.window_core.specs.NotingLaws.{list_code}
 use Rattle.window_core.proofs.readers.note_gates.Goals as goal
 
 pub loop-i-preserved : goal.loop-i-preserved

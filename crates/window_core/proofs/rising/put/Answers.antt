@@ -1,6 +1,6 @@
 use Rattle.std.proofs.Common.{◌≡◌, ◌-◌, ◌≤◌, ℕ, List, length, subst}
 use Rattle.std.specs.Prelude.{slice_index_or}
-use Rattle.window_core.proofs.RisingLaws.{put_found, put_code}
+use Rattle.window_core.specs.RisingLaws.{put_found, put_code}
 use Rattle.window_core.proofs.rising.put.Goals as goal
 
 pub returns-then-is_last : goal.returns-then-is_last

@@ -1,5 +1,5 @@
 use Rattle.std.proofs.lemmas.Bool.{both_ways}
-use Rattle.window_core.proofs.SeenLaws.{shown_start, shown_on, shown_off, shown_end, shown_inside}
+use Rattle.window_core.specs.SeenLaws.{shown_start, shown_on, shown_off, shown_end, shown_inside}
 use Rattle.window_core.proofs.seen.all_outputs.Goals as goal
 
 pub loop-place-init : goal.loop-place-init

@@ -1,4 +1,4 @@
-use Rattle.window_core.proofs.SeenLaws.{counted_more, counted_end}
+use Rattle.window_core.specs.SeenLaws.{counted_more, counted_end}
 use Rattle.window_core.proofs.seen.inside_uses.Goals as goal
 
 pub loop-inside-preserved : goal.loop-inside-preserved

@@ -1,6 +1,6 @@
 use Rattle.std.proofs.Common.{◌∙◌}
 use Rattle.std.proofs.lemmas.Bool.{lt-ltb, ltb-true}
-use Rattle.window_core.proofs.SeenLaws.{more_seen, seen_more}
+use Rattle.window_core.specs.SeenLaws.{more_seen, seen_more}
 use Rattle.window_core.proofs.seen.is_output.Goals as goal
 
 pub returns-clause-yes : goal.returns-clause-yes

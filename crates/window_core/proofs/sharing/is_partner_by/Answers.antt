@@ -1,9 +1,9 @@
 use Rattle.std.proofs.Common.{◌≡◌, ◌∙◌, ap, arith}
 use Rattle.net_theory.specs.declared.data.Gate.{Gate}
 use Rattle.window_core.specs.Readers.{place_of}
-use Rattle.window_core.proofs.GrowingLaws.{of_one}
-use Rattle.window_core.proofs.WalkingLaws.{walk_next, walk_none, walk_full}
-use Rattle.window_core.proofs.LookingLaws.{looking_start, looking_more, looking_yes, looking_no}
+use Rattle.window_core.specs.GrowingLaws.{of_one}
+use Rattle.window_core.specs.WalkingLaws.{walk_next, walk_none, walk_full}
+use Rattle.window_core.specs.LookingLaws.{looking_start, looking_more, looking_yes, looking_no}
 use Rattle.window_core.proofs.sharing.is_partner_by.Goals as goal
 
 pub loop-found-init : goal.loop-found-init

@@ -1,4 +1,4 @@
-use Rattle.window_core.proofs.WalkingLaws.{onward_stays}
+use Rattle.window_core.specs.WalkingLaws.{onward_stays}
 use Rattle.window_core.proofs.sharing.onward.Goals as goal
 
 pub returns-then-reader-found : goal.returns-then-reader-found

@@ -3,8 +3,8 @@ use Rattle.std.proofs.lemmas.List.{length-append}
 use Rattle.net_theory.specs.declared.data.Gate.{Gate}
 use Rattle.window_core.specs.Readers.{place_of}
 use Rattle.window_core.specs.Walking.{IsWalk}
-use Rattle.window_core.proofs.GrowingLaws.{of_one}
-use Rattle.window_core.proofs.WalkingLaws.{walk_start, walk_more, walk_none, walk_full, walk_next}
+use Rattle.window_core.specs.GrowingLaws.{of_one}
+use Rattle.window_core.specs.WalkingLaws.{walk_start, walk_more, walk_none, walk_full, walk_next}
 use Rattle.window_core.proofs.sharing.partners_by.Goals as goal
 
 pub loop-found-init : goal.loop-found-init

@@ -1,6 +1,6 @@
 use Rattle.std.proofs.Common.{◌∙◌}
-use Rattle.window_core.proofs.MaskingLaws.{mask_is, signals_among}
-use Rattle.window_core.proofs.ConeLaws.{above_cone}
+use Rattle.window_core.specs.MaskingLaws.{mask_is, signals_among}
+use Rattle.window_core.specs.ConeLaws.{above_cone}
 use Rattle.window_core.proofs.specifying.care_rows.Goals as goal
 
 pub patterns-requires-clause-known : goal.patterns-requires-clause-known

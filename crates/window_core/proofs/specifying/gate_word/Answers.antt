@@ -1,7 +1,7 @@
 use Rattle.std.proofs.Common.{◌≡◌, ◌∙◌, ◌+◌, ◌<◌, ℕ, List, length, Some, ap, sym, subst}
 use Rattle.std.specs.Prelude.{slice_get, slice_index_or}
 use Rattle.window_core.specs.Masking.{HasValues}
-use Rattle.window_core.proofs.MaskingLaws.{word_index, word_values}
+use Rattle.window_core.specs.MaskingLaws.{word_index, word_values}
 use Rattle.window_core.proofs.specifying.gate_word.Goals as goal
 
 pub bounds-lanes_of-inputs : goal.bounds-lanes_of-inputs

@@ -1,4 +1,4 @@
-use Rattle.window_core.proofs.MaskingLaws.{index_found}
+use Rattle.window_core.specs.MaskingLaws.{index_found}
 use Rattle.window_core.proofs.specifying.index_of.Goals as goal
 
 pub returns : goal.returns

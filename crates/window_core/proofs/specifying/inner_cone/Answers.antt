@@ -2,8 +2,8 @@ use Rattle.std.proofs.Common.{◌∙◌, ◌++◌, [], ℕ, List, ap, sym, subst
 use Rattle.lane_sim.specs.Cone.{Cone}
 use Rattle.window_core.specs.Surrounding.{AreAbove}
 use Rattle.window_core.specs.Masking.{ArePlaced}
-use Rattle.window_core.proofs.ConeLaws.{above_cone}
-use Rattle.window_core.proofs.MaskingLaws.{inner_above}
+use Rattle.window_core.specs.ConeLaws.{above_cone}
+use Rattle.window_core.specs.MaskingLaws.{inner_above}
 use Rattle.window_core.proofs.specifying.inner_cone.Goals as goal
 
 pub new-requires : goal.new-requires

@@ -1,6 +1,6 @@
 use Rattle.std.proofs.Common.{◌≡◌, ◌<◌, ◌^◌, true, ℕ, List, length, ap, sym, subst, arith}
 use Rattle.chain_theory.specs.Operator.{digit}
-use Rattle.window_core.proofs.MaskingLaws.{masked_more, masked_end, masked_spec}
+use Rattle.window_core.specs.MaskingLaws.{masked_more, masked_end, masked_spec}
 use Rattle.window_core.proofs.specifying.masked_spec.Goals as goal
 
 pub loop-place-preserved : goal.loop-place-preserved

@@ -1,4 +1,4 @@
-use Rattle.window_core.proofs.MaskingLaws.{placed_more}
+use Rattle.window_core.specs.MaskingLaws.{placed_more}
 use Rattle.window_core.proofs.specifying.placed_gates.Goals as goal
 
 pub loop-place-preserved : goal.loop-place-preserved

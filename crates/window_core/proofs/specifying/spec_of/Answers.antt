@@ -1,7 +1,7 @@
 use Rattle.std.proofs.Common.{◌∙◌, ℕ, List, ap, sym, subst}
 use Rattle.window_theory.specs.Places.{among}
 use Rattle.window_core.specs.Masking.{IsCareMask}
-use Rattle.window_core.proofs.MaskingLaws.{specification_is, inputs_within}
+use Rattle.window_core.specs.MaskingLaws.{specification_is, inputs_within}
 use Rattle.window_core.proofs.specifying.spec_of.Goals as goal
 
 pub care_rows-requires-clause-within : goal.care_rows-requires-clause-within

@@ -2,7 +2,7 @@ use Rattle.std.proofs.Common.{ℕ, List, sym, subst}
 use Rattle.std.specs.Prelude.{reverse}
 use Rattle.net_theory.specs.declared.data.Gate.{Gate}
 use Rattle.lane_sim.specs.Cone.{IsCone}
-use Rattle.window_core.proofs.ConeLaws.{above_cone}
+use Rattle.window_core.specs.ConeLaws.{above_cone}
 use Rattle.window_core.proofs.surrounding.cone_of.Goals as goal
 
 pub new-requires : goal.new-requires

@@ -1,6 +1,6 @@
 use Rattle.std.proofs.Common.{◌∙◌, ◌+◌, ℕ, Bool, true, false, length, refl, ap}
 use Rattle.std.specs.Prelude.{if◌then◌else◌}
-use Rattle.window_core.proofs.SurroundingLaws.{count_code}
+use Rattle.window_core.specs.SurroundingLaws.{count_code}
 use Rattle.window_core.proofs.surrounding.count_behind.Goals as goal
 
 pub returns : goal.returns

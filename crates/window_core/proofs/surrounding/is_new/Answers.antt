@@ -1,4 +1,4 @@
-use Rattle.window_core.proofs.SurroundingLaws.{new_code}
+use Rattle.window_core.specs.SurroundingLaws.{new_code}
 use Rattle.window_core.proofs.surrounding.is_new.Goals as goal
 
 pub returns-in-Place : goal.returns-in-Place

@@ -2,7 +2,7 @@ use Rattle.std.proofs.Common.{◌≡◌, [], ◌∷◌, ◌<◌, ◌≤◌, ℕ,
 use Rattle.std.proofs.lemmas.Bool.{ltb-true, ltb-false}
 use Rattle.window_theory.specs.Places.{IsRising}
 use Rattle.window_core.specs.Surrounding.{behind_of}
-use Rattle.window_core.proofs.SurroundingLaws.{rising_front, same_front}
+use Rattle.window_core.specs.SurroundingLaws.{rising_front, same_front}
 use Rattle.window_core.proofs.surrounding.is_too_much.Goals as goal
 
 pub count_behind-requires : goal.count_behind-requires

@@ -1,5 +1,5 @@
 use Rattle.std.proofs.Common.{arith}
-use Rattle.window_core.proofs.SurroundingLaws.{no_gate, no_leaf, last_is_gate}
+use Rattle.window_core.specs.SurroundingLaws.{no_gate, no_leaf, last_is_gate}
 use Rattle.window_core.proofs.surrounding.last_gate.Goals as goal
 
 pub returns-in_default-clause-none : goal.returns-in_default-clause-none

@@ -2,7 +2,7 @@ use Rattle.std.proofs.Common.{◌≡◌, ◌∙◌, [], ◌∷◌, ◌++◌, vec
 use Rattle.window_theory.specs.Places.{IsRising}
 use Rattle.window_theory.specs.Surround.{IsLast}
 use Rattle.window_core.specs.Rising.{put_sig}
-use Rattle.window_core.proofs.SurroundingLaws.{rising_front, sig_rising, too_many, pop_code}
+use Rattle.window_core.specs.SurroundingLaws.{rising_front, sig_rising, too_many, pop_code}
 use Rattle.window_core.proofs.surrounding.open.Goals as goal
 
 pub returns-in_default-clause-last : goal.returns-in_default-clause-last

@@ -1,8 +1,11 @@
-use Rattle.std.proofs.Common.{◌≡◌, ◌∙◌, ◌++◌, ℕ, List, ap, sym, subst}
+use Rattle.std.proofs.Common.{◌≡◌, ◌∙◌, ◌++◌, ℕ, true, List, ap, sym, subst}
 use Rattle.std.specs.Prelude.{reverse}
 use Rattle.lane_sim.specs.Cone.{Cone}
+use Rattle.window_theory.specs.Places.{among}
 use Rattle.window_theory.specs.Surround.{LeadsTo}
-use Rattle.window_core.proofs.SurroundingLaws.{surround_start, surround_more, surround_last, top_falls}
+use Rattle.net_theory.specs.declared.data.Gate.{Gate}
+use Rattle.window_core.specs.Surrounding.{IsBehind, gate_places}
+use Rattle.window_core.specs.SurroundingLaws.{surround_start, surround_more, surround_last, top_falls}
 use Rattle.window_core.proofs.surrounding.surround.Goals as goal
 
 pub loop-gates-init : goal.loop-gates-init
@@ -22,3 +25,8 @@ pub returns-clause-leaves : goal.returns-clause-leaves
 returns-clause-leaves c =
     let same : c.cone_of.result.leaves ≡ c.loop-gates.leaves.items = ap (λ (x : Cone). x.leaves) c.cone_of.ensures ∙ c.in_ok-open.ensures.leaves c.if-branch.false in
     subst (LeadsTo c.args.net.now c.args.places.now) (sym same) (surround_last c.args.net.now c.args.places.now c.loop-gates.leaves.items (reverse c.loop-gates.gates.items) c.loop-gates.invariant (c.in_ok-open.ensures.last c.if-branch.false))
+
+pub returns-clause-behind : goal.returns-clause-behind
+returns-clause-behind c =
+    let same : c.cone_of.result.gates ≡ reverse c.loop-gates.gates.items = ap (λ (x : Cone). x.gates) c.cone_of.ensures ∙ ap (λ (gs : List (ℕ × Gate)). reverse gs) (c.in_ok-open.ensures.gates c.if-branch.false) in
+    subst (λ (gs : List (ℕ × Gate)). (p : ℕ) → among (gate_places gs) p ≡ true → IsBehind c.args.net.now c.args.places.now p) (sym same) c.loop-gates.invariant.gates_behind

@@ -16,7 +16,7 @@ use Rattle.window_core.specs.declared.readers.Earlier.{Earlier}
 use Rattle.window_core.specs.Gates.{IsGateOf}
 use Rattle.window_core.specs.Readers.{place_of, IsEarlier, IsEarlierOf, AreEarlier}
 use Rattle.window_core.specs.Walking.{IsWalk}
-use Rattle.window_core.proofs.GrowingLaws.{reads_of, of_reads}
+use Rattle.window_core.specs.GrowingLaws.{reads_of, of_reads}
 
 -- ---- a place more at the end
 

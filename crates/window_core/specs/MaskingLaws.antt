@@ -33,24 +33,24 @@ use Rattle.window_theory.specs.WindowLaws.{reads_low, gate_high}
 use Rattle.window_core.specs.Gates.{IsGateOf}
 use Rattle.window_core.specs.Surrounding.{gate_places, AreAbove, AreCovered}
 use Rattle.window_core.specs.Masking.{IsCareMask, ArePlaced, HasValues, AreMasked}
-use Rattle.window_core.proofs.GrowingLaws.{of_reads}
-use Rattle.window_core.proofs.NotingLaws.{at_last}
-use Rattle.window_core.proofs.SurroundingLaws.{among_left, among_right}
-use Rattle.window_core.proofs.ConeLaws.{among_get, get_among, cone_part, above_cone}
+use Rattle.window_core.specs.GrowingLaws.{of_reads}
+use Rattle.window_core.specs.NotingLaws.{at_last}
+use Rattle.window_core.specs.SurroundingLaws.{among_left, among_right}
+use Rattle.window_core.specs.ConeLaws.{among_get, get_among, cone_part, above_cone}
 
 some_same : {A : Type 0} (x y : A) → Some x ≡ Some y → x ≡ y
 some_same x y e = cc
 
 -- what stands at an index, read with a default
-get_is : (xs : List ℕ) (k x : ℕ) → slice_get xs k ≡ Some x → slice_index_or xs k 0 ≡ x
+pub get_is : (xs : List ℕ) (k x : ℕ) → slice_get xs k ≡ Some x → slice_index_or xs k 0 ≡ x
 get_is xs k x e = some_same (slice_index_or xs k 0) x (sym (slice_get-get_or xs k 0 (slice_get_within xs k x e)) ∙ e)
 
 -- ---- patterns and rows
 
-abbrev named_bits : (ℕ → Bool) → List ℕ → ℕ
+abbrev pub named_bits : (ℕ → Bool) → List ℕ → ℕ
 named_bits bits ps = pattern (sig_value bits) (map sigs.Place ps)
 
-pattern_under_power : (bits : ℕ → Bool) (ps : List ℕ) → named_bits bits ps < 2 ^ length ps
+pub pattern_under_power : (bits : ℕ → Bool) (ps : List ℕ) → named_bits bits ps < 2 ^ length ps
 pattern_under_power bits ps = subst (λ (n : ℕ). named_bits bits ps < 2 ^ n) (length-map ps sigs.Place) (pattern_low (sig_value bits) (map sigs.Place ps))
 
 first_digit : (b : Bool) (k r : ℕ) → r < 2 ^ k → digit ((if b then 2 ^ k else 0) + r) k ≡ b
@@ -86,7 +86,7 @@ pattern_digit bits (p ∷ ps) (suc i) low =
     ∙ pattern_digit bits ps i (omega (arith, low))
 
 -- places have the bits of the row that is their pattern
-pattern_row : (bits : ℕ → Bool) (ps : List ℕ) (t : ℕ) → named_bits bits ps ≡ t → HasRow bits ps t
+pub pattern_row : (bits : ℕ → Bool) (ps : List ℕ) (t : ℕ) → named_bits bits ps ≡ t → HasRow bits ps t
 pattern_row bits ps t e i low = sym (pattern_digit bits ps i low) ∙ ap (λ (x : ℕ). digit x (length ps - (i + 1))) e
 
 same_bit : (x y : ℕ) → x < 2 → y < 2 → (x == 1) ≡ (y == 1) → x ≡ y
@@ -98,7 +98,7 @@ same_bit zero (suc (suc y)) a b e = absurd (omega (arith, b))
 same_bit (suc zero) (suc (suc y)) a b e = absurd (omega (arith, b))
 same_bit (suc (suc x)) y a b e = absurd (omega (arith, a))
 
-row_pattern : (bits : ℕ → Bool) (ps : List ℕ) (t : ℕ) → t < 2 ^ length ps → HasRow bits ps t → named_bits bits ps ≡ t
+pub row_pattern : (bits : ℕ → Bool) (ps : List ℕ) (t : ℕ) → t < 2 ^ length ps → HasRow bits ps t → named_bits bits ps ≡ t
 row_pattern bits ps t low row =
     same_from_bits_below (length ps) (named_bits bits ps) t (pattern_under_power bits ps) low
     (λ j within.
@@ -110,14 +110,14 @@ row_pattern bits ps t low row =
 -- ---- values of cones
 
 -- leaves have the bits of an assignment
-leaf_value : (c : Cone) (row : ℕ) (given : ℕ → Bool) (q : ℕ) → IsCone c → HasRow given c.leaves row → among c.leaves q ≡ true → value_in c row q ≡ given q
+pub leaf_value : (c : Cone) (row : ℕ) (given : ℕ → Bool) (q : ℕ) → IsCone c → HasRow given c.leaves row → among c.leaves q ≡ true → value_in c row q ≡ given q
 leaf_value c row given q cone has e =
     let r = among_get c.leaves q e in
     let low : r.0 < length c.leaves = slice_get_within c.leaves r.0 q r.1 in
     let place : length c.leaves - 1 - r.0 ≡ length c.leaves - (r.0 + 1) = omega arith in
     cone_leaf c row r.0 q cone r.1 ∙ ap (digit row) place ∙ sym (has r.0 low) ∙ ap given (get_is c.leaves r.0 q r.1)
 
-inside_of_cone : (c : Cone) (ps : List ℕ) → AreCovered c.leaves c.gates ps → (p : ℕ) → among ps p ≡ true → among (places c) p ≡ true
+pub inside_of_cone : (c : Cone) (ps : List ℕ) → AreCovered c.leaves c.gates ps → (p : ℕ) → among ps p ≡ true → among (places c) p ≡ true
 inside_of_cone c ps covered p e = ⊎_elim (λ leaf. among_left c.leaves (gate_places c.gates) p leaf) (λ inside. among_right c.leaves (gate_places c.gates) p inside) (covered p e)
 
 -- ---- care rows
@@ -174,7 +174,7 @@ pub placed_left : (n : Net) (ps left : List ℕ) (p : ℕ) (rest : List ℕ) (ga
 placed_left n ps left p rest gates parts was =
     ap (λ (xs : List ℕ). among xs p) (sym was.parts) ∙ among_right (gate_places gates) left p (ap (λ (xs : List ℕ). among xs p) parts ∙ get_among (p ∷ rest) 0 p refl)
 
-nothing_behind : (xs : List ℕ) → xs ++ [] ≡ xs
+pub nothing_behind : (xs : List ℕ) → xs ++ [] ≡ xs
 nothing_behind [] = refl
 nothing_behind (x ∷ xs) = ap (λ (ys : List ℕ). x ∷ ys) (nothing_behind xs)
 

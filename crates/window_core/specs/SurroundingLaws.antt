@@ -10,16 +10,16 @@ use Rattle.net_theory.specs.Net.{Net, IsNet, end_of}
 use Rattle.net_theory.specs.Reach.{ReadsPlace}
 use Rattle.window_theory.specs.Places.{among, IsRising}
 use Rattle.window_theory.specs.PlaceLaws.{among_cases, among_first, among_later}
-use Rattle.window_theory.specs.Paths.{IsGate}
+use Rattle.window_theory.specs.Paths.{IsGate, Reads, LeadsUp, at_once, by_way_of}
 use Rattle.window_theory.specs.WindowLaws.{reads_low, gate_high, gate_at}
 use Rattle.window_theory.specs.Surround.{Opens, IsLast, LeadsTo, stays, goes_on}
 use Rattle.window_theory.specs.SurroundLaws.{opens_one}
 use Rattle.window_core.specs.Gates.{IsGateOf}
 use Rattle.window_core.specs.Rising.{put, put_sig}
-use Rattle.window_core.specs.Surrounding.{gate_places, IsSurround, IsOpened, behind_of, top_of, same_place}
-use Rattle.window_core.proofs.GrowingLaws.{of_gate, of_reads, reads_of}
-use Rattle.window_core.proofs.RisingLaws.{put_rising, put_own, put_only, put_kept, put_new, put_old}
-use Rattle.window_core.proofs.WalkingLaws.{among_end, end_among, front_among}
+use Rattle.window_core.specs.Surrounding.{gate_places, IsBehind, IsSurround, IsOpened, behind_of, top_of, same_place}
+use Rattle.window_core.specs.GrowingLaws.{of_gate, of_reads, reads_of}
+use Rattle.window_core.specs.RisingLaws.{put_rising, put_own, put_only, put_kept, put_new, put_old}
+use Rattle.window_core.specs.WalkingLaws.{among_end, end_among, front_among}
 
 -- ---- putting what a signal names
 
@@ -238,11 +238,26 @@ surround_of n places rising few within =
       within = within;
       covered = λ p e. inl e;
       leads = λ last l. l;
+      leaves_behind = λ p e. record { place = p; inside = e; why = inl refl };
+      gates_behind = λ p e. absurd (let x : false ≡ true = e in cc);
     }
 
 pub surround_start : (n : Net) (places leaves : List ℕ) (gates : List (ℕ × Gate)) → IsRising places → length places ≤ 12 → ((p : ℕ) → among places p ≡ true → p < end_of n) → leaves ≡ places → gates ≡ [] → IsSurround n places leaves (reverse gates)
 surround_start n places leaves gates rising few within same none =
     subst (λ (xs : List (ℕ × Gate)). IsSurround n places leaves (reverse xs)) (sym none) (subst (λ (ls : List ℕ). IsSurround n places ls []) (sym same) (surround_of n places rising few within))
+
+-- what is read by a place behind is behind too
+up_first : (n : Net) (q p r : ℕ) → Reads n p q → LeadsUp n p r → LeadsUp n q r
+up_first n q _ _ first (at_once p r reads) = by_way_of q p r (at_once q p first) reads
+up_first n q _ _ first (by_way_of p m r before reads) = by_way_of q m r (up_first n q p m first before) reads
+
+read_behind : (n : Net) (places : List ℕ) (p q : ℕ) → Reads n p q → IsBehind n places p → IsBehind n places q
+read_behind n places p q reads is =
+    record {
+      place = is.place;
+      inside = is.inside;
+      why = inr (⊎_elim (λ same. subst (LeadsUp n q) same (at_once q p reads)) (λ up. up_first n q p is.place reads up) is.why);
+    }
 
 -- the gate that is opened stands in front of the others
 surround_step : (n : Net) (places leaves front : List ℕ) (gates : List (ℕ × Gate)) (p : ℕ) (g : Gate) → IsNet n → leaves ≡ front ++ p ∷ [] → IsGateOf n p g → length (behind_of front g) ≤ 12 → IsSurround n places leaves gates → IsSurround n places (behind_of front g) ((p, g) ∷ gates)
@@ -275,6 +290,14 @@ surround_step n places leaves front gates p g net parts of few was =
       within = λ q e. omega (arith, low q e, was.within p leaf);
       covered = λ q e. moved q (was.covered q e);
       leads = λ last l. was.leads last (goes_on leaves (behind_of front g) last (opens_this n leaves front p g net was.above.leaves_rising parts of) few l);
+      leaves_behind = λ q e. ⊎_elim
+          (λ there. was.leaves_behind q (at q (front_among front p q there)))
+          (λ reads. read_behind n places p q (of_reads n p q g of reads) (was.leaves_behind p leaf))
+          (behind_only front g q e);
+      gates_behind = λ q e. ⊎_elim
+          (λ (same : q ≡ p). subst (IsBehind n places) (sym same) (was.leaves_behind p leaf))
+          (λ later. was.gates_behind q later)
+          (among_cases p q (gate_places gates) e);
     }
   where
     own_at : (i : ℕ) (x : ℕ × Gate) → slice_get ((p, g) ∷ gates) i ≡ Some x → IsGateOf n x.0 x.1

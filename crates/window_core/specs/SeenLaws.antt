@@ -16,8 +16,8 @@ use Rattle.window_theory.specs.Window.{IsReadOutside, IsOutput}
 use Rattle.window_core.specs.Gates.{IsGateOf}
 use Rattle.window_core.specs.Readers.{named_by, named_by_gate, named_by_sinks, sum_gates, uses_of}
 use Rattle.window_core.specs.Seen.{inside_of, AreCounted, AreShown}
-use Rattle.window_core.proofs.GrowingLaws.{of_reads}
-use Rattle.window_core.proofs.WalkingLaws.{among_end, end_among, front_among, rising_end}
+use Rattle.window_core.specs.GrowingLaws.{of_reads}
+use Rattle.window_core.specs.WalkingLaws.{among_end, end_among, front_among, rising_end}
 
 -- ---- sums over gates
 
@@ -222,7 +222,7 @@ reads_outside n gates p is =
     let here : (if among gates (n.sources + 1 + gate.index) then 0 else named_by_gate p gate.gate) ≡ named_by_gate p gate.gate = cond-false (among gates (n.sources + 1 + gate.index)) 0 (named_by_gate p gate.gate) off in
     omega (arith, has, here, reads_names p gate.gate is.reads.reads)
 
-pub more_seen : (n : Net) (gates : List ℕ) (p inside all : ℕ) → inside ≡ inside_of n gates p → inside ≤ 16 → all ≡ min (uses_of n p) 255 → among gates p ≡ true → inside < all → IsOutput n gates p
+pub more_seen : (n : Net) (gates : List ℕ) (p inside all : ℕ) → inside ≡ inside_of n gates p → inside ≤ 48 → all ≡ min (uses_of n p) 255 → among gates p ≡ true → inside < all → IsOutput n gates p
 unfolding is_sink
 more_seen n gates p inside all inside_is few all_is on more =
     record {
@@ -235,7 +235,7 @@ more_seen n gates p inside all inside_is few all_is on more =
           (cases_eq (outside_of n gates p) 0);
     }
 
-pub seen_more : (n : Net) (gates : List ℕ) (p inside all : ℕ) → inside ≡ inside_of n gates p → inside ≤ 16 → all ≡ min (uses_of n p) 255 → IsOutput n gates p → inside < all
+pub seen_more : (n : Net) (gates : List ℕ) (p inside all : ℕ) → inside ≡ inside_of n gates p → inside ≤ 48 → all ≡ min (uses_of n p) 255 → IsOutput n gates p → inside < all
 unfolding is_sink
 seen_more n gates p inside all inside_is few all_is is =
     ⊎_elim

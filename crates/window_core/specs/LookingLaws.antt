@@ -12,7 +12,7 @@ use Rattle.window_core.specs.declared.readers.Earlier.{Earlier}
 use Rattle.window_core.specs.Gates.{IsGateOf}
 use Rattle.window_core.specs.Readers.{place_of, IsEarlier, IsEarlierOf}
 use Rattle.window_core.specs.Walking.{IsLooking}
-use Rattle.window_core.proofs.WalkingLaws.{among_end, end_among, front_among, walk_start, walk_more}
+use Rattle.window_core.specs.WalkingLaws.{among_end, end_among, front_among, walk_start, walk_more}
 
 pub looking_start : (n : Net) (root h : ℕ) (g : Gate) (e : Earlier) → IsGateOf n root g → IsEarlierOf n root g e → IsLooking n root h e.first e.second 0 false
 looking_start n root h g e is of =

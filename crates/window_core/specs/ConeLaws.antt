@@ -15,8 +15,8 @@ use Rattle.window_theory.specs.Care.{IsPart, IsComputed}
 use Rattle.window_theory.specs.WindowLaws.{reads_low}
 use Rattle.window_core.specs.Gates.{IsGateOf}
 use Rattle.window_core.specs.Surrounding.{gate_places, AreAbove}
-use Rattle.window_core.proofs.GrowingLaws.{of_reads, reads_of}
-use Rattle.window_core.proofs.SurroundingLaws.{among_left, among_right, among_join}
+use Rattle.window_core.specs.GrowingLaws.{of_reads, reads_of}
+use Rattle.window_core.specs.SurroundingLaws.{among_left, among_right, among_join}
 
 -- ---- places by index
 
@@ -33,7 +33,7 @@ get_among [] k p e = absurd cc
 get_among (x ∷ xs) zero p e = let same : x ≡ p = cc in subst (λ (z : ℕ). among (x ∷ xs) z ≡ true) same (among_first x xs)
 get_among (x ∷ xs) (suc k) p e = among_later x p xs (get_among xs k p e)
 
-rising_apart : (xs : List ℕ) → IsRising xs → AreApart xs
+pub rising_apart : (xs : List ℕ) → IsRising xs → AreApart xs
 unfolding IsRising
 rising_apart [] rising i j p a b = absurd cc
 rising_apart (x ∷ xs) rising zero zero p a b = refl
@@ -41,7 +41,7 @@ rising_apart (x ∷ xs) rising zero (suc j) p a b = let same : x ≡ p = cc in l
 rising_apart (x ∷ xs) rising (suc i) zero p a b = let same : x ≡ p = cc in let above : x < p = rising.0 p (get_among xs i p a) in absurd (omega (arith, same, above))
 rising_apart (x ∷ xs) rising (suc i) (suc j) p a b = ap suc (rising_apart xs rising.1 i j p a b)
 
-apart_join : (xs ys : List ℕ) → AreApart xs → AreApart ys → ((p : ℕ) → among xs p ≡ true → among ys p ≡ true → ⊥) → AreApart (xs ++ ys)
+pub apart_join : (xs ys : List ℕ) → AreApart xs → AreApart ys → ((p : ℕ) → among xs p ≡ true → among ys p ≡ true → ⊥) → AreApart (xs ++ ys)
 apart_join [] ys first second none i j p a b = second i j p a b
 apart_join (x ∷ xs) ys first second none zero zero p a b = refl
 apart_join (x ∷ xs) ys first second none zero (suc j) p a b =
@@ -62,7 +62,7 @@ apart_join (x ∷ xs) ys first second none (suc i) (suc j) p a b =
 -- ---- a cone
 
 -- a place of the gates below one of them is that of an earlier gate
-earlier_gate : (gates : List (ℕ × Gate)) (i q : ℕ) (x : ℕ × Gate) → IsRising (gate_places gates) → slice_get gates i ≡ Some x → among (gate_places gates) q ≡ true → q < x.0 → among (gate_places (take i gates)) q ≡ true
+pub earlier_gate : (gates : List (ℕ × Gate)) (i q : ℕ) (x : ℕ × Gate) → IsRising (gate_places gates) → slice_get gates i ≡ Some x → among (gate_places gates) q ≡ true → q < x.0 → among (gate_places (take i gates)) q ≡ true
 unfolding IsRising
 earlier_gate [] i q x rising at e low = absurd cc
 earlier_gate (y ∷ gates) zero q x rising at e low =
@@ -81,7 +81,7 @@ earlier_gate (y ∷ gates) (suc i) q x rising at e low =
     (λ later. among_later y.0 q (gate_places (take i gates)) (earlier_gate gates i q x rising.1 at later low))
     (among_cases y.0 q (gate_places gates) e)
 
-sig_among : (ps : List ℕ) (s : Sig) → ((q : ℕ) → s ≡ sigs.Place q → among ps q ≡ true) → IsSigAmong ps s
+pub sig_among : (ps : List ℕ) (s : Sig) → ((q : ℕ) → s ≡ sigs.Place q → among ps q ≡ true) → IsSigAmong ps s
 sig_among ps sigs.Zero all = tt
 sig_among ps sigs.One all = tt
 sig_among ps (sigs.Place q) all = among_get ps q (all q refl)
@@ -107,7 +107,7 @@ above_cone n leaves gates net are =
 -- ---- a part of the net
 
 -- a place of the gates is that of one of them
-gate_get : (gates : List (ℕ × Gate)) (p : ℕ) → among (gate_places gates) p ≡ true → (i : ℕ) × (x : ℕ × Gate) × (slice_get gates i ≡ Some x) × (x.0 ≡ p)
+pub gate_get : (gates : List (ℕ × Gate)) (p : ℕ) → among (gate_places gates) p ≡ true → (i : ℕ) × (x : ℕ × Gate) × (slice_get gates i ≡ Some x) × (x.0 ≡ p)
 gate_get [] p e = absurd (let f : false ≡ true = e in cc)
 gate_get (x ∷ gates) p e =
     ⊎_elim

@@ -14,8 +14,8 @@ use Rattle.window_theory.specs.Window.{IsInput}
 use Rattle.window_core.specs.Gates.{IsGateOf}
 use Rattle.window_core.specs.Rising.{put, put_outside}
 use Rattle.window_core.specs.Ends.{AreFound}
-use Rattle.window_core.proofs.GrowingLaws.{of_reads, reads_of}
-use Rattle.window_core.proofs.RisingLaws.{put_rising, put_own, put_only, put_kept}
+use Rattle.window_core.specs.GrowingLaws.{of_reads, reads_of}
+use Rattle.window_core.specs.RisingLaws.{put_rising, put_own, put_only, put_kept}
 
 -- ---- one signal
 

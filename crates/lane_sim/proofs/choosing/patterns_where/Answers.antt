@@ -1,0 +1,29 @@
+use Rattle.std.proofs.Common.{◌≡◌, ◌∙◌, ◌≤◌, ℕ, length, ap, arith, subst, sym}
+use Rattle.net_theory.specs.Net.{sig_value}
+use Rattle.lane_sim.specs.Chosen.{chosen_at}
+use Rattle.lane_sim.specs.ChosenLaws.{chosen_shown, signal_chosen, signal_ends}
+use Rattle.lane_sim.specs.Cone.{value_in}
+use Rattle.lane_sim.specs.PatternLaws.{rows_are}
+use Rattle.lane_sim.specs.ShownLaws.{ends_shown}
+use Rattle.lane_sim.proofs.choosing.patterns_where.Goals as goal
+
+pub seen_chosen-requires-clause-rows : goal.seen_chosen-requires-clause-rows
+seen_chosen-requires-clause-rows c = rows_are (length c.args.cone.now.leaves) c.rows_of-rows.result (c.rows_of-rows.ensures ∙ c.requires.words.rows)
+
+pub seen_chosen-requires-clause-ends : goal.seen_chosen-requires-clause-ends
+seen_chosen-requires-clause-ends c =
+    let six : length c.fill_operands.new.operands ≡ 6 = c.fill_operands.ensures.count in
+    ends_shown c.args.cone.now c.args.words.now c.args.signals.now c.fill_operands.new.operands c.split_at.result.0.now c.lanes_of-lanes.result.now c.rows_of-rows.result c.width_of-width.result
+    c.requires.words c.rows_of-rows.ensures c.lanes_of-lanes.ensures.value c.width_of-width.ensures c.fill_operands.ensures.each (omega (arith, six, c.requires.few)) c.split_at.ensures.front
+
+pub seen_chosen-requires-clause-end : goal.seen_chosen-requires-clause-end
+seen_chosen-requires-clause-end c =
+    signal_ends c.args.cone.now c.args.words.now c.args.when c.operand_in.result c.lanes_of-lanes.result.now c.rows_of-rows.result c.width_of-width.result c.requires.words c.rows_of-rows.ensures c.lanes_of-lanes.ensures.value c.width_of-width.ensures c.operand_in.ensures
+
+pub returns : goal.returns
+returns c =
+    let six : length c.fill_operands.new.operands ≡ 6 = c.fill_operands.ensures.count in
+    chosen_shown c.args.cone.now c.args.words.now c.args.signals.now c.fill_operands.new.operands c.split_at.result.0.now c.lanes_of-lanes.result.now (chosen_at c.lanes_of-lanes.result.now c.operand_in.result) (λ row. sig_value (value_in c.args.cone.now row) c.args.when) c.rows_of-rows.result c.width_of-width.result c.seen_chosen.result
+    c.requires.words c.rows_of-rows.ensures c.lanes_of-lanes.ensures.value c.width_of-width.ensures c.fill_operands.ensures.each (omega (arith, six, c.requires.few)) c.split_at.ensures.front
+    (λ j b low within. signal_chosen c.args.cone.now c.args.words.now c.args.when c.operand_in.result c.lanes_of-lanes.result.now c.rows_of-rows.result c.width_of-width.result j b c.requires.words c.rows_of-rows.ensures c.lanes_of-lanes.ensures.value c.width_of-width.ensures c.operand_in.ensures low within)
+    c.seen_chosen.ensures

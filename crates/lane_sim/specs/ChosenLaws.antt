@@ -1,0 +1,111 @@
+-- The patterns of some assignments: word after word, and of signals.
+use Rattle.std.proofs.Common.{◌≡◌, ◌∙◌, ℕ, ◌+◌, ◌-◌, ◌*◌, ◌/◌, ◌%◌, ◌^◌, ◌≤◌, ◌<◌, Bool, true, ◌&&◌, List, length, take, refl, ap, sym, subst, arith, min, ⊎_elim}
+use Rattle.std.specs.Prelude.{bit_and, bit_or, slice_index_or}
+use Rattle.std.proofs.lemmas.Bool.{cases_lt}
+use Rattle.std.proofs.lemmas.Nat.{or_lt}
+use Rattle.chain_theory.specs.Operator.{digit}
+use Rattle.net_theory.specs.declared.data.Sig.{Sig}
+use Rattle.net_theory.specs.Net.{sig_value}
+use Rattle.lane_sim.specs.declared.rows.Operand.{Operand}
+use Rattle.lane_sim.specs.Chosen.{chosen_at, AreChosenBelow}
+use Rattle.lane_sim.specs.Cone.{Cone, places, value_in}
+use Rattle.lane_sim.specs.Combining.{operand_word, EndsBefore}
+use Rattle.lane_sim.specs.LaneLaws.{operand_bit, operand_ends, words_are_lanes}
+use Rattle.lane_sim.specs.PatternLaws.{same_pattern}
+use Rattle.lane_sim.specs.Rows.{IsOperandOf}
+use Rattle.lane_sim.specs.Seen.{pattern_at, AreSeen, AreRows, AreOperands}
+use Rattle.lane_sim.specs.SeenLaws.{above_zero, no_digit, digit_or, digit_or_left, digit_or_right, mask_only, mask_all, both_true}
+use Rattle.lane_sim.specs.WordLaws.{digit_and}
+use Rattle.lane_sim.specs.Words.{Words, AreWords, ArePatternsOf, pattern_under, width_of}
+
+-- ---- word after word
+
+pub chosen_none : (n : ℕ) (at : ℕ → ℕ → ℕ) (when : ℕ → ℕ → Bool) (rows : ℕ) → AreChosenBelow n at when rows 0 0
+chosen_none n at when rows = record {
+  low = above_zero (2 ^ n);
+  only = λ t e. absurd (no_digit t e);
+  all = λ j b low_j low within on. absurd (omega arith);
+}
+
+and_both : (a b : Bool) → a ≡ true → b ≡ true → (a && b) ≡ true
+and_both a b ea eb = rw (ea, eb) refl
+
+pub chosen_more : (n : ℕ) (at : ℕ → ℕ → ℕ) (words : List ℕ) (o : Operand) (rows count end seen mask word more : ℕ) → AreRows rows → count < end → end ≡ width_of rows → mask ≡ 2 ^ min rows 64 - 1 → word ≡ operand_word words o count → AreChosenBelow n at (chosen_at words o) rows count seen → AreSeen n (at count) (bit_and mask word) more → AreChosenBelow n at (chosen_at words o) rows (count + 1) (bit_or seen more)
+chosen_more n at words o rows count end seen mask word more are low end_is mask_is word_is before here =
+    let within : count < width_of rows = subst (λ (k : ℕ). count < k) end_is low in
+    record {
+      low = or_lt (2 ^ n) seen more before.low here.low;
+      only = λ t e.
+          ⊎_elim
+          (λ (l : digit seen t ≡ true). before.only t l)
+          (λ (r : digit more t ≡ true).
+          let x = here.only t r in
+          let parts : (digit mask x.0 ≡ true) × (digit word x.0 ≡ true) = both_true _ _ (sym (digit_and mask word x.0) ∙ x.2) in
+          let row : 64 * count + x.0 < rows = mask_only rows count x.0 are within x.1 (ap (λ (m : ℕ). digit m x.0) (sym mask_is) ∙ parts.0) in
+          (count, x.0, x.1, row, ap (λ (m : ℕ). digit m x.0) (sym word_is) ∙ parts.1, x.3))
+          (digit_or seen more t e);
+      all = λ j b low_j low_b row on.
+          ⊎_elim
+          (λ (earlier : j < count). digit_or_left seen more (at j b) (before.all j b earlier low_b row on))
+          (λ (past : count ≤ j).
+          let same : j ≡ count = omega arith in
+          let row_here : 64 * count + b < rows = subst (λ (k : ℕ). 64 * k + b < rows) same row in
+          let in_mask : digit mask b ≡ true = ap (λ (m : ℕ). digit m b) mask_is ∙ mask_all rows count b low_b row_here in
+          let in_word : digit word b ≡ true = ap (λ (m : ℕ). digit m b) word_is ∙ ap (λ (k : ℕ). chosen_at words o k b) (sym same) ∙ on in
+          subst (λ (k : ℕ). digit (bit_or seen more) (at k b) ≡ true) (sym same)
+          (digit_or_right seen more (at count b) (here.all b low_b (digit_and mask word b ∙ and_both (digit mask b) (digit word b) in_mask in_word))))
+          (cases_lt j count);
+    }
+
+-- ---- of signals
+
+-- the rows of the signals show what the signals show
+chosen_are : (c : Cone) (w : Words) (signals : List Sig) (os : List Operand) (when : ℕ → ℕ → Bool) (test : ℕ → Bool) (n found : ℕ) → AreWords c w → AreOperands (places c) (width_of w.rows) signals (length signals) os → length signals ≤ length os
+    → ((j b : ℕ) → b < 64 → 64 * j + b < w.rows → when j b ≡ test (64 * j + b))
+    → AreChosenBelow n (pattern_at w.lanes (take (length signals) os)) when w.rows (width_of w.rows) found → ArePatternsOf c signals test found
+chosen_are c w signals os when test n found words are room same seen = record {
+  only = λ t e.
+      let r = seen.only t e in
+      let row : ℕ = 64 * r.0 + r.1 in
+      (row, subst (λ (k : ℕ). row < k) words.rows r.3, sym (same r.0 r.1 r.2 r.3) ∙ r.4, sym (same_pattern c w signals os r.0 r.1 words are room r.2 r.3) ∙ r.5);
+  all = λ row low on.
+      let rows : row < w.rows = subst (λ (k : ℕ). row < k) (sym words.rows) low in
+      let whole : 64 * (row / 64) + row % 64 ≡ row = omega arith in
+      let few : row % 64 < 64 = omega arith in
+      let within : 64 * (row / 64) + row % 64 < w.rows = omega (arith, rows) in
+      let e : digit found (pattern_at w.lanes (take (length signals) os) (row / 64) (row % 64)) ≡ true = seen.all (row / 64) (row % 64) (omega (arith, rows)) few within (same (row / 64) (row % 64) few within ∙ ap test whole ∙ on) in
+      ap (λ (k : ℕ). digit found (pattern_under c signals k)) (sym whole)
+      ∙ ap (digit found) (sym (same_pattern c w signals os (row / 64) (row % 64) words are room few within))
+      ∙ e;
+}
+
+pub chosen_shown : (c : Cone) (w : Words) (signals : List Sig) (os used : List Operand) (lanes : List ℕ) (when : ℕ → ℕ → Bool) (test : ℕ → Bool) (rows width found : ℕ) → AreWords c w → rows ≡ w.rows → lanes ≡ w.lanes → width ≡ width_of rows → AreOperands (places c) width signals (length signals) os → length signals ≤ length os → used ≡ take (length signals) os
+    → ((j b : ℕ) → b < 64 → 64 * j + b < w.rows → when j b ≡ test (64 * j + b))
+    → AreChosenBelow (length used) (pattern_at lanes used) when rows (width_of rows) found → ArePatternsOf c signals test found
+chosen_shown c w signals os used lanes when test rows width found words rows_is lanes_is width_is given room used_is same seen =
+    let are : AreOperands (places c) (width_of w.rows) signals (length signals) os = subst (λ (n : ℕ). AreOperands (places c) n signals (length signals) os) (width_is ∙ ap (λ (r : ℕ). width_of r) rows_is) given in
+    chosen_are c w signals os when test (length used) found words are room same
+    (subst (λ (xs : List Operand). AreChosenBelow (length used) (pattern_at w.lanes xs) when w.rows (width_of w.rows) found) used_is
+    (subst (λ (ls : List ℕ). AreChosenBelow (length used) (pattern_at ls used) when w.rows (width_of w.rows) found) lanes_is
+    (subst (λ (r : ℕ). AreChosenBelow (length used) (pattern_at lanes used) when r (width_of r) found) rows_is seen)))
+
+-- ---- what chooses
+
+-- a signal of the cone
+pub signal_chosen : (c : Cone) (w : Words) (s : Sig) (o : Operand) (lanes : List ℕ) (rows width j b : ℕ) → AreWords c w → rows ≡ w.rows → lanes ≡ w.lanes → width ≡ width_of rows → IsOperandOf (places c) width s o → b < 64 → 64 * j + b < w.rows → chosen_at lanes o j b ≡ sig_value (value_in c (64 * j + b)) s
+signal_chosen c w s o lanes rows width j b words rows_is lanes_is width_is is low within =
+    let own : IsOperandOf (places c) (width_of w.rows) s o = subst (λ (n : ℕ). IsOperandOf (places c) n s o) (width_is ∙ ap (λ (r : ℕ). width_of r) rows_is) is in
+    ap (λ (ls : List ℕ). chosen_at ls o j b) lanes_is ∙ operand_bit (places c) (value_in c) (width_of w.rows) w.rows w.lanes s o j b (words_are_lanes c w words) own low within
+
+-- whose row ends before the words do
+pub signal_ends : (c : Cone) (w : Words) (s : Sig) (o : Operand) (lanes : List ℕ) (rows width : ℕ) → AreWords c w → rows ≡ w.rows → lanes ≡ w.lanes → width ≡ width_of rows → IsOperandOf (places c) width s o → EndsBefore (length lanes) (width_of rows) o
+signal_ends c w s o lanes rows width words rows_is lanes_is width_is is =
+    let size : length lanes ≡ length (places c) * width_of rows = ap (length {A = ℕ}) lanes_is ∙ words.size ∙ ap (λ (r : ℕ). length (places c) * width_of r) (sym rows_is) in
+    operand_ends (places c) (width_of rows) (length lanes) s o (subst (λ (n : ℕ). IsOperandOf (places c) n s o) width_is is) (omega (arith, size))
+
+-- words of their own
+pub word_chosen : (chosen : List ℕ) (j b : ℕ) → b < 64 → digit (slice_index_or chosen (0 + j) 0) b ≡ digit (slice_index_or chosen ((64 * j + b) / 64) 0) ((64 * j + b) % 64)
+word_chosen chosen j b low =
+    let word : 0 + j ≡ (64 * j + b) / 64 = omega (arith, low) in
+    let bit : b ≡ (64 * j + b) % 64 = omega (arith, low) in
+    ap (λ (k : ℕ). digit (slice_index_or chosen k 0) b) word ∙ ap (digit (slice_index_or chosen ((64 * j + b) / 64) 0)) bit

@@ -1,0 +1,10 @@
+pub use Rattle.window_theory.specs.Window
+pub mod Tail
+pub mod Unseen
+pub mod Observed
+pub mod JoinedLaws
+pub mod TailLaws
+pub mod ApartLaws
+pub mod UnseenLaws
+pub mod RowLaws
+pub mod ObservedLaws

@@ -1,0 +1,78 @@
+-- Tails rise, and what a tail reads beside its window doesn't depend on the window.
+use Rattle.std.specs.Prelude.{◌≡◌, ℕ, ◌≤◌, ◌<◌, true, false, List, [], ◌∷◌, ◌++◌, ◌⊎◌}
+use Rattle.std.proofs.Common.{arith, sym, subst, inl, inr, ⊎_elim, ◌≢◌}
+use Rattle.std.proofs.lemmas.Bool.{cases_Bool, both_ways}
+use Rattle.net_theory.specs.Net.{Net, IsNet}
+use Rattle.window_theory.specs.Places.{among}
+use Rattle.window_theory.specs.PlaceLaws.{among_cases, among_first, among_later}
+use Rattle.window_theory.specs.Paths.{Reads, LeadsUp, at_once, by_way_of}
+use Rattle.window_theory.specs.Window.{Window, IsReadBy, IsInput, Belongs}
+use Rattle.window_theory.specs.WindowLaws.{reads_low}
+use Rattle.observe_theory.specs.Tail.{IsFollower, IsLeastFollower, AreFollowing, AreTail, IsSide, Tail, IsTail, IsApart}
+use Rattle.observe_theory.specs.JoinedLaws.{in_front, in_back, in_parts, is_off, out_back}
+
+-- ---- tails rise
+
+-- a follower with one gate more follows that one, or was a follower before
+follower_before : (n : Net) (rest : List ℕ) (p x : ℕ) → IsFollower n (p ∷ rest) x → Reads n x p ⊎ (IsFollower n rest x × (x ≢ p))
+follower_before n rest p x is =
+    let other : x ≢ p = λ same. both_ways (among (p ∷ rest) x) is.outside (subst (λ (q : ℕ). among (p ∷ rest) q ≡ true) (sym same) (among_first p rest)) in
+    let out : among rest x ≡ false = is_off rest x (λ on. both_ways (among (p ∷ rest) x) is.outside (among_later p x rest on)) in
+    ⊎_elim
+    (λ same. inl (subst (λ (q : ℕ). Reads n x q) same is.reads))
+    (λ later. inr (record { outside = out; place = is.place; inside = later; reads = is.reads }, other))
+    (among_cases p is.place rest is.inside)
+
+-- a follower stands above all gates that were taken
+pub follower_high : (n : Net) (gates taken : List ℕ) (x q : ℕ) → IsNet n → AreFollowing n gates taken → IsFollower n (taken ++ gates) x → among taken q ≡ true → q < x
+unfolding AreFollowing
+follower_high n gates [] x q net are is on = absurd cc
+follower_high n gates (p ∷ before) x q net are is on =
+    let above : p < x = ⊎_elim
+    (λ reads. (reads_low n x p net reads).1)
+    (λ was. let from : p ≤ x = are.0.least x was.0 in omega (arith, from, was.1))
+    (follower_before n (before ++ gates) p x is) in
+    ⊎_elim
+    (λ (own : q ≡ p). omega (arith, above, own))
+    (λ later. omega (arith, above, follower_high n gates before p q net are.1 are.0.follower later))
+    (among_cases p q before on)
+
+-- ---- side inputs
+
+-- where a path leaves some gates and doesn't come back, a follower stands on it
+crossing : (n : Net) (all : List ℕ) (g q : ℕ) → IsNet n → among all g ≡ true → LeadsUp n g q → among all q ≡ false → (x : ℕ) × (x ≤ q) × IsFollower n all x
+crossing n all _ _ net on (at_once g q reads) off = (q, omega arith, record { outside = off; place = g; inside = on; reads = reads })
+crossing n all _ _ net on (by_way_of g m q before reads) off =
+    ⊎_elim
+    (λ inside. (q, omega arith, record { outside = off; place = m; inside = inside; reads = reads }))
+    (λ outside. let r = crossing n all g m net on before outside in (r.0, omega (arith, r.1, (reads_low n q m net reads).1), r.2))
+    (cases_Bool (among all m))
+
+-- the tail's list in place of the gates that were taken
+same_taken : (gates taken tail : List ℕ) (p : ℕ) → ((q : ℕ) → among taken q ≡ true → among tail q ≡ true) → among (tail ++ gates) p ≡ false → among (taken ++ gates) p ≡ false
+same_taken gates taken tail p within off =
+    is_off (taken ++ gates) p (λ on. both_ways (among (tail ++ gates) p) off
+    (⊎_elim (λ a. in_front tail gates p (within p a)) (λ b. in_back tail gates p b) (in_parts taken gates p on)))
+
+-- No side input depends on the window.
+pub side_apart : (n : Net) (w : Window) (t : Tail) (p : ℕ) → IsNet n → IsTail n w t → among t.sides p ≡ true → IsApart n w.gates p
+side_apart n w t p net is on =
+    let side : IsSide n w.gates t.gates p = is.sides.only p on in
+    record {
+      outside = out_back t.gates w.gates p side.outside;
+      above = λ g inside up.
+          let taken : List ℕ = is.gates.taken in
+          let off : among (taken ++ w.gates) p ≡ false = same_taken w.gates taken t.gates p is.gates.just.all side.outside in
+          let x = crossing n (taken ++ w.gates) g p net (in_back taken w.gates g inside) up off in
+          let high : side.read.reader < x.0 = follower_high n w.gates taken x.0 side.read.reader net is.gates.following x.2 (is.gates.just.only side.read.reader side.read.inside) in
+          absurd (omega (arith, high, x.1, (reads_low n side.read.reader p net side.read.reads).1));
+    }
+
+-- Nor does an input of a window that belongs to its net.
+pub input_apart : (n : Net) (w : Window) (p : ℕ) → Belongs n w → among w.inputs p ≡ true → IsApart n w.gates p
+input_apart n w p is on =
+    let input : IsInput n w.gates p = is.inputs.only p on in
+    record {
+      outside = input.outside;
+      above = λ g inside up. both_ways (among w.gates p) input.outside (is.convex g p input.read.reader inside input.read.inside up (at_once p input.read.reader input.read.reads));
+    }

@@ -1,0 +1,44 @@
+//! What the definitions come to. Each law is the contract of a function that does nothing.
+ghost use Rattle.std.specs.Prelude.{◌≡◌, ℕ, ◌<◌, Bool, true, ◌++◌, List, length, map, slice_get, Some};
+ghost use Rattle.chain_theory.specs.Specification.{Specification};
+ghost use Rattle.chain_theory.specs.Chain.{Chain, IsChain};
+ghost use Rattle.chain_theory.specs.Agreement.{Agrees};
+ghost use Rattle.net_theory.specs.declared.data.Sig.{Sig};
+ghost use Rattle.net_theory.specs.Net.{Net, IsNet, end_of, sig_value, value, sink_values};
+ghost use Rattle.window_theory.specs.Places.{among};
+ghost use Rattle.window_theory.specs.Window.{Window, Belongs};
+ghost use Rattle.window_theory.specs.Care.{values_with, HasRow};
+ghost use Rattle.window_theory.specs.Splice.{Fits, spliced_value};
+ghost use Rattle.observe_theory.specs.Tail.{AreFollowing, IsFollower, Tail, IsTail, IsApart};
+ghost use Rattle.observe_theory.specs.Unseen.{AreObserving, IsUnseen};
+ghost use Rattle.observe_theory.specs.Observed.{IsObservedOf};
+ghost use Rattle.observe_theory.specs.ApartLaws.{ArePut};
+
+/// A tail is found from below: what could still be taken stands above all that was taken. So no side input depends on
+/// the window, and neither does an input or a leaf of the observing surround: these keep their values whatever bits are
+/// put in the place of the window's outputs.
+pub fn sides_are_apart()
+    ensures rising { (n : Net) (gates taken : List ℕ) (x q : ℕ) → IsNet n → AreFollowing n gates taken →
+        IsFollower n (taken ++ gates) x → among taken q ≡ true → q < x }
+    ensures sides { (n : Net) (w : Window) (t : Tail) (p : ℕ) → IsNet n → IsTail n w t → among t.sides p ≡ true → IsApart n w.gates p }
+    ensures inputs { (n : Net) (w : Window) (p : ℕ) → Belongs n w → among w.inputs p ≡ true → IsApart n w.gates p }
+    ensures leaves { (n : Net) (w : Window) (t : Tail) (leaves : List ℕ) (p : ℕ) → IsNet n → Belongs n w → IsTail n w t →
+        AreObserving n w t leaves → among leaves p ≡ true → IsApart n w.gates p }
+    ensures values { (n : Net) (w : Window) (given put : ℕ → Bool) (p : ℕ) → IsNet n → Belongs n w → ArePut n given put →
+        IsApart n w.gates p → p < end_of n → values_with n (among w.outputs) put p ≡ value n given p }
+{}
+
+/// Bits that are put in the place of the window's outputs on an unseen row leave every sink as it is.
+pub fn unseen_rows_keep_the_sinks()
+    ensures { (n : Net) (w : Window) (t : Tail) (row i : ℕ) (s : Sig) (given put : ℕ → Bool) → IsNet n → Belongs n w →
+        IsTail n w t → IsUnseen n w t row → HasRow (value n given) w.inputs row → ArePut n given put →
+        slice_get n.sinks i ≡ Some s → sig_value (values_with n (among w.outputs) put) s ≡ sig_value (value n given) s }
+{}
+
+/// A chain that agrees with the observed specification of a window can take its place: it fits, and all sinks keep their
+/// values.
+pub fn observed_chains_keep_the_sinks()
+    ensures fit { (n : Net) (w : Window) (s : Specification) (c : Chain) → IsChain c → IsObservedOf n w s → Agrees c s → Fits w c }
+    ensures sinks { (n : Net) (w : Window) (s : Specification) (c : Chain) (given : ℕ → Bool) → IsNet n → Belongs n w →
+        IsChain c → IsObservedOf n w s → Agrees c s → map (sig_value (spliced_value n w c given)) n.sinks ≡ sink_values n given }
+{}
