@@ -1,12 +1,11 @@
-//! Counting first, then the sizes that are left.
-ghost use Rattle.std.specs.Prelude.{◌≡◌, ◌+◌, ◌≤◌, ◌<◌, true, false, length, IfOk};
+//! What searches say: of a size behind which no chain stands, and of all sizes with a certificate.
+ghost use Rattle.std.specs.Prelude.{◌≡◌, ◌≤◌, ◌<◌, true, false, length, IfOk};
 ghost use Rattle.tt_core.specs.Words.{specification};
 ghost use Rattle.op_basis.specs.Basis.{members};
 ghost use Rattle.chain_theory.specs.Agreement.{NoneBelow};
 ghost use Rattle.cert_theory.specs.Bundle.{IsHeading};
 ghost use Rattle.decide_core.specs.Decided.{IsDecided, IsShorter, IsOpenVerdict};
 
-use bound_core::lower_bound;
 use bundle_core::{Bundle, Heading, Verdict};
 use chain_core::Chain;
 use size_loop::{SizeOutcome, search, search_size};
@@ -68,7 +67,7 @@ fn search_whole(alloc: Global, heading: &Heading) -> Result<Decided, AllocError>
 
 /// What a search says that begins at a size, where no chain of fewer steps agrees.
 #[tactic(auto, using(crate::specs::DecidedLaws::deciding))]
-fn search_from(alloc: Global, heading: &Heading, from: u32) -> Result<Decided, AllocError>
+pub fn search_from(alloc: Global, heading: &Heading, from: u32) -> Result<Decided, AllocError>
     requires heading { IsHeading heading.now }
     requires fewer { NoneBelow (specification heading.now.spec) (members heading.now.basis) from }
     requires from { from ≤ heading.now.max }
@@ -90,30 +89,10 @@ fn search_from(alloc: Global, heading: &Heading, from: u32) -> Result<Decided, A
 
 /// The chain without steps and outs, where no output is asked for.
 #[tactic(auto, using(crate::specs::DecidedLaws::deciding))]
-fn no_steps(alloc: Global, heading: &Heading) -> Chain
+pub fn no_steps(alloc: Global, heading: &Heading) -> Chain
     requires heading { IsHeading heading.now }
     requires output { length heading.now.spec.on ≡ 0 }
     ensures { IsShorter heading.now result }
 {
     Chain::new(heading.spec.n(), Vec::new(alloc), Vec::new(alloc))
-}
-
-/// Decides whether a chain of at most so many steps as the heading says agrees with its tables. A certificate
-/// comes only where a search has spent its budget.
-#[tactic(auto, using(crate::specs::DecidedLaws::deciding))]
-pub fn decide(alloc: Global, heading: &Heading) -> Result<Decided, AllocError>
-    requires { IsHeading heading.now }
-    ensures { IfOk result (λ decided. IsDecided heading.now decided) }
-{
-    if heading.spec.outputs() == 0 {
-        return Ok(Decided::Shorter {
-            chain: no_steps(alloc, heading),
-            low: 0,
-        });
-    }
-    let from = lower_bound(&heading.spec);
-    if heading.max < from {
-        return Ok(Decided::Least);
-    }
-    search_from(alloc, heading, from)
 }

@@ -3,15 +3,19 @@
 //!
 //! It stands on `bound_core` for what counting says, and on `size_loop` for the search of a size. The search begins
 //! at the size that counting leaves. A certificate is made only where a size stays open: then the whole search
-//! is made again, and its own verdict holds.
+//! is made again, and its own verdict holds. What is found is remembered (`spec_memory`) and not searched again.
 //!
 //! ```text
 //! let heading = Heading { spec, basis, method, conflicts, max: 2 };
-//! decide(alloc, &heading)? // Shorter(chain) of at most 2 steps, Least, or Open(bundle)
+//! let mut memory = Memory::new(alloc, basis);
+//! decide(alloc, &mut memory, &heading)? // Shorter(chain) of at most 2 steps, Least, or Open(bundle)
 //! ```
 #![tactic(auto)]
 
 mod deciding;
+mod remembering;
 
 pub use bundle_core::{Bundle, Heading};
-pub use deciding::{Decided, decide};
+pub use deciding::Decided;
+pub use remembering::decide;
+pub use spec_memory::Memory;

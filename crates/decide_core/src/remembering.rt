@@ -1,0 +1,187 @@
+//! Counting first, then what is remembered, then the sizes that are left. A specification that was decided isn't
+//! searched again. A refutation is a fact of the memory; a chain that is remembered is judged before it is used.
+ghost use Rattle.std.specs.Prelude.{◌≡◌, ◌≤◌, ◌<◌, true, length, IfSome, IfOk};
+ghost use Rattle.tt_core.specs.Words.{specification};
+ghost use Rattle.op_basis.specs.Basis.{members};
+ghost use Rattle.chain_theory.specs.Agreement.{IsOver, Agrees, NoneBelow};
+ghost use Rattle.cert_theory.specs.Bundle.{IsHeading};
+ghost use Rattle.spec_memory.specs.Facts.{spelled};
+ghost use Rattle.decide_core.specs.Decided.{IsDecided, IsShorter};
+
+use crate::deciding::{Decided, no_steps, search_from};
+use bound_core::lower_bound;
+use bundle_core::Heading;
+use chain_core::{Chain, first_difference, first_outside};
+use op_basis::Basis;
+use spec_memory::{Key, Memory};
+use std::alloc::{AllocError, Global};
+use tt_core::Spec;
+
+/// Whether a chain is over a basis.
+#[tactic(auto, using(crate::specs::RememberedLaws::remembering))]
+fn is_over(chain: &Chain, basis: Basis) -> bool
+    ensures { result ≡ true → IsOver (members basis) chain.now }
+{
+    match first_outside(chain, basis) {
+        Some(_) => false,
+        None => true,
+    }
+}
+
+/// Whether a chain agrees with a specification.
+#[tactic(auto, using(crate::specs::RememberedLaws::remembering))]
+fn agrees(chain: &Chain, spec: &Spec) -> bool
+    requires inputs { chain.now.n ≡ spec.now.n }
+    requires outputs { length chain.now.outs ≡ length spec.now.on }
+    ensures { result ≡ true → Agrees chain.now (specification spec.now) }
+{
+    match first_difference(chain, spec) {
+        Some(_) => false,
+        None => true,
+    }
+}
+
+/// Whether a chain is one that the heading asks for.
+#[tactic(auto, using(crate::specs::RememberedLaws::remembering))]
+fn serves(chain: &Chain, heading: &Heading) -> bool
+    ensures { result ≡ true → IsShorter heading.now chain.now }
+{
+    if chain.n() != heading.spec.n() {
+        return false;
+    }
+    if chain.outs().len() as u32 != heading.spec.outputs() {
+        return false;
+    }
+    if chain.steps().len() as u32 > heading.max {
+        return false;
+    }
+    if !is_over(chain, heading.basis) {
+        return false;
+    }
+    agrees(chain, &heading.spec)
+}
+
+fn copied(alloc: Global, chain: &Chain) -> Result<Chain, AllocError>
+    ensures { IfOk result (λ copy. copy ≡ chain.now) }
+{
+    let steps = Vec::from_slice(alloc, chain.steps())?;
+    let outs = Vec::from_slice(alloc, chain.outs())?;
+    Ok(Chain::new(chain.n(), steps, outs))
+}
+
+/// A chain that is remembered and that the heading asks for.
+fn remembered(
+    alloc: Global,
+    memory: &Memory,
+    key: &Key,
+    heading: &Heading,
+) -> Result<Option<Chain>, AllocError>
+    ensures { IfOk result (λ found. IfSome found (λ chain. IsShorter heading.now chain)) }
+{
+    match memory.chain(key) {
+        None => Ok(None),
+        Some(chain) => {
+            if !serves(chain, heading) {
+                return Ok(None);
+            }
+            Ok(Some(copied(alloc, chain)?))
+        }
+    }
+}
+
+/// A number of steps of which no fewer do, by counting or by memory.
+#[tactic(auto, using(crate::specs::RememberedLaws::remembering))]
+fn first_size(memory: &Memory, key: &Key, heading: &Heading, counted: u32) -> u32
+    requires heading { IsHeading heading.now }
+    requires basis { memory.now ≡ heading.now.basis }
+    requires key { key.now ≡ spelled heading.now.spec }
+    requires fewer { NoneBelow (specification heading.now.spec) (members heading.now.basis) counted }
+    ensures { NoneBelow (specification heading.now.spec) (members heading.now.basis) result }
+{
+    let known = memory.fewest(key);
+    if known <= counted {
+        return counted;
+    }
+    known
+}
+
+/// Searches, and notes what was found.
+#[tactic(auto, using(crate::specs::RememberedLaws::remembering))]
+fn search_new(
+    alloc: Global,
+    memory: &mut Memory,
+    key: Key,
+    heading: &Heading,
+    from: u32,
+) -> Result<Decided, AllocError>
+    requires heading { IsHeading heading.now }
+    requires basis { memory.old ≡ heading.now.basis }
+    requires key { key ≡ spelled heading.now.spec }
+    requires fewer { NoneBelow (specification heading.now.spec) (members heading.now.basis) from }
+    requires from { from ≤ heading.now.max }
+    requires output { 0 < length heading.now.spec.on }
+    ensures decided { IfOk result (λ decided. IsDecided heading.now decided) }
+    ensures basis { memory.new ≡ memory.old }
+{
+    match search_from(alloc, heading, from)? {
+        Decided::Open(search) => Ok(Decided::Open(search)),
+        Decided::Least => {
+            memory.note(key, heading.max + 1, None)?;
+            Ok(Decided::Least)
+        }
+        Decided::Shorter { chain, low } => {
+            let copy = copied(alloc, &chain)?;
+            memory.note(key, low, Some(copy))?;
+            Ok(Decided::Shorter { chain, low })
+        }
+    }
+}
+
+/// Decides by memory, and searches what it doesn't know.
+#[tactic(auto, using(crate::specs::RememberedLaws::remembering))]
+fn decide_above(
+    alloc: Global,
+    memory: &mut Memory,
+    heading: &Heading,
+    counted: u32,
+) -> Result<Decided, AllocError>
+    requires heading { IsHeading heading.now }
+    requires basis { memory.old ≡ heading.now.basis }
+    requires fewer { NoneBelow (specification heading.now.spec) (members heading.now.basis) counted }
+    requires output { 0 < length heading.now.spec.on }
+    ensures decided { IfOk result (λ decided. IsDecided heading.now decided) }
+    ensures basis { memory.new ≡ memory.old }
+{
+    let key = Key::of(alloc, &heading.spec)?;
+    let from = first_size(memory, &key, heading, counted);
+    if heading.max < from {
+        return Ok(Decided::Least);
+    }
+    match remembered(alloc, memory, &key, heading)? {
+        Some(chain) => Ok(Decided::Shorter { chain, low: 0 }),
+        None => search_new(alloc, memory, key, heading, from),
+    }
+}
+
+/// Decides whether a chain of at most so many steps as the heading says agrees with its tables, by counting, by a
+/// memory for the heading's basis, and by a search, from which the memory learns. A certificate comes only where a
+/// search has spent its budget.
+#[tactic(auto, using(crate::specs::RememberedLaws::remembering))]
+pub fn decide(alloc: Global, memory: &mut Memory, heading: &Heading) -> Result<Decided, AllocError>
+    requires heading { IsHeading heading.now }
+    requires basis { memory.old ≡ heading.now.basis }
+    ensures decided { IfOk result (λ decided. IsDecided heading.now decided) }
+    ensures basis { memory.new ≡ memory.old }
+{
+    if heading.spec.outputs() == 0 {
+        return Ok(Decided::Shorter {
+            chain: no_steps(alloc, heading),
+            low: 0,
+        });
+    }
+    let counted = lower_bound(&heading.spec);
+    if heading.max < counted {
+        return Ok(Decided::Least);
+    }
+    decide_above(alloc, memory, heading, counted)
+}

@@ -1,0 +1,18 @@
+//! What was found of specifications over a basis, remembered: of how few steps no chain agrees, and a chain.
+//!
+//! It stands on `tt_core` for specifications, whose words are the keys. What a memory claims is true whatever its
+//! user asks: the least number of steps of a key is one below which no chain over the memory's basis agrees. Of
+//! its chains it claims nothing; who takes one judges it.
+//!
+//! ```text
+//! let key = Key::of(alloc, &spec)?;
+//! memory.note(key, 3, None)?;  // where no chain of fewer than 3 steps agrees with the specification
+//! memory.fewest(&key);         // 3, and 0 of what it doesn't know
+//! ```
+#![tactic(auto)]
+
+mod key;
+mod memory;
+
+pub use key::Key;
+pub use memory::Memory;

@@ -1,0 +1,80 @@
+//! The memory: a map from the keys to what was found.
+ghost use Rattle.std.specs.Prelude.{◌≡◌, OnOk};
+ghost use Rattle.op_basis.specs.Basis.{members};
+ghost use Rattle.spec_memory.specs.Facts.{IsFact};
+
+use crate::key::Key;
+use chain_core::Chain;
+use op_basis::Basis;
+use std::alloc::{AllocError, Global};
+use std::collections::HashMap;
+use std::marker::Model;
+
+/// What was found of a specification.
+#[derive(Debug, Drop)]
+pub struct Found {
+    pub fewest: u32,
+    pub chain: Option<Chain>,
+}
+
+/// What was found of specifications over a basis. From outside it is the basis: what it has found is no fact of
+/// its value, but each of its answers is a fact.
+#[derive(Debug, Drop)]
+pub struct Memory {
+    basis: Basis,
+    found: HashMap<Key, Found>,
+}
+
+impl Model for Memory {
+    ghost use Rattle.std.specs.Prelude.{ℕ};
+    ghost use Rattle.spec_memory.specs.Facts.{HasFacts};
+
+    ghost Value = { ℕ };
+
+    ghost view = { λ m. m.basis };
+
+    ghost invariant = { λ m. HasFacts m.basis m.found };
+}
+
+impl Memory {
+    /// A memory for a basis, which knows nothing.
+    #[tactic(auto, using(crate::specs::FactLaws::remembering))]
+    pub fn new(alloc: Global, basis: Basis) -> Memory
+        ensures { result ≡ basis }
+    {
+        Memory {
+            basis,
+            found: HashMap::new(alloc),
+        }
+    }
+
+    /// A number of steps of which no fewer do: no chain of fewer steps over the basis agrees with the
+    /// specification of this key.
+    #[tactic(auto, using(crate::specs::FactLaws::remembering))]
+    pub fn fewest(&self, key: &Key) -> u32
+        ensures { IsFact (members self.now) key.now result }
+    {
+        match self.found.get(key) {
+            Some(found) => found.fewest,
+            None => 0,
+        }
+    }
+
+    /// A chain that was noted with the key, if there is one.
+    pub fn chain(&self, key: &Key) -> Option<&Chain> {
+        match self.found.get(key) {
+            Some(found) => found.chain.as_ref(),
+            None => None,
+        }
+    }
+
+    /// Notes that no chain of fewer steps agrees with the specification of a key, and a chain that may.
+    #[tactic(auto, using(crate::specs::FactLaws::remembering))]
+    pub fn note(&mut self, key: Key, fewest: u32, chain: Option<Chain>) -> Result<(), AllocError>
+        requires { IsFact (members self.old) key fewest }
+        ensures { self.new ≡ self.old }
+    {
+        self.found.insert(key, Found { fewest, chain })?;
+        Ok(())
+    }
+}
