@@ -1,0 +1,69 @@
+//! Runs on memory, with calls that are made to fail.
+use chain_app::run;
+use port_io::{MemorySink, MemorySource};
+use std::alloc::{AllocError, Global};
+
+/// What a run came to: its status, and what stands on the output and on the notes.
+#[derive(Debug, Drop)]
+pub(crate) struct Seen {
+    pub(crate) status: u8,
+    pub(crate) out: MemorySink,
+    pub(crate) note: MemorySink,
+}
+
+impl Seen {
+    /// Whether this is the status, and these texts stand on the output and on the notes.
+    pub(crate) fn is(&self, status: u8, out: &[u8], note: &[u8]) -> bool {
+        self.status == status && self.out.written() == out && self.note.written() == note
+    }
+}
+
+/// Which call of a port fails: this one, all up to this one, or none.
+#[derive(Clone, Copy, Debug)]
+pub(crate) enum Fails {
+    None,
+    At(u64),
+    UpTo(u64),
+}
+
+/// The numbers of the calls that fail.
+fn calls(alloc: Global, fails: Fails) -> Result<Vec<u64>, AllocError> {
+    let mut calls = Vec::new(alloc);
+    match fails {
+        Fails::None => {}
+        Fails::At(call) => calls.push(call)?,
+        Fails::UpTo(last) => calls.extend_from_slice(Vec::from_iter(alloc, 1..last)?.as_slice())?,
+    }
+    Ok(calls)
+}
+
+/// The words of a line, which blanks part.
+fn words_of(alloc: Global, line: &str) -> Result<Vec<String>, AllocError> {
+    let mut words = Vec::new(alloc);
+    for word in line.split(' ') {
+        words.push(String::from_str(alloc, word)?)?;
+    }
+    Ok(words)
+}
+
+/// Runs on memory, where calls of the source, of the output and of the notes may fail.
+pub(crate) fn run_on(
+    alloc: Global,
+    line: &str,
+    input: &[u8],
+    reads: Fails,
+    writes: Fails,
+    notes: Fails,
+) -> Result<Seen, AllocError> {
+    let words = words_of(alloc, line)?;
+    let mut source = MemorySource::new(Vec::from_slice(alloc, input)?, calls(alloc, reads)?);
+    let mut out = MemorySink::new(alloc, calls(alloc, writes)?);
+    let mut note = MemorySink::new(alloc, calls(alloc, notes)?);
+    let status = run(alloc, &words, &mut source, &mut out, &mut note).number();
+    Ok(Seen { status, out, note })
+}
+
+/// Runs where nothing fails.
+pub(crate) fn told(alloc: Global, line: &str, input: &[u8]) -> Result<Seen, AllocError> {
+    run_on(alloc, line, input, Fails::None, Fails::None, Fails::None)
+}
