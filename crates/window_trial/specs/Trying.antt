@@ -1,5 +1,5 @@
 -- What the trial of a window comes to.
-use Rattle.std.specs.Prelude.{◌≡◌, ◌+◌, ◌<◌, length}
+use Rattle.std.specs.Prelude.{◌≡◌, ℕ, ◌+◌, ◌<◌, length}
 use Rattle.tt_core.specs.Words.{specification}
 use Rattle.op_basis.specs.Basis.{members}
 use Rattle.net_theory.specs.Net.{Net}
@@ -17,15 +17,17 @@ use Rattle.sweep_core.specs.Outcomes.{Leads, IsDone}
 use Rattle.window_trial.specs.declared.trying.Outcome.{Outcome}
 use Rattle.window_trial.specs.declared.trying.Outcome.TheVariants.{Passed, Open, Smaller}
 
--- settings, a net, and its index
+-- settings, a net, its index, and the basis of the memory
 pub record Trying : Type 0 where
   pub settings : ImproveSettings
   pub net : Net
   pub readers : Readers
+  pub basis : ℕ
 
 pub record IsTrying (t : Trying) : Type 0 where
   pub range : IsInRange t.settings
   pub readers : AreReaders t.net t.readers
+  pub basis : t.basis ≡ t.settings.basis
 
 -- A heading asks by the settings for a specification of a window, and for fewer steps than it has gates.
 pub record AsksFor (s : ImproveSettings) (n : Net) (w : Window) (h : Heading) : Type 0 where

@@ -9,7 +9,7 @@ ghost use Rattle.window_trial.specs.Trying.{IsDecidedFor, IsOutcome};
 
 use crate::partners::{is_partner_or_none, next_partner};
 use crate::replacing::with_chain;
-use decide_core::{Decided, Heading, decide};
+use decide_core::{Decided, Heading, Memory, decide};
 use net_core::Net;
 use settings::ImproveSettings;
 use std::alloc::{AllocError, Global};
@@ -17,12 +17,13 @@ use std::marker::Model;
 use sweep_core::{Trial, Tried, Visit};
 use window_core::{Readers, Window, readers_of, spec_of, window_by};
 
-/// A net whose windows are tried, with its index, and the settings.
+/// A net whose windows are tried, with its index, the settings, and what was found of windows before.
 #[derive(Debug, Drop)]
 pub struct WindowTrial {
     settings: ImproveSettings,
     net: Net,
     readers: Readers,
+    memory: Memory,
 }
 
 impl Model for WindowTrial {
@@ -30,9 +31,9 @@ impl Model for WindowTrial {
 
     ghost Value = { Trying };
 
-    ghost view = { λ t. record { settings = t.settings; net = t.net; readers = t.readers } };
+    ghost view = { λ t. record { settings = t.settings; net = t.net; readers = t.readers; basis = t.memory } };
 
-    ghost invariant = { λ t. IsTrying (record { settings = t.settings; net = t.net; readers = t.readers }) };
+    ghost invariant = { λ t. IsTrying (record { settings = t.settings; net = t.net; readers = t.readers; basis = t.memory }) };
 }
 
 /// Whether a window of a net has a shorter chain, by a heading that asks for its specification.
@@ -42,10 +43,13 @@ fn decide_window(
     net: &Net,
     window: &Window,
     settings: ImproveSettings,
+    memory: &mut Memory,
 ) -> Result<Decided, AllocError>
     requires belongs { Belongs net.now window.now }
     requires range { IsInRange settings }
-    ensures { IfOk result (λ decided. IsDecidedFor settings net.now window.now decided) }
+    requires basis { memory.old ≡ settings.basis }
+    ensures decided { IfOk result (λ decided. IsDecidedFor settings net.now window.now decided) }
+    ensures basis { memory.new ≡ memory.old }
 {
     let max = window.gates().len() as u32 - 1;
     let spec = spec_of(alloc, net, window)?;
@@ -59,7 +63,7 @@ fn decide_window(
         conflicts: settings.conflicts,
         max,
     };
-    let decided = decide(alloc, &heading)?;
+    let decided = decide(alloc, memory, &heading)?;
     Ok(decided)
 }
 
@@ -78,17 +82,20 @@ fn try_window(
     net: &Net,
     window: &Window,
     settings: ImproveSettings,
+    memory: &mut Memory,
     visit: Visit,
 ) -> Result<Outcome, AllocError>
     requires window { IsWindow net.now visit.root visit.partner visit.count window.now }
     requires belongs { Belongs net.now window.now }
     requires range { IsInRange settings }
     requires listed { IsListed net.now settings.cap visit }
-    ensures { IfOk result (λ outcome. IsOutcome settings net.now visit outcome) }
+    requires basis { memory.old ≡ settings.basis }
+    ensures outcome { IfOk result (λ outcome. IsOutcome settings net.now visit outcome) }
+    ensures basis { memory.new ≡ memory.old }
 {
     // brings what the type of a net says
     let _gates = net.gates();
-    match decide_window(alloc, net, window, settings)? {
+    match decide_window(alloc, net, window, settings, memory)? {
         Decided::Least => Ok(Outcome::Passed),
         Decided::Open(search) => Ok(Outcome::Open(search)),
         Decided::Shorter { chain, low: _ } => Ok(Outcome::Smaller(with_chain(
@@ -108,6 +115,7 @@ fn try_visit(
     net: &Net,
     readers: &Readers,
     settings: ImproveSettings,
+    memory: &mut Memory,
     visit: Visit,
 ) -> Result<Outcome, AllocError>
     requires readers { AreReaders net.now readers.now }
@@ -115,7 +123,9 @@ fn try_visit(
     requires gate { IsGate net.now visit.root }
     requires from { 1 ≤ visit.count }
     requires to { visit.count ≤ settings.cap }
-    ensures { IfOk result (λ outcome. IsOutcome settings net.now visit outcome) }
+    requires basis { memory.old ≡ settings.basis }
+    ensures outcome { IfOk result (λ outcome. IsOutcome settings net.now visit outcome) }
+    ensures basis { memory.new ≡ memory.old }
 {
     // brings what the type of a net says
     let _gates = net.gates();
@@ -124,7 +134,7 @@ fn try_visit(
     }
     match window_by(alloc, net, readers, visit.root, visit.partner, visit.count)? {
         None => Ok(Outcome::Passed),
-        Some(window) => try_window(alloc, net, &window, settings, visit),
+        Some(window) => try_window(alloc, net, &window, settings, memory, visit),
     }
 }
 
@@ -140,10 +150,12 @@ impl WindowTrial {
         ensures settings { IfOk result (λ trial. trial.settings ≡ settings) }
     {
         let readers = readers_of(alloc, &net)?;
+        let memory = Memory::new(alloc, settings.basis);
         Ok(WindowTrial {
             settings,
             net,
             readers,
+            memory,
         })
     }
 
@@ -155,6 +167,7 @@ impl WindowTrial {
             settings: _,
             net,
             readers: _,
+            memory: _,
         } = self;
         net
     }
@@ -185,7 +198,14 @@ impl Trial for WindowTrial {
 
     #[tactic(auto, using(crate::specs::TryingLaws::trying))]
     fn attempt(&mut self, alloc: Global, visit: Visit) -> Result<Tried, AllocError> {
-        match try_visit(alloc, &self.net, &self.readers, self.settings, visit)? {
+        match try_visit(
+            alloc,
+            &self.net,
+            &self.readers,
+            self.settings,
+            &mut self.memory,
+            visit,
+        )? {
             Outcome::Passed => Ok(Tried::Passed),
             Outcome::Open(search) => Ok(Tried::Open(search)),
             Outcome::Smaller(net) => {
