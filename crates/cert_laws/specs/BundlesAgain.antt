@@ -132,7 +132,7 @@ bundle_again b valid output =
 abbrev AreShort : List PartLog → Type 0
 AreShort ps = (part : Part) → Contains (map part_of ps) part → HasShortTitle part
 
-whole_part : (h : Heading) (size : ℕ) (p : PartLog) → HasShortTitle p.part → IsPartLog h size p → IsWhole (part_lines p)
+pub whole_part : (h : Heading) (size : ℕ) (p : PartLog) → HasShortTitle p.part → IsPartLog h size p → IsWhole (part_lines p)
 unfolding part_lines
 whole_part h size p short is =
     let f = formula_of h size p.part in
@@ -166,15 +166,17 @@ whole_chain : (h : Heading) (count : ℕ) (low : Option ℕ) (chain : Option Cha
 whole_chain h count low None v heading is = whole_none
 whole_chain h count low (Some c) v heading is = whole_block c (small_chain h count c heading is.0)
 
-pub lines_again : (b : Bundle) → IsValid b → lines_of (bundle_text b) ≡ bundle_lines b
-unfolding lines_from
-lines_again b valid =
+pub whole_bundle : (b : Bundle) → IsValid b → IsWhole (bundle_lines b)
+whole_bundle b valid =
     let heading = valid.heading in
     let short = short_verdict b.heading (length b.sections) (first_open b.sections) b.chain b.verdict (omega (arith, valid.sizes_to, heading.asked.max_to)) heading.asked.max_to (λ l e. open_low b.heading b.sections 0 l valid.sections (omega (arith, valid.sizes_to)) e) valid.ending in
     let ending = whole_both (block_lines b.chain) _ (whole_chain b.heading (length b.sections) (first_open b.sections) b.chain b.verdict heading valid.ending) (whole_cons (line (verdict_line b.verdict)) _ (whole_verdict b.verdict short) whole_end) in
     let sections = whole_sections b.heading b.sections 0 (omega (arith, valid.sizes_to, heading.asked.max_to)) valid.sections in
-    let whole = whole_both (heading_lines b.heading) _ (whole_heading b.heading (omega (arith, heading.tables.inputs)) (omega (arith, heading.asked.conflicts_to)) (omega (arith, heading.asked.max_to))) (whole_both (flat_map section_lines b.sections) _ sections ending) in
-    sym (ap lines_of (append-nil (bundle_text b))) ∙ whole.back [] ∙ append-nil (bundle_lines b)
+    whole_both (heading_lines b.heading) _ (whole_heading b.heading (omega (arith, heading.tables.inputs)) (omega (arith, heading.asked.conflicts_to)) (omega (arith, heading.asked.max_to))) (whole_both (flat_map section_lines b.sections) _ sections ending)
+
+pub lines_again : (b : Bundle) → IsValid b → lines_of (bundle_text b) ≡ bundle_lines b
+unfolding lines_from
+lines_again b valid = sym (ap lines_of (append-nil (bundle_text b))) ∙ (whole_bundle b valid).back [] ∙ append-nil (bundle_lines b)
 
 -- The text of a valid bundle is judged as its verdict.
 pub text_again : (bytes : List ℕ) (b : Bundle) → IsBundle bytes b → bundle_of (lines_of bytes) ≡ Ok b.verdict

@@ -42,11 +42,11 @@ use Rattle.cert_laws.specs.LineSpellings.{chosen, both_true, some_is, as_ok, is_
 
 -- ---- verdicts
 
-map_some : {A B : Type 0} (f : A → B) (o : Option A) (y : B) → option_map f o ≡ Some y → (x : A) × (o ≡ Some x) × (f x ≡ y)
+pub map_some : {A B : Type 0} (f : A → B) (o : Option A) (y : B) → option_map f o ≡ Some y → (x : A) × (o ≡ Some x) × (f x ≡ y)
 map_some f None y e = absurd cc
 map_some f (Some x) y e = (x, refl, some_is (f x) y e)
 
-number_spelled : (word : List ℕ) (l : Line) (n : ℕ) → number_behind word l ≡ Some n → l ≡ line (word ++ decimal n)
+pub number_spelled : (word : List ℕ) (l : Line) (n : ℕ) → number_behind word l ≡ Some n → l ≡ line (word ++ decimal n)
 number_spelled word l n e = (number_at 999999999 word l n (omega arith) e).1
 
 both_some : (a b : Option ℕ) (v : Verdict) → both a b ≡ Some v → (low : ℕ) × (r : ℕ) × (a ≡ Some low) × (b ≡ Some r) × (verdicts.Bounded low r ≡ v)

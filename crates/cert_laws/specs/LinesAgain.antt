@@ -97,10 +97,10 @@ log_again x is = ap or_misspelled (line_back x is)
 
 -- ---- verdicts
 
-number_again : (word : List ℕ) (n : ℕ) → n < 1000000000 → number_behind word (line (word ++ decimal n)) ≡ Some n
+pub number_again : (word : List ℕ) (n : ℕ) → n < 1000000000 → number_behind word (line (word ++ decimal n)) ≡ Some n
 number_again word n short = number_at_back 999999999 word n (omega arith) (omega arith)
 
-two_items : (low r : ℕ) → low < 1000000000 → r < 1000000000 → items_of (decimal low ++ 32 ∷ decimal r) ≡ decimal low ∷ decimal r ∷ []
+pub two_items : (low r : ℕ) → low < 1000000000 → r < 1000000000 → items_of (decimal low ++ 32 ∷ decimal r) ≡ decimal low ∷ decimal r ∷ []
 two_items low r short little =
     item_back (decimal low) (decimal r) (free_decimal 32 low (omega arith) (omega arith))
     ∙ ap (λ (xs : List (List ℕ)). decimal low ∷ xs) (last_item_back (decimal r) (free_decimal 32 r (omega arith) (omega arith)))

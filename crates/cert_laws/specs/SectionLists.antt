@@ -36,7 +36,7 @@ pub log_holds : (f : Formula) (conflicts : ℕ) (ended : Ended) (log : List theo
 log_holds f conflicts ends.Refuted log is = is.holds
 log_holds f conflicts ends.Open log is = is.holds
 
-log_fresh : (f : Formula) (conflicts : ℕ) (ended : Ended) (log : List theory.Line) → EndsAs f conflicts ended log → WasFresh ended (start f) log
+pub log_fresh : (f : Formula) (conflicts : ℕ) (ended : Ended) (log : List theory.Line) → EndsAs f conflicts ended log → WasFresh ended (start f) log
 log_fresh f conflicts ends.Refuted log is = tt
 log_fresh f conflicts ends.Open log is = is.fresh
 
@@ -49,7 +49,7 @@ size_step h number size low ls fits few =
     ap (λ (t : Bool). cond (not t) (ending_at h number size low (line (size_line size)) ls) (section_at h number size low Between (line (size_line size)) >>= λ next. sections_of h (number + 1) next ls)) (size_begins size)
     ∙ ap (λ (r : Result (Unit {0}) BundleError). (r >>= λ begun. come (before size low (parts_of h size))) >>= λ next. sections_of h (number + 1) next ls) (size_again h number size fits few)
 
-title_again : (follows : Bool) (sizes : List ℕ) → title_in follows sizes (line (title_text sizes)) ≡ Ok tt
+pub title_again : (follows : Bool) (sizes : List ℕ) → title_in follows sizes (line (title_text sizes)) ≡ Ok tt
 unfolding title_in
 title_again follows sizes = ap (λ (t : Bool). let r : Result (Unit {0}) PartError = cond t (Ok tt) (cond follows (Err NotRefuted) (Err Syntax)) in r) (is_line_back (title_text sizes))
 

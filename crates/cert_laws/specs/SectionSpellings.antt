@@ -207,7 +207,7 @@ come p = Ok p
 progress_is : (p q : Progress) → come p ≡ Ok q → p ≡ q
 progress_is p q e = cc
 
-unit_is : {E : Type 0} (r : Result (Unit {0}) E) (x : Unit {0}) → r ≡ Ok x → r ≡ Ok tt
+pub unit_is : {E : Type 0} (r : Result (Unit {0}) E) (x : Unit {0}) → r ≡ Ok x → r ≡ Ok tt
 unit_is r x e = e
 
 -- between two sections
@@ -232,7 +232,7 @@ record DueCase (h : Heading) (number size : ℕ) (low : Option ℕ) (sizes : Lis
   text : l ≡ line (title_text sizes)
   next : sections_of h (number + 1) (progress size low (Begun (Levels sizes) later)) ls ≡ Ok v
 
-title_spells : (follows : Bool) (sizes : List ℕ) (l : Line) → title_in follows sizes l ≡ Ok tt → l ≡ line (title_text sizes)
+pub title_spells : (follows : Bool) (sizes : List ℕ) (l : Line) → title_in follows sizes l ≡ Ok tt → l ≡ line (title_text sizes)
 unfolding title_in
 title_spells follows sizes l e =
     ⊎_elim
@@ -283,7 +283,7 @@ abbrev one_more : theory.Line → Result (Option theory.Line) PartError
 one_more line = Ok (Some line)
 
 -- which of the two a line is
-part_done : (f : Formula) (conflicts : ℕ) (ended : Ended) (log : List theory.Line) (l : Line) → part_in f conflicts ended log l ≡ Ok None → (is_line (codes "done") l ≡ true) × (done_in f conflicts ended log ≡ Ok tt)
+pub part_done : (f : Formula) (conflicts : ℕ) (ended : Ended) (log : List theory.Line) (l : Line) → part_in f conflicts ended log l ≡ Ok None → (is_line (codes "done") l ≡ true) × (done_in f conflicts ended log ≡ Ok tt)
 unfolding part_in
 part_done f conflicts ended log l e =
     ⊎_elim
@@ -295,7 +295,7 @@ part_done f conflicts ended log l e =
     absurd (let more = read.2 in cc))
     (chosen (is_line (codes "done") l) (done_in f conflicts ended log >>= stop) (logged_in f ended log l >>= one_more) (Ok None) e)
 
-part_logged : (f : Formula) (conflicts : ℕ) (ended : Ended) (log : List theory.Line) (l : Line) (x : theory.Line) → part_in f conflicts ended log l ≡ Ok (Some x) → logged_in f ended log l ≡ Ok x
+pub part_logged : (f : Formula) (conflicts : ℕ) (ended : Ended) (log : List theory.Line) (l : Line) (x : theory.Line) → part_in f conflicts ended log l ≡ Ok (Some x) → logged_in f ended log l ≡ Ok x
 unfolding part_in
 part_logged f conflicts ended log l x e =
     ⊎_elim

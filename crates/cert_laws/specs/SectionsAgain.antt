@@ -221,11 +221,11 @@ abbrev one_more : theory.Line → Result (Option theory.Line) PartError
 one_more line = Ok (Some line)
 
 -- the end, and one line more
-part_ends : (f : Formula) (conflicts : ℕ) (ended : Ended) (log : List theory.Line) → EndsAs f conflicts ended log → part_in f conflicts ended log (line done_text) ≡ Ok None
+pub part_ends : (f : Formula) (conflicts : ℕ) (ended : Ended) (log : List theory.Line) → EndsAs f conflicts ended log → part_in f conflicts ended log (line done_text) ≡ Ok None
 unfolding part_in
 part_ends f conflicts ended log is = ap (λ (r : Result (Unit {0}) PartError). r >>= stop) (done_again f conflicts ended log is)
 
-part_goes : (f : Formula) (conflicts : ℕ) (ended : Ended) (log : List theory.Line) (x : theory.Line) (more : List theory.Line) → AreClauses (state_after f log).live → IsStep (state_after f log) x → WasFresh ended (state_after f log) (x ∷ more) → part_in f conflicts ended log (log_line x) ≡ Ok (Some x)
+pub part_goes : (f : Formula) (conflicts : ℕ) (ended : Ended) (log : List theory.Line) (x : theory.Line) (more : List theory.Line) → AreClauses (state_after f log).live → IsStep (state_after f log) x → WasFresh ended (state_after f log) (x ∷ more) → part_in f conflicts ended log (log_line x) ≡ Ok (Some x)
 unfolding part_in
 part_goes f conflicts ended log x more clauses step fresh =
     ap (λ (t : Bool). cond t (done_in f conflicts ended log >>= stop) (logged_in f ended log (log_line x) >>= one_more)) (not_done x step.is_line)

@@ -1,0 +1,53 @@
+-- How a depth bundle is written: its bundle, and behind the line `end` of it, for the example of x1 AND (x2 OR
+-- (x3 AND x4)),
+--
+--     depth 3
+--     fence 2 1
+--     refuted
+--     ..
+--     done
+--     levels 3
+--     end
+use Rattle.std.specs.Prelude.{◌≡◌, ℕ, List, [], ◌∷◌, ◌++◌, codes, decimal}
+use Rattle.std.specs.List.{flat_map}
+use Rattle.text_core.specs.Lines.{Line}
+use Rattle.chain_core.specs.Spelling.{line}
+use Rattle.cert_theory.specs.Bundle.{PartLog, HasOutput}
+use Rattle.cert_theory.specs.Spelling.{part_lines, end_text, bundle_lines, text_of}
+use Rattle.depth_theory.specs.declared.data.DepthVerdict.{DepthVerdict}
+use Rattle.depth_theory.specs.declared.data.DepthVerdict.TheVariants as verdicts
+use Rattle.depth_theory.specs.DepthBundle.{DepthBundle, IsDepth}
+
+-- the levels of the chain, by the verdict
+abbrev pub levels_of : DepthVerdict → ℕ
+levels_of (verdicts.Levels d) = d
+levels_of (verdicts.Bounded low d) = d
+
+unfoldable pub depth_line : ℕ → List ℕ
+depth_line d = codes "depth " ++ decimal d
+
+unfoldable pub levels_line : DepthVerdict → List ℕ
+levels_line (verdicts.Levels d) = codes "levels " ++ decimal d
+levels_line (verdicts.Bounded low d) = codes "levels-bounded " ++ (decimal low ++ 32 ∷ decimal d)
+
+-- what stands behind the line of the depth
+abbrev pub flat_lines : List PartLog → DepthVerdict → List Line
+flat_lines parts v = flat_map part_lines parts ++ line (levels_line v) ∷ line end_text ∷ []
+
+abbrev pub depth_lines : DepthBundle → List Line
+depth_lines b = bundle_lines b.bundle ++ line (depth_line (levels_of b.verdict)) ∷ flat_lines b.parts b.verdict
+
+abbrev pub depth_text : DepthBundle → List ℕ
+depth_text b = text_of (depth_lines b)
+
+-- Bytes are the text of a depth bundle.
+pub record IsDepthText (bytes : List ℕ) (b : DepthBundle) : Type 0 where
+  pub is_depth : IsDepth b
+  pub output : HasOutput b.bundle
+  pub text : bytes ≡ depth_text b
+
+-- Bytes are the text of a depth bundle that has this verdict.
+pub record HasDepth (bytes : List ℕ) (v : DepthVerdict) : Type 0 where
+  pub bundle : DepthBundle
+  pub is_text : IsDepthText bytes bundle
+  pub verdict : bundle.verdict ≡ v

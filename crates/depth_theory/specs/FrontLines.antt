@@ -1,0 +1,224 @@
+-- The lines of a bundle end with its first line `end`.
+use Rattle.std.proofs.Common.{◌≡◌, ℕ, zero, suc, ◌+◌, ◌==◌, Bool, true, false, cond, List, [], ◌∷◌, ◌++◌, length, map, Option, Some, None, Ok, refl, sym, ap, ◌∙◌, append_assoc, append-nil}
+use Rattle.std.specs.Prelude.{codes, decimal}
+use Rattle.std.specs.Str.{bytes_eq}
+use Rattle.std.specs.List.{range_with_len, AllByRecursion, flat_map, join_with_byte}
+use Rattle.std.proofs.lemmas.List.Elements.{recursion_from_All}
+use Rattle.std.proofs.lemmas.Slice.Eq.{bytes_eq-Decides}
+use Rattle.text_core.specs.Lines.{Line}
+use Rattle.text_core.specs.Items.{split_from}
+use Rattle.text_core.specs.Numbers.{number_from}
+use Rattle.chain_theory.specs.declared.data.Cell.{Cell}
+use Rattle.chain_theory.specs.declared.data.Cell.TheVariants.{Zero, One, Free}
+use Rattle.chain_theory.specs.declared.data.Out.{Out}
+use Rattle.chain_theory.specs.Chain.{Chain, Step}
+use Rattle.sat_theory.specs.Line as theory
+use Rattle.sat_theory.specs.Line.{IsLine}
+use Rattle.sat_theory.specs.State.{State, start, next}
+use Rattle.sat_theory.specs.Log.{IsStep, EachLine}
+use Rattle.lrat_text.specs.Reading.{line_in}
+use Rattle.lrat_text.specs.Spelling.{line_body}
+use Rattle.lrat_text.specs.WholeLines.{line_back}
+use Rattle.tt_core.specs.Words.{Words, cell_of}
+use Rattle.tt_core.specs.Spelling.{character, header_line}
+use Rattle.chain_core.specs.Spelling.{line, step_text, step_lines, out_text, out_line, count_text, chain_lines}
+use Rattle.enc_theory.specs.declared.part.Part.{Part}
+use Rattle.enc_theory.specs.declared.part.Part.TheVariants.{Whole, Levels}
+use Rattle.cert_theory.specs.declared.data.Heading.{Heading}
+use Rattle.cert_theory.specs.declared.data.Ended.{Ended}
+use Rattle.cert_theory.specs.declared.data.Ended.TheVariants as ends
+use Rattle.cert_theory.specs.declared.data.Verdict.{Verdict}
+use Rattle.cert_theory.specs.declared.data.Verdict.TheVariants as verdicts
+use Rattle.cert_theory.specs.Bundle.{PartLog, Section, Bundle, IsPartLog, IsSection, AreSections, IsValid, formula_of}
+use Rattle.cert_theory.specs.Spelling.{table_text, table_line, tables_lines, basis_line, method_line, conflicts_line, max_line, first_text, heading_lines, size_line, ended_text, done_text, log_line, verdict_line, end_text, title_text, title_lines, part_lines, section_lines, block_lines, ending_lines, bundle_lines}
+use Rattle.cert_theory.specs.PartLines.{is_line}
+use Rattle.cert_laws.specs.LineSpellings.{is_line_back}
+use Rattle.cert_laws.specs.SectionLists.{log_holds}
+use Rattle.depth_theory.specs.DepthJudging.{front_of, behind_of}
+
+-- none of the lines is `end`, so that what stands behind them is looked at
+record IsEndless (ls : List Line) : Type 0 where
+  front : (rest : List Line) → front_of (ls ++ rest) ≡ ls ++ front_of rest
+  behind : (rest : List Line) → behind_of (ls ++ rest) ≡ behind_of rest
+
+endless_none : IsEndless []
+endless_none = record { front = λ rest. refl; behind = λ rest. refl }
+
+endless_both : (ls ms : List Line) → IsEndless ls → IsEndless ms → IsEndless (ls ++ ms)
+endless_both ls ms one two = record {
+  front = λ rest. ap front_of (append_assoc ls ms rest) ∙ one.front (ms ++ rest) ∙ ap (λ (xs : List Line). ls ++ xs) (two.front rest) ∙ sym (append_assoc ls ms (front_of rest));
+  behind = λ rest. ap behind_of (append_assoc ls ms rest) ∙ one.behind (ms ++ rest) ∙ two.behind rest;
+}
+
+endless_line : (l : Line) → is_line end_text l ≡ false → IsEndless (l ∷ [])
+unfolding front_of behind_of
+endless_line l other = record {
+  front = λ rest. ap (λ (t : Bool). cond t (l ∷ []) (l ∷ front_of rest)) other;
+  behind = λ rest. ap (λ (t : Bool). cond t rest (behind_of rest)) other;
+}
+
+endless_cons : (l : Line) (ls : List Line) → IsEndless (l ∷ []) → IsEndless ls → IsEndless (l ∷ ls)
+endless_cons l ls one two = endless_both (l ∷ []) ls one two
+
+-- ---- lines that don't begin with an e
+
+abbrev first_byte : List ℕ → ℕ
+first_byte [] = 0
+first_byte (b ∷ bs) = b
+
+other_by : (text : List ℕ) (t : Bool) → (first_byte text == 101) ≡ false → bytes_eq text end_text ≡ t → t ≡ false
+other_by text true first e =
+    let same : text ≡ end_text = (bytes_eq-Decides text end_text).0 e in
+    absurd (let is : true ≡ false = sym (ap (λ (bs : List ℕ). first_byte bs == 101) same) ∙ first in cc)
+other_by text false first e = refl
+
+endless_text : (text : List ℕ) → (first_byte text == 101) ≡ false → IsEndless (line text ∷ [])
+endless_text text first = endless_line (line text) (other_by text (bytes_eq text end_text) first refl)
+
+log_other : (x : theory.Line) (t : Bool) → IsLine x → bytes_eq (line_body x) (codes "end") ≡ t → t ≡ false
+unfolding number_from split_from
+log_other x true is e =
+    let same : line_body x ≡ codes "end" = (bytes_eq-Decides (line_body x) (codes "end")).0 e in
+    let read : line_in (codes "end") ≡ Ok x = sym (ap line_in same) ∙ line_back x is in
+    absurd cc
+log_other x false is e = refl
+
+endless_log : (s : State) (log : List theory.Line) → EachLine IsStep s log → IsEndless (map log_line log)
+unfolding EachLine
+endless_log s [] each = endless_none
+endless_log s (x ∷ xs) each = endless_cons (log_line x) (map log_line xs) (endless_line (log_line x) (log_other x (bytes_eq (line_body x) (codes "end")) each.0.is_line refl)) (endless_log (next s x) xs each.1)
+
+-- ---- the heading
+
+cell_other : (c : Cell) → (first_byte (character c ∷ []) == 101) ≡ false
+cell_other Zero = refl
+cell_other One = refl
+cell_other Free = refl
+
+cells_other : (w : Words) (h : ℕ) (ts : List ℕ) → (first_byte (map (λ t. character (cell_of w h t)) ts) == 101) ≡ false
+cells_other w h [] = refl
+cells_other w h (t ∷ ts) = cell_other (cell_of w h t)
+
+endless_table : (w : Words) (h : ℕ) → IsEndless (table_line w h ∷ [])
+unfolding table_text
+endless_table w h = endless_text (table_text w h) (cells_other w h (range_with_len 0 _))
+
+endless_tables : (w : Words) (ks : List ℕ) → IsEndless (map (λ i. table_line w (i + 1)) ks)
+endless_tables w [] = endless_none
+endless_tables w (k ∷ ks) = endless_cons (table_line w (k + 1)) (map (λ i. table_line w (i + 1)) ks) (endless_table w (k + 1)) (endless_tables w ks)
+
+endless_heading : (h : Heading) → IsEndless (heading_lines h)
+unfolding basis_line method_line conflicts_line max_line
+endless_heading h =
+    let four = endless_cons (line (basis_line h.basis)) _ (endless_text (basis_line h.basis) refl) (endless_cons (line (method_line h.method)) _ (endless_text (method_line h.method) refl) (endless_cons (line (conflicts_line h.conflicts)) _ (endless_text (conflicts_line h.conflicts) refl) (endless_text (max_line h.max) refl))) in
+    let tables = endless_cons (header_line h.spec.n) (map (λ i. table_line h.spec (i + 1)) (range_with_len 0 (length h.spec.on))) (endless_text (codes "inputs " ++ decimal h.spec.n) refl) (endless_tables h.spec (range_with_len 0 (length h.spec.on))) in
+    endless_cons (line first_text) _ (endless_text first_text refl) (endless_both (tables_lines h.spec) _ tables four)
+
+-- ---- sections
+
+endless_title : (part : Part) → IsEndless (title_lines part)
+unfolding title_lines title_text
+endless_title Whole = endless_none
+endless_title (Levels sizes) = endless_text (codes "fence" ++ flat_map (λ size. 32 ∷ decimal size) sizes) refl
+
+endless_ended : (ended : Ended) → IsEndless (line (ended_text ended) ∷ [])
+endless_ended ends.Refuted = endless_text (codes "refuted") refl
+endless_ended ends.Open = endless_text (codes "open") refl
+
+endless_part : (h : Heading) (size : ℕ) (p : PartLog) → IsPartLog h size p → IsEndless (part_lines p)
+unfolding part_lines
+endless_part h size p is =
+    let f = formula_of h size p.part in
+    endless_both (title_lines p.part) _ (endless_title p.part)
+    (endless_cons (line (ended_text p.ended)) _ (endless_ended p.ended) (endless_both (map log_line p.log) _ (endless_log (start f) p.log (log_holds f h.conflicts p.ended p.log is)) (endless_text done_text refl)))
+
+endless_parts : (h : Heading) (size : ℕ) (ps : List PartLog) → AllByRecursion (IsPartLog h size) ps → IsEndless (flat_map part_lines ps)
+endless_parts h size [] logs = endless_none
+endless_parts h size (p ∷ ps) logs = endless_both (part_lines p) (flat_map part_lines ps) (endless_part h size p logs.0) (endless_parts h size ps logs.1)
+
+endless_section : (h : Heading) (size : ℕ) (s : Section) → IsSection h size s → IsEndless (section_lines s)
+unfolding section_lines size_line
+endless_section h size s is = endless_cons (line (size_line s.size)) _ (endless_text (size_line s.size) refl) (endless_parts h size s.parts (recursion_from_All (IsPartLog h size) s.parts is.logs))
+
+endless_sections : (h : Heading) (ss : List Section) (size : ℕ) → AreSections h size ss → IsEndless (flat_map section_lines ss)
+unfolding AreSections
+endless_sections h [] size are = endless_none
+endless_sections h (s ∷ ss) size are = endless_both (section_lines s) (flat_map section_lines ss) (endless_section h size s are.0) (endless_sections h ss (size + 1) are.1)
+
+-- ---- the ending
+
+endless_steps : (place : ℕ) (ss : List Step) → IsEndless (step_lines place ss)
+unfolding step_lines step_text
+endless_steps place [] = endless_none
+endless_steps place (s ∷ ss) = endless_cons (line (step_text place s)) (step_lines (place + 1) ss) (endless_text (step_text place s) refl) (endless_steps (place + 1) ss)
+
+endless_outs : (os : List Out) → IsEndless (map out_line os)
+unfolding out_text
+endless_outs [] = endless_none
+endless_outs (o ∷ os) = endless_cons (out_line o) (map out_line os) (endless_text (out_text o) refl) (endless_outs os)
+
+endless_block : (chain : Option Chain) → IsEndless (block_lines chain)
+unfolding count_text
+endless_block None = endless_none
+endless_block (Some c) = endless_cons (line (count_text (length c.steps))) _ (endless_text (count_text (length c.steps)) refl) (endless_both (step_lines (c.n + 1) c.steps) (map out_line c.outs) (endless_steps (c.n + 1) c.steps) (endless_outs c.outs))
+
+endless_verdict : (v : Verdict) → IsEndless (line (verdict_line v) ∷ [])
+unfolding verdict_line
+endless_verdict (verdicts.Minimum r) = endless_text (codes "minimum " ++ decimal r) refl
+endless_verdict (verdicts.NoChain x) = endless_text (codes "none " ++ decimal x) refl
+endless_verdict (verdicts.Bounded low r) = endless_text (codes "bounded " ++ (decimal low ++ 32 ∷ decimal r)) refl
+endless_verdict (verdicts.Open low) = endless_text (codes "open " ++ decimal low) refl
+
+-- ---- the whole
+
+-- all lines of a bundle but the last
+abbrev opening : Bundle → List Line
+opening b = heading_lines b.heading ++ (flat_map section_lines b.sections ++ (block_lines b.chain ++ line (verdict_line b.verdict) ∷ []))
+
+opening_endless : (b : Bundle) → IsValid b → IsEndless (opening b)
+opening_endless b valid =
+    endless_both (heading_lines b.heading) _ (endless_heading b.heading)
+    (endless_both (flat_map section_lines b.sections) _ (endless_sections b.heading b.sections 0 valid.sections) (endless_both (block_lines b.chain) _ (endless_block b.chain) (endless_verdict b.verdict)))
+
+regroup : (a s c : List Line) (v e : Line) (rest : List Line) → (a ++ (s ++ (c ++ v ∷ e ∷ []))) ++ rest ≡ (a ++ (s ++ (c ++ v ∷ []))) ++ e ∷ rest
+regroup a s c v e rest = simp append_assoc
+
+regroup_all : (a s c : List Line) (v e : Line) → (a ++ (s ++ (c ++ v ∷ []))) ++ e ∷ [] ≡ a ++ (s ++ (c ++ v ∷ e ∷ []))
+regroup_all a s c v e = simp append_assoc
+
+last_front : (rest : List Line) → front_of (line end_text ∷ rest) ≡ line end_text ∷ []
+unfolding front_of
+last_front rest = ap (λ (t : Bool). cond t (line end_text ∷ []) (line end_text ∷ front_of rest)) (is_line_back end_text)
+
+last_behind : (rest : List Line) → behind_of (line end_text ∷ rest) ≡ rest
+unfolding behind_of
+last_behind rest = ap (λ (t : Bool). cond t rest (behind_of rest)) (is_line_back end_text)
+
+-- of a bundle's lines and others the first are the bundle's ..
+pub front_is : (b : Bundle) (rest : List Line) → IsValid b → front_of (bundle_lines b ++ rest) ≡ bundle_lines b
+front_is b rest valid =
+    let h = heading_lines b.heading in
+    let s = flat_map section_lines b.sections in
+    let c = block_lines b.chain in
+    let v = line (verdict_line b.verdict) in
+    ap front_of (regroup h s c v (line end_text) rest)
+    ∙ (opening_endless b valid).front (line end_text ∷ rest)
+    ∙ ap (λ (xs : List Line). opening b ++ xs) (last_front rest)
+    ∙ regroup_all h s c v (line end_text)
+
+-- .. and the others stand behind it
+pub behind_is : (b : Bundle) (rest : List Line) → IsValid b → behind_of (bundle_lines b ++ rest) ≡ rest
+behind_is b rest valid =
+    ap behind_of (regroup (heading_lines b.heading) (flat_map section_lines b.sections) (block_lines b.chain) (line (verdict_line b.verdict)) (line end_text) rest)
+    ∙ (opening_endless b valid).behind (line end_text ∷ rest)
+    ∙ last_behind rest
+
+both_by : (l : Line) (ls : List Line) (t : Bool) → ls ≡ front_of ls ++ behind_of ls → l ∷ ls ≡ cond t (l ∷ []) (l ∷ front_of ls) ++ cond t ls (behind_of ls)
+both_by l ls true rest = refl
+both_by l ls false rest = ap (λ (xs : List Line). l ∷ xs) rest
+
+-- lines are those up to the first `end` and those behind it
+pub front_and_behind : (ls : List Line) → ls ≡ front_of ls ++ behind_of ls
+unfolding front_of behind_of
+front_and_behind [] = refl
+front_and_behind (l ∷ ls) = both_by l ls (is_line end_text l) (front_and_behind ls)

@@ -1,0 +1,11 @@
+pub mod Flatter
+pub mod DepthBundle
+pub mod DepthSpelling
+pub mod DepthGives
+pub mod DepthJudging
+pub mod DepthMeaning
+pub mod FlatterLaws
+pub mod DepthMeanings
+pub mod FrontLines
+pub mod DepthSpellings
+pub mod DepthAgain
