@@ -5,4 +5,5 @@ pub mod Undecided
 pub mod Visits
 pub mod Outcomes
 pub mod Swept
+pub mod OrderLaws
 pub mod SweptLaws

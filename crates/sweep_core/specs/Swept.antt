@@ -1,5 +1,5 @@
 -- What a part of a round leads to.
-use Rattle.std.specs.Prelude.{◌≡◌, ℕ, ◌+◌, ◌≤◌, ◌<◌, Bool, true, false, List, length, All, Contains, ◌⊎◌}
+use Rattle.std.specs.Prelude.{◌≡◌, ℕ, ◌+◌, ◌≤◌, ◌<◌, Bool, true, false, List, ◌++◌, length, All, Contains, ◌⊎◌}
 use Rattle.chain_theory.specs.Operator.{Basis}
 use Rattle.net_theory.specs.Net.{Net}
 use Rattle.op_basis.specs.Basis.{members}
@@ -7,6 +7,7 @@ use Rattle.settings.specs.declared.improve.ImproveSettings.{ImproveSettings}
 use Rattle.sweep_core.specs.declared.visit.Visit.{Visit}
 use Rattle.sweep_core.specs.Undecided.{Undecided, visits, IsUndecided}
 use Rattle.sweep_core.specs.Outcomes.{Leads, IsDone}
+use Rattle.sweep_core.specs.Visits.{IsRising}
 
 -- whether a round has changed the net, and the visits that it has left undecided
 pub record Round : Type 0 where
@@ -28,6 +29,13 @@ basis_of a = members a.settings.basis
 abbrev pub names_of : Stage → List Visit
 names_of a = visits a.round.named
 
+-- What was named besides is of visits of which P holds, in their order.
+pub record Adds (P : Visit → Type 0) (before after : List Undecided) : Type 0 where
+  pub more : List Undecided
+  pub is : after ≡ before ++ more
+  pub rising : IsRising (visits more)
+  pub each : (v : Visit) → Contains (visits more) v → P v
+
 -- From a to b the visits of which P holds were made. The net of b can take the place of a's. If nothing has
 -- changed, the net is the same, each of those visits is done or named, and what is named is undecided. If something
 -- has, the net is smaller.
@@ -39,6 +47,7 @@ pub record IsSwept (P : Visit → Type 0) (a b : Stage) : Type 0 where
   pub same : b.round.changed ≡ false → b.net ≡ a.net
   pub kept : b.round.changed ≡ false → (v : Visit) → Contains (names_of a) v → Contains (names_of b) v
   pub done : b.round.changed ≡ false → (v : Visit) → P v → Contains (names_of b) v ⊎ IsDone b.net (basis_of b) v
+  pub adds : b.round.changed ≡ false → Adds P a.round.named b.round.named
   pub sound : b.round.changed ≡ false → All (IsUndecided a.net a.settings) a.round.named → All (IsUndecided b.net b.settings) b.round.named
   pub fell : a.round.changed ≡ false → b.round.changed ≡ true → length b.net.gates < length a.net.gates
 

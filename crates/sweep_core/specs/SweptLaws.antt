@@ -19,8 +19,9 @@ use Rattle.sweep_core.specs.declared.visit.Visit.{Visit}
 use Rattle.sweep_core.specs.declared.trial.Tried.TheVariants.{Passed}
 use Rattle.sweep_core.specs.Settled.{IsLeast, IsListed, IsSettled}
 use Rattle.sweep_core.specs.Undecided.{Undecided, visit_of, visits, IsUndecided}
-use Rattle.sweep_core.specs.Visits.{HasNoPartner, IsGreatestPartner, IsThis, IsOfCounts, IsOfPartners, IsOfRoot, IsOfRoots}
+use Rattle.sweep_core.specs.Visits.{HasNoPartner, IsGreatestPartner, IsThis, IsOfCounts, IsOfPartners, IsOfRoot, IsOfRoots, TurnsBefore, ComesBefore, IsRising}
 use Rattle.sweep_core.specs.Outcomes.{HasOperator, HasOperatorsWithin, Leads, IsDone, IsTried}
+use Rattle.sweep_core.specs.OrderLaws.{adds_none, adds_one, adds_on, adds_as, adds_all, none_rise}
 use Rattle.sweep_core.specs.Swept.{Round, Stage, stage, basis_of, IsSwept, HasRounds}
 
 -- ---- gates
@@ -117,13 +118,21 @@ swept_none P a none =
       same = λ e. refl;
       kept = λ e v has. has;
       done = λ e v is. inr (none v is);
+      adds = λ e. adds_none P a.round.named;
       sound = λ e are. are;
       fell = λ off on. absurd (both_ways a.round.changed off on);
     }
 
 -- One part behind another.
-pub swept_on : (P Q R : Visit → Type 0) (a b c : Stage) → IsSwept P a b → IsSwept Q b c → (c.round.changed ≡ false → c.net ≡ b.net → (v : Visit) → R v → (P v ⊎ Q v) ⊎ IsDone c.net (basis_of c) v) → IsSwept R a c
-swept_on P Q R a b c first second covers =
+pub swept_on : (P Q R : Visit → Type 0) (a b c : Stage)
+    → IsSwept P a b
+    → IsSwept Q b c
+    → (c.round.changed ≡ false → c.net ≡ b.net → (v : Visit) → R v → (P v ⊎ Q v) ⊎ IsDone c.net (basis_of c) v)
+    → ((v : Visit) → P v → R v)
+    → ((v : Visit) → Q v → R v)
+    → ((v w : Visit) → P v → Q w → ComesBefore v w)
+    → IsSwept R a c
+swept_on P Q R a b c first second covers p_in q_in before =
     record {
       asked = second.asked ∙ first.asked;
       leads = leads_on (basis_of a) a.net b.net c.net first.leads (subst (λ (s : ImproveSettings). Leads (members s.basis) b.net c.net) first.asked second.leads);
@@ -141,16 +150,17 @@ swept_on P Q R a b c first second covers =
           made)
           (λ done. inr done)
           (covers off (second.same off) v is);
+      adds = λ off. adds_on P Q R a.round.named b.round.named c.round.named (first.adds (second.was off)) (second.adds off) p_in q_in before;
       sound = λ off are. second.sound off (first.sound (second.was off) are);
       fell = λ off on. ⊎_elim
-          (λ (before : b.round.changed ≡ true). let less : length b.net.gates < length a.net.gates = first.fell off before in omega (arith, less, second.no_more))
+          (λ (earlier : b.round.changed ≡ true). let less : length b.net.gates < length a.net.gates = first.fell off earlier in omega (arith, less, second.no_more))
           (λ (still : b.round.changed ≡ false). let less : length c.net.gates < length b.net.gates = second.fell still on in omega (arith, less, first.no_more))
           (cases_Bool b.round.changed);
     }
 
 -- Fewer visits, or some that are done anyway.
-pub swept_as : (P R : Visit → Type 0) (a b : Stage) → IsSwept P a b → ((v : Visit) → R v → P v ⊎ IsDone b.net (basis_of b) v) → IsSwept R a b
-swept_as P R a b swept covers =
+pub swept_as : (P R : Visit → Type 0) (a b : Stage) → IsSwept P a b → ((v : Visit) → R v → P v ⊎ IsDone b.net (basis_of b) v) → ((v : Visit) → P v → R v) → IsSwept R a b
+swept_as P R a b swept covers p_in =
     record {
       asked = swept.asked;
       leads = swept.leads;
@@ -159,6 +169,7 @@ swept_as P R a b swept covers =
       same = swept.same;
       kept = swept.kept;
       done = λ off v is. ⊎_elim (λ p. swept.done off v p) (λ done. inr done) (covers v is);
+      adds = λ off. adds_as P R a.round.named b.round.named (swept.adds off) p_in;
       sound = swept.sound;
       fell = swept.fell;
     }
@@ -196,6 +207,7 @@ swept_named s n r u is =
       same = λ e. refl;
       kept = λ e v has. named_more r.named u v has;
       done = λ e v same. inl (subst (λ (x : Visit). Contains (visits (r.named ++ u ∷ [])) x) (sym same) (named_last r.named u));
+      adds = λ e. adds_one (IsThis u.visit) r.named u refl;
       sound = λ e are. All-push (IsUndecided n s) r.named u are is;
       fell = λ off on. absurd (both_ways r.changed off on);
     }
@@ -221,6 +233,7 @@ swept_smaller P s t n m r q asked leads less on =
       same = λ off. absurd (never q.changed on off);
       kept = λ off. absurd (never q.changed on off);
       done = λ off. absurd (never q.changed on off);
+      adds = λ off. absurd (never q.changed on off);
       sound = λ off. absurd (never q.changed on off);
       fell = λ was now. less;
     }
@@ -236,13 +249,21 @@ made root partner count = record { root = root; partner = partner; count = count
 visit_made : (v : Visit) (root : ℕ) (partner : Option ℕ) (count : ℕ) → v.root ≡ root → v.partner ≡ partner → v.count ≡ count → v ≡ made root partner count
 visit_made v root partner count a b c = ap (λ (x : ℕ). made x v.partner v.count) a ∙ ap (λ (x : Option ℕ). made root x v.count) b ∙ ap (λ (x : ℕ). made root partner x) c
 
-pub counts_more : (a b c : Stage) (root : ℕ) (partner : Option ℕ) (first count : ℕ) → IsSwept (IsOfCounts root partner first count) a b → IsSwept (IsThis (record { root = root; partner = partner; count = count })) b c → IsSwept (IsOfCounts root partner first (count + 1)) a c
-counts_more a b c root partner first count before one =
+made_counts : (root : ℕ) (partner : Option ℕ) (first count : ℕ) (v : Visit) → first ≤ count → v ≡ made root partner count → IsOfCounts root partner first (count + 1) v
+made_counts root partner first count v from this =
+    let count_is : v.count ≡ count = ap (λ (x : Visit). x.count) this in
+    record { root_is = ap (λ (x : Visit). x.root) this; partner_is = ap (λ (x : Visit). x.partner) this; from = omega (arith, from, count_is); to = omega (arith, count_is) }
+
+pub counts_more : (a b c : Stage) (root : ℕ) (partner : Option ℕ) (first count : ℕ) → first ≤ count → IsSwept (IsOfCounts root partner first count) a b → IsSwept (IsThis (record { root = root; partner = partner; count = count })) b c → IsSwept (IsOfCounts root partner first (count + 1)) a c
+counts_more a b c root partner first count from before one =
     swept_on (IsOfCounts root partner first count) (IsThis (made root partner count)) (IsOfCounts root partner first (count + 1)) a b c before one
     (λ off same v is. inl (⊎_elim
     (λ (low : v.count < count). inl (record { root_is = is.root_is; partner_is = is.partner_is; from = is.from; to = low }))
     (λ (high : count ≤ v.count). inr (visit_made v root partner count is.root_is is.partner_is (omega (arith, high, is.to))))
     (cases_lt v.count count)))
+    (λ v is. record { root_is = is.root_is; partner_is = is.partner_is; from = is.from; to = omega (arith, is.to) })
+    (λ v is. made_counts root partner first count v from is)
+    (λ v w is this. inr (is.root_is ∙ sym (ap (λ (x : Visit). x.root) this), inr (is.partner_is ∙ sym (ap (λ (x : Visit). x.partner) this), let count_is : w.count ≡ count = ap (λ (x : Visit). x.count) this in omega (arith, is.to, count_is))))
 
 -- ---- partners
 
@@ -253,6 +274,12 @@ partners_start a root cap = swept_none (IsOfPartners root cap root) a
 
 low_partner : (n : Net) (root below : ℕ) (v : Visit) (h : ℕ) → IsGreatestPartner n root below h → v.root ≡ root → (p : ℕ) → IsPartner n v.root p → p < below → p ≤ h
 low_partner n root below v h greatest root_is p is low = greatest.greatest p (subst (λ (g : ℕ). IsPartner n g p) root_is is) low
+
+turns_fall : (v w : Visit) (h k : ℕ) → v.partner ≡ Some h → w.partner ≡ Some k → k < h → TurnsBefore v.partner w.partner
+turns_fall v w h k own other low = subst (λ (o : Option ℕ). TurnsBefore o w.partner) (sym own) (subst (λ (o : Option ℕ). TurnsBefore (Some h) o) (sym other) low)
+
+turns_first : (v w : Visit) (k : ℕ) → v.partner ≡ None → w.partner ≡ Some k → TurnsBefore v.partner w.partner
+turns_first v w k own other = subst (λ (o : Option ℕ). TurnsBefore o w.partner) (sym own) (subst (λ (o : Option ℕ). TurnsBefore None o) (sym other) tt)
 
 partners_on : (a b c : Stage) (root cap below partner : ℕ) → IsGreatestPartner b.net root below partner → IsSwept (IsOfPartners root cap below) a b → IsSwept (IsOfCounts root (Some partner) 2 (cap + 1)) b c → IsSwept (IsOfPartners root cap partner) a c
 partners_on a b c root cap below partner greatest before counts =
@@ -271,6 +298,9 @@ partners_on a b c root cap below partner greatest before counts =
     (cases_lt is.partner (partner + 1)))
     (λ (high : below ≤ is.partner). inl (inl (record { root_is = is.root_is; partner = is.partner; partner_is = is.partner_is; high = high; some = is.some; to = is.to })))
     (cases_lt is.partner below))
+    (λ v is. record { root_is = is.root_is; partner = is.partner; partner_is = is.partner_is; high = omega (arith, is.high, greatest.low); some = is.some; to = is.to })
+    (λ v is. record { root_is = is.root_is; partner = partner; partner_is = is.partner_is; high = omega arith; some = omega (arith, is.from); to = omega (arith, is.to) })
+    (λ v w is other. inr (is.root_is ∙ sym other.root_is, inl (turns_fall v w is.partner partner is.partner_is other.partner_is (omega (arith, is.high, greatest.low)))))
 
 pub partners_more : (a b c : Stage) (root below partner : ℕ) → IsGreatestPartner b.net root below partner → IsSwept (IsOfPartners root a.settings.cap below) a b → IsSwept (IsOfCounts root (Some partner) 2 (b.settings.cap + 1)) b c → IsSwept (IsOfPartners root a.settings.cap partner) a c
 partners_more a b c root below partner greatest before counts =
@@ -284,6 +314,7 @@ partners_end a b root cap below none before =
     (λ gate p. none.none is.partner (subst (λ (g : ℕ). IsGate b.net g) is.root_is gate) (subst (λ (g : ℕ). IsPartner b.net g is.partner) is.root_is p) low)))
     (λ (high : below ≤ is.partner). inl (record { root_is = is.root_is; partner = is.partner; partner_is = is.partner_is; high = high; some = is.some; to = is.to }))
     (cases_lt is.partner below))
+    (λ v is. record { root_is = is.root_is; partner = is.partner; partner_is = is.partner_is; high = omega arith; some = is.some; to = is.to })
 
 -- ---- roots
 
@@ -298,6 +329,9 @@ root_on a b c root cap first second =
     (λ alone. inl (record { root_is = is.root_is; partner_is = alone; from = is.some; to = omega (arith, is.to) }))
     (λ with_one. inr (record { root_is = is.root_is; partner = with_one.0; partner_is = with_one.1; high = omega arith; some = is.some; to = is.to }))
     (option_cases v.partner)))
+    (λ v is. record { root_is = is.root_is; some = is.from; to = omega (arith, is.to) })
+    (λ v is. record { root_is = is.root_is; some = is.some; to = is.to })
+    (λ v w is other. inr (is.root_is ∙ sym other.root_is, inl (turns_first v w other.partner is.partner_is other.partner_is)))
 
 pub root_made : (a b c : Stage) (root : ℕ) → IsSwept (IsOfCounts root None 1 (a.settings.cap + 1)) a b → IsSwept (IsOfPartners root b.settings.cap 0) b c → IsSwept (IsOfRoot root a.settings.cap) a c
 root_made a b c root first second = root_on a b c root a.settings.cap first (subst (λ (s : ImproveSettings). IsSwept (IsOfPartners root s.cap 0) b c) first.asked second)
@@ -312,12 +346,15 @@ roots_on a b c cap root before one =
     (λ (low : v.root < root). inl (record { root_low = low; some = is.some; to = is.to }))
     (λ (high : root ≤ v.root). inr (record { root_is = omega (arith, high, is.root_low); some = is.some; to = is.to }))
     (cases_lt v.root root)))
+    (λ v is. record { root_low = omega (arith, is.root_low); some = is.some; to = is.to })
+    (λ v is. record { root_low = omega (arith, is.root_is); some = is.some; to = is.to })
+    (λ v w is other. inl (omega (arith, is.root_low, other.root_is)))
 
 pub roots_more : (a b c : Stage) (root : ℕ) → IsSwept (IsOfRoots a.settings.cap root) a b → IsSwept (IsOfRoot root b.settings.cap) b c → IsSwept (IsOfRoots a.settings.cap (root + 1)) a c
 roots_more a b c root before one = roots_on a b c a.settings.cap root before (subst (λ (s : ImproveSettings). IsSwept (IsOfRoot root s.cap) b c) before.asked one)
 
-pub roots_end : (a b : Stage) (cap root end : ℕ) → end ≤ root → IsSwept (IsOfRoots cap root) a b → IsSwept (IsOfRoots cap end) a b
-roots_end a b cap root end high swept = swept_as (IsOfRoots cap root) (IsOfRoots cap end) a b swept (λ v is. inl (record { root_low = omega (arith, high, is.root_low); some = is.some; to = is.to }))
+pub roots_end : (a b : Stage) (cap root end : ℕ) → root ≡ end → IsSwept (IsOfRoots cap root) a b → IsSwept (IsOfRoots cap end) a b
+roots_end a b cap root end same swept = subst (λ (k : ℕ). IsSwept (IsOfRoots cap k) a b) same swept
 
 -- ---- rounds
 
@@ -356,6 +393,10 @@ pub rounds_name : (rounds : ℕ) (s t u : ImproveSettings) (n m k : Net) (r q : 
 rounds_name rounds s t u n m k r q has none swept off =
     subst (λ (x : ImproveSettings). All (IsUndecided k x) q.named) (swept.asked ∙ has.asked) (swept.sound off (none_named m t r.named none))
 
+-- what is named is in the order of the visits
+pub rounds_rise : (t u : ImproveSettings) (m k : Net) (r q : Round) → r.named ≡ [] → IsSwept (IsOfRoots t.cap (end_of m)) (stage t m r) (stage u k q) → q.changed ≡ false → IsRising (visits q.named)
+rounds_rise t u m k r q none swept off = adds_all (IsOfRoots t.cap (end_of m)) r.named q.named none (swept.adds off)
+
 -- ---- rounds, by what a round holds
 
 parts_as : (P : Visit → Type 0) (a : Stage) (u : ImproveSettings) (k : Net) (q : Round) (changed : Bool) (named : List Undecided) → record { changed = changed; named = named } ≡ q → IsSwept P a (stage u k q) → IsSwept P a (stage u k (record { changed = changed; named = named }))
@@ -370,6 +411,9 @@ sweep_settles rounds s t u n m k r q changed named has swept e off = rounds_sett
 pub sweep_names : (rounds : ℕ) (s t u : ImproveSettings) (n m k : Net) (r q : Round) (changed : Bool) (named : List Undecided) → HasRounds rounds s t n m → r.named ≡ [] → IsSwept (IsOfRoots t.cap (end_of m)) (stage t m r) (stage u k q) → record { changed = changed; named = named } ≡ q → changed ≡ false → All (IsUndecided k s) named
 sweep_names rounds s t u n m k r q changed named has none swept e off = rounds_name rounds s t u n m k r (record { changed = changed; named = named }) has none (parts_as (IsOfRoots t.cap (end_of m)) (stage t m r) u k q changed named e swept) off
 
+pub sweep_rises : (t u : ImproveSettings) (m k : Net) (r q : Round) (changed : Bool) (named : List Undecided) → r.named ≡ [] → IsSwept (IsOfRoots t.cap (end_of m)) (stage t m r) (stage u k q) → record { changed = changed; named = named } ≡ q → changed ≡ false → IsRising (visits named)
+sweep_rises t u m k r q changed named none swept e off = rounds_rise t u m k r (record { changed = changed; named = named }) none (parts_as (IsOfRoots t.cap (end_of m)) (stage t m r) u k q changed named e swept) off
+
 pub asked_cap : (s t : ImproveSettings) → t ≡ s → 1 ≤ s.cap → 1 ≤ t.cap
 asked_cap s t same low = subst (λ (x : ImproveSettings). 1 ≤ x.cap) (sym same) low
 
@@ -377,4 +421,4 @@ pub ruleset gates = (common_steps, gate_there, gate_low, gate_high)
 
 pub ruleset visiting = (common_steps, swept_gone, swept_passed, swept_open, swept_smaller, counts_start, counts_more, partners_start, partners_more, partners_end, root_made, roots_start, roots_more)
 
-pub ruleset sweeping = (common_steps, rounds_start, rounds_more, rounds_lead, sweep_more, sweep_settles, sweep_names, asked_cap)
+pub ruleset sweeping = (common_steps, rounds_start, rounds_more, rounds_lead, sweep_more, sweep_settles, sweep_names, sweep_rises, none_rise, asked_cap)

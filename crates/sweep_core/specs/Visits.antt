@@ -1,5 +1,5 @@
 -- Which visits the parts of a round make, and the order of partners.
-use Rattle.std.specs.Prelude.{◌≡◌, ℕ, ◌≤◌, ◌<◌, Option, None, Some}
+use Rattle.std.specs.Prelude.{◌≡◌, ℕ, ◌≤◌, ◌<◌, List, [], ◌∷◌, Contains, ◌⊎◌, Option, None, Some}
 use Rattle.net_theory.specs.Net.{Net}
 use Rattle.window_theory.specs.Paths.{IsGate}
 use Rattle.window_theory.specs.Partner.{IsPartner}
@@ -53,3 +53,22 @@ pub record IsOfRoots (cap end : ℕ) (v : Visit) : Type 0 where
   pub root_low : v.root < end
   pub some : 1 ≤ v.count
   pub to : v.count ≤ cap
+
+-- ---- the order of visits
+
+-- A root's turns: without a partner, and then with its partners from the greatest to the least.
+abbrev pub TurnsBefore : Option ℕ → Option ℕ → Type 0
+TurnsBefore None None = ⊥
+TurnsBefore None (Some h) = Unit {0}
+TurnsBefore (Some h) None = ⊥
+TurnsBefore (Some h) (Some k) = k < h
+
+-- The first is made before the second: of a lower root, of the same root in an earlier turn, or in the same turn by
+-- a lower count.
+abbrev pub ComesBefore : Visit → Visit → Type 0
+ComesBefore v w = (v.root < w.root) ⊎ ((v.root ≡ w.root) × (TurnsBefore v.partner w.partner ⊎ ((v.partner ≡ w.partner) × (v.count < w.count))))
+
+-- Each visit comes before all behind it, so each is there once.
+unfoldable pub IsRising : List Visit → Type 0
+IsRising [] = Unit {0}
+IsRising (v ∷ vs) = ((w : Visit) → Contains vs w → ComesBefore v w) × IsRising vs

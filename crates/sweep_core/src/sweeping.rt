@@ -3,6 +3,7 @@ ghost use Rattle.std.specs.Prelude.{◌≡◌, ◌+◌, ◌≤◌, true, false, 
 ghost use Rattle.op_basis.specs.Basis.{members};
 ghost use Rattle.sweep_core.specs.Settled.{IsSettled};
 ghost use Rattle.sweep_core.specs.Undecided.{visits, IsUndecided};
+ghost use Rattle.sweep_core.specs.Visits.{IsRising};
 ghost use Rattle.sweep_core.specs.Outcomes.{Leads};
 
 use crate::round::{Round, visit_all};
@@ -34,6 +35,7 @@ pub fn sweep<T: Trial>(alloc: Global, trial: &mut T) -> Result<Swept, AllocError
     ensures undecided { IfOk result (λ swept. All (IsUndecided (T.net_of trial.new) (T.settings_of trial.old)) swept.undecided.items) }
     ensures stopped { IfOk result (λ swept. swept.settled ≡ false →
         length (T.net_of trial.new).gates + (T.settings_of trial.old).rounds ≤ length (T.net_of trial.old).gates) }
+    ensures rising { IfOk result (λ swept. IsRising (visits swept.undecided.items)) }
     ensures none { IfOk result (λ swept. swept.settled ≡ false → swept.undecided.items ≡ []) }
 {
     let rounds = trial.settings().rounds;

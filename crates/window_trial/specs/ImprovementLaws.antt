@@ -13,6 +13,8 @@ use Rattle.net_theory.specs.DeadLaws.{dropped_is, dropped_operators}
 use Rattle.settings.specs.declared.improve.ImproveSettings.{ImproveSettings}
 use Rattle.sweep_core.specs.Settled.{IsSettled}
 use Rattle.sweep_core.specs.Undecided.{Undecided, visits, IsUndecided}
+use Rattle.sweep_core.specs.Visits.{IsRising}
+use Rattle.sweep_core.specs.OrderLaws.{none_rise}
 use Rattle.sweep_core.specs.Outcomes.{HasOperator, HasOperatorsWithin, Leads}
 use Rattle.window_trial.specs.Improvement.{Leaves}
 
@@ -37,6 +39,7 @@ idle s n named net cap none =
       operators = dropped_within (members s.basis) n net;
       settled_is = λ e. subst (λ (k : ℕ). IsSettled (dropped n) (members s.basis) k (visits named)) (sym cap) (none_listed (dropped n) (members s.basis) named);
       undecided_are = nothing_named (dropped n) s named none;
+      rising = none_rise named none;
       stopped = λ e. absurd (both_ways true e refl);
       none_named = λ e. none;
       untouched = λ e. (refl, refl);
@@ -53,23 +56,24 @@ within_on basis n m net within = record {
       (within.each i g at);
 }
 
-pub leaves_swept : (s : ImproveSettings) (n d m : Net) (settled : Bool) (named : List Undecided) → IsNet n → 1 ≤ s.cap → d ≡ dropped n → Leads (members s.basis) d m → (settled ≡ true → IsSettled m (members s.basis) s.cap (visits named)) → All (IsUndecided m s) named → (settled ≡ false → length m.gates + s.rounds ≤ length d.gates) → (settled ≡ false → named ≡ []) → Leaves s n m settled named
-leaves_swept s n d m settled named net cap same leads settles undecided stops none =
+pub leaves_swept : (s : ImproveSettings) (n d m : Net) (settled : Bool) (named : List Undecided) → IsNet n → 1 ≤ s.cap → d ≡ dropped n → Leads (members s.basis) d m → (settled ≡ true → IsSettled m (members s.basis) s.cap (visits named)) → All (IsUndecided m s) named → IsRising (visits named) → (settled ≡ false → length m.gates + s.rounds ≤ length d.gates) → (settled ≡ false → named ≡ []) → Leaves s n m settled named
+leaves_swept s n d m settled named net cap same leads settles undecided rising stops none =
     record {
       pruned = leads.pruned n (subst (IsPruned n) (sym same) (dropped_is n net));
       operators = within_on (members s.basis) n m net (subst (λ (x : Net). HasOperatorsWithin (members s.basis) x m) same leads.operators);
       settled_is = settles;
       undecided_are = undecided;
+      rising = rising;
       stopped = λ e. subst (λ (x : Net). length m.gates + s.rounds ≤ length x.gates) same (stops e);
       none_named = none;
       untouched = λ e. absurd (omega (arith, e, cap));
     }
 
-pub swept_leaves : (s t : ImproveSettings) (n d e m k : Net) (settled : Bool) (named : List Undecided) → IsNet n → 1 ≤ s.cap → t ≡ s → e ≡ d → d ≡ dropped n → k ≡ m → Leads (members t.basis) e m → (settled ≡ true → IsSettled m (members t.basis) t.cap (visits named)) → All (IsUndecided m t) named → (settled ≡ false → length m.gates + t.rounds ≤ length e.gates) → (settled ≡ false → named ≡ []) → Leaves s n k settled named
-swept_leaves s t n d e m k settled named net cap asked begun same last leads settles undecided stops none =
+pub swept_leaves : (s t : ImproveSettings) (n d e m k : Net) (settled : Bool) (named : List Undecided) → IsNet n → 1 ≤ s.cap → t ≡ s → e ≡ d → d ≡ dropped n → k ≡ m → Leads (members t.basis) e m → (settled ≡ true → IsSettled m (members t.basis) t.cap (visits named)) → All (IsUndecided m t) named → IsRising (visits named) → (settled ≡ false → length m.gates + t.rounds ≤ length e.gates) → (settled ≡ false → named ≡ []) → Leaves s n k settled named
+swept_leaves s t n d e m k settled named net cap asked begun same last leads settles undecided rising stops none =
     let low : 1 ≤ t.cap = subst (λ (x : ImproveSettings). 1 ≤ x.cap) (sym asked) cap in
     subst (λ (x : Net). Leaves s n x settled named) (sym last)
     (subst (λ (x : ImproveSettings). Leaves x n m settled named) asked
-    (leaves_swept t n e m settled named net low (begun ∙ same) leads settles undecided stops none))
+    (leaves_swept t n e m settled named net low (begun ∙ same) leads settles undecided rising stops none))
 
 pub ruleset improving = (common_steps, leaves_idle, leaves_swept)

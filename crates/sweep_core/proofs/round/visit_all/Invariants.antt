@@ -1,4 +1,5 @@
 -- The visits of the roots so far were made.
+use Rattle.std.specs.Prelude.{◌≤◌}
 use Rattle.sweep_core.specs.Visits.{IsOfRoots}
 use Rattle.sweep_core.specs.Swept.{stage, IsSwept}
 use Rattle.sweep_core.proofs.round.visit_all.Given as goal
@@ -6,3 +7,4 @@ use Rattle.sweep_core.proofs.round.visit_all.Given as goal
 abbrev pub invariant-loop-root : goal.invariant-loop-root
 invariant-loop-root g l =
     IsSwept (IsOfRoots (g.T.Trial.settings_of l.initial.trial).cap l.root) (stage (g.T.Trial.settings_of l.initial.trial) (g.T.Trial.net_of l.initial.trial) l.initial.round) (stage (g.T.Trial.settings_of l.trial) (g.T.Trial.net_of l.trial) l.round)
+    × (l.root ≤ l.end)

@@ -1,5 +1,5 @@
 -- The visits of the counts so far were made.
-use Rattle.std.specs.Prelude.{◌≡◌, ◌+◌}
+use Rattle.std.specs.Prelude.{◌≡◌, ◌≤◌, ◌+◌}
 use Rattle.sweep_core.specs.Visits.{IsOfCounts}
 use Rattle.sweep_core.specs.Swept.{stage, IsSwept}
 use Rattle.sweep_core.proofs.round.visit_counts.Given as goal
@@ -8,3 +8,4 @@ abbrev pub invariant-loop-count : goal.invariant-loop-count
 invariant-loop-count g l =
     IsSwept (IsOfCounts l.root l.partner l.first l.count) (stage (g.T.Trial.settings_of l.initial.trial) (g.T.Trial.net_of l.initial.trial) l.initial.round) (stage (g.T.Trial.settings_of l.trial) (g.T.Trial.net_of l.trial) l.round)
     × (l.end ≡ (g.T.Trial.settings_of l.initial.trial).cap + 1)
+    × (l.first ≤ l.count)

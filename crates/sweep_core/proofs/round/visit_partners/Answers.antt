@@ -3,7 +3,7 @@ use Rattle.std.proofs.Common.{subst}
 use Rattle.std.specs.Prelude.{ℕ, Option}
 use Rattle.sweep_core.specs.Visits.{IsNextPartner}
 use Rattle.sweep_core.specs.Swept.{stage}
-use Rattle.sweep_core.specs.SweptLaws.{partners_more, partners_end}
+use Rattle.sweep_core.specs.SweptLaws.{partners_start, partners_more, partners_end}
 use Rattle.sweep_core.proofs.round.visit_partners.Goals as goal
 
 pub returns-in-None : goal.returns-in-None
@@ -28,3 +28,6 @@ loop-partner-preserved g c =
     (subst (λ (next : Option ℕ). IsNextPartner n c.args.root c.loop-partner.below next) c.in-Some.is c.in_ok-next_partner.ensures)
     c.loop-partner.invariant
     c.in_ok-visit_counts-in-Some.ensures
+
+pub loop-partner-init : goal.loop-partner-init
+loop-partner-init g c = partners_start (stage (g.T.Trial.settings_of c.args.trial.now) (g.T.Trial.net_of c.args.trial.now) c.args.round.now) c.args.root (g.T.Trial.settings_of c.args.trial.now).cap

@@ -2,7 +2,7 @@
 use Rattle.std.specs.Prelude.{◌≡◌, true, false}
 use Rattle.std.proofs.Common.{refl, ap}
 use Rattle.settings.specs.declared.improve.ImproveSettings.{ImproveSettings}
-use Rattle.sweep_core.specs.SweptLaws.{sweep_more, sweep_settles, sweep_names}
+use Rattle.sweep_core.specs.SweptLaws.{sweep_more, sweep_settles, sweep_names, sweep_rises}
 use Rattle.sweep_core.proofs.sweeping.sweep.Goals as goal
 
 pub returns-then-not-changed-clause-settled : goal.returns-then-not-changed-clause-settled
@@ -18,6 +18,13 @@ returns-then-not-changed-clause-undecided g c =
     sweep_names c.loop-round._round (g.T.Trial.settings_of c.args.trial.now) (g.T.Trial.settings_of c.loop-round.trial) (g.T.Trial.settings_of c.visit_all.new.trial)
     (g.T.Trial.net_of c.args.trial.now) (g.T.Trial.net_of c.loop-round.trial) (g.T.Trial.net_of c.visit_all.new.trial)
     (record { changed = false; named = c.new.result.items }) c.visit_all.new.round c.round.inside.changed c.round.inside.named.items c.loop-round.invariant.0 c.new.ensures.items c.in_ok-visit_all.ensures c.round.view_is off
+
+pub returns-then-not-changed-clause-rising : goal.returns-then-not-changed-clause-rising
+returns-then-not-changed-clause-rising g c =
+    let off : c.round.inside.changed ≡ false = c.if-not-changed.true in
+    sweep_rises (g.T.Trial.settings_of c.loop-round.trial) (g.T.Trial.settings_of c.visit_all.new.trial)
+    (g.T.Trial.net_of c.loop-round.trial) (g.T.Trial.net_of c.visit_all.new.trial)
+    (record { changed = false; named = c.new.result.items }) c.visit_all.new.round c.round.inside.changed c.round.inside.named.items c.new.ensures.items c.in_ok-visit_all.ensures c.round.view_is off
 
 pub loop-round-preserved : goal.loop-round-preserved
 loop-round-preserved g c =
