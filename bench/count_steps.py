@@ -11,6 +11,7 @@ literals of the trail that were visited, and visits the clauses that were read f
 In tables by literals, -v stands at the index -v, which counts from the end.
 """
 
+import bisect
 import itertools
 import sys
 
@@ -18,6 +19,8 @@ FIRST_STEP, GREATEST_STEP, STEP_PART, REASON_PART = 1 << 40, 1 << 56, 16, 2
 GREATEST_SCORE = (1 << 64) - 1
 SHORTEST_RUN = 80
 DEPTH = 1000
+FIRST_ACTIVITY, GREATEST_ACTIVITY, SCALE, ACTIVITY_PART = 1 << 20, 1 << 60, 1 << 40, 1000
+FEW_LEVELS, RECENT, FIRST_DUE, FIRST_WAIT, LONGER_WAIT, LAST_ONES = 4, 2000, 6000, 2000, 300, 20
 
 
 class Heap:
@@ -164,6 +167,15 @@ class Clauses:
         for lits in clauses:
             self.add(lits)
 
+    def delete(self, id):
+        """In the lists of both watched literals the last entry takes its place."""
+        for lit in self.arranged[id][:2] if len(self.lits[id]) > 1 else []:
+            entries = self.watching[lit]
+            index = next(index for index, entry in enumerate(entries) if entry[0] == id)
+            entries[index] = entries[-1]
+            entries.pop()
+        self.lits[id] = None
+
     def add(self, lits):
         self.lits.append(lits)
         self.arranged.append(list(lits))
@@ -268,6 +280,57 @@ class Analysis:
                 self.resolve(-lit)
 
 
+class Merits:
+    """What the learnt clauses were good for. The ids behind `given` are theirs."""
+
+    def __init__(self, given):
+        self.given = given
+        self.activity, self.used, self.levels = [], [], []
+        self.step = FIRST_ACTIVITY
+        self.due, self.wait = FIRST_DUE, FIRST_WAIT
+
+    def count_parts(self, hints):
+        for id in hints:
+            if 0 <= (index := id - self.given - 1) < len(self.used):
+                self.activity[index] += self.step
+                self.used[index] = len(self.used)
+
+    def note(self, levels):
+        self.activity.append(self.step)
+        self.used.append(len(self.used))
+        self.levels.append(levels)
+        self.step += self.step // ACTIVITY_PART
+        if self.step > GREATEST_ACTIVITY:
+            self.step //= SCALE
+            self.activity[:] = [activity // SCALE for activity in self.activity]
+
+    def containing(self, lits, clauses):
+        """Those of the few clauses before the last one that contain it."""
+        last = len(self.used) - 1 if len(self.used) >= FIRST_DUE else 0
+        ids = [self.given + 1 + index for index in range(max(0, last - LAST_ONES), last)]
+        return [id for id in ids if clauses[id] and set(lits) <= set(clauses[id])]
+
+    def idle(self, clauses):
+        """The ids of the idle clauses of which half are more active."""
+        idle = [
+            index
+            for index, levels in enumerate(self.levels)
+            if levels > FEW_LEVELS
+            and self.used[index] + RECENT < len(self.used)
+            and (lits := clauses[self.given + 1 + index])
+            and len(lits) > 2
+        ]
+        bound = sorted(self.activity[index] for index in idle)[len(idle) // 2] if idle else 0
+        return [self.given + 1 + index for index in idle if self.activity[index] < bound]
+
+    def is_due(self):
+        if len(self.used) < self.due:
+            return False
+        self.wait += LONGER_WAIT
+        self.due = len(self.used) + self.wait
+        return True
+
+
 class Solver:
     """The state of a search, and what was counted."""
 
@@ -277,7 +340,9 @@ class Solver:
         self.starts, self.head = [], 0
         self.choice, self.restarts = Choice(variables), Restarts()
         self.analysis = Analysis(self.trail, self.clauses)
-        self.counts = dict.fromkeys(["conflicts", "hints", "propagations", "visits", "decisions", "restarts"], 0)
+        self.merits = Merits(len(clauses))
+        names = ["conflicts", "hints", "deleted", "propagations", "visits", "decisions", "restarts"]
+        self.counts = dict.fromkeys(names, 0)
 
     def count(self, what, number=1):
         self.counts[what] += number
@@ -369,6 +434,20 @@ class Solver:
             end = self.starts.pop()
         self.go_back(end)
         self.trail.push(lits[0], id)
+        self.merits.count_parts(self.analysis.hints)
+        self.merits.note(1 + len({bisect.bisect_left(self.starts, self.trail.fell[lit]) for lit in lits[1:]}))
+        self.forget(self.merits.containing(lits, self.clauses.lits))
+
+    def forget(self, ids):
+        """Deletes the clauses that are no reasons, as long as half of all that were learnt stay."""
+        for id in ids:
+            learnt = len(self.clauses.lits) - 1 - self.merits.given
+            lits, trail = self.clauses.lits[id], self.trail
+            if 2 * (self.counts["deleted"] + 1) <= learnt and not any(
+                trail.fell[-lit] and trail.reason[abs(lit)] == id for lit in lits
+            ):
+                self.clauses.delete(id)
+                self.count("deleted")
 
     def restart(self):
         """Goes back to the bottom where a run of conflicts ends."""
@@ -397,6 +476,8 @@ class Solver:
                 self.count("conflicts")
                 self.count("hints", len(self.analysis.hints))
                 self.restart()
+            if self.merits.is_due():
+                self.forget(self.merits.idle(self.clauses.lits))
             lit = self.choice.take_free(self.trail)
             if lit is None:
                 return "Satisfied"

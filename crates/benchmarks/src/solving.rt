@@ -24,7 +24,7 @@ pub enum Answer {
 pub struct Outcome {
     /// How the formula was decided.
     pub answer: Answer,
-    /// The lines of the log, one for each conflict; 0 where the formula is satisfied.
+    /// The additions of the log, one for each conflict; 0 where the formula is satisfied.
     pub conflicts: u64,
     /// The hints of the log, one for each clause that the analysis went over.
     pub hints: u64,
@@ -35,21 +35,15 @@ fn outcome_of(answer: Answer, log: &Log) -> Outcome {
     let mut conflicts = 0u64;
     let mut hints = 0u64;
     for line in &log.lines {
-        conflicts = conflicts.saturating_add(1);
-        hints = hints.saturating_add(hints_of(line));
+        if let Line::Add { hints: shown, .. } = line {
+            conflicts = conflicts.saturating_add(1);
+            hints = hints.saturating_add(shown.len() as u64);
+        }
     }
     Outcome {
         answer,
         conflicts,
         hints,
-    }
-}
-
-/// How many hints a line has.
-fn hints_of(line: &Line) -> u64 {
-    match line {
-        Line::Add { hints, .. } => hints.len() as u64,
-        Line::Delete { .. } => 0,
     }
 }
 

@@ -14,3 +14,8 @@ pub mod Choices
 pub mod Restarting
 pub mod Runs
 pub mod UnitClauses
+pub mod Counts
+pub mod Gone
+pub mod Losing
+pub mod Writing
+pub mod Closing

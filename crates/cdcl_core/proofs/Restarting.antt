@@ -73,7 +73,8 @@ visited_counted s r visited = record {
 -- The log of a restart is that before it.
 pub logged_restarted : (f : Formula) (b c : Search) → IsLogged f b → HasRestarted b c → IsLogged f c
 logged_restarted f b c logged restarted = record {
-  log = rw (restarted.clauses, restarted.lines) logged.log;
+  log = rw (restarted.clauses, restarted.lines, restarted.deleted) logged.log;
+  new = rw restarted.lines logged.new;
   given = restarted.given ∙ logged.given;
 }
 

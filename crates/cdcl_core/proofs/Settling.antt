@@ -13,9 +13,10 @@ use Rattle.cdcl_core.specs.Visiting.{IsRest}
 use Rattle.cdcl_core.proofs.Logging.{log_same}
 use Rattle.conflict_core.specs.Learning.{IsReady}
 use Rattle.cdcl_core.specs.declared.search.Search.{Search}
-use Rattle.cdcl_core.specs.Searching.{IsSearching, IsVisited, IsLog, IsLogged, HasBegun, HasPropagated, HasSettled, HasJumped, HasDecided}
+use Rattle.cdcl_core.specs.Searching.{IsSearching, IsVisited, IsLogged, HasBegun, HasPropagated, HasSettled, HasJumped, HasDecided}
 use Rattle.cdcl_core.specs.Endings.{HasSpent}
 use Rattle.cdcl_core.specs.Guarding.{IsGuarded}
+use Rattle.cdcl_core.specs.Forgetting.{HasForgotten}
 use Rattle.cdcl_core.proofs.Guards.{guarded_settled}
 use Rattle.cdcl_theory.specs.Falling.{AllSettled}
 use Rattle.cdcl_core.proofs.Counting.{trail_short}
@@ -48,7 +49,8 @@ settled_visited s searching visited all = guarded_settled s.clauses s.trail s.st
 -- the log after the first propagation
 pub logged_begun : (f : Formula) (a b : Search) → IsLogged f a → HasBegun a b → IsLogged f b
 logged_begun f a b logged begun = record {
-  log = rw (begun.clauses, begun.lines) logged.log;
+  log = rw (begun.clauses, begun.lines, begun.deleted) logged.log;
+  new = rw begun.lines logged.new;
   given = begun.given ∙ logged.given;
 }
 
@@ -81,7 +83,8 @@ settled_propagated a b c settled propagated =
 
 pub logged_propagated : (f : Formula) (b c : Search) → IsLogged f b → HasPropagated b c → IsLogged f c
 logged_propagated f b c logged propagated = record {
-  log = subst (λ ls. IsLog f c.clauses (line_values ls.items)) (sym propagated.lines) (log_same f b.clauses c.clauses (line_values b.lines.items) propagated.rest.clauses propagated.rest.vars logged.log);
+  log = rw (propagated.lines, propagated.deleted) (log_same f b.clauses c.clauses (line_values b.lines.items) b.deleted propagated.rest.clauses propagated.rest.vars logged.log);
+  new = rw propagated.lines logged.new;
   given = propagated.given ∙ logged.given;
 }
 
@@ -111,6 +114,35 @@ settled_jumped a b c settled jumped =
       longer = λ same. absurd (omega arith);
     }
 
+-- Forgetting takes nothing of that back.
+pub settled_forgotten : (a b c : Search) → HasSettled a b → HasForgotten b c → HasSettled a c
+settled_forgotten a b c settled forgotten =
+    let clauses : length c.clauses.clauses ≡ length b.clauses.clauses = forgotten.clauses in
+    let starts : length c.starts.items ≡ length b.starts.items = ap (λ ls. length ls.items) forgotten.starts in
+    let lits : length c.trail.lits ≡ length b.trail.lits = ap (λ (t : Trailed). length t.lits) forgotten.trail in
+    record {
+      vars = ap (λ (t : Trailed). t.vars) forgotten.trail ∙ settled.vars;
+      given = forgotten.given ∙ settled.given;
+      more = (let h : length a.clauses.clauses ≤ length b.clauses.clauses = settled.more in omega (arith, h, clauses));
+      starts = (let h : length b.clauses.clauses + length b.starts.items ≤ length a.clauses.clauses + length a.starts.items = settled.starts in omega (arith, h, clauses, starts));
+      longer = λ same. (let h : length b.clauses.clauses ≡ length a.clauses.clauses → length a.trail.lits ≤ length b.trail.lits = settled.longer in let low : length a.trail.lits ≤ length b.trail.lits = h (omega (arith, same, clauses)) in omega (arith, low, lits));
+    }
+
+pub jumped_forgotten : (a b c : Search) → HasJumped a b → HasForgotten b c → HasJumped a c
+jumped_forgotten a b c jumped forgotten = record {
+  vars = ap (λ (t : Trailed). t.vars) forgotten.trail ∙ jumped.vars;
+  given = forgotten.given ∙ jumped.given;
+  clauses = forgotten.clauses ∙ jumped.clauses;
+  starts = (let h : length b.starts.items < length a.starts.items = jumped.starts in let same : length c.starts.items ≡ length b.starts.items = ap (λ ls. length ls.items) forgotten.starts in omega (arith, h, same));
+}
+
+-- What is left is settled.
+pub all_settled_forgotten : (b c : Search) → HasForgotten b c → AllSettled (live_in b.clauses) (fell b.trail) → AllSettled (live_in c.clauses) (fell c.trail)
+all_settled_forgotten b c forgotten settled = rw forgotten.trail (fewer_settled settled)
+  where
+    fewer_settled : AllSettled (live_in b.clauses) (fell b.trail) → AllSettled (live_in c.clauses) (fell b.trail)
+    fewer_settled all = record { each = λ id clause is. all.each id clause (forgotten.fewer id clause is) }
+
 -- room for one more clause
 pub settled_few : (a b : Search) → HasSettled a b → length a.clauses.clauses + length a.starts.items < 4000000000 → length b.clauses.clauses < 4000000000
 settled_few a b settled few =
@@ -137,7 +169,8 @@ falls b0 v la lb lc ta tb tc more longer lines lits under short =
 -- the log of a decision is that before it
 pub logged_decided : (f : Formula) (b c : Search) → IsLogged f b → HasDecided b c → IsLogged f c
 logged_decided f b c logged decided = record {
-  log = rw (decided.clauses, decided.lines) logged.log;
+  log = rw (decided.clauses, decided.lines, decided.deleted) logged.log;
+  new = rw decided.lines logged.new;
   given = decided.given ∙ logged.given;
 }
 

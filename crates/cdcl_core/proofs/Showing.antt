@@ -2,17 +2,17 @@
 use Rattle.std.proofs.Common.{◌≡◌, ℕ, zero, suc, ◌+◌, ◌-◌, ◌*◌, ◌<◌, ◌≤◌, ◌==◌, ℤ, Bool, false, List, [], ◌∷◌, length, slice_index_or, Contains, All, Any, Some, slice_get, subst, sym, ap, arith, inl, refl}
 use Rattle.std.proofs.Math.Logic.{⊎_elim}
 use Rattle.std.proofs.lemmas.Bool.{cases_lt, ne_eqb}
-use Rattle.std.proofs.lemmas.List.Elements.{All-contains, All-cons}
+use Rattle.std.proofs.lemmas.List.Elements.{All-contains, All-cons, All-nil}
 use Rattle.sat_theory.specs.Formula.{variable, opposite, Formula, IsFormula, IsClause, IsWithin, bits_of, IsTrueClause, Satisfies}
 use Rattle.sat_theory.specs.Line.{Line, Add, Delete}
 use Rattle.sat_theory.specs.State.{State, by_id, start}
-use Rattle.sat_theory.specs.Log.{EachLine, IsStep, AddsEmpty, additions, live_additions, Refutes, IsSpent, IsKept, IsThrifty}
+use Rattle.sat_theory.specs.Log.{EachLine, IsStep, AddsEmpty, additions, Refutes, IsSpent, IsThrifty, IsThinned, SparesFormula, after, added_ids, live_additions}
 use Rattle.sat_theory.specs.FewAdditions.{AddsSome}
 use Rattle.cdcl_theory.specs.Falling.{AllSettled, IsSettled}
 use Rattle.cdcl_theory.specs.Trails.{Trailed, fell}
 use Rattle.clause_db.specs.Stored.{Stored, live_in}
 use Rattle.trail_core.specs.Values.{Follows, HaveValues}
-use Rattle.cdcl_core.specs.Searching.{IsLog}
+use Rattle.cdcl_core.specs.Searching.{IsLog, AreNew}
 
 no_lines : (s : State) → EachLine IsStep s []
 unfolding EachLine
@@ -53,8 +53,8 @@ get_there (x ∷ xs) zero d low = refl
 get_there (x ∷ xs) (suc k) d low = get_there xs k d (let h : suc k < suc (length xs) = low in omega arith)
 
 -- With a value for each variable and all clauses settled, the values satisfy the formula.
-pub values_satisfy : (f : Formula) (s : Stored) (t : Trailed) (lines : List Line) (bits : List Bool) → IsFormula f → IsLog f s lines → t.vars ≡ f.vars → HaveValues t (1 + t.vars) → AllSettled (live_in s) (fell t) → Follows t bits → Satisfies (bits_of bits) f
-values_satisfy f s t lines bits formula log vars values settled follows = λ k d low.
+pub values_satisfy : (f : Formula) (s : Stored) (t : Trailed) (lines : List Line) (deleted : ℕ) (bits : List Bool) → IsFormula f → IsLog f s lines deleted → t.vars ≡ f.vars → HaveValues t (1 + t.vars) → AllSettled (live_in s) (fell t) → Follows t bits → Satisfies (bits_of bits) f
+values_satisfy f s t lines deleted bits formula log vars values settled follows = λ k d low.
     let clause : List ℤ = slice_index_or f.clauses k d in
     let live : live_in s (suc k) ≡ Some clause = log.formula (suc k) clause (named k d low) in
     let within : IsWithin t.vars clause = subst (λ (n : ℕ). IsWithin n clause) (sym vars) (formula.variables k d low) in
@@ -71,18 +71,22 @@ not_both (Add id lits hints) some empty = (let e : length lits ≡ 0 = ap length
 not_both (Delete id ids) some empty = empty
 
 -- A log of so many additions has spent the budget.
-pub log_spent : (f : Formula) (s : Stored) (lines : List Line) (budget : ℕ) → IsLog f s lines → (Contains f.clauses [] → ⊥) → budget ≤ additions lines → IsSpent f lines budget
-log_spent f s lines budget log none enough = record {
+pub log_spent : (f : Formula) (s : Stored) (lines : List Line) (deleted budget : ℕ) → IsLog f s lines deleted → AreNew f lines → (Contains f.clauses [] → ⊥) → budget ≤ additions lines → IsSpent f lines budget
+log_spent f s lines deleted budget log new none enough = record {
   holds = log.holds;
-  open_yet = λ has. ⊎_elim (λ (there : Contains f.clauses []). none there) (λ (added : Any AddsEmpty lines). not_both added.1 (All-contains AddsSome lines added.1 log.some (added.0, added.2, added.3)) added.4) has;
+  open_yet = λ has. ⊎_elim (λ (there : Contains f.clauses []). none there) (λ (added : Any AddsEmpty lines). not_both added.1 (All-contains AddsSome lines added.1 new.some (added.0, added.2, added.3)) added.4) has;
   enough = enough;
-  fresh = log.fresh;
+  fresh = new.fresh;
 }
-
--- At least half of what was added is live.
-pub log_kept : (f : Formula) (s : Stored) (lines : List Line) → IsLog f s lines → IsKept f lines
-log_kept f s lines log = subst (λ (st : State). additions lines ≤ 2 * live_additions st lines) (sym log.state) log.kept
 
 -- a log that reaches the empty clause owes nothing more
 pub refuted_thrifty : (f : Formula) (lines : List Line) → Refutes f lines → IsThrifty f lines
 refuted_thrifty f lines refutes = record { kept = λ open_yet. absurd (open_yet refutes.reaches) }
+
+nothing : (f : Formula) → 4 * live_additions (after (start f) []) [] ≤ 3 * additions [] + 4 * f.vars + 8000
+unfolding added_ids
+nothing f = (let none : live_additions (after (start f) []) [] ≡ 0 = refl in omega (arith, none))
+
+-- With no line there is nothing to delete.
+pub thinned_at_once : (f : Formula) (lines : List Line) → lines ≡ [] → IsThinned f lines
+thinned_at_once f lines none = rw none (record { spares = All-nil (SparesFormula f); few = nothing f })

@@ -1,7 +1,7 @@
 -- How a search ends, and what it has then shown.
 use Rattle.std.specs.Prelude.{◌≡◌, ℕ, ◌+◌, ◌≤◌}
 use Rattle.sat_theory.specs.Formula.{Formula}
-use Rattle.sat_theory.specs.Log.{Refutes, additions, DeletesNothing}
+use Rattle.sat_theory.specs.Log.{HasEmpty, additions}
 use Rattle.lrat_text.specs.Values.{line_values}
 use Rattle.cdcl_theory.specs.Falling.{AllSettled}
 use Rattle.cdcl_theory.specs.Trails.{fell}
@@ -10,7 +10,7 @@ use Rattle.trail_core.specs.Values.{HaveValues}
 use Rattle.cdcl_core.specs.declared.search.Search.{Search}
 use Rattle.cdcl_core.specs.declared.search.Ending.{Ending}
 use Rattle.cdcl_core.specs.declared.search.Ending.TheVariants.{Valued, Refuted, Spent}
-use Rattle.cdcl_core.specs.Searching.{IsLogged}
+use Rattle.cdcl_core.specs.Searching.{IsAccounted, IsLogged}
 
 -- all variables have values, and all clauses of the formula are settled
 pub record IsValued (f : Formula) (s : Search) : Type 0 where
@@ -19,10 +19,10 @@ pub record IsValued (f : Formula) (s : Search) : Type 0 where
   pub values : HaveValues s.trail (1 + s.trail.vars)
   pub settled : AllSettled (live_in s.clauses) (fell s.trail)
 
--- the log refutes the formula, and deletes nothing
+-- the log holds, and reaches the empty clause
 pub record HasRefuted (f : Formula) (s : Search) : Type 0 where
-  pub refutes : Refutes f (line_values s.lines.items)
-  pub adding : DeletesNothing (line_values s.lines.items)
+  pub accounted : IsAccounted f s
+  pub reaches : HasEmpty f (line_values s.lines.items)
 
 -- the log holds, and adds so many clauses
 pub record HasSpent (f : Formula) (budget : ℕ) (s : Search) : Type 0 where

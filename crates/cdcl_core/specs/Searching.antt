@@ -1,9 +1,9 @@
 -- What holds all through a search.
-use Rattle.std.specs.Prelude.{◌≡◌, ℕ, ◌+◌, ◌*◌, ◌<◌, ◌≤◌, ℤ, List, length, All, count_by, Some, is_some}
+use Rattle.std.specs.Prelude.{◌≡◌, ℕ, ◌+◌, ◌*◌, ◌<◌, ◌≤◌, ℤ, List, length, slice_index_or, All, count_by, Some, is_some}
 use Rattle.sat_theory.specs.Formula.{Formula}
 use Rattle.sat_theory.specs.Line as theory
 use Rattle.sat_theory.specs.State.{by_id, start}
-use Rattle.sat_theory.specs.Log.{after, EachLine, IsStep, IsFresh, added_ids, additions, DeletesNothing}
+use Rattle.sat_theory.specs.Log.{after, EachLine, IsStep, IsFresh, added_ids, additions, SparesFormula}
 use Rattle.sat_theory.specs.FewAdditions.{AddsSome}
 use Rattle.lrat_text.specs.Values.{line_values}
 use Rattle.cdcl_theory.specs.Trails.{IsLayered, fell}
@@ -22,23 +22,34 @@ pub record IsSearching (s : Search) : Type 0 where
   pub ready : IsReady s.trail.vars s.analysis
   pub choosing : IsChoosing s.trail s.choice
 
--- The lines are a log over the formula that has come to these clauses: each line holds, each addition is of a new
--- clause with a literal, all of the formula's clauses are live and at least half of those that were added. Ids are
--- given one after another, so the ids behind the formula's are those of the additions.
-pub record IsLog (f : Formula) (clauses : Stored) (lines : List theory.Line) : Type 0 where
+-- The lines are a log over the formula that has come to these clauses: each line holds, all clauses of the formula are
+-- live, and deletions name additions alone. Ids are given one after another, so the ids behind the formula's are those of
+-- the additions. So many of these are gone, half of them at most.
+pub record IsLog (f : Formula) (clauses : Stored) (lines : List theory.Line) (deleted : ℕ) : Type 0 where
   pub vars : clauses.vars ≡ f.vars
   pub holds : EachLine IsStep (start f) lines
-  pub fresh : EachLine IsFresh (start f) lines
-  pub some : All AddsSome lines
   pub state : after (start f) lines ≡ record { live = live_in clauses; vars = f.vars; greatest = length clauses.clauses }
   pub formula : (id : ℕ) (clause : List ℤ) → by_id f.clauses id ≡ Some clause → live_in clauses id ≡ Some clause
   pub count : length clauses.clauses ≡ length f.clauses + additions lines
-  pub kept : additions lines ≤ 2 * count_by (λ id. is_some (live_in clauses id)) (added_ids lines)
-  pub adding : DeletesNothing lines
+  pub spares : All (SparesFormula f) lines
+  pub ids : (k d : ℕ) → k < additions lines → slice_index_or (added_ids lines) k d ≡ length f.clauses + 1 + k
+  pub gone : count_by (λ id. is_some (live_in clauses id)) (added_ids lines) + deleted ≡ additions lines
+  pub half : 2 * deleted ≤ additions lines
+
+-- each addition is of a new clause with a literal
+pub record AreNew (f : Formula) (lines : List theory.Line) : Type 0 where
+  pub fresh : EachLine IsFresh (start f) lines
+  pub some : All AddsSome lines
 
 -- the search's lines and clauses are such a log
+pub record IsAccounted (f : Formula) (s : Search) : Type 0 where
+  pub log : IsLog f s.clauses (line_values s.lines.items) s.deleted
+  pub given : s.given ≡ length f.clauses
+
+-- and it hasn't come to the empty clause
 pub record IsLogged (f : Formula) (s : Search) : Type 0 where
-  pub log : IsLog f s.clauses (line_values s.lines.items)
+  pub log : IsLog f s.clauses (line_values s.lines.items) s.deleted
+  pub new : AreNew f (line_values s.lines.items)
   pub given : s.given ≡ length f.clauses
 
 -- The watched literals keep their promise for the literals that are visited.
@@ -52,6 +63,7 @@ pub record HasBegun (old new : Search) : Type 0 where
   pub vars : new.trail.vars ≡ old.trail.vars
   pub given : new.given ≡ old.given
   pub lines : new.lines ≡ old.lines
+  pub deleted : new.deleted ≡ old.deleted
   pub clauses : new.clauses ≡ old.clauses
   pub starts : new.starts ≡ old.starts
 
@@ -60,6 +72,7 @@ pub record HasPropagated (old new : Search) : Type 0 where
   pub rest : IsRest old.clauses new.clauses old.trail new.trail
   pub given : new.given ≡ old.given
   pub lines : new.lines ≡ old.lines
+  pub deleted : new.deleted ≡ old.deleted
   pub starts : new.starts ≡ old.starts
 
 -- One clause was learnt, for which a level at least was taken off.
@@ -74,6 +87,7 @@ pub record HasRestarted (old new : Search) : Type 0 where
   pub vars : new.trail.vars ≡ old.trail.vars
   pub given : new.given ≡ old.given
   pub lines : new.lines ≡ old.lines
+  pub deleted : new.deleted ≡ old.deleted
   pub clauses : new.clauses ≡ old.clauses
   pub starts : length new.starts.items ≤ length old.starts.items
 
@@ -90,6 +104,7 @@ pub record HasDecided (old new : Search) : Type 0 where
   pub vars : new.trail.vars ≡ old.trail.vars
   pub given : new.given ≡ old.given
   pub lines : new.lines ≡ old.lines
+  pub deleted : new.deleted ≡ old.deleted
   pub clauses : new.clauses ≡ old.clauses
   pub starts : length new.starts.items ≡ length old.starts.items + 1
   pub lits : length new.trail.lits ≡ length old.trail.lits + 1

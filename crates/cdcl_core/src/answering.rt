@@ -1,7 +1,11 @@
 //! The answers of the solver, made of how its search ended.
-ghost use Rattle.std.specs.Prelude.{◌≡◌, ◌^◌, ◌<◌, ◌≤◌, length, IfOk};
-ghost use Rattle.sat_theory.specs.Formula.{bits_of, Satisfies};
-ghost use Rattle.sat_theory.specs.Log.{Refutes, IsSpent, IsKept, IsThrifty, DeletesNothing};
+ghost use Rattle.std.specs.Prelude.{◌≡◌, ℕ, ◌*◌, ◌^◌, ◌<◌, ◌≤◌, [], length, Contains, IfOk};
+ghost use Rattle.sat_theory.specs.Formula.{Formula, bits_of, Satisfies};
+ghost use Rattle.sat_theory.specs.Log.{Refutes, IsSpent, IsKept, IsThrifty, IsThinned};
+ghost use Rattle.lrat_text.specs.Values.{line_values};
+ghost use Rattle.clause_db.specs.Stored.{IsStored};
+ghost use Rattle.cdcl_core.specs.Searching.{IsAccounted};
+ghost use Rattle.cdcl_core.specs.Endings.{HasRefuted, HasSpent};
 ghost use Rattle.cdcl_core.specs.Answering.{IfSat, IfUnsat, IfOpen, IfLogged, IsDecided};
 
 use crate::search::{Ending, Search};
@@ -30,11 +34,11 @@ pub fn solve(alloc: Global, cnf: &Cnf, budget: u32) -> Result<Solved, AllocError
     ensures unsat { IfOk result (λ s. IfUnsat s (Refutes cnf.now)) }
     ensures open { IfOk result (λ s. IfOpen s (λ lines. IsSpent cnf.now lines budget)) }
     ensures kept { IfOk result (λ s. IfOpen s (IsKept cnf.now)) }
-    // Of every log. What all logs owe, and that these delete nothing.
+    // Of every log.
     ensures thrifty { IfOk result (λ s. IfLogged s (IsThrifty cnf.now)) }
-    ensures adding { IfOk result (λ s. IfLogged s DeletesNothing) }
-    // A budget of 3 to the number of variables decides every formula.
-    ensures decides { 3 ^ cnf.now.vars ≤ budget → IfOk result IsDecided }
+    ensures thinned { IfOk result (λ s. IfLogged s (IsThinned cnf.now)) }
+    // A budget of twice 3 to the number of variables decides every formula.
+    ensures decides { 2 * 3 ^ cnf.now.vars ≤ budget → IfOk result IsDecided }
 {
     if cnf.has_empty() {
         return Ok(Solved::Unsat(Log {
@@ -44,11 +48,22 @@ pub fn solve(alloc: Global, cnf: &Cnf, budget: u32) -> Result<Solved, AllocError
     let mut search = Search::new(alloc, cnf)?;
     match search.run(budget)? {
         Ending::Valued => Ok(Solved::Sat(search.trail.assignment(alloc)?)),
-        Ending::Refuted => Ok(Solved::Unsat(Log {
-            lines: search.lines,
-        })),
-        Ending::Spent => Ok(Solved::Open(Log {
-            lines: search.lines,
-        })),
+        Ending::Refuted => Ok(Solved::Unsat(log_of(search)?)),
+        Ending::Spent => Ok(Solved::Open(log_of(search)?)),
     }
+}
+
+/// The log of a search that has ended, with enough deletions.
+fn log_of(search: Search) -> Result<Log, AllocError>
+    requires stored { IsStored search.clauses }
+    ensures refutes { (f : Formula) → HasRefuted f search → IfOk result (λ log. Refutes f (line_values log.lines.items)) }
+    ensures spent { (f : Formula) (budget : ℕ) → HasSpent f budget search → (Contains f.clauses [] → ⊥) → IfOk result (λ log. IsSpent f (line_values log.lines.items) budget) }
+    ensures kept { (f : Formula) → IsAccounted f search → IfOk result (λ log. IsKept f (line_values log.lines.items)) }
+    ensures thinned { (f : Formula) → IsAccounted f search → IfOk result (λ log. IsThinned f (line_values log.lines.items)) }
+{
+    let mut search = search;
+    search.thin()?;
+    Ok(Log {
+        lines: search.lines,
+    })
 }

@@ -16,8 +16,10 @@
 
 mod answering;
 mod choosing;
+mod forgetting;
 mod judgement;
 mod levels;
+mod merits;
 mod restarts;
 mod search;
 mod units;

@@ -5,11 +5,12 @@ ghost use Rattle.std.specs.Prelude.{◌≡◌, ◌+◌, ◌<◌, ◌≤◌, ◌�
 ghost use Rattle.sat_theory.specs.Formula.{Formula};
 ghost use Rattle.cdcl_theory.specs.Falling.{AllSettled, IsFalsified};
 ghost use Rattle.cdcl_theory.specs.Trails.{fell as fell_of};
-ghost use Rattle.clause_db.specs.Stored.{live_in};
+ghost use Rattle.clause_db.specs.Stored.{live_in, IsStored};
 ghost use Rattle.cdcl_core.specs.Levels.{IsFirstStart, IsLastStart};
 
 use crate::choosing::Choice;
 use crate::levels::drop_levels;
+use crate::merits::Merits;
 use crate::restarts::Restarts;
 use crate::units::push_units;
 use crate::visiting::propagate_watched;
@@ -35,6 +36,9 @@ pub(crate) struct Search {
     pub(crate) head: usize,
     pub(crate) choice: Choice,
     pub(crate) restarts: Restarts,
+    pub(crate) merits: Merits,
+    /// how many learnt clauses are gone
+    pub(crate) deleted: u32,
 }
 
 /// How a search ends.
@@ -70,6 +74,8 @@ impl Search {
             head: 0,
             choice: Choice::new(alloc, cnf.vars())?,
             restarts: Restarts::new(),
+            merits: Merits::new(alloc, cnf.clauses().len() as u32, cnf.vars())?,
+            deleted: 0,
         })
     }
 
@@ -201,6 +207,7 @@ impl Search {
             };
             let start = *start;
             self.jump(conflict, start)?;
+            self.review()?;
             self.restart();
         }
         Ok(None)
@@ -225,6 +232,7 @@ impl Search {
         ensures decided { IfOk result (λ ending. IfNone ending (HasDecided self.old self.new)) }
         ensures under { IfOk result (λ ending. IfNone ending (length self.old.clauses.clauses < self.old.given + budget)) }
         ensures ended { (f : Formula) → IsLogged f self.old → IfOk result (λ ending. IfSome ending (Ends f budget self.new)) }
+        ensures stored { IfOk result (λ _. IsStored self.new.clauses) }
     {
         let Some(lit) = self.choice.take_free(&self.trail) else {
             return Ok(Some(Ending::Valued));
@@ -237,19 +245,22 @@ impl Search {
         Ok(None)
     }
 
-    /// Writes the line of the empty clause.
+    /// Adds the empty clause.
     fn refute(&mut self, conflict: u32) -> Result<(), AllocError>
         requires searching { IsSearching self.old }
+        requires few { length self.old.clauses.clauses < 4000000000 }
         requires bottom { self.old.starts.items ≡ [] }
         requires conflict { IsFalsified (live_in self.old.clauses) (fell_of self.old.trail) conflict }
-        ensures { (f : Formula) → IsLogged f self.old → OnOk result (HasRefuted f self.new) }
+        ensures refuted { (f : Formula) → IsLogged f self.old → OnOk result (HasRefuted f self.new) }
+        ensures stored { IsStored self.new.clauses }
     {
         let alloc = *self.starts.allocator();
         let hints = self
             .analysis
             .refute(alloc, &self.trail, &self.clauses, conflict)?;
+        let id = self.clauses.add(&[])?;
         self.lines.push(Line::Add {
-            id: self.clauses.last() + 1,
+            id,
             lits: Vec::new(alloc),
             hints,
         })?;
@@ -264,7 +275,8 @@ impl Search {
         requires given { self.old.given ≡ length self.old.clauses.clauses }
         requires starts { self.old.starts.items ≡ [] }
         requires head { self.old.head ≡ 0 }
-        ensures { (f : Formula) → IsLogged f self.old → IfOk result (Ends f budget self.new) }
+        ensures ends { (f : Formula) → IsLogged f self.old → IfOk result (Ends f budget self.new) }
+        ensures stored { IfOk result (λ _. IsStored self.new.clauses) }
     {
         if let Some(conflict) = self.begin()? {
             self.refute(conflict)?;
@@ -281,13 +293,15 @@ impl Search {
         requires few { length self.old.clauses.clauses < 2000000000 }
         requires given { self.old.given ≡ length self.old.clauses.clauses }
         requires starts { self.old.starts.items ≡ [] }
-        ensures { (f : Formula) → IsLogged f self.old → IfOk result (Ends f budget self.new) }
+        ensures ends { (f : Formula) → IsLogged f self.old → IfOk result (Ends f budget self.new) }
+        ensures stored { IfOk result (λ _. IsStored self.new.clauses) }
     {
         loop {
             if let Some(conflict) = self.settle()? {
                 self.refute(conflict)?;
                 return Ok(Ending::Refuted);
             }
+            self.tidy()?;
             if let Some(ending) = self.decide(budget)? {
                 return Ok(ending);
             }

@@ -1,6 +1,6 @@
 //! Two circuits compared: their miter is given to the solver, whose log refutes it or is spent, and whose
 //! solution has an input at which the circuits differ.
-ghost use Rattle.std.specs.Prelude.{◌≡◌, ◌≤◌, ◌<◌, ◌^◌, length, Err, IfOk, IfErr};
+ghost use Rattle.std.specs.Prelude.{◌≡◌, ◌≤◌, ◌<◌, ◌*◌, ◌^◌, length, Err, IfOk, IfErr};
 ghost use Rattle.sat_theory.specs.Formula.{bits_of, Satisfies};
 ghost use Rattle.sat_theory.specs.Log.{Refutes, IsSpent, IsKept};
 ghost use Rattle.net_theory.specs.Circuit.{IsProper};
@@ -69,7 +69,7 @@ fn compare(
     ensures differ { IfOk result (λ e. IfDiffer e (IsFirstDifference first.now second.now)) }
     ensures undecided { IfOk result (λ e. IfUndecided e (λ lines. IsSpent (miter_of first.now second.now) lines budget)) }
     ensures kept { IfOk result (λ e. IfUndecided e (IsKept (miter_of first.now second.now))) }
-    ensures decides { 3 ^ variables first.now second.now ≤ budget → IfOk result IsDecided }
+    ensures decides { 2 * 3 ^ variables first.now second.now ≤ budget → IfOk result IsDecided }
 {
     match solve(alloc, cnf, budget)? {
         Solved::Unsat(log) => Ok(Equiv::Equal(log)),
@@ -104,7 +104,7 @@ pub fn equiv(
     ensures differ { IfOk result (λ e. IfDiffer e (IsFirstDifference first.now.net second.now.net)) }
     ensures undecided { IfOk result (λ e. IfUndecided e (λ lines. IsSpent (miter_of first.now.net second.now.net) lines budget)) }
     ensures kept { IfOk result (λ e. IfUndecided e (IsKept (miter_of first.now.net second.now.net))) }
-    ensures decides { 3 ^ variables first.now.net second.now.net ≤ budget → IfOk result IsDecided }
+    ensures decides { 2 * 3 ^ variables first.now.net second.now.net ≤ budget → IfOk result IsDecided }
     ensures interface { IfOk result (λ _. HaveSameInterface first.now second.now) }
     ensures refused { IfErr result (λ e. e ≡ DifferentInterface → HaveSameInterface first.now second.now → ⊥) }
     ensures other { (HaveSameInterface first.now second.now → ⊥) → result ≡ Err DifferentInterface }

@@ -1,5 +1,5 @@
 -- Two netlists in one text, one behind the other: how they compare, and why they aren't compared.
-use Rattle.std.specs.Prelude.{◌≡◌, ◌≢◌, ℕ, ◌-◌, ◌^◌, ◌≤◌, ◌<◌, Bool, false, List, length, map, take, drop, slice_index_or, Some, None, Ok}
+use Rattle.std.specs.Prelude.{◌≡◌, ◌≢◌, ℕ, ◌-◌, ◌*◌, ◌^◌, ◌≤◌, ◌<◌, Bool, false, List, length, map, take, drop, slice_index_or, Some, None, Ok}
 use Rattle.sat_theory.specs.Line.{Line}
 use Rattle.sat_theory.specs.Log.{Refutes, IsSpent, IsKept}
 use Rattle.net_theory.specs.Document.{Name, Document, latches_of, source_names, sink_names}
@@ -88,7 +88,7 @@ pub record IsDifferTold (d e : Document) (text : List ℕ) : Type 0 where
   pub text_is : text ≡ differ_text d.outputs (latches_of d) sink bits
 
 -- The lines have spent the budget on the miter of their nets, and keep at least half of what they add. A budget of
--- three to the number of the miter's variables is never spent.
+-- twice three to the number of the miter's variables is never spent.
 pub record IsUndecidedTold (budget : ℕ) (d e : Document) (text : List ℕ) : Type 0 where
   pub first : Net
   pub second : Net
@@ -96,7 +96,7 @@ pub record IsUndecidedTold (budget : ℕ) (d e : Document) (text : List ℕ) : T
   pub lines : List Line
   pub spent : IsSpent (miter first second) lines budget
   pub kept : IsKept (miter first second) lines
-  pub small : budget < 3 ^ variables first second
+  pub small : budget < 2 * 3 ^ variables first second
   pub text_is : text ≡ undecided_text lines
 
 abbrev pub IsTold : ℕ → Document → Document → List ℕ → Standing → Type 0

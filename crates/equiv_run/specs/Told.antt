@@ -1,5 +1,5 @@
 -- What is told of two circuits, before it is said of the texts that they were read of.
-use Rattle.std.specs.Prelude.{◌≡◌, ℕ, ◌^◌, ◌≤◌, ◌<◌, Bool, List}
+use Rattle.std.specs.Prelude.{◌≡◌, ℕ, ◌*◌, ◌^◌, ◌≤◌, ◌<◌, Bool, List}
 use Rattle.std.proofs.Common.{arith}
 use Rattle.sat_theory.specs.Line.{Line}
 use Rattle.sat_theory.specs.Log.{Refutes, IsSpent, IsKept}
@@ -34,7 +34,7 @@ pub record AreUndecided (budget : ℕ) (c k : Circuit) (text : List ℕ) : Type 
   pub lines : List Line
   pub spent : IsSpent (miter c.net k.net) lines budget
   pub kept : IsKept (miter c.net k.net) lines
-  pub small : budget < 3 ^ variables c.net k.net
+  pub small : budget < 2 * 3 ^ variables c.net k.net
   pub text_is : text ≡ undecided_text lines
 
 abbrev pub IsCircuitTold : ℕ → Circuit → Circuit → List ℕ → Standing → Type 0
@@ -76,5 +76,5 @@ tell_equal budget c k lines text interface alike refutes is = record { interface
 pub tell_differ : (budget : ℕ) (c k : Circuit) (sink : ℕ) (bits : List Bool) (text : List ℕ) → HaveSameInterface c k → IsFirstDifference c.net k.net sink bits → text ≡ differ_text c.outputs c.latches sink bits → IsCircuitTold budget c k text Differ
 tell_differ budget c k sink bits text interface differ is = record { interface = interface; sink = sink; bits = bits; differ = differ; text_is = is }
 
-pub tell_undecided : (budget : ℕ) (c k : Circuit) (lines : List Line) (text : List ℕ) → HaveSameInterface c k → IsSpent (miter c.net k.net) lines budget → IsKept (miter c.net k.net) lines → (3 ^ variables c.net k.net ≤ budget → ⊥) → text ≡ undecided_text lines → IsCircuitTold budget c k text Undecided
-tell_undecided budget c k lines text interface spent kept not is = record { interface = interface; lines = lines; spent = spent; kept = kept; small = more (3 ^ variables c.net k.net) budget not; text_is = is }
+pub tell_undecided : (budget : ℕ) (c k : Circuit) (lines : List Line) (text : List ℕ) → HaveSameInterface c k → IsSpent (miter c.net k.net) lines budget → IsKept (miter c.net k.net) lines → (2 * 3 ^ variables c.net k.net ≤ budget → ⊥) → text ≡ undecided_text lines → IsCircuitTold budget c k text Undecided
+tell_undecided budget c k lines text interface spent kept not is = record { interface = interface; lines = lines; spent = spent; kept = kept; small = more (2 * 3 ^ variables c.net k.net) budget not; text_is = is }

@@ -3,7 +3,7 @@ use cdcl_core::{Solved, solve};
 use cnf_core::{Assign, Cnf, satisfied};
 use lrat_check::Checker;
 use lrat_tests::building::{clause, formula, next_random, push_within};
-use lrat_text::{Log, read_line, write_line};
+use lrat_text::{Line, Log, read_line, write_line};
 use std::alloc::{AllocError, Global};
 use std::test::Fail;
 
@@ -187,6 +187,39 @@ fn pigeons(alloc: Global, holes: u32) -> Result<Cnf, AllocError> {
     Ok(cnf)
 }
 
+/// How many clauses the lines of a log add and delete.
+#[derive(Clone, Copy)]
+struct Counts {
+    added: u64,
+    deleted: u64,
+}
+
+/// Counts what a log adds and deletes.
+fn count_lines(log: &Log) -> Counts {
+    let mut added = 0u64;
+    let mut deleted = 0u64;
+    for line in &log.lines {
+        match line {
+            Line::Add { .. } => added = added.saturating_add(1),
+            Line::Delete { ids, .. } => deleted = deleted.saturating_add(ids.len() as u64),
+        }
+    }
+    Counts { added, deleted }
+}
+
+/// Whether a log of the pigeons keeps half of its additions where it is open, and no more than it may.
+fn is_thrifty(log: &Log, holes: u32, refuted: bool) -> bool {
+    let counts = count_lines(log);
+    let live = counts.added.saturating_sub(counts.deleted);
+    let vars = u64::from(holes).saturating_mul(u64::from(holes).saturating_add(1));
+    let most = counts.added.saturating_mul(3);
+    (refuted || live >= counts.deleted)
+        && live.saturating_mul(4)
+            <= most
+                .saturating_add(vars.saturating_mul(4))
+                .saturating_add(8000)
+}
+
 /// Whether the pigeons are refuted within a budget; None where the answer or its log is wrong.
 fn pigeons_refuted(alloc: Global, holes: u32, budget: u32) -> Result<Option<bool>, Fail> {
     if budget == 0 || budget > 1000000 {
@@ -198,8 +231,8 @@ fn pigeons_refuted(alloc: Global, holes: u32, budget: u32) -> Result<Option<bool
         Solved::Unsat(log) => (log, true),
         Solved::Open(log) => (log, false),
     };
-    let enough = refuted || log.lines.len() >= budget as usize;
-    if enough && judged(alloc, cnf, &log)? == Some(refuted) {
+    let enough = refuted || count_lines(&log).added >= u64::from(budget);
+    if enough && is_thrifty(&log, holes, refuted) && judged(alloc, cnf, &log)? == Some(refuted) {
         return Ok(Some(refuted));
     }
     Ok(None)
@@ -224,9 +257,9 @@ fn pigeons_take_so_many_steps(rt: HostRuntime) -> Result<(), Fail> {
     let alloc = rt.alloc();
     // as many clauses as an independent program learns that takes the same steps: they tell of what scores, of
     // signs and of when restarts come, which no contract says
-    for (holes, lines) in [(4, 33), (6, 451)] {
+    for (holes, added) in [(4, 33), (6, 451)] {
         match solve(alloc, &pigeons(alloc, holes)?, 1000000)? {
-            Solved::Unsat(log) => assert_eq!(rt; log.lines.len(), lines),
+            Solved::Unsat(log) => assert_eq!(rt; count_lines(&log).added, added),
             _ => assert!(rt; false, "not refuted"),
         }
     }
@@ -321,8 +354,8 @@ fn all_assignments_agree(rt: HostRuntime) -> Result<(), Fail> {
     for round in 0..200u64 {
         let cnf = random_formula(alloc, round)?;
         let expected = is_satisfiable(alloc, &cnf)?;
-        // 3 to the fourth decides all
-        match solve(alloc, &cnf, 81)? {
+        // twice 3 to the fourth decides all
+        match solve(alloc, &cnf, 162)? {
             Solved::Sat(assign) => {
                 assert!(rt; expected && satisfied(&cnf, &assign), "{round}");
                 satisfiable = satisfiable.saturating_add(1);

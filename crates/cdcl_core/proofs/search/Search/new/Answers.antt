@@ -3,12 +3,13 @@ use Rattle.clause_db.specs.Stored.{Stored, live_in, none_stored}
 use Rattle.clause_db.specs.StoredLaws.{all_added-vars}
 use Rattle.conflict_core.specs.Learning.{IsReady}
 use Rattle.cdcl_core.proofs.Beginning.{count_begun, layered_begun}
-use Rattle.cdcl_core.proofs.Logging.{log_begun}
+use Rattle.cdcl_core.proofs.Logging.{log_begun, new_begun}
 use Rattle.cdcl_core.proofs.search.Search.new.Goals as goal
 
 pub returns-clause-logged : goal.returns-clause-logged
 returns-clause-logged c = record {
   log = rw (c.in_ok-new.ensures.all, c.new-5.ensures.items) (log_begun c.args.cnf.now);
+  new = rw c.new-5.ensures.items (new_begun c.args.cnf.now);
   given = ap length c.clauses.ensures.value;
 }
 

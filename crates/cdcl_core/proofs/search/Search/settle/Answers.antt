@@ -1,5 +1,5 @@
 use Rattle.std.proofs.Common.{◌≡◌, length, ap, arith}
-use Rattle.cdcl_core.proofs.Settling.{settled_propagated, logged_propagated, settled_jumped, settled_visited}
+use Rattle.cdcl_core.proofs.Settling.{settled_propagated, logged_propagated, settled_jumped, jumped_forgotten, settled_visited}
 use Rattle.cdcl_core.proofs.Restarting.{logged_restarted, jumped_restarted}
 use Rattle.cdcl_core.proofs.search.Search.settle.Goals as goal
 
@@ -19,14 +19,14 @@ pub loop-conflict-preserved : goal.loop-conflict-preserved
 loop-conflict-preserved c = record {
   searching = c.restart.ensures.searching;
   visited = c.restart.ensures.visited;
-  logged = λ f log. logged_restarted f c.jump.new.self c.restart.new.self (c.in_ok-jump.ensures.logged f (logged_propagated f c.loop-conflict.self c.propagate.new.self (c.loop-conflict.invariant.logged f log) c.in_ok-conflict.ensures.propagated)) c.restart.ensures.restarted;
+  logged = λ f log. logged_restarted f c.review.new.self c.restart.new.self (c.in_ok-review.ensures.logged f (c.in_ok-jump.ensures.logged f (logged_propagated f c.loop-conflict.self c.propagate.new.self (c.loop-conflict.invariant.logged f log) c.in_ok-conflict.ensures.propagated))) c.restart.ensures.restarted;
   settled = settled_jumped c.args.self.now c.propagate.new.self c.restart.new.self (settled_propagated c.args.self.now c.loop-conflict.self c.propagate.new.self c.loop-conflict.invariant.settled c.in_ok-conflict.ensures.propagated)
-      (jumped_restarted c.propagate.new.self c.jump.new.self c.restart.new.self c.in_ok-jump.ensures.jumped c.restart.ensures.restarted);
+      (jumped_restarted c.propagate.new.self c.review.new.self c.restart.new.self (jumped_forgotten c.propagate.new.self c.jump.new.self c.review.new.self c.in_ok-jump.ensures.jumped c.in_ok-review.ensures.forgotten) c.restart.ensures.restarted);
 }
 
 pub loop-conflict-smaller : goal.loop-conflict-smaller
 loop-conflict-smaller c =
-    let jumped = jumped_restarted c.propagate.new.self c.jump.new.self c.restart.new.self c.in_ok-jump.ensures.jumped c.restart.ensures.restarted in
+    let jumped = jumped_restarted c.propagate.new.self c.review.new.self c.restart.new.self (jumped_forgotten c.propagate.new.self c.jump.new.self c.review.new.self c.in_ok-jump.ensures.jumped c.in_ok-review.ensures.forgotten) c.restart.ensures.restarted in
     let same : length c.propagate.new.self.starts.items ≡ length c.loop-conflict.self.starts.items = ap (λ ls. length ls.items) c.in_ok-conflict.ensures.propagated.starts in
     omega (arith, jumped.starts, same)
 

@@ -1,0 +1,264 @@
+-- The log when clauses go.
+use Rattle.std.proofs.Common.{◌≡◌, ◌≢◌, ℕ, zero, suc, ◌+◌, ◌-◌, ◌*◌, ◌<◌, ◌≤◌, ◌==◌, ◌||◌, ℤ, Bool, true, false, if◌then◌else◌, List, [], ◌∷◌, ◌++◌, length, slice_index_or, slice_get, Contains, All, Any, Option, Some, None, IsSome, is_some, count_by, subst, sym, ap, ◌∙◌, arith, inl, inr, refl}
+use Rattle.std.proofs.Math.Logic.{⊎_elim}
+use Rattle.std.proofs.lemmas.Bool.{cases_lt, ne_eqb, eq-eqb}
+use Rattle.std.proofs.lemmas.List.{length-set, length_push, get_or_append_left, get_or_push}
+use Rattle.std.proofs.lemmas.List.Folds.{list_any-append}
+use Rattle.std.proofs.lemmas.List.Elements.{All-push, All-nil, All-cons}
+use Rattle.std.proofs.lemmas.List.Quantifiers.{all_pairs_push}
+use Rattle.sat_theory.specs.Formula.{Formula}
+use Rattle.sat_theory.specs.Line.{Line, Delete, IsId}
+use Rattle.sat_theory.specs.State.{State, by_id, start, next, without, is_listed}
+use Rattle.sat_theory.specs.Log.{after, EachLine, IsStep, IsFresh, AddsEmpty, added_ids, additions, live_additions, HasEmpty, SparesFormula, IsThinned, IsKept}
+use Rattle.sat_theory.specs.FewAdditions.{AddsSome}
+use Rattle.sat_theory.specs.LogLaws.{after-push, EachLine-push, EachLine-front, EachLine-last, added_ids-delete}
+use Rattle.clause_db.specs.Stored.{Stored, live_in, IsStored}
+use Rattle.clause_db.specs.StoredLaws.{live_inside}
+use Rattle.clause_db.specs.Deleting.{IsDeleted}
+use Rattle.clause_db.specs.DeletingLaws.{live_deleted, still_live, kept_live}
+use Rattle.cdcl_core.specs.Searching.{IsLog, AreNew}
+use Rattle.cdcl_core.specs.Forgetting.{with_gone}
+use Rattle.cdcl_core.proofs.Counts.{AreFrom, count_dropped, count_none}
+
+front_all : (P : Line → Type 0) (ls : List Line) (l : Line) → All P (ls ++ l ∷ []) → All P ls
+front_all P ls l all = λ k d low. subst P (get_or_append_left ls (l ∷ []) d k low) (all k d (omega (arith, low, length_push ls l)))
+
+last_all : (P : Line → Type 0) (ls : List Line) (l : Line) → All P (ls ++ l ∷ []) → P l
+last_all P ls l all = subst P (get_or_push ls l l (length ls) refl) (all (length ls) l (omega (arith, length_push ls l)))
+
+one_of_two : (a b : Bool) (o : Option (List ℤ)) → (if a || b then None else o) ≡ (if b then None else (if a then None else o))
+one_of_two true true o = refl
+one_of_two true false o = refl
+one_of_two false true o = refl
+one_of_two false false o = refl
+
+-- one more id
+without_more : (live : ℕ → Option (List ℤ)) (ids : List ℕ) (id k : ℕ) → without live (ids ++ id ∷ []) k ≡ without (without live ids) (id ∷ []) k
+without_more live ids id k = ap (λ (b : Bool). (let o : Option (List ℤ) = if b then None else live k in o)) (list_any-append (λ j. k == j) ids (id ∷ [])) ∙ one_of_two (is_listed ids k) (is_listed (id ∷ []) k) (live k)
+
+kept_out : (b : Bool) (o : Option (List ℤ)) (c : List ℤ) → (if b then None else o) ≡ Some c → (b ≡ false) × (o ≡ Some c)
+kept_out true o c is = absurd (cc)
+kept_out false o c is = (refl, is)
+
+both_false : (b c : Bool) → (b || c) ≡ false → (b ≡ false) × (c ≡ false)
+both_false true c is = absurd (cc)
+both_false false c is = (refl, is)
+
+none_listed : (ids : List ℕ) (id : ℕ) → is_listed ids id ≡ false → All (λ j. j ≢ id) ids
+none_listed [] id is = All-nil (λ j. j ≢ id)
+none_listed (j ∷ js) id is =
+    let both : ((id == j) ≡ false) × (is_listed js id ≡ false) = both_false (id == j) (is_listed js id) is in
+    All-cons (λ k. k ≢ id) j js (λ e. (let same : (id == j) ≡ true = eq-eqb id j (sym e) in let other : (id == j) ≡ false = both.0 in absurd (cc))) (none_listed js id both.1)
+
+some_is : (o : Option (List ℤ)) (c : List ℤ) → o ≡ Some c → IsSome o
+some_is None c is = absurd (cc)
+some_is (Some x) c is = refl
+
+none_now : (o : Option (List ℤ)) → ((c : List ℤ) → o ≡ Some c → ⊥) → is_some o ≡ false
+none_now None none = refl
+none_now (Some c) none = absurd (none c refl)
+
+get_inside : (xs : List (List ℤ)) (k : ℕ) (x : List ℤ) → slice_get xs k ≡ Some x → k < length xs
+get_inside [] k x is = absurd (cc)
+get_inside (y ∷ ys) zero x is = omega arith
+get_inside (y ∷ ys) (suc k) x is = (let h : k < length ys = get_inside ys k x is in omega arith)
+
+by_id_inside : (clauses : List (List ℤ)) (id : ℕ) (clause : List ℤ) → by_id clauses id ≡ Some clause → id ≤ length clauses
+by_id_inside clauses zero clause is = omega arith
+by_id_inside clauses (suc k) clause is =
+    let some : (suc k == 0) ≡ false = ne_eqb (suc k) 0 (λ e. omega arith) in
+    let index : suc k - 1 ≡ k = omega arith in
+    let entry : slice_get clauses k ≡ Some clause = rw (some, index) at is in
+    let low : k < length clauses = get_inside clauses k clause entry in
+    omega arith
+
+additions_delete : (lines : List Line) (own : ℕ) (ids : List ℕ) → additions (lines ++ Delete own ids ∷ []) ≡ additions lines
+additions_delete lines own ids = ap length (added_ids-delete lines own ids)
+
+ids_delete : (a : ℕ) (lines : List Line) (own more : ℕ) (ids : List ℕ) → ((k d : ℕ) → k < additions lines → slice_index_or (added_ids lines) k d ≡ a + k) → (k d : ℕ) → k < additions (lines ++ Delete own ids ∷ []) → slice_index_or (added_ids (lines ++ Delete own ids ∷ [])) k d ≡ a + k
+ids_delete a lines own more ids are k d low = ap (λ (xs : List ℕ). slice_index_or xs k d) (added_ids-delete lines own ids) ∙ are k d (omega (arith, low, additions_delete lines own ids))
+
+ids_front : (a : ℕ) (lines : List Line) (own : ℕ) (ids : List ℕ) → ((k d : ℕ) → k < additions (lines ++ Delete own ids ∷ []) → slice_index_or (added_ids (lines ++ Delete own ids ∷ [])) k d ≡ a + k) → AreFrom a (added_ids lines)
+ids_front a lines own ids are k d low = ap (λ (xs : List ℕ). slice_index_or xs k d) (sym (added_ids-delete lines own ids)) ∙ are k d (omega (arith, low, additions_delete lines own ids))
+
+next_nothing : (st : State) (own : ℕ) → next st (Delete own []) ≡ st
+next_nothing st own = refl
+
+-- A line may delete nothing.
+log_nothing : (f : Formula) (a : Stored) (lines : List Line) (deleted : ℕ) → IsLog f a lines deleted → 0 < length a.clauses → length a.clauses ≤ 4000000000 → IsLog f a (lines ++ Delete (length a.clauses) [] ∷ []) deleted
+log_nothing f a lines deleted log some few = record {
+  vars = log.vars;
+  holds = EachLine-push IsStep (start f) lines line log.holds (record {
+    is_line = record { own_id = (some, omega (arith, few)); deleted_ids = All-nil IsId };
+    holds = record { all_live = All-nil (λ id. IsSome ((after (start f) lines).live id)); differ = λ i j d less (low : j < 0). absurd (omega arith) };
+  });
+  state = after-push (start f) lines line ∙ next_nothing (after (start f) lines) (length a.clauses) ∙ log.state;
+  formula = log.formula;
+  count = (let count : length a.clauses ≡ length f.clauses + additions lines = log.count in let same : additions (lines ++ line ∷ []) ≡ additions lines = additions_delete lines (length a.clauses) [] in omega arith);
+  spares = All-push (SparesFormula f) lines line log.spares (All-nil (λ k. length f.clauses < k));
+  ids = ids_delete (length f.clauses + 1) lines (length a.clauses) 0 [] log.ids;
+  gone = subst (λ (xs : List ℕ). count_by (λ id. is_some (live_in a id)) xs + deleted ≡ length xs) (sym (added_ids-delete lines (length a.clauses) [])) log.gone;
+  half = (let half : 2 * deleted ≤ additions lines = log.half in let same : additions (lines ++ line ∷ []) ≡ additions lines = additions_delete lines (length a.clauses) [] in omega arith);
+}
+  where
+    line : Line
+    line = Delete (length a.clauses) []
+
+-- The last line deletes one more.
+log_extended : (f : Formula) (a b : Stored) (lines : List Line) (own : ℕ) (ids : List ℕ) (id : ℕ) (clause : List ℤ) (deleted : ℕ) → IsLog f a (lines ++ Delete own ids ∷ []) deleted → IsStored a → live_in a id ≡ Some clause → length f.clauses < id → IsDeleted id a b → 2 * (deleted + 1) + length f.clauses ≤ length a.clauses → IsLog f b (lines ++ Delete own (ids ++ id ∷ []) ∷ []) (deleted + 1)
+log_extended f a b lines own ids id clause deleted log stored is learnt gone room = record {
+  vars = gone.vars ∙ log.vars;
+  holds = EachLine-push IsStep (start f) lines line front step;
+  state = after-push (start f) lines line ∙ state_now;
+  formula = λ k c here. kept_live id a b k c gone some (λ e. (let inside : k ≤ length f.clauses = by_id_inside f.clauses k c here in omega (arith, inside, e, learnt))) (log.formula k c here);
+  count = (let count : length a.clauses ≡ length f.clauses + additions (lines ++ Delete own ids ∷ []) = log.count in let old : additions (lines ++ Delete own ids ∷ []) ≡ additions lines = additions_delete lines own ids in let now : additions (lines ++ line ∷ []) ≡ additions lines = additions_delete lines own (ids ++ id ∷ []) in omega (arith, count, old, now, long));
+  spares = All-push (SparesFormula f) lines line (front_all (SparesFormula f) lines (Delete own ids) log.spares) (All-push (λ k. length f.clauses < k) ids id (last_all (SparesFormula f) lines (Delete own ids) log.spares) learnt);
+  ids = ids_delete (length f.clauses + 1) lines own 0 (ids ++ id ∷ []) (ids_front (length f.clauses + 1) lines own ids log.ids);
+  gone = (let before : count_by p (added_ids lines) + deleted ≡ additions lines = subst (λ (xs : List ℕ). count_by p xs + deleted ≡ length xs) (added_ids-delete lines own ids) log.gone in subst (λ (xs : List ℕ). count_by q xs + (deleted + 1) ≡ length xs) (sym (added_ids-delete lines own (ids ++ id ∷ []))) (omega (arith, before, fewer)));
+  half = (let count : length a.clauses ≡ length f.clauses + additions (lines ++ Delete own ids ∷ []) = log.count in let old : additions (lines ++ Delete own ids ∷ []) ≡ additions lines = additions_delete lines own ids in let now : additions (lines ++ line ∷ []) ≡ additions lines = additions_delete lines own (ids ++ id ∷ []) in omega (arith, count, old, now, room));
+}
+  where
+    line : Line
+    line = Delete own (ids ++ id ∷ [])
+
+    mid : State
+    mid = after (start f) lines
+
+    p : ℕ → Bool
+    p k = is_some (live_in a k)
+
+    q : ℕ → Bool
+    q k = is_some (live_in b k)
+
+    inside : (0 < id) × (id ≤ length a.clauses)
+    inside = live_inside a id clause is
+
+    some : 0 < id
+    some = inside.0
+
+    long : length b.clauses ≡ length a.clauses
+    long = ap length gone.clauses ∙ length-set a.clauses (id - 1) None
+
+    before : next mid (Delete own ids) ≡ record { live = live_in a; vars = f.vars; greatest = length a.clauses }
+    before = sym (after-push (start f) lines (Delete own ids)) ∙ log.state
+
+    live_a : without mid.live ids ≡ live_in a
+    live_a = ap (λ (st : State). st.live) before
+
+    front : EachLine IsStep (start f) lines
+    front = EachLine-front IsStep (start f) lines (Delete own ids) log.holds
+
+    last : IsStep mid (Delete own ids)
+    last = EachLine-last IsStep (start f) lines (Delete own ids) log.holds
+
+    out : (is_listed ids id ≡ false) × (mid.live id ≡ Some clause)
+    out = kept_out (is_listed ids id) (mid.live id) clause (ap (λ (g : ℕ → Option (List ℤ)). g id) live_a ∙ is)
+
+    step : IsStep mid line
+    step = record {
+      is_line = record {
+        own_id = last.is_line.own_id;
+        deleted_ids = All-push IsId ids id last.is_line.deleted_ids (some, (let high : id ≤ length a.clauses = inside.1 in let few : length a.clauses ≤ 4000000000 = stored.few in omega arith));
+      };
+      holds = record {
+        all_live = All-push (λ k. IsSome (mid.live k)) ids id last.holds.all_live (some_is (mid.live id) clause out.1);
+        differ = all_pairs_push (λ x y. x ≢ y) ids id last.holds.differ (λ k d low. none_listed ids id out.0 k d low);
+      };
+    }
+
+    live_at_b : (k : ℕ) → without mid.live (ids ++ id ∷ []) k ≡ live_in b k
+    live_at_b k = without_more mid.live ids id k ∙ ap (λ (g : ℕ → Option (List ℤ)). without g (id ∷ []) k) live_a ∙ ap (λ (g : ℕ → Option (List ℤ)). g k) (sym (live_deleted id a b gone some))
+
+    live_b : without mid.live (ids ++ id ∷ []) ≡ live_in b
+    live_b = λ i k. live_at_b k i
+
+    vars_mid : mid.vars ≡ f.vars
+    vars_mid = ap (λ (st : State). st.vars) before
+
+    greatest_mid : mid.greatest ≡ length b.clauses
+    greatest_mid = ap (λ (st : State). st.greatest) before ∙ sym long
+
+    state_now : next mid line ≡ record { live = live_in b; vars = f.vars; greatest = length b.clauses }
+    state_now = rw (live_b, vars_mid, greatest_mid) refl
+
+    others : (y : ℕ) → (y ≡ id → ⊥) → q y ≡ p y
+    others y apart = ap (λ (o : Option (List ℤ)). is_some o) (ap (λ (g : ℕ → Option (List ℤ)). g y) (live_deleted id a b gone some) ∙ (let e : (y == id) ≡ false = ne_eqb y id apart in rw e refl))
+
+    fewer : count_by q (added_ids lines) + 1 ≡ count_by p (added_ids lines)
+    fewer = count_dropped p q (length f.clauses + 1) id (added_ids lines)
+        (ids_front (length f.clauses + 1) lines own ids log.ids)
+        (omega (arith, learnt))
+        (let high : id ≤ length a.clauses = inside.1 in let count : length a.clauses ≡ length f.clauses + additions (lines ++ Delete own ids ∷ []) = log.count in let old : additions (lines ++ Delete own ids ∷ []) ≡ additions lines = additions_delete lines own ids in omega arith)
+        (ap (λ (o : Option (List ℤ)). is_some o) is)
+        (none_now (live_in b id) (λ c live. (still_live id a b id c gone some live).1 refl))
+        others
+
+-- One more clause goes.
+pub log_lost : (f : Formula) (a b : Stored) (lines : List Line) (ids : List ℕ) (id : ℕ) (clause : List ℤ) (deleted : ℕ) → IsLog f a (with_gone lines (length a.clauses) ids) deleted → IsStored a → live_in a id ≡ Some clause → length f.clauses < id → IsDeleted id a b → 2 * (deleted + 1) + length f.clauses ≤ length a.clauses → IsLog f b (with_gone lines (length b.clauses) (ids ++ id ∷ [])) (deleted + 1)
+log_lost f a b lines [] id clause deleted log stored is learnt gone room =
+    let long : length b.clauses ≡ length a.clauses = ap length gone.clauses ∙ length-set a.clauses (id - 1) None in
+    let inside : (0 < id) × (id ≤ length a.clauses) = live_inside a id clause is in
+    let some : 0 < length a.clauses = (let low : 0 < id = inside.0 in let high : id ≤ length a.clauses = inside.1 in omega arith) in
+    subst (λ (n : ℕ). IsLog f b (lines ++ Delete n (id ∷ []) ∷ []) (deleted + 1)) (sym long) (log_extended f a b lines (length a.clauses) [] id clause deleted (log_nothing f a lines deleted log some stored.few) stored is learnt gone room)
+log_lost f a b lines (x ∷ xs) id clause deleted log stored is learnt gone room =
+    let long : length b.clauses ≡ length a.clauses = ap length gone.clauses ∙ length-set a.clauses (id - 1) None in
+    subst (λ (n : ℕ). IsLog f b (lines ++ Delete n ((x ∷ xs) ++ id ∷ []) ∷ []) (deleted + 1)) (sym long) (log_extended f a b lines (length a.clauses) (x ∷ xs) id clause deleted log stored is learnt gone room)
+
+-- What a line of deletions leaves as it was.
+pub additions_gone : (lines : List Line) (own : ℕ) (ids : List ℕ) → additions (with_gone lines own ids) ≡ additions lines
+additions_gone lines own [] = refl
+additions_gone lines own (x ∷ xs) = additions_delete lines own (x ∷ xs)
+
+pub new_gone : (f : Formula) (lines : List Line) (own : ℕ) (ids : List ℕ) → AreNew f lines → AreNew f (with_gone lines own ids)
+new_gone f lines own [] are = are
+new_gone f lines own (x ∷ xs) are = record {
+  fresh = EachLine-push IsFresh (start f) lines (Delete own (x ∷ xs)) are.fresh tt;
+  some = All-push AddsSome lines (Delete own (x ∷ xs)) are.some tt;
+}
+
+any_front : (lines : List Line) (line : Line) → Any AddsEmpty lines → Any AddsEmpty (lines ++ line ∷ [])
+any_front lines line any = (any.0, any.1, (let low : any.0 < length lines = any.2 in omega (arith, low, length_push lines line)), get_or_append_left lines (line ∷ []) any.1 any.0 any.2 ∙ any.3, any.4)
+
+pub reaches_gone : (f : Formula) (lines : List Line) (own : ℕ) (ids : List ℕ) → HasEmpty f lines → HasEmpty f (with_gone lines own ids)
+reaches_gone f lines own [] has = has
+reaches_gone f lines own (x ∷ xs) has = ⊎_elim (λ (there : Contains f.clauses []). inl there) (λ (added : Any AddsEmpty lines). inr (any_front lines (Delete own (x ∷ xs)) added)) has
+
+-- what is live, and what is gone
+live_are : (f : Formula) (s : Stored) (lines : List Line) (deleted : ℕ) → IsLog f s lines deleted → live_additions (after (start f) lines) lines + deleted ≡ additions lines
+live_are f s lines deleted log = subst (λ (st : State). live_additions st lines + deleted ≡ additions lines) (sym log.state) log.gone
+
+-- At least half of what was added is live.
+pub log_kept : (f : Formula) (s : Stored) (lines : List Line) (deleted : ℕ) → IsLog f s lines deleted → IsKept f lines
+log_kept f s lines deleted log =
+    let all : live_additions (after (start f) lines) lines + deleted ≡ additions lines = live_are f s lines deleted log in
+    let half : 2 * deleted ≤ additions lines = log.half in
+    omega arith
+
+-- A log of which enough is gone is thinned.
+pub log_thinned : (f : Formula) (s : Stored) (lines : List Line) (deleted : ℕ) → IsLog f s lines deleted → (length f.clauses + 4 * (deleted + s.vars + 2000) < length s.clauses → ⊥) → IsThinned f lines
+log_thinned f s lines deleted log thin = record {
+  spares = log.spares;
+  few =
+      (let all : live_additions (after (start f) lines) lines + deleted ≡ additions lines = live_are f s lines deleted log in
+      let count : length s.clauses ≡ length f.clauses + additions lines = log.count in
+      let vars : s.vars ≡ f.vars = log.vars in
+      let low : length s.clauses ≤ length f.clauses + 4 * (deleted + s.vars + 2000) = not_less (length f.clauses + 4 * (deleted + s.vars + 2000)) (length s.clauses) thin in
+      omega arith);
+}
+  where
+    not_less : (m n : ℕ) → (m < n → ⊥) → n ≤ m
+    not_less m n not = ⊎_elim (λ (less : m < n). absurd (not less)) (λ (more : n ≤ m). more) (cases_lt m n)
+
+-- Where no addition is live, all are gone.
+pub log_all_gone : (f : Formula) (s : Stored) (lines : List Line) (deleted : ℕ) → IsLog f s lines deleted → ((id : ℕ) (clause : List ℤ) → length f.clauses < id → live_in s id ≡ Some clause → ⊥) → length s.clauses ≡ length f.clauses + deleted
+log_all_gone f s lines deleted log none =
+    let dead : All (λ id. is_some (live_in s id) ≡ false) (added_ids lines) = λ k d low. none_now (live_in s (slice_index_or (added_ids lines) k d)) (λ c live. none (slice_index_or (added_ids lines) k d) c (let at : slice_index_or (added_ids lines) k d ≡ length f.clauses + 1 + k = log.ids k d low in omega (arith, at)) live) in
+    let zero_ : count_by (λ id. is_some (live_in s id)) (added_ids lines) ≡ 0 = count_none (λ id. is_some (live_in s id)) (added_ids lines) dead in
+    let gone : count_by (λ id. is_some (live_in s id)) (added_ids lines) + deleted ≡ additions lines = log.gone in
+    let count : length s.clauses ≡ length f.clauses + additions lines = log.count in
+    omega arith
+
+-- a line that deletes some
+pub gone_some : (lines : List Line) (own : ℕ) (ids : List ℕ) → (length ids == 0) ≡ false → with_gone lines own ids ≡ lines ++ Delete own ids ∷ []
+gone_some lines own [] some = absurd (cc)
+gone_some lines own (x ∷ xs) some = refl

@@ -1,0 +1,104 @@
+-- A search whose clauses go.
+use Rattle.std.proofs.Common.{◌≡◌, ℕ, ◌+◌, ◌-◌, ◌*◌, ◌<◌, ◌≤◌, ℤ, List, [], ◌∷◌, ◌++◌, length, slice_index_or, Contains, All, Option, Some, None, subst, sym, ap, ◌∙◌, arith, inl, inr, refl}
+use Rattle.std.proofs.Math.Logic.{⊎_elim}
+use Rattle.std.proofs.lemmas.List.{length-set}
+use Rattle.std.proofs.lemmas.List.Elements.{All-weaker}
+use Rattle.sat_theory.specs.Formula.{Formula, opposite}
+use Rattle.lrat_text.specs.Values.{line_values}
+use Rattle.cdcl_theory.specs.Falling.{Implies, IsClosed}
+use Rattle.cdcl_theory.specs.FallingLaws.{closed_less}
+use Rattle.cdcl_theory.specs.Trails.{fell, reason_of, HasReason, IsLayered}
+use Rattle.cdcl_theory.specs.TrailLaws.{place_at}
+use Rattle.clause_db.specs.Stored.{Stored, live_in, IsStored}
+use Rattle.clause_db.specs.StoredLaws.{live_inside}
+use Rattle.clause_db.specs.Deleting.{IsDeleted}
+use Rattle.clause_db.specs.DeletingLaws.{still_live, kept_live, still_watches}
+use Rattle.cdcl_core.specs.declared.search.Search.{Search}
+use Rattle.cdcl_core.specs.Searching.{IsSearching, IsVisited}
+use Rattle.cdcl_core.specs.Forgetting.{IsPending, IsNoReason, IsImplied, NoneImplied, HasLost, HasForgotten}
+use Rattle.cdcl_core.proofs.Gone.{log_lost}
+
+-- A clause of which no literal is true by it is no reason.
+pub no_reason : (s : Search) (id : ℕ) (clause : List ℤ) → IsSearching s → live_in s.clauses id ≡ Some clause → NoneImplied s.trail clause (length clause) id → IsNoReason s id
+no_reason s id clause searching is none = record {
+  none = λ p d low reason at.
+      let l : ℤ = slice_index_or s.trail.lits p d in
+      let implied : Implies (live_in s.clauses) (fell s.trail) p (slice_index_or s.trail.lits p d) (reason_of s.trail (slice_index_or s.trail.lits p d)) = reason.implied d in
+      let live : live_in s.clauses id ≡ Some implied.clause = subst (λ (n : ℕ). live_in s.clauses n ≡ Some implied.clause) at implied.is_live in
+      let same : implied.clause ≡ clause = the_same implied.clause clause (live_in s.clauses id) live is in
+      let there : Contains clause (slice_index_or s.trail.lits p d) = subst (λ (c : List ℤ). Contains c (slice_index_or s.trail.lits p d)) same implied.there in
+      let on : fell s.trail (opposite (slice_index_or s.trail.lits p d)) ≡ p + 1 = place_at s.trail.lits (fell s.trail) p d (slice_index_or s.trail.lits p d) searching.layered.whole.places low refl in
+      none there.0 (slice_index_or s.trail.lits p d) there.1 there.1 (subst (λ (m : ℤ). IsImplied s.trail id m) (sym there.2) (omega (arith, on), at));
+}
+  where
+    the_same : (c e : List ℤ) (o : Option (List ℤ)) → o ≡ Some c → o ≡ Some e → c ≡ e
+    the_same c e o one other = cc
+
+fewer_closed : (live less : ℕ → Option (List ℤ)) (places : ℤ → ℕ) (starts : List ℕ) → ((id : ℕ) (clause : List ℤ) → less id ≡ Some clause → live id ≡ Some clause) → All (λ s. IsClosed live places s) starts → All (λ s. IsClosed less places s) starts
+fewer_closed live less places starts inside all = All-weaker (λ s. IsClosed live places s) (λ s. IsClosed less places s) (λ s closed. closed_less live less places s inside closed) starts all
+
+-- Without a clause that is no reason the levels are as they were.
+layered_lost : (s : Search) (b : Stored) (id : ℕ) → IsLayered (live_in s.clauses) s.trail s.starts.items → 0 < id → IsDeleted id s.clauses b → IsNoReason s id → IsLayered (live_in b) s.trail s.starts.items
+layered_lost s b id layered some gone free = record {
+  whole = layered.whole;
+  inside = layered.inside;
+  rising = layered.rising;
+  closed = fewer_closed (live_in s.clauses) (live_in b) (fell s.trail) s.starts.items (λ k c live. (still_live id s.clauses b k c gone some live).0) layered.closed;
+  reasons = λ p within. ⊎_elim
+      (λ (start : Contains s.starts.items p). inl start)
+      (λ (reason : HasReason (live_in s.clauses) s.trail p). inr (still p within reason))
+      (layered.reasons p within);
+}
+  where
+    still : (p : ℕ) → p < length s.trail.lits → HasReason (live_in s.clauses) s.trail p → HasReason (live_in b) s.trail p
+    still p within reason = record {
+      implied = λ d.
+          let implied : Implies (live_in s.clauses) (fell s.trail) p (slice_index_or s.trail.lits p d) (reason_of s.trail (slice_index_or s.trail.lits p d)) = reason.implied d in
+          record {
+            clause = implied.clause;
+            is_live = kept_live id s.clauses b (reason_of s.trail (slice_index_or s.trail.lits p d)) implied.clause gone some (free.none p d within reason) implied.is_live;
+            there = implied.there;
+            others = implied.others;
+          };
+    }
+
+pub searching_lost : (s : Search) (b : Stored) (id n : ℕ) (clause : List ℤ) → IsSearching s → IsStored b → live_in s.clauses id ≡ Some clause → IsDeleted id s.clauses b → IsNoReason s id → IsSearching (record s { clauses = b; deleted = n })
+searching_lost s b id n clause searching stored is gone free = record {
+  stored = stored;
+  vars = gone.vars ∙ searching.vars;
+  layered = layered_lost s b id searching.layered (live_inside s.clauses id clause is).0 gone free;
+  ready = searching.ready;
+  choosing = searching.choosing;
+}
+
+-- The watched literals keep their promise.
+pub visited_lost : (s : Search) (b : Stored) (id n : ℕ) → 0 < id → IsVisited s → IsDeleted id s.clauses b → IsVisited (record s { clauses = b; deleted = n })
+visited_lost s b id n some visited gone = record {
+  guarded = record {
+    long = λ k w clause watches is fallen. visited.guarded.long k w clause (still_watches id s.clauses b k w gone some watches).0 (still_live id s.clauses b k clause gone some is).0 fallen;
+    short = λ k clause is short. visited.guarded.short k clause (still_live id s.clauses b k clause gone some is).0 short;
+  };
+  low = visited.low;
+  begun = visited.begun;
+}
+
+-- The log has one id more to delete.
+pub pending_lost : (f : Formula) (s : Search) (b : Stored) (ids : List ℕ) (id : ℕ) (clause : List ℤ) → IsPending f s ids → IsStored s.clauses → live_in s.clauses id ≡ Some clause → s.given < id → IsDeleted id s.clauses b → 2 * (s.deleted + 1) + s.given ≤ length s.clauses.clauses → IsPending f (record s { clauses = b; deleted = s.deleted + 1 }) (ids ++ id ∷ [])
+pending_lost f s b ids id clause pending stored is learnt gone room = record {
+  log = log_lost f s.clauses b (line_values s.lines.items) ids id clause s.deleted pending.log stored is (omega (arith, pending.given, learnt)) gone (omega (arith, pending.given, room));
+  given = pending.given;
+}
+
+pub forgotten_self : (s : Search) → HasForgotten s s
+forgotten_self s = record { trail = refl; starts = refl; head = refl; given = refl; clauses = refl; fewer = λ id clause is. is }
+
+-- one more clause is forgotten
+pub forgotten_lost : (a b c : Search) (id : ℕ) → 0 < id → HasForgotten a b → HasLost id b c → HasForgotten a c
+forgotten_lost a b c id some forgotten lost = record {
+  trail = ap (λ (s : Search). s.trail) lost.rest ∙ forgotten.trail;
+  starts = ap (λ (s : Search). s.starts) lost.rest ∙ forgotten.starts;
+  head = ap (λ (s : Search). s.head) lost.rest ∙ forgotten.head;
+  given = ap (λ (s : Search). s.given) lost.rest ∙ forgotten.given;
+  clauses = ap length lost.deleted.clauses ∙ length-set b.clauses.clauses (id - 1) None ∙ forgotten.clauses;
+  fewer = λ k clause is. forgotten.fewer k clause (still_live id b.clauses c.clauses k clause lost.deleted some is).0;
+}

@@ -1,0 +1,79 @@
+-- A search whose log gets a line that deletes what is gone.
+use Rattle.std.proofs.Common.{◌≡◌, ℕ, ◌+◌, ◌<◌, ◌∙◌, ℤ, List, [], length, Some, subst, sym, ap, arith}
+use Rattle.sat_theory.specs.Formula.{Formula}
+use Rattle.sat_theory.specs.Line.{Line}
+use Rattle.sat_theory.specs.Log.{IsThinned}
+use Rattle.lrat_text.specs.Values.{line_values}
+use Rattle.clause_db.specs.Stored.{Stored, live_in}
+use Rattle.cdcl_core.specs.declared.search.Search.{Search}
+use Rattle.cdcl_core.specs.Searching.{IsSearching, IsVisited, IsLog, AreNew, IsAccounted, IsLogged}
+use Rattle.cdcl_core.specs.Forgetting.{with_gone, IsPending, IsThick, HasForgotten}
+use Rattle.cdcl_core.proofs.Gone.{new_gone, log_thinned, log_all_gone}
+
+-- nothing is gone yet
+pub pending_none : (f : Formula) (s : Search) (ids : List ℕ) → ids ≡ [] → IsAccounted f s → IsPending f s ids
+pending_none f s ids none accounted = rw none (record { log = accounted.log; given = accounted.given })
+
+pub pending_logged : (f : Formula) (s : Search) (ids : List ℕ) → ids ≡ [] → IsLogged f s → IsPending f s ids
+pending_logged f s ids none logged = rw none (record { log = logged.log; given = logged.given })
+
+-- With the line the log is that of the clauses.
+pub accounted_written : (f : Formula) (s t : Search) (ids : List ℕ) → IsPending f s ids → line_values t.lines.items ≡ with_gone (line_values s.lines.items) (length s.clauses.clauses) ids → t ≡ record s { lines = t.lines } → IsAccounted f t
+accounted_written f s t ids pending lines same =
+    let clauses : t.clauses ≡ s.clauses = ap (λ (x : Search). x.clauses) same in
+    let deleted : t.deleted ≡ s.deleted = ap (λ (x : Search). x.deleted) same in
+    record {
+      log = subst (λ (x : Stored). IsLog f x (line_values t.lines.items) t.deleted) (sym clauses) (subst (λ (n : ℕ). IsLog f s.clauses (line_values t.lines.items) n) (sym deleted) (subst (λ (ls : List Line). IsLog f s.clauses ls s.deleted) (sym lines) pending.log));
+      given = ap (λ (x : Search). x.given) same ∙ pending.given;
+    }
+
+pub logged_written : (f : Formula) (a s t : Search) (ids : List ℕ) → IsLogged f a → s.lines ≡ a.lines → IsPending f s ids → line_values t.lines.items ≡ with_gone (line_values s.lines.items) (length s.clauses.clauses) ids → t ≡ record s { lines = t.lines } → IsLogged f t
+logged_written f a s t ids logged before pending lines same =
+    let accounted : IsAccounted f t = accounted_written f s t ids pending lines same in
+    let old : AreNew f (line_values s.lines.items) = subst (λ ls. AreNew f (line_values ls.items)) (sym before) logged.new in
+    record {
+      log = accounted.log;
+      new = subst (λ (ls : List Line). AreNew f ls) (sym lines) (new_gone f (line_values s.lines.items) (length s.clauses.clauses) ids old);
+      given = accounted.given;
+    }
+
+pub searching_written : (s t : Search) → IsSearching s → t ≡ record s { lines = t.lines } → IsSearching t
+searching_written s t searching same = subst (λ (x : Search). IsSearching x) (sym same) (record { stored = searching.stored; vars = searching.vars; layered = searching.layered; ready = searching.ready; choosing = searching.choosing })
+
+pub visited_written : (s t : Search) → IsVisited s → t ≡ record s { lines = t.lines } → IsVisited t
+visited_written s t visited same = subst (λ (x : Search). IsVisited x) (sym same) (record { guarded = visited.guarded; low = visited.low; begun = visited.begun })
+
+pub forgotten_written : (a s t : Search) → HasForgotten a s → t ≡ record s { lines = t.lines } → HasForgotten a t
+forgotten_written a s t forgotten same = subst (λ (x : Search). HasForgotten a x) (sym same) (record { trail = forgotten.trail; starts = forgotten.starts; head = forgotten.head; given = forgotten.given; clauses = forgotten.clauses; fewer = forgotten.fewer })
+
+-- what was noted of clauses before they are forgotten
+pub forgotten_noted : (a b c : Search) → b ≡ record a { merits = b.merits } → HasForgotten b c → HasForgotten a c
+forgotten_noted a b c same forgotten = record {
+  trail = forgotten.trail ∙ ap (λ (s : Search). s.trail) same;
+  starts = forgotten.starts ∙ ap (λ (s : Search). s.starts) same;
+  head = forgotten.head ∙ ap (λ (s : Search). s.head) same;
+  given = forgotten.given ∙ ap (λ (s : Search). s.given) same;
+  clauses = forgotten.clauses ∙ ap (λ (s : Search). length s.clauses.clauses) same;
+  fewer = λ id clause is. subst (λ (x : Stored). live_in x id ≡ Some clause) (ap (λ (s : Search). s.clauses) same) (forgotten.fewer id clause is);
+}
+
+pub searching_after : (a b : Search) → b ≡ record a { merits = b.merits } → IsSearching a → IsSearching b
+searching_after a b same searching = subst (λ (x : Search). IsSearching x) (sym same) (record { stored = searching.stored; vars = searching.vars; layered = searching.layered; ready = searching.ready; choosing = searching.choosing })
+
+pub visited_after : (a b : Search) → b ≡ record a { merits = b.merits } → IsVisited a → IsVisited b
+visited_after a b same visited = subst (λ (x : Search). IsVisited x) (sym same) (record { guarded = visited.guarded; low = visited.low; begun = visited.begun })
+
+pub logged_after : (f : Formula) (a b : Search) → b ≡ record a { merits = b.merits } → IsLogged f a → IsLogged f b
+logged_after f a b same logged = subst (λ (x : Search). IsLogged f x) (sym same) (record { log = logged.log; new = logged.new; given = logged.given })
+
+-- A log that isn't thick is thinned.
+pub thinned_written : (f : Formula) (s t : Search) → (IsThick s → ⊥) → t ≡ record s { lines = t.lines } → IsAccounted f t → IsThinned f (line_values t.lines.items)
+thinned_written f s t thin same accounted =
+    let still : IsThick t → ⊥ = subst (λ (x : Search). IsThick x → ⊥) (sym same) thin in
+    log_thinned f t.clauses (line_values t.lines.items) t.deleted accounted.log (λ less. still (omega (arith, less, accounted.given)))
+
+-- Where all learnt clauses are gone, the log isn't thick.
+pub thin_at_end : (f : Formula) (s : Search) (ids : List ℕ) → IsPending f s ids → ((id : ℕ) (clause : List ℤ) → s.given < id → live_in s.clauses id ≡ Some clause → ⊥) → IsThick s → ⊥
+thin_at_end f s ids pending none thick =
+    let all : length s.clauses.clauses ≡ length f.clauses + s.deleted = log_all_gone f s.clauses (with_gone (line_values s.lines.items) (length s.clauses.clauses) ids) s.deleted pending.log (λ id clause low live. none id clause (omega (arith, low, pending.given)) live) in
+    omega (arith, all, thick, pending.given)

@@ -1,0 +1,14 @@
+use Rattle.cdcl_core.proofs.Closing.{refuted_thin, spent_thin, kept_thin}
+use Rattle.cdcl_core.proofs.answering.log_of.Goals as goal
+
+pub returns-clause-refutes : goal.returns-clause-refutes
+returns-clause-refutes c = λ f refuted. refuted_thin f c.args.search c.thin.new.self refuted c.in_ok-thin.ensures.gone (c.in_ok-thin.ensures.accounted f refuted.accounted)
+
+pub returns-clause-spent : goal.returns-clause-spent
+returns-clause-spent c = λ f budget spent none. spent_thin f budget c.args.search c.thin.new.self spent c.in_ok-thin.ensures.gone (c.in_ok-thin.ensures.accounted f (record { log = spent.logged.log; given = spent.logged.given })) none
+
+pub returns-clause-kept : goal.returns-clause-kept
+returns-clause-kept c = λ f accounted. kept_thin f c.thin.new.self (c.in_ok-thin.ensures.accounted f accounted)
+
+pub returns-clause-thinned : goal.returns-clause-thinned
+returns-clause-thinned c = λ f accounted. c.in_ok-thin.ensures.thinned f accounted

@@ -1,0 +1,38 @@
+use Rattle.std.proofs.Common.{◌∙◌, ℕ, ◌+◌, ◌<◌, ◌≤◌, slice_index_or, length, ap, subst, sym}
+use Rattle.clause_db.specs.DeletingLaws.{some_live}
+use Rattle.clause_db.specs.Stored.{live_in}
+use Rattle.clause_db.specs.StoredLaws.{live_inside}
+use Rattle.cdcl_core.specs.declared.search.Search.{Search}
+use Rattle.cdcl_core.specs.Searching.{IsSearching, IsVisited}
+use Rattle.cdcl_core.specs.Forgetting.{MayGo, HasLost}
+use Rattle.cdcl_core.proofs.Losing.{searching_lost, visited_lost, forgotten_lost}
+use Rattle.cdcl_core.proofs.Writing.{searching_written, visited_written, forgotten_written, logged_written}
+use Rattle.cdcl_core.proofs.search.Search.forget.Goals as goal
+
+pub loop-id-preserved : goal.loop-id-preserved
+loop-id-preserved c =
+    let s : Search = c.loop-id.self in
+    let id : ℕ = slice_index_or c.args.ids.now c.loop-id.id-index 0 in
+    let may : MayGo s id = c.may_go.ensures c.if-not-may_go.false in
+    let lost : HasLost id s c.let_go.new.self = c.in_ok-let_go.ensures.lost in
+    let live = some_live (live_in s.clauses id) may.is_live in
+    let inside : (0 < id) × (id ≤ length s.clauses.clauses) = live_inside s.clauses id live.0 live.1 in
+    record {
+      searching = subst (λ (x : Search). IsSearching x) (sym lost.rest) (searching_lost s c.let_go.new.self.clauses id (s.deleted + 1) live.0 c.loop-id.invariant.searching c.in_ok-let_go.ensures.stored live.1 lost.deleted may.reason);
+      visited = subst (λ (x : Search). IsVisited x) (sym lost.rest) (visited_lost s c.let_go.new.self.clauses id (s.deleted + 1) inside.0 c.loop-id.invariant.visited lost.deleted);
+      forgotten = forgotten_lost c.args.self.now s c.let_go.new.self id inside.0 c.loop-id.invariant.forgotten lost;
+      lines = ap (λ (x : Search). x.lines) lost.rest ∙ c.loop-id.invariant.lines;
+      pending = λ f logged. c.in_ok-let_go.ensures.pending f (c.loop-id.invariant.pending f logged);
+    }
+
+pub returns-clause-searching : goal.returns-clause-searching
+returns-clause-searching c = searching_written c.loop-id.self c.write_gone.new.self c.loop-id.invariant.searching c.in_ok-write_gone.ensures.same
+
+pub returns-clause-visited : goal.returns-clause-visited
+returns-clause-visited c = visited_written c.loop-id.self c.write_gone.new.self c.loop-id.invariant.visited c.in_ok-write_gone.ensures.same
+
+pub returns-clause-forgotten : goal.returns-clause-forgotten
+returns-clause-forgotten c = forgotten_written c.args.self.now c.loop-id.self c.write_gone.new.self c.loop-id.invariant.forgotten c.in_ok-write_gone.ensures.same
+
+pub returns-clause-logged : goal.returns-clause-logged
+returns-clause-logged c = λ f logged. logged_written f c.args.self.now c.loop-id.self c.write_gone.new.self c.loop-id.gone.items logged c.loop-id.invariant.lines (c.loop-id.invariant.pending f logged) c.in_ok-write_gone.ensures.lines c.in_ok-write_gone.ensures.same

@@ -1,0 +1,14 @@
+use Rattle.std.proofs.Common.{◌≡◌}
+use Rattle.sat_theory.specs.Formula.{Formula}
+use Rattle.cdcl_core.specs.Searching.{IsSearching, IsVisited, IsLogged}
+use Rattle.cdcl_core.specs.Forgetting.{IsPending, HasForgotten}
+use Rattle.cdcl_core.proofs.search.Search.forget.Given as goal
+
+abbrev pub invariant-loop-id : goal.invariant-loop-id
+invariant-loop-id l = record {
+  searching : IsSearching l.self;
+  visited : IsVisited l.self;
+  forgotten : HasForgotten l.initial.self l.self;
+  lines : l.self.lines ≡ l.initial.self.lines;
+  pending : (f : Formula) → IsLogged f l.initial.self → IsPending f l.self l.gone.items;
+}

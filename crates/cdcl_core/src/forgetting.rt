@@ -1,0 +1,218 @@
+//! How a search forgets learnt clauses: they go from the clauses, and the log says so. A clause that is the reason of a
+//! true literal stays, so that all that is learnt later can be shown; and never more than half of what was learnt is
+//! gone, so that a log that comes to no end is short for its formula (`half` of `IsLog`). Which clauses go is chosen in
+//! `merits`. When a search has ended, no reason is needed any more, and what a log has too much of goes in the order
+//! of ids.
+ghost use Rattle.std.specs.Prelude.{◌≡◌, ◌<◌, ◌↔◌, length, IsTrue, IsFalse, IsSome, OnOk};
+ghost use Rattle.sat_theory.specs.Formula.{Formula, IsWithin};
+ghost use Rattle.sat_theory.specs.Log.{IsThinned};
+ghost use Rattle.lrat_text.specs.Values.{line_values};
+ghost use Rattle.clause_db.specs.Stored.{live_in, IsStored};
+ghost use Rattle.cdcl_core.specs.Forgetting.{NoneImplied};
+
+use crate::search::Search;
+use cnf_core::Lit;
+use lrat_text::Line;
+use std::alloc::AllocError;
+use trail_core::Trail;
+
+/// A log may have so many live additions without any deletion.
+const SLACK: u64 = 2000;
+
+/// Whether one of these literals is true by the clause of an id.
+fn has_implied(trail: &Trail, lits: &[Lit], id: u32) -> bool
+    requires { IsWithin trail.now.vars lits.now }
+    ensures { IsFalse result → NoneImplied trail.now lits.now (length lits.now) id }
+{
+    for index in 0..lits.len() {
+        let lit = lits[index];
+        if trail.fell(lit.opposite()) > 0 && trail.reason(lit) == id {
+            return true;
+        }
+    }
+    false
+}
+
+impl Search {
+    ghost use Rattle.cdcl_core.specs.Searching.{IsSearching, IsVisited, IsAccounted, IsLogged};
+    ghost use Rattle.cdcl_core.specs.Forgetting.{with_gone, IsPending, IsNoReason, HasHalf, MayGo, IsThick, HasLost, HasForgotten, MoreGone};
+
+    /// Whether a live clause is the reason of a true literal.
+    fn is_reason(&self, id: u32) -> bool
+        requires searching { IsSearching self.now }
+        requires live { IsSome (live_in self.now.clauses id) }
+        ensures { IsFalse result → IsNoReason self.now id }
+    {
+        has_implied(&self.trail, self.clauses.lits(id), id)
+    }
+
+    /// Whether one more learnt clause may go, so that half of them stay.
+    fn has_half(&self) -> bool
+        ensures { IsTrue result ↔ HasHalf self.now }
+    {
+        u64::from(self.clauses.last()) >= u64::from(self.given) + 2 * (u64::from(self.deleted) + 1)
+    }
+
+    /// Whether a clause may go.
+    fn may_go(&self, id: u32) -> bool
+        requires searching { IsSearching self.now }
+        ensures { IsTrue result → MayGo self.now id }
+    {
+        if id <= self.given || !self.has_half() || !self.clauses.live(id) {
+            return false;
+        }
+        !self.is_reason(id)
+    }
+
+    /// Lets a learnt clause go, and puts its id to those that the next line deletes.
+    fn let_go(&mut self, id: u32, gone: &mut Vec<u32>) -> Result<(), AllocError>
+        requires live { IsSome (live_in self.old.clauses id) }
+        requires learnt { self.old.given < id }
+        requires half { HasHalf self.old }
+        requires stored { IsStored self.old.clauses }
+        ensures lost { OnOk result (HasLost id self.old self.new) }
+        ensures stored { OnOk result (IsStored self.new.clauses) }
+        ensures pending { (f : Formula) → IsPending f self.old gone.old.items → OnOk result (IsPending f self.new gone.new.items) }
+    {
+        gone.push(id)?;
+        self.clauses.delete(id);
+        self.deleted += 1;
+        Ok(())
+    }
+
+    /// Writes the line that deletes ids, if there are any.
+    fn write_gone(&mut self, gone: Vec<u32>) -> Result<(), AllocError>
+        ensures lines { OnOk result (line_values self.new.lines.items ≡ with_gone (line_values self.old.lines.items) (length self.old.clauses.clauses) gone.items) }
+        ensures same { OnOk result (self.new ≡ record self.old { lines = self.new.lines }) }
+    {
+        if gone.is_empty() {
+            return Ok(());
+        }
+        self.lines.push(Line::Delete {
+            id: self.clauses.last(),
+            ids: gone,
+        })?;
+        Ok(())
+    }
+
+    /// Lets those of the clauses of some ids go that may go.
+    pub(crate) fn forget(&mut self, ids: &[u32]) -> Result<(), AllocError>
+        requires searching { IsSearching self.old }
+        requires visited { IsVisited self.old }
+        ensures searching { OnOk result (IsSearching self.new) }
+        ensures visited { OnOk result (IsVisited self.new) }
+        ensures forgotten { OnOk result (HasForgotten self.old self.new) }
+        ensures logged { (f : Formula) → IsLogged f self.old → OnOk result (IsLogged f self.new) }
+    {
+        let mut gone = Vec::new(*self.starts.allocator());
+        for id in ids {
+            if !self.may_go(*id) {
+                continue;
+            }
+            self.let_go(*id, &mut gone)?;
+        }
+        self.write_gone(gone)?;
+        Ok(())
+    }
+
+    /// Notes the clause that was learnt last, and forgets those before it that contain it.
+    pub(crate) fn review(&mut self) -> Result<(), AllocError>
+        requires searching { IsSearching self.old }
+        requires visited { IsVisited self.old }
+        ensures searching { OnOk result (IsSearching self.new) }
+        ensures visited { OnOk result (IsVisited self.new) }
+        ensures forgotten { OnOk result (HasForgotten self.old self.new) }
+        ensures logged { (f : Formula) → IsLogged f self.old → OnOk result (IsLogged f self.new) }
+    {
+        let contained = self.note_last()?;
+        self.forget(&contained)?;
+        Ok(())
+    }
+
+    /// Notes the clause that was learnt last, and gives the ids of the few before it that contain it.
+    fn note_last(&mut self) -> Result<Vec<u32>, AllocError>
+        requires searching { IsSearching self.old }
+        ensures { self.new ≡ record self.old { merits = self.new.merits } }
+    {
+        let alloc = *self.starts.allocator();
+        let last = self.clauses.last();
+        let Some(Line::Add { hints, .. }) = self.lines.last() else {
+            return Ok(Vec::new(alloc));
+        };
+        if !self.clauses.live(last) {
+            return Ok(Vec::new(alloc));
+        }
+        let lits = self.clauses.lits(last);
+        self.merits.count_parts(hints);
+        self.merits.note(&self.trail, &self.starts, lits)?;
+        self.merits.containing(alloc, &self.clauses, lits)
+    }
+
+    /// Forgets idle clauses, where it is time for that.
+    pub(crate) fn tidy(&mut self) -> Result<(), AllocError>
+        requires searching { IsSearching self.old }
+        requires visited { IsVisited self.old }
+        ensures searching { OnOk result (IsSearching self.new) }
+        ensures visited { OnOk result (IsVisited self.new) }
+        ensures forgotten { OnOk result (HasForgotten self.old self.new) }
+        ensures logged { (f : Formula) → IsLogged f self.old → OnOk result (IsLogged f self.new) }
+    {
+        let idle = self.due_ones()?;
+        self.forget(&idle)?;
+        Ok(())
+    }
+
+    /// The ids of idle clauses, where it is time for them to go.
+    fn due_ones(&mut self) -> Result<Vec<u32>, AllocError>
+        ensures { self.new ≡ record self.old { merits = self.new.merits } }
+    {
+        let alloc = *self.starts.allocator();
+        if !self.merits.is_due() {
+            return Ok(Vec::new(alloc));
+        }
+        self.merits.idle(alloc, &self.clauses)
+    }
+
+    /// Whether the log has too many live additions.
+    fn is_thick(&self) -> bool
+        ensures { IsTrue result ↔ IsThick self.now }
+    {
+        u64::from(self.clauses.last())
+            > u64::from(self.given)
+                + 4 * (u64::from(self.deleted) + u64::from(self.clauses.vars()) + SLACK)
+    }
+
+    /// Lets learnt clauses go, the first ones first, until few enough are live.
+    fn thin_out(&mut self, gone: &mut Vec<u32>) -> Result<(), AllocError>
+        requires stored { IsStored self.old.clauses }
+        ensures lines { OnOk result (self.new.lines ≡ self.old.lines) }
+        ensures pending { (f : Formula) → IsPending f self.old gone.old.items → OnOk result (IsPending f self.new gone.new.items) }
+        ensures thin { (f : Formula) → IsPending f self.old gone.old.items → OnOk result (IsThick self.new → ⊥) }
+    {
+        for index in self.given..self.clauses.last() {
+            let id = index + 1;
+            if !self.clauses.live(id) {
+                continue;
+            }
+            if !self.is_thick() {
+                return Ok(());
+            }
+            self.let_go(id, gone)?;
+        }
+        Ok(())
+    }
+
+    /// Lets learnt clauses go until the log has few enough of them. They may be reasons, so this is the end of a
+    /// search.
+    pub(crate) fn thin(&mut self) -> Result<(), AllocError>
+        requires stored { IsStored self.old.clauses }
+        ensures gone { OnOk result (MoreGone (line_values self.old.lines.items) (line_values self.new.lines.items)) }
+        ensures accounted { (f : Formula) → IsAccounted f self.old → OnOk result (IsAccounted f self.new) }
+        ensures thinned { (f : Formula) → IsAccounted f self.old → OnOk result (IsThinned f (line_values self.new.lines.items)) }
+    {
+        let mut gone = Vec::new(*self.starts.allocator());
+        self.thin_out(&mut gone)?;
+        self.write_gone(gone)?;
+        Ok(())
+    }
+}
