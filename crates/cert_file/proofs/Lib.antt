@@ -5,3 +5,5 @@ pub mod Refusing
 pub mod Blocks
 pub mod Chains
 pub mod Taking
+pub mod Cutting
+pub mod Verdicts

@@ -5,6 +5,7 @@ pub use Rattle.cert_theory.specs.PartLines
 pub use Rattle.cert_theory.specs.Judging
 pub use Rattle.cert_theory.specs.Gives
 pub mod Logged
+pub mod Reader
 pub mod Refusals
 pub mod Stages
 pub mod TextLines

@@ -5,7 +5,8 @@
 //! The theorem is that of `check_bundle`: bytes get a verdict exactly where they are the text of a
 //! valid bundle that has it, and the verdict is true; else the first fault is told. A text is judged
 //! a line at a time, and of the logs no more is kept than one part's checker: `PartReader` takes the log of a
-//! part wherever it stands, and `Stage` walks from part to part.
+//! part wherever it stands, and `Stage` walks from part to part. `BundleReader` takes the text in pieces, wherever
+//! it is cut; a whole text is one piece.
 //!
 //! ```text
 //! let verdict = check_bundle(alloc, &bytes)?; // Verdict::Minimum(1) for XOR
@@ -18,7 +19,9 @@ mod formulas;
 mod heading;
 mod lines;
 mod logs;
+mod onward;
 mod part;
+mod reader;
 mod sections;
 mod stage;
 mod titles;
@@ -26,3 +29,4 @@ mod titles;
 pub use cert_theory::{BundleError, Ended, Heading, PartError, Verdict};
 pub use checking::check_bundle;
 pub use part::{PartReader, PartStep};
+pub use reader::BundleReader;

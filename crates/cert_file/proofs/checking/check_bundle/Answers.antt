@@ -12,15 +12,12 @@ use Rattle.cert_theory.specs.Spelling.{IsBundle, HasVerdict}
 use Rattle.cert_theory.specs.Judging.{bundle_of}
 use Rattle.cert_theory.specs.Gives.{Gives}
 use Rattle.cert_laws.specs.BundleSpellings.{verdict_spelled}
+use Rattle.cert_file.proofs.Verdicts.{spelled, accepted}
 use Rattle.cert_theory.specs.Question.{HasQuestion}
 use Rattle.cert_laws.specs.BundlesAgain.{text_again}
 use Rattle.cert_laws.specs.QuestionLaws.{bundle_asks, verdict_answers}
 use Rattle.cert_laws.specs.Meanings.{verdict_true}
 use Rattle.cert_file.proofs.checking.check_bundle.Goals as goal
-
-spelled : (bytes : List ℕ) (r : Result Verdict BundleError) → Gives (λ (v : Verdict). v) r (bundle_of (lines_of bytes)) → IfOk r (λ v. HasVerdict bytes v)
-spelled bytes (Ok v) gives = verdict_spelled bytes v gives
-spelled bytes (Err e) gives = tt
 
 verdict_is : (bytes : List ℕ) (v w : Verdict) → bundle_of (lines_of bytes) ≡ Ok v → bundle_of (lines_of bytes) ≡ Ok w → v ≡ w
 verdict_is bytes v w one two = cc
@@ -51,7 +48,7 @@ pub returns-clause-verdict : goal.returns-clause-verdict
 returns-clause-verdict c = spelled c.args.bytes.now c.judge.result c.judge.ensures
 
 pub returns-clause-accepted : goal.returns-clause-accepted
-returns-clause-accepted c = λ b is. subst (λ (r : Result Verdict BundleError). Gives (λ (v : Verdict). v) c.judge.result r) (text_again c.args.bytes.now b is) c.judge.ensures
+returns-clause-accepted c = λ b is. accepted c.args.bytes.now b c.judge.result is c.judge.ensures
 
 pub returns-clause-means : goal.returns-clause-means
 returns-clause-means c = true_verdict c.args.bytes.now c.judge.result c.judge.ensures

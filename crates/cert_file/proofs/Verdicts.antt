@@ -1,0 +1,19 @@
+-- What is judged as the definition says, has the verdicts of valid bundles.
+use Rattle.std.proofs.Common.{◌≡◌, List, ℕ, Result, Ok, Err, subst}
+use Rattle.std.specs.Prelude.{IfOk}
+use Rattle.text_core.specs.Lines.{lines_of}
+use Rattle.cert_theory.specs.declared.data.Verdict.{Verdict}
+use Rattle.cert_theory.specs.declared.data.BundleError.{BundleError}
+use Rattle.cert_theory.specs.Bundle.{Bundle}
+use Rattle.cert_theory.specs.Spelling.{IsBundle, HasVerdict}
+use Rattle.cert_theory.specs.Judging.{bundle_of}
+use Rattle.cert_theory.specs.Gives.{Gives}
+use Rattle.cert_laws.specs.BundleSpellings.{verdict_spelled}
+use Rattle.cert_laws.specs.BundlesAgain.{text_again}
+
+pub spelled : (bytes : List ℕ) (r : Result Verdict BundleError) → Gives (λ (v : Verdict). v) r (bundle_of (lines_of bytes)) → IfOk r (λ v. HasVerdict bytes v)
+spelled bytes (Ok v) gives = verdict_spelled bytes v gives
+spelled bytes (Err e) gives = tt
+
+pub accepted : (bytes : List ℕ) (b : Bundle) (r : Result Verdict BundleError) → IsBundle bytes b → Gives (λ (v : Verdict). v) r (bundle_of (lines_of bytes)) → Gives (λ (v : Verdict). v) r (Ok b.verdict)
+accepted bytes b r is gives = subst (λ (read : Result Verdict BundleError). Gives (λ (v : Verdict). v) r read) (text_again bytes b is) gives

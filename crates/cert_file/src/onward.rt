@@ -1,0 +1,86 @@
+//! From stage to stage, a line at a time. The argument: a stage stands for the answer of the whole text, whatever
+//! lines come next, so the first refusal is that of the text; and at the end the stage is the answer.
+ghost use Rattle.std.specs.Prelude.{◌≡◌, ◌+◌, ◌^◌, ◌<◌, List, [], ◌∷◌, IfOk};
+ghost use Rattle.text_core.specs.Lines.{Line};
+ghost use Rattle.cert_theory.specs.Gives.{Gives};
+ghost use Rattle.cert_file.specs.TextLines.{line_of};
+ghost use Rattle.cert_file.specs.Stages as stages;
+ghost use Rattle.cert_file.specs.Stages.{Answer, IsStage, Stands, Judged};
+
+use crate::ending::{at_end, at_found, at_outs, at_steps};
+use crate::heading::{at_conflicts, at_inputs, at_max, at_method, at_start, at_tables};
+use crate::lines::TextLine;
+use crate::logs::{at_begun, at_within};
+use crate::sections::at_between;
+use crate::stage::Stage;
+use crate::titles::at_due;
+use cert_theory::{BundleError, Verdict};
+use std::alloc::Global;
+
+/// Takes the next line.
+pub(crate) fn take(alloc: Global, stage: Stage, line: &TextLine) -> Result<Stage, BundleError>
+    requires stage { IsStage stage line.now.number }
+    requires number { line.now.number < 2 ^ 31 }
+    ensures keeps { IfOk result (λ s. IsStage s (line.now.number + 1)) }
+    ensures answer { (lines ls : List Line) (answer : Answer) → Stands stage line.now.number lines answer →
+        lines ≡ line_of line.now ∷ ls → Judged result (line.now.number + 1) ls answer }
+{
+    match stage {
+        Stage::Start => at_start(line),
+        Stage::Inputs => at_inputs(alloc, line),
+        Stage::Tables { n, on, care } => at_tables(alloc, n, on, care, line),
+        Stage::Methods { spec, basis } => at_method(spec, basis, line),
+        Stage::Conflicts {
+            spec,
+            basis,
+            method,
+        } => at_conflicts(spec, basis, method, line),
+        Stage::Sizes {
+            spec,
+            basis,
+            method,
+            conflicts,
+        } => at_max(spec, basis, method, conflicts, line),
+        Stage::Between { heading, size, low } => { at_between(alloc, heading, size, low, line) }
+        Stage::Due { running } => at_due(alloc, running, line),
+        Stage::Begun { running } => at_begun(alloc, running, line),
+        Stage::Within { running, reader } => at_within(alloc, running, reader, line),
+        Stage::Steps {
+            heading,
+            low,
+            frame,
+            steps,
+        } => at_steps(alloc, heading, low, frame, steps, line),
+        Stage::Outs {
+            heading,
+            low,
+            frame,
+            steps,
+            outs,
+        } => at_outs(heading, low, frame, steps, outs, line),
+        Stage::Found { size, low } => at_found(size, low, line),
+        Stage::End { verdict } => at_end(verdict, line),
+        Stage::Done { .. } => Err(BundleError::Syntax(line.number)),
+    }
+}
+
+/// The verdict, where nothing is due.
+fn verdict_in(stage: Stage) -> Option<Verdict>
+    ensures { result ≡ stages.verdict_in stage }
+{
+    match stage {
+        Stage::Done { verdict } => Some(verdict),
+        _ => None,
+    }
+}
+
+/// What the lines come to, where none is left.
+pub(crate) fn verdict_of(stage: Stage, number: u32) -> Result<Verdict, BundleError>
+    requires { IsStage stage number }
+    ensures { (answer : Answer) → Stands stage number [] answer → Gives (λ v. v) result answer }
+{
+    let Some(verdict) = verdict_in(stage) else {
+        return Err(BundleError::Syntax(number));
+    };
+    Ok(verdict)
+}
