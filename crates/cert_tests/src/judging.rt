@@ -5,7 +5,7 @@ use std::alloc::{AllocError, Global};
 use std::test::Fail;
 
 /// Not by AND alone: no chain of at most one step, with a log for either size.
-const NOT_BY_AND: [&[u8]; 17] = [
+pub(crate) const NOT_BY_AND: [&[u8]; 17] = [
     b"chains 1",
     b"inputs 1",
     b"10",
@@ -26,7 +26,7 @@ const NOT_BY_AND: [&[u8]; 17] = [
 ];
 
 /// XOR in one step.
-const XOR: [&[u8]; 15] = [
+pub(crate) const XOR: [&[u8]; 15] = [
     b"chains 1",
     b"inputs 2",
     b"0110",
@@ -46,7 +46,7 @@ const XOR: [&[u8]; 15] = [
 
 /// The text of some lines, where two are replaced. Lines are numbered from 1, and what stands in their
 /// place is whole lines with their ends, or nothing.
-fn text_of(
+pub(crate) fn text_of(
     alloc: Global,
     lines: &[&[u8]],
     first: (usize, &[u8]),
@@ -168,7 +168,7 @@ fn chains_are_judged(rt: HostRuntime) -> Result<(), Fail> {
 }
 
 /// The same by fences: each size has one, and its parts bear titles.
-const NOT_BY_FENCES: [&[u8]; 19] = [
+pub(crate) const NOT_BY_FENCES: [&[u8]; 19] = [
     b"chains 1",
     b"inputs 1",
     b"10",

@@ -1,10 +1,13 @@
 //! What `synth` makes of tables.
+ghost use Rattle.std.specs.Prelude.{◌^◌, ◌<◌, length};
+ghost use Rattle.settings.specs.Synth.{IsInRange};
+
 use bundle_core::Verdict;
 use op_basis::Basis;
 use settings::Method;
 use std::alloc::Global;
 use std::test::Fail;
-use synth_core::{Certificate, SynthSettings, synthesise};
+use synth_core::{Certificate, Piece, SynthSettings, begin, go_on, synthesise};
 use tt_core::SpecError;
 
 const ALL: u16 = 65_535;
@@ -137,6 +140,48 @@ fn only_tables_are_read(rt: HostRuntime) -> Result<(), Fail> {
     ] {
         let found = certified(rt.alloc(), text, ALL, Method::Ssv, 16, 1).err();
         assert_eq!(rt; found, Some(error));
+    }
+    Ok(())
+}
+
+/// The text of a certificate that is handed out a size at a time.
+fn piece_by_piece(alloc: Global, text: &[u8], asked: &SynthSettings) -> Result<Vec<u8>, SpecError>
+    requires length { length text.now < 2 ^ 31 }
+    requires range { IsInRange asked.now }
+{
+    let begun = begin(alloc, text, asked)?;
+    let mut whole = begun.text;
+    let mut search = begun.search;
+    // no more sizes than there are
+    for _size in 0..18u32 {
+        match go_on(alloc, search)? {
+            Piece::Section { search: next, text } => {
+                whole.extend_from_slice(&text)?;
+                search = next;
+            }
+            Piece::Ending { text, .. } => {
+                whole.extend_from_slice(&text)?;
+                return Ok(whole);
+            }
+        }
+    }
+    Err(SpecError::Memory)
+}
+
+#[test]
+fn pieces_are_the_certificate(rt: HostRuntime) -> Result<(), Fail> {
+    let alloc = rt.alloc();
+    for text in [
+        b"inputs 2\n0110\n" as &[u8],
+        b"inputs 3\n00000001\n",
+        b"inputs 1\n01\nend\n",
+    ] {
+        let asked = SynthSettings::usual();
+        let whole = match synthesise(alloc, text, &asked) {
+            Ok(certificate) => Ok(certificate.text),
+            Err(error) => Err(error),
+        };
+        assert!(rt; piece_by_piece(alloc, text, &asked) == whole);
     }
     Ok(())
 }

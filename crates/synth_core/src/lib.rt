@@ -2,8 +2,9 @@
 //! bytes that it reads. It stands on `tt_core` for reading tables, on `size_loop` for the search and
 //! on `bundle_text` for writing certificates; what is asked beside the tables are `SynthSettings`.
 //!
-//! The one theorem is that of `synthesise`: what it answers is the text of a valid certificate for the
-//! tables that it was given, and it refuses exactly what isn't tables alone.
+//! The theorem is that of `synthesise`: what it answers is the text of a valid certificate for the
+//! tables that it was given, and it refuses exactly what isn't tables alone. `begin` and `go_on` write the same
+//! text while it is searched, a section at a time, and keep nothing of what they have handed out.
 //!
 //! ```text
 //! let certificate = synthesise(alloc, b"inputs 2\n0110\n", &SynthSettings::usual())?;
@@ -12,7 +13,9 @@
 #![tactic(auto)]
 
 mod certificate;
+mod pieces;
 
 pub use bundle_core::Verdict;
 pub use certificate::{Certificate, synthesise};
+pub use pieces::{Begun, Piece, begin, go_on};
 pub use settings::SynthSettings;

@@ -1,0 +1,77 @@
+//! A certificate that is written while it is searched: the heading, each section as soon as it stands, and the
+//! ending. Nothing of a section is kept when its text is handed out.
+ghost use Rattle.std.specs.Prelude.{◌^◌, ◌<◌, List, ℕ, length, IfOk, IfErr};
+ghost use Rattle.text_core.specs.Lines.{lines_of};
+ghost use Rattle.settings.specs.Synth.{IsInRange};
+ghost use Rattle.settings.specs.declared.synth.SynthSettings.{SynthSettings};
+ghost use Rattle.tt_core.specs.Gives.{Fails};
+ghost use Rattle.synth_core.specs.Pieces.{IsUnderWay, GoesOn, GoesUp};
+ghost use Rattle.synth_core.specs.Tables.{tables_alone};
+
+use crate::certificate::tables;
+use bundle_core::Verdict;
+use bundle_text::{write_ending, write_heading, write_section};
+use settings::SynthSettings;
+use size_loop::{Advance, Search};
+use std::alloc::{AllocError, Global};
+use tt_core::SpecError;
+
+/// A search before its first size.
+#[derive(Debug, Drop)]
+pub struct Begun {
+    pub search: Search,
+    /// The heading of its certificate, as it is written.
+    pub text: Vec<u8>,
+}
+
+/// What the next size adds to the certificate.
+#[derive(Debug, Drop)]
+pub enum Piece {
+    /// A section, and the search behind it.
+    Section { search: Search, text: Vec<u8> },
+    /// The ending.
+    Ending { text: Vec<u8>, verdict: Verdict },
+}
+
+/// Begins a search for a chain of the fewest steps that agrees with the tables in the bytes. A line behind the
+/// tables is refused as `BadRow`.
+#[tactic(auto, using(crate::proofs::UnderWay::under_way))]
+pub fn begin(alloc: Global, bytes: &[u8], asked: &SynthSettings) -> Result<Begun, SpecError>
+    requires length { length bytes.now < 2 ^ 31 }
+    requires range { IsInRange asked.now }
+    ensures begun { IfOk result (λ b. IsUnderWay bytes.now asked.now b.search b.text.items) }
+    ensures refusal { IfErr result (λ e. Fails e (tables_alone (lines_of bytes.now))) }
+{
+    let spec = tables(alloc, bytes)?;
+    let mut text = Vec::new(alloc);
+    write_heading(
+        &spec,
+        asked.basis,
+        asked.method,
+        asked.conflicts,
+        asked.max,
+        &mut text,
+    )?;
+    let search = Search::new(spec, asked.basis, asked.method, asked.max, asked.conflicts);
+    Ok(Begun { search, text })
+}
+
+/// Searches the next size, and writes what it adds.
+#[tactic(auto, using(crate::proofs::UnderWay::under_way))]
+pub fn go_on(alloc: Global, search: Search) -> Result<Piece, AllocError>
+    ensures piece { IfOk result (λ piece. (bytes : List ℕ) (asked : SynthSettings) (before : List ℕ) →
+        IsUnderWay bytes asked search before → GoesOn bytes asked before piece) }
+    ensures up { IfOk result (λ piece. GoesUp search piece) }
+{
+    let mut text = Vec::new(alloc);
+    match search.advance(alloc)? {
+        Advance::Section { rest, section } => {
+            write_section(&section, &mut text)?;
+            Ok(Piece::Section { search: rest, text })
+        }
+        Advance::Ended { chain, verdict } => {
+            write_ending(&chain, verdict, &mut text)?;
+            Ok(Piece::Ending { text, verdict })
+        }
+    }
+}
