@@ -4,7 +4,6 @@ use Rattle.std.proofs.Common.{refl}
 use Rattle.std.proofs.lemmas.Grind.{common_steps}
 use Rattle.frame_core.specs.declared.replies.Field.{Field}
 use Rattle.frame_core.specs.declared.replies.Field.TheVariants.{Nothing, Known, Count, Name}
-use Rattle.frame_core.specs.Told as told
 use Rattle.frame_core.specs.Views.{shown}
 
 pub shown_behind : (lead : Field) (fields : List Field) → shown (lead ∷ fields) ≡ shown (lead ∷ []) ++ shown fields

@@ -9,7 +9,7 @@ use Rattle.frame_core.specs.declared.status.Status.{Status}
 use Rattle.frame_core.specs.declared.status.Status.TheVariants as statuses
 use Rattle.frame_core.specs.Outside.{Side, Writes}
 use Rattle.frame_core.specs.Told.{Reply, Refusal, error_line, read_fault, write_fault, too_long, memory, too_long_refusal, read_fault_refusal, memory_refusal}
-use Rattle.frame_core.specs.Task.{Task, Tells, Refuses, HasNoReport, IsBeyond, IsAnswerable, IsRefusalStatus, IsTask}
+use Rattle.frame_core.specs.Task.{Task, IsAnswerFront, IsBegunFront, MayStand, Tells, Refuses, HasNoReport, IsBeyond, IsAnswerable, IsRefusalStatus, IsTask}
 use Rattle.frame_core.specs.Run.{Outcome, ReadFault, TooLong, Memory, Answered, CutShort, Starved, ReportCut, NoAnswer, status_of, Run, IsRun, IsInput, HasInput, SourceRead, SourceLeft, SourceAfter, OutAfter, Reports, ReportsFront}
 use Rattle.frame_core.specs.Promise.{InputHeld, OutputHeld, AllSteady, Stands, TellsError, Replies, Faults, ReplyCut, ReportCut as CutReport, ReplyStarved, OfInput, IsTooLong, CommandPromise}
 
@@ -147,6 +147,21 @@ has_answer : {A : Type 0} (task : Task) (r : Run) (bytes input : List ℕ) (repl
 has_answer task r bytes input reply are told tells none =
     absurd (none tells.answer (subst (λ (bs : List ℕ). task.Has bs tells.answer) (input_is task.reads r.source.bytes bytes input are told) tells.has))
 
+-- what may stand on the output is no fault's, and no input's that is too long
+no_fault_stands : {A : Type 0} (task : Task) (input front : List ℕ) (fault : task.Fault) → IsTask task → MayStand task input front → task.Meets input fault → A
+no_fault_stands task input front fault is stands meets =
+    ⊎_elim
+    (λ (of : IsAnswerFront task input front). absurd (is.apart input of.answer fault of.has meets))
+    (λ (of : IsBegunFront task input front). absurd (is.begins_apart input of.text fault of.begins meets))
+    stands
+
+none_beyond_stands : {A : Type 0} (task : Task) (input front : List ℕ) → IsTask task → MayStand task input front → IsBeyond task.reads input → A
+none_beyond_stands task input front is stands long =
+    ⊎_elim
+    (λ (of : IsAnswerFront task input front). absurd (is.answer_within input of.answer of.has long))
+    (λ (of : IsBegunFront task input front). absurd (is.begins_within input of.text of.begins long))
+    stands
+
 refused : (task : Task) (r : Run) (o : Outcome) (input : List ℕ) (fault : task.Fault) → IsTask task → IsRun task r o → HasInput task.reads r.source.bytes input → task.Meets input fault → InputHeld r → TellsError r (task.refusal fault)
 refused task r ReadFault input fault is run told meets held = absurd (held.source (source_rose task.reads r.source r.source' run.on_source))
 refused task r TooLong input fault is run told meets held = absurd (is.fault_within input fault meets (run.judged input told))
@@ -154,7 +169,7 @@ refused task r Memory input fault is run told meets held = absurd (held.memory r
 refused task r (Answered reply) input fault is run told meets held = has_answer task r run.bytes input reply run.judged.0 told run.judged.1 (λ answer has. is.apart input answer fault has meets)
 refused task r CutShort input fault is run told meets held =
     let cut : ReplyCut task r input = of_input task r (ReplyCut task r) input (reply_cut task r run) told in
-    absurd (is.apart input cut.leaves.answer fault cut.leaves.has meets)
+    no_fault_stands task input cut.front fault is cut.leaves meets
 refused task r Starved input fault is run told meets held = absurd (held.memory run.status_is)
 refused task r (ReportCut reply) input fault is run told meets held = has_answer task r run.bytes input reply run.judged.0 told run.judged.1 (λ answer has. is.apart input answer fault has meets)
 refused task r (NoAnswer refusal) input fault is run told meets held =
@@ -168,7 +183,7 @@ too_long_told task r Memory input is run told long held = absurd (held.memory ru
 too_long_told task r (Answered reply) input is run told long held = has_answer task r run.bytes input reply run.judged.0 told run.judged.1 (λ answer has. is.answer_within input answer has long)
 too_long_told task r CutShort input is run told long held =
     let cut : ReplyCut task r input = of_input task r (ReplyCut task r) input (reply_cut task r run) told in
-    absurd (is.answer_within input cut.leaves.answer cut.leaves.has long)
+    none_beyond_stands task input cut.front is cut.leaves long
 too_long_told task r Starved input is run told long held = absurd (held.memory run.status_is)
 too_long_told task r (ReportCut reply) input is run told long held = has_answer task r run.bytes input reply run.judged.0 told run.judged.1 (λ answer has. is.answer_within input answer has long)
 too_long_told task r (NoAnswer refusal) input is run told long held =

@@ -7,6 +7,7 @@ pub mod Promise
 pub mod ReadOffLaws
 pub mod Run
 pub mod Statuses
+pub mod Streaming
 pub mod Task
 pub mod TaskLaws
 pub mod Told

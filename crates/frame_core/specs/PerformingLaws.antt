@@ -1,6 +1,6 @@
 -- From what a command did with bytes to what performing it comes to.
 use Rattle.std.specs.Prelude.{◌≡◌, ℕ, ◌≤◌, true, List, [], Option, Some, None, take, drop, Result, Ok, Err}
-use Rattle.std.proofs.Common.{sym, ◌∙◌, ap, subst, refl, arith}
+use Rattle.std.proofs.Common.{sym, ◌∙◌, ap, subst, refl, arith, inl, inr}
 use Rattle.std.proofs.lemmas.Grind.{common_steps}
 use Rattle.port_io.specs.Bytes.{Appends, AppendsFront}
 use Rattle.port_io.specs.Faults.{Rose}
@@ -118,9 +118,17 @@ left_of task bytes reply old new tells front =
     let same : reply.text ≡ text = ap (λ (x : told.Reply). x.text) tells.is in
     record {
       front = take front.count text;
-      leaves = record { answer = tells.answer; has = tells.has; is_front = record { rest = drop front.count text; is = grind (arith, common_steps) } };
+      leaves = inl (record { answer = tells.answer; has = tells.has; is_front = record { rest = drop front.count text; is = grind (arith, common_steps) } });
       on_out = subst (λ (t : List ℕ). Appends old.bytes new.bytes (take front.count t)) same front.appends;
     }
+
+-- And so may one of a text that has gone out before the answer was known.
+pub begun_left_of : (task : Task) (bytes text : List ℕ) (old new : Side) → task.Begins bytes text → AppendsFront old.bytes new.bytes text → IsLeft task bytes old new
+begun_left_of task bytes text old new begins front = record {
+  front = take front.count text;
+  leaves = inr (record { text = text; begins = begins; is_front = record { rest = drop front.count text; is = grind (arith, common_steps) } });
+  on_out = front.appends;
+}
 
 sent_judged : (task : Task) (bytes : List ℕ) (reply : told.Reply) (o : Outcome) → Tells task bytes reply → IsSent reply o → IsJudged task bytes o
 sent_judged task bytes reply ReadFault tells is = absurd is

@@ -5,7 +5,7 @@ use Rattle.port_io.specs.Faults.{Rose}
 use Rattle.frame_core.specs.declared.status.Status.TheVariants.{Done, Malformed, Limit, Undecided, ReadFault, WriteFault, Memory, Refused}
 use Rattle.frame_core.specs.Outside.{Side, Writes}
 use Rattle.frame_core.specs.Told.{Reply, Refusal, error_line, write_fault, memory, too_long_refusal, read_fault_refusal, memory_refusal}
-use Rattle.frame_core.specs.Task.{Task, IsAnswerFront, HasNoReport, IsBeyond, IsAnswerable}
+use Rattle.frame_core.specs.Task.{Task, MayStand, HasNoReport, IsBeyond, IsAnswerable}
 use Rattle.frame_core.specs.Run.{Run, IsInput, HasInput, Reports, ReportsFront}
 
 -- ---- what didn't fail
@@ -58,7 +58,7 @@ pub record Faults (task : Task) (r : Run) (input : List ℕ) : Type 0 where
 -- The output failed in the text of an answer: a front of it stands there, and the fault is told.
 pub record ReplyCut (task : Task) (r : Run) (input : List ℕ) : Type 0 where
   pub front : List ℕ
-  pub leaves : IsAnswerFront task input front
+  pub leaves : MayStand task input front
   pub on_out : Appends r.out.bytes r.out'.bytes front
   pub rose : Rose r.out.faults r.out'.faults
   pub on_note : Writes r.note r.note' (error_line write_fault)
@@ -81,7 +81,7 @@ pub record ReportCut (task : Task) (r : Run) (input : List ℕ) : Type 0 where
 pub record ReplyStarved (task : Task) (r : Run) (input : List ℕ) : Type 0 where
   pub in_pieces : task.in_pieces ≡ true
   pub front : List ℕ
-  pub leaves : IsAnswerFront task input front
+  pub leaves : MayStand task input front
   pub on_out : Appends r.out.bytes r.out'.bytes front
   pub on_note : Writes r.note r.note' (error_line memory)
 

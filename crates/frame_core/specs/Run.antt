@@ -6,7 +6,7 @@ use Rattle.frame_core.specs.declared.status.Status.{Status}
 use Rattle.frame_core.specs.declared.status.Status.TheVariants as statuses
 use Rattle.frame_core.specs.Outside.{Side, side, Writes}
 use Rattle.frame_core.specs.Told.{Reply, Field, Refusal, error_line, read_fault, write_fault, too_long, memory}
-use Rattle.frame_core.specs.Task.{Task, IsAnswerFront, Tells, Refuses, IsBeyond}
+use Rattle.frame_core.specs.Task.{Task, MayStand, Tells, Refuses, IsBeyond}
 
 -- How the run of a command ends: the source failed; it had more bytes than are read; want of memory
 -- before anything went out; the reply stands outside, whole; the output failed in its text; want of memory
@@ -56,10 +56,10 @@ abbrev pub HasInput : Option ℕ → Option (List ℕ) → List ℕ → Type 0
 HasInput None left input = input ≡ []
 HasInput (Some most) left input = left ≡ Some input
 
--- A front of an answer's text stands on the output.
+-- What may stand on the output where a text was cut does.
 pub record IsLeft (task : Task) (bytes : List ℕ) (old new : Side) : Type 0 where
   pub front : List ℕ
-  pub leaves : IsAnswerFront task bytes front
+  pub leaves : MayStand task bytes front
   pub on_out : Appends old.bytes new.bytes front
 
 -- The outcome is that of the bytes which were judged.

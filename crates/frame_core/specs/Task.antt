@@ -18,18 +18,33 @@ pub record Task : Type 1 where
   -- whether the text goes out in pieces, while more of it is made. Else it goes out at once, when nothing
   -- takes memory any more.
   pub in_pieces : Bool
+  -- the texts that may have gone out for bytes whose answer isn't known yet
+  pub Begins : List ℕ → List ℕ → Type 0
 
 -- The front is one of the text.
 pub record IsFront (front text : List ℕ) : Type 0 where
   pub rest : List ℕ
   pub is : text ≡ front ++ rest
 
--- It is one of the text of an answer that the bytes have. Nothing else may stand on the output where a text
--- was cut, also where it goes out in pieces: these begin an answer, however many of them there are yet.
+-- It is one of the text of an answer that the bytes have.
 pub record IsAnswerFront (task : Task) (bytes front : List ℕ) : Type 0 where
   pub answer : task.Answer
   pub has : task.Has bytes answer
   pub is_front : IsFront front (task.reply answer).text
+
+-- It is one of a text that may have gone out before the answer is known.
+pub record IsBegunFront (task : Task) (bytes front : List ℕ) : Type 0 where
+  pub text : List ℕ
+  pub begins : task.Begins bytes text
+  pub is_front : IsFront front text
+
+-- Nothing else may stand on the output where a text was cut, also where it goes out in pieces.
+abbrev pub MayStand : Task → List ℕ → List ℕ → Type 0
+MayStand task bytes front = IsAnswerFront task bytes front ⊎ IsBegunFront task bytes front
+
+-- no text goes out before the answer is known
+abbrev pub begins_none : List ℕ → List ℕ → Type 0
+begins_none bytes text = ⊥
 
 -- A command that reads, and whose text goes out at once.
 abbrev pub at_once : ℕ → (Answer : Type 0) → (List ℕ → Answer → Type 0) → (Answer → Reply) → (Fault : Type 0) → (List ℕ → Fault → Type 0) → (Fault → Refusal) → Task
@@ -42,11 +57,12 @@ at_once most Answer Has reply Fault Meets refusal = record {
   Meets = Meets;
   refusal = refusal;
   in_pieces = false;
+  Begins = begins_none;
 }
 
--- A command whose text goes out in pieces.
-abbrev pub in_pieces : Option ℕ → (Answer : Type 0) → (List ℕ → Answer → Type 0) → (Answer → Reply) → (Fault : Type 0) → (List ℕ → Fault → Type 0) → (Fault → Refusal) → Task
-in_pieces reads Answer Has reply Fault Meets refusal = record {
+-- A command whose text goes out in pieces, the first of them maybe before its answer is known.
+abbrev pub in_pieces : Option ℕ → (Answer : Type 0) → (List ℕ → Answer → Type 0) → (Answer → Reply) → (Fault : Type 0) → (List ℕ → Fault → Type 0) → (Fault → Refusal) → (List ℕ → List ℕ → Type 0) → Task
+in_pieces reads Answer Has reply Fault Meets refusal Begins = record {
   reads = reads;
   Answer = Answer;
   Has = Has;
@@ -55,6 +71,7 @@ in_pieces reads Answer Has reply Fault Meets refusal = record {
   Meets = Meets;
   refusal = refusal;
   in_pieces = true;
+  Begins = Begins;
 }
 
 -- A command that reads nothing, has no faults, and whose text goes out at once.
@@ -68,6 +85,7 @@ from_nothing Answer Is reply = record {
   Meets = λ (bytes : List ℕ) (fault : ⊥). ⊥;
   refusal = λ (fault : ⊥). absurd fault;
   in_pieces = false;
+  Begins = begins_none;
 }
 
 -- The bytes have an answer that this reply tells.
@@ -109,7 +127,8 @@ IsAnswerStatus s = (s ≡ Done) ⊎ ((s ≡ Undecided) ⊎ (s ≡ Refused))
 abbrev pub IsRefusalStatus : Status → Type 0
 IsRefusalStatus s = (s ≡ Malformed) ⊎ ((s ≡ Limit) ⊎ (s ≡ Refused))
 
--- Bytes have answers or one refusal at most, never both, and beyond the limit neither.
+-- Bytes have answers or one refusal at most, never both, and beyond the limit neither. A text that may have gone
+-- out before the answer is known is none of a fault's, nor one beyond the limit.
 pub record IsTask (task : Task) : Type 0 where
   pub replies : (answer : task.Answer) → IsAnswerStatus (task.reply answer).status
   pub refusals : (bytes : List ℕ) (fault : task.Fault)
@@ -129,5 +148,13 @@ pub record IsTask (task : Task) : Type 0 where
       → ⊥
   pub fault_within : (bytes : List ℕ) (fault : task.Fault)
       → task.Meets bytes fault
+      → IsBeyond task.reads bytes
+      → ⊥
+  pub begins_apart : (bytes text : List ℕ) (fault : task.Fault)
+      → task.Begins bytes text
+      → task.Meets bytes fault
+      → ⊥
+  pub begins_within : (bytes text : List ℕ)
+      → task.Begins bytes text
       → IsBeyond task.reads bytes
       → ⊥

@@ -23,24 +23,30 @@ at_once_task most Answer Has reply Fault Meets refusal replies refusals apart on
   one = one;
   answer_within = λ bytes answer has long. not_beyond most bytes (answer_within bytes answer has) long;
   fault_within = λ bytes fault meets long. not_beyond most bytes (fault_within bytes fault meets) long;
+  begins_apart = λ bytes text fault begins meets. begins;
+  begins_within = λ bytes text begins long. begins;
 }
 
 -- one whose text goes out in pieces
-pub in_pieces_task : (reads : Option ℕ) (Answer : Type 0) (Has : List ℕ → Answer → Type 0) (reply : Answer → Reply) (Fault : Type 0) (Meets : List ℕ → Fault → Type 0) (refusal : Fault → Refusal)
+pub in_pieces_task : (reads : Option ℕ) (Answer : Type 0) (Has : List ℕ → Answer → Type 0) (reply : Answer → Reply) (Fault : Type 0) (Meets : List ℕ → Fault → Type 0) (refusal : Fault → Refusal) (Begins : List ℕ → List ℕ → Type 0)
     → ((answer : Answer) → IsAnswerStatus (reply answer).status)
     → ((bytes : List ℕ) (fault : Fault) → Meets bytes fault → IsRefusalStatus (refusal fault).status ⊎ (refusal fault ≡ memory_refusal))
     → ((bytes : List ℕ) (answer : Answer) (fault : Fault) → Has bytes answer → Meets bytes fault → ⊥)
     → ((bytes : List ℕ) (a b : Fault) → Meets bytes a → Meets bytes b → refusal a ≡ refusal b)
     → ((bytes : List ℕ) (answer : Answer) → Has bytes answer → IsBeyond reads bytes → ⊥)
     → ((bytes : List ℕ) (fault : Fault) → Meets bytes fault → IsBeyond reads bytes → ⊥)
-    → IsTask (in_pieces reads Answer Has reply Fault Meets refusal)
-in_pieces_task reads Answer Has reply Fault Meets refusal replies refusals apart one answer_within fault_within = record {
+    → ((bytes text : List ℕ) (fault : Fault) → Begins bytes text → Meets bytes fault → ⊥)
+    → ((bytes text : List ℕ) → Begins bytes text → IsBeyond reads bytes → ⊥)
+    → IsTask (in_pieces reads Answer Has reply Fault Meets refusal Begins)
+in_pieces_task reads Answer Has reply Fault Meets refusal Begins replies refusals apart one answer_within fault_within begins_apart begins_within = record {
   replies = replies;
   refusals = refusals;
   apart = apart;
   one = one;
   answer_within = answer_within;
   fault_within = fault_within;
+  begins_apart = begins_apart;
+  begins_within = begins_within;
 }
 
 -- one that reads nothing
@@ -54,4 +60,6 @@ from_nothing_task Answer Is reply replies = record {
   one = λ bytes a b x y. absurd x;
   answer_within = λ bytes answer has long. long;
   fault_within = λ bytes fault meets long. meets;
+  begins_apart = λ bytes text fault begins meets. begins;
+  begins_within = λ bytes text begins long. begins;
 }

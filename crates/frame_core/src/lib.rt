@@ -1,8 +1,9 @@
 //! The frame of commands: reading the input, sending what a command tells, and the error line.
 //!
 //! For a program of several commands, each of which reads an input or none, and writes an answer at once
-//! or in pieces. A command is a `Job`: it says how much it reads, and what it does with bytes. It stands on
-//! `port_io` for sources and sinks, and on `net_core` for the names that an error line may bear.
+//! or in pieces. A command is a `Job`: it says how much it reads, and what it does with bytes; or it is a
+//! `StreamJob`, which takes its input in pieces. It stands on `port_io` for sources and sinks, and on `net_core`
+//! for the names that an error line may bear.
 //!
 //! What a command is to its caller is a value (`specs/Task`): the bytes that have answers and faults, and
 //! how each is told. The theorem, for every command, every source and every sink: what `perform` does is a
@@ -20,9 +21,11 @@ mod replies;
 mod reporting;
 mod sending;
 mod status;
+mod streaming;
 
-pub use performing::{Job, perform};
+pub use performing::{Job, perform, perform_stream};
 pub use replies::{Ended, ErrorLine, Field, Refusal, Reply, Report, Stop};
 pub use reporting::tell_error;
 pub use sending::finish;
 pub use status::Status;
+pub use streaming::StreamJob;

@@ -8,7 +8,8 @@ ghost use Rattle.frame_core.specs.Performing.{Answers, Performs};
 use crate::replies::Ended;
 use crate::reporting::tell;
 use crate::status::Status;
-use port_io::{ReadError, Sink, Source, read_all};
+use crate::streaming::{Collecting, StreamJob, read_pieces};
+use port_io::{ReadError, Sink, Source};
 use std::alloc::Global;
 
 /// A command.
@@ -40,7 +41,7 @@ pub trait Job {
 }
 
 /// Does what a command asks, up to the error line: reads `source` where it reads, and answers what was read.
-fn attempt<J: Job, S: Source, O: Sink, N: Sink>(
+fn attempt<J: StreamJob, S: Source, O: Sink, N: Sink>(
     alloc: Global,
     job: &J,
     source: &mut S,
@@ -54,15 +55,46 @@ fn attempt<J: Job, S: Source, O: Sink, N: Sink>(
         (before_after N.written N.faults note.old note.new) }
 {
     let Some(most) = job.reads() else {
-        return job.answer(alloc, b"", out, note);
+        let kept = job.begin(alloc);
+        return job.answer(alloc, kept, out, note);
     };
-    let bytes = match read_all(alloc, source, most) {
-        Ok(bytes) => bytes,
+    let kept = match read_pieces(alloc, job, source, most) {
+        Ok(kept) => kept,
         Err(ReadError::ReadFault) => return Ended::ReadFault,
         Err(ReadError::TooLong) => return Ended::TooLong,
         Err(ReadError::Memory) => return Ended::Memory,
     };
-    job.answer(alloc, &bytes, out, note)
+    job.answer(alloc, kept, out, note)
+}
+
+/// Does what a command asks that takes its input in pieces, and tells how that ended. It promises what
+/// `perform` does.
+pub fn perform_stream<J: StreamJob, S: Source, O: Sink, N: Sink>(
+    alloc: Global,
+    job: &J,
+    source: &mut S,
+    out: &mut O,
+    note: &mut N,
+) -> Status
+    requires { J.ready job.now }
+    // It is a run with an outcome, whatever words asked for it,
+    ensures run { (words : List (List ℕ)) → (outcome : Outcome) × IsRun (J.task job.now)
+        (run_of words
+        (before_after S.left S.faults source.old source.new)
+        (before_after O.written O.faults out.old out.new)
+        (before_after N.written N.faults note.old note.new)
+        result) outcome }
+    // and keeps what every command promises.
+    ensures promise { (words : List (List ℕ)) → IsTask (J.task job.now) → CommandPromise (J.task job.now)
+        (run_of words
+        (before_after S.left S.faults source.old source.new)
+        (before_after O.written O.faults out.old out.new)
+        (before_after N.written N.faults note.old note.new)
+        result) }
+{
+    let ended = attempt(alloc, job, source, out, note);
+    tell(note, &ended);
+    ended.status()
 }
 
 /// Does what a command asks, and tells how that ended: reads `source` where the command reads, writes its
@@ -90,7 +122,5 @@ pub fn perform<J: Job, S: Source, O: Sink, N: Sink>(
         (before_after N.written N.faults note.old note.new)
         result) }
 {
-    let ended = attempt(alloc, job, source, out, note);
-    tell(note, &ended);
-    ended.status()
+    perform_stream(alloc, &Collecting(job), source, out, note)
 }

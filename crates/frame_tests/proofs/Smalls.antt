@@ -1,13 +1,14 @@
 -- The small commands are what their tasks say.
 use Rattle.std.specs.Prelude.{◌≡◌, ℕ, ◌≤◌, ◌<◌, List, length, Some}
 use Rattle.std.proofs.Common.{arith, refl, sym, subst, inl}
+use Rattle.std.proofs.Math.Logic.{⊎_elim}
 use Rattle.std.proofs.lemmas.Grind.{common_steps}
 use Rattle.frame_core.specs.declared.status.Status.{Status}
 use Rattle.frame_core.specs.declared.replies.Ended.{Ended}
 use Rattle.frame_core.specs.declared.replies.Ended.TheVariants as ended
 use Rattle.frame_core.specs.Outside.{Side}
 use Rattle.frame_core.specs.Told.{Reply}
-use Rattle.frame_core.specs.Task.{Tells, IsTask, IsFront, IsAnswerFront}
+use Rattle.frame_core.specs.Task.{Tells, IsTask, IsFront, IsAnswerFront, IsBegunFront, MayStand, begins_none}
 use Rattle.frame_core.specs.TaskLaws.{from_nothing_task, in_pieces_task}
 use Rattle.frame_core.specs.Performing.{Answers}
 use Rattle.frame_core.specs.PerformingLaws.{left_of, answered, pieces_sent, pieces_cut, pieces_starved}
@@ -21,13 +22,15 @@ greets bytes reply is = record { answer = tt; has = tt; is = is }
 
 pub lines_is_task : IsTask lines_task
 lines_is_task =
-    in_pieces_task (Some 3) (List ℕ) AreBytes lines_reply ⊥ (λ (bytes : List ℕ) (fault : ⊥). ⊥) (λ (fault : ⊥). absurd fault)
+    in_pieces_task (Some 3) (List ℕ) AreBytes lines_reply ⊥ (λ (bytes : List ℕ) (fault : ⊥). ⊥) (λ (fault : ⊥). absurd fault) begins_none
     (λ answer. inl refl)
     (λ bytes fault meets. absurd fault)
     (λ bytes answer fault has meets. meets)
     (λ bytes a b x y. absurd x)
     (λ bytes answer has long. too_many bytes has.within long)
     (λ bytes fault meets long. meets)
+    (λ bytes text fault begins meets. begins)
+    (λ bytes text begins long. begins)
   where
     too_many : (bytes : List ℕ) → length bytes ≤ 3 → 3 < length bytes → ⊥
     too_many bytes within long = omega arith
@@ -49,7 +52,11 @@ lines_answered bytes ended.Starved out note within writes same =
 lines_answered bytes ended.ReportCut out note within writes same = absurd writes
 lines_answered bytes (ended.NoAnswer refusal) out note within writes same = absurd writes
 
-pub lines_left : (bytes front : List ℕ) → IsAnswerFront lines_task bytes front → IsFront front (lines_text bytes)
-lines_left bytes front left = subst (λ (xs : List ℕ). IsFront front (lines_text xs)) left.has.are left.is_front
+pub lines_left : (bytes front : List ℕ) → MayStand lines_task bytes front → IsFront front (lines_text bytes)
+lines_left bytes front stands =
+    ⊎_elim
+    (λ (left : IsAnswerFront lines_task bytes front). subst (λ (xs : List ℕ). IsFront front (lines_text xs)) left.has.are left.is_front)
+    (λ (begun : IsBegunFront lines_task bytes front). absurd begun.begins)
+    stands
 
 pub ruleset telling = (common_steps, greeting_is_task, greets, answered)

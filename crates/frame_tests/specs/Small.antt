@@ -7,7 +7,7 @@ use Rattle.frame_core.specs.declared.replies.Ended.{Ended}
 use Rattle.frame_core.specs.declared.replies.Ended.TheVariants as ended
 use Rattle.frame_core.specs.Outside.{Side}
 use Rattle.frame_core.specs.Told.{Reply, joined, parted}
-use Rattle.frame_core.specs.Task.{Task, from_nothing, in_pieces}
+use Rattle.frame_core.specs.Task.{Task, from_nothing, in_pieces, begins_none}
 
 -- It reads nothing, greets, and reports in parts.
 abbrev pub greeting : Unit {0} → Reply
@@ -32,7 +32,7 @@ pub record AreBytes (bytes answer : List ℕ) : Type 0 where
   pub within : length bytes ≤ 3
 
 abbrev pub lines_task : Task
-lines_task = in_pieces (Some 3) (List ℕ) AreBytes lines_reply ⊥ (λ (bytes : List ℕ) (fault : ⊥). ⊥) (λ (fault : ⊥). absurd fault)
+lines_task = in_pieces (Some 3) (List ℕ) AreBytes lines_reply ⊥ (λ (bytes : List ℕ) (fault : ⊥). ⊥) (λ (fault : ⊥). absurd fault) begins_none
 
 -- What the writer of lines leaves on the output.
 abbrev pub WritesLines : List ℕ → Ended → Side → Side → Type 0

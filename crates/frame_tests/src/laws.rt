@@ -1,6 +1,6 @@
 //! What the small commands come to. Each law is the contract of a function that does nothing.
 ghost use Rattle.std.specs.Prelude.{ℕ, List};
-ghost use Rattle.frame_core.specs.Task.{IsTask, IsFront, IsAnswerFront};
+ghost use Rattle.frame_core.specs.Task.{IsTask, IsFront, MayStand};
 ghost use Rattle.frame_tests.specs.Small.{greeting_task, lines_text, lines_task};
 
 /// Both are tasks.
@@ -11,5 +11,5 @@ pub fn small_commands_are_tasks()
 
 /// What may stand outside of a text in pieces that was cut is a front of the answer's text.
 pub fn cut_lines_are_fronts()
-    ensures { (bytes front : List ℕ) → IsAnswerFront lines_task bytes front → IsFront front (lines_text bytes) }
+    ensures { (bytes front : List ℕ) → MayStand lines_task bytes front → IsFront front (lines_text bytes) }
 {}
