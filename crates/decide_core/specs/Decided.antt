@@ -10,6 +10,8 @@ use Rattle.cert_theory.specs.declared.data.Verdict.TheVariants as verdicts
 use Rattle.cert_theory.specs.Bundle.{Bundle, IsValid, IsFound, HasOutput}
 use Rattle.size_loop.specs.Thrift.{AreThrifty}
 use Rattle.decide_core.specs.declared.deciding.Decided.{Decided}
+use Rattle.decide_core.specs.declared.deciding.Sized.{Sized}
+use Rattle.decide_core.specs.declared.deciding.Sized.TheVariants as sizes
 use Rattle.decide_core.specs.declared.deciding.Decided.TheVariants.{Shorter, Least, Open}
 
 -- no chain of fewer steps than this agrees, over the basis
@@ -41,3 +43,9 @@ abbrev pub IsDecided : Heading → Decided → Type 0
 IsDecided h (Shorter c low) = IsShorter h c × Fewer h low
 IsDecided h Least = HasNone h
 IsDecided h (Open b) = IsLeftOpen h b
+
+-- what is known of sizes alone; of one that is left open, nothing
+abbrev pub IsSized : Heading → Sized → Type 0
+IsSized h (sizes.Found c low) = IsShorter h c × Fewer h low
+IsSized h sizes.Nothing = HasNone h
+IsSized h sizes.Open = Unit {0}

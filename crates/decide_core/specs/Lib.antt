@@ -2,3 +2,4 @@ pub use Rattle.cert_theory.specs.Bundle
 pub mod Decided
 pub mod DecidedLaws
 pub mod RememberedLaws
+pub mod OrderedLaws

@@ -1,5 +1,5 @@
 -- What a memory and a chain that is judged say of a heading.
-use Rattle.std.proofs.Common.{◌≡◌, ℕ, ◌≤◌, List, length, Option, None, refl, sym, subst}
+use Rattle.std.proofs.Common.{◌≡◌, ℕ, ◌+◌, ◌<◌, ◌≤◌, List, length, Option, None, refl, sym, subst, ◌∙◌, arith}
 use Rattle.chain_theory.specs.Chain.{Chain}
 use Rattle.chain_theory.specs.Operator.{Basis}
 use Rattle.chain_theory.specs.Specification.{Specification}
@@ -13,9 +13,9 @@ use Rattle.cert_theory.specs.declared.data.Heading.{Heading}
 use Rattle.cert_theory.specs.Bundle.{IsHeading}
 use Rattle.spec_memory.specs.Facts.{spelled, IsFact}
 use Rattle.spec_memory.specs.FactLaws.{known_fact}
-use Rattle.decide_core.specs.declared.deciding.Decided.{Decided}
-use Rattle.decide_core.specs.declared.deciding.Decided.TheVariants as decisions
-use Rattle.decide_core.specs.Decided.{Fewer, HasNone, IsShorter, IsDecided}
+use Rattle.decide_core.specs.declared.deciding.Sized.{Sized}
+use Rattle.decide_core.specs.declared.deciding.Sized.TheVariants as sizes
+use Rattle.decide_core.specs.Decided.{Fewer, HasNone, IsShorter, IsSized}
 use Rattle.decide_core.specs.DecidedLaws.{deciding}
 
 -- ---- chains that are judged
@@ -44,13 +44,10 @@ noted h basis fewest key heading same spells none =
 
 -- ---- what a search finds
 
-pub decided_as : (h : Heading) (d e : Decided) → d ≡ e → IsDecided h d → IsDecided h e
-decided_as h d e same is = subst (IsDecided h) same is
+pub found_low : (h : Heading) (s : Sized) (c : Chain) (low : ℕ) → IsSized h s → s ≡ sizes.Found c low → Fewer h low
+found_low h s c low is e = let found : IsSized h (sizes.Found c low) = subst (IsSized h) e is in found.1
 
-pub found_low : (h : Heading) (d : Decided) (c : Chain) (low : ℕ) → IsDecided h d → d ≡ decisions.Shorter c low → Fewer h low
-found_low h d c low is e = (decided_as h d (decisions.Shorter c low) e is).1
-
-pub found_none : (h : Heading) (d : Decided) → IsDecided h d → d ≡ decisions.Least → HasNone h
-found_none h d is e = decided_as h d decisions.Least e is
+pub found_none : (h : Heading) (s : Sized) → IsSized h s → s ≡ sizes.Nothing → HasNone h
+found_none h s is e = subst (IsSized h) e is
 
 pub ruleset remembering = (deciding, judged_over, compared_agrees, judged_shorter, recalled)

@@ -4,7 +4,7 @@ ghost use Rattle.tt_core.specs.Words.{specification};
 ghost use Rattle.op_basis.specs.Basis.{members};
 ghost use Rattle.chain_theory.specs.Agreement.{NoneBelow};
 ghost use Rattle.cert_theory.specs.Bundle.{IsHeading};
-ghost use Rattle.decide_core.specs.Decided.{IsDecided, IsShorter, IsOpenVerdict};
+ghost use Rattle.decide_core.specs.Decided.{IsDecided, IsSized, IsShorter, IsOpenVerdict};
 
 use bundle_core::{Bundle, Heading, Verdict};
 use chain_core::Chain;
@@ -22,6 +22,17 @@ pub enum Decided {
     Open(Bundle),
 }
 
+/// What is known where no certificate is asked for.
+#[derive(Debug, Drop)]
+pub enum Sized {
+    /// A chain agrees, and none of fewer than `low` steps.
+    Found { chain: Chain, low: u32 },
+    /// No chain of at most so many steps as the heading says does.
+    Nothing,
+    /// A search has spent its budget.
+    Open,
+}
+
 /// Whether a verdict leaves a size open.
 fn is_open(verdict: Verdict) -> bool
     ensures yes { result ≡ true → IsOpenVerdict verdict }
@@ -37,7 +48,7 @@ fn is_open(verdict: Verdict) -> bool
 
 /// What a search with a certificate says.
 #[tactic(auto, using(crate::specs::DecidedLaws::deciding))]
-fn search_whole(alloc: Global, heading: &Heading) -> Result<Decided, AllocError>
+pub fn search_whole(alloc: Global, heading: &Heading) -> Result<Decided, AllocError>
     requires heading { IsHeading heading.now }
     requires output { 0 < length heading.now.spec.on }
     ensures { IfOk result (λ decided. IsDecided heading.now decided) }
@@ -67,24 +78,24 @@ fn search_whole(alloc: Global, heading: &Heading) -> Result<Decided, AllocError>
 
 /// What a search says that begins at a size, where no chain of fewer steps agrees.
 #[tactic(auto, using(crate::specs::DecidedLaws::deciding))]
-pub fn search_from(alloc: Global, heading: &Heading, from: u32) -> Result<Decided, AllocError>
+pub fn search_from(alloc: Global, heading: &Heading, from: u32) -> Result<Sized, AllocError>
     requires heading { IsHeading heading.now }
     requires fewer { NoneBelow (specification heading.now.spec) (members heading.now.basis) from }
     requires from { from ≤ heading.now.max }
     requires output { 0 < length heading.now.spec.on }
-    ensures { IfOk result (λ decided. IsDecided heading.now decided) }
+    ensures { IfOk result (λ sized. IsSized heading.now sized) }
 {
     for size in from..heading.max + 1 {
         match search_size(alloc, heading, size)? {
-            SizeOutcome::Found(chain) => return Ok(Decided::Shorter { chain, low: size }),
+            SizeOutcome::Found(chain) => return Ok(Sized::Found { chain, low: size }),
             SizeOutcome::Logged(section) => {
                 if section.is_open() {
-                    return search_whole(alloc, heading);
+                    return Ok(Sized::Open);
                 }
             }
         }
     }
-    Ok(Decided::Least)
+    Ok(Sized::Nothing)
 }
 
 /// The chain without steps and outs, where no output is asked for.

@@ -3,7 +3,8 @@
 //!
 //! It stands on `bound_core` for what counting says, and on `size_loop` for the search of a size. The search begins
 //! at the size that counting leaves. A certificate is made only where a size stays open: then the whole search
-//! is made again, and its own verdict holds. What is found is remembered (`spec_memory`) and not searched again.
+//! is made again, and its own verdict holds. What is found is remembered (`spec_memory`), for tables with their inputs
+//! in a normal order (`spec_order`), and not searched again.
 //!
 //! ```text
 //! let heading = Heading { spec, basis, method, conflicts, max: 2 };
@@ -13,9 +14,10 @@
 #![tactic(auto)]
 
 mod deciding;
+mod ordering;
 mod remembering;
 
 pub use bundle_core::{Bundle, Heading};
 pub use deciding::Decided;
-pub use remembering::decide;
+pub use ordering::decide;
 pub use spec_memory::Memory;

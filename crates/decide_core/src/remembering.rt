@@ -1,15 +1,14 @@
-//! Counting first, then what is remembered, then the sizes that are left. A specification that was decided isn't
-//! searched again. A refutation is a fact of the memory; a chain that is remembered is judged before it is used.
+//! What was found is remembered, so that a specification that was decided isn't searched again. A refutation is a
+//! fact of the memory; a chain that is remembered is judged before it is used.
 ghost use Rattle.std.specs.Prelude.{◌≡◌, ◌≤◌, ◌<◌, true, length, IfSome, IfOk};
 ghost use Rattle.tt_core.specs.Words.{specification};
 ghost use Rattle.op_basis.specs.Basis.{members};
 ghost use Rattle.chain_theory.specs.Agreement.{IsOver, Agrees, NoneBelow};
 ghost use Rattle.cert_theory.specs.Bundle.{IsHeading};
 ghost use Rattle.spec_memory.specs.Facts.{spelled};
-ghost use Rattle.decide_core.specs.Decided.{IsDecided, IsShorter};
+ghost use Rattle.decide_core.specs.Decided.{IsSized, IsShorter};
 
-use crate::deciding::{Decided, no_steps, search_from};
-use bound_core::lower_bound;
+use crate::deciding::{Sized, search_from};
 use bundle_core::Heading;
 use chain_core::{Chain, first_difference, first_outside};
 use op_basis::Basis;
@@ -43,7 +42,7 @@ fn agrees(chain: &Chain, spec: &Spec) -> bool
 
 /// Whether a chain is one that the heading asks for.
 #[tactic(auto, using(crate::specs::RememberedLaws::remembering))]
-fn serves(chain: &Chain, heading: &Heading) -> bool
+pub fn serves(chain: &Chain, heading: &Heading) -> bool
     ensures { result ≡ true → IsShorter heading.now chain.now }
 {
     if chain.n() != heading.spec.n() {
@@ -113,75 +112,52 @@ fn search_new(
     key: Key,
     heading: &Heading,
     from: u32,
-) -> Result<Decided, AllocError>
+) -> Result<Sized, AllocError>
     requires heading { IsHeading heading.now }
     requires basis { memory.old ≡ heading.now.basis }
     requires key { key ≡ spelled heading.now.spec }
     requires fewer { NoneBelow (specification heading.now.spec) (members heading.now.basis) from }
     requires from { from ≤ heading.now.max }
     requires output { 0 < length heading.now.spec.on }
-    ensures decided { IfOk result (λ decided. IsDecided heading.now decided) }
+    ensures sized { IfOk result (λ sized. IsSized heading.now sized) }
     ensures basis { memory.new ≡ memory.old }
 {
     match search_from(alloc, heading, from)? {
-        Decided::Open(search) => Ok(Decided::Open(search)),
-        Decided::Least => {
+        Sized::Open => Ok(Sized::Open),
+        Sized::Nothing => {
             memory.note(key, heading.max + 1, None)?;
-            Ok(Decided::Least)
+            Ok(Sized::Nothing)
         }
-        Decided::Shorter { chain, low } => {
+        Sized::Found { chain, low } => {
             let copy = copied(alloc, &chain)?;
             memory.note(key, low, Some(copy))?;
-            Ok(Decided::Shorter { chain, low })
+            Ok(Sized::Found { chain, low })
         }
     }
 }
 
 /// Decides by memory, and searches what it doesn't know.
 #[tactic(auto, using(crate::specs::RememberedLaws::remembering))]
-fn decide_above(
+pub fn decide_sizes(
     alloc: Global,
     memory: &mut Memory,
     heading: &Heading,
     counted: u32,
-) -> Result<Decided, AllocError>
+) -> Result<Sized, AllocError>
     requires heading { IsHeading heading.now }
     requires basis { memory.old ≡ heading.now.basis }
     requires fewer { NoneBelow (specification heading.now.spec) (members heading.now.basis) counted }
     requires output { 0 < length heading.now.spec.on }
-    ensures decided { IfOk result (λ decided. IsDecided heading.now decided) }
+    ensures sized { IfOk result (λ sized. IsSized heading.now sized) }
     ensures basis { memory.new ≡ memory.old }
 {
     let key = Key::of(alloc, &heading.spec)?;
     let from = first_size(memory, &key, heading, counted);
     if heading.max < from {
-        return Ok(Decided::Least);
+        return Ok(Sized::Nothing);
     }
     match remembered(alloc, memory, &key, heading)? {
-        Some(chain) => Ok(Decided::Shorter { chain, low: 0 }),
+        Some(chain) => Ok(Sized::Found { chain, low: 0 }),
         None => search_new(alloc, memory, key, heading, from),
     }
-}
-
-/// Decides whether a chain of at most so many steps as the heading says agrees with its tables, by counting, by a
-/// memory for the heading's basis, and by a search, from which the memory learns. A certificate comes only where a
-/// search has spent its budget.
-#[tactic(auto, using(crate::specs::RememberedLaws::remembering))]
-pub fn decide(alloc: Global, memory: &mut Memory, heading: &Heading) -> Result<Decided, AllocError>
-    requires heading { IsHeading heading.now }
-    requires basis { memory.old ≡ heading.now.basis }
-    ensures decided { IfOk result (λ decided. IsDecided heading.now decided) }
-    ensures basis { memory.new ≡ memory.old }
-{
-    if heading.spec.outputs() == 0 {
-        return Ok(Decided::Shorter {
-            chain: no_steps(alloc, heading),
-            low: 0,
-        });
-    }
-    let counted = lower_bound(&heading.spec);
-    if heading.max < counted {
-        return Ok(Decided::Least);
-    }
-    decide_above(alloc, memory, heading, counted)
 }

@@ -1,0 +1,111 @@
+//! Counting first, and then what is remembered and searched, with the inputs in a normal order: so windows that
+//! differ in the order of their inputs share what was found. A chain is turned back and judged. Where the search is
+//! left open, the tables as they are asked for are searched with a certificate.
+ghost use Rattle.std.specs.Prelude.{◌≡◌, ◌<◌, ◌≤◌, length, IfSome, IfOk};
+ghost use Rattle.tt_core.specs.Words.{specification};
+ghost use Rattle.op_basis.specs.Basis.{members};
+ghost use Rattle.chain_theory.specs.Agreement.{NoneBelow};
+ghost use Rattle.cert_theory.specs.Bundle.{IsHeading};
+ghost use Rattle.spec_order.specs.Order.{IsOrder, IsTurned};
+ghost use Rattle.decide_core.specs.Decided.{IsDecided, IsShorter};
+
+use crate::deciding::{Decided, Sized, no_steps, search_from, search_whole};
+use crate::remembering::{decide_sizes, serves};
+use bound_core::lower_bound;
+use bundle_core::Heading;
+use chain_core::Chain;
+use spec_memory::Memory;
+use spec_order::{inverse, normal_order, turned_chain, turned_spec};
+use std::alloc::{AllocError, Global};
+
+/// The heading for tables whose inputs are in another order.
+#[tactic(auto, using(crate::specs::OrderedLaws::ordering))]
+fn turned_heading(alloc: Global, heading: &Heading, order: &[u32]) -> Result<Heading, AllocError>
+    requires heading { IsHeading heading.now }
+    requires order { IsOrder heading.now.spec.n order.now }
+    ensures heading { IfOk result (λ turned. IsHeading turned) }
+    ensures turned { IfOk result (λ turned. IsTurned (specification heading.now.spec) (specification turned.spec) order.now) }
+    ensures basis { IfOk result (λ turned. turned.basis ≡ heading.now.basis) }
+    ensures max { IfOk result (λ turned. turned.max ≡ heading.now.max) }
+{
+    let spec = turned_spec(alloc, &heading.spec, order)?;
+    // brings what the type of tables says
+    let _inputs = spec.n();
+    Ok(Heading {
+        spec,
+        basis: heading.basis,
+        method: heading.method,
+        conflicts: heading.conflicts,
+        max: heading.max,
+    })
+}
+
+/// The chain with its inputs turned back, where it is one that the heading asks for.
+fn turned_back(
+    alloc: Global,
+    heading: &Heading,
+    chain: &Chain,
+    order: &[u32],
+) -> Result<Option<Chain>, AllocError>
+    requires { length order.now ≤ 6 }
+    ensures { IfOk result (λ found. IfSome found (λ turned. IsShorter heading.now turned)) }
+{
+    if chain.n() != order.len() as u32 {
+        return Ok(None);
+    }
+    let back = inverse(alloc, order)?;
+    let turned = turned_chain(alloc, chain, &back)?;
+    if !serves(&turned, heading) {
+        return Ok(None);
+    }
+    Ok(Some(turned))
+}
+
+/// Decides by the inputs in their normal order what counting leaves.
+#[tactic(auto, using(crate::specs::OrderedLaws::ordering))]
+fn decide_turned(
+    alloc: Global,
+    memory: &mut Memory,
+    heading: &Heading,
+) -> Result<Decided, AllocError>
+    requires heading { IsHeading heading.now }
+    requires basis { memory.old ≡ heading.now.basis }
+    requires output { 0 < length heading.now.spec.on }
+    ensures decided { IfOk result (λ decided. IsDecided heading.now decided) }
+    ensures basis { memory.new ≡ memory.old }
+{
+    let order = normal_order(alloc, &heading.spec)?;
+    let turned = turned_heading(alloc, heading, &order)?;
+    let counted = lower_bound(&turned.spec);
+    match decide_sizes(alloc, memory, &turned, counted)? {
+        Sized::Nothing => Ok(Decided::Least),
+        Sized::Open => search_whole(alloc, heading),
+        Sized::Found { chain, low: _ } => match turned_back(alloc, heading, &chain, &order)? {
+            Some(chain) => Ok(Decided::Shorter { chain, low: 0 }),
+            None => search_whole(alloc, heading),
+        },
+    }
+}
+
+/// Decides whether a chain of at most so many steps as the heading says agrees with its tables, by counting, by a
+/// memory for the heading's basis, and by a search, from which the memory learns. A certificate comes only where a
+/// search has spent its budget.
+#[tactic(auto, using(crate::specs::OrderedLaws::ordering))]
+pub fn decide(alloc: Global, memory: &mut Memory, heading: &Heading) -> Result<Decided, AllocError>
+    requires heading { IsHeading heading.now }
+    requires basis { memory.old ≡ heading.now.basis }
+    ensures decided { IfOk result (λ decided. IsDecided heading.now decided) }
+    ensures basis { memory.new ≡ memory.old }
+{
+    if heading.spec.outputs() == 0 {
+        return Ok(Decided::Shorter {
+            chain: no_steps(alloc, heading),
+            low: 0,
+        });
+    }
+    let counted = lower_bound(&heading.spec);
+    if heading.max < counted {
+        return Ok(Decided::Least);
+    }
+    decide_turned(alloc, memory, heading)
+}

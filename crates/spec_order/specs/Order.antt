@@ -1,0 +1,32 @@
+-- Inputs in another order.
+use Rattle.std.specs.Prelude.{◌≡◌, ℕ, ◌-◌, ◌^◌, ◌≤◌, ◌<◌, List, length, slice_index, All}
+use Rattle.chain_theory.specs.Operator.{digit}
+use Rattle.chain_theory.specs.Rows.{row_of}
+use Rattle.chain_theory.specs.Specification.{Specification, input}
+
+abbrev pub IsInput : ℕ → ℕ → Type 0
+IsInput n j = (1 ≤ j) × (j ≤ n)
+
+-- Each of n inputs gets the number of an input, the first of the list for input 1.
+-- Example: 2 ∷ 1 ∷ [] exchanges two inputs.
+pub record IsOrder (n : ℕ) (order : List ℕ) : Type 0 where
+  pub size : length order ≡ n
+  pub inputs : All (IsInput n) order
+
+abbrev pub number : List ℕ → ℕ → ℕ
+number order j = slice_index order (j - 1)
+
+-- the row that gives input j the bit that row t gives the input of its new number
+abbrev pub turned_row : ℕ → List ℕ → ℕ → ℕ
+turned_row n order t = row_of n (λ j. input n t (number order j))
+
+-- the word whose digit t is digit turned_row t of a word, of the 2 ^ n rows
+abbrev pub turned_word : ℕ → List ℕ → ℕ → ℕ
+turned_word n order word = row_of (2 ^ n) (λ i. digit word (turned_row n order (2 ^ n - i)))
+
+-- r is s with its inputs in another order.
+-- Example: with the inputs of 0010 exchanged it is 0100.
+pub record IsTurned (s r : Specification) (order : List ℕ) : Type 0 where
+  pub inputs : r.inputs ≡ s.inputs
+  pub outputs : r.outputs ≡ s.outputs
+  pub cell : (h t : ℕ) → 1 ≤ h → h ≤ s.outputs → t < 2 ^ s.inputs → r.cell h t ≡ s.cell h (turned_row s.inputs order t)
