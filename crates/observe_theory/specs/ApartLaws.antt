@@ -49,7 +49,7 @@ pub leaves_free : (n : Net) (gates places leaves : List ℕ) → IsNet n → Are
 leaves_free n gates _ _ net are (stays leaves last) = are
 leaves_free n gates _ _ net are (goes_on leaves behind last step few rest) = leaves_free n gates behind last net (opened_free n gates leaves behind net are step) rest
 
-read_within : (n : Net) (g p : ℕ) → IsNet n → Reads n g p → p < end_of n
+pub read_within : (n : Net) (g p : ℕ) → IsNet n → Reads n g p → p < end_of n
 read_within n g p net reads = omega (arith, (reads_low n g p net reads).1, (gate_high n g reads.reader).1)
 
 -- The leaves of the observing surround don't depend on the window.
