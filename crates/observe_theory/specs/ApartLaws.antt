@@ -1,19 +1,19 @@
 -- What doesn't depend on a window: all that it is computed from doesn't either, and it keeps its value whatever bits are
 -- put in the place of the window's outputs.
-use Rattle.std.specs.Prelude.{◌≡◌, ℕ, zero, suc, ◌+◌, ◌≤◌, ◌<◌, Bool, true, false, List, ◌++◌, length}
+use Rattle.std.specs.Prelude.{◌≡◌, ℕ, zero, suc, ◌+◌, ◌≤◌, ◌<◌, Bool, true, false, List}
 use Rattle.std.proofs.Common.{arith, sym, ◌∙◌, ⊎_elim}
 use Rattle.std.proofs.lemmas.Bool.{cases_Bool, cases_lt, both_ways}
 use Rattle.net_theory.specs.Net.{Net, IsNet, end_of, value}
 use Rattle.net_theory.specs.ValueLaws.{value-source}
 use Rattle.window_theory.specs.Places.{among}
-use Rattle.window_theory.specs.Paths.{IsGate, Reads, LeadsUp, at_once, by_way_of}
+use Rattle.window_theory.specs.Paths.{IsGate, Reads, at_once, by_way_of}
 use Rattle.window_theory.specs.Window.{Window, Belongs}
 use Rattle.window_theory.specs.WindowLaws.{reads_low, gate_high, gate_at}
 use Rattle.window_theory.specs.Surround.{Opens, LeadsTo, stays, goes_on}
 use Rattle.window_theory.specs.Care.{values_with}
 use Rattle.window_theory.specs.FixedLaws.{with_source, with_fixed, with_gate, gate_same}
 use Rattle.window_theory.specs.SpliceLaws.{value_gate}
-use Rattle.observe_theory.specs.Tail.{IsSide, Tail, IsTail, IsApart}
+use Rattle.observe_theory.specs.Tail.{Tail, IsTail, IsApart}
 use Rattle.observe_theory.specs.Unseen.{AreObserving}
 use Rattle.observe_theory.specs.JoinedLaws.{is_off}
 use Rattle.observe_theory.specs.TailLaws.{side_apart, input_apart}
@@ -49,7 +49,7 @@ pub leaves_free : (n : Net) (gates places leaves : List ℕ) → IsNet n → Are
 leaves_free n gates _ _ net are (stays leaves last) = are
 leaves_free n gates _ _ net are (goes_on leaves behind last step few rest) = leaves_free n gates behind last net (opened_free n gates leaves behind net are step) rest
 
-read_within : (n : Net) (g p : ℕ) → IsNet n → Reads n g p → p < end_of n
+pub read_within : (n : Net) (g p : ℕ) → IsNet n → Reads n g p → p < end_of n
 read_within n g p net reads = omega (arith, (reads_low n g p net reads).1, (gate_high n g reads.reader).1)
 
 -- The leaves of the observing surround don't depend on the window.

@@ -8,3 +8,4 @@ pub mod ApartLaws
 pub mod UnseenLaws
 pub mod RowLaws
 pub mod ObservedLaws
+pub mod OneLaws

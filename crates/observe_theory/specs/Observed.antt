@@ -1,5 +1,5 @@
 -- What a window has to compute for those who see it.
-use Rattle.std.specs.Prelude.{◌≡◌, ℕ, ◌≤◌, ◌<◌, ◌^◌, length}
+use Rattle.std.specs.Prelude.{◌≡◌, ℕ, ◌≤◌, ◌<◌, ◌^◌}
 use Rattle.chain_theory.specs.Operator.{Basis}
 use Rattle.chain_theory.specs.Agreement.{NoneBelow}
 use Rattle.chain_theory.specs.Specification.{Specification}

@@ -17,16 +17,16 @@ use Rattle.net_theory.specs.NameLaws.{all_at}
 use Rattle.net_theory.specs.ValueLaws.{value-source}
 use Rattle.window_theory.specs.Places.{among}
 use Rattle.window_theory.specs.Window.{Window, Belongs}
-use Rattle.window_theory.specs.Care.{values_with, IsGiven, HasRow, IsCareRow, cell_of, output_place, IsSpecificationOf}
+use Rattle.window_theory.specs.Care.{IsGiven, HasRow, IsCareRow, cell_of, output_place}
 use Rattle.window_theory.specs.CareLaws.{values_real, window_real}
 use Rattle.window_theory.specs.FixedLaws.{with_same}
 use Rattle.window_theory.specs.Splice.{Fits, chain_bits, out_bit, spliced_bits, spliced_value}
 use Rattle.window_theory.specs.PairLaws.{bits_other, IsSet, is_set}
 use Rattle.window_theory.specs.SpliceLaws.{source_outside}
 use Rattle.observe_theory.specs.RowLaws.{out_row, met_cell}
-use Rattle.observe_theory.specs.Tail.{Tail, IsTail}
+use Rattle.observe_theory.specs.Tail.{Tail}
 use Rattle.observe_theory.specs.Unseen.{IsUnseen}
-use Rattle.observe_theory.specs.Observed.{IsNarrowed, IsObservedOf}
+use Rattle.observe_theory.specs.Observed.{IsObservedOf}
 use Rattle.observe_theory.specs.ApartLaws.{ArePut, not_output}
 use Rattle.observe_theory.specs.UnseenLaws.{sink_same}
 

@@ -6,9 +6,9 @@ use Rattle.net_theory.specs.Net.{Net, IsNet}
 use Rattle.window_theory.specs.Places.{among}
 use Rattle.window_theory.specs.PlaceLaws.{among_cases, among_first, among_later}
 use Rattle.window_theory.specs.Paths.{Reads, LeadsUp, at_once, by_way_of}
-use Rattle.window_theory.specs.Window.{Window, IsReadBy, IsInput, Belongs}
+use Rattle.window_theory.specs.Window.{Window, IsInput, Belongs}
 use Rattle.window_theory.specs.WindowLaws.{reads_low}
-use Rattle.observe_theory.specs.Tail.{IsFollower, IsLeastFollower, AreFollowing, AreTail, IsSide, Tail, IsTail, IsApart}
+use Rattle.observe_theory.specs.Tail.{IsFollower, AreFollowing, IsSide, Tail, IsTail, IsApart}
 use Rattle.observe_theory.specs.JoinedLaws.{in_front, in_back, in_parts, is_off, out_back}
 
 -- ---- tails rise

@@ -1,10 +1,10 @@
 -- Bits that are put in the place of a window's outputs on an unseen row leave every sink as it is.
-use Rattle.std.specs.Prelude.{◌≡◌, ℕ, zero, suc, ◌+◌, ◌≤◌, ◌<◌, Bool, true, false, List, [], ◌∷◌, ◌++◌, length, map, slice_get, slice_index_or, Some, ◌⊎◌, refl}
+use Rattle.std.specs.Prelude.{◌≡◌, ℕ, zero, suc, ◌+◌, ◌≤◌, ◌<◌, Bool, true, false, List, ◌++◌, slice_get, slice_index_or, Some, refl}
 use Rattle.std.proofs.Common.{arith, sym, ◌∙◌, inl, inr, ⊎_elim}
-use Rattle.std.proofs.lemmas.Bool.{cases_lt, cases_Bool, both_ways}
+use Rattle.std.proofs.lemmas.Bool.{cases_lt, cases_Bool}
 use Rattle.net_theory.specs.declared.data.Sig.{Sig}
 use Rattle.net_theory.specs.declared.data.Sig.TheVariants.{Zero, One, Place}
-use Rattle.net_theory.specs.Net.{Net, IsNet, IsSigBelow, end_of, sig_value, value, sink_values}
+use Rattle.net_theory.specs.Net.{Net, IsNet, IsSigBelow, end_of, sig_value, value}
 use Rattle.net_theory.specs.NameLaws.{all_at}
 use Rattle.net_theory.specs.ReachLaws.{sink_in, in_sinks}
 use Rattle.net_theory.specs.Reach.{is_sink}
@@ -17,8 +17,8 @@ use Rattle.window_theory.specs.Care.{values_with, HasRow}
 use Rattle.window_theory.specs.CareLaws.{values_real}
 use Rattle.window_theory.specs.FixedLaws.{with_source, with_gate, gate_same}
 use Rattle.window_theory.specs.SpliceLaws.{value_gate}
-use Rattle.observe_theory.specs.Tail.{IsWatcher, IsBare, Tail, IsTail}
-use Rattle.observe_theory.specs.Unseen.{IsUnseen, values_put}
+use Rattle.observe_theory.specs.Tail.{IsWatcher, Tail, IsTail}
+use Rattle.observe_theory.specs.Unseen.{IsUnseen}
 use Rattle.observe_theory.specs.JoinedLaws.{in_back, in_parts, out_back}
 use Rattle.observe_theory.specs.ApartLaws.{AreFree, ArePut, observing_free, apart_value, values_again, not_output}
 

@@ -2,7 +2,8 @@
 ghost use Rattle.std.specs.Prelude.{◌≡◌, ℕ, ◌<◌, Bool, true, ◌++◌, List, length, map, slice_get, Some};
 ghost use Rattle.chain_theory.specs.Specification.{Specification};
 ghost use Rattle.chain_theory.specs.Chain.{Chain, IsChain};
-ghost use Rattle.chain_theory.specs.Agreement.{Agrees};
+ghost use Rattle.chain_theory.specs.Agreement.{Agrees, HasChain};
+ghost use Rattle.chain_theory.specs.Operator.{Basis};
 ghost use Rattle.net_theory.specs.declared.data.Sig.{Sig};
 ghost use Rattle.net_theory.specs.Net.{Net, IsNet, end_of, sig_value, value, sink_values};
 ghost use Rattle.window_theory.specs.Places.{among};
@@ -41,4 +42,12 @@ pub fn observed_chains_keep_the_sinks()
     ensures fit { (n : Net) (w : Window) (s : Specification) (c : Chain) → IsChain c → IsObservedOf n w s → Agrees c s → Fits w c }
     ensures sinks { (n : Net) (w : Window) (s : Specification) (c : Chain) (given : ℕ → Bool) → IsNet n → Belongs n w →
         IsChain c → IsObservedOf n w s → Agrees c s → map (sig_value (spliced_value n w c given)) n.sinks ≡ sink_values n given }
+{}
+
+/// A window has one tail at most, and all its observed specifications have the same chains. So it is enough to know of
+/// one that no chain of fewer steps meets it.
+pub fn observed_specifications_are_one()
+    ensures tail { (n : Net) (w : Window) (t u : Tail) → IsTail n w t → IsTail n w u → t ≡ u }
+    ensures chains { (n : Net) (w : Window) (s z : Specification) (basis : Basis) (r : ℕ) → IsObservedOf n w s → IsObservedOf n w z →
+        HasChain s basis r → HasChain z basis r }
 {}

@@ -1,5 +1,5 @@
 //! Tests of the public calls of the crates of windows: windows with their specifications and cones with their words, beside
-//! plain programs, and chains that take the places of windows.
+//! plain programs, what those who see a window ask of it, and chains that take the places of windows.
 #![tactic(auto)]
 
 #[cfg(test)]
@@ -8,6 +8,8 @@ mod chains;
 mod lanes;
 #[cfg(test)]
 mod nets;
+#[cfg(test)]
+mod observed;
 #[cfg(test)]
 mod plain;
 #[cfg(test)]

@@ -95,7 +95,7 @@ pub fn leaves(alloc: Global, net: &Net, places: &[u32]) -> Result<Vec<u32>, Allo
 }
 
 /// The row that bits give to some places.
-fn row_of(bits: &[bool], places: &[u32]) -> u32 {
+pub fn row_of(bits: &[bool], places: &[u32]) -> u32 {
     let mut row = 0u32;
     for place in places {
         row = row.wrapping_mul(2);

@@ -1,0 +1,6 @@
+use Rattle.std.proofs.Common.{◌≡◌, length}
+use Rattle.observe_core.specs.Differing.{AreTold}
+use Rattle.observe_core.proofs.differing.add_all_bits.Given as goal
+
+abbrev pub invariant-loop-bits : goal.invariant-loop-bits
+invariant-loop-bits l = AreTold l.net l.outputs l.surround l.watchers l.bits l.differ × (length l.differ ≡ length l.initial.differ)

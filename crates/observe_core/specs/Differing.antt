@@ -1,0 +1,68 @@
+-- Under which assignments of a surround's leaves it is seen what bits are put in the place of a window's outputs.
+use Rattle.std.specs.Prelude.{◌≡◌, ℕ, ◌+◌, ◌*◌, ◌≤◌, ◌<◌, ◌^◌, Bool, true, false, List, ◌++◌, length, slice_get, slice_index_or, Some, ◌⊎◌}
+use Rattle.chain_theory.specs.Operator.{digit}
+use Rattle.net_theory.specs.Net.{Net}
+use Rattle.lane_sim.specs.Cone.{Cone}
+use Rattle.lane_sim.specs.Words.{Words, AreWords}
+use Rattle.window_theory.specs.Places.{among}
+use Rattle.window_theory.specs.Care.{values_with, HasRow}
+use Rattle.observe_core.specs.Putting.{IsPutCone}
+
+-- ---- words
+
+-- bit t of a word of a list
+abbrev pub bit_in : List ℕ → ℕ → ℕ → Bool
+bit_in words j t = digit (slice_index_or words j 0) t
+
+-- The first words grew by the bits in which two rows differ.
+pub record IsAdded (first second : List ℕ) (start count : ℕ) (old new : List ℕ) : Type 0 where
+  pub size : length new ≡ length old
+  pub later : (j : ℕ) → count ≤ j → slice_index_or new j 0 ≡ slice_index_or old j 0
+  pub only : (j t : ℕ) → j < count → bit_in new j t ≡ true → (bit_in old j t ≡ true) ⊎ (bit_in first (start + j) t ≡ bit_in second (start + j) t → ⊥)
+  pub none : (j t : ℕ) → j < count → bit_in new j t ≡ false → (bit_in old j t ≡ false) × (bit_in first (start + j) t ≡ bit_in second (start + j) t)
+
+-- some watcher's rows differ in a bit
+pub record RowsDiffer (first second : List ℕ) (start width : ℕ) (tail watchers : List ℕ) (j t : ℕ) : Type 0 where
+  pub index : ℕ
+  pub place : ℕ
+  pub at : slice_get tail index ≡ Some place
+  pub watcher : among watchers place ≡ true
+  pub differ : bit_in first ((start + index) * width + j) t ≡ bit_in second ((start + index) * width + j) t → ⊥
+
+-- The words grew by the bits in which the rows of the watchers among the first gates of the tail differ.
+pub record AreAdded (first second : List ℕ) (start : ℕ) (tail watchers : List ℕ) (count : ℕ) (old new : List ℕ) : Type 0 where
+  pub size : length new ≡ length old
+  pub only : (j t : ℕ) → j < length old → bit_in new j t ≡ true → (bit_in old j t ≡ true) ⊎ RowsDiffer first second start (length old) tail watchers j t
+  pub none : (j t : ℕ) → j < length old → bit_in new j t ≡ false → (bit_in old j t ≡ false) × ((k p : ℕ) → k < count → slice_get tail k ≡ Some p → among watchers p ≡ true → bit_in first ((start + k) * length old + j) t ≡ bit_in second ((start + k) * length old + j) t)
+
+-- ---- values
+
+-- the values where the leaves and the outputs have bits
+abbrev pub put_bits : Net → List ℕ → List ℕ → (ℕ → Bool) → ℕ → Bool
+put_bits n leaves outputs = values_with n (among (leaves ++ outputs))
+
+-- Under an assignment of the leaves some watcher has two values.
+pub record IsTold (n : Net) (leaves outputs watchers : List ℕ) (row : ℕ) : Type 0 where
+  pub one : ℕ → Bool
+  pub other : ℕ → Bool
+  pub place : ℕ
+  pub one_row : HasRow one leaves row
+  pub other_row : HasRow other leaves row
+  pub watcher : among watchers place ≡ true
+  pub differ : put_bits n leaves outputs one place ≡ put_bits n leaves outputs other place → ⊥
+
+-- words of the cone of a tail with bits
+pub record ArePutWords (n : Net) (outputs : List ℕ) (bits : ℕ) (surround : Cone) (tail : List ℕ) (words : Words) : Type 0 where
+  pub cone : Cone
+  pub is : IsPutCone n outputs bits surround tail cone
+  pub are : AreWords cone words
+
+-- The words name the assignments under which it was told which of the first numbers was put.
+pub record AreTold (n : Net) (outputs : List ℕ) (surround : Cone) (watchers : List ℕ) (count : ℕ) (differ : List ℕ) : Type 0 where
+  pub only : (j t : ℕ) → j < length differ → t < 64 → 64 * j + t < 2 ^ length surround.leaves → bit_in differ j t ≡ true → IsTold n surround.leaves outputs watchers (64 * j + t)
+  pub none : (j t b p : ℕ) (f g : ℕ → Bool) → j < length differ → t < 64 → 64 * j + t < 2 ^ length surround.leaves → bit_in differ j t ≡ false → b < count → HasRow f surround.leaves (64 * j + t) → HasRow g surround.leaves (64 * j + t) → HasRow f outputs 0 → HasRow g outputs b → among watchers p ≡ true → put_bits n surround.leaves outputs f p ≡ put_bits n surround.leaves outputs g p
+
+-- The words name just the assignments under which it is told what was put.
+pub record AreTelling (n : Net) (leaves outputs watchers : List ℕ) (differ : List ℕ) : Type 0 where
+  pub only : (j t : ℕ) → j < length differ → t < 64 → 64 * j + t < 2 ^ length leaves → bit_in differ j t ≡ true → IsTold n leaves outputs watchers (64 * j + t)
+  pub none : (j t p : ℕ) (f g : ℕ → Bool) → j < length differ → t < 64 → 64 * j + t < 2 ^ length leaves → bit_in differ j t ≡ false → HasRow f leaves (64 * j + t) → HasRow g leaves (64 * j + t) → among watchers p ≡ true → put_bits n leaves outputs f p ≡ put_bits n leaves outputs g p

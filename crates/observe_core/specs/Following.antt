@@ -1,0 +1,60 @@
+-- The readers of a place, and the least follower of some gates, while they are looked for. 0 stands for none.
+use Rattle.std.specs.Prelude.{◌≡◌, ℕ, ◌+◌, ◌≤◌, true, false, List, ◌++◌, length, ◌⊎◌}
+use Rattle.net_theory.specs.Net.{Net}
+use Rattle.window_theory.specs.Places.{among, IsRising, AreJust}
+use Rattle.window_theory.specs.Paths.{IsGate, Reads}
+use Rattle.window_core.specs.Readers.{IsEarlier}
+use Rattle.observe_theory.specs.Tail.{IsFollower, AreFollowing, AreTail}
+
+-- the least gate outside some gates that reads a place, or 0 where there is none
+pub record IsLeastReader (n : Net) (gates : List ℕ) (place r : ℕ) : Type 0 where
+  pub found : (r ≡ 0) ⊎ (Reads n r place × (among gates r ≡ false))
+  pub most : (x : ℕ) → Reads n x place → among gates x ≡ false → (1 ≤ r) × (r ≤ x)
+
+-- So far the readers from a bound on were looked at, and `next` is the last one below it.
+pub record IsWalking (n : Net) (gates : List ℕ) (place next least : ℕ) : Type 0 where
+  pub bound : ℕ
+  pub earlier : IsEarlier n bound place next
+  pub found : (least ≡ 0) ⊎ (Reads n least place × (among gates least ≡ false))
+  pub from : (least ≡ 0) ⊎ (bound ≤ least)
+  pub most : (x : ℕ) → Reads n x place → among gates x ≡ false → bound ≤ x → (1 ≤ least) × (least ≤ x)
+
+-- the lesser of two numbers of which each may be none
+pub record IsLesser (a b r : ℕ) : Type 0 where
+  pub one : (r ≡ a) ⊎ (r ≡ b)
+  pub first : 1 ≤ a → (1 ≤ r) × (r ≤ a)
+  pub second : 1 ≤ b → (1 ≤ r) × (r ≤ b)
+
+-- the least follower of some gates, or 0 where there is none
+pub record IsNextFollower (n : Net) (gates : List ℕ) (r : ℕ) : Type 0 where
+  pub found : (r ≡ 0) ⊎ IsFollower n gates r
+  pub most : (x : ℕ) → IsFollower n gates x → (1 ≤ r) × (r ≤ x)
+
+-- The least follower is sought, and the readers of these gates weren't looked at.
+pub record IsSought (n : Net) (gates left : List ℕ) (best : ℕ) : Type 0 where
+  pub within : (q : ℕ) → among left q ≡ true → among gates q ≡ true
+  pub found : (best ≡ 0) ⊎ IsFollower n gates best
+  pub most : (x q : ℕ) → among gates q ≡ true → Reads n x q → among gates x ≡ false → ((1 ≤ best) × (best ≤ x)) ⊎ (among left q ≡ true)
+
+-- two lists have the same places
+abbrev pub HaveSame : List ℕ → List ℕ → Type 0
+HaveSame xs ys = (q : ℕ) → among xs q ≡ among ys q
+
+-- So many gates of the tail were taken; `all` has them and the window's gates.
+pub record IsTaking (n : Net) (gates : List ℕ) (count : ℕ) (all tail : List ℕ) : Type 0 where
+  pub taken : List ℕ
+  pub following : AreFollowing n gates taken
+  pub size : length taken ≡ count
+  pub just : AreJust (λ p. among taken p ≡ true) tail
+  pub rising : IsRising all
+  pub same : HaveSame all (taken ++ gates)
+  pub few : length all ≤ length gates + count
+  pub are : (q : ℕ) → among all q ≡ true → IsGate n q
+
+-- The tail was taken.
+pub record HasTail (n : Net) (gates all tail : List ℕ) : Type 0 where
+  pub is : AreTail n gates tail
+  pub rising : IsRising all
+  pub same : HaveSame all (tail ++ gates)
+  pub few : length all ≤ length gates + 16
+  pub are : (q : ℕ) → among all q ≡ true → IsGate n q

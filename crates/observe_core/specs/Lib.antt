@@ -1,0 +1,13 @@
+pub mod Following
+pub mod Kept
+pub mod Putting
+pub mod Differing
+pub mod Observing
+pub mod FollowingLaws
+pub mod KeptLaws
+pub mod TakingLaws
+pub mod PuttingLaws
+pub mod DifferingLaws
+pub mod ObservingLaws
+pub mod NarrowingLaws
+pub mod SubstitutingLaws

@@ -1,0 +1,45 @@
+-- Rows as the digits of masks.
+use Rattle.std.specs.Prelude.{◌≡◌, ℕ, ◌≤◌, ◌<◌, ◌^◌, List, true, false, ◌&&◌, length, slice_index}
+use Rattle.chain_theory.specs.Chain.{Chain, IsChain}
+use Rattle.chain_theory.specs.Agreement.{Agrees}
+use Rattle.chain_theory.specs.Operator.{digit}
+use Rattle.chain_theory.specs.Specification.{Specification}
+use Rattle.net_theory.specs.Net.{Net}
+use Rattle.tt_core.specs.Words.{Words}
+use Rattle.lane_sim.specs.Cone.{Cone}
+use Rattle.window_theory.specs.Places.{among, AreJust}
+use Rattle.window_theory.specs.Surround.{LeadsTo}
+use Rattle.window_core.specs.Surrounding.{gate_places, AreAbove, AreCovered, IsBehind}
+use Rattle.window_theory.specs.Window.{Window}
+use Rattle.observe_theory.specs.Tail.{Tail}
+use Rattle.observe_theory.specs.Unseen.{IsFirst, IsUnseen}
+use Rattle.observe_theory.specs.Observed.{IsObservedOf}
+
+-- The observing surround as a cone of the net.
+pub record IsObservingCone (n : Net) (w : Window) (t : Tail) (c : Cone) : Type 0 where
+  pub first : List ℕ
+  pub just : AreJust (IsFirst w t) first
+  pub few : length first ≤ 12
+  pub leads : LeadsTo n first c.leaves
+  pub above : AreAbove n c.leaves c.gates
+  pub covered : AreCovered c.leaves c.gates first
+  pub behind : (p : ℕ) → among (gate_places c.gates) p ≡ true → IsBehind n first p
+
+-- The digits of a mask are 0 at just the unseen rows.
+pub record IsSeenMask (n : Net) (w : Window) (t : Tail) (mask : ℕ) : Type 0 where
+  pub seen : (row : ℕ) → row < 2 ^ length w.inputs → digit mask row ≡ true → IsUnseen n w t row → ⊥
+  pub unseen : (row : ℕ) → row < 2 ^ length w.inputs → digit mask row ≡ false → IsUnseen n w t row
+
+-- The tables of a specification, of which only the rows of a mask are left.
+pub record IsMasked (mask : ℕ) (old new : Words) : Type 0 where
+  pub inputs : new.n ≡ old.n
+  pub outputs : length new.on ≡ length old.on
+  pub on : (i t : ℕ) → digit (slice_index new.on i) t ≡ (digit (slice_index old.on i) t && digit mask t)
+  pub care : (i t : ℕ) → digit (slice_index new.care i) t ≡ (digit (slice_index old.care i) t && digit mask t)
+
+-- The chain agrees with what those who see the window ask of it.
+pub record MeetsSeen (n : Net) (w : Window) (c : Chain) : Type 0 where
+  pub chain : IsChain c
+  pub specification : Specification
+  pub is : IsObservedOf n w specification
+  pub agrees : Agrees c specification

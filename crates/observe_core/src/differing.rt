@@ -1,0 +1,157 @@
+//! The assignments of a surround's leaves under which it is seen what bits are put in the place of a window's outputs: the
+//! tail is evaluated with each number in their place, and its watchers' words are compared with those for the number 0.
+
+ghost use Rattle.std.specs.Prelude.{◌≡◌, ℕ, ◌+◌, ◌*◌, ◌≤◌, ◌<◌, ◌^◌, true, length, slice_index_or, slice_set, bit_or, bit_xor, IfOk, OnOk};
+ghost use Rattle.lane_sim.specs.Cone.{IsCone, places};
+ghost use Rattle.lane_sim.specs.Words.{width_of};
+ghost use Rattle.window_theory.specs.Places.{among, IsRising};
+ghost use Rattle.observe_core.specs.Differing.{IsAdded, AreAdded, ArePutWords, AreTold, AreTelling};
+ghost use Rattle.observe_core.specs.Putting.{IsAbove};
+
+use crate::putting::put_cone;
+use lane_sim::{Cone, Words, cone_words, lanes_of};
+use std::alloc::{AllocError, Global};
+use window_core::{Net, has};
+
+/// Adds the bits in which two words of rows differ that begin at a place of the words.
+fn add_one(differ: &mut [u64], first: &[u64], second: &[u64], start: usize, j: usize)
+    requires within { j < length differ.old }
+    requires one { start + j < length first.now }
+    requires two { start + j < length second.now }
+    ensures { differ.new ≡ slice_set differ.old j (bit_or (slice_index_or differ.old j 0) (bit_xor (slice_index_or first.now (start + j) 0) (slice_index_or second.now (start + j) 0))) }
+{
+    differ[j] |= first[start + j] ^ second[start + j];
+}
+
+/// The same of all words.
+fn add_difference(differ: &mut [u64], first: &[u64], second: &[u64], start: usize)
+    requires one { start + length differ.old ≤ length first.now }
+    requires two { start + length differ.old ≤ length second.now }
+    ensures { IsAdded first.now second.now start (length differ.old) differ.old differ.new }
+{
+    for j in 0..differ.len() {
+        add_one(differ, first, second, start, j);
+    }
+}
+
+/// Adds the bits in which the rows of the watchers differ. The tail's rows stand one after the other, behind others.
+fn add_watchers(
+    differ: &mut [u64],
+    first: &[u64],
+    second: &[u64],
+    start: usize,
+    tail: &[u32],
+    watchers: &[u32],
+)
+    requires some { 1 ≤ length differ.old }
+    requires small { length first.now < 2 ^ 63 }
+    requires one { (start + length tail.now) * length differ.old ≤ length first.now }
+    requires two { (start + length tail.now) * length differ.old ≤ length second.now }
+    ensures { AreAdded first.now second.now start tail.now watchers.now (length tail.now) differ.old differ.new }
+{
+    for i in 0..tail.len() {
+        if !has(watchers, tail[i]) {
+            continue;
+        }
+        let row = (start + i) * differ.len();
+        add_difference(differ, first, second, row);
+    }
+}
+
+/// Adds the assignments under which it is told that bits were put in place of 0.
+fn add_bits(
+    alloc: Global,
+    net: &Net,
+    outputs: &[u32],
+    bits: u32,
+    surround: &Cone,
+    tail: &[u32],
+    watchers: &[u32],
+    zero: &Words,
+    differ: &mut [u64],
+) -> Result<(), AllocError>
+    requires few { length outputs.now ≤ 8 }
+    requires above { IsAbove net.now outputs.now surround.now tail.now }
+    requires zero { ArePutWords net.now outputs.now 0 surround.now tail.now zero.now }
+    requires size { length differ.old ≡ width_of (2 ^ length surround.now.leaves) }
+    requires watchers { (p : ℕ) → among watchers.now p ≡ true → among tail.now p ≡ true }
+    requires told { AreTold net.now outputs.now surround.now watchers.now bits differ.old }
+    ensures told { OnOk result (AreTold net.now outputs.now surround.now watchers.now (bits + 1) differ.new) }
+    ensures size { length differ.new ≡ length differ.old }
+{
+    let _sources = net.sources(); // says that the net is one
+    let cone = put_cone(alloc, net, outputs, bits, surround, tail)?;
+    let words = cone_words(alloc, &cone)?;
+    let start = surround.leaves().len() + surround.gates().len();
+    add_watchers(
+        differ,
+        lanes_of(zero),
+        lanes_of(&words),
+        start,
+        tail,
+        watchers,
+    );
+    Ok(())
+}
+
+/// Adds the assignments under which it is told what other number than 0 was put.
+fn add_all_bits(
+    alloc: Global,
+    net: &Net,
+    outputs: &[u32],
+    surround: &Cone,
+    tail: &[u32],
+    watchers: &[u32],
+    zero: &Words,
+    differ: &mut [u64],
+) -> Result<(), AllocError>
+    requires few { length outputs.now ≤ 8 }
+    requires above { IsAbove net.now outputs.now surround.now tail.now }
+    requires zero { ArePutWords net.now outputs.now 0 surround.now tail.now zero.now }
+    requires size { length differ.old ≡ width_of (2 ^ length surround.now.leaves) }
+    requires watchers { (p : ℕ) → among watchers.now p ≡ true → among tail.now p ≡ true }
+    requires told { AreTold net.now outputs.now surround.now watchers.now 1 differ.old }
+    ensures told { OnOk result (AreTold net.now outputs.now surround.now watchers.now (2 ^ length outputs.now) differ.new) }
+    ensures size { length differ.new ≡ length differ.old }
+{
+    for bits in 1..(1u32 << outputs.len()) {
+        add_bits(
+            alloc, net, outputs, bits, surround, tail, watchers, zero, differ,
+        )?;
+    }
+    Ok(())
+}
+
+/// The assignments of the surround's leaves under which it is told what bits are put in the place of the outputs, as the
+/// bits of words.
+pub(crate) fn telling(
+    alloc: Global,
+    net: &Net,
+    outputs: &[u32],
+    surround: &Cone,
+    tail: &[u32],
+    watchers: &[u32],
+) -> Result<Vec<u64>, AllocError>
+    requires few { length outputs.now ≤ 8 }
+    requires above { IsAbove net.now outputs.now surround.now tail.now }
+    requires watchers { (p : ℕ) → among watchers.now p ≡ true → among tail.now p ≡ true }
+    ensures size { IfOk result (λ differ. length differ.items ≡ width_of (2 ^ length surround.now.leaves)) }
+    ensures telling { IfOk result (λ differ. AreTelling net.now surround.now.leaves outputs.now watchers.now differ.items) }
+{
+    let _sources = net.sources(); // says that the net is one
+    let cone = put_cone(alloc, net, outputs, 0, surround, tail)?;
+    let zero = cone_words(alloc, &cone)?;
+    let rows = 1usize << surround.leaves().len();
+    let mut differ = vec![in alloc; 0u64; (rows + 63) / 64]?;
+    add_all_bits(
+        alloc,
+        net,
+        outputs,
+        surround,
+        tail,
+        watchers,
+        &zero,
+        &mut differ,
+    )?;
+    Ok(differ)
+}

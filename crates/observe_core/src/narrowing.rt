@@ -1,0 +1,59 @@
+//! What those who see a window ask of it: the window's specification, with the cells of all unseen rows free.
+
+ghost use Rattle.std.specs.Prelude.{◌≡◌, map, bit_and, IfOk};
+ghost use Rattle.tt_core.specs.Words.{specification};
+ghost use Rattle.window_theory.specs.Window.{Belongs};
+ghost use Rattle.window_core.specs.Readers.{AreReaders};
+ghost use Rattle.observe_theory.specs.Observed.{IsObservedOf};
+ghost use Rattle.observe_core.specs.Observing.{IsMasked};
+
+use crate::observing::seen_rows;
+use crate::trailing::tail_by;
+use std::alloc::{AllocError, Global};
+use tt_core::Spec;
+use window_core::{Net, Readers, Window, readers_of, spec_of};
+
+/// The words, each with the digits of a mask alone.
+fn masked(alloc: Global, words: &[u64], mask: u64) -> Result<Vec<u64>, AllocError>
+    ensures { IfOk result (λ new. new.items ≡ map (λ word. bit_and word mask) words.now) }
+{
+    words.iter().map(|word| *word & mask).collect(alloc)
+}
+
+/// A specification, with the cells of all rows free that a mask doesn't have.
+fn narrowed(alloc: Global, spec: &Spec, mask: u64) -> Result<Spec, AllocError>
+    ensures { IfOk result (IsMasked mask spec.now) }
+{
+    let inputs = spec.n();
+    let on = masked(alloc, spec.on(), mask)?;
+    let care = masked(alloc, spec.care(), mask)?;
+    Ok(Spec::new(inputs, on, care))
+}
+
+/// The observed specification of a window, by the index of the net.
+pub fn observed_spec_by(
+    alloc: Global,
+    net: &Net,
+    readers: &Readers,
+    window: &Window,
+) -> Result<Spec, AllocError>
+    requires index { AreReaders net.now readers.now }
+    requires belongs { Belongs net.now window.now }
+    ensures { IfOk result (λ s. IsObservedOf net.now window.now (specification s)) }
+{
+    let whole = spec_of(alloc, net, window)?;
+    let tail = tail_by(alloc, net, readers, window)?;
+    let seen = seen_rows(alloc, net, window, &tail)?;
+    let spec = narrowed(alloc, &whole, seen)?;
+    let _outputs = whole.outputs(); // says that the tables are a specification
+    Ok(spec)
+}
+
+/// The same without an index: it is made for this window alone.
+pub fn observed_spec(alloc: Global, net: &Net, window: &Window) -> Result<Spec, AllocError>
+    requires { Belongs net.now window.now }
+    ensures { IfOk result (λ s. IsObservedOf net.now window.now (specification s)) }
+{
+    let readers = readers_of(alloc, net)?;
+    observed_spec_by(alloc, net, &readers, window)
+}

@@ -1,0 +1,84 @@
+//! The rows of a window's inputs on which somebody sees the window: under some assignment of the observing surround's
+//! leaves that gives the row it is told what bits are put in the place of the window's outputs.
+
+ghost use Rattle.std.specs.Prelude.{◌≡◌, ℕ, ◌++◌, true, false, IfOk};
+ghost use Rattle.window_theory.specs.Places.{among, AreJust};
+ghost use Rattle.window_theory.specs.Paths.{IsGate};
+ghost use Rattle.window_theory.specs.Window.{IsInput, Belongs};
+ghost use Rattle.observe_theory.specs.Tail.{IsTail};
+ghost use Rattle.observe_core.specs.Observing.{IsObservingCone, IsSeenMask};
+
+use crate::differing::telling;
+use crate::shape::Tail;
+use lane_sim::{Cone, cone_words, patterns_on};
+use std::alloc::{AllocError, Global};
+use window_core::{Net, Window, all_inputs, signals_of, surround};
+
+/// What the gates of a window and of its tail read from outside.
+fn first_leaves(
+    alloc: Global,
+    net: &Net,
+    gates: &[u32],
+    tail: &[u32],
+) -> Result<Vec<u32>, AllocError>
+    requires { (p : ℕ) → among (tail.now ++ gates.now) p ≡ true → IsGate net.now p }
+    ensures { IfOk result (λ first. AreJust (IsInput net.now (tail.now ++ gates.now)) first.items) }
+{
+    let mut all = Vec::with_capacity(alloc, 24)?;
+    all.extend_from_slice(tail)?;
+    all.extend_from_slice(gates)?;
+    all_inputs(alloc, net, &all)
+}
+
+/// The rows that are seen, by the observing surround.
+fn rows_told(
+    alloc: Global,
+    net: &Net,
+    window: &Window,
+    tail: &Tail,
+    cone: &Cone,
+) -> Result<u64, AllocError>
+    requires belongs { Belongs net.now window.now }
+    requires tail { IsTail net.now window.now tail.now }
+    requires hidden { tail.now.bare ≡ false }
+    requires cone { IsObservingCone net.now window.now tail.now cone.now }
+    ensures { IfOk result (IsSeenMask net.now window.now tail.now) }
+{
+    let _sources = net.sources(); // says that the net is one
+    let _leaves = cone.leaves(); // says that the cone is one
+    let words = cone_words(alloc, cone)?;
+    let differ = telling(
+        alloc,
+        net,
+        window.outputs(),
+        cone,
+        &tail.gates,
+        &tail.watchers,
+    )?;
+    let signals = signals_of(alloc, window.inputs())?;
+    Ok(patterns_on(&words, cone, &signals, &differ))
+}
+
+/// The rows of a window's inputs on which somebody sees it, as the digits of a mask.
+pub(crate) fn seen_rows(
+    alloc: Global,
+    net: &Net,
+    window: &Window,
+    tail: &Tail,
+) -> Result<u64, AllocError>
+    requires belongs { Belongs net.now window.now }
+    requires tail { IsTail net.now window.now tail.now }
+    ensures { IfOk result (IsSeenMask net.now window.now tail.now) }
+{
+    let _sources = net.sources(); // says that the net is one
+    let _outputs = window.outputs(); // says that the window has few inputs
+    if tail.bare {
+        return Ok(u64::MAX);
+    }
+    let first = first_leaves(alloc, net, window.gates(), &tail.gates)?;
+    if first.len() > 12 {
+        return Ok(u64::MAX);
+    }
+    let cone = surround(alloc, net, &first)?;
+    rows_told(alloc, net, window, tail, &cone)
+}

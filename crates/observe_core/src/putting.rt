@@ -1,0 +1,123 @@
+//! The tail of a window above its surround, with bits in the place of the window's outputs.
+
+ghost use Rattle.std.specs.Prelude.{◌≡◌, ℕ, ◌≤◌, true, [], length, if◌then◌else◌, IfOk, OnOk};
+ghost use Rattle.net_theory.specs.declared.data.Sig.TheVariants as sigs;
+ghost use Rattle.net_theory.specs.declared.data.Gate.{Gate as GateValue};
+ghost use Rattle.lane_sim.specs.Cone.{IsCone};
+ghost use Rattle.window_theory.specs.Places.{among};
+ghost use Rattle.window_theory.specs.Paths.{IsGate};
+ghost use Rattle.window_core.specs.Gates.{IsGateOf};
+ghost use Rattle.observe_core.specs.Putting.{put_place as put_place_of, put_sig as put_sig_of, put_gate as put_gate_of, HasPut, IsAbove, IsPutCone};
+
+use lane_sim::Cone;
+use std::alloc::{AllocError, Global};
+use window_core::{Gate, Net, Sig, gate_at};
+
+/// The constant of a bit.
+fn constant(bit: bool) -> Sig
+    ensures { result ≡ (if bit then sigs.One else sigs.Zero) }
+{
+    if bit { Sig::One } else { Sig::Zero }
+}
+
+/// A place, or the constant that is put there.
+#[tactic(auto, unfolding(crate::specs::Putting::put_place))]
+fn put_place(outputs: &[u32], bits: u32, place: u32) -> Sig
+    requires { length outputs.now ≤ 8 }
+    ensures { result ≡ put_place_of outputs.now bits place }
+{
+    let mut left = outputs;
+    while let Some((output, rest)) = left.split_first() {
+        if place == *output {
+            return constant((bits >> rest.len()) & 1 == 1);
+        }
+        left = rest;
+    }
+    Sig::Place(place)
+}
+
+/// A signal, or the constant that is put there.
+fn put_sig(outputs: &[u32], bits: u32, sig: Sig) -> Sig
+    requires { length outputs.now ≤ 8 }
+    ensures { result ≡ put_sig_of outputs.now bits sig }
+{
+    match sig {
+        Sig::Place(place) => put_place(outputs, bits, place),
+        _ => sig,
+    }
+}
+
+/// The gate at a place, with what is put for its operands.
+fn put_gate(net: &Net, outputs: &[u32], bits: u32, place: u32) -> Gate
+    requires few { length outputs.now ≤ 8 }
+    requires gate { IsGate net.now place }
+    ensures { (g : GateValue) × IsGateOf net.now place g × (result ≡ put_gate_of outputs.now bits g) }
+{
+    let gate = gate_at(net, place);
+    Gate {
+        op: gate.op,
+        a: put_sig(outputs, bits, gate.a),
+        b: put_sig(outputs, bits, gate.b),
+    }
+}
+
+/// The gates of a cone again.
+fn same_gates(alloc: Global, cone: &Cone) -> Result<Vec<(u32, Gate)>, AllocError>
+    ensures { IfOk result (λ gates. gates.items ≡ cone.now.gates) }
+{
+    let mut gates = Vec::with_capacity(alloc, cone.gates().len() + 16)?;
+    let mut left = cone.gates();
+    while let Some((first, rest)) = left.split_first() {
+        gates.push((
+            first.0,
+            Gate {
+                op: first.1.op,
+                a: first.1.a,
+                b: first.1.b,
+            },
+        ))?;
+        left = rest;
+    }
+    Ok(gates)
+}
+
+/// The gates of the tail behind those of its surround.
+fn put_tail(
+    net: &Net,
+    outputs: &[u32],
+    bits: u32,
+    tail: &[u32],
+    gates: &mut Vec<(u32, Gate)>,
+) -> Result<(), AllocError>
+    requires few { length outputs.now ≤ 8 }
+    requires tail { (p : ℕ) → among tail.now p ≡ true → IsGate net.now p }
+    ensures { OnOk result (HasPut net.now outputs.now bits tail.now [] gates.old.items gates.new.items) }
+{
+    let mut left = tail;
+    while let Some((place, rest)) = left.split_first() {
+        gates.push((*place, put_gate(net, outputs, bits, *place)))?;
+        left = rest;
+    }
+    Ok(())
+}
+
+/// The cone of the tail above its surround.
+pub(crate) fn put_cone(
+    alloc: Global,
+    net: &Net,
+    outputs: &[u32],
+    bits: u32,
+    surround: &Cone,
+    tail: &[u32],
+) -> Result<Cone, AllocError>
+    requires few { length outputs.now ≤ 8 }
+    requires tail { IsAbove net.now outputs.now surround.now tail.now }
+    ensures { IfOk result (λ cone. IsPutCone net.now outputs.now bits surround.now tail.now cone) }
+{
+    let _sources = net.sources(); // says that the net is one
+    let mut leaves = Vec::with_capacity(alloc, 12)?;
+    leaves.extend_from_slice(surround.leaves())?;
+    let mut gates = same_gates(alloc, surround)?;
+    put_tail(net, outputs, bits, tail, &mut gates)?;
+    Ok(Cone::new(leaves, gates))
+}

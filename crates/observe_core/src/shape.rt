@@ -1,0 +1,21 @@
+//! Tails, as they are handed out.
+
+use std::marker::Model;
+
+/// The gates above a window through which it is seen first, at most 16, what they read beside the window, and those of
+/// them that are seen by others; whether others see the window itself. Each list rises.
+#[derive(Debug, Drop)]
+pub struct Tail {
+    pub gates: Vec<u32>,
+    pub sides: Vec<u32>,
+    pub watchers: Vec<u32>,
+    pub bare: bool,
+}
+
+impl Model for Tail {
+    ghost use Rattle.observe_theory.specs.Tail as tail;
+
+    ghost Value = { tail.Tail };
+
+    ghost view = { λ t. record { gates = t.gates.items; sides = t.sides.items; watchers = t.watchers.items; bare = t.bare } };
+}

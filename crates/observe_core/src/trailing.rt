@@ -1,0 +1,173 @@
+//! The tail of a window, its side inputs, its watchers, and whether the window is seen past it.
+
+ghost use Rattle.std.specs.Prelude.{◌≡◌, ℕ, ◌≤◌, true, false, [], ◌⊎◌, IfOk, OnOk};
+ghost use Rattle.net_theory.specs.Reach.{is_place};
+ghost use Rattle.window_theory.specs.Places.{among, IsRising, AreJust};
+ghost use Rattle.window_theory.specs.Paths.{IsGate};
+ghost use Rattle.window_theory.specs.Window.{IsReadBy, Belongs};
+ghost use Rattle.window_core.specs.Readers.{AreReaders};
+ghost use Rattle.observe_theory.specs.Tail.{IsTail};
+ghost use Rattle.observe_core.specs.Following.{HasTail};
+ghost use Rattle.observe_core.specs.Kept.{IsBoth, HasSome};
+
+use crate::following::next_follower;
+use crate::shape::Tail;
+use std::alloc::{AllocError, Global};
+use window_core::{
+    Gate, Net, Readers, Sig, Window, all_inputs, all_outputs, gate_at, has, put, readers_of,
+};
+
+/// Takes the least follower of what was taken, as often as there is one, but at most 16 times.
+fn take_tail(
+    net: &Net,
+    readers: &Readers,
+    all: &mut Vec<u32>,
+    tail: &mut Vec<u32>,
+) -> Result<(), AllocError>
+    requires index { AreReaders net.now readers.now }
+    requires rising { IsRising all.old.items }
+    requires gates { (p : ℕ) → among all.old.items p ≡ true → IsGate net.now p }
+    requires none { tail.old.items ≡ [] }
+    ensures { OnOk result (HasTail net.now all.old.items all.new.items tail.new.items) }
+{
+    let _sources = net.sources(); // says that the net is one
+    for _taken in 0..16u32 {
+        let place = next_follower(net, readers, all);
+        if place == 0 {
+            return Ok(());
+        }
+        put(all, place)?;
+        tail.push(place)?;
+    }
+    Ok(())
+}
+
+/// Those of rising places that are none of the gates.
+fn places_outside(alloc: Global, places: &[u32], gates: &[u32]) -> Result<Vec<u32>, AllocError>
+    requires { IsRising places.now }
+    ensures { IfOk result (λ kept. AreJust (IsBoth (λ p. among gates.now p ≡ false) places.now) kept.items) }
+{
+    let mut kept = Vec::new(alloc);
+    let mut left = places;
+    while let Some((place, rest)) = left.split_first() {
+        if has(gates, *place) {
+            left = rest;
+            continue;
+        }
+        kept.push(*place)?;
+        left = rest;
+    }
+    Ok(kept)
+}
+
+/// Whether a signal names a place.
+fn names(sig: Sig, place: u32) -> bool
+    ensures { result ≡ is_place place sig }
+{
+    match sig {
+        Sig::Place(named) => named == place,
+        _ => false,
+    }
+}
+
+/// Whether a gate reads a place.
+fn reads(gate: &Gate, place: u32) -> bool
+    ensures yes { result ≡ true → (is_place place gate.now.a ≡ true) ⊎ (is_place place gate.now.b ≡ true) }
+    ensures first { result ≡ false → is_place place gate.now.a ≡ false }
+    ensures second { result ≡ false → is_place place gate.now.b ≡ false }
+{
+    names(gate.a, place) || names(gate.b, place)
+}
+
+/// Whether some of these gates reads a place.
+fn is_read_by(net: &Net, gates: &[u32], place: u32) -> bool
+    requires { (p : ℕ) → among gates.now p ≡ true → IsGate net.now p }
+    ensures yes { result ≡ true → IsReadBy net.now gates.now place }
+    ensures no { IsReadBy net.now gates.now place → result ≡ true }
+{
+    let mut left = gates;
+    while let Some((gate, rest)) = left.split_first() {
+        if reads(gate_at(net, *gate), place) {
+            return true;
+        }
+        left = rest;
+    }
+    false
+}
+
+/// Those of rising places that some of these gates reads.
+fn places_read(
+    alloc: Global,
+    net: &Net,
+    places: &[u32],
+    gates: &[u32],
+) -> Result<Vec<u32>, AllocError>
+    requires rising { IsRising places.now }
+    requires gates { (p : ℕ) → among gates.now p ≡ true → IsGate net.now p }
+    ensures { IfOk result (λ kept. AreJust (IsBoth (IsReadBy net.now gates.now) places.now) kept.items) }
+{
+    let mut kept = Vec::new(alloc);
+    let mut left = places;
+    while let Some((place, rest)) = left.split_first() {
+        if is_read_by(net, gates, *place) {
+            kept.push(*place)?;
+            left = rest;
+            continue;
+        }
+        left = rest;
+    }
+    Ok(kept)
+}
+
+/// Whether some of the places is one of the gates.
+fn has_some(gates: &[u32], places: &[u32]) -> bool
+    ensures yes { result ≡ true → HasSome gates.now places.now }
+    ensures no { HasSome gates.now places.now → result ≡ true }
+{
+    let mut left = places;
+    while let Some((place, rest)) = left.split_first() {
+        if has(gates, *place) {
+            return true;
+        }
+        left = rest;
+    }
+    false
+}
+
+/// The tail of a window, by the index of the net.
+pub fn tail_by(
+    alloc: Global,
+    net: &Net,
+    readers: &Readers,
+    window: &Window,
+) -> Result<Tail, AllocError>
+    requires index { AreReaders net.now readers.now }
+    requires belongs { Belongs net.now window.now }
+    ensures { IfOk result (λ tail. IsTail net.now window.now tail) }
+{
+    let _sources = net.sources(); // says that the net is one
+    let mut all = Vec::with_capacity(alloc, 24)?;
+    all.extend_from_slice(window.gates())?;
+    let mut gates = Vec::with_capacity(alloc, 16)?;
+    take_tail(net, readers, &mut all, &mut gates)?;
+    let inputs = all_inputs(alloc, net, &all)?;
+    let sides = places_read(alloc, net, &inputs, &gates)?;
+    let outputs = all_outputs(alloc, net, readers, &all)?;
+    let watchers = places_outside(alloc, &outputs, window.gates())?;
+    let bare = has_some(window.gates(), &outputs);
+    Ok(Tail {
+        gates,
+        sides,
+        watchers,
+        bare,
+    })
+}
+
+/// The same without an index: it is made for this window alone.
+pub fn tail(alloc: Global, net: &Net, window: &Window) -> Result<Tail, AllocError>
+    requires { Belongs net.now window.now }
+    ensures { IfOk result (λ tail. IsTail net.now window.now tail) }
+{
+    let readers = readers_of(alloc, net)?;
+    tail_by(alloc, net, &readers, window)
+}
