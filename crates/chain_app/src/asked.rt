@@ -19,9 +19,9 @@ fn most_bytes(command: &Command) -> Option<usize>
         Command::Agree => Some(agree::MOST_BYTES),
         Command::Recheck => Some(recheck::MOST_BYTES),
         Command::Synth(_) => Some(synth::MOST_BYTES),
-        Command::Improve(_) => Some(improve::MOST_BYTES),
+        Command::Improve { .. } => Some(improve::MOST_BYTES),
         Command::Equiv(_) => Some(equiv::MOST_BYTES),
-        Command::Gen(_) => None,
+        Command::Gen { .. } => None,
     }
 }
 
@@ -35,9 +35,9 @@ fn judge(alloc: Global, command: &Command, bytes: &[u8]) -> Result<Reply, Stop>
         Command::Agree => agree::agree(alloc, bytes),
         Command::Recheck => recheck::recheck(alloc, bytes),
         Command::Synth(settings) => synth::synth(alloc, bytes, settings),
-        Command::Improve(settings) => improve::improve(alloc, bytes, settings),
+        Command::Improve { format, settings } => improve::improve(alloc, *format, bytes, settings),
         Command::Equiv(budget) => equiv::equiv(alloc, bytes, *budget),
-        Command::Gen(blocks) => netlists::netlist(alloc, *blocks),
+        Command::Gen { blocks, deed } => netlists::netlist(alloc, *blocks, *deed),
     }
 }
 
