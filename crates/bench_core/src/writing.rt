@@ -4,12 +4,14 @@
 ghost use Rattle.std.specs.Prelude.{◌≡◌, ◌++◌, OnOk, OnErr};
 ghost use Rattle.net_theory.specs.Circuit.{IsProper};
 ghost use Rattle.net_core.specs.Names.{HasRoom};
+ghost use Rattle.blif_core.specs.Written.{written};
 ghost use Rattle.bench_core.specs.Gates.{first_source as first_source_of};
 ghost use Rattle.bench_core.specs.Spelling.{circuit_text};
 
 use crate::spelling::write_document;
 use blif_core::document_of;
 use net_core::Circuit;
+use net_document::Document;
 use std::alloc::AllocError;
 
 /// The name of the first source: an input, or the output of a latch where there is no input. It is empty
@@ -27,6 +29,19 @@ pub fn first_source(circuit: &Circuit) -> &[u8]
     }
 }
 
+/// Appends the BENCH text of a circuit, by the document as which BLIF would write it.
+#[tactic(auto, using(crate::proofs::Small::smalls))]
+pub fn write_gates(
+    text: &mut Vec<u8>,
+    circuit: &Circuit,
+    document: &Document,
+) -> Result<(), AllocError>
+    requires { document.now ≡ written circuit.now }
+    ensures { OnOk result (text.new.items ≡ text.old.items ++ circuit_text circuit.now) }
+{
+    write_document(text, first_source(circuit), document)
+}
+
 /// Appends the BENCH text of a circuit: the inputs, the outputs, the latches, the gates in the order of
 /// their places under the names that `gate_names` tells, the constants that latches need, and the outputs
 /// whose names weren't written.
@@ -34,7 +49,6 @@ pub fn first_source(circuit: &Circuit) -> &[u8]
 /// The text has no model, no clocks, and no controls and first values of latches. A gate that reads two
 /// different places has a key where its operator is AND, OR, XOR or the complement of one, and is written
 /// as XNOR else. A constant is made of the first source.
-#[tactic(auto, using(crate::proofs::Small::smalls))]
 pub fn write_bench(circuit: &Circuit, out: &mut Vec<u8>) -> Result<(), AllocError>
     requires { IsProper circuit.now }
     ensures ok { OnOk result (out.new.items ≡ out.old.items ++ circuit_text circuit.now) }
@@ -44,6 +58,6 @@ pub fn write_bench(circuit: &Circuit, out: &mut Vec<u8>) -> Result<(), AllocErro
     let alloc = *out.allocator();
     let document = document_of(alloc, circuit)?;
     let mut text = Vec::new(alloc);
-    write_document(&mut text, first_source(circuit), &document)?;
+    write_gates(&mut text, circuit, &document)?;
     out.extend_from_slice(&text)
 }

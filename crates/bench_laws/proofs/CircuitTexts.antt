@@ -87,3 +87,14 @@ text_is c format can =
       cheap = subst (λ (x : Document). cost x ≤ length c.net.gates) (sym same) cheap;
     }))
     can.source
+
+pub cost_is : (c : Circuit) → IsFormat blif.blif_format blif.CanWrite → CanWrite c → cost (as_gates (first_source c) (written c)) ≡ cost (written c)
+cost_is c format can =
+    let old = format.read_back c (can.proper, can.room) in
+    let d = written c in
+    let well : IsWellFormed d = subst IsWellFormed old.document old.well in
+    let describes : Describes d c = subst (λ (x : Document). Describes x c) old.document old.describes in
+    ⊎_elim
+    (λ some. gates_cost (first_source c) d well (written_spell c can) (subst (λ (ns : List Name). has ns (first_source c) ≡ true) (sym (interface_sources d c describes)) (source_there c can some)))
+    (λ none. ap cost (same_gates (first_source c) d (no_tables c none.0 none.1)))
+    can.source

@@ -10,7 +10,8 @@ ghost use Rattle.net_theory.specs.Cost.{cost};
 ghost use Rattle.net_theory.specs.Circuit.{Circuit, Describes};
 ghost use Rattle.net_document.specs.Format.{IsCircuitOfText, IsReadBack, IsTextOf, IsFormat};
 ghost use Rattle.bench_core.specs.Spelling.{spelled, circuit_text};
-ghost use Rattle.bench_core.specs.Gates.{as_gates};
+ghost use Rattle.blif_core.specs.Written.{written};
+ghost use Rattle.bench_core.specs.Gates.{as_gates, bench_written};
 ghost use Rattle.bench_laws.specs.Spelled.{CanSpell, IsSpelled, CanWrite, IsLineFault};
 ghost use Rattle.bench_text.specs.Statements.{listed_of};
 ghost use Rattle.bench_core.specs.Bench.{bench_format, is_gate_word};
@@ -39,6 +40,13 @@ pub fn documents_are_read_back()
 /// every assignment, and costs no more than the circuit has gates.
 pub fn circuits_are_read_back()
     ensures { (c : Circuit) → CanWrite c → IsTextOf bench_format (circuit_text c) c }
+{
+    blif_is_a_format();
+}
+
+/// A circuit that can be written costs in BENCH what it costs in BLIF.
+pub fn circuits_cost_the_same()
+    ensures { (c : Circuit) → CanWrite c → cost (bench_written c) ≡ cost (written c) }
 {
     blif_is_a_format();
 }

@@ -45,6 +45,10 @@ fn lines_are_listed(rt: HostRuntime) -> Result<(), AllocError> {
             "0 0 0 3",
         ),
         (b"INPUT(a[0])\n".as_slice(), "1 0 0 0"),
+        (
+            b"INPUT(a)\r\n\tq\t=\tDFF\t(\ta\t)\t\r\ny=xnor(a,q,a)# three\r\n".as_slice(),
+            "1 0 1 1",
+        ),
     ] {
         let answer = told(rt.alloc(), text)?;
         assert!(rt; answer.as_str() == wanted);
@@ -61,6 +65,7 @@ fn faults_are_told_with_their_lines(rt: HostRuntime) -> Result<(), AllocError> {
         ),
         (b"y = Lut 0x8 (a\n".as_slice(), "NotSupported 1"),
         (b"y = vdd\n".as_slice(), "NotSupported 1"),
+        (b"y = GND\n".as_slice(), "NotSupported 1"),
         (b"y = vdd(a)\n".as_slice(), "Syntax 1"),
         (b"y = AND()\n".as_slice(), "Syntax 1"),
         (b"y = AND(a,,b)\n".as_slice(), "Syntax 1"),
@@ -87,6 +92,39 @@ fn other_lines_are_none(rt: HostRuntime) -> Result<(), AllocError> {
         (b"INPUT(a\\)\n".as_slice(), "Syntax 1"),
     ] {
         let answer = told(rt.alloc(), text)?;
+        assert!(rt; answer.as_str() == wanted);
+    }
+    Ok(())
+}
+
+/// A gate of so many operands.
+fn gate(alloc: Global, operands: u32) -> Result<Vec<u8>, AllocError> {
+    let mut text = Vec::from_slice(alloc, b"y = AND(a")?;
+    for _operand in 1..operands {
+        text.extend_from_slice(b", a")?;
+    }
+    text.extend_from_slice(b")\n")?;
+    Ok(text)
+}
+
+/// An input whose name has so many bytes.
+fn input(alloc: Global, bytes: u32) -> Result<Vec<u8>, AllocError> {
+    let mut text = Vec::from_slice(alloc, b"INPUT(")?;
+    for _byte in 0..bytes {
+        text.push(b'a')?;
+    }
+    text.extend_from_slice(b")\n")?;
+    Ok(text)
+}
+
+#[test]
+fn limits_are_exact(rt: HostRuntime) -> Result<(), AllocError> {
+    for (operands, wanted) in [(1, "0 0 0 1"), (256, "0 0 0 1"), (257, "TooWide 1")] {
+        let answer = told(rt.alloc(), &gate(rt.alloc(), operands)?)?;
+        assert!(rt; answer.as_str() == wanted);
+    }
+    for (bytes, wanted) in [(0, "Syntax 1"), (1024, "1 0 0 0"), (1025, "NameTooLong 1")] {
+        let answer = told(rt.alloc(), &input(rt.alloc(), bytes)?)?;
         assert!(rt; answer.as_str() == wanted);
     }
     Ok(())

@@ -1,61 +1,25 @@
 -- The numbered names that aren't taken are names, differ, and suffice.
-use Rattle.std.specs.Prelude.{◌≡◌, ℕ, zero, suc, ◌+◌, ◌%◌, ◌^◌, ◌≤◌, ◌<◌, Bool, true, false, not, ◌&&◌, ◌==◌, nat_le, if◌then◌else◌, List, [], ◌∷◌, ◌++◌, length, map, filter, count_by, decimal, refl}
+use Rattle.std.specs.Prelude.{◌≡◌, ℕ, zero, suc, ◌+◌, ◌^◌, ◌≤◌, ◌<◌, Bool, true, false, not, if◌then◌else◌, List, [], ◌∷◌, length, map, filter, count_by, refl}
 use Rattle.std.specs.List.{range_with_len}
 use Rattle.std.proofs.Common.{arith, sym, ◌∙◌, ap, subst, ⊎_elim}
-use Rattle.std.proofs.lemmas.Bool.{cases_Bool, cond_both, and_parts, and_from, not-true, not_from_true, not_from_false, le-leb, ne_eqb, false_from_ne_true, both_ways}
-use Rattle.std.proofs.lemmas.Fmt.{decimal_by_steps, decimal_injective, length-decimal-le}
+use Rattle.std.proofs.lemmas.Bool.{cases_Bool, cond_both, not-true, not_from_true, not_from_false, false_from_ne_true, both_ways}
 use Rattle.std.proofs.lemmas.List.{length-map}
 use Rattle.std.proofs.lemmas.List.Elements.{filter_passes}
 use Rattle.std.proofs.lemmas.List.Sums.{sum_by-cons, length-filter}
-use Rattle.net_theory.specs.Document.{Name, IsName, is_name, is_name_byte, is_same, has, are_distinct}
+use Rattle.net_theory.specs.Document.{Name, IsName, is_same, has, are_distinct}
 use Rattle.net_theory.specs.NameLaws.{has_none, has_cases, has_first, has_later, all_has, cons_distinct, distinct_cons, name_same}
 use Rattle.net_theory.specs.Naming.{numbered, free_names}
 use Rattle.net_document.specs.Listed.{times}
 use Rattle.net_document.specs.TimesLaws.{distinct_times}
+use Rattle.blif_laws.specs.LetterNames.{letter_name, letters_same}
 
 -- ---- numbered names are names
 
-name_push : (n : Name) (b : ℕ) → is_name n ≡ true → is_name_byte b ≡ true → (b == 92) ≡ false → is_name (n ++ b ∷ []) ≡ true
-unfolding is_name
-name_push [] b e good other = absurd cc
-name_push (c ∷ []) b e good other =
-    and_from (is_name_byte c) (is_name (b ∷ [])) (and_parts (is_name_byte c) (not (c == 92)) e).0
-    (and_from (is_name_byte b) (not (b == 92)) good (not_from_false (b == 92) other))
-name_push (c ∷ d ∷ bs) b e good other =
-    let p = and_parts (is_name_byte c) (is_name (d ∷ bs)) e in
-    and_from (is_name_byte c) (is_name (d ∷ bs ++ b ∷ [])) p.0 (name_push (d ∷ bs) b p.1 good other)
-
-digit_good : (d : ℕ) → d < 10 → is_name_byte (48 + d) ≡ true
-digit_good d low =
-    and_from (nat_le 33 (48 + d) && nat_le (48 + d) 126) (not ((48 + d) == 35))
-    (and_from (nat_le 33 (48 + d)) (nat_le (48 + d) 126) (le-leb 33 (48 + d) (omega arith)) (le-leb (48 + d) 126 (omega (arith, low))))
-    (not_from_false ((48 + d) == 35) (ne_eqb (48 + d) 35 (λ e. omega (arith, e))))
-
-digit_other : (d : ℕ) → d < 10 → ((48 + d) == 92) ≡ false
-digit_other d low = ne_eqb (48 + d) 92 (λ e. omega (arith, e, low))
-
-g_name : is_name (103 ∷ []) ≡ true
-unfolding is_name
-g_name = refl
-
-numbered_spelled : (k : ℕ) → k < 2 ^ 64 → is_name (numbered k) ≡ true
-numbered_spelled k low =
-    decimal_by_steps
-    (λ n ds. is_name (103 ∷ ds) ≡ true)
-    (λ n digit. name_push (103 ∷ []) (48 + n) g_name (digit_good n digit) (digit_other n digit))
-    (λ n ds high front. let d : n % 10 < 10 = omega arith in name_push (103 ∷ ds) (48 + n % 10) front (digit_good (n % 10) d) (digit_other (n % 10) d))
-    k
-    low
-
 pub numbered_name : (k : ℕ) → k < 2 ^ 64 → IsName (numbered k)
-numbered_name k low =
-    let size = length-decimal-le 20 k (omega arith) (omega (arith, low)) low in
-    record { spelled = numbered_spelled k low; short = omega (arith, size) }
+numbered_name k low = letter_name 103 k (omega arith) (omega arith) low
 
 numbered_same : (j k : ℕ) → j < 2 ^ 64 → k < 2 ^ 64 → numbered j ≡ numbered k → j ≡ k
-numbered_same j k low_j low_k e = decimal_injective j k low_j low_k (tail_same (decimal j) (decimal k) e) where
-  tail_same : (xs ys : List ℕ) → 103 ∷ xs ≡ 103 ∷ ys → xs ≡ ys
-  tail_same xs ys f = cc
+numbered_same j k low_j low_k e = (letters_same 103 103 j k low_j low_k e).1
 
 -- ---- and differ
 

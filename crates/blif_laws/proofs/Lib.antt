@@ -3,7 +3,6 @@ pub mod GivenNames
 pub mod WordLines
 pub mod Saying
 pub mod Spelled
-pub mod Layers
 pub mod GateTables
 pub mod CircuitNames
 pub mod WrittenParts

@@ -21,7 +21,7 @@ use Rattle.net_theory.specs.Naming.{control_of, second_of, taken_names, each_onc
 use Rattle.net_document.specs.OnceLaws.{has_all_once}
 use Rattle.blif_core.specs.Written.{gate_tables, is_zero, is_one, next_states, one_name, sig_name, constant_tables, latch_lines, output_tables, written}
 use Rattle.blif_laws.specs.Spelled.{IsSpelledTable, IsSpelled}
-use Rattle.blif_laws.proofs.Layers.{AreLayered, layered_append, layered_distinct, layered_inputs, layered_acyclic}
+use Rattle.blif_laws.specs.Layers.{AreLayered, layered_append, layered_distinct, layered_inputs, layered_acyclic}
 use Rattle.blif_laws.proofs.CircuitNames.{output_found, taken_output, taken_source, taken_control, IsSpare, AreNamed, placed, place_at, place_source, place_gate, place_is}
 use Rattle.blif_laws.proofs.WrittenParts.{AreToBeWritten, gates_outputs, gates_spelled, gates_cost, gates_layered, one_of, constants, AreSpare, constants_layered, constants_outputs, constants_spelled, constants_cost, zero_driven, one_driven, AreOutputs, outputs_layered, outputs_spelled, outputs_cost, outputs_new, outputs_driven, lines_latches, lines_at, some_zero, some_one, drop_at}
 

@@ -15,7 +15,7 @@ use Rattle.net_theory.specs.Behaviour.{HoldsIn}
 use Rattle.net_theory.specs.Cost.{table_cost}
 use Rattle.blif_core.specs.Written.{constant_table, gate_table, gate_tables, is_zero, is_one, table_if, latch_lines, output_table, output_tables}
 use Rattle.blif_laws.specs.Spelled.{IsSpelledTable}
-use Rattle.blif_laws.proofs.Layers.{IsLayer, AreLayered}
+use Rattle.blif_laws.specs.Layers.{IsLayer, AreLayered}
 use Rattle.blif_laws.proofs.GateTables.{AreNamesBelow, IsGateTable, gate_is, IsOutputTable, output_is, constant_is, constant_cost, constant_hold}
 
 -- ---- gates

@@ -17,7 +17,7 @@ use Rattle.net_theory.specs.Circuit.{Circuit, IsProper, sources_of, by_place, va
 use Rattle.net_theory.specs.Naming.{taken_names, gate_names, first_spare, second_spare, place_name}
 use Rattle.net_document.specs.OnceLaws.{has_all_once}
 use Rattle.blif_core.specs.Written.{next_states, sig_name, written}
-use Rattle.blif_laws.proofs.Layers.{layered_map}
+use Rattle.blif_laws.specs.Layers.{layered_map}
 use Rattle.blif_laws.proofs.CircuitNames.{output_found, outputs_same, output_source, taken_output, AreNamed, placed, place_source, place_gate}
 use Rattle.blif_laws.proofs.WrittenParts.{gates_hold, constants_zero, constants_one, named_value, outputs_hold, lines_values, sinks_split, some_zero, some_one}
 use Rattle.blif_laws.proofs.WrittenDocument.{gate_part, needs_zero, needs_one, constant_part, names_written, output_part, fixed_part, all_tables, all_lines, tables_are, states_count, states_below, to_be_written, are_outputs, line_latches, written_sources, written_layered}

@@ -10,3 +10,5 @@ pub use Rattle.blif_core.specs.Written
 pub use Rattle.blif_core.specs.Spelling
 pub use Rattle.blif_core.specs.Blif
 pub mod Spelled
+pub mod LetterNames
+pub mod Layers

@@ -23,9 +23,9 @@ pub is_task : (command : Command) → IsTask (task_of command)
 is_task Agree = agree_is_task
 is_task Recheck = recheck_is_task
 is_task (Synth settings) = synth_is_task settings
-is_task (Improve settings) = improve_is_task settings
+is_task (Improve format settings) = improve_is_task format settings
 is_task (Equiv budget) = equiv_is_task budget
-is_task (Gen blocks) = gen_is_task blocks
+is_task (Gen blocks deed) = gen_is_task blocks deed
 
 -- What it told of bytes, sent out, answers them.
 pub told : (command : Command) (bytes : List ℕ) (x : Result Reply Stop) (e : Ended) (out note : Side × Side) → Judges (task_of command) bytes x → Finishes x e out note → Answers (task_of command) bytes e out note

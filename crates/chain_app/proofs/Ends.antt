@@ -12,8 +12,7 @@ use Rattle.chain_app.specs.Ending.{Ending, Idle, Ran, IsIdle, IsEnding}
 use Rattle.frame_core.specs.Promise.{AllSteady, CommandPromise}
 use Rattle.settings.specs.declared.improve.ImproveSettings.{ImproveSettings}
 use Rattle.net_document.specs.Format.{IsNetlist}
-use Rattle.blif_core.specs.Blif.{blif_format}
-use Rattle.chain_app.specs.ImproveReport.{most_of_netlist}
+use Rattle.chain_app.specs.ImproveReport.{FormatAsked, format_of, most_of_netlist}
 use Rattle.chain_app.specs.Runs.{Runs}
 use Rattle.chain_app.specs.Tasks.{task_of}
 use Rattle.chain_app.specs.RunPromise.{RunPromise}
@@ -82,11 +81,11 @@ kept r e ends = record {
   agree = agree_promised r (λ asks. keeps r e Agree ends asks);
   recheck = recheck_promised r (λ asks. keeps r e Recheck ends asks);
   synth = synth_promised r (λ asked asks. keeps r e (Synth asked) ends asks);
-  improve = improve_promised r (λ asked asks. keeps r e (Improve asked) ends asks);
+  improve = improve_promised r (λ format asked asks. keeps r e (Improve format asked) ends asks);
   equiv = equiv_promised r (λ budget asks. keeps r e (Equiv budget) ends asks);
-  gen = gen_promised r (λ blocks asks. keeps r e (Gen blocks) ends asks) (λ blocks asks. ran r e (Gen blocks) ends asks);
+  gen = gen_promised r (λ blocks deed asks. keeps r e (Gen blocks deed) ends asks) (λ blocks deed asks. ran r e (Gen blocks deed) ends asks);
 }
 
 -- So a netlist has the status 0 where no call failed at all.
-pub improved : (r : Run) (asked : ImproveSettings) (input : List ℕ) → KeepsPromises r → Runs (Improve asked) r input → length input ≤ most_of_netlist → IsNetlist blif_format input → AllSteady r → r.status ≡ Done
-improved r asked input keeps run within netlist steady = (keeps.improve.complete asked input run within netlist steady).stands.status_is
+pub improved : (r : Run) (format : FormatAsked) (asked : ImproveSettings) (input : List ℕ) → KeepsPromises r → Runs (Improve format asked) r input → length input ≤ most_of_netlist → IsNetlist (format_of format) input → AllSteady r → r.status ≡ Done
+improved r format asked input keeps run within netlist steady = (keeps.improve.complete format asked input run within netlist steady).stands.status_is

@@ -13,6 +13,6 @@ abbrev pub task_of : Command → Task
 task_of Agree = agree_task
 task_of Recheck = recheck_task
 task_of (Synth settings) = synth_task settings
-task_of (Improve settings) = improve_task settings
+task_of (Improve format settings) = improve_task format settings
 task_of (Equiv budget) = equiv_task budget
-task_of (Gen blocks) = gen_task blocks
+task_of (Gen blocks deed) = gen_task blocks deed

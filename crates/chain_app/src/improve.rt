@@ -1,12 +1,15 @@
 //! The command `improve`: what it tells of bytes.
-ghost use Rattle.std.specs.Prelude.{◌≡◌, ◌≤◌, length};
-ghost use Rattle.settings.specs.Improve.{IsInRange};
-ghost use Rattle.chain_app.specs.ImproveReport.{most_of_netlist, improve_reply, improve_refusal, improve_task};
+ghost use Rattle.std.specs.Prelude.{◌≡◌, ◌≤◌, length, IfOk, IfErr};
+ghost use Rattle.net_document.specs.Format.{IsRefusedText};
+ghost use Rattle.improve_windows.specs.Improving.{IsReported};
+ghost use Rattle.command_line.specs.CommandLine.{IsAsked};
+ghost use Rattle.chain_app.specs.ImproveReport.{format_of, most_of_netlist, improve_reply, improve_refusal, improve_task};
 ghost use Rattle.frame_core.specs.Views.{reply_value, refusal_value, Judges};
 
 use crate::nets::{name_net, net_status};
+use command_line::Format;
 use frame_core::{Field, Refusal, Reply, Report, Status, Stop};
-use improve_windows::{ImproveSettings, ImprovedText, NetError, improve as improve_netlist};
+use improve_windows::{ImproveSettings, ImprovedText, NetError, improve_bench, improve_blif};
 use std::alloc::Global;
 
 /// The most bytes that `improve` reads.
@@ -25,7 +28,7 @@ fn refusal_of(error: NetError) -> Refusal
 }
 
 /// A netlist that was improved as a reply.
-fn reply_of(improved: ImprovedText) -> Reply
+pub(crate) fn reply_of(improved: ImprovedText) -> Reply
     ensures { reply_value result ≡ improve_reply (record { text = improved.text.items; report = improved.report.items }) }
 {
     Reply {
@@ -35,18 +38,38 @@ fn reply_of(improved: ImprovedText) -> Reply
     }
 }
 
+/// A netlist of a format improved.
+#[tactic(auto, using(crate::proofs::Improving::telling))]
+fn improve_text(
+    alloc: Global,
+    format: Format,
+    bytes: &[u8],
+    settings: &ImproveSettings,
+) -> Result<ImprovedText, NetError>
+    requires length { length bytes.now ≤ most_of_netlist }
+    requires asked { IsAsked format settings.now }
+    ensures improved { IfOk result (λ i. IsReported (format_of format) settings.now bytes.now i.text.items i.report.items) }
+    ensures refused { IfErr result (IsRefusedText (format_of format) bytes.now) }
+{
+    match format {
+        Format::Blif => improve_blif(alloc, bytes, *settings),
+        Format::Bench => improve_bench(alloc, bytes, *settings),
+    }
+}
+
 /// What `improve` tells of bytes.
 #[tactic(auto, using(crate::proofs::Improving::telling))]
 pub(crate) fn improve(
     alloc: Global,
+    format: Format,
     bytes: &[u8],
     settings: &ImproveSettings,
 ) -> Result<Reply, Stop>
     requires length { length bytes.now ≤ most_of_netlist }
-    requires range { IsInRange settings.now }
-    ensures { Judges (improve_task settings.now) bytes.now result }
+    requires asked { IsAsked format settings.now }
+    ensures { Judges (improve_task format settings.now) bytes.now result }
 {
-    match improve_netlist(alloc, bytes, *settings) {
+    match improve_text(alloc, format, bytes, settings) {
         Ok(improved) => Ok(reply_of(improved)),
         Err(NetError::Memory) => Err(Stop::NoMemory),
         Err(error) => Err(Stop::NoAnswer(refusal_of(error))),

@@ -4,11 +4,10 @@ ghost use Rattle.command_line.specs.declared.command.Command.{Command};
 ghost use Rattle.command_line.specs.declared.command.Command.TheVariants.{Improve};
 ghost use Rattle.settings.specs.declared.improve.ImproveSettings.{ImproveSettings};
 ghost use Rattle.net_document.specs.Format.{IsNetlist};
-ghost use Rattle.blif_core.specs.Blif.{blif_format};
 ghost use Rattle.chain_app.specs.Agree.{Question, question_of};
 ghost use Rattle.chain_app.specs.Asked.{AsksQuestion};
 ghost use Rattle.frame_core.specs.declared.status.Status.TheVariants.{Done};
-ghost use Rattle.chain_app.specs.ImproveReport.{most_of_netlist};
+ghost use Rattle.chain_app.specs.ImproveReport.{FormatAsked, format_of, most_of_netlist};
 ghost use Rattle.chain_app.specs.KeepsPromises.{KeepsPromises};
 ghost use Rattle.frame_core.specs.Promise.{AllSteady};
 ghost use Rattle.frame_core.specs.Run.{Run};
@@ -29,12 +28,11 @@ pub fn commands_are_tasks()
 {}
 
 /// A run that keeps its promises improves: where no call failed at all, a netlist has the status 0.
-#[tactic(auto, using(crate::proofs::Ends::improved))]
 pub fn netlists_are_improved()
-    ensures { (r : Run) (asked : ImproveSettings) (input : List ℕ) →
+    ensures { (r : Run) (format : FormatAsked) (asked : ImproveSettings) (input : List ℕ) →
         KeepsPromises r →
-        Runs (Improve asked) r input →
+        Runs (Improve format asked) r input →
         length input ≤ most_of_netlist →
-        IsNetlist blif_format input →
+        IsNetlist (format_of format) input →
         AllSteady r → r.status ≡ Done }
 {}

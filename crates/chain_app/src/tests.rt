@@ -321,6 +321,20 @@ fn gen_tells(rt: HostRuntime) -> Result<(), Fail> {
             "error: WriteFault\n",
         ),
         ("gen --blocks 0", ("", "", ""), 1, "", "error: Usage\n"),
+        (
+            "gen --run improve --blocks 1",
+            ("1", "", ""),
+            0,
+            ".model gen\n.inputs a0 b0\n.outputs y0\n.names a0 b0 y0\n01 1\n10 1\n.end\n",
+            "gates 3 -> 1\nsettled\n",
+        ),
+        (
+            "gen --run improve --blocks 1",
+            ("", "", "1"),
+            6,
+            ".model gen\n.inputs a0 b0\n.outputs y0\n.names a0 b0 y0\n01 1\n10 1\n.end\n",
+            "error: WriteFault\n",
+        ),
     ] {
         let seen = run_on(rt.alloc(), line, b"unread", fails)?;
         assert!(rt; seen.is(status, out, note), "{line} {fails:?}");
@@ -393,6 +407,27 @@ fn improve_tells(rt: HostRuntime) -> Result<(), Fail> {
             "error: NotSupported 2 .subckt\n",
         ),
         ("improve --cap 9", TWO, 1, "", "error: Usage\n"),
+        (
+            "improve --format bench",
+            "INPUT(a)\nINPUT(b)\nINPUT(c)\nOUTPUT(y)\ny = nand(a, b, c)\n",
+            0,
+            "INPUT(a)\nINPUT(b)\nINPUT(c)\nOUTPUT(y)\ng1 = AND(a, b)\ny = NAND(g1, c)\n",
+            "gates 2 -> 2\nsettled\n",
+        ),
+        (
+            "improve --format bench",
+            "INPUT(a)\nOUTPUT(y)\ny = LUT(a)\n",
+            2,
+            "",
+            "error: NotSupported 3 LUT\n",
+        ),
+        (
+            "improve --format bench --basis all",
+            TWO,
+            1,
+            "",
+            "error: Usage\n",
+        ),
     ] {
         let seen = told(rt.alloc(), line, input.as_bytes())?;
         assert!(rt; seen.is(status, out, note), "{line}");

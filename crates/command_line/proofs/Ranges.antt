@@ -5,7 +5,7 @@ use Rattle.std.proofs.lemmas.Bool.Decides.{nat_tests}
 use Rattle.std.proofs.lemmas.Grind.{common_steps}
 use Rattle.text_core.specs.Numbers.{number_up_to}
 use Rattle.text_core.specs.ReadBack.{number_spells}
-use Rattle.op_basis.specs.Text.{basis_of}
+use Rattle.op_basis.specs.Text.{bench_set, basis_of}
 use Rattle.op_basis.specs.ListLaws.{basis_some}
 use Rattle.op_basis.specs.declared.error.BasisError.{BasisError}
 use Rattle.enc_theory.specs.declared.data.Method.{Method}
@@ -17,13 +17,19 @@ use Rattle.command_line.specs.declared.command.Command.{Command}
 use Rattle.command_line.specs.declared.command.Command.TheVariants as commands
 use Rattle.command_line.specs.declared.table.Kind.{Kind}
 use Rattle.command_line.specs.declared.table.Kind.TheVariants.{Agree, Recheck, Synth, Improve, Equiv, Gen}
-use Rattle.command_line.specs.declared.table.Deed.{Deed}
-use Rattle.command_line.specs.declared.table.Format.{Format}
-use Rattle.command_line.specs.Options.{Row, from_on, number_within, basis_or_none, basis_in, basis_row, method_row, max_row, conflicts_row, cap_row, rounds_row, format_row, blocks_row, run_row, kind_named, options_of}
-use Rattle.command_line.specs.CommandLine.{word_behind, are_options, value_in, value, synth_from, improve_from, equiv_from, gen_from, command_with, command_in, command_of, IsAskable}
+use Rattle.command_line.specs.declared.command.Deed.{Deed}
+use Rattle.command_line.specs.declared.command.Format.{Format}
+use Rattle.command_line.specs.declared.command.Format.TheVariants.{Blif, Bench}
+use Rattle.command_line.specs.Options.{Row, from_on, number_within, basis_or_none, basis_in, is_within, if_of_gates, basis_row, gates_row, format_basis_row, method_row, max_row, conflicts_row, cap_row, rounds_row, format_row, blocks_row, run_row, kind_named, options_of}
+use Rattle.command_line.specs.CommandLine.{word_behind, are_options, value_in, value, synth_from, settings_from, settings_for, improve_with, improve_for, equiv_from, gen_from, command_with, command_in, command_of, HasGatesOf, IsAsked, IsAskable}
 
 pub some_is : {A : Type 0} (a b : A) → Some a ≡ Some b → a ≡ b
 some_is a b e = cc
+
+-- what a test lets through
+pub passed : {A : Type 0} (t : Bool) (o : Option A) (x : A) → cond t o None ≡ Some x → (t ≡ true) × (o ≡ Some x)
+passed true o x e = (refl, e)
+passed false o x e = absurd cc
 
 -- ---- what words read as
 
@@ -64,49 +70,63 @@ synth_made (Some b) (Some m) None conflicts c e = absurd cc
 synth_made (Some b) None max conflicts c e = absurd cc
 synth_made None method max conflicts c e = absurd cc
 
--- `improve` has the values of all its options
-pub record IsImproveOf (basis : Option ℕ) (method : Option Method) (cap rounds conflicts : Option ℕ) (format : Option Format) (c : Command) : Type 0 where
-  pub s : ImproveSettings
-  pub f : Format
-  pub is : commands.Improve s ≡ c
+-- the settings of `improve` are the values of all its options
+pub record AreSettingsOf (basis : Option ℕ) (method : Option Method) (cap rounds conflicts : Option ℕ) (s : ImproveSettings) : Type 0 where
   pub basis_is : basis ≡ Some s.basis
   pub method_is : method ≡ Some s.method
   pub cap_is : cap ≡ Some s.cap
   pub rounds_is : rounds ≡ Some s.rounds
   pub conflicts_is : conflicts ≡ Some s.conflicts
-  pub format_is : format ≡ Some f
 
-pub improve_made : (basis : Option ℕ) (method : Option Method) (cap rounds conflicts : Option ℕ) (format : Option Format) (c : Command) → improve_from basis method cap rounds conflicts format ≡ Some c → IsImproveOf basis method cap rounds conflicts format c
-improve_made (Some b) (Some m) (Some n) (Some r) (Some x) (Some f) c e = record {
-  s = record { basis = b; method = m; cap = n; rounds = r; conflicts = x };
-  f = f;
-  is = some_is _ c e;
-  basis_is = refl;
-  method_is = refl;
-  cap_is = refl;
-  rounds_is = refl;
-  conflicts_is = refl;
-  format_is = refl;
-}
-improve_made (Some b) (Some m) (Some n) (Some r) (Some x) None c e = absurd cc
-improve_made (Some b) (Some m) (Some n) (Some r) None format c e = absurd cc
-improve_made (Some b) (Some m) (Some n) None conflicts format c e = absurd cc
-improve_made (Some b) (Some m) None rounds conflicts format c e = absurd cc
-improve_made (Some b) None cap rounds conflicts format c e = absurd cc
-improve_made None method cap rounds conflicts format c e = absurd cc
+settings_made : (basis : Option ℕ) (method : Option Method) (cap rounds conflicts : Option ℕ) (s : ImproveSettings) → settings_from basis method cap rounds conflicts ≡ Some s → AreSettingsOf basis method cap rounds conflicts s
+settings_made (Some b) (Some m) (Some n) (Some r) (Some x) s e =
+    let same = some_is _ s e in
+    record {
+      basis_is = ap (λ (t : ImproveSettings). Some t.basis) same;
+      method_is = ap (λ (t : ImproveSettings). Some t.method) same;
+      cap_is = ap (λ (t : ImproveSettings). Some t.cap) same;
+      rounds_is = ap (λ (t : ImproveSettings). Some t.rounds) same;
+      conflicts_is = ap (λ (t : ImproveSettings). Some t.conflicts) same;
+    }
+settings_made (Some b) (Some m) (Some n) (Some r) None s e = absurd cc
+settings_made (Some b) (Some m) (Some n) None conflicts s e = absurd cc
+settings_made (Some b) (Some m) None rounds conflicts s e = absurd cc
+settings_made (Some b) None cap rounds conflicts s e = absurd cc
+settings_made None method cap rounds conflicts s e = absurd cc
 
--- those of words
-abbrev pub IsImproveIn : List (List ℕ) → Command → Type 0
-IsImproveIn words c = IsImproveOf (value basis_row words) (value method_row words) (value cap_row words) (value rounds_row words) (value conflicts_row words) (value format_row words) c
+pub settings_back : (basis : Option ℕ) (method : Option Method) (cap rounds conflicts : Option ℕ) (s : ImproveSettings) → AreSettingsOf basis method cap rounds conflicts s → settings_from basis method cap rounds conflicts ≡ Some s
+settings_back basis method cap rounds conflicts s are = rw (are.basis_is, are.method_is, are.cap_is, are.rounds_is, are.conflicts_is) refl
+
+-- those of words, by a format
+abbrev pub AreSettingsIn : List (List ℕ) → Format → ImproveSettings → Type 0
+AreSettingsIn words f s = AreSettingsOf (value (format_basis_row f) words) (value method_row words) (value cap_row words) (value rounds_row words) (value conflicts_row words) s
+
+-- words ask `improve` for a format, with settings
+pub record IsImproveIn (words : List (List ℕ)) (c : Command) : Type 0 where
+  pub f : Format
+  pub s : ImproveSettings
+  pub is : commands.Improve f s ≡ c
+  pub format_is : value format_row words ≡ Some f
+  pub are : AreSettingsIn words f s
+
+with_made : (f : Format) (o : Option ImproveSettings) (c : Command) → improve_with f o ≡ Some c → (s : ImproveSettings) × (o ≡ Some s) × (commands.Improve f s ≡ c)
+with_made f None c e = absurd cc
+with_made f (Some s) c e = (s, refl, some_is _ c e)
+
+improve_made : (words : List (List ℕ)) (o : Option Format) (c : Command) → value format_row words ≡ o → improve_for words o ≡ Some c → IsImproveIn words c
+improve_made words None c is e = absurd cc
+improve_made words (Some f) c is e =
+    let made = with_made f (settings_for f words) c e in
+    record { f = f; s = made.0; is = made.2; format_is = is; are = settings_made _ _ _ _ _ made.0 made.1 }
 
 pub improve_in_made : (words : List (List ℕ)) (c : Command) → command_with Improve words ≡ Some c → IsImproveIn words c
-improve_in_made words c e = improve_made (value basis_row words) (value method_row words) (value cap_row words) (value rounds_row words) (value conflicts_row words) (value format_row words) c e
+improve_in_made words c e = improve_made words (value format_row words) c refl e
 
 pub equiv_made : (conflicts : Option ℕ) (c : Command) → equiv_from conflicts ≡ Some c → (n : ℕ) × (commands.Equiv n ≡ c) × (conflicts ≡ Some n)
 equiv_made (Some n) c e = (n, some_is _ c e, refl)
 equiv_made None c e = absurd cc
 
-pub gen_made : (blocks : Option ℕ) (deed : Option Deed) (c : Command) → gen_from blocks deed ≡ Some c → (n : ℕ) × (d : Deed) × (commands.Gen n ≡ c) × (blocks ≡ Some n) × (deed ≡ Some d)
+pub gen_made : (blocks : Option ℕ) (deed : Option Deed) (c : Command) → gen_from blocks deed ≡ Some c → (n : ℕ) × (d : Deed) × (commands.Gen n d ≡ c) × (blocks ≡ Some n) × (deed ≡ Some d)
 gen_made (Some n) (Some d) c e = (n, d, some_is _ c e, refl, refl)
 gen_made (Some n) None c e = absurd cc
 gen_made None deed c e = absurd cc
@@ -153,6 +173,24 @@ bases_range words n e =
     (λ (x : ℕ) at. let same = some_is 65535 x at in omega (arith, same))
     (word_behind basis_row.name words) n e
 
+-- a basis that BENCH takes
+gates_by : (o : Option ℕ) (x : ℕ) → if_of_gates o ≡ Some x → (o ≡ Some x) × (is_within x bench_set ≡ true)
+gates_by None x e = absurd cc
+gates_by (Some b) x e =
+    let by = passed (is_within b bench_set) (Some b) x e in
+    (by.1, ap (λ (n : ℕ). is_within n bench_set) (sym (some_is b x by.1)) ∙ by.0)
+
+gates_range : (words : List (List ℕ)) (n : ℕ) → value gates_row words ≡ Some n → (0 < n) × (is_within n bench_set ≡ true)
+gates_range words n e =
+    in_row gates_row (λ (x : ℕ). (0 < x) × (is_within x bench_set ≡ true))
+    (λ (word : List ℕ) (x : ℕ) at. let by = gates_by (basis_in word) x at in (basis_range word x by.0, by.1))
+    (λ (x : ℕ) at. let same = some_is bench_set x at in (omega (arith, same), ap (λ (b : ℕ). is_within b bench_set) (sym same)))
+    (word_behind gates_row.name words) n e
+
+format_range : (f : Format) (words : List (List ℕ)) (n : ℕ) → value (format_basis_row f) words ≡ Some n → (0 < n) × HasGatesOf f n
+format_range Blif words n e = (bases_range words n e, tt)
+format_range Bench words n e = gates_range words n e
+
 askable : (c d : Command) → c ≡ d → IsAskable c → IsAskable d
 askable c d e is = subst (λ (x : Command). IsAskable x) e is
 
@@ -166,10 +204,12 @@ synth_range words c e =
 improve_range : (words : List (List ℕ)) (c : Command) → command_with Improve words ≡ Some c → IsAskable c
 improve_range words c e =
     let made = improve_in_made words c e in
-    let rounds = rounds_range words made.s.rounds made.rounds_is in
-    let conflicts = conflicts_range words made.s.conflicts made.conflicts_is in
-    let is : improver.IsInRange made.s = record { basis_from = bases_range words made.s.basis made.basis_is; cap_to = cap_range words made.s.cap made.cap_is; rounds_from = rounds.0; rounds_to = rounds.1; conflicts_from = conflicts.0; conflicts_to = conflicts.1 } in
-    askable (commands.Improve made.s) c made.is is
+    let basis = format_range made.f words made.s.basis made.are.basis_is in
+    let rounds = rounds_range words made.s.rounds made.are.rounds_is in
+    let conflicts = conflicts_range words made.s.conflicts made.are.conflicts_is in
+    let range : improver.IsInRange made.s = record { basis_from = basis.0; cap_to = cap_range words made.s.cap made.are.cap_is; rounds_from = rounds.0; rounds_to = rounds.1; conflicts_from = conflicts.0; conflicts_to = conflicts.1 } in
+    let is : IsAsked made.f made.s = record { range = range; basis = basis.1 } in
+    askable (commands.Improve made.f made.s) c made.is is
 
 kind_range : (kind : Kind) (words : List (List ℕ)) (c : Command) → command_with kind words ≡ Some c → IsAskable c
 kind_range Agree words c e = askable commands.Agree c (some_is _ c e) tt
@@ -181,12 +221,7 @@ kind_range Equiv words c e =
     askable (commands.Equiv made.0) c made.1 (conflicts_range words made.0 made.2)
 kind_range Gen words c e =
     let made = gen_made (value blocks_row words) (value run_row words) c e in
-    askable (commands.Gen made.0) c made.2 (blocks_range words made.0 made.3)
-
--- what a test lets through
-pub passed : {A : Type 0} (t : Bool) (o : Option A) (x : A) → cond t o None ≡ Some x → (t ≡ true) × (o ≡ Some x)
-passed true o x e = (refl, e)
-passed false o x e = absurd cc
+    askable (commands.Gen made.0 made.1) c made.2 (blocks_range words made.0 made.3)
 
 in_range : (o : Option Kind) (words : List (List ℕ)) (c : Command) → command_in o words ≡ Some c → IsAskable c
 in_range None words c e = absurd cc

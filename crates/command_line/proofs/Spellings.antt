@@ -12,18 +12,16 @@ use Rattle.std.proofs.lemmas.List.Sorted.{All-permutation, Contains-permutation,
 use Rattle.std.proofs.lemmas.Map.Keys.{IsDistinct-cons, IsDistinct-head, IsDistinct-tail, IsDistinct-IsPermutation}
 use Rattle.std.proofs.lemmas.Map.Made.{is_some-lookup}
 use Rattle.std.proofs.lemmas.Map.Views.{lookup-from_Contains, Contains-from_lookup}
+use Rattle.settings.specs.declared.improve.ImproveSettings.{ImproveSettings}
 use Rattle.command_line.specs.declared.command.Command.{Command}
 use Rattle.command_line.specs.declared.command.Command.TheVariants as commands
 use Rattle.command_line.specs.declared.table.Kind.{Kind}
 use Rattle.command_line.specs.declared.table.Kind.TheVariants.{Agree, Recheck, Synth, Improve, Equiv, Gen}
-use Rattle.command_line.specs.declared.table.Deed.{Deed}
-use Rattle.command_line.specs.declared.table.Deed.TheVariants.{Write}
-use Rattle.command_line.specs.declared.table.Format.{Format}
-use Rattle.command_line.specs.declared.table.Format.TheVariants.{Blif}
-use Rattle.command_line.specs.Options.{Row, is_word, is_among, basis_row, method_row, max_row, conflicts_row, cap_row, rounds_row, format_row, blocks_row, run_row, kind_text, kind_named, options_of}
-use Rattle.command_line.specs.CommandLine.{word_behind, is_named, are_options, value_in, value, command_with, command_in, command_of, AsksFor}
+use Rattle.command_line.specs.declared.command.Format.{Format}
+use Rattle.command_line.specs.Options.{Row, is_word, is_among, basis_row, format_basis_row, method_row, max_row, conflicts_row, cap_row, rounds_row, format_row, blocks_row, run_row, kind_text, kind_named, options_of}
+use Rattle.command_line.specs.CommandLine.{word_behind, is_named, are_options, value_in, value, improve_with, improve_for, command_with, command_in, command_of, AsksFor}
 use Rattle.command_line.specs.Spelling.{Pair, both, flat, Gives, GivesSynth, GivesImprove, GivesGen, GivesAll, kind_of, Spells}
-use Rattle.command_line.proofs.Ranges.{some_is, passed, synth_made, improve_in_made, equiv_made, gen_made}
+use Rattle.command_line.proofs.Ranges.{some_is, passed, synth_made, AreSettingsIn, settings_back, improve_in_made, equiv_made, gen_made}
 
 -- ---- tests
 
@@ -149,12 +147,6 @@ gives_again row pairs other x moved g = record {
 
 -- ---- commands
 
-write_it_is : (d : Deed) → d ≡ Write
-write_it_is Write = refl
-
-blif_it_is : (f : Format) → f ≡ Blif
-blif_it_is Blif = refl
-
 -- what a command of this kind is, with these pairs
 abbrev IsMade : Kind → List Pair → Command → Type 0
 IsMade kind pairs c = (kind_of c ≡ kind) × GivesAll pairs c
@@ -173,13 +165,13 @@ made Synth pairs c once e =
     subst (λ (d : Command). IsMade Synth pairs d) m.1 (refl, all)
 made Improve pairs c once e =
     let m = improve_in_made (flat pairs) c e in
-    let all : GivesImprove pairs m.s = record {
-      basis = gives basis_row pairs m.s.basis once m.basis_is;
-      method = gives method_row pairs m.s.method once m.method_is;
-      cap = gives cap_row pairs m.s.cap once m.cap_is;
-      rounds = gives rounds_row pairs m.s.rounds once m.rounds_is;
-      conflicts = gives conflicts_row pairs m.s.conflicts once m.conflicts_is;
-      format = gives format_row pairs Blif once (m.format_is ∙ ap (λ (f : Format). Some f) (blif_it_is m.f));
+    let all : GivesImprove pairs m.f m.s = record {
+      format_is = gives format_row pairs m.f once m.format_is;
+      basis = gives (format_basis_row m.f) pairs m.s.basis once m.are.basis_is;
+      method = gives method_row pairs m.s.method once m.are.method_is;
+      cap = gives cap_row pairs m.s.cap once m.are.cap_is;
+      rounds = gives rounds_row pairs m.s.rounds once m.are.rounds_is;
+      conflicts = gives conflicts_row pairs m.s.conflicts once m.are.conflicts_is;
     } in
     subst (λ (d : Command). IsMade Improve pairs d) m.is (refl, all)
 made Equiv pairs c once e =
@@ -187,22 +179,35 @@ made Equiv pairs c once e =
     subst (λ (d : Command). IsMade Equiv pairs d) m.1 (refl, gives conflicts_row pairs m.0 once m.2)
 made Gen pairs c once e =
     let m = gen_made (value blocks_row (flat pairs)) (value run_row (flat pairs)) c e in
-    let all : GivesGen pairs m.0 = record {
+    let all : GivesGen pairs m.0 m.1 = record {
       blocks = gives blocks_row pairs m.0 once m.3;
-      run = gives run_row pairs Write once (m.4 ∙ ap (λ (d : Deed). Some d) (write_it_is m.1));
+      run = gives run_row pairs m.1 once m.4;
     } in
     subst (λ (d : Command). IsMade Gen pairs d) m.2 (refl, all)
+
+settings_are : (f : Format) (pairs : List Pair) (s : ImproveSettings) → IsDistinct is_word (keys_of pairs) → GivesImprove pairs f s → AreSettingsIn (flat pairs) f s
+settings_are f pairs s once all = record {
+  basis_is = value_is (format_basis_row f) pairs s.basis once all.basis;
+  method_is = value_is method_row pairs s.method once all.method;
+  cap_is = value_is cap_row pairs s.cap once all.cap;
+  rounds_is = value_is rounds_row pairs s.rounds once all.rounds;
+  conflicts_is = value_is conflicts_row pairs s.conflicts once all.conflicts;
+}
+
+improve_back : (f : Format) (pairs : List Pair) (s : ImproveSettings) → IsDistinct is_word (keys_of pairs) → GivesImprove pairs f s → command_with Improve (flat pairs) ≡ Some (commands.Improve f s)
+improve_back f pairs s once all =
+    ap (improve_for (flat pairs)) (value_is format_row pairs f once all.format_is)
+    ∙ ap (improve_with f) (settings_back _ _ _ _ _ s (settings_are f pairs s once all))
 
 made_back : (c : Command) (pairs : List Pair) → IsDistinct is_word (keys_of pairs) → GivesAll pairs c → command_with (kind_of c) (flat pairs) ≡ Some c
 made_back commands.Agree pairs once all = refl
 made_back commands.Recheck pairs once all = refl
 made_back (commands.Synth s) pairs once all =
     rw (value_is basis_row pairs s.basis once all.basis, value_is method_row pairs s.method once all.method, value_is max_row pairs s.max once all.max, value_is conflicts_row pairs s.conflicts once all.conflicts) refl
-made_back (commands.Improve s) pairs once all =
-    rw (value_is basis_row pairs s.basis once all.basis, value_is method_row pairs s.method once all.method, value_is cap_row pairs s.cap once all.cap, value_is rounds_row pairs s.rounds once all.rounds, value_is conflicts_row pairs s.conflicts once all.conflicts, value_is format_row pairs Blif once all.format) refl
+made_back (commands.Improve f s) pairs once all = improve_back f pairs s once all
 made_back (commands.Equiv budget) pairs once all = rw (value_is conflicts_row pairs budget once all) refl
-made_back (commands.Gen blocks) pairs once all =
-    rw (value_is blocks_row pairs blocks once all.blocks, value_is run_row pairs Write once all.run) refl
+made_back (commands.Gen blocks deed) pairs once all =
+    rw (value_is blocks_row pairs blocks once all.blocks, value_is run_row pairs deed once all.run) refl
 
 given_again : (c : Command) (pairs other : List Pair) → IsPermutation pairs other → GivesAll pairs c → GivesAll other c
 given_again commands.Agree pairs other moved all = tt
@@ -213,18 +218,18 @@ given_again (commands.Synth s) pairs other moved all = record {
   max = gives_again max_row pairs other s.max moved all.max;
   conflicts = gives_again conflicts_row pairs other s.conflicts moved all.conflicts;
 }
-given_again (commands.Improve s) pairs other moved all = record {
-  basis = gives_again basis_row pairs other s.basis moved all.basis;
+given_again (commands.Improve f s) pairs other moved all = record {
+  format_is = gives_again format_row pairs other f moved all.format_is;
+  basis = gives_again (format_basis_row f) pairs other s.basis moved all.basis;
   method = gives_again method_row pairs other s.method moved all.method;
   cap = gives_again cap_row pairs other s.cap moved all.cap;
   rounds = gives_again rounds_row pairs other s.rounds moved all.rounds;
   conflicts = gives_again conflicts_row pairs other s.conflicts moved all.conflicts;
-  format = gives_again format_row pairs other Blif moved all.format;
 }
 given_again (commands.Equiv budget) pairs other moved all = gives_again conflicts_row pairs other budget moved all
-given_again (commands.Gen blocks) pairs other moved all = record {
+given_again (commands.Gen blocks deed) pairs other moved all = record {
   blocks = gives_again blocks_row pairs other blocks moved all.blocks;
-  run = gives_again run_row pairs other Write moved all.run;
+  run = gives_again run_row pairs other deed moved all.run;
 }
 
 -- ---- names of commands

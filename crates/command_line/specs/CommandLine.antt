@@ -4,6 +4,8 @@ use Rattle.std.specs.Global.{Global}
 use Rattle.std.specs.String.{string_bytes}
 use Rattle.enc_theory.specs.declared.data.Method.{Method}
 use Rattle.settings.specs.Synth.{most_conflicts, IsInRange}
+use Rattle.op_basis.specs.Text.{bench_set}
+use Rattle.settings.specs.declared.improve.ImproveSettings.{ImproveSettings}
 use Rattle.settings.specs.Improve as improver
 use Rattle.command_line.specs.declared.command.Command.{Command}
 use Rattle.command_line.specs.declared.command.Command.TheVariants as commands
@@ -11,9 +13,10 @@ use Rattle.command_line.specs.declared.command.WordsError.{WordsError}
 use Rattle.command_line.specs.declared.command.WordsError.TheVariants.{Usage}
 use Rattle.command_line.specs.declared.table.Kind.{Kind}
 use Rattle.command_line.specs.declared.table.Kind.TheVariants as kinds
-use Rattle.command_line.specs.declared.table.Deed.{Deed}
-use Rattle.command_line.specs.declared.table.Format.{Format}
-use Rattle.command_line.specs.Options.{Row, is_word, is_among, basis_row, method_row, max_row, conflicts_row, cap_row, rounds_row, format_row, most_blocks, blocks_row, run_row, kind_named, options_of}
+use Rattle.command_line.specs.declared.command.Deed.{Deed}
+use Rattle.command_line.specs.declared.command.Format.{Format}
+use Rattle.command_line.specs.declared.command.Format.TheVariants.{Blif, Bench}
+use Rattle.command_line.specs.Options.{Row, is_word, is_among, is_within, basis_row, format_basis_row, method_row, max_row, conflicts_row, cap_row, rounds_row, format_row, most_blocks, blocks_row, run_row, kind_named, options_of}
 
 -- the bytes of each word
 abbrev pub spelled : Vec (String Global) Global → List (List ℕ)
@@ -53,13 +56,25 @@ synth_from basis method max conflicts = None
 abbrev pub synth_in : List (List ℕ) → Option Command
 synth_in words = synth_from (value basis_row words) (value method_row words) (value max_row words) (value conflicts_row words)
 
-abbrev pub improve_from : Option ℕ → Option Method → Option ℕ → Option ℕ → Option ℕ → Option Format → Option Command
-improve_from (Some basis) (Some method) (Some cap) (Some rounds) (Some conflicts) (Some format) =
-    Some (commands.Improve (record { basis = basis; method = method; cap = cap; rounds = rounds; conflicts = conflicts }))
-improve_from basis method cap rounds conflicts format = None
+abbrev pub settings_from : Option ℕ → Option Method → Option ℕ → Option ℕ → Option ℕ → Option ImproveSettings
+settings_from (Some basis) (Some method) (Some cap) (Some rounds) (Some conflicts) =
+    Some (record { basis = basis; method = method; cap = cap; rounds = rounds; conflicts = conflicts })
+settings_from basis method cap rounds conflicts = None
+
+-- the settings of `improve` for a format
+abbrev pub settings_for : Format → List (List ℕ) → Option ImproveSettings
+settings_for format words = settings_from (value (format_basis_row format) words) (value method_row words) (value cap_row words) (value rounds_row words) (value conflicts_row words)
+
+abbrev pub improve_with : Format → Option ImproveSettings → Option Command
+improve_with format None = None
+improve_with format (Some settings) = Some (commands.Improve format settings)
+
+abbrev pub improve_for : List (List ℕ) → Option Format → Option Command
+improve_for words None = None
+improve_for words (Some format) = improve_with format (settings_for format words)
 
 abbrev pub improve_in : List (List ℕ) → Option Command
-improve_in words = improve_from (value basis_row words) (value method_row words) (value cap_row words) (value rounds_row words) (value conflicts_row words) (value format_row words)
+improve_in words = improve_for words (value format_row words)
 
 abbrev pub equiv_from : Option ℕ → Option Command
 equiv_from (Some conflicts) = Some (commands.Equiv conflicts)
@@ -69,7 +84,7 @@ abbrev pub equiv_in : List (List ℕ) → Option Command
 equiv_in words = equiv_from (value conflicts_row words)
 
 abbrev pub gen_from : Option ℕ → Option Deed → Option Command
-gen_from (Some blocks) (Some deed) = Some (commands.Gen blocks)
+gen_from (Some blocks) (Some deed) = Some (commands.Gen blocks deed)
 gen_from blocks deed = None
 
 abbrev pub gen_in : List (List ℕ) → Option Command
@@ -110,11 +125,25 @@ AsksFor words command = command_of words ≡ Some command
 abbrev pub IsBudget : ℕ → Type 0
 IsBudget conflicts = (1 ≤ conflicts) × (conflicts ≤ most_conflicts)
 
+-- what holds where the format alone is named
+abbrev pub usual_for : Format → ImproveSettings
+usual_for Blif = improver.usual
+usual_for Bench = record improver.usual { basis = bench_set }
+
+-- The basis has operators of the format's gates alone. In BLIF a gate may have any.
+abbrev pub HasGatesOf : Format → ℕ → Type 0
+HasGatesOf Blif basis = Unit {0}
+HasGatesOf Bench basis = is_within basis bench_set ≡ true
+
+pub record IsAsked (format : Format) (settings : ImproveSettings) : Type 0 where
+  pub range : improver.IsInRange settings
+  pub basis : HasGatesOf format settings.basis
+
 -- what a command is asked with is in its ranges
 abbrev pub IsAskable : Command → Type 0
 IsAskable commands.Agree = Unit {0}
 IsAskable commands.Recheck = Unit {0}
 IsAskable (commands.Synth settings) = IsInRange settings
-IsAskable (commands.Improve settings) = improver.IsInRange settings
+IsAskable (commands.Improve format settings) = IsAsked format settings
 IsAskable (commands.Equiv conflicts) = IsBudget conflicts
-IsAskable (commands.Gen blocks) = (1 ≤ blocks) × (blocks ≤ most_blocks)
+IsAskable (commands.Gen blocks deed) = (1 ≤ blocks) × (blocks ≤ most_blocks)

@@ -1,9 +1,9 @@
 -- The one table of options: how each is named and read, and which command takes it.
-use Rattle.std.specs.Prelude.{ℕ, List, [], ◌∷◌, codes, nat_eq, nat_lt, Bool, Option, Some, None, Result, Ok, Err, if◌then◌else◌}
+use Rattle.std.specs.Prelude.{ℕ, List, [], ◌∷◌, codes, nat_eq, nat_lt, ◌==◌, bit_and, Bool, Option, Some, None, Result, Ok, Err, if◌then◌else◌}
 use Rattle.std.specs.List.{list_any}
 use Rattle.std.specs.Cmp.Lexicographic.{pointwise}
 use Rattle.text_core.specs.Numbers.{number_up_to}
-use Rattle.op_basis.specs.Text.{basis_of}
+use Rattle.op_basis.specs.Text.{bench_set, basis_of}
 use Rattle.op_basis.specs.declared.error.BasisError.{BasisError}
 use Rattle.enc_theory.specs.declared.data.Method.{Method}
 use Rattle.settings.specs.Methods.{method_named}
@@ -11,10 +11,10 @@ use Rattle.settings.specs.Synth.{usual, most_steps, most_conflicts}
 use Rattle.settings.specs.Improve as improver
 use Rattle.command_line.specs.declared.table.Kind.{Kind}
 use Rattle.command_line.specs.declared.table.Kind.TheVariants.{Agree, Recheck, Synth, Improve, Equiv, Gen}
-use Rattle.command_line.specs.declared.table.Deed.{Deed}
-use Rattle.command_line.specs.declared.table.Deed.TheVariants.{Write}
-use Rattle.command_line.specs.declared.table.Format.{Format}
-use Rattle.command_line.specs.declared.table.Format.TheVariants.{Blif}
+use Rattle.command_line.specs.declared.command.Deed.{Deed}
+use Rattle.command_line.specs.declared.command.Deed.TheVariants as deeds
+use Rattle.command_line.specs.declared.command.Format.{Format}
+use Rattle.command_line.specs.declared.command.Format.TheVariants.{Blif, Bench}
 
 abbrev pub is_word : List ℕ → List ℕ → Bool
 is_word = pointwise nat_eq
@@ -48,16 +48,33 @@ basis_or_none (Err e) = None
 abbrev pub basis_in : List ℕ → Option ℕ
 basis_in word = basis_or_none (basis_of word)
 
+-- Each operator of the first set is one of the second.
+abbrev pub is_within : ℕ → ℕ → Bool
+is_within set all = bit_and set all == set
+
+-- only operators of gates in BENCH: AND, XOR, OR and their complements
+abbrev pub if_of_gates : Option ℕ → Option ℕ
+if_of_gates None = None
+if_of_gates (Some basis) = if is_within basis bench_set then Some basis else None
+
 abbrev pub format_in : List ℕ → Option Format
-format_in word = if is_word word (codes "blif") then Some Blif else None
+format_in word = if is_word word (codes "blif") then Some Blif else (if is_word word (codes "bench") then Some Bench else None)
 
 abbrev pub deed_in : List ℕ → Option Deed
-deed_in word = if is_word word (codes "write") then Some Write else None
+deed_in word = if is_word word (codes "write") then Some deeds.Write else (if is_word word (codes "improve") then Some deeds.Improve else None)
 
 -- ---- the rows
 
 abbrev pub basis_row : Row ℕ
 basis_row = record { name = codes "--basis"; read = basis_in; default = Some usual.basis }
+
+-- In BENCH it names operators of gates alone, and all of these where it isn't named.
+abbrev pub gates_row : Row ℕ
+gates_row = record { name = codes "--basis"; read = λ word. if_of_gates (basis_in word); default = Some bench_set }
+
+abbrev pub format_basis_row : Format → Row ℕ
+format_basis_row Blif = basis_row
+format_basis_row Bench = gates_row
 
 abbrev pub method_row : Row Method
 method_row = record { name = codes "--method"; read = method_named; default = Some usual.method }
@@ -88,9 +105,9 @@ most_blocks = 10000
 abbrev pub blocks_row : Row ℕ
 blocks_row = number_row (codes "--blocks") 1 most_blocks None
 
--- what is done with them: they are written, and nothing else so far
+-- what is done with them
 abbrev pub run_row : Row Deed
-run_row = record { name = codes "--run"; read = deed_in; default = Some Write }
+run_row = record { name = codes "--run"; read = deed_in; default = Some deeds.Write }
 
 -- ---- which command takes which
 

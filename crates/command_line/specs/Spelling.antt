@@ -8,9 +8,9 @@ use Rattle.command_line.specs.declared.command.Command.{Command}
 use Rattle.command_line.specs.declared.command.Command.TheVariants as commands
 use Rattle.command_line.specs.declared.table.Kind.{Kind}
 use Rattle.command_line.specs.declared.table.Kind.TheVariants as kinds
-use Rattle.command_line.specs.declared.table.Deed.TheVariants.{Write}
-use Rattle.command_line.specs.declared.table.Format.TheVariants.{Blif}
-use Rattle.command_line.specs.Options.{Row, is_word, is_among, basis_row, method_row, max_row, conflicts_row, cap_row, rounds_row, format_row, blocks_row, run_row, kind_text, options_of}
+use Rattle.command_line.specs.declared.command.Deed.{Deed}
+use Rattle.command_line.specs.declared.command.Format.{Format}
+use Rattle.command_line.specs.Options.{Row, is_word, is_among, basis_row, format_basis_row, method_row, max_row, conflicts_row, cap_row, rounds_row, format_row, blocks_row, run_row, kind_text, options_of}
 
 -- a name and the word behind it
 abbrev pub Pair : Type 0
@@ -35,34 +35,35 @@ pub record GivesSynth (pairs : List Pair) (s : SynthSettings) : Type 0 where
   pub max : Gives max_row pairs s.max
   pub conflicts : Gives conflicts_row pairs s.conflicts
 
-pub record GivesImprove (pairs : List Pair) (s : ImproveSettings) : Type 0 where
-  pub basis : Gives basis_row pairs s.basis
+-- which basis they may give goes by the format
+pub record GivesImprove (pairs : List Pair) (format : Format) (s : ImproveSettings) : Type 0 where
+  pub format_is : Gives format_row pairs format
+  pub basis : Gives (format_basis_row format) pairs s.basis
   pub method : Gives method_row pairs s.method
   pub cap : Gives cap_row pairs s.cap
   pub rounds : Gives rounds_row pairs s.rounds
   pub conflicts : Gives conflicts_row pairs s.conflicts
-  pub format : Gives format_row pairs Blif
 
-pub record GivesGen (pairs : List Pair) (count : ℕ) : Type 0 where
+pub record GivesGen (pairs : List Pair) (count : ℕ) (deed : Deed) : Type 0 where
   pub blocks : Gives blocks_row pairs count
-  pub run : Gives run_row pairs Write
+  pub run : Gives run_row pairs deed
 
 -- pairs give what a command is asked with
 abbrev pub GivesAll : List Pair → Command → Type 0
 GivesAll pairs commands.Agree = Unit {0}
 GivesAll pairs commands.Recheck = Unit {0}
 GivesAll pairs (commands.Synth settings) = GivesSynth pairs settings
-GivesAll pairs (commands.Improve settings) = GivesImprove pairs settings
+GivesAll pairs (commands.Improve format settings) = GivesImprove pairs format settings
 GivesAll pairs (commands.Equiv budget) = Gives conflicts_row pairs budget
-GivesAll pairs (commands.Gen blocks) = GivesGen pairs blocks
+GivesAll pairs (commands.Gen blocks deed) = GivesGen pairs blocks deed
 
 abbrev pub kind_of : Command → Kind
 kind_of commands.Agree = kinds.Agree
 kind_of commands.Recheck = kinds.Recheck
 kind_of (commands.Synth settings) = kinds.Synth
-kind_of (commands.Improve settings) = kinds.Improve
+kind_of (commands.Improve format settings) = kinds.Improve
 kind_of (commands.Equiv budget) = kinds.Equiv
-kind_of (commands.Gen blocks) = kinds.Gen
+kind_of (commands.Gen blocks deed) = kinds.Gen
 
 -- Words are a command's name and then pairs. Each pair's name is that of an option which the command
 -- takes, no name comes twice, and the pairs give what the command is asked with.

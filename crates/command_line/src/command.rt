@@ -2,6 +2,22 @@
 
 use settings::{ImproveSettings, SynthSettings};
 
+/// A format of netlists.
+#[derive(Clone, Copy, Debug, PartialEq, Eq)]
+pub enum Format {
+    Blif,
+    Bench,
+}
+
+/// What is done with a netlist that was generated.
+#[derive(Clone, Copy, Debug, PartialEq, Eq)]
+pub enum Deed {
+    /// It is written.
+    Write,
+    /// It is written as `improve` leaves it.
+    Improve,
+}
+
 /// What the program is asked to do.
 #[derive(Clone, Copy, Debug, PartialEq, Eq)]
 pub enum Command {
@@ -11,12 +27,18 @@ pub enum Command {
     Recheck,
     /// Find a chain with the fewest steps, and write the certificate.
     Synth(SynthSettings),
-    /// Write a netlist again that does the same with no more gates, by its windows.
-    Improve(ImproveSettings),
+    /// Write a netlist of a format again that does the same with no more gates, by its windows.
+    Improve {
+        format: Format,
+        settings: ImproveSettings,
+    },
     /// Say whether two netlists do the same, with a budget of so many learnt clauses.
     Equiv(u32),
-    /// Write a netlist of so many blocks, 1 to 10,000.
-    Gen(u32),
+    /// Make a netlist of so many blocks, 1 to 10,000, and write it or improve it.
+    Gen {
+        blocks: u32,
+        deed: Deed,
+    },
 }
 
 /// Why words aren't a command.

@@ -1,14 +1,18 @@
 //! What the definitions come to. Each law is the contract of a function that does nothing.
-ghost use Rattle.std.specs.Prelude.{◌↔◌, ℕ, List, [], ◌∷◌, codes};
+ghost use Rattle.std.specs.Prelude.{◌≡◌, ◌↔◌, true, ℕ, List, [], ◌∷◌, codes};
 ghost use Rattle.std.specs.List.Sorted.{IsPermutation};
 ghost use Rattle.settings.specs.declared.synth.SynthSettings.{SynthSettings};
 ghost use Rattle.settings.specs.declared.improve.ImproveSettings.{ImproveSettings};
 ghost use Rattle.settings.specs.Synth.{usual, IsInRange};
 ghost use Rattle.settings.specs.Improve as improver;
+ghost use Rattle.command_line.specs.declared.command.Format.{Format};
+ghost use Rattle.command_line.specs.declared.command.Format.TheVariants.{Blif, Bench};
 ghost use Rattle.command_line.specs.declared.command.Command.{Command};
 ghost use Rattle.command_line.specs.declared.command.Command.TheVariants.{Synth, Improve, Equiv};
-ghost use Rattle.command_line.specs.CommandLine.{AsksFor, IsBudget};
+ghost use Rattle.command_line.specs.CommandLine.{AsksFor, IsBudget, IsAsked, usual_for};
+ghost use Rattle.command_line.specs.Options.{is_within};
 ghost use Rattle.command_line.specs.Spelling.{Pair, flat, Spells};
+ghost use Rattle.command_line.specs.WithinLaws.{AreWithin};
 
 /// Words ask for a command exactly where they are its name and pairs of a name and a value: each name
 /// that of an option which the command takes, and no name twice. The value of an option that is named
@@ -23,15 +27,22 @@ pub fn order_of_options_is_free()
         AsksFor (name ∷ flat pairs) command → AsksFor (name ∷ flat other) command }
 {}
 
-/// What `synth` and `improve` are asked with is in their ranges, and so is the budget of `equiv`.
+/// What `synth` and `improve` are asked with is in their ranges, the basis of a format with it, and so is the budget
+/// of `equiv`.
 pub fn settings_are_in_range()
     ensures synth { (words : List (List ℕ)) (settings : SynthSettings) → AsksFor words (Synth settings) → IsInRange settings }
-    ensures improve { (words : List (List ℕ)) (settings : ImproveSettings) → AsksFor words (Improve settings) → improver.IsInRange settings }
+    ensures improve { (words : List (List ℕ)) (format : Format) (settings : ImproveSettings) → AsksFor words (Improve format settings) → IsAsked format settings }
     ensures equiv { (words : List (List ℕ)) (budget : ℕ) → AsksFor words (Equiv budget) → IsBudget budget }
 {}
 
-/// `synth` and `improve` alone ask with what is usual.
+/// `synth` and `improve` alone ask with what is usual, and so does `improve` with the format alone.
 pub fn names_alone_ask_for_what_is_usual()
     ensures synth { AsksFor (codes "synth" ∷ []) (Synth usual) }
-    ensures improve { AsksFor (codes "improve" ∷ []) (Improve improver.usual) }
+    ensures improve { AsksFor (codes "improve" ∷ []) (Improve Blif improver.usual) }
+    ensures bench { AsksFor (codes "improve" ∷ codes "--format" ∷ codes "bench" ∷ []) (Improve Bench (usual_for Bench)) }
+{}
+
+/// A basis is within another exactly where each of its operators is one of the other.
+pub fn bases_within_have_their_operators()
+    ensures { (set all : ℕ) → (is_within set all ≡ true) ↔ AreWithin set all }
 {}

@@ -20,7 +20,7 @@ mod pairs;
 mod table;
 mod words;
 
-pub use command::{Command, WordsError};
+pub use command::{Command, Deed, Format, WordsError};
 pub use settings::{ImproveSettings, SynthSettings};
 pub use words::read_words;
 

@@ -1,10 +1,12 @@
 //! The one table of options: how each is named and read, what holds where it isn't named, and which
-//! command takes it. `specs/Options.antt` is the same table.
+//! command takes it. `specs/Options.antt` is the same table. Which values `--basis` has goes by the format.
 ghost use Rattle.std.specs.Prelude.{◌≡◌, map};
 ghost use Rattle.std.specs.String.{string_bytes};
+ghost use Rattle.op_basis.specs.Text.{bench_set};
 ghost use Rattle.command_line.specs.Options as spec;
 ghost use Rattle.command_line.specs.CommandLine.{value};
 
+use crate::command::{Deed, Format};
 use crate::pairs::{is_word, word_behind};
 use op_basis::{Basis, read_basis};
 use settings::{
@@ -22,18 +24,6 @@ pub(crate) enum Kind {
     Improve,
     Equiv,
     Gen,
-}
-
-/// What is done with a netlist that was generated.
-#[derive(Clone, Copy, Debug, PartialEq, Eq)]
-pub(crate) enum Deed {
-    Write,
-}
-
-/// A format of netlists.
-#[derive(Clone, Copy, Debug, PartialEq, Eq)]
-pub(crate) enum Format {
-    Blif,
 }
 
 const BASIS: &[u8] = b"--basis";
@@ -56,6 +46,9 @@ const RUN: &[u8] = b"--run";
 
 // The most blocks of a netlist that is generated.
 const MOST_BLOCKS: u32 = 10_000;
+
+// The operators of gates in BENCH: AND, XOR, OR and their complements.
+const BENCH: u16 = 17_346;
 
 /// The command of a name.
 pub(crate) fn kind_named(name: &[u8]) -> Option<Kind>
@@ -140,6 +133,36 @@ pub(crate) fn given_basis(words: &[String]) -> Option<Basis>
     }
 }
 
+/// Whether each operator of a set is one of gates in BENCH.
+fn is_of_gates(basis: Basis) -> bool
+    ensures { result ≡ spec.is_within basis bench_set }
+{
+    basis.get() & BENCH == basis.get()
+}
+
+/// The value of `--basis` where the format is BENCH.
+fn given_gates(words: &[String]) -> Option<Basis>
+    ensures { result ≡ value spec.gates_row (map string_bytes words.now) }
+{
+    match word_behind(BASIS, words) {
+        None => Some(Basis::new(BENCH)),
+        Some(word) => match read_basis(word) {
+            Ok(basis) if is_of_gates(basis) => Some(basis),
+            _ => None,
+        },
+    }
+}
+
+/// The value of `--basis` for a format.
+pub(crate) fn given_basis_for(format: Format, words: &[String]) -> Option<Basis>
+    ensures { result ≡ value (spec.format_basis_row format) (map string_bytes words.now) }
+{
+    match format {
+        Format::Blif => given_basis(words),
+        Format::Bench => given_gates(words),
+    }
+}
+
 /// The value of `--method`.
 pub(crate) fn given_method(words: &[String]) -> Option<Method>
     ensures { result ≡ value spec.method_row (map string_bytes words.now) }
@@ -188,6 +211,7 @@ pub(crate) fn given_format(words: &[String]) -> Option<Format>
     match word_behind(FORMAT, words) {
         None => Some(Format::Blif),
         Some(word) if is_word(word, b"blif") => Some(Format::Blif),
+        Some(word) if is_word(word, b"bench") => Some(Format::Bench),
         Some(_) => None,
     }
 }
@@ -206,6 +230,7 @@ pub(crate) fn given_deed(words: &[String]) -> Option<Deed>
     match word_behind(RUN, words) {
         None => Some(Deed::Write),
         Some(word) if is_word(word, b"write") => Some(Deed::Write),
+        Some(word) if is_word(word, b"improve") => Some(Deed::Improve),
         Some(_) => None,
     }
 }

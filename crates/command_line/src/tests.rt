@@ -1,6 +1,6 @@
 //! Lines and what they ask for.
 
-use crate::{Command, ImproveSettings, SynthSettings, WordsError, read_words};
+use crate::{Command, Deed, Format, ImproveSettings, SynthSettings, WordsError, read_words};
 use op_basis::Basis;
 use settings::Method;
 use std::alloc::{AllocError, Global};
@@ -27,8 +27,27 @@ fn lines_ask_for_commands(rt: HostRuntime) -> Result<(), Fail> {
         ("recheck", Command::Recheck),
         ("equiv", Command::Equiv(100_000)),
         ("equiv --conflicts 7", Command::Equiv(7)),
-        ("gen --blocks 3", Command::Gen(3)),
-        ("gen --run write --blocks 10000", Command::Gen(10_000)),
+        (
+            "gen --blocks 3",
+            Command::Gen {
+                blocks: 3,
+                deed: Deed::Write,
+            },
+        ),
+        (
+            "gen --run write --blocks 10000",
+            Command::Gen {
+                blocks: 10_000,
+                deed: Deed::Write,
+            },
+        ),
+        (
+            "gen --run improve --blocks 1",
+            Command::Gen {
+                blocks: 1,
+                deed: Deed::Improve,
+            },
+        ),
     ] {
         assert_eq!(rt; asked(rt.alloc(), line)?, Some(command), "{line}");
     }
@@ -104,14 +123,41 @@ fn improve_is_asked_with_settings(rt: HostRuntime) -> Result<(), Fail> {
             10_000_000,
         ),
     ] {
-        let command = Command::Improve(ImproveSettings {
+        let settings = ImproveSettings {
             basis: Basis::new(basis),
             method,
             cap,
             rounds,
             conflicts,
-        });
-        assert_eq!(rt; asked(rt.alloc(), line)?, Some(command), "{line}");
+        };
+        let format = Format::Blif;
+        assert_eq!(rt;
+            asked(rt.alloc(), line)?,
+            Some(Command::Improve { format, settings }),
+            "{line}"
+        );
+    }
+    Ok(())
+}
+
+#[test]
+fn bench_has_bases_of_its_gates(rt: HostRuntime) -> Result<(), Fail> {
+    for (line, basis) in [
+        ("improve --format bench", 17_346),
+        ("improve --basis bench --format bench", 17_346),
+        ("improve --format bench --basis nand", 16_384),
+        ("improve --format bench --basis 0110,1001", 576),
+    ] {
+        let settings = ImproveSettings {
+            basis: Basis::new(basis),
+            ..ImproveSettings::usual()
+        };
+        let format = Format::Bench;
+        assert_eq!(rt;
+            asked(rt.alloc(), line)?,
+            Some(Command::Improve { format, settings }),
+            "{line}"
+        );
     }
     Ok(())
 }
@@ -127,7 +173,8 @@ fn other_words_ask_for_none(rt: HostRuntime) -> Result<(), Fail> {
         "equiv --max 3",
         "gen",
         "gen --blocks 0",
-        "gen --blocks 3 --run improve",
+        "gen --blocks 3 --run both",
+        "gen --blocks 10001",
         "synth --method",
         "synth plain",
         "synth --method Plain",
@@ -149,7 +196,10 @@ fn other_words_ask_for_none(rt: HostRuntime) -> Result<(), Fail> {
         "improve --basis",
         "improve --method none",
         "improve --max 3",
-        "improve --format bench",
+        "improve --format aiger",
+        "improve --format bench --basis all",
+        "improve --format bench --basis u2",
+        "improve --basis 0001,0010 --format bench",
     ] {
         assert_eq!(rt; asked(rt.alloc(), line)?, None, "{line}");
     }

@@ -3,11 +3,11 @@ ghost use Rattle.std.specs.Prelude.{◌≡◌, map, IfOk};
 ghost use Rattle.std.specs.String.{string_bytes};
 ghost use Rattle.command_line.specs.CommandLine as spec;
 
-use crate::command::{Command, WordsError};
+use crate::command::{Command, Format, WordsError};
 use crate::pairs::are_options;
 use crate::table::{
-    Kind, given_basis, given_blocks, given_cap, given_conflicts, given_deed, given_format,
-    given_max, given_method, given_rounds, kind_named,
+    Kind, given_basis, given_basis_for, given_blocks, given_cap, given_conflicts, given_deed,
+    given_format, given_max, given_method, given_rounds, kind_named,
 };
 use settings::{ImproveSettings, SynthSettings};
 
@@ -33,23 +33,31 @@ fn synth_in(words: &[String]) -> Option<Command>
     }
 }
 
-/// `improve` with the values of its options.
-fn improve_in(words: &[String]) -> Option<Command>
-    ensures { result ≡ spec.improve_in (map string_bytes words.now) }
+/// The settings of `improve` for a format.
+fn settings_for(format: Format, words: &[String]) -> Option<ImproveSettings>
+    ensures { result ≡ spec.settings_for format (map string_bytes words.now) }
 {
-    let basis = given_basis(words)?;
+    let basis = given_basis_for(format, words)?;
     let method = given_method(words)?;
     let cap = given_cap(words)?;
     let rounds = given_rounds(words)?;
     let conflicts = given_conflicts(words)?;
-    let _blif = given_format(words)?;
-    Some(Command::Improve(ImproveSettings {
+    Some(ImproveSettings {
         basis,
         method,
         cap,
         rounds,
         conflicts,
-    }))
+    })
+}
+
+/// `improve` with the values of its options.
+fn improve_in(words: &[String]) -> Option<Command>
+    ensures { result ≡ spec.improve_in (map string_bytes words.now) }
+{
+    let format = given_format(words)?;
+    let settings = settings_for(format, words)?;
+    Some(Command::Improve { format, settings })
 }
 
 /// `equiv` with the value of its option.
@@ -67,7 +75,7 @@ fn gen_in(words: &[String]) -> Option<Command>
     ensures { result ≡ spec.gen_in (map string_bytes words.now) }
 {
     match (given_blocks(words), given_deed(words)) {
-        (Some(blocks), Some(_)) => Some(Command::Gen(blocks)),
+        (Some(blocks), Some(deed)) => Some(Command::Gen { blocks, deed }),
         _ => None,
     }
 }

@@ -1,7 +1,10 @@
 //! Netlists through the improvement by windows, with settings, and the report.
 ghost use Rattle.settings.specs.Improve.{IsInRange};
+ghost use Rattle.bench_core.specs.Bench.{bench_format};
+ghost use Rattle.improve_windows.specs.Improving.{FitsFormat};
 
-use improve_windows::{ImproveSettings, improve};
+use improve_windows::{ImproveSettings, improve_bench, improve_blif};
+use op_basis::Basis;
 use std::alloc::{AllocError, Global};
 
 /// The usual settings, with windows of at most so many gates, so many rounds, and this budget.
@@ -26,7 +29,7 @@ fn told(alloc: Global, bytes: &[u8], settings: ImproveSettings) -> Result<Vec<u8
     if bytes.len() > 100_000 {
         return Ok(told);
     }
-    if let Ok(improved) = improve(alloc, bytes, settings) {
+    if let Ok(improved) = improve_blif(alloc, bytes, settings) {
         told.extend_from_slice(&improved.text)?;
         told.extend_from_slice(&improved.report)?;
     }
@@ -87,7 +90,7 @@ fn report(alloc: Global, bytes: &[u8], settings: ImproveSettings) -> Result<Vec<
     if bytes.len() > 100_000 {
         return Ok(Vec::new(alloc));
     }
-    match improve(alloc, bytes, settings) {
+    match improve_blif(alloc, bytes, settings) {
         Ok(improved) => Ok(improved.report),
         Err(_) => Ok(Vec::new(alloc)),
     }
@@ -101,5 +104,63 @@ fn windows_stay_undecided(rt: HostRuntime) -> Result<(), AllocError> {
     assert!(rt; open.ends_with(b"\nsettled\n".as_slice()));
     let decided = report(rt.alloc(), ADDER, settings(1, 1000, 1))?;
     assert_eq!(rt; decided.as_slice(), b"gates 5 -> 5\nsettled\n".as_slice());
+    Ok(())
+}
+
+/// The usual settings with all operators of gates in BENCH.
+fn gates_alone() -> ImproveSettings
+    ensures range { IsInRange result }
+    ensures fits { FitsFormat bench_format result }
+{
+    let usual = ImproveSettings::usual();
+    ImproveSettings {
+        basis: Basis::new(17_346),
+        method: usual.method,
+        cap: usual.cap,
+        rounds: usual.rounds,
+        conflicts: usual.conflicts,
+    }
+}
+
+/// The text of an improved BENCH netlist and the report behind it; nothing where it is refused.
+fn told_of_gates(alloc: Global, bytes: &[u8]) -> Result<Vec<u8>, AllocError> {
+    let mut told = Vec::new(alloc);
+    if bytes.len() > 100_000 {
+        return Ok(told);
+    }
+    if let Ok(improved) = improve_bench(alloc, bytes, gates_alone()) {
+        told.extend_from_slice(&improved.text)?;
+        told.extend_from_slice(&improved.report)?;
+    }
+    Ok(told)
+}
+
+#[test]
+fn windows_of_gates_shrink(rt: HostRuntime) -> Result<(), AllocError> {
+    for (text, wanted) in [
+        // four gates are one
+        (
+            b"INPUT(a)\nINPUT(b)\nOUTPUT(y)\nn = NAND(a, b)\np = NAND(a, n)\nq = NAND(b, n)\ny = NAND(p, q)\n".as_slice(),
+            b"INPUT(a)\nINPUT(b)\nOUTPUT(y)\ny = XOR(a, b)\ngates 4 -> 1\nsettled\n".as_slice(),
+        ),
+        // a is all that is left, and of it a constant is made
+        (
+            b"INPUT(a)\nOUTPUT(y)\nOUTPUT(z)\nn = NOT(a)\ny = AND(n, a)\nz = NOT(n)\n".as_slice(),
+            b"INPUT(a)\nOUTPUT(y)\nOUTPUT(z)\ny = XOR(a, a)\nz = BUFF(a)\ngates 3 -> 0\nsettled\n".as_slice(),
+        ),
+        // a latch, and a NOT that only it reads
+        (
+            b"INPUT(a)\nOUTPUT(q)\nq = DFF(d)\nd = NOT(a)\n".as_slice(),
+            b"INPUT(a)\nOUTPUT(q)\nq = DFF(g1)\ng1 = NOT(a)\ngates 1 -> 1\nsettled\n".as_slice(),
+        ),
+        // a gate that no other stands for, AND of a and not b, isn't taken in
+        (
+            b"INPUT(a)\nINPUT(b)\nOUTPUT(y)\nn = NOT(b)\ny = AND(a, n)\n".as_slice(),
+            b"INPUT(a)\nINPUT(b)\nOUTPUT(y)\ng1 = NOT(b)\ny = AND(a, g1)\ngates 2 -> 2\nsettled\n".as_slice(),
+        ),
+    ] {
+        let told = told_of_gates(rt.alloc(), text)?;
+        assert_eq!(rt; told.as_slice(), wanted);
+    }
     Ok(())
 }

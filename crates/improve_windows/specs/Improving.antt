@@ -1,6 +1,7 @@
 -- Netlists that were improved by their windows: the same behaviour, no more gates, and, where it is settled, no
 -- listed window with a shorter chain but for those that are named.
-use Rattle.std.specs.Prelude.{◌≡◌, ℕ, ◌≤◌, Bool, List, length, Ok, Some}
+use Rattle.std.specs.Prelude.{◌≡◌, ℕ, ◌≤◌, Bool, true, List, length, Ok, Some}
+use Rattle.op_basis.specs.Basis.{members}
 use Rattle.net_theory.specs.Behaviour.{Same}
 use Rattle.net_theory.specs.Cost.{cost}
 use Rattle.net_theory.specs.Net.{Net}
@@ -15,6 +16,10 @@ use Rattle.settings.specs.declared.improve.ImproveSettings.{ImproveSettings}
 use Rattle.sweep_core.specs.Undecided.{Undecided}
 use Rattle.window_trial.specs.Improvement.{Leaves}
 use Rattle.improve_windows.specs.Report.{report_text}
+
+-- Gates may have each operator of the basis in the format.
+abbrev pub FitsFormat : Format → ImproveSettings → Type 0
+FitsFormat f s = (op : ℕ) → members s.basis op ≡ true → f.operators op ≡ true
 
 -- ---- circuits
 

@@ -1,26 +1,33 @@
 -- What is improved does the same, is no larger, and is read back.
 use Rattle.std.specs.Prelude.{◌≡◌, ℕ, ◌≤◌, Bool, List, length, All, Result, Ok, Err, IfErr, refl}
 use Rattle.std.specs.Result.{IsErrAnd}
-use Rattle.std.proofs.Common.{arith, sym, ◌∙◌, ap, subst}
+use Rattle.std.proofs.Common.{arith, sym, ◌∙◌, ap, subst, inl, inr, ⊎_elim}
 use Rattle.std.proofs.lemmas.Grind.{common_steps}
+use Rattle.op_basis.specs.Basis.{members}
 use Rattle.net_theory.specs.Cost.{cost}
 use Rattle.net_theory.specs.Net.{Net}
 use Rattle.net_theory.specs.Naming.{gate_names}
 use Rattle.net_theory.specs.Circuit.{Circuit, IsProper}
 use Rattle.net_theory.specs.ExchangeLaws.{exchanged_proper}
-use Rattle.net_document.specs.Format.{Format, IsNetlist, IsCircuitOfText, IsFormat}
+use Rattle.net_document.specs.Format.{Format, IsNetlist, IsCircuitOfText, CanOperate, IsFormat}
 use Rattle.net_document.specs.AlikeLaws.{alike_same, alike_exchanged, describes_alike}
 use Rattle.net_core.specs.declared.error.NetError.{NetError}
 use Rattle.net_core.specs.declared.error.NetError.TheVariants.{Memory}
 use Rattle.net_core.specs.Names.{HasRoom}
+use Rattle.blif_core.specs.Written.{written}
 use Rattle.blif_core.specs.Spelling.{circuit_text}
 use Rattle.blif_core.specs.Blif.{blif_format, CanWrite}
+use Rattle.bench_core.specs.Gates.{bench_written}
+use Rattle.bench_core.specs.Spelling as gates
+use Rattle.bench_core.specs.Bench.{bench_format}
+use Rattle.bench_laws.specs.Spelled as bench
 use Rattle.settings.specs.declared.improve.ImproveSettings.{ImproveSettings}
+use Rattle.sweep_core.specs.Outcomes.{HasOperatorsWithin}
 use Rattle.sweep_core.specs.Undecided.{Undecided, IsUndecided}
 use Rattle.window_trial.specs.Improvement.{Leaves}
 use Rattle.improve_windows.specs.Report.{report_text}
 use Rattle.improve_windows.specs.ReportLaws.{CanBeWritten}
-use Rattle.improve_windows.specs.Improving.{IsBetter, IsImproved, IsReported}
+use Rattle.improve_windows.specs.Improving.{FitsFormat, IsBetter, IsImproved, IsReported}
 
 -- ---- improving a circuit
 
@@ -75,23 +82,57 @@ improved_is f Can s bytes c k before after settled named format is better can =
       fewer = better.fewer;
     }
 
-pub text_improved : (s : ImproveSettings) (bytes text report : List ℕ) (c k : Circuit) (before after : ℕ) (settled : Bool) (named : List Undecided) → IsFormat blif_format CanWrite → IsCircuitOfText blif_format bytes c → IsBetter blif_format s c k before after settled named → HasRoom k → text ≡ circuit_text k → report ≡ report_text (gate_names k) k.net.sources before after settled named → IsReported blif_format s bytes text report
-text_improved s bytes text report c k before after settled named format is better room spelled told = record {
+-- ---- circuits that can be written
+
+can_operate : (f : Format) (s : ImproveSettings) (n m : Net) → FitsFormat f s → HasOperatorsWithin (members s.basis) n m → CanOperate f n m
+can_operate f s n m fits within j h at = ⊎_elim (λ is. inl (fits h.op is)) (λ has. inr (has.index, has.gate, has.at, sym has.same)) (within.each j h at)
+
+-- What is left of a text's circuit can be written in its format, where gates may have the operators of the basis.
+pub writable : (f : Format) (Can : Circuit → Type 0) (s : ImproveSettings) (bytes : List ℕ) (c k : Circuit) (settled : Bool) (named : List Undecided) → IsFormat f Can → IsCircuitOfText f bytes c → FitsFormat f s → k ≡ record c { net = k.net } → Leaves s c.net k.net settled named → HasRoom k → Can k
+writable f Can s bytes c k settled named format is fits same left room =
+    let before : HasRoom c = subst HasRoom same room in
+    subst Can (sym same) (format.exchanged c k.net (format.kept bytes c is before) left.pruned.answers (can_operate f s c.net k.net fits left.operators))
+
+-- What costs the same in another format is better there too.
+pub better_there : (f g : Format) (s : ImproveSettings) (c k : Circuit) (before after : ℕ) (settled : Bool) (named : List Undecided) → cost (g.written k) ≡ cost (f.written k) → IsBetter f s c k before after settled named → IsBetter g s c k before after settled named
+better_there f g s c k before after settled named same better = record {
+  proper = better.proper;
+  model = better.model;
+  alike = better.alike;
+  left = better.left;
+  before_is = better.before_is;
+  after_is = better.after_is ∙ sym same;
+  fewer = better.fewer;
+}
+
+-- ---- texts with their reports
+
+reported : (f : Format) (Can : Circuit → Type 0) (s : ImproveSettings) (bytes text report : List ℕ) (c k : Circuit) (before after : ℕ) (settled : Bool) (named : List Undecided) → IsFormat f Can → IsCircuitOfText f bytes c → IsBetter f s c k before after settled named → Can k → text ≡ f.text k → report ≡ report_text (gate_names k) k.net.sources before after settled named → IsReported f s bytes text report
+reported f Can s bytes text report c k before after settled named format is better can spelled told = record {
   circuit = k;
   before = before;
   after = after;
   settled = settled;
   undecided = named;
-  improved = subst (λ (t : List ℕ). IsImproved blif_format s bytes t k before after settled named) (sym spelled) (improved_is blif_format CanWrite s bytes c k before after settled named format is better (better.proper, room));
+  improved = subst (λ (t : List ℕ). IsImproved f s bytes t k before after settled named) (sym spelled) (improved_is f Can s bytes c k before after settled named format is better can);
   told = told;
 }
 
-pub text_proper : (bytes : List ℕ) (c : Circuit) → IsCircuitOfText blif_format bytes c → IsProper c
-text_proper bytes c is = is.circuit.proper
+pub blif_improved : (s : ImproveSettings) (bytes text report : List ℕ) (c k : Circuit) (before after : ℕ) (settled : Bool) (named : List Undecided) → IsFormat blif_format CanWrite → IsCircuitOfText blif_format bytes c → IsBetter blif_format s c k before after settled named → HasRoom k → text ≡ circuit_text k → report ≡ report_text (gate_names k) k.net.sources before after settled named → IsReported blif_format s bytes text report
+blif_improved s bytes text report c k before after settled named format is better room spelled told =
+    reported blif_format CanWrite s bytes text report c k before after settled named format is better (better.proper, room) spelled told
+
+pub bench_improved : (s : ImproveSettings) (bytes text report : List ℕ) (c k : Circuit) (before after : ℕ) (settled : Bool) (named : List Undecided) → IsFormat bench_format bench.CanWrite → ((x : Circuit) → bench.CanWrite x → cost (bench_written x) ≡ cost (written x)) → FitsFormat bench_format s → IsCircuitOfText bench_format bytes c → k ≡ record c { net = k.net } → IsBetter blif_format s c k before after settled named → HasRoom k → text ≡ gates.circuit_text k → report ≡ report_text (gate_names k) k.net.sources before after settled named → IsReported bench_format s bytes text report
+bench_improved s bytes text report c k before after settled named format same_cost fits is same better room spelled told =
+    let can = writable bench_format bench.CanWrite s bytes c k settled named format is fits same better.left room in
+    reported bench_format bench.CanWrite s bytes text report c k before after settled named format is (better_there blif_format bench_format s c k before after settled named (same_cost k can) better) can spelled told
+
+pub text_proper : (f : Format) (bytes : List ℕ) (c : Circuit) → IsCircuitOfText f bytes c → IsProper c
+text_proper f bytes c is = is.circuit.proper
 
 -- an error that is handed on
-pub err_complete : {A : Type 0} (bytes : List ℕ) (r : Result A NetError) (e : NetError) → IsErrAnd r (λ d. d ≡ e) → (IsNetlist blif_format bytes → e ≡ Memory) → IfErr r (λ d. IsNetlist blif_format bytes → d ≡ Memory)
-err_complete bytes (Ok x) e is complete = absurd is
-err_complete bytes (Err d) e is complete = λ netlist. is ∙ complete netlist
+pub err_complete : {A : Type 0} (f : Format) (bytes : List ℕ) (r : Result A NetError) (e : NetError) → IsErrAnd r (λ d. d ≡ e) → (IsNetlist f bytes → e ≡ Memory) → IfErr r (λ d. IsNetlist f bytes → d ≡ Memory)
+err_complete f bytes (Ok x) e is complete = absurd is
+err_complete f bytes (Err d) e is complete = λ netlist. is ∙ complete netlist
 
-pub ruleset improving = (common_steps, left_proper, better, named_can, text_proper, text_improved)
+pub ruleset improving = (common_steps, left_proper, better, named_can, text_proper)

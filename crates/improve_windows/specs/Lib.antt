@@ -5,3 +5,4 @@ pub mod Report
 pub mod ReportLaws
 pub mod Improving
 pub mod ImprovingLaws
+pub mod FitsLaws

@@ -30,7 +30,7 @@ pub struct Improved {
     pub undecided: Vec<Undecided>,
 }
 
-/// A circuit that was improved, and the document as which it is written.
+/// A circuit that was improved, and the document as which BLIF writes it.
 #[derive(Debug, Drop)]
 pub(crate) struct Written {
     pub(crate) improved: Improved,
@@ -79,7 +79,7 @@ fn left_of(alloc: Global, circuit: Circuit, settings: ImproveSettings) -> Result
     })
 }
 
-/// A circuit improved, and the document as which it is written.
+/// A circuit improved, and the document as which BLIF writes it.
 #[tactic(auto, using(crate::specs::ImprovingLaws::improving))]
 pub(crate) fn improve_written(
     alloc: Global,
@@ -90,6 +90,7 @@ pub(crate) fn improve_written(
     requires range { IsInRange settings }
     ensures better { IfOk result (λ w. IsBetter blif_format settings circuit w.improved.circuit
         w.improved.before w.improved.after w.improved.settled w.improved.undecided.items) }
+    ensures circuit { IfOk result (λ w. w.improved.circuit ≡ record circuit { net = w.improved.circuit.net }) }
     ensures document { IfOk result (λ w. w.document ≡ written_of w.improved.circuit) }
     ensures inits { IfOk result (λ w. All HasInit w.document.latches) }
     ensures room { IfOk result (λ w. HasRoom w.improved.circuit) }

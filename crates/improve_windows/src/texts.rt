@@ -1,19 +1,24 @@
-//! BLIF texts improved.
+//! Texts improved, in each format: what they share is the circuit's improvement and its report.
 ghost use Rattle.std.specs.Prelude.{◌≡◌, ◌<◌, ◌^◌, length, All, IfOk, IfErr};
 ghost use Rattle.net_theory.specs.Circuit.{IsProper};
 ghost use Rattle.net_theory.specs.Naming.{gate_names as gate_names_of};
 ghost use Rattle.net_core.specs.declared.error.NetError.TheVariants.{Memory};
 ghost use Rattle.net_document.specs.Format.{IsNetlist, IsRefusedText};
+ghost use Rattle.blif_core.specs.Written.{written};
 ghost use Rattle.blif_core.specs.Spelling.{spelled, HasInit};
 ghost use Rattle.blif_core.specs.Blif.{blif_format};
+ghost use Rattle.bench_core.specs.Spelling.{circuit_text as gates_text};
+ghost use Rattle.bench_core.specs.Bench.{bench_format};
 ghost use Rattle.settings.specs.Improve.{IsInRange};
 ghost use Rattle.improve_windows.specs.Report.{report_text};
 ghost use Rattle.improve_windows.specs.ReportLaws.{CanBeWritten};
-ghost use Rattle.improve_windows.specs.Improving.{IsReported};
+ghost use Rattle.improve_windows.specs.Improving.{FitsFormat, IsReported};
 
 use crate::circuits::{Improved, Written, improve_written};
 use crate::reporting::report_of;
-use blif_core::{NetError, read_blif, write_document};
+use bench_core::{read_bench, write_gates};
+use bench_laws::{bench_is_a_format, circuits_cost_the_same};
+use blif_core::{Circuit, NetError, read_blif, write_document};
 use blif_laws::blif_is_a_format;
 use net_core::gate_names;
 use net_document::Document;
@@ -48,13 +53,23 @@ fn told(alloc: Global, improved: &Improved) -> Result<Vec<u8>, AllocError>
     Ok(report)
 }
 
-/// The text of a document.
+/// The BLIF text of a document.
 fn text_of(alloc: Global, document: &Document) -> Result<Vec<u8>, AllocError>
     requires { All HasInit document.now.latches }
     ensures { IfOk result (λ text. text.items ≡ spelled document.now) }
 {
     let mut text = Vec::new(alloc);
     write_document(&mut text, document)?;
+    Ok(text)
+}
+
+/// The BENCH text of a circuit, by the document as which BLIF would write it.
+fn gates_of(alloc: Global, circuit: &Circuit, document: &Document) -> Result<Vec<u8>, AllocError>
+    requires { document.now ≡ written circuit.now }
+    ensures { IfOk result (λ text. text.items ≡ gates_text circuit.now) }
+{
+    let mut text = Vec::new(alloc);
+    write_gates(&mut text, circuit, document)?;
     Ok(text)
 }
 
@@ -65,7 +80,7 @@ fn text_of(alloc: Global, document: &Document) -> Result<Vec<u8>, AllocError>
 /// more than 100,000 gates, a name that is driven twice, one that is used and not driven, and a table
 /// that depends on itself. A well-formed netlist is refused for want of memory alone.
 #[tactic(auto, using(crate::specs::ImprovingLaws::improving))]
-pub fn improve(
+pub fn improve_blif(
     alloc: Global,
     bytes: &[u8],
     settings: ImproveSettings,
@@ -80,6 +95,34 @@ pub fn improve(
     let circuit = read_blif(alloc, bytes)?;
     let Written { improved, document } = improve_written(alloc, circuit, settings)?;
     let text = text_of(alloc, &document)?;
+    let report = told(alloc, &improved)?;
+    Ok(ImprovedText { text, report })
+}
+
+/// Improves a BENCH netlist as `improve_blif` does a BLIF netlist, by a basis of operators that gates may have in
+/// BENCH.
+///
+/// Lines are judged in their order, and the first at fault is told; then more than 100,000 gates, a name that is
+/// driven twice, one that is used and not driven, and a gate that depends on itself. A well-formed netlist is
+/// refused for want of memory alone.
+#[tactic(auto, using(crate::specs::ImprovingLaws::improving))]
+pub fn improve_bench(
+    alloc: Global,
+    bytes: &[u8],
+    settings: ImproveSettings,
+) -> Result<ImprovedText, NetError>
+    requires size { length bytes.now < 2 ^ 31 }
+    requires range { IsInRange settings }
+    requires basis { FitsFormat bench_format settings }
+    ensures improved { IfOk result (λ i. IsReported bench_format settings bytes.now i.text.items i.report.items) }
+    ensures refused { IfErr result (IsRefusedText bench_format bytes.now) }
+    ensures complete { IfErr result (λ e. IsNetlist bench_format bytes.now → e ≡ Memory) }
+{
+    bench_is_a_format();
+    circuits_cost_the_same();
+    let circuit = read_bench(alloc, bytes)?;
+    let Written { improved, document } = improve_written(alloc, circuit, settings)?;
+    let text = gates_of(alloc, &improved.circuit, &document)?;
     let report = told(alloc, &improved)?;
     Ok(ImprovedText { text, report })
 }

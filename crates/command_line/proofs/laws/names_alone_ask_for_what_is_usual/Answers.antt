@@ -9,3 +9,7 @@ returns-clause-synth c = refl
 pub returns-clause-improve : goal.returns-clause-improve
 unfolding command_of are_options word_behind
 returns-clause-improve c = refl
+
+pub returns-clause-bench : goal.returns-clause-bench
+unfolding command_of are_options word_behind
+returns-clause-bench c = refl

@@ -6,7 +6,7 @@ pub returns-clause-synth : goal.returns-clause-synth
 returns-clause-synth c words settings = command_range words (Synth settings)
 
 pub returns-clause-improve : goal.returns-clause-improve
-returns-clause-improve c words settings = command_range words (Improve settings)
+returns-clause-improve c words format settings = command_range words (Improve format settings)
 
 pub returns-clause-equiv : goal.returns-clause-equiv
 returns-clause-equiv c words budget = command_range words (Equiv budget)
