@@ -4,7 +4,8 @@
 //!
 //! The theorem is that of `write_bundle`: what it appends is the spelling. `write_heading`,
 //! `write_section` and `write_ending` append its three pieces, so that a certificate can be written
-//! while it is found: the heading, each section as soon as it stands, and the ending.
+//! while it is found: the heading, each section as soon as it stands, and the ending. `write_parts` appends
+//! parts that stand behind a certificate.
 //!
 //! ```text
 //! let mut text = Vec::new(alloc);
@@ -20,5 +21,5 @@ mod whole;
 
 pub use ending::write_ending;
 pub use heading::write_heading;
-pub use section::write_section;
+pub use section::{write_parts, write_section};
 pub use whole::write_bundle;

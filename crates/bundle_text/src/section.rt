@@ -1,5 +1,6 @@
 //! Sections as they are written.
 ghost use Rattle.std.specs.Prelude.{◌≡◌, ◌++◌, OnOk, OnErr};
+ghost use Rattle.std.specs.List.{flat_map};
 ghost use Rattle.text_core.specs.Lines.{line_bytes};
 ghost use Rattle.lrat_text.specs.Values.{line_values};
 ghost use Rattle.chain_core.specs.Spelling.{line};
@@ -71,6 +72,17 @@ fn push_parts(text: &mut Vec<u8>, parts: &[PartLog]) -> Result<(), AllocError>
         left = rest;
     }
     Ok(())
+}
+
+/// Appends the lines of parts, as they stand in a section. On an error nothing was written.
+#[tactic(auto, unfolding(crate::specs::Texts::parts_text))]
+pub fn write_parts(parts: &[PartLog], out: &mut Vec<u8>) -> Result<(), AllocError>
+    ensures ok { OnOk result (out.new.items ≡ out.old.items ++ spelling.text_of (flat_map spelling.part_lines parts.now)) }
+    ensures err { OnErr result (out.new.items ≡ out.old.items) }
+{
+    let mut text = Vec::new(*out.allocator());
+    push_parts(&mut text, parts)?;
+    out.extend_from_slice(&text)
 }
 
 /// Appends the lines of a section.

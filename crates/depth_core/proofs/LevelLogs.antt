@@ -1,0 +1,337 @@
+-- The logs of fences by levels.
+use Rattle.std.proofs.Common.{◌≡◌, ◌⊎◌, ℕ, zero, suc, ◌+◌, ◌-◌, ◌<◌, ◌≤◌, ◌==◌, ◌^◌, Bool, true, false, cond, List, [], ◌∷◌, ◌++◌, length, map, Contains, All, Option, Some, None, refl, sym, ap, ◌∙◌, subst, arith, inl, inr, append-nil}
+use Rattle.std.specs.Prelude.{nat_lt}
+use Rattle.std.specs.List.{filter, find, flat_map, range_with_len, AllByRecursion}
+use Rattle.std.specs.Option.{option_map}
+use Rattle.std.proofs.Math.Logic.{⊎_elim}
+use Rattle.std.proofs.lemmas.Bool.{eqb-true, cases_lt}
+use Rattle.std.proofs.lemmas.Bool.Decides.{nat_tests}
+use Rattle.std.proofs.lemmas.Grind.{common_steps, flat_map-append}
+use Rattle.std.proofs.lemmas.List.{map-append}
+use Rattle.std.proofs.lemmas.List.Elements.{All-push, All-append, All-filter, filter-append}
+use Rattle.clause_core.specs.Holds.{contains_head, contains_tail, contains_cases, flat_map_get, range_inside}
+use Rattle.chain_theory.specs.Chain.{Chain}
+use Rattle.chain_theory.specs.Levels.{HasLevels, depth}
+use Rattle.chain_theory.specs.LevelLaws.{depth-least}
+use Rattle.tt_core.specs.Words.{Words}
+use Rattle.enc_theory.specs.Fence.{fence_formula}
+use Rattle.enc_theory.specs.Parts.{parts_for, fence_in, FitsPart}
+use Rattle.enc_theory.specs.declared.part.Part.{Part}
+use Rattle.enc_theory.specs.declared.part.Part.TheVariants.{Whole, Levels}
+use Rattle.enc_theory.specs.declared.data.Method.{Method}
+use Rattle.enc_theory.specs.declared.data.Method.TheVariants.{Fence}
+use Rattle.cert_theory.specs.Coding.{coding_of}
+use Rattle.cert_theory.specs.declared.data.Heading.{Heading}
+use Rattle.cert_theory.specs.declared.data.Ended.{Ended}
+use Rattle.cert_theory.specs.declared.data.Ended.TheVariants as ends
+use Rattle.cert_theory.specs.declared.data.Verdict.{Verdict}
+use Rattle.cert_theory.specs.declared.data.Verdict.TheVariants as verdicts
+use Rattle.cert_theory.specs.Bundle.{PartLog, Section, Bundle, IsHeading, IsPartLog, part_of, is_open_end, first_open, found, not_found, IsFound, IsEnding, IsValid}
+use Rattle.size_loop.specs.declared.trying.PartOutcome.{PartOutcome}
+use Rattle.size_loop.specs.declared.trying.PartOutcome.TheVariants as outcomes
+use Rattle.size_loop.specs.Outcomes.{IsTried}
+use Rattle.size_loop.specs.Coded.{IsCodedBy}
+use Rattle.size_loop.specs.Thrift.{IsThriftyLog, AreThrifty}
+use Rattle.depth_theory.specs.declared.data.DepthVerdict.{DepthVerdict}
+use Rattle.depth_theory.specs.Flatter.{fences_for, has_levels, of_levels, by_levels, flatter}
+use Rattle.depth_theory.specs.FlatterLaws.{flatter_is, level_is, by_levels_more}
+use Rattle.depth_theory.specs.DepthBundle.{DepthBundle, part_levels, open_levels, levels_found, IsDepth}
+use Rattle.depth_theory.specs.DepthMeanings.{open_fence}
+use Rattle.depth_core.specs.Flattened.{is_flatter, IsTriedLow, AreLogs, IsFlat, AreSearched, IsLeast, minimum_of, IsOther}
+
+-- ---- the encoding
+
+coded : IsCodedBy (coding_of Fence) (λ w r. parts_for w r) (λ w basis r part. fence_formula w basis r (fence_in part))
+unfolding coding_of
+coded = record { parts_are = λ w r. refl; formulas_are = λ w basis r part. refl }
+
+pub coded_by_fences : (m : Method) → m ≡ Fence → IsCodedBy (coding_of m) (λ w r. parts_for w r) (λ w basis r part. fence_formula w basis r (fence_in part))
+coded_by_fences m same = subst (λ (x : Method). IsCodedBy (coding_of x) (λ w r. parts_for w r) (λ w basis r part. fence_formula w basis r (fence_in part))) (sym same) coded
+
+-- ---- one level
+
+abbrev pub at_level : ℕ → Part → Bool
+at_level k part = part_levels part == k
+
+-- the logs of those parts among some that have so many levels
+pub record IsAtLevel (h : Heading) (size k : ℕ) (parts : List Part) (logs : List PartLog) : Type 0 where
+  pub parts_are : map part_of logs ≡ filter (at_level k) parts
+  pub ends : All (IsPartLog h size) logs
+  pub thrifty : All (IsThriftyLog h size) logs
+
+no_ends : (h : Heading) (size : ℕ) → All (IsPartLog h size) []
+no_ends h size = λ k d low. absurd (omega (arith, low))
+
+no_thrift : (h : Heading) (size : ℕ) → All (IsThriftyLog h size) []
+no_thrift h size = λ k d low. absurd (omega (arith, low))
+
+pub level_none : (h : Heading) (size k : ℕ) → IsAtLevel h size k [] []
+level_none h size k = record { parts_are = refl; ends = no_ends h size; thrifty = no_thrift h size }
+
+filter_last : (k : ℕ) (part : Part) (b : Bool) → at_level k part ≡ b → filter (at_level k) (part ∷ []) ≡ cond b (part ∷ []) []
+filter_last k part b is = ap (λ (t : Bool). cond t (part ∷ []) []) is
+
+other_false : (a k : ℕ) → (a ≡ k → ⊥) → (a == k) ≡ false
+other_false a k other = grind (arith, nat_tests)
+
+same_true : (a k : ℕ) → a ≡ k → (a == k) ≡ true
+same_true a k same = grind (arith, nat_tests)
+
+pub level_other : (h : Heading) (size k : ℕ) (parts : List Part) (logs : List PartLog) (part : Part) → IsAtLevel h size k parts logs → (part_levels part ≡ k → ⊥) → IsAtLevel h size k (parts ++ part ∷ []) logs
+level_other h size k parts logs part is other = record {
+  parts_are = is.parts_are ∙ sym (append-nil (filter (at_level k) parts)) ∙ ap (λ (xs : List Part). filter (at_level k) parts ++ xs) (sym (filter_last k part false (other_false (part_levels part) k other))) ∙ sym (filter-append (at_level k) parts (part ∷ []));
+  ends = is.ends;
+  thrifty = is.thrifty;
+}
+
+pub level_more : (h : Heading) (size k : ℕ) (parts : List Part) (logs : List PartLog) (part : Part) (p : PartLog) → IsAtLevel h size k parts logs → part_levels part ≡ k → p.part ≡ part → IsPartLog h size p → IsThriftyLog h size p → IsAtLevel h size k (parts ++ part ∷ []) (logs ++ p ∷ [])
+level_more h size k parts logs part p is same own log thrifty = record {
+  parts_are =
+      map-append part_of logs (p ∷ [])
+      ∙ ap (λ (xs : List Part). xs ++ p.part ∷ []) is.parts_are
+      ∙ ap (λ (x : Part). filter (at_level k) parts ++ x ∷ []) own
+      ∙ ap (λ (xs : List Part). filter (at_level k) parts ++ xs) (sym (filter_last k part true (same_true (part_levels part) k same)))
+      ∙ sym (filter-append (at_level k) parts (part ∷ []));
+  ends = All-push (IsPartLog h size) logs p is.ends log;
+  thrifty = All-push (IsThriftyLog h size) logs p is.thrifty thrifty;
+}
+
+kept_map : (b : Bool) (f : List ℕ) (fs : List (List ℕ)) (parts : List Part) → parts ≡ map Levels fs → cond b (Levels f ∷ parts) parts ≡ map Levels (cond b (f ∷ fs) fs)
+kept_map true f fs parts e = ap (λ (xs : List Part). Levels f ∷ xs) e
+kept_map false f fs parts e = e
+
+filter_map : (k : ℕ) (fences : List (List ℕ)) → filter (at_level k) (map Levels fences) ≡ map Levels (filter (has_levels k) fences)
+filter_map k [] = refl
+filter_map k (f ∷ fs) = kept_map (length f == k) f (filter (has_levels k) fs) (filter (at_level k) (map Levels fs)) (filter_map k fs)
+
+pub level_all : (h : Heading) (size k : ℕ) (logs : List PartLog) → IsAtLevel h size k (parts_for h.spec size) logs → AreLogs h size (of_levels (fences_for h.spec size) k) logs
+unfolding parts_for of_levels
+level_all h size k logs is = record { parts_are = is.parts_are ∙ filter_map k (fences_for h.spec size); ends = is.ends; thrifty = is.thrifty }
+
+levels_part : (fences : List (List ℕ)) (part : Part) → Contains (map Levels fences) part → (f : List ℕ) × (part ≡ Levels f)
+levels_part [] part there = absurd (omega (arith, there.1))
+levels_part (f ∷ fs) part there = ⊎_elim (λ (here : Levels f ≡ part). (f, sym here)) (λ (later : Contains (map Levels fs) part). levels_part fs part later) (contains_cases (Levels f) part (map Levels fs) there)
+
+fits_by : (part : Part) (f : List ℕ) (k : ℕ) (c : Chain) → part ≡ Levels f → part_levels part ≡ k → FitsPart part c → HasLevels k c
+unfolding FitsPart
+fits_by part f k c is same fits =
+    let low : HasLevels (length f) c = subst (λ (p : Part). FitsPart p c) is fits in
+    subst (λ (d : ℕ). HasLevels d c) (sym (ap part_levels is) ∙ same) low
+
+pub level_found : (w : Words) (r k : ℕ) (part : Part) (c : Chain) → Contains (parts_for w r) part → part_levels part ≡ k → FitsPart part c → HasLevels k c
+unfolding parts_for
+level_found w r k part c there same fits = let named = levels_part (fences_for w r) part there in fits_by part named.0 k c named.1 same fits
+
+-- what was tried of a fence
+pub tried_low : (h : Heading) (size : ℕ) (part : Part) (outcome : PartOutcome) → Contains (parts_for h.spec size) part → IsTried h size part outcome → IsTriedLow h size part outcome
+tried_low h size part (outcomes.Found c) there tried = (tried.0, level_found h.spec size (part_levels part) part c there refl tried.1)
+tried_low h size part (outcomes.Logged p) there tried = tried
+
+pub ruleset levels = (common_steps, coded_by_fences, level_none, level_other, level_more, level_all, level_found)
+
+-- ---- logs that are kept
+
+kept_more : (d : ℕ) (ys : List PartLog) (p : PartLog) → filter (is_flatter d) (ys ++ p ∷ []) ≡ filter (is_flatter d) ys ++ filter (is_flatter d) (p ∷ [])
+kept_more d ys p = filter-append (is_flatter d) ys (p ∷ [])
+
+kept_low : (d : ℕ) (p : PartLog) → part_levels p.part < d → filter (is_flatter d) (p ∷ []) ≡ p ∷ []
+kept_low d p low = ap (λ (t : Bool). cond t (p ∷ []) []) (low_true (part_levels p.part) d low)
+  where
+    low_true : (a b : ℕ) → a < b → nat_lt a b ≡ true
+    low_true a b is = grind (arith, nat_tests)
+
+kept_high : (d : ℕ) (p : PartLog) → d ≤ part_levels p.part → filter (is_flatter d) (p ∷ []) ≡ []
+kept_high d p high = ap (λ (t : Bool). cond t (p ∷ []) []) (high_false (part_levels p.part) d high)
+  where
+    high_false : (a b : ℕ) → b ≤ a → nat_lt a b ≡ false
+    high_false a b is = grind (arith, nat_tests)
+
+pub kept_with : (d : ℕ) (ys : List PartLog) (p : PartLog) → part_levels p.part < d → filter (is_flatter d) (ys ++ p ∷ []) ≡ filter (is_flatter d) ys ++ p ∷ []
+kept_with d ys p low = kept_more d ys p ∙ ap (λ (xs : List PartLog). filter (is_flatter d) ys ++ xs) (kept_low d p low)
+
+pub kept_without : (d : ℕ) (ys : List PartLog) (p : PartLog) → d ≤ part_levels p.part → filter (is_flatter d) (ys ++ p ∷ []) ≡ filter (is_flatter d) ys
+kept_without d ys p high = kept_more d ys p ∙ ap (λ (xs : List PartLog). filter (is_flatter d) ys ++ xs) (kept_high d p high) ∙ append-nil (filter (is_flatter d) ys)
+
+pub ruleset kept = (common_steps, kept_with, kept_without)
+
+-- ---- the first open fence
+
+pub open_here : (p : PartLog) (ps : List PartLog) → p.ended ≡ ends.Open → open_levels (p ∷ ps) ≡ Some (part_levels p.part)
+open_here p ps is = ap (λ (x : Ended). option_map (λ (q : PartLog). part_levels q.part) (cond (is_open_end x) (Some p) (find (λ q. is_open_end q.ended) ps))) is
+
+closed_by : (p : PartLog) (ps : List PartLog) (x : Ended) → (x ≡ ends.Open → ⊥) → option_map (λ (q : PartLog). part_levels q.part) (cond (is_open_end x) (Some p) (find (λ q. is_open_end q.ended) ps)) ≡ open_levels ps
+closed_by p ps ends.Refuted other = refl
+closed_by p ps ends.Open other = absurd (other refl)
+
+pub open_later : (p : PartLog) (ps : List PartLog) → (p.ended ≡ ends.Open → ⊥) → open_levels (p ∷ ps) ≡ open_levels ps
+open_later p ps other = closed_by p ps p.ended other
+
+pub ruleset opened = (common_steps, open_here, open_later)
+
+-- ---- level by level
+
+pub flat_none : (h : Heading) (size : ℕ) → AreLogs h size (flatter h.spec size 0) []
+unfolding by_levels
+flat_none h size = record { parts_are = refl; ends = no_ends h size; thrifty = no_thrift h size }
+
+pub flat_more : (h : Heading) (size k : ℕ) (logs more : List PartLog) → AreLogs h size (flatter h.spec size k) logs → AreLogs h size (of_levels (fences_for h.spec size) k) more → AreLogs h size (flatter h.spec size (k + 1)) (logs ++ more)
+flat_more h size k logs more one two = record {
+  parts_are =
+      map-append part_of logs more
+      ∙ ap (λ (xs : List Part). xs ++ map part_of more) one.parts_are
+      ∙ ap (λ (xs : List Part). map Levels (flatter h.spec size k) ++ xs) two.parts_are
+      ∙ sym (map-append Levels (flatter h.spec size k) (of_levels (fences_for h.spec size) k))
+      ∙ ap (λ (xs : List (List ℕ)). map Levels xs) (sym (by_levels_more (fences_for h.spec size) k));
+  ends = All-append (IsPartLog h size) logs more one.ends two.ends;
+  thrifty = All-append (IsThriftyLog h size) logs more one.thrifty two.thrifty;
+}
+
+-- ---- flatter still
+
+abbrev low : ℕ → List ℕ → Bool
+low d f = nat_lt (length f) d
+
+pass_by : (p : List ℕ → Bool) (x : List ℕ) (xs rest : List (List ℕ)) (b : Bool) → p x ≡ b → b ≡ true → rest ≡ xs → cond (p x) (x ∷ rest) rest ≡ x ∷ xs
+pass_by p x xs rest b is yes_ e = ap (λ (t : Bool). cond t (x ∷ rest) rest) (is ∙ yes_) ∙ ap (λ (ys : List (List ℕ)). x ∷ ys) e
+
+filter_all : (p : List ℕ → Bool) (xs : List (List ℕ)) → ((x : List ℕ) → Contains xs x → p x ≡ true) → filter p xs ≡ xs
+filter_all p [] all = refl
+filter_all p (x ∷ xs) all = pass_by p x xs (filter p xs) (p x) refl (all x (contains_head x xs)) (filter_all p xs (λ y there. all y (contains_tail x y xs there)))
+
+filter_none : (p : List ℕ → Bool) (xs : List (List ℕ)) → ((x : List ℕ) → Contains xs x → p x ≡ false) → filter p xs ≡ []
+filter_none p [] none = refl
+filter_none p (x ∷ xs) none = ap (λ (t : Bool). cond t (x ∷ filter p xs) (filter p xs)) (none x (contains_head x xs)) ∙ filter_none p xs (λ y there. none y (contains_tail x y xs there))
+
+lt_true : (a b : ℕ) → a < b → nat_lt a b ≡ true
+lt_true a b is = grind (arith, nat_tests)
+
+lt_false : (a b : ℕ) → b ≤ a → nat_lt a b ≡ false
+lt_false a b is = grind (arith, nat_tests)
+
+cut_from : (fences : List (List ℕ)) (d n : ℕ) → filter (low d) (by_levels fences (d + n)) ≡ by_levels fences d
+cut_from fences d zero =
+    let same : d + 0 ≡ d = omega arith in
+    ap (λ (k : ℕ). filter (low d) (by_levels fences k)) same
+    ∙ filter_all (low d) (by_levels fences d) (λ f there. lt_true (length f) d (flatter_is fences d f there).1)
+cut_from fences d (suc n) =
+    let same : d + suc n ≡ (d + n) + 1 = omega arith in
+    ap (λ (k : ℕ). filter (low d) (by_levels fences k)) same
+    ∙ ap (filter (low d)) (by_levels_more fences (d + n))
+    ∙ filter-append (low d) (by_levels fences (d + n)) (of_levels fences (d + n))
+    ∙ ap (λ (xs : List (List ℕ)). filter (low d) (by_levels fences (d + n)) ++ xs) (filter_none (low d) (of_levels fences (d + n)) (λ f there. lt_false (length f) d (omega (arith, level_is fences (d + n) f there))))
+    ∙ append-nil (filter (low d) (by_levels fences (d + n)))
+    ∙ cut_from fences d n
+
+cut_levels : (fences : List (List ℕ)) (d k : ℕ) → d ≤ k → filter (low d) (by_levels fences k) ≡ by_levels fences d
+cut_levels fences d k fits = let same : k ≡ d + (k - d) = omega arith in ap (λ (n : ℕ). filter (low d) (by_levels fences n)) same ∙ cut_from fences d (k - d)
+
+cut_head : (d : ℕ) (p : PartLog) (ps : List PartLog) (f : List ℕ) (fs : List (List ℕ)) (b : Bool) → nat_lt (length f) d ≡ b → p.part ≡ Levels f → map part_of (filter (is_flatter d) ps) ≡ map Levels (filter (low d) fs) → map part_of (filter (is_flatter d) (p ∷ ps)) ≡ map Levels (filter (low d) (f ∷ fs))
+cut_head d p ps f fs b is same rest =
+    ap (λ (x : Part). map part_of (cond (nat_lt (part_levels x) d) (p ∷ filter (is_flatter d) ps) (filter (is_flatter d) ps))) same
+    ∙ by (nat_lt (length f) d)
+  where
+    by : (t : Bool) → map part_of (cond t (p ∷ filter (is_flatter d) ps) (filter (is_flatter d) ps)) ≡ map Levels (cond t (f ∷ filter (low d) fs) (filter (low d) fs))
+    by true = λ i. same i ∷ rest i
+    by false = rest
+
+cut_parts : (d : ℕ) (ps : List PartLog) (fs : List (List ℕ)) → map part_of ps ≡ map Levels fs → map part_of (filter (is_flatter d) ps) ≡ map Levels (filter (low d) fs)
+cut_parts d [] [] same = refl
+cut_parts d [] (f ∷ fs) same = absurd cc
+cut_parts d (p ∷ ps) [] same = absurd cc
+cut_parts d (p ∷ ps) (f ∷ fs) same =
+    let first : p.part ≡ Levels f = cc in
+    let others : map part_of ps ≡ map Levels fs = cc in
+    cut_head d p ps f fs (nat_lt (length f) d) refl first (cut_parts d ps fs others)
+
+pub flat_found : (h : Heading) (size k : ℕ) (logs : List PartLog) (c : Chain) → AreLogs h size (flatter h.spec size k) logs → IsFound h size c → HasLevels k c → IsFlat h size c (filter (is_flatter (depth c)) logs)
+flat_found h size k logs c are is has = record {
+  found = is;
+  logged = record {
+    parts_are = cut_parts (depth c) logs (flatter h.spec size k) are.parts_are ∙ ap (λ (xs : List (List ℕ)). map Levels xs) (cut_levels (fences_for h.spec size) (depth c) k (depth-least c k has));
+    ends = All-filter (is_flatter (depth c)) (IsPartLog h size) logs are.ends;
+    thrifty = All-filter (is_flatter (depth c)) (IsThriftyLog h size) logs are.thrifty;
+  };
+}
+
+pub flat_whole : (h : Heading) (size d : ℕ) (logs : List PartLog) (c : Chain) → AreLogs h size (flatter h.spec size d) logs → IsFound h size c → d ≡ depth c → IsFlat h size c logs
+flat_whole h size d logs c are is same = record { found = is; logged = subst (λ (k : ℕ). AreLogs h size (flatter h.spec size k) logs) same are }
+
+pub ruleset flattening = (common_steps, flat_none, flat_more, flat_found, flat_whole)
+
+-- ---- the verdict
+
+-- the first open fence has fewer levels than the chain
+pub open_below : (w : Words) (size d l : ℕ) (ps : List PartLog) → map part_of ps ≡ map Levels (flatter w size d) → open_levels ps ≡ Some l → l < d
+open_below w size d l ps same opened =
+    let named = open_fence l ps (flatter w size d) same opened in
+    let below = flatter_is (fences_for w size) d named.0 named.1 in
+    omega (arith, below.1, named.2)
+
+-- ---- the bundle
+
+minimum_by : (size count : ℕ) (o : Option ℕ) → verdicts.Minimum size ≡ found count o → (size ≡ count) × (o ≡ None)
+minimum_by size count None e = (cc, refl)
+minimum_by size count (Some l) e = absurd cc
+
+ending_with : (h : Heading) (count size : ℕ) (o : Option ℕ) (c d : Chain) → IsEnding h count o (Some c) (verdicts.Minimum size) → IsFound h size d → IsEnding h count o (Some d) (verdicts.Minimum size)
+ending_with h count size o c d ending is = (subst (λ (n : ℕ). IsFound h n d) (minimum_by size count o ending.1).0 is, ending.1)
+
+count_is : (h : Heading) (sections : List Section) (c : Chain) (size : ℕ) → AreSearched h sections c size → size ≡ length sections
+count_is h sections c size is = (minimum_by size (length sections) (first_open sections) is.valid.ending.1).0
+
+-- the search found a chain of so many steps
+pub searched_found : (h : Heading) (sections : List Section) (c : Chain) (size : ℕ) → AreSearched h sections c size → IsFound h size c
+searched_found h sections c size is = subst (λ (n : ℕ). IsFound h n c) (sym (count_is h sections c size is)) is.valid.ending.0
+
+pub searched_least : (h : Heading) (sections : List Section) (c d : Chain) (size : ℕ) (logs : List PartLog) (v : DepthVerdict) → h.method ≡ Fence → AreSearched h sections c size → IsFlat h size d logs → v ≡ levels_found (open_levels logs) (depth d)
+    → IsLeast h (record { bundle = record { heading = h; sections = sections; chain = Some d; verdict = verdicts.Minimum size }; parts = logs; verdict = v })
+searched_least h sections c d size logs v by_fences is flat follows =
+    let count = count_is h sections c size is in
+    let steps : size ≡ length d.steps = sym flat.found.size_is in
+    record {
+      heading = refl;
+      is_depth = record {
+        valid = record {
+          heading = is.valid.heading;
+          sections = is.valid.sections;
+          sizes_to = is.valid.sizes_to;
+          ending = ending_with h (length sections) size (first_open sections) c d is.valid.ending flat.found;
+        };
+        by_fences = by_fences;
+        chain = d;
+        chain_is = refl;
+        least = ap (λ (n : ℕ). verdicts.Minimum n) steps;
+        parts_are = subst (λ (n : ℕ). map part_of logs ≡ map Levels (flatter h.spec n (depth d))) steps flat.logged.parts_are;
+        logs = subst (λ (n : ℕ). All (IsPartLog h n) logs) steps flat.logged.ends;
+        verdict_is = follows;
+      };
+      thrifty = is.thrifty;
+      parts_thrifty = subst (λ (n : ℕ). All (IsThriftyLog h n) logs) count flat.logged.thrifty;
+    }
+
+pub ruleset bundling = (common_steps, searched_found, searched_least)
+
+-- ---- the search
+
+minimum_is : (v : Verdict) (size : ℕ) → minimum_of v ≡ Some size → v ≡ verdicts.Minimum size
+minimum_is (verdicts.Minimum r) size e = let same : r ≡ size = cc in ap (λ (n : ℕ). verdicts.Minimum n) same
+minimum_is (verdicts.NoChain x) size e = absurd cc
+minimum_is (verdicts.Bounded l r) size e = absurd cc
+minimum_is (verdicts.Open l) size e = absurd cc
+
+pub is_searched : (b : Bundle) (c : Chain) (size : ℕ) → IsValid b → AreThrifty b.heading b.sections → b.chain ≡ Some c → minimum_of b.verdict ≡ Some size → AreSearched b.heading b.sections c size
+is_searched b c size valid thrifty chain minimum =
+    let verdict = minimum_is b.verdict size minimum in
+    let named : b ≡ record { heading = b.heading; sections = b.sections; chain = Some c; verdict = verdicts.Minimum size } = λ i. record { heading = b.heading; sections = b.sections; chain = chain i; verdict = verdict i } in
+    record { valid = subst IsValid named valid; thrifty = thrifty }
+
+not_found_none : (max : ℕ) (o : Option ℕ) → minimum_of (not_found max o) ≡ None
+not_found_none max None = refl
+not_found_none max (Some l) = refl
+
+pub no_chain : (b : Bundle) → IsValid b → b.chain ≡ None → minimum_of b.verdict ≡ None
+no_chain b valid none =
+    let ending : IsEnding b.heading (length b.sections) (first_open b.sections) None b.verdict = subst (λ (o : Option Chain). IsEnding b.heading (length b.sections) (first_open b.sections) o b.verdict) none valid.ending in
+    ap minimum_of ending.1 ∙ not_found_none b.heading.max (first_open b.sections)
+
+pub ruleset searching = (common_steps, is_searched, no_chain)

@@ -1,0 +1,2 @@
+pub mod LevelLogs
+pub mod Written

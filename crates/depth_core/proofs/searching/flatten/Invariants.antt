@@ -1,0 +1,7 @@
+-- All fences of fewer levels have their logs.
+use Rattle.depth_theory.specs.Flatter.{flatter}
+use Rattle.depth_core.specs.Flattened.{AreLogs}
+use Rattle.depth_core.proofs.searching.flatten.Given as goal
+
+abbrev pub invariant-loop-levels : goal.invariant-loop-levels
+invariant-loop-levels l = AreLogs l.heading l.size (flatter l.heading.spec l.size l.levels) l.logs.items

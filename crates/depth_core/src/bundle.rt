@@ -1,0 +1,20 @@
+//! A depth bundle, as contracts see it.
+use bundle_core::{Bundle, PartLog};
+use depth_theory::DepthVerdict;
+use std::marker::Model;
+
+/// A bundle by fences, the logs of the fences that are flatter than its chain, and what they come to.
+#[derive(Debug, Drop)]
+pub struct DepthBundle {
+    pub bundle: Bundle,
+    pub parts: Vec<PartLog>,
+    pub verdict: DepthVerdict,
+}
+
+impl Model for DepthBundle {
+    ghost use Rattle.depth_theory.specs.DepthBundle as theory;
+
+    ghost Value = { theory.DepthBundle };
+
+    ghost view = { λ b. record { bundle = b.bundle; parts = b.parts.items; verdict = b.verdict } };
+}

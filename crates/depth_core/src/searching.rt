@@ -1,0 +1,183 @@
+//! The search: a chain of the fewest steps first, and then the fences that are flatter than it, by levels.
+ghost use Rattle.std.specs.Prelude.{◌≡◌, ◌≤◌, ◌<◌, ◌+◌, ◌++◌, length, map, All, true, false, IfOk, OnOk};
+ghost use Rattle.enc_theory.specs.declared.part.Part.TheVariants.{Levels};
+ghost use Rattle.settings.specs.Synth.{IsInRange};
+ghost use Rattle.chain_theory.specs.Levels.{depth};
+ghost use Rattle.enc_theory.specs.declared.data.Method.TheVariants.{Fence};
+ghost use Rattle.cert_theory.specs.Bundle.{IsHeading, IsFound, IsValid, part_of};
+ghost use Rattle.size_loop.specs.Thrift.{AreThrifty};
+ghost use Rattle.depth_theory.specs.Flatter.{flatter};
+ghost use Rattle.depth_theory.specs.DepthBundle.{open_levels as open_levels_of, levels_found};
+ghost use Rattle.depth_core.specs.Flattened.{IsFlat, IsDeep, AreSearched, minimum_of};
+
+use crate::DepthBundle;
+use crate::levels::{Level, flatter_than, open_levels, search_level};
+use bundle_core::{Bundle, Heading, PartLog, Section, Verdict};
+use chain_core::Chain;
+use depth_theory::{DepthVerdict, depth_of};
+use enc_theory::Method;
+use op_basis::Basis;
+use size_loop::search;
+use std::alloc::{AllocError, Global};
+use tt_core::Spec;
+
+/// What a search for the fewest steps and levels comes to.
+#[derive(Debug, Drop)]
+pub enum Deep {
+    /// A chain of the fewest steps was found, and the fences that are flatter than it were searched.
+    Least(DepthBundle),
+    /// None was: a bundle whose verdict isn't a minimum.
+    Other(Bundle),
+}
+
+/// A chain, and the logs of the fences that are flatter.
+#[derive(Debug, Drop)]
+struct Flat {
+    chain: Chain,
+    parts: Vec<PartLog>,
+    levels: u32,
+}
+
+/// Adds the logs of one level more.
+
+fn add_logs(logs: &mut Vec<PartLog>, more: Vec<PartLog>) -> Result<(), AllocError>
+    ensures { OnOk result (logs.new.items ≡ logs.old.items ++ more.items) }
+{
+    for log in more {
+        logs.push(log)?;
+    }
+    Ok(())
+}
+
+/// The flattest chain that the search of flatter fences finds, and the logs of all that are flatter still.
+#[tactic(auto, using(crate::proofs::LevelLogs::flattening))]
+fn flatten(alloc: Global, heading: &Heading, size: u32, chain: Chain) -> Result<Flat, AllocError>
+    requires heading { IsHeading heading.now }
+    requires by_fences { heading.now.method ≡ Fence }
+    requires size { size ≤ heading.now.max }
+    requires found { IsFound heading.now size chain }
+    ensures flat { IfOk result (λ flat. IsFlat heading.now size flat.chain flat.parts.items) }
+    ensures levels { IfOk result (λ flat. flat.levels ≡ depth flat.chain) }
+{
+    let deepest = depth_of(alloc, &chain)?;
+    let mut logs = Vec::new(alloc);
+    for levels in 0..deepest {
+        match search_level(alloc, heading, size, levels as usize)? {
+            Level::Found(chain) => {
+                let levels = depth_of(alloc, &chain)?;
+                let parts = flatter_than(alloc, logs, levels as usize)?;
+                return Ok(Flat {
+                    chain,
+                    parts,
+                    levels,
+                });
+            }
+            Level::Logged(more) => add_logs(&mut logs, more)?,
+        }
+    }
+    Ok(Flat {
+        chain,
+        parts: logs,
+        levels: deepest,
+    })
+}
+
+/// The verdict that follows from the logs of the fences that are flatter than a chain of so many levels.
+
+fn verdict_of(spec: &Spec, size: u32, parts: &[PartLog], levels: u32) -> DepthVerdict
+    requires parts { map part_of parts.now ≡ map Levels (flatter spec.now size levels) }
+    ensures { result ≡ levels_found (open_levels_of parts.now) levels }
+{
+    match open_levels(parts) {
+        None => DepthVerdict::Levels(levels),
+        Some(low) => DepthVerdict::Bounded {
+            low: low as u32,
+            levels,
+        },
+    }
+}
+
+/// The fewest steps, where the verdict of a bundle tells them.
+fn minimum_in(bundle: &Bundle) -> Option<u32>
+    ensures { result ≡ minimum_of bundle.now.verdict }
+{
+    match bundle.verdict {
+        Verdict::Minimum(size) => Some(size),
+        Verdict::NoChain(_) | Verdict::Bounded { .. } | Verdict::Open { .. } => None,
+    }
+}
+
+/// The depth bundle of a bundle whose verdict is a minimum.
+#[tactic(auto, using(crate::proofs::LevelLogs::bundling))]
+fn least(
+    alloc: Global,
+    heading: Heading,
+    sections: Vec<Section>,
+    chain: Chain,
+    size: u32,
+) -> Result<Deep, AllocError>
+    requires by_fences { heading.method ≡ Fence }
+    requires searched { AreSearched heading sections.items chain size }
+    ensures { IfOk result (λ deep. IsDeep heading deep) }
+{
+    let Flat {
+        chain,
+        parts,
+        levels,
+    } = flatten(alloc, &heading, size, chain)?;
+    let verdict = verdict_of(&heading.spec, size, &parts, levels);
+    let bundle = Bundle {
+        heading,
+        sections,
+        chain: Some(chain),
+        verdict: Verdict::Minimum(size),
+    };
+    Ok(Deep::Least(DepthBundle {
+        bundle,
+        parts,
+        verdict,
+    }))
+}
+
+/// What comes of a bundle whose verdict is a minimum.
+#[tactic(auto, using(crate::proofs::LevelLogs::searching))]
+fn deepened(alloc: Global, bundle: Bundle, size: u32) -> Result<Deep, AllocError>
+    requires by_fences { bundle.heading.method ≡ Fence }
+    requires valid { IsValid bundle }
+    requires thrifty { AreThrifty bundle.heading bundle.sections }
+    requires minimum { minimum_of bundle.verdict ≡ Some size }
+    ensures { IfOk result (λ deep. IsDeep bundle.heading deep) }
+{
+    let Bundle {
+        heading,
+        sections,
+        chain,
+        verdict: _,
+    } = bundle;
+    match chain {
+        Some(chain) => least(alloc, heading, sections, chain, size),
+        None => unreachable!(),
+    }
+}
+
+/// Searches the sizes from 0 to `max` by fences for a chain of the fewest steps over the basis that agrees with the
+/// tables, and among those of so many steps for one of the fewest levels. A part is left open where the solver has
+/// added `budget` clauses to its formula or more. The basis isn't empty, and `max` and the budget are in the ranges
+/// of `settings`.
+#[tactic(auto, using(crate::proofs::LevelLogs::searching))]
+pub fn least_depth(
+    alloc: Global,
+    spec: &Spec,
+    basis: Basis,
+    max: u32,
+    budget: u32,
+) -> Result<Deep, AllocError>
+    requires asked { IsInRange (record { basis = basis; method = Fence; max = max; conflicts = budget }) }
+    ensures { IfOk result (λ deep. IsDeep (record { spec = spec.now; basis = basis; method = Fence; conflicts = budget; max = max }) deep) }
+{
+    let bundle = search(alloc, spec, basis, Method::Fence, max, budget)?;
+    match minimum_in(&bundle) {
+        Some(size) => deepened(alloc, bundle, size),
+        None => Ok(Deep::Other(bundle)),
+    }
+}
