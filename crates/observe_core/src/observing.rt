@@ -1,7 +1,7 @@
 //! The rows of a window's inputs on which somebody sees the window: under some assignment of the observing surround's
 //! leaves that gives the row it is told what bits are put in the place of the window's outputs.
 
-ghost use Rattle.std.specs.Prelude.{◌≡◌, ℕ, ◌++◌, true, false, IfOk};
+ghost use Rattle.std.specs.Prelude.{◌≡◌, ℕ, ◌≤◌, ◌<◌, ◌++◌, true, false, length, IfOk};
 ghost use Rattle.window_theory.specs.Places.{among, AreJust};
 ghost use Rattle.window_theory.specs.Paths.{IsGate};
 ghost use Rattle.window_theory.specs.Window.{IsInput, Belongs};
@@ -28,6 +28,14 @@ fn first_leaves(
     all.extend_from_slice(tail)?;
     all.extend_from_slice(gates)?;
     all_inputs(alloc, net, &all)
+}
+
+/// Whether places are more than a surround may begin with.
+fn are_too_many(places: &[u32]) -> bool
+    ensures yes { result ≡ true → 12 < length places.now }
+    ensures no { result ≡ false → length places.now ≤ 12 }
+{
+    places.len() > 12
 }
 
 /// The rows that are seen, by the observing surround.
@@ -76,7 +84,7 @@ pub(crate) fn seen_rows(
         return Ok(u64::MAX);
     }
     let first = first_leaves(alloc, net, window.gates(), &tail.gates)?;
-    if first.len() > 12 {
+    if are_too_many(&first) {
         return Ok(u64::MAX);
     }
     let cone = surround(alloc, net, &first)?;

@@ -1,6 +1,8 @@
 //! Tails and observed specifications: of those of some nets beside a plain program, and of the net of two gates of which
 //! the first is seen only where a source is 1.
 
+ghost use Rattle.window_theory.specs.Window.{Belongs};
+
 use crate::nets::{gate, net_of};
 use crate::plain::{end_of, gate_of, has, inputs, outputs, reads};
 use crate::surrounds::{bit_of, care_rows, leaves, on_rows, row_of, values};
@@ -120,7 +122,9 @@ fn seen_rows(alloc: Global, net: &Net, window: &Window, found: &Tail) -> Result<
 }
 
 /// Whether a window has the tail and the observed specification of the plain program.
-fn is_plain_window(alloc: Global, net: &Net, window: &Window) -> Result<bool, AllocError> {
+fn is_plain_window(alloc: Global, net: &Net, window: &Window) -> Result<bool, AllocError>
+    requires { Belongs net.now window.now }
+{
     let found = tail(alloc, net, window)?;
     if !is_plain_tail(alloc, net, window, &found)? {
         return Ok(false);
@@ -140,13 +144,19 @@ fn is_plain_window(alloc: Global, net: &Net, window: &Window) -> Result<bool, Al
     Ok(spec.on().len() == window.outputs().len())
 }
 
+/// The same of the window of a root and a count, alone, if there is one.
+fn is_plain(alloc: Global, net: &Net, root: u32, count: u32) -> Result<bool, AllocError> {
+    let _sources = net.sources();
+    let Some(window) = alone(alloc, net, root, count)? else {
+        return Ok(true);
+    };
+    is_plain_window(alloc, net, &window)
+}
+
 /// Whether the windows of the counts 1 to 3 of a root are those of the plain program.
 fn are_plain(alloc: Global, net: &Net, root: u32) -> Result<bool, AllocError> {
     for count in 1..4 {
-        let Some(window) = alone(alloc, net, root, count)? else {
-            continue;
-        };
-        if !is_plain_window(alloc, net, &window)? {
+        if !is_plain(alloc, net, root, count)? {
             return Ok(false);
         }
     }
@@ -176,28 +186,41 @@ fn small_nets_are_observed_as_by_the_plain_program(rt: HostRuntime) -> Result<()
     Ok(())
 }
 
-/// The observed words of the window of XNOR of two sources, which AND with the first source reads, with these sinks.
-fn observed_words(alloc: Global, sinks: &[Sig]) -> Result<Option<(u64, u64)>, AllocError> {
+/// Whether the window of a root and a count, alone, has these observed words of values and care rows.
+fn has_words(
+    alloc: Global,
+    net: &Net,
+    root: u32,
+    count: u32,
+    on: &[u64],
+    care: &[u64],
+) -> Result<bool, AllocError> {
+    let _sources = net.sources();
+    let Some(window) = alone(alloc, net, root, count)? else {
+        return Ok(false);
+    };
+    let spec = observed_spec(alloc, net, &window)?;
+    Ok(spec.on() == on && spec.care() == care)
+}
+
+/// XNOR of two sources, which AND with the first source reads, with these sinks.
+fn hidden_gate(alloc: Global, sinks: &[Sig]) -> Result<Option<Net>, AllocError> {
     let gates = [gate(9, at(1), at(2)), gate(1, at(3), at(1))];
-    let Some(net) = net_of(alloc, 2, gates.as_slice(), sinks)? else {
-        return Ok(None);
-    };
-    let Some(window) = alone(alloc, &net, 3, 1)? else {
-        return Ok(None);
-    };
-    let spec = observed_spec(alloc, &net, &window)?;
-    match (spec.on().first(), spec.care().first()) {
-        (Some(on), Some(care)) => Ok(Some((*on, *care))),
-        _ => Ok(None),
+    net_of(alloc, 2, gates.as_slice(), sinks)
+}
+
+/// Whether XNOR has these observed words in the net with these sinks.
+fn is_observed(alloc: Global, sinks: &[Sig], on: u64, care: u64) -> Result<bool, AllocError> {
+    match hidden_gate(alloc, sinks)? {
+        Some(net) => has_words(alloc, &net, 3, 1, &[on], &[care]),
+        None => Ok(false),
     }
 }
 
 #[test]
 fn a_gate_is_seen_where_the_gate_above_lets_it(rt: HostRuntime) -> Result<(), AllocError> {
     // the rows with the first source 1 are the third and the fourth; where the gate is a sink itself all are seen
-    let hidden = observed_words(rt.alloc(), [at(4)].as_slice())?;
-    assert!(rt; hidden == Some((0b1000, 0b1100)));
-    let bare = observed_words(rt.alloc(), [at(4), at(3)].as_slice())?;
-    assert!(rt; bare == Some((0b1001, 0b1111)));
+    assert!(rt; is_observed(rt.alloc(), [at(4)].as_slice(), 0b1000, 0b1100)?);
+    assert!(rt; is_observed(rt.alloc(), [at(4), at(3)].as_slice(), 0b1001, 0b1111)?);
     Ok(())
 }

@@ -1,4 +1,4 @@
-use Rattle.std.proofs.Common.{◌≡◌, ◌∙◌, ◌++◌, ℕ, List, ap, sym, subst, arith}
+use Rattle.std.proofs.Common.{length, ◌≡◌, ◌∙◌, ◌++◌, ℕ, List, ap, sym, subst, arith}
 use Rattle.window_theory.specs.Places.{among, AreJust}
 use Rattle.window_theory.specs.Window.{IsInput}
 use Rattle.observe_theory.specs.Tail.{Tail}
@@ -16,26 +16,26 @@ first_leaves-requires c = λ p e.
     joined_gates c.args.net.now c.args.window.now c.args.tail.now p c.requires.belongs c.requires.tail
     (ap (λ (xs : List ℕ). among (xs ++ c.args.window.now.gates) p) (sym gates) ∙ ap (λ (xs : List ℕ). among (c.deref.result.now ++ xs) p) (sym c.gates.ensures.value) ∙ e)
 
-pub returns-then-len-gt12 : goal.returns-then-len-gt12
-returns-then-len-gt12 c =
+pub returns-then-are_too_many : goal.returns-then-are_too_many
+returns-then-are_too_many c =
     let gates : c.deref.result.now ≡ c.args.tail.now.gates = c.deref.ensures.value ∙ ap (λ (t : Tail). t.gates) c.tail.view_is in
     let just : AreJust (IsInput c.args.net.now (c.args.tail.now.gates ++ c.args.window.now.gates)) c.in_ok-first.first.items =
     subst (λ (xs : List ℕ). AreJust (IsInput c.args.net.now (xs ++ c.args.window.now.gates)) c.in_ok-first.first.items) gates (subst (λ (xs : List ℕ). AreJust (IsInput c.args.net.now (c.deref.result.now ++ xs)) c.in_ok-first.first.items) c.gates.ensures.value c.in_ok-first.ensures) in
     all_seen c.args.net.now c.args.window.now c.args.tail.now c.outputs-outputs.ensures.whole.few_inputs
-    (λ row. many_seen c.args.net.now c.args.window.now c.args.tail.now c.in_ok-first.first.items row c.requires.belongs c.requires.tail just (omega (arith, c.if-len-gt12.true, c.len.ensures, c.in_ok-first.first.ok.0)))
+    (λ row. many_seen c.args.net.now c.args.window.now c.args.tail.now c.in_ok-first.first.items row c.requires.belongs c.requires.tail just (omega (arith, c.are_too_many.ensures.yes c.if-are_too_many.true, ap (length {A = ℕ}) c.deref-2.ensures.value)))
 
 pub surround-requires-clause-within : goal.surround-requires-clause-within
 surround-requires-clause-within c = λ p e.
     let gates : c.deref.result.now ≡ c.args.tail.now.gates = c.deref.ensures.value ∙ ap (λ (t : Tail). t.gates) c.tail.view_is in
     let just : AreJust (IsInput c.args.net.now (c.args.tail.now.gates ++ c.args.window.now.gates)) c.in_ok-first.first.items =
     subst (λ (xs : List ℕ). AreJust (IsInput c.args.net.now (xs ++ c.args.window.now.gates)) c.in_ok-first.first.items) gates (subst (λ (xs : List ℕ). AreJust (IsInput c.args.net.now (c.deref.result.now ++ xs)) c.in_ok-first.first.items) c.gates.ensures.value c.in_ok-first.ensures) in
-    first_within c.args.net.now c.args.window.now c.args.tail.now c.in_ok-first.first.items p c.sources-sources.ensures.net just (ap (λ (xs : List ℕ). among xs p) (sym c.deref-2.ensures.value) ∙ e)
+    first_within c.args.net.now c.args.window.now c.args.tail.now c.in_ok-first.first.items p c.sources-sources.ensures.net just (ap (λ (xs : List ℕ). among xs p) (sym c.deref-3.ensures.value) ∙ e)
 
 pub rows_told-requires-clause-cone : goal.rows_told-requires-clause-cone
 rows_told-requires-clause-cone c =
     let gates : c.deref.result.now ≡ c.args.tail.now.gates = c.deref.ensures.value ∙ ap (λ (t : Tail). t.gates) c.tail.view_is in
     let just : AreJust (IsInput c.args.net.now (c.args.tail.now.gates ++ c.args.window.now.gates)) c.in_ok-first.first.items =
     subst (λ (xs : List ℕ). AreJust (IsInput c.args.net.now (xs ++ c.args.window.now.gates)) c.in_ok-first.first.items) gates (subst (λ (xs : List ℕ). AreJust (IsInput c.args.net.now (c.deref.result.now ++ xs)) c.in_ok-first.first.items) c.gates.ensures.value c.in_ok-first.ensures) in
-    observing_code c.args.net.now c.args.window.now c.args.tail.now c.in_ok-cone.cone c.in_ok-first.first.items c.deref-2.result.now c.deref-2.ensures.value
-    (first_is c.args.net.now c.args.window.now c.args.tail.now c.in_ok-first.first.items c.requires.belongs c.requires.tail just) (omega (arith, c.if-len-gt12.false, c.len.ensures, c.in_ok-first.first.ok.0))
+    observing_code c.args.net.now c.args.window.now c.args.tail.now c.in_ok-cone.cone c.in_ok-first.first.items c.deref-3.result.now c.deref-3.ensures.value
+    (first_is c.args.net.now c.args.window.now c.args.tail.now c.in_ok-first.first.items c.requires.belongs c.requires.tail just) (omega (arith, c.are_too_many.ensures.no c.if-are_too_many.false, ap (length {A = ℕ}) c.deref-2.ensures.value))
     c.in_ok-cone.ensures.leaves c.in_ok-cone.ensures.gates c.in_ok-cone.ensures.covered c.in_ok-cone.ensures.behind
