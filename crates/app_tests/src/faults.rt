@@ -38,7 +38,14 @@ fn writes_of(
     status: u8,
 ) -> Result<u64, AllocError> {
     for call in 1..1_000u64 {
-        let seen = run_on(alloc, line, input, Fails::None, Fails::At(call), Fails::None)?;
+        let seen = run_on(
+            alloc,
+            line,
+            input,
+            Fails::None,
+            Fails::At(call),
+            Fails::None,
+        )?;
         if seen.status == status {
             return Ok(call - 1);
         }
@@ -71,7 +78,14 @@ fn each_write_that_fails_leaves_a_front(rt: HostRuntime) -> Result<(), Fail> {
 /// How many reads a run makes. 0 where one of them that fails isn't told, or something stands on the output.
 fn reads_of(alloc: Global, line: &str, input: &[u8], status: u8) -> Result<u64, AllocError> {
     for call in 1..1_000u64 {
-        let seen = run_on(alloc, line, input, Fails::At(call), Fails::None, Fails::None)?;
+        let seen = run_on(
+            alloc,
+            line,
+            input,
+            Fails::At(call),
+            Fails::None,
+            Fails::None,
+        )?;
         if seen.status == status {
             return Ok(call - 1);
         }
@@ -95,7 +109,14 @@ fn each_read_that_fails_leaves_nothing(rt: HostRuntime) -> Result<(), Fail> {
 /// or the status isn't that of a write that failed.
 fn notes_of(alloc: Global, line: &str, input: &[u8], whole: &[u8]) -> Result<u64, AllocError> {
     for call in 1..1_000u64 {
-        let seen = run_on(alloc, line, input, Fails::None, Fails::None, Fails::At(call))?;
+        let seen = run_on(
+            alloc,
+            line,
+            input,
+            Fails::None,
+            Fails::None,
+            Fails::At(call),
+        )?;
         if seen.status == 0 {
             return Ok(call - 1);
         }
@@ -141,7 +162,10 @@ fn notes_that_fail_change_no_other_status(rt: HostRuntime) -> Result<(), Fail> {
             Fails::None,
             Fails::UpTo(100),
         )?;
-        assert!(rt; seen.status == status && seen.note.written().is_empty(), "{line}");
+        assert!(rt;
+            seen.status == status && seen.note.written().is_empty(),
+            "{line}"
+        );
     }
     Ok(())
 }

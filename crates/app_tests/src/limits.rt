@@ -82,7 +82,10 @@ fn tables_have_a_greatest_width(rt: HostRuntime) -> Result<(), Fail> {
         let table = wide(rt.alloc(), width)?;
         let text = joined(rt.alloc(), [table.as_slice(), b" 1\n", b".end\n"])?;
         let seen = told(rt.alloc(), "improve --cap 0", &text)?;
-        assert!(rt; seen.status == status && seen.note.written() == note, "{width}");
+        assert!(rt;
+            seen.status == status && seen.note.written() == note,
+            "{width}"
+        );
     }
     Ok(())
 }
@@ -111,16 +114,15 @@ fn rows(alloc: Global, count: u32) -> Result<Vec<u8>, AllocError> {
 #[test]
 fn tables_have_a_greatest_number_of_rows(rt: HostRuntime) -> Result<(), Fail> {
     for (count, status, note) in [
-        (
-            4_096,
-            0,
-            b"gates 49151 -> 49151\nsettled\n".as_slice(),
-        ),
+        (4_096, 0, b"gates 49151 -> 49151\nsettled\n".as_slice()),
         (4_097, 3, b"error: TooManyRows 4100\n".as_slice()),
     ] {
         let text = rows(rt.alloc(), count)?;
         let seen = told(rt.alloc(), "improve --cap 0", &text)?;
-        assert!(rt; seen.status == status && seen.note.written() == note, "{count}");
+        assert!(rt;
+            seen.status == status && seen.note.written() == note,
+            "{count}"
+        );
     }
     Ok(())
 }
@@ -140,16 +142,15 @@ fn ladder(alloc: Global, gates: u32) -> Result<Vec<u8>, AllocError> {
 #[test]
 fn netlists_have_a_greatest_number_of_gates(rt: HostRuntime) -> Result<(), Fail> {
     for (gates, status, note) in [
-        (
-            100_000,
-            0,
-            b"gates 100000 -> 100000\nsettled\n".as_slice(),
-        ),
+        (100_000, 0, b"gates 100000 -> 100000\nsettled\n".as_slice()),
         (100_001, 3, b"error: TooManyGates 100001\n".as_slice()),
     ] {
         let text = ladder(rt.alloc(), gates)?;
         let seen = told(rt.alloc(), "improve --cap 0", &text)?;
-        assert!(rt; seen.status == status && seen.note.written() == note, "{gates}");
+        assert!(rt;
+            seen.status == status && seen.note.written() == note,
+            "{gates}"
+        );
     }
     Ok(())
 }
@@ -175,7 +176,10 @@ fn netlists_that_depend_on_themselves_are_refused(rt: HostRuntime) -> Result<(),
         (".inputs a\\ b\n", 2, "error: Syntax 1\n"),
     ] {
         let seen = told(rt.alloc(), "improve", input.as_bytes())?;
-        assert!(rt; seen.status == status && seen.note.written() == note.as_bytes(), "{input}");
+        assert!(rt;
+            seen.status == status && seen.note.written() == note.as_bytes(),
+            "{input}"
+        );
     }
     Ok(())
 }
