@@ -1,6 +1,6 @@
 -- What `recheck` tells of bytes, and what it promises.
-use Rattle.std.specs.Prelude.{◌≡◌, ℕ, ◌<◌, ◌≤◌, ◌⊎◌, List, length, Some, Result, Ok, Err}
-use Rattle.std.proofs.Common.{arith, sym, ◌∙◌, ap, subst, refl, inl, inr}
+use Rattle.std.specs.Prelude.{◌≡◌, ℕ, ◌<◌, ◌≤◌, ◌⊎◌, List, [], ◌++◌, length, Some, Result, Ok, Err}
+use Rattle.std.proofs.Common.{arith, sym, ◌∙◌, ap, subst, refl, inl, inr, append_assoc, append-nil}
 use Rattle.std.proofs.Math.Logic.{⊎_elim}
 use Rattle.std.proofs.lemmas.Grind.{common_steps}
 use Rattle.text_core.specs.Lines.{lines_of}
@@ -13,13 +13,21 @@ use Rattle.cert_theory.specs.Bundle.{Bundle}
 use Rattle.cert_theory.specs.Meaning.{Means}
 use Rattle.cert_theory.specs.Spelling.{IsBundle, HasVerdict}
 use Rattle.cert_theory.specs.Judging.{bundle_of}
-use Rattle.cert_theory.specs.Gives.{Gives, Fails}
+use Rattle.cert_theory.specs.Gives.{Fails}
 use Rattle.cert_laws.specs.QuestionLaws.{bundle_asks, verdict_answers}
+use Rattle.cert_laws.specs.BundleSpellings.{verdict_spelled}
+use Rattle.cert_laws.specs.BundlesAgain.{text_again}
+use Rattle.cert_laws.specs.Meanings.{verdict_true}
+use Rattle.cert_file.specs.Reader.{seen, IsReader, StandsFor, IsRefused}
+use Rattle.cert_file.specs.declared.reader.BundleReader.{BundleReader}
+use Rattle.chain_app.specs.declared.recheck.Reading.{Reading}
+use Rattle.chain_app.specs.declared.recheck.Reading.TheVariants.{Good, Refused}
+use Rattle.chain_app.specs.Keeping.{Keeps, IsWhole, count_of}
 use Rattle.command_line.specs.declared.command.Command.TheVariants.{Recheck}
 use Rattle.command_line.specs.CommandLine.{AsksFor}
 use Rattle.frame_core.specs.declared.status.Status.{Status}
-use Rattle.frame_core.specs.declared.status.Status.TheVariants.{Done, Limit, Undecided, Refused}
-use Rattle.chain_app.specs.RecheckReport.{most_of_bundle, bundle_status, named_bundle, recheck_reply, recheck_refusal, GivesVerdict, HasBundleFault, recheck_task}
+use Rattle.frame_core.specs.declared.status.Status.TheVariants as statuses
+use Rattle.chain_app.specs.RecheckReport.{most_of_bundle, bundle_status, named_bundle, recheck_reply, recheck_refusal, IsVerdict, GivesVerdict, HasBundleFault, recheck_task}
 use Rattle.frame_core.specs.Told.{Reply, Refusal, memory_refusal}
 use Rattle.frame_core.specs.Task.{IsRefusalStatus, IsTask, Tells, Refuses}
 use Rattle.frame_core.specs.Run.{Run}
@@ -31,21 +39,11 @@ use Rattle.frame_core.specs.ReadOffLaws.{gets}
 
 -- ---- what the judge of bundles answers
 
-same_verdict : (v w : Verdict) → Gives (λ (x : Verdict). x) (Ok v) (Ok w) → w ≡ v
-same_verdict v w gives = cc
+same_verdict : (read : Result Verdict BundleError) (v w : Verdict) → read ≡ Ok v → read ≡ Ok w → w ≡ v
+same_verdict read v w is other = cc
 
--- a valid bundle is refused for want of memory alone
-no_fault : (e : BundleError) (w : Verdict) → Fails e (Ok w) → e ≡ bundles.Memory
-no_fault (bundles.Syntax line) w fails = absurd cc
-no_fault (bundles.SizeOutOfOrder line) w fails = absurd cc
-no_fault (bundles.StepRefused line e) w fails = absurd cc
-no_fault (bundles.NotRefuted line) w fails = absurd cc
-no_fault (bundles.ChainDiffers output row) w fails = absurd cc
-no_fault (bundles.OperatorNotInBasis place) w fails = absurd cc
-no_fault (bundles.OpenTooShort line) w fails = absurd cc
-no_fault (bundles.NotNew line) w fails = absurd cc
-no_fault (bundles.WrongVerdict line) w fails = absurd cc
-no_fault bundles.Memory w fails = refl
+no_verdict : (read : Result Verdict BundleError) (e : BundleError) (w : Verdict) → read ≡ Err e → read ≡ Ok w → ⊥
+no_verdict read e w is other = cc
 
 told_fault : (e : BundleError) (read : Result Verdict BundleError) → Fails e read → (e ≡ bundles.Memory → ⊥) → read ≡ Err e
 told_fault (bundles.Syntax line) read fails other = fails
@@ -59,48 +57,79 @@ told_fault (bundles.NotNew line) read fails other = fails
 told_fault (bundles.WrongVerdict line) read fails other = fails
 told_fault bundles.Memory read fails other = absurd (other refl)
 
+is_verdict : (bytes : List ℕ) (v : Verdict) → bundle_of (lines_of bytes) ≡ Ok v → IsVerdict bytes v
+is_verdict bytes v read =
+    let only : (b : Bundle) → IsBundle bytes b → b.verdict ≡ v = λ b is. same_verdict (bundle_of (lines_of bytes)) v b.verdict read (text_again bytes b is) in
+    record {
+      has = verdict_spelled bytes v read;
+      only = only;
+      means = λ b is. subst (λ (w : Verdict). Means (specification b.heading.spec) (members b.heading.basis) w) (only b is) (verdict_true b is.valid);
+    }
+
 -- So an answer is a verdict that the bytes have, or a fault.
-pub tells : (bytes : List ℕ) (v : Verdict) (reply : Reply) → length bytes ≤ most_of_bundle → HasVerdict bytes v → ((b : Bundle) → IsBundle bytes b → Gives (λ (x : Verdict). x) (Ok v) (Ok b.verdict)) → Gives (λ (x : Verdict). x) (Ok v) (bundle_of (lines_of bytes)) → ((b : Bundle) → IsBundle bytes b → Means (specification b.heading.spec) (members b.heading.basis) v) → reply ≡ recheck_reply v → Tells recheck_task bytes reply
-tells bytes v reply within has accepted exact means is = record {
-  answer = v;
-  has = record {
-    within = within;
-    read = exact;
-    is_verdict = record { has = has; only = λ b is_bundle. same_verdict v b.verdict (accepted b is_bundle); means = means };
-  };
-  is = is;
-}
+pub tells : (bytes : List ℕ) (v : Verdict) (reply : Reply) → length bytes ≤ most_of_bundle → bundle_of (lines_of bytes) ≡ Ok v → reply ≡ recheck_reply v → Tells recheck_task bytes reply
+tells bytes v reply within read is = record { answer = v; has = record { within = within; read = read; is_verdict = is_verdict bytes v read }; is = is }
 
-pub refuses : (bytes : List ℕ) (e : BundleError) (refusal : Refusal) → length bytes ≤ most_of_bundle → (e ≡ bundles.Memory → ⊥) → ((b : Bundle) → IsBundle bytes b → Gives {X = Verdict} (λ (x : Verdict). x) (Err e) (Ok b.verdict)) → Gives {X = Verdict} (λ (x : Verdict). x) (Err e) (bundle_of (lines_of bytes)) → refusal ≡ recheck_refusal e → Refuses recheck_task bytes refusal
-refuses bytes e refusal within other accepted exact is = record {
+refuses : (bytes : List ℕ) (e : BundleError) (refusal : Refusal) → length bytes ≤ most_of_bundle → bundle_of (lines_of bytes) ≡ Err e → refusal ≡ recheck_refusal e → Refuses recheck_task bytes refusal
+refuses bytes e refusal within read is = record {
   fault = e;
-  meets = record { within = within; none = λ b is_bundle. other (no_fault e b.verdict (accepted b is_bundle)); fault = told_fault e (bundle_of (lines_of bytes)) exact other };
+  meets = record { within = within; none = λ b is. no_verdict (bundle_of (lines_of bytes)) e b.verdict read (text_again bytes b is); fault = read };
   is = is;
 }
 
-pub ruleset telling = (common_steps, tells, refuses)
+pub stops : (bytes : List ℕ) (e : BundleError) (refusal : Refusal) → length bytes ≤ most_of_bundle → (e ≡ bundles.Memory → ⊥) → Fails e (bundle_of (lines_of bytes)) → refusal ≡ recheck_refusal e → Refuses recheck_task bytes refusal
+stops bytes e refusal within other fails is = refuses bytes e refusal within (told_fault e (bundle_of (lines_of bytes)) fails other) is
+
+pub ruleset stopping = (common_steps, stops)
+
+-- ---- what is kept of the bytes
+
+pub is_reader : (kept : Reading) (reader : BundleReader) → kept ≡ Good reader → IsWhole kept → IsReader (seen reader)
+is_reader kept reader same whole = subst (λ (k : Reading). IsWhole k) same whole
+
+pub reader_stands : (kept : Reading) (reader : BundleReader) (bytes : List ℕ) → kept ≡ Good reader → Keeps kept bytes → StandsFor (seen reader) bytes
+reader_stands kept reader bytes same keeps = subst (λ (k : Reading). Keeps k bytes) same keeps
+
+refused_still : (kept : Reading) (e : BundleError) (bytes : List ℕ) → kept ≡ Refused e → Keeps kept bytes → IsRefused e bytes
+refused_still kept e bytes same keeps = subst (λ (k : Reading). Keeps k bytes) same keeps
+
+-- a fault that was kept is that of the bytes
+pub fault_stands : (kept : Reading) (e : BundleError) (bytes : List ℕ) → kept ≡ Refused e → Keeps kept bytes → Fails e (bundle_of (lines_of bytes))
+fault_stands kept e bytes same keeps = subst (λ (text : List ℕ). Fails e (bundle_of (lines_of text))) (append-nil bytes) (refused_still kept e bytes same keeps [])
+
+-- and of what goes on behind them
+pub drops : (kept : Reading) (e : BundleError) (bytes piece : List ℕ) → kept ≡ Refused e → Keeps kept bytes → Keeps (Refused e) (bytes ++ piece)
+drops kept e bytes piece same keeps = λ rest. subst (λ (text : List ℕ). Fails e (bundle_of (lines_of text))) (sym (append_assoc bytes piece rest)) (refused_still kept e bytes same keeps (piece ++ rest))
+
+-- a reader has counted what it was fed
+pub counts : (kept : Reading) (reader : BundleReader) → kept ≡ Good reader → count_of kept ≡ reader.fed
+counts kept reader same = ap count_of same
+
+pub ruleset telling = (common_steps, tells, is_reader, reader_stands, fault_stands)
+
+pub ruleset taking = (common_steps, is_reader, reader_stands, drops, counts)
 
 -- ---- `recheck` is a command
 
 IsStatus : BundleError → Type 0
 IsStatus e = IsRefusalStatus (bundle_status e) ⊎ (recheck_refusal e ≡ memory_refusal)
 
-statuses : (e : BundleError) → IsStatus e
+fault_status : (e : BundleError) → IsStatus e
 unfolding IsStatus named_bundle
-statuses (bundles.Syntax line) = inl (inl refl)
-statuses (bundles.SizeOutOfOrder line) = inl (inr (inr refl))
-statuses (bundles.StepRefused line e) = inl (inr (inr refl))
-statuses (bundles.NotRefuted line) = inl (inr (inr refl))
-statuses (bundles.ChainDiffers output row) = inl (inr (inr refl))
-statuses (bundles.OperatorNotInBasis place) = inl (inr (inr refl))
-statuses (bundles.OpenTooShort line) = inl (inr (inr refl))
-statuses (bundles.NotNew line) = inl (inr (inr refl))
-statuses (bundles.WrongVerdict line) = inl (inr (inr refl))
-statuses bundles.Memory = inr refl
+fault_status (bundles.Syntax line) = inl (inl refl)
+fault_status (bundles.SizeOutOfOrder line) = inl (inr (inr refl))
+fault_status (bundles.StepRefused line e) = inl (inr (inr refl))
+fault_status (bundles.NotRefuted line) = inl (inr (inr refl))
+fault_status (bundles.ChainDiffers output row) = inl (inr (inr refl))
+fault_status (bundles.OperatorNotInBasis place) = inl (inr (inr refl))
+fault_status (bundles.OpenTooShort line) = inl (inr (inr refl))
+fault_status (bundles.NotNew line) = inl (inr (inr refl))
+fault_status (bundles.WrongVerdict line) = inl (inr (inr refl))
+fault_status bundles.Memory = inr refl
 
 statuses_of : (e : BundleError) → IsRefusalStatus (bundle_status e) ⊎ (recheck_refusal e ≡ memory_refusal)
 unfolding IsStatus
-statuses_of e = statuses e
+statuses_of e = fault_status e
 
 not_both : {A : Type 0} (read : Result Verdict BundleError) (v : Verdict) (e : BundleError) → read ≡ Ok v → read ≡ Err e → A
 not_both read v e is other = absurd cc
@@ -126,7 +155,7 @@ accepted r input b promise told within is held =
     let gives : GivesVerdict input got.answer = got.has in
     subst (λ (v : Verdict). Stands r (recheck_reply v)) (sym (gives.is_verdict.only b is)) got.stands
 
-accepted_only : (r : Run) (input : List ℕ) → CommandPromise recheck_task r → r.source.bytes ≡ Some input → r.status ≡ Done → Replies recheck_task r input
+accepted_only : (r : Run) (input : List ℕ) → CommandPromise recheck_task r → r.source.bytes ≡ Some input → r.status ≡ statuses.Done → Replies recheck_task r input
 accepted_only r input promise told is = of_input recheck_task r (Replies recheck_task r) input (promise.done_only is) told
 
 -- What has a verdict spells its question, which the verdict answers.
@@ -141,13 +170,13 @@ tells_verdict r input verdict gives stands =
       means = λ tables basis asked. verdict_answers input verdict tables basis gives.is_verdict.has asked;
     }
 
-answers : (r : Run) (input : List ℕ) → CommandPromise recheck_task r → r.source.bytes ≡ Some input → r.status ≡ Done → TellsVerdict r input
+answers : (r : Run) (input : List ℕ) → CommandPromise recheck_task r → r.source.bytes ≡ Some input → r.status ≡ statuses.Done → TellsVerdict r input
 answers r input promise told is =
     let got : Replies recheck_task r input = accepted_only r input promise told is in
     tells_verdict r input got.answer got.has got.stands
 
 -- no fault has the status of a limit
-no_limit : (e : BundleError) → bundle_status e ≡ Limit → ⊥
+no_limit : (e : BundleError) → bundle_status e ≡ statuses.Limit → ⊥
 no_limit (bundles.Syntax line) is = cc
 no_limit (bundles.SizeOutOfOrder line) is = cc
 no_limit (bundles.StepRefused line e) is = cc
@@ -159,7 +188,7 @@ no_limit (bundles.NotNew line) is = cc
 no_limit (bundles.WrongVerdict line) is = cc
 no_limit bundles.Memory is = cc
 
-limit_only : (r : Run) (input : List ℕ) → CommandPromise recheck_task r → r.source.bytes ≡ Some input → r.status ≡ Limit → most_of_bundle < length input
+limit_only : (r : Run) (input : List ℕ) → CommandPromise recheck_task r → r.source.bytes ≡ Some input → r.status ≡ statuses.Limit → most_of_bundle < length input
 limit_only r input promise told is =
     ⊎_elim
     (λ (none : OfInput recheck_task r (Faults recheck_task r)). absurd (no_limit none.holds.fault (sym none.holds.told.status_is ∙ is)))
@@ -167,20 +196,20 @@ limit_only r input promise told is =
     (promise.limit_only is)
 
 -- a verdict has the status 0
-not_done : {A : Type 0} (r : Run) (s : Status) (verdict : Verdict) → Stands r (recheck_reply verdict) → r.status ≡ s → (Done ≡ s → ⊥) → A
+not_done : {A : Type 0} (r : Run) (s : Status) (verdict : Verdict) → Stands r (recheck_reply verdict) → r.status ≡ s → (statuses.Done ≡ s → ⊥) → A
 not_done r s verdict stands is other = absurd (other (sym stands.status_is ∙ is))
 
-refused_only : (r : Run) (input : List ℕ) → CommandPromise recheck_task r → r.source.bytes ≡ Some input → r.status ≡ Refused → Faults recheck_task r input
+refused_only : (r : Run) (input : List ℕ) → CommandPromise recheck_task r → r.source.bytes ≡ Some input → r.status ≡ statuses.Refused → Faults recheck_task r input
 refused_only r input promise told is =
     ⊎_elim
-    (λ (got : Replies recheck_task r input). not_done r Refused got.answer got.stands is (λ e. cc))
+    (λ (got : Replies recheck_task r input). not_done r statuses.Refused got.answer got.stands is (λ e. cc))
     (λ (none : Faults recheck_task r input). none)
     (of_input recheck_task r (λ bytes. Replies recheck_task r bytes ⊎ Faults recheck_task r bytes) input (promise.refused_only is) told)
 
-decided : (r : Run) → CommandPromise recheck_task r → r.status ≡ Undecided → ⊥
+decided : (r : Run) → CommandPromise recheck_task r → r.status ≡ statuses.Undecided → ⊥
 decided r promise is =
     let got = promise.undecided_only is in
-    not_done r Undecided got.holds.answer got.holds.stands is (λ e. cc)
+    not_done r statuses.Undecided got.holds.answer got.holds.stands is (λ e. cc)
 
 -- All that `recheck` promises besides.
 pub recheck_promised : (r : Run) → (AsksFor r.words Recheck → CommandPromise recheck_task r) → RecheckPromise r

@@ -9,6 +9,7 @@ pub mod GenPromise
 pub mod GenReport
 pub mod ImprovePromise
 pub mod ImproveReport
+pub mod Keeping
 pub mod KeepsPromises
 pub mod RecheckPromise
 pub mod RecheckReport

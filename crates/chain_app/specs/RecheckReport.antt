@@ -19,7 +19,7 @@ use Rattle.frame_core.specs.Task.{Task, at_once}
 
 -- the most bytes of a bundle that are read
 abbrev pub most_of_bundle : ℕ
-most_of_bundle = 67108864
+most_of_bundle = 268435456
 
 -- what goes out: the verdict line
 unfoldable pub verdict_text : Verdict → List ℕ

@@ -14,9 +14,9 @@
 #![tactic(auto)]
 
 mod agree;
-mod asked;
 mod equiv;
 mod improve;
+mod jobs;
 mod judging;
 pub mod laws;
 mod netlists;

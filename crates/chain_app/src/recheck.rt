@@ -1,16 +1,22 @@
 //! The command `recheck`: what it tells of bytes.
-ghost use Rattle.std.specs.Prelude.{◌≡◌, ◌≤◌, ◌∷◌, [], IfOk, length};
+ghost use Rattle.std.specs.Prelude.{◌≡◌, ℕ, ◌+◌, ◌^◌, ◌<◌, ◌≤◌, List, ◌∷◌, [], ◌++◌, Err, IfOk, length};
+ghost use Rattle.text_core.specs.Lines.{lines_of};
+ghost use Rattle.cert_theory.specs.Gives.{Fails};
+ghost use Rattle.cert_theory.specs.Judging.{bundle_of};
+ghost use Rattle.cert_file.specs.Reader.{seen, IsReader, StandsFor};
 ghost use Rattle.chain_app.specs.RecheckReport.{most_of_bundle, verdict_text, bundle_status as bundle_status_of, refused_step, two_of, named_step, named_bundle, recheck_reply, recheck_refusal, recheck_task};
+ghost use Rattle.chain_app.specs.Keeping.{Keeps, IsWhole, count_of};
 ghost use Rattle.frame_core.specs.Views.{shown, line_value, reply_value, refusal_value, Judges};
 
-use cert_file::{BundleError, Verdict, check_bundle};
-use frame_core::{ErrorLine, Field, Refusal, Reply, Status, Stop};
+use cert_file::{BundleError, BundleReader, Verdict};
+use frame_core::{Ended, ErrorLine, Field, Refusal, Reply, Status, Stop, StreamJob, finish};
 use lrat_check::CheckError;
+use port_io::Sink;
 use std::alloc::{AllocError, Global};
 use text_core::push_number;
 
 /// The most bytes that `recheck` reads.
-pub(crate) const MOST_BYTES: usize = 67_108_864;
+pub(crate) const MOST_BYTES: usize = 268_435_456;
 
 /// The status that tells of a fault.
 fn bundle_status(error: BundleError) -> Status
@@ -141,18 +147,112 @@ fn reply_of(alloc: Global, verdict: Verdict) -> Result<Reply, AllocError>
     })
 }
 
-/// What `recheck` tells of bytes.
-#[tactic(auto, using(crate::proofs::Rechecking::telling))]
-pub(crate) fn recheck(alloc: Global, bytes: &[u8]) -> Result<Reply, Stop>
-    requires { length bytes.now ≤ most_of_bundle }
-    ensures { Judges recheck_task bytes.now result }
+/// What `recheck` keeps of a certificate.
+#[derive(Drop)]
+pub(crate) enum Reading {
+    /// What was read of it.
+    Good(BundleReader),
+    /// The fault of a line. What stands behind it is read, and dropped.
+    Refused(BundleError),
+}
+
+/// Why a certificate has no verdict.
+#[tactic(auto, using(crate::proofs::Rechecking::stopping))]
+fn stop_of(error: BundleError) -> Stop
+    ensures { (bytes : List ℕ) → length bytes ≤ most_of_bundle →
+        Fails error (bundle_of (lines_of bytes)) → Judges recheck_task bytes (Err result) }
 {
-    match check_bundle(alloc, bytes) {
+    match error {
+        BundleError::Memory => Stop::NoMemory,
+        error => Stop::NoAnswer(refusal_of(error)),
+    }
+}
+
+/// What `recheck` tells of a certificate that was read to its end.
+#[tactic(auto, using(crate::proofs::Rechecking::telling))]
+fn tell(alloc: Global, reader: BundleReader) -> Result<Reply, Stop>
+    requires { IsReader (seen reader) }
+    ensures { (bytes : List ℕ) → StandsFor (seen reader) bytes → length bytes ≤ most_of_bundle → Judges recheck_task bytes result }
+{
+    match reader.finish() {
         Ok(verdict) => match reply_of(alloc, verdict) {
             Ok(reply) => Ok(reply),
             Err(AllocError) => Err(Stop::NoMemory),
         },
-        Err(BundleError::Memory) => Err(Stop::NoMemory),
-        Err(error) => Err(Stop::NoAnswer(refusal_of(error))),
+        Err(error) => Err(stop_of(error)),
+    }
+}
+
+/// What `recheck` tells of what it kept.
+#[tactic(auto, using(crate::proofs::Rechecking::telling))]
+fn tell_kept(alloc: Global, kept: Reading) -> Result<Reply, Stop>
+    requires { IsWhole kept }
+    ensures { (bytes : List ℕ) → Keeps kept bytes → length bytes ≤ most_of_bundle → Judges recheck_task bytes result }
+{
+    match kept {
+        Reading::Good(reader) => tell(alloc, reader),
+        Reading::Refused(error) => Err(stop_of(error)),
+    }
+}
+
+/// Reads the next piece of a certificate.
+#[tactic(auto, using(crate::proofs::Rechecking::taking))]
+fn read_on(reader: BundleReader, piece: &[u8]) -> Result<Reading, AllocError>
+    requires whole { IsReader (seen reader) }
+    requires room { reader.fed + length piece.now < 2 ^ 31 }
+    ensures whole { IfOk result IsWhole }
+    ensures keeps { (bytes : List ℕ) → StandsFor (seen reader) bytes →
+        IfOk result (λ next. Keeps next (bytes ++ piece.now)) }
+    ensures count { IfOk result (λ next. count_of next ≤ reader.fed + length piece.now) }
+{
+    match reader.feed(piece) {
+        Ok(reader) => Ok(Reading::Good(reader)),
+        Err(BundleError::Memory) => Err(AllocError),
+        Err(error) => Ok(Reading::Refused(error)),
+    }
+}
+
+/// The verdict of a certificate, by its lines alone.
+#[derive(Drop)]
+pub(crate) struct Recheck;
+
+impl StreamJob for Recheck {
+    ghost task = { λ _. recheck_task };
+
+    ghost ready = { λ _. Unit {0} };
+
+    type Kept = Reading;
+
+    ghost holds = { λ _ kept bytes. Keeps kept bytes };
+
+    ghost whole = { λ _ kept. IsWhole kept };
+
+    ghost count = { λ _ kept. count_of kept };
+
+    fn reads(&self) -> Option<usize> {
+        Some(MOST_BYTES)
+    }
+
+    fn begin(&self, alloc: Global) -> Reading {
+        Reading::Good(BundleReader::new(alloc))
+    }
+
+    #[tactic(auto, using(crate::proofs::Rechecking::taking))]
+    fn take(&self, _alloc: Global, kept: Reading, piece: &[u8]) -> Result<Reading, AllocError> {
+        match kept {
+            Reading::Good(reader) => read_on(reader, piece),
+            Reading::Refused(error) => Ok(Reading::Refused(error)),
+        }
+    }
+
+    #[tactic(auto, using(crate::proofs::Commands::answering))]
+    fn answer<O: Sink, N: Sink>(
+        &self,
+        alloc: Global,
+        kept: Reading,
+        out: &mut O,
+        note: &mut N,
+    ) -> Ended {
+        finish(tell_kept(alloc, kept), out, note)
     }
 }

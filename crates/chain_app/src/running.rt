@@ -1,14 +1,44 @@
 //! The top call.
-ghost use Rattle.std.specs.Prelude.{◌≡◌};
-ghost use Rattle.command_line.specs.CommandLine.{spelled};
-ghost use Rattle.frame_core.specs.Run.{run_of, before_after};
+ghost use Rattle.std.specs.Prelude.{◌≡◌, ℕ, List};
+ghost use Rattle.command_line.specs.CommandLine.{spelled, IsAskable};
+ghost use Rattle.frame_core.specs.Run.{Outcome, IsRun, run_of, before_after};
+ghost use Rattle.chain_app.specs.Tasks.{task_of};
 ghost use Rattle.chain_app.specs.KeepsPromises.{KeepsPromises};
 
-use crate::asked::Asked;
-use command_line::read_words;
-use frame_core::{ErrorLine, Status, perform, tell_error};
+use crate::jobs::{Agree, Equiv, Gen, Improve, Synth};
+use crate::recheck::Recheck;
+use command_line::{Command, read_words};
+use frame_core::{ErrorLine, Status, perform, perform_stream, tell_error};
 use port_io::{Sink, Source};
 use std::alloc::Global;
+
+/// Performs a command.
+fn obey<S: Source, O: Sink, N: Sink>(
+    alloc: Global,
+    command: Command,
+    source: &mut S,
+    out: &mut O,
+    note: &mut N,
+) -> Status
+    requires { IsAskable command }
+    ensures { (words : List (List ℕ)) → (outcome : Outcome) × IsRun (task_of command)
+        (run_of words
+        (before_after S.left S.faults source.old source.new)
+        (before_after O.written O.faults out.old out.new)
+        (before_after N.written N.faults note.old note.new)
+        result) outcome }
+{
+    match command {
+        Command::Agree => perform(alloc, &Agree, source, out, note),
+        Command::Recheck => perform_stream(alloc, &Recheck, source, out, note),
+        Command::Synth(settings) => perform(alloc, &Synth(settings), source, out, note),
+        Command::Improve { format, settings } => {
+            perform(alloc, &Improve { format, settings }, source, out, note)
+        }
+        Command::Equiv(budget) => perform(alloc, &Equiv(budget), source, out, note),
+        Command::Gen { blocks, deed } => perform(alloc, &Gen { blocks, deed }, source, out, note),
+    }
+}
 
 /// Does what the words ask: reads `source`, writes the answer on `out`, and on `note` a report where the
 /// command has one, and one error line where there is no answer.
@@ -30,5 +60,5 @@ pub fn run<S: Source, O: Sink, N: Sink>(
         tell_error(note, &ErrorLine::plain(b"Usage"));
         return Status::Usage;
     };
-    perform(alloc, &Asked(command), source, out, note)
+    obey(alloc, command, source, out, note)
 }
