@@ -8,7 +8,6 @@ use Rattle.chain_app.specs.declared.agree.Answer.{Answer}
 use Rattle.chain_app.specs.declared.agree.Answer.TheVariants.{Agrees, Differs}
 use Rattle.chain_app.specs.declared.agree.AgreeError.{AgreeError}
 use Rattle.chain_app.specs.declared.agree.AgreeError.TheVariants as errors
-use Rattle.frame_core.specs.declared.status.Status.TheVariants.{Memory}
 use Rattle.chain_app.specs.Agree.{Question, IsQuestion, HasFault, question_of, IsCause, Fails, most_of_tables, HasAnswer}
 use Rattle.chain_app.specs.AgreeReport.{answer_status, error_status, agree_reply, named_spec, named_chain, named_error, agree_refusal, agree_task}
 use Rattle.frame_core.specs.Told.{Reply, Refusal, memory_refusal}

@@ -6,7 +6,6 @@ use Rattle.command_line.specs.declared.command.Command.TheVariants.{Agree, Reche
 use Rattle.command_line.specs.declared.command.WordsError.{WordsError}
 use Rattle.command_line.specs.CommandLine.{command_of, or_usage, read, AsksFor}
 use Rattle.frame_core.specs.declared.status.Status.TheVariants.{Done, Usage}
-use Rattle.frame_core.specs.Told.{usage}
 use Rattle.frame_core.specs.Run.{Run, Outcome, IsRun}
 use Rattle.chain_app.specs.Ending.{Ending, Idle, Ran, IsIdle, IsEnding}
 use Rattle.frame_core.specs.Promise.{AllSteady, CommandPromise}

@@ -1,10 +1,9 @@
 -- What `equiv` tells of bytes, and what it promises.
-use Rattle.std.specs.Prelude.{◌≡◌, ℕ, ◌≤◌, ◌<◌, ◌⊎◌, List, length, take, drop, Option, Some, None, Result, Ok}
+use Rattle.std.specs.Prelude.{◌≡◌, ℕ, ◌≤◌, ◌⊎◌, List, length, take, drop, Option, Some, None, Result, Ok}
 use Rattle.std.proofs.Common.{arith, sym, ◌∙◌, ap, subst, refl, inl, inr}
 use Rattle.std.proofs.Math.Logic.{⊎_elim}
 use Rattle.std.proofs.lemmas.Grind.{common_steps}
 use Rattle.net_core.specs.declared.error.NetError.{NetError}
-use Rattle.net_core.specs.declared.error.NetError.TheVariants as nets
 use Rattle.equiv_run.specs.declared.answer.Standing.{Standing}
 use Rattle.equiv_run.specs.declared.answer.Standing.TheVariants as standings
 use Rattle.equiv_run.specs.declared.answer.CompareError.{CompareError}
@@ -20,17 +19,15 @@ use Rattle.equiv_run.specs.Pairs.{most_of_two, Lists, AreTwo, ShareInterface, Is
 use Rattle.equiv_run.specs.PairLaws.{answer_never, fault_one, refused_fault}
 use Rattle.command_line.specs.declared.command.Command.TheVariants.{Equiv}
 use Rattle.command_line.specs.CommandLine.{AsksFor}
-use Rattle.frame_core.specs.declared.status.Status.{Status}
 use Rattle.frame_core.specs.declared.status.Status.TheVariants as statuses
-use Rattle.frame_core.specs.Told.{Reply, Refusal, memory_refusal}
+use Rattle.frame_core.specs.Told.{Reply, Refusal}
 use Rattle.frame_core.specs.Task.{IsAnswerStatus, IsRefusalStatus, IsAnswerable, IsTask, Tells, Refuses}
 use Rattle.frame_core.specs.Run.{Run}
-use Rattle.frame_core.specs.Promise.{OutputHeld, Stands, TellsError, Replies, Faults, CommandPromise}
+use Rattle.frame_core.specs.Promise.{OutputHeld, TellsError, Replies, Faults, CommandPromise}
 use Rattle.frame_core.specs.TaskLaws.{at_once_task}
 use Rattle.frame_core.specs.KeepingLaws.{of_input}
 use Rattle.frame_core.specs.ReadOffLaws.{gets}
-use Rattle.chain_app.specs.ImproveReport.{net_status, named_net}
-use Rattle.chain_app.specs.EquivReport.{standing_status, pair_status, named_pair, Comparison, equiv_reply, equiv_refusal, IsComparison, HasComparedFault, equiv_task}
+use Rattle.chain_app.specs.EquivReport.{standing_status, pair_status, Comparison, equiv_reply, equiv_refusal, IsComparison, HasComparedFault, equiv_task}
 use Rattle.chain_app.specs.EquivPromise.{AreComparable, TellsStanding, TellsInterface, EquivPromise}
 use Rattle.chain_app.proofs.Improving.{not_refused, status_kind}
 

@@ -8,6 +8,7 @@ pub mod Equating
 pub mod Faults
 pub mod Generating
 pub mod Improving
+pub mod Obeying
 pub mod Rechecking
 pub mod Synthesising
 pub mod TablesRead

@@ -11,7 +11,7 @@ use Rattle.cert_theory.specs.declared.data.BundleError.{BundleError}
 use Rattle.cert_theory.specs.declared.data.BundleError.TheVariants as bundles
 use Rattle.cert_theory.specs.Bundle.{Bundle}
 use Rattle.cert_theory.specs.Meaning.{Means}
-use Rattle.cert_theory.specs.Spelling.{IsBundle, HasVerdict}
+use Rattle.cert_theory.specs.Spelling.{IsBundle}
 use Rattle.cert_theory.specs.Judging.{bundle_of}
 use Rattle.cert_theory.specs.Gives.{Fails}
 use Rattle.cert_laws.specs.QuestionLaws.{bundle_asks, verdict_answers}
