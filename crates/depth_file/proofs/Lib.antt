@@ -1,0 +1,5 @@
+pub mod Fronts
+pub mod Drops
+pub mod FenceLists
+pub mod Going
+pub mod Leasts
