@@ -112,4 +112,29 @@ front_text bytes rest is behind =
 pub rest_whole : (bytes rest : List ℕ) → IsRest bytes rest → behind_of (lines_of bytes) ≡ lines_of rest → behind_of (lines_of bytes) ≡ lines_of (drop (length bytes - length rest) bytes)
 rest_whole bytes rest is behind = behind ∙ ap lines_of is.place
 
-pub ruleset fronts = (common_steps, end_here, no_end, nothing_left, front_text, rest_whole, whole_rest, rest_of_rest)
+-- where no line is left and none was `end`, all lines stand in front
+nothing_lines : lines_of [] ≡ []
+unfolding lines_from
+nothing_lines = refl
+
+none_behind : (bytes left : List ℕ) → lines_of left ≡ [] → behind_of (lines_of left) ≡ behind_of (lines_of bytes) → behind_of (lines_of bytes) ≡ lines_of []
+none_behind bytes left none same = sym same ∙ ap behind_of none ∙ nothing_left.1 ∙ sym nothing_lines
+
+drop_whole : (xs : List ℕ) → drop (length xs) xs ≡ []
+drop_whole [] = refl
+drop_whole (x ∷ xs) = drop_whole xs
+
+take_whole : (xs : List ℕ) → take (length xs) xs ≡ xs
+take_whole [] = refl
+take_whole (x ∷ xs) = ap (λ (ys : List ℕ). x ∷ ys) (take_whole xs)
+
+front_alone : (ls : List Line) → behind_of ls ≡ [] → front_of ls ≡ ls
+front_alone ls none = sym (append-nil (front_of ls)) ∙ ap (λ (xs : List Line). front_of ls ++ xs) (sym none) ∙ sym (front_and_behind ls)
+
+pub whole_front : (bytes left : List ℕ) → lines_of left ≡ [] → behind_of (lines_of left) ≡ behind_of (lines_of bytes) → front_of (lines_of bytes) ≡ lines_of (take (length bytes) bytes)
+whole_front bytes left none same = front_alone (lines_of bytes) (none_behind bytes left none same ∙ nothing_lines) ∙ ap lines_of (sym (take_whole bytes))
+
+pub whole_behind : (bytes left : List ℕ) → lines_of left ≡ [] → behind_of (lines_of left) ≡ behind_of (lines_of bytes) → behind_of (lines_of bytes) ≡ lines_of (drop (length bytes) bytes)
+whole_behind bytes left none same = none_behind bytes left none same ∙ ap lines_of (sym (drop_whole bytes))
+
+pub ruleset fronts = (common_steps, end_here, no_end, nothing_left, front_text, rest_whole, whole_rest, rest_of_rest, whole_front, whole_behind)

@@ -1,6 +1,9 @@
 -- From stage to stage.
-use Rattle.std.proofs.Common.{◌≡◌, ℕ, zero, suc, ◌+◌, ◌≤◌, ◌<◌, List, [], ◌∷◌, length, map, drop, Contains, Option, Some, None, Result, Ok, Err, IsErrAnd, refl, sym, ap, ◌∙◌, subst, arith}
+use Rattle.std.proofs.Common.{◌≡◌, ℕ, zero, suc, ◌+◌, ◌≤◌, ◌<◌, List, [], ◌∷◌, length, map, drop, Contains, Option, Some, None, Result, Ok, Err, refl, sym, ap, ◌∙◌, subst, arith}
+use Rattle.std.specs.Prelude.{IfOk}
+use Rattle.std.specs.Result.{IsErrAnd}
 use Rattle.std.proofs.lemmas.Grind.{common_steps}
+use Rattle.sat_theory.specs.Formula.{Formula}
 use Rattle.clause_core.specs.Holds.{contains_map, contains_head, contains_tail}
 use Rattle.text_core.specs.Lines.{Line}
 use Rattle.tt_core.specs.Words.{Words}
@@ -26,18 +29,21 @@ use Rattle.depth_theory.specs.DepthJudging.{Answer, or_syntax, fault_at, at_line
 use Rattle.depth_theory.specs.DepthGives.{Fails, Gives}
 use Rattle.depth_theory.specs.Flatter.{fences_for, flatter}
 use Rattle.depth_theory.specs.FlatterLaws.{flatter_is}
-use Rattle.depth_file.specs.Stages.{IsFlat, IsRunning, IsNext, due_of, later_of, Stands, Judged, verdict_in}
+use Rattle.depth_file.specs.Stages.{IsFlat, IsRunning, IsNext, IsBegun, due_of, later_of, Stands, Judged, verdict_in}
 use Rattle.depth_file.specs.declared.stage.Stage.{Stage}
 use Rattle.depth_file.specs.declared.stage.Stage.TheVariants as stages
 use Rattle.depth_file.specs.declared.stage.Flat.{Flat}
 
 -- ---- fences and parts
 
+head_part : (p q : Part) (xs ys : List Part) → p ∷ xs ≡ q ∷ ys → q ≡ p
+head_part p q xs ys e = cc
+
 -- the next of some parts that are fences
 next_by : (fs : List (List ℕ)) (at : ℕ) (part : Part) (later : List Part) → drop at (map Levels fs) ≡ part ∷ later → (fence : List ℕ) × (drop at fs ≡ fence ∷ drop (at + 1) fs) × (part ≡ Levels fence) × Contains fs fence
 next_by [] zero part later e = absurd cc
 next_by [] (suc at) part later e = absurd cc
-next_by (f ∷ fs) zero part later e = (f, refl, cc, contains_head f fs)
+next_by (f ∷ fs) zero part later e = (f, refl, head_part (Levels f) part (map Levels fs) later e, contains_head f fs)
 next_by (f ∷ fs) (suc at) part later e =
     let rest = next_by fs at part later e in
     (rest.0, rest.1, rest.2, contains_tail f rest.0 fs rest.3)
@@ -84,6 +90,35 @@ formula_by m w basis size part same = ap (λ (x : Method). (coding_of x).formula
 
 pub formula_is : (f : Flat) (part : Part) → IsFlat f → fence_formula f.heading.spec f.heading.basis f.size (fence_in part) ≡ (coding_of f.heading.method).formula f.heading.spec f.heading.basis f.size part
 formula_is f part is = formula_by f.heading.method f.heading.spec f.heading.basis f.size part is.by_fences
+
+-- what stands next among the parts is the fence that is next
+pub fence_next : (f : Flat) (part : Part) (fence : List ℕ) → IsRunning f → drop f.at f.fences.items ≡ part ∷ drop (f.at + 1) f.fences.items → ((named : List ℕ) → part ≡ Levels named → fence ≡ named) → IsNext f fence
+fence_next f part fence is at named =
+    let next = next_is f part is.flat at in
+    subst (λ (x : List ℕ). IsNext f x) (sym (named next.fence next.part_is)) next.is_next
+
+pub fence_few : (f : Flat) (part : Part) (fence : List ℕ) → IsRunning f → drop f.at f.fences.items ≡ part ∷ drop (f.at + 1) f.fences.items → ((named : List ℕ) → part ≡ Levels named → fence ≡ named) → length fence < f.levels
+fence_few f part fence is at named =
+    let next = next_is f part is.flat at in
+    subst (λ (x : List ℕ). length x < f.levels) (sym (named next.fence next.part_is)) next.few
+
+pub part_known : (f : Flat) (part : Part) → IsRunning f → drop f.at f.fences.items ≡ part ∷ drop (f.at + 1) f.fences.items → Contains (parts_for f.heading.spec f.size) part
+part_known f part is at =
+    let next = next_is f part is.flat at in
+    subst (λ (p : Part). Contains (parts_for f.heading.spec f.size) p) (sym next.part_is) (part_listed f.heading.spec f.size next.fence next.listed)
+
+pub formula_next : (f : Flat) (part : Part) (fence : List ℕ) → IsRunning f → drop f.at f.fences.items ≡ part ∷ drop (f.at + 1) f.fences.items → IsNext f fence → fence_formula f.heading.spec f.heading.basis f.size (fence_in part) ≡ formula_of f.heading f.size (Levels fence)
+formula_next f part fence is at due =
+    let next = next_is f part is.flat at in
+    let same : part ≡ Levels fence = next.part_is ∙ ap Levels (one_next f next.fence fence next.is_next due) in
+    formula_is f part is.flat ∙ ap (λ (p : Part). formula_of f.heading f.size p) same
+
+pub formula_given : {E : Type 0} (f : Flat) (part : Part) (r : Result Formula E) → IsRunning f → drop f.at f.fences.items ≡ part ∷ drop (f.at + 1) f.fences.items → IfOk r (λ cnf. cnf ≡ fence_formula f.heading.spec f.heading.basis f.size (fence_in part)) → (fence : List ℕ) → IsNext f fence → IfOk r (λ cnf. cnf ≡ formula_of f.heading f.size (Levels fence))
+formula_given f part (Ok cnf) is at own fence due = own ∙ formula_next f part fence is at due
+formula_given f part (Err e) is at own fence due = tt
+
+pub is_running : (f : Flat) → IsFlat f → f.at < length f.fences.items → IsRunning f
+is_running f is below = record { flat = is; within = below }
 
 -- ---- refusals
 
@@ -137,6 +172,15 @@ end_goes f number l ls v none read = end_reads f number l ls none ∙ ap (λ (r 
 
 pub end_fails : (f : Flat) (number : ℕ) (l : Line) (ls : List Line) (e : DepthError) → due_of f ≡ [] → Fails e (verdict_at number (levels_found f.low f.levels) l) → Fails e (flat f number (Due (due_of f)) (l ∷ ls))
 end_fails f number l ls e none fails = fails_is e _ _ (end_reads f number l ls none) (fails_bind e (verdict_at number (levels_found f.low f.levels) l) (λ w. end_of (number + 1) w ls) fails)
+
+-- behind the title, the log is due
+pub due_begins : (f : Flat) (fence : List ℕ) (number : ℕ) (l : Line) (titled : Unit {0}) → IsNext f fence → at_line number (title_in (may_follow l) fence l) ≡ Ok titled → (lines ls : List Line) (answer : Answer) → answer ≡ flat f number (Due (due_of f)) lines → lines ≡ l ∷ ls → IsBegun f (number + 1) ls answer
+due_begins f fence number l titled next read = λ lines ls answer is same.
+    record {
+      fence = fence;
+      is_next = next;
+      answer_is = is ∙ ap (flat f number (Due (due_of f))) same ∙ due_goes f fence number l ls next (sym read);
+    }
 
 -- the line that begins a log
 pub begun_fails : (f : Flat) (fence : List ℕ) (later : List (List ℕ)) (number : ℕ) (l : Line) (ls : List Line) → ended_in l ≡ None → flat f number (Begun fence later) (l ∷ ls) ≡ Err (errors.Syntax number)
@@ -193,8 +237,8 @@ ended_as (stages.Within f reader) number answer stands = stands.answer_is
 ended_as (stages.End verdict) number answer stands = stands
 ended_as (stages.Done verdict) number answer stands = stands
 
-pub ruleset fences = (common_steps, next_is)
+pub ruleset fences = (common_steps, fence_next, fence_few)
 
-pub ruleset going = (common_steps, none_due)
+pub ruleset going = (common_steps, none_due, is_running)
 
-pub ruleset formulas = (common_steps, part_listed, formula_is)
+pub ruleset formulas = (common_steps, part_known, formula_given)

@@ -145,8 +145,23 @@ chain_is bytes b h lines size n outputs behind is minimum heading inputs outs co
 pub least_some : (m : Method) (v : Verdict) (chain : Option Chain) (size : ℕ) (c : Chain) → m ≡ Fence → verdicts.Minimum size ≡ v → chain ≡ Some c → least_of m v chain ≡ Some c
 least_some m v chain size c by_fences minimum is = ap (λ (x : Method). least_of x v chain) by_fences ∙ ap (λ (x : Verdict). least_of Fence x chain) (sym minimum) ∙ is
 
+-- ---- exits
+
+-- where no heading is read again, it is no bundle
+pub no_heading : (bytes : List ℕ) (b : Bundle) → IsBundle bytes b → None ≡ heading_in (lines_of bytes) → ⊥
+no_heading bytes b is none = let e : None ≡ Some b.heading = none ∙ heading_is bytes b is in absurd cc
+
+pub heading_same : (bytes : List ℕ) (b : Bundle) (h : Heading) → IsBundle bytes b → Some h ≡ heading_in (lines_of bytes) → h ≡ b.heading
+heading_same bytes b h is read = let e : Some h ≡ Some b.heading = read ∙ heading_is bytes b is in cc
+
+-- the chain that is read again is the bundle's
+pub chain_same : (bytes : List ℕ) (b : Bundle) (h : Heading) (lines size n outputs behind : ℕ) (o : Option Chain) → IsBundle bytes b → verdicts.Minimum size ≡ b.verdict → Some h ≡ heading_in (lines_of bytes) → h.method ≡ Fence → n ≡ h.spec.n → outputs ≡ length h.spec.on → lines ≡ length (lines_of bytes) → (size ≤ 16 → behind ≡ size + (outputs + 3))
+    → o ≡ chain_behind (lines - behind) n outputs (lines_of bytes) → (h ≡ b.heading) × (least_of b.heading.method b.verdict b.chain ≡ o) × (o ≡ b.chain)
+chain_same bytes b h lines size n outputs behind o is minimum read by_fences inputs outs count skipped again =
+    let same = heading_same bytes b h is read in
+    let found = chain_is bytes b h lines size n outputs behind is minimum (read ∙ heading_is bytes b is) inputs outs count skipped in
+    let fences : b.heading.method ≡ Fence = ap (λ (x : Heading). x.method) (sym same) ∙ by_fences in
+    let own : o ≡ b.chain = again ∙ found.2 ∙ sym found.1 in
+    (same, least_some b.heading.method b.verdict b.chain size found.0 fences minimum found.1 ∙ sym found.2 ∙ sym again, own)
+
 pub ruleset leasts = (common_steps)
-
-pub ruleset judging = (common_steps)
-
-pub ruleset checking = (common_steps)

@@ -3,3 +3,4 @@ pub mod Drops
 pub mod FenceLists
 pub mod Going
 pub mod Leasts
+pub mod Judges

@@ -15,7 +15,7 @@ ghost use Rattle.depth_theory.specs.DepthJudging.{Answer};
 ghost use Rattle.depth_theory.specs.DepthMeaning.{Means};
 ghost use Rattle.depth_theory.specs.DepthSpelling.{IsDepthText, HasDepth};
 ghost use Rattle.depth_file.specs.Stages.{IsStage, Stands};
-ghost use Rattle.depth_file.specs.Least.{IsLeastOf, IsUsable};
+ghost use Rattle.depth_file.specs.Least.{IsLeastOf, IsUsable, as_whole};
 
 use crate::chain::chain_at;
 use crate::fences::flatter_parts;
@@ -137,8 +137,18 @@ fn judge_behind(
     judge_from(alloc, Stage::Due { flat }, rest, number + 1)
 }
 
+/// A fault of the bundle, as one of the whole.
+fn fault_of(error: BundleError) -> DepthError
+    ensures { result ≡ as_whole error }
+{
+    match error {
+        BundleError::Memory => DepthError::Memory,
+        _ => DepthError::Bundle(error),
+    }
+}
+
 /// Judges as the definition says.
-#[tactic(auto, using(crate::proofs::Leasts::judging))]
+#[tactic(auto, using(crate::proofs::Judges::judges))]
 fn judge(alloc: Global, bytes: &[u8]) -> Result<DepthVerdict, DepthError>
     requires { length bytes.now < 2 ^ 31 }
     ensures { judging.Judged (Gives (λ v. v) result) (lines_of bytes.now) }
@@ -147,8 +157,7 @@ fn judge(alloc: Global, bytes: &[u8]) -> Result<DepthVerdict, DepthError>
     let (first, rest) = bytes.split_at(front.bytes);
     let verdict = match check_bundle(alloc, first) {
         Ok(verdict) => verdict,
-        Err(BundleError::Memory) => return Err(DepthError::Memory),
-        Err(error) => return Err(DepthError::Bundle(error)),
+        Err(error) => return Err(fault_of(error)),
     };
     let Some(least) = least_in(alloc, first, front.lines, verdict)? else {
         return Err(DepthError::NotLeastForm);
@@ -157,7 +166,7 @@ fn judge(alloc: Global, bytes: &[u8]) -> Result<DepthVerdict, DepthError>
 }
 
 /// Judges a text as a depth bundle: its verdict where it is the text of one, else its first fault.
-#[tactic(auto, using(crate::proofs::Leasts::checking))]
+#[tactic(auto, using(crate::proofs::Judges::judges))]
 pub fn check_depth(alloc: Global, bytes: &[u8]) -> Result<DepthVerdict, DepthError>
     requires { length bytes.now < 2 ^ 31 }
     // What has a verdict is the text of a depth bundle that has it, and each such text has one.

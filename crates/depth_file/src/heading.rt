@@ -1,6 +1,6 @@
 //! What a bundle asks, read again from the lines of a bundle that was judged: the judge of bundles tells no more than
 //! a verdict.
-ghost use Rattle.std.specs.Prelude.{◌≡◌, ◌^◌, ◌<◌, length, IfOk, option_and_then};
+ghost use Rattle.std.specs.Prelude.{◌≡◌, ◌^◌, ◌<◌, length, IfOk, IfSome, option_and_then};
 ghost use Rattle.text_core.specs.Lines.{lines_of};
 ghost use Rattle.cert_theory.specs.Judging as judging;
 ghost use Rattle.cert_file.specs.TextLines.{line_of};
@@ -15,7 +15,8 @@ use tt_core::{Spec, SpecError, read_tables};
 /// The heading whose lines behind the tables these are.
 #[tactic(auto, unfolding(crate::specs::Asking::heading_behind))]
 fn heading_with(alloc: Global, spec: Spec, bytes: &[u8]) -> Result<Option<Heading>, AllocError>
-    ensures { IfOk result (λ heading. heading ≡ heading_behind spec (lines_of bytes.now)) }
+    ensures operators { IfOk result (λ heading. IfSome heading (λ h. 0 < h.basis)) }
+    ensures exact { IfOk result (λ heading. heading ≡ heading_behind spec (lines_of bytes.now)) }
 {
     let Some((text, ended, rest)) = next_line(bytes) else {
         return Ok(None);
@@ -61,7 +62,8 @@ fn heading_of_lines(
     third: &TextLine,
     last: &TextLine,
 ) -> Result<Option<Heading>, AllocError>
-    ensures { IfOk result (λ heading. heading ≡ option_and_then (with_basis spec (line_of second.now) (line_of third.now) (line_of last.now)) (judging.basis_in (line_of first.now))) }
+    ensures operators { IfOk result (λ heading. IfSome heading (λ h. 0 < h.basis)) }
+    ensures exact { IfOk result (λ heading. heading ≡ option_and_then (with_basis spec (line_of second.now) (line_of third.now) (line_of last.now)) (judging.basis_in (line_of first.now))) }
 {
     let Some(basis) = basis_in(alloc, first)? else {
         return Ok(None);
@@ -88,7 +90,8 @@ fn heading_of_lines(
 #[tactic(auto, unfolding(crate::specs::Asking::heading_in))]
 pub(crate) fn heading_of(alloc: Global, bytes: &[u8]) -> Result<Option<Heading>, AllocError>
     requires { length bytes.now < 2 ^ 31 }
-    ensures { IfOk result (λ heading. heading ≡ heading_in (lines_of bytes.now)) }
+    ensures operators { IfOk result (λ heading. IfSome heading (λ h. 0 < h.basis)) }
+    ensures exact { IfOk result (λ heading. heading ≡ heading_in (lines_of bytes.now)) }
 {
     let Some((_, _, rest)) = next_line(bytes) else {
         return Ok(None);
