@@ -9,10 +9,13 @@ drop_more : (k : ℕ) (ls : List Line) (l : Line) (rest : List Line) → drop k 
 drop_more zero [] l rest e = absurd cc
 drop_more (suc k) [] l rest e = absurd cc
 drop_more zero (x ∷ xs) l rest e = cc
-drop_more (suc k) (x ∷ xs) l rest e = drop_more k xs l rest e
+drop_more (suc k) (x ∷ xs) l rest e =
+    let step : suc k + 1 ≡ suc (k + 1) = omega arith in
+    ap (λ (j : ℕ). drop j (x ∷ xs)) step ∙ drop_more k xs l rest e
 
 drop_past : (ls : List Line) (k n : ℕ) → drop k ls ≡ [] → k ≤ n → drop n ls ≡ []
-drop_past [] k n e low = grind (arith, common_steps)
+drop_past [] k zero e low = refl
+drop_past [] k (suc n) e low = refl
 drop_past (x ∷ xs) zero n e low = absurd cc
 drop_past (x ∷ xs) (suc k) zero e low = absurd (omega (arith, low))
 drop_past (x ∷ xs) (suc k) (suc n) e low = drop_past xs k n e (omega (arith, low))

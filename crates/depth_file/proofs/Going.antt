@@ -46,7 +46,8 @@ next_by [] (suc at) part later e = absurd cc
 next_by (f ∷ fs) zero part later e = (f, refl, head_part (Levels f) part (map Levels fs) later e, contains_head f fs)
 next_by (f ∷ fs) (suc at) part later e =
     let rest = next_by fs at part later e in
-    (rest.0, rest.1, rest.2, contains_tail f rest.0 fs rest.3)
+    let step : suc (at + 1) ≡ suc at + 1 = omega arith in
+    (rest.0, rest.1 ∙ ap (λ (k : ℕ). rest.0 ∷ drop k (f ∷ fs)) step, rest.2, contains_tail f rest.0 fs rest.3)
 
 pub record Next (f : Flat) (part : Part) : Type 0 where
   pub fence : List ℕ

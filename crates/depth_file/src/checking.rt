@@ -58,9 +58,9 @@ fn least_in(
     let Some(heading) = heading_of(alloc, bytes)? else {
         return Ok(None);
     };
-    if heading.method != Method::Fence {
+    let Method::Fence = heading.method else {
         return Ok(None);
-    }
+    };
     let n = heading.spec.n();
     let outputs = heading.spec.outputs();
     let behind = size.saturating_add(outputs + 3);
@@ -80,7 +80,7 @@ fn judge_from(
     number: u32,
 ) -> Result<DepthVerdict, DepthError>
     requires stage { IsStage stage }
-    requires number { number + length bytes.now < 2 ^ 31 }
+    requires number { number + length bytes.now ≤ 2 ^ 31 }
     ensures { (answer : Answer) → Stands stage number (lines_of bytes.now) answer → Gives (λ v. v) result answer }
 {
     let mut stage = stage;
@@ -108,7 +108,7 @@ fn judge_behind(
     number: u32,
 ) -> Result<DepthVerdict, DepthError>
     requires usable { IsUsable least }
-    requires number { number + length bytes.now < 2 ^ 31 }
+    requires number { number + length bytes.now ≤ 2 ^ 31 }
     ensures { Gives (λ v. v) result (judging.behind_chain least.heading (length least.chain.steps) (depth least.chain) number (lines_of bytes.now)) }
 {
     let Least { heading, chain } = least;

@@ -20,6 +20,7 @@ pub(crate) struct Front {
 pub(crate) fn front_in(bytes: &[u8]) -> Front
     requires { length bytes.now < 2 ^ 31 }
     ensures within { result.bytes ≤ length bytes.now }
+    ensures few { result.lines ≤ result.bytes }
     ensures front { front_of (lines_of bytes.now) ≡ lines_of (take result.bytes bytes.now) }
     ensures behind { behind_of (lines_of bytes.now) ≡ lines_of (drop result.bytes bytes.now) }
     ensures count { result.lines ≡ length (front_of (lines_of bytes.now)) }

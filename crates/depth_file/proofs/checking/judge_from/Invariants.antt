@@ -9,7 +9,7 @@ abbrev pub invariant-loop-text : goal.invariant-loop-text
 invariant-loop-text l = record {
   stage : IsStage l.stage;
   stands : (answer : Answer) → Stands l.fn.stage l.fn.number (lines_of l.fn.bytes) answer → Stands l.stage l.number (lines_of l.left) answer;
-  few : l.number + length l.left < 2 ^ 31;
+  few : l.number + length l.left ≤ 2 ^ 31;
 }
 
 abbrev pub decreases-loop-text : goal.decreases-loop-text

@@ -1,5 +1,5 @@
 -- A line of a log, or its end.
-use Rattle.std.proofs.Common.{◌≡◌, List, [], ◌∷◌, ◌++◌, Option, Some, None, Result, Ok, Err, sym, ap, ◌∙◌, subst, ◌+◌}
+use Rattle.std.proofs.Common.{◌≡◌, List, [], ◌∷◌, ◌++◌, length, Option, Some, None, Result, Ok, Err, sym, ap, ◌∙◌, subst, ◌+◌}
 use Rattle.sat_theory.specs.Line as theory
 use Rattle.enc_theory.specs.declared.part.Part.TheVariants.{Levels}
 use Rattle.cert_theory.specs.declared.data.Ended.{Ended}
@@ -48,7 +48,7 @@ returns-in-Ok-Done-clause-answer c = λ lines ls answer stands same.
     (stands.answer_is
     ∙ ap (flat f n (Within stands.fence (later_of f) end stands.log)) same
     ∙ part_goes f stands.fence (later_of f) n end stands.log _ ls None done
-    ∙ ap (λ (e : Ended). flat_from f.heading f.size f.levels (n + 1) (low_with f.low e _) (Due (later_of f)) ls) (sym c.ended-end.ensures))
+    ∙ ap (λ (e : Ended). flat_from f.heading f.size f.levels (n + 1) (low_with f.low e (length stands.fence)) (Due (later_of f)) ls) (sym c.ended-end.ensures))
 
 pub returns-in-Err-clause-answer : goal.returns-in-Err-clause-answer
 returns-in-Err-clause-answer c = λ lines ls answer stands same.
