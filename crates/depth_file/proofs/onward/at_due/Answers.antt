@@ -13,12 +13,12 @@ returns-in_err-title_at-clause-answer c = λ lines ls answer is same.
     let f = c.args.flat in
     let n = c.args.line.now.number in
     let e = c.in_err-title_at.field-0.0 in
-    judged_err c.from_residual-in_err-title_at.result e _ ls answer c.from_residual-in_err-title_at.ensures.1
+    judged_err c.from_residual.result e _ ls answer c.from_residual.ensures.1
     (fails_is e _ answer (is ∙ ap (flat f n (Due (due_of f))) same)
     (due_fails f c.fence_of.result.now n (line_of c.args.line.now) ls e c.fence_of.ensures.next c.in_err-title_at.ensures))
 
-pub returns-then-at-len-clause-answer : goal.returns-then-at-len-clause-answer
-returns-then-at-len-clause-answer c = due_begins c.args.flat c.fence_of.result.now c.args.line.now.number (line_of c.args.line.now) tt c.fence_of.ensures.next c.in_ok-title_at.ensures
+pub returns-then-flat-len-clause-answer : goal.returns-then-flat-len-clause-answer
+returns-then-flat-len-clause-answer c = due_begins c.args.flat c.fence_of.result.now c.args.line.now.number (line_of c.args.line.now) tt c.fence_of.ensures.next c.in_ok-title_at.ensures
 
 pub returns-in_err-verdict-clause-answer : goal.returns-in_err-verdict-clause-answer
 returns-in_err-verdict-clause-answer c = λ lines ls answer is same.
