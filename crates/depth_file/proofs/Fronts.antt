@@ -99,11 +99,11 @@ pub front_text : (bytes rest : List ℕ) → IsRest bytes rest → behind_of (li
 front_text bytes rest is behind =
     let f = text_of (front_of (lines_of bytes)) in
     let whole : bytes ≡ f ++ rest =
-        sym (lines_spell bytes)
-        ∙ ap text_of (front_and_behind (lines_of bytes))
-        ∙ flat_map-append line_bytes (front_of (lines_of bytes)) (behind_of (lines_of bytes))
-        ∙ ap (λ (ls : List Line). f ++ text_of ls) behind
-        ∙ ap (λ (bs : List ℕ). f ++ bs) (lines_spell rest) in
+    sym (lines_spell bytes)
+    ∙ ap text_of (front_and_behind (lines_of bytes))
+    ∙ flat_map-append line_bytes (front_of (lines_of bytes)) (behind_of (lines_of bytes))
+    ∙ ap (λ (ls : List Line). f ++ text_of ls) behind
+    ∙ ap (λ (bs : List ℕ). f ++ bs) (lines_spell rest) in
     let sum : length bytes ≡ length f + length rest = ap length whole ∙ length-append f rest in
     let count : length bytes - length rest ≡ length f = omega (arith, sum) in
     sym (front_again bytes [] nothing_free)

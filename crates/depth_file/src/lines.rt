@@ -65,7 +65,10 @@ fn is_same(verdict: DepthVerdict, due: DepthVerdict) -> bool
         (DepthVerdict::Levels(d), DepthVerdict::Levels(e)) => d == e,
         (
             DepthVerdict::Bounded { low, levels },
-            DepthVerdict::Bounded { low: least, levels: most },
+            DepthVerdict::Bounded {
+                low: least,
+                levels: most,
+            },
         ) => low == least && levels == most,
         _ => false,
     }

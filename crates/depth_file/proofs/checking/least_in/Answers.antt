@@ -24,7 +24,7 @@ returns-in_default-3-clause-least c = λ b is same.
 pub returns-clause-least : goal.returns-clause-least
 returns-clause-least c = λ b is same.
     let own = chain_same c.args.bytes.now b c.in-Some.heading c.args.lines c.in-Minimum.size c.n-n.result c.outputs-outputs.result c.saturating_add-behind.result (Some c.in-Some-2.chain) is
-        (sym c.in-Minimum.is ∙ same) (sym c.in-Some.is ∙ c.in_ok-heading.ensures.exact) c.in-Fence.is c.n-n.ensures.value c.outputs-outputs.ensures c.requires.lines
-        (λ small. omega (arith, small, c.saturating_add-behind.ensures))
-        (sym c.in-Some-2.is ∙ c.in_ok-chain.ensures ∙ ap (λ (k : ℕ). chain_behind k c.n-n.result c.outputs-outputs.result (lines_of c.args.bytes.now)) c.saturating_sub.ensures) in
+    (sym c.in-Minimum.is ∙ same) (sym c.in-Some.is ∙ c.in_ok-heading.ensures.exact) c.in-Fence.is c.n-n.ensures.value c.outputs-outputs.ensures c.requires.lines
+    (λ small. omega (arith, small, c.saturating_add-behind.ensures))
+    (sym c.in-Some-2.is ∙ c.in_ok-chain.ensures ∙ ap (λ (k : ℕ). chain_behind k c.n-n.result c.outputs-outputs.result (lines_of c.args.bytes.now)) c.saturating_sub.ensures) in
     (own.0, own.1)
