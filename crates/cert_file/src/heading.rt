@@ -53,7 +53,7 @@ pub(crate) fn at_inputs(alloc: Global, line: &TextLine) -> Result<Stage, BundleE
 
 /// The basis of a line, where it is spelled as it is written.
 #[tactic(auto, unfolding(cert_theory::specs::Judging::basis_in))]
-fn basis_in(alloc: Global, line: &TextLine) -> Result<Option<Basis>, AllocError>
+pub fn basis_in(alloc: Global, line: &TextLine) -> Result<Option<Basis>, AllocError>
     ensures exact { IfOk result (λ basis. basis ≡ judging.basis_in (line_of line.now)) }
     ensures some { IfOk result (λ basis. IfSome basis (λ b. 0 < b)) }
 {
@@ -130,7 +130,7 @@ pub(crate) fn at_tables(
 
 /// The method of a line.
 #[tactic(auto, unfolding(cert_theory::specs::Judging::method_in))]
-fn method_in(line: &TextLine) -> Option<Method>
+pub fn method_in(line: &TextLine) -> Option<Method>
     ensures { result ≡ judging.method_in (line_of line.now) }
 {
     method_named(value_of(b"method ", line)?)
@@ -156,7 +156,7 @@ pub(crate) fn at_method(spec: Spec, basis: Basis, line: &TextLine) -> Result<Sta
 
 /// The number of conflicts of a line, from 1 to 10,000,000.
 #[tactic(auto, unfolding(cert_theory::specs::Judging::conflicts_in))]
-fn conflicts_in(line: &TextLine) -> Option<u32>
+pub fn conflicts_in(line: &TextLine) -> Option<u32>
     ensures { result ≡ judging.conflicts_in (line_of line.now) }
 {
     let conflicts = number_up_to(MOST_CONFLICTS, value_of(b"conflicts ", line)?)?;
@@ -192,7 +192,7 @@ pub(crate) fn at_conflicts(
 
 /// The greatest size of a line, at most 16.
 #[tactic(auto, unfolding(cert_theory::specs::Judging::max_in))]
-fn max_in(line: &TextLine) -> Option<u32>
+pub fn max_in(line: &TextLine) -> Option<u32>
     ensures exact { result ≡ judging.max_in (line_of line.now) }
     ensures small { IfSome result (λ max. max ≤ most_steps) }
 {

@@ -6,7 +6,8 @@
 //! valid bundle that has it, and the verdict is true; else the first fault is told. A text is judged
 //! a line at a time, and of the logs no more is kept than one part's checker: `PartReader` takes the log of a
 //! part wherever it stands, and `Stage` walks from part to part. `BundleReader` takes the text in pieces, wherever
-//! it is cut; a whole text is one piece.
+//! it is cut; a whole text is one piece. Single lines are read by functions of their own, for texts that have such
+//! lines too.
 //!
 //! ```text
 //! let verdict = check_bundle(alloc, &bytes)?; // Verdict::Minimum(1) for XOR
@@ -28,5 +29,9 @@ mod titles;
 
 pub use cert_theory::{BundleError, Ended, Heading, PartError, Verdict};
 pub use checking::check_bundle;
+pub use heading::{basis_in, conflicts_in, max_in, method_in};
+pub use lines::{TextLine, begins, is_line, number_behind, value_of};
+pub use logs::ended_in;
 pub use part::{PartReader, PartStep};
 pub use reader::BundleReader;
+pub use titles::is_title;

@@ -13,13 +13,13 @@ pub(crate) const GREATEST: u32 = 999_999_999;
 
 /// A line of a text.
 #[derive(Clone, Copy, Debug)]
-pub(crate) struct TextLine<'a> {
+pub struct TextLine<'a> {
     /// Its bytes, without the LF.
-    pub(crate) text: &'a [u8],
+    pub text: &'a [u8],
     /// Whether an LF ends it.
-    pub(crate) ended: bool,
+    pub ended: bool,
     /// Which line of the text it is, from 1 on.
-    pub(crate) number: u32,
+    pub number: u32,
 }
 
 /// A fault of a part, at a line.
@@ -38,21 +38,21 @@ pub(crate) fn fault_at(number: u32, fault: PartError) -> BundleError
 }
 
 /// Whether a line is this text.
-pub(crate) fn is_line(word: &[u8], line: &TextLine) -> bool
+pub fn is_line(word: &[u8], line: &TextLine) -> bool
     ensures { result ≡ parts.is_line word.now (line_of line.now) }
 {
     line.ended && line.text == word
 }
 
 /// Whether a line begins with a word.
-pub(crate) fn begins(word: &[u8], line: &TextLine) -> bool
+pub fn begins(word: &[u8], line: &TextLine) -> bool
     ensures { result ≡ judging.begins word.now (line_of line.now) }
 {
     after(word, line.text).is_some()
 }
 
 /// What stands behind a word, up to the LF.
-pub(crate) fn value_of<'a>(word: &[u8], line: &TextLine<'a>) -> Option<&'a [u8]>
+pub fn value_of<'a>(word: &[u8], line: &TextLine<'a>) -> Option<&'a [u8]>
     ensures { option_copied result ≡ judging.value_of word.now (line_of line.now) }
 {
     if !line.ended {
@@ -62,7 +62,7 @@ pub(crate) fn value_of<'a>(word: &[u8], line: &TextLine<'a>) -> Option<&'a [u8]>
 }
 
 /// The number behind a word.
-pub(crate) fn number_behind(word: &[u8], line: &TextLine) -> Option<u32>
+pub fn number_behind(word: &[u8], line: &TextLine) -> Option<u32>
     ensures { result ≡ judging.number_behind word.now (line_of line.now) }
 {
     number_up_to(GREATEST, value_of(word, line)?)

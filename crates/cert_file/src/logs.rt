@@ -21,7 +21,7 @@ use std::alloc::{AllocError, Global};
 
 /// How a log ends, by its first line.
 #[tactic(auto, unfolding(cert_theory::specs::PartLines::ended_in))]
-fn ended_in(line: &TextLine) -> Option<Ended>
+pub fn ended_in(line: &TextLine) -> Option<Ended>
     ensures { result ≡ parts.ended_in (line_of line.now) }
 {
     if is_line(b"refuted", line) {

@@ -44,7 +44,7 @@ fn is_list(text: &[u8]) -> bool
 
 /// Whether a line is the title of a fence, of whatever numbers.
 #[tactic(auto, unfolding(cert_theory::specs::Judging::is_title))]
-pub(crate) fn is_title(line: &TextLine) -> bool
+pub fn is_title(line: &TextLine) -> bool
     ensures { result ≡ judging.is_title (line_of line.now) }
 {
     match value_of(b"fence", line) {

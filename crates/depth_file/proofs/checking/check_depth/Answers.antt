@@ -1,0 +1,12 @@
+-- The laws of the definition, at the verdict that was judged.
+use Rattle.depth_file.proofs.Judges.{verdict_told, text_accepted, verdict_holds}
+use Rattle.depth_file.proofs.checking.check_depth.Goals as goal
+
+pub returns-clause-verdict : goal.returns-clause-verdict
+returns-clause-verdict c = verdict_told c.args.bytes.now c.judge.result c.judge.ensures
+
+pub returns-clause-accepted : goal.returns-clause-accepted
+returns-clause-accepted c = λ b is. text_accepted c.args.bytes.now b c.judge.result is c.judge.ensures
+
+pub returns-clause-means : goal.returns-clause-means
+returns-clause-means c = verdict_holds c.args.bytes.now c.judge.result c.judge.ensures

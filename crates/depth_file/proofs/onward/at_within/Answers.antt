@@ -1,0 +1,61 @@
+-- A line of a log, or its end.
+use Rattle.std.proofs.Common.{◌≡◌, List, [], ◌∷◌, ◌++◌, length, Option, Some, None, Result, Ok, Err, sym, ap, ◌∙◌, subst, ◌+◌}
+use Rattle.sat_theory.specs.Line as theory
+use Rattle.enc_theory.specs.declared.part.Part.TheVariants.{Levels}
+use Rattle.cert_theory.specs.declared.data.Ended.{Ended}
+use Rattle.cert_theory.specs.Bundle.{formula_of}
+use Rattle.cert_theory.specs.PartLines.{part_in}
+use Rattle.cert_theory.specs.Judging.{low_with}
+use Rattle.cert_file.specs.Logged.{IsFed, HasMore}
+use Rattle.cert_file.specs.TextLines.{line_of}
+use Rattle.cert_file.specs.declared.part.PartStep.{PartStep}
+use Rattle.depth_theory.specs.declared.data.DepthError.{DepthError}
+use Rattle.depth_theory.specs.DepthGives.{Fails}
+use Rattle.depth_theory.specs.DepthJudging.{fault_at, Within, Due, flat_from}
+use Rattle.depth_file.specs.Stages.{later_of}
+use Rattle.depth_file.proofs.Going.{flat, part_fails, part_goes, fails_is}
+use Rattle.depth_file.proofs.onward.at_within.Goals as goal
+
+pub returns-in-Ok-More-clause-answer : goal.returns-in-Ok-More-clause-answer
+returns-in-Ok-More-clause-answer c = λ lines ls answer stands same.
+    let f = c.args.flat in
+    let n = c.args.line.now.number in
+    let end = c.args.reader.ended in
+    let g = formula_of f.heading f.size (Levels stands.fence) in
+    let more : HasMore g f.heading.conflicts end stands.log (line_of c.args.line.now) c.in-Ok-More.reader =
+    subst (λ (step : PartStep). IsFed g f.heading.conflicts end stands.log (line_of c.args.line.now) (Ok step)) c.in-Ok-More.field-0-is (c.in-Ok-More.ensures g f.heading.conflicts stands.log stands.reading) in
+    record {
+      fence = stands.fence;
+      is_next = stands.is_next;
+      log = stands.log ++ more.line ∷ [];
+      reading = more.reading;
+      answer_is =
+          stands.answer_is
+          ∙ ap (flat f n (Within stands.fence (later_of f) end stands.log)) same
+          ∙ part_goes f stands.fence (later_of f) n end stands.log _ ls (Some more.line) more.read
+          ∙ ap (λ (e : Ended). flat f (n + 1) (Within stands.fence (later_of f) e (stands.log ++ more.line ∷ [])) ls) (sym more.same_end);
+    }
+
+pub returns-in-Ok-Done-clause-answer : goal.returns-in-Ok-Done-clause-answer
+returns-in-Ok-Done-clause-answer c = λ lines ls answer stands same.
+    let f = c.args.flat in
+    let n = c.args.line.now.number in
+    let end = c.args.reader.ended in
+    let g = formula_of f.heading f.size (Levels stands.fence) in
+    let done : part_in g f.heading.conflicts end stands.log (line_of c.args.line.now) ≡ Ok None =
+    subst (λ (step : PartStep). IsFed g f.heading.conflicts end stands.log (line_of c.args.line.now) (Ok step)) c.in-Ok-Done.field-0-is (c.in-Ok-Done.ensures g f.heading.conflicts stands.log stands.reading) in
+    c.behind.ensures.stands (n + 1) stands.fence ls answer stands.is_next
+    (stands.answer_is
+    ∙ ap (flat f n (Within stands.fence (later_of f) end stands.log)) same
+    ∙ part_goes f stands.fence (later_of f) n end stands.log _ ls None done
+    ∙ ap (λ (e : Ended). flat_from f.heading f.size f.levels (n + 1) (low_with f.low e (length stands.fence)) (Due (later_of f)) ls) (sym c.ended-end.ensures))
+
+pub returns-in-Err-clause-answer : goal.returns-in-Err-clause-answer
+returns-in-Err-clause-answer c = λ lines ls answer stands same.
+    let f = c.args.flat in
+    let n = c.args.line.now.number in
+    let end = c.args.reader.ended in
+    let e = c.in-Err.fault in
+    subst (λ (d : DepthError). Fails d answer) (sym c.fault_at.ensures)
+    (fails_is (fault_at n e) _ answer (stands.answer_is ∙ ap (flat f n (Within stands.fence (later_of f) end stands.log)) same)
+    (part_fails f stands.fence (later_of f) n end stands.log _ ls e (c.in-Err.ensures (formula_of f.heading f.size (Levels stands.fence)) f.heading.conflicts stands.log stands.reading)))

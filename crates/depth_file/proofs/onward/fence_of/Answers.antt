@@ -1,0 +1,6 @@
+-- The part that is next is the fence that is next.
+use Rattle.depth_file.proofs.Going.{fence_next}
+use Rattle.depth_file.proofs.onward.fence_of.Goals as goal
+
+pub returns-clause-next : goal.returns-clause-next
+returns-clause-next c = fence_next c.args.flat.now c.part_in.result.now c.levels_of.result.now c.requires c.part_in.ensures c.levels_of.ensures

@@ -1,0 +1,81 @@
+-- What a stage says of the lines behind a bundle that were read: which answer they have with the lines that come
+-- next.
+use Rattle.std.specs.Prelude.{◌≡◌, ℕ, ◌+◌, ◌≤◌, ◌<◌, List, [], ◌∷◌, length, map, drop, Option, Some, None, Result, Ok, Err}
+use Rattle.text_core.specs.Lines.{Line}
+use Rattle.sat_theory.specs.Line as theory
+use Rattle.enc_theory.specs.declared.part.Part.TheVariants.{Levels}
+use Rattle.enc_theory.specs.declared.data.Method.TheVariants.{Fence}
+use Rattle.cert_theory.specs.Bundle.{formula_of}
+use Rattle.cert_file.specs.declared.part.PartReader.{PartReader}
+use Rattle.cert_file.specs.Logged.{IsReading}
+use Rattle.depth_theory.specs.declared.data.DepthVerdict.{DepthVerdict}
+use Rattle.depth_theory.specs.declared.data.DepthError.{DepthError}
+use Rattle.depth_theory.specs.Flatter.{flatter}
+use Rattle.depth_theory.specs.DepthGives.{Fails}
+use Rattle.depth_theory.specs.DepthJudging.{Answer, Due, Begun, Within, flat_from, end_of, nothing_behind}
+use Rattle.depth_file.specs.declared.stage.Flat.{Flat}
+use Rattle.depth_file.specs.declared.stage.Stage.{Stage}
+use Rattle.depth_file.specs.declared.stage.Stage.TheVariants as stages
+
+-- the fences that are due, and how many of them stand before the next
+pub record IsFlat (f : Flat) : Type 0 where
+  pub by_fences : f.heading.method ≡ Fence
+  pub operators : 0 < f.heading.basis
+  pub size : f.size ≤ 16
+  pub fences : f.fences.items ≡ map Levels (flatter f.heading.spec f.size f.levels)
+  pub at : f.at ≤ length f.fences.items
+
+-- a fence is due or read
+pub record IsRunning (f : Flat) : Type 0 where
+  pub flat : IsFlat f
+  pub within : f.at < length f.fences.items
+
+abbrev pub IsStage : Stage → Type 0
+IsStage (stages.Due f) = IsFlat f
+IsStage (stages.Begun f) = IsRunning f
+IsStage (stages.Within f reader) = IsRunning f
+IsStage (stages.End verdict) = Unit {0}
+IsStage (stages.Done verdict) = Unit {0}
+
+-- the verdict, where nothing is due
+abbrev pub verdict_in : Stage → Option DepthVerdict
+verdict_in (stages.Done verdict) = Some verdict
+verdict_in stage = None
+
+-- the fences from the next one on, and those behind it
+abbrev pub due_of : Flat → List (List ℕ)
+due_of f = drop f.at (flatter f.heading.spec f.size f.levels)
+
+abbrev pub later_of : Flat → List (List ℕ)
+later_of f = drop (f.at + 1) (flatter f.heading.spec f.size f.levels)
+
+-- the fence that is read or due
+abbrev pub IsNext : Flat → List ℕ → Type 0
+IsNext f fence = due_of f ≡ fence ∷ later_of f
+
+-- Behind the title of a fence.
+pub record IsBegun (f : Flat) (number : ℕ) (lines : List Line) (answer : Answer) : Type 0 where
+  pub fence : List ℕ
+  pub is_next : IsNext f fence
+  pub answer_is : answer ≡ flat_from f.heading f.size f.levels number f.low (Begun fence (later_of f)) lines
+
+-- In a log: the reader has read the lines before.
+pub record IsLogging (f : Flat) (reader : PartReader) (number : ℕ) (lines : List Line) (answer : Answer) : Type 0 where
+  pub fence : List ℕ
+  pub is_next : IsNext f fence
+  pub log : List theory.Line
+  pub reading : IsReading (formula_of f.heading f.size (Levels fence)) f.heading.conflicts log reader
+  pub answer_is : answer ≡ flat_from f.heading f.size f.levels number f.low (Within fence (later_of f) reader.ended log) lines
+
+-- The answer, where these lines come next.
+abbrev pub Stands : Stage → ℕ → List Line → Answer → Type 0
+Stands (stages.Due f) number lines answer = answer ≡ flat_from f.heading f.size f.levels number f.low (Due (due_of f)) lines
+Stands (stages.Begun f) number lines answer = IsBegun f number lines answer
+Stands (stages.Within f reader) number lines answer = IsLogging f reader number lines answer
+Stands (stages.End verdict) number lines answer = answer ≡ end_of number verdict lines
+Stands (stages.Done verdict) number lines answer = answer ≡ nothing_behind number verdict lines
+
+-- after one more line: a stage stands for what comes next, or the line is at fault, whatever comes next
+abbrev pub Judged : Result Stage DepthError → ℕ → List Line → Answer → Type 0
+Judged (Ok stage) number lines answer = Stands stage number lines answer
+Judged (Err e) number lines answer = Fails e answer

@@ -1,0 +1,129 @@
+//! Single lines behind a bundle.
+ghost use Rattle.std.specs.Prelude.{◌≡◌, IfOk};
+ghost use Rattle.text_core.specs.Items.{items_of};
+ghost use Rattle.cert_theory.specs.PartLines as parts;
+ghost use Rattle.cert_file.specs.TextLines.{line_of};
+ghost use Rattle.depth_theory.specs.DepthGives.{Gives};
+ghost use Rattle.depth_theory.specs.DepthJudging as judging;
+
+use cert_file::{TextLine, begins, is_line, is_title, number_behind, value_of};
+use cert_theory::{PartError, title_of};
+use depth_theory::{DepthError, DepthVerdict};
+use std::alloc::Global;
+use text_core::{next_item, number_up_to};
+
+/// The greatest number of nine digits.
+const GREATEST: u32 = 999_999_999;
+
+/// A fault of a part, at a line.
+pub(crate) fn fault_at(number: u32, fault: PartError) -> DepthError
+    ensures { result ≡ judging.fault_at number fault }
+{
+    match fault {
+        PartError::Syntax => DepthError::Syntax(number),
+        PartError::StepRefused(fault) => DepthError::StepRefused(number, fault),
+        PartError::NotNew => DepthError::NotNew(number),
+        PartError::NotRefuted => DepthError::NotRefuted(number),
+        PartError::TooShort => DepthError::OpenTooShort(number),
+        PartError::EmptyStands => DepthError::WrongLevels(number),
+        PartError::Memory => DepthError::Memory,
+    }
+}
+
+/// The two numbers of a bounded verdict.
+fn bounded_in(text: &[u8]) -> Option<DepthVerdict>
+    ensures { result ≡ judging.bounded_in (items_of text.now) }
+{
+    let (low, Some(rest)) = next_item(text) else {
+        return None;
+    };
+    let (levels, None) = next_item(rest) else {
+        return None;
+    };
+    let low = number_up_to(GREATEST, low)?;
+    let levels = number_up_to(GREATEST, levels)?;
+    Some(DepthVerdict::Bounded { low, levels })
+}
+
+/// The verdict of a line.
+#[tactic(auto, unfolding(depth_theory::specs::DepthJudging::levels_in))]
+fn levels_in(line: &TextLine) -> Option<DepthVerdict>
+    ensures { result ≡ judging.levels_in (line_of line.now) }
+{
+    if begins(b"levels ", line) {
+        let levels = number_behind(b"levels ", line)?;
+        return Some(DepthVerdict::Levels(levels));
+    }
+    bounded_in(value_of(b"levels-bounded ", line)?)
+}
+
+/// Whether two verdicts are the same.
+fn is_same(verdict: DepthVerdict, due: DepthVerdict) -> bool
+    ensures { result ≡ judging.is_same verdict due }
+{
+    match (verdict, due) {
+        (DepthVerdict::Levels(d), DepthVerdict::Levels(e)) => d == e,
+        (
+            DepthVerdict::Bounded { low, levels },
+            DepthVerdict::Bounded {
+                low: least,
+                levels: most,
+            },
+        ) => low == least && levels == most,
+        _ => false,
+    }
+}
+
+/// The verdict, where no fence is due any more: a title there is a fault of its own.
+#[tactic(auto, unfolding(depth_theory::specs::DepthJudging::verdict_at))]
+pub(crate) fn verdict_at(line: &TextLine, due: DepthVerdict) -> Result<DepthVerdict, DepthError>
+    ensures { Gives (λ v. v) result (judging.verdict_at line.now.number due (line_of line.now)) }
+{
+    if is_title(line) {
+        return Err(DepthError::NotRefuted(line.number));
+    }
+    let Some(verdict) = levels_in(line) else {
+        return Err(DepthError::Syntax(line.number));
+    };
+    if !is_same(verdict, due) {
+        return Err(DepthError::WrongLevels(line.number));
+    }
+    Ok(verdict)
+}
+
+/// Whether a line could stand where the title of a fence is due.
+#[tactic(auto, unfolding(depth_theory::specs::DepthJudging::may_follow))]
+fn may_follow(line: &TextLine) -> bool
+    ensures { result ≡ judging.may_follow (line_of line.now) }
+{
+    is_title(line) || levels_in(line).is_some()
+}
+
+/// The title of a fence with so many steps on each level.
+#[tactic(auto, unfolding(cert_theory::specs::PartLines::title_in))]
+pub(crate) fn title_at(alloc: Global, line: &TextLine, fence: &[u32]) -> Result<(), DepthError>
+    ensures { Gives (λ x. x) result (judging.at_line line.now.number (parts.title_in (judging.may_follow (line_of line.now)) fence.now (line_of line.now))) }
+{
+    let title = title_of(alloc, fence)?;
+    if is_line(&title, line) {
+        return Ok(());
+    }
+    if may_follow(line) {
+        return Err(DepthError::NotRefuted(line.number));
+    }
+    Err(DepthError::Syntax(line.number))
+}
+
+/// The line of the depth.
+#[tactic(auto, unfolding(depth_theory::specs::DepthJudging::depth_at))]
+pub(crate) fn depth_at(line: &TextLine, depth: u32) -> Result<(), DepthError>
+    ensures { Gives (λ x. x) result (judging.depth_at line.now.number depth (line_of line.now)) }
+{
+    let Some(stated) = number_behind(b"depth ", line) else {
+        return Err(DepthError::Syntax(line.number));
+    };
+    if stated != depth {
+        return Err(DepthError::WrongDepth(line.number));
+    }
+    Ok(())
+}

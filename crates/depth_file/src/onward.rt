@@ -1,0 +1,221 @@
+//! From stage to stage, a line at a time. The argument: a stage stands for the answer of all lines, whatever lines
+//! come next, so the first refusal is that of the lines; and at the end the stage is the answer.
+ghost use Rattle.std.specs.Prelude.{◌≡◌, ◌+◌, ◌^◌, ◌<◌, ◌≤◌, ℕ, List, [], ◌∷◌, length, drop, IfOk};
+ghost use Rattle.text_core.specs.Lines.{Line};
+ghost use Rattle.enc_theory.specs.declared.part.Part.TheVariants.{Levels};
+ghost use Rattle.cert_theory.specs.Bundle as bundles;
+ghost use Rattle.cert_theory.specs.Judging.{low_with as low_with_of};
+ghost use Rattle.cert_file.specs.TextLines.{line_of};
+ghost use Rattle.depth_theory.specs.DepthBundle.{levels_found};
+ghost use Rattle.depth_theory.specs.DepthGives.{Gives};
+ghost use Rattle.depth_theory.specs.DepthJudging as judging;
+ghost use Rattle.depth_theory.specs.DepthJudging.{Answer};
+ghost use Rattle.depth_file.specs.Stages as stages;
+ghost use Rattle.depth_file.specs.Stages.{IsStage, IsFlat, IsRunning, IsNext, due_of, later_of, IsBegun, IsLogging, Stands, Judged};
+
+use crate::lines::{fault_at, title_at, verdict_at};
+use crate::stage::{Flat, Stage};
+use cert_file::{PartReader, PartStep, TextLine, ended_in, is_line};
+use cert_theory::Ended;
+use cnf_core::Cnf;
+use depth_theory::{DepthError, DepthVerdict};
+use enc_fence::FenceEnc;
+use enc_frame::Encoding;
+use enc_theory::Part;
+use std::alloc::{AllocError, Global};
+
+/// How many steps stand on each level of a part's fence.
+fn levels_of(part: &Part) -> &[u32]
+    ensures { (fence : List ℕ) → part.now ≡ Levels fence → result.now ≡ fence }
+{
+    match part {
+        Part::Levels(fence) => fence.levels(),
+        Part::Whole => &[],
+    }
+}
+
+/// The part of the fence that is read or due.
+fn part_in(flat: &Flat) -> &Part
+    requires { IsRunning flat.now }
+    ensures { drop flat.now.at flat.now.fences.items ≡ result.now ∷ drop (flat.now.at + 1) flat.now.fences.items }
+{
+    &flat.fences[flat.at]
+}
+
+/// The fence that is read or due.
+#[tactic(auto, using(crate::proofs::Going::fences))]
+fn fence_of(flat: &Flat) -> &[u32]
+    requires { IsRunning flat.now }
+    ensures next { IsNext flat.now result.now }
+    ensures few { length result.now < flat.now.levels }
+{
+    levels_of(part_in(flat))
+}
+
+/// The verdict that follows.
+fn found(low: Option<u32>, levels: u32) -> DepthVerdict
+    ensures { result ≡ levels_found low levels }
+{
+    match low {
+        None => DepthVerdict::Levels(levels),
+        Some(low) => DepthVerdict::Bounded { low, levels },
+    }
+}
+
+/// The title of the next fence, or the verdict where none is left.
+#[tactic(auto, using(crate::proofs::Going::going), unfolding(depth_theory::specs::DepthJudging::flat_from))]
+fn at_due(alloc: Global, flat: Flat, line: &TextLine) -> Result<Stage, DepthError>
+    requires { IsFlat flat }
+    ensures keeps { IfOk result (λ s. IsStage s) }
+    ensures answer { (lines ls : List Line) (answer : Answer) → answer ≡ judging.flat_from flat.heading flat.size flat.levels line.now.number flat.low (judging.Due (due_of flat)) lines →
+        lines ≡ line_of line.now ∷ ls → Judged result (line.now.number + 1) ls answer }
+{
+    if flat.at < flat.fences.len() {
+        title_at(alloc, line, fence_of(&flat))?;
+        return Ok(Stage::Begun { flat });
+    }
+    let verdict = verdict_at(line, found(flat.low, flat.levels))?;
+    Ok(Stage::End { verdict })
+}
+
+/// The formula of the fence that is read.
+#[tactic(auto, using(crate::proofs::Going::formulas))]
+fn formula_of(alloc: Global, flat: &Flat) -> Result<Cnf, AllocError>
+    requires { IsRunning flat.now }
+    ensures { (fence : List ℕ) → IsNext flat.now fence → IfOk result (λ cnf. cnf ≡ bundles.formula_of flat.now.heading flat.now.size (Levels fence)) }
+{
+    FenceEnc.formula(
+        alloc,
+        &flat.heading.spec,
+        flat.heading.basis,
+        flat.size,
+        part_in(flat),
+    )
+}
+
+/// The line that begins the log of a fence.
+#[tactic(auto, unfolding(depth_theory::specs::DepthJudging::flat_from))]
+fn at_begun(alloc: Global, flat: Flat, line: &TextLine) -> Result<Stage, DepthError>
+    requires { IsRunning flat }
+    ensures keeps { IfOk result (λ s. IsStage s) }
+    ensures answer { (lines ls : List Line) (answer : Answer) → IsBegun flat line.now.number lines answer →
+        lines ≡ line_of line.now ∷ ls → Judged result (line.now.number + 1) ls answer }
+{
+    let Some(end) = ended_in(line) else {
+        return Err(DepthError::Syntax(line.number));
+    };
+    let cnf = formula_of(alloc, &flat)?;
+    let reader = PartReader::new(alloc, cnf, flat.heading.conflicts, end)?;
+    Ok(Stage::Within { flat, reader })
+}
+
+/// How many levels the first open fence has, with one fence more.
+fn low_with(low: Option<u32>, end: Ended, levels: u32) -> Option<u32>
+    ensures { result ≡ low_with_of low end levels }
+{
+    match (low, end) {
+        (None, Ended::Open) => Some(levels),
+        _ => low,
+    }
+}
+
+/// What comes behind a fence whose log ends so.
+#[tactic(auto, using(crate::proofs::Going::going))]
+fn behind(flat: Flat, end: Ended) -> Stage
+    requires { IsRunning flat }
+    ensures keeps { IsStage result }
+    ensures stands { (number : ℕ) (fence : List ℕ) (ls : List Line) (answer : Answer) → IsNext flat fence →
+        answer ≡ judging.flat_from flat.heading flat.size flat.levels number (low_with_of flat.low end (length fence)) (judging.Due (later_of flat)) ls →
+        Stands result number ls answer }
+{
+    let levels = fence_of(&flat).len() as u32;
+    let Flat {
+        heading,
+        size,
+        levels: most,
+        fences,
+        at,
+        low,
+    } = flat;
+    Stage::Due {
+        flat: Flat {
+            heading,
+            size,
+            levels: most,
+            fences,
+            at: at + 1,
+            low: low_with(low, end, levels),
+        },
+    }
+}
+
+/// A line of a log, or its end.
+#[tactic(auto, unfolding(depth_theory::specs::DepthJudging::flat_from))]
+fn at_within(
+    alloc: Global,
+    flat: Flat,
+    reader: PartReader,
+    line: &TextLine,
+) -> Result<Stage, DepthError>
+    requires { IsRunning flat }
+    ensures keeps { IfOk result (λ s. IsStage s) }
+    ensures answer { (lines ls : List Line) (answer : Answer) → IsLogging flat reader line.now.number lines answer →
+        lines ≡ line_of line.now ∷ ls → Judged result (line.now.number + 1) ls answer }
+{
+    let end = reader.ended();
+    match reader.feed(alloc, line.text, line.ended) {
+        Ok(PartStep::More(reader)) => Ok(Stage::Within { flat, reader }),
+        Ok(PartStep::Done) => Ok(behind(flat, end)),
+        Err(fault) => Err(fault_at(line.number, fault)),
+    }
+}
+
+/// The last line.
+#[tactic(auto, unfolding(depth_theory::specs::DepthJudging::end_of))]
+fn at_end(verdict: DepthVerdict, line: &TextLine) -> Result<Stage, DepthError>
+    ensures keeps { IfOk result (λ s. IsStage s) }
+    ensures answer { (ls : List Line) (answer : Answer) → answer ≡ judging.end_of line.now.number verdict (line_of line.now ∷ ls) → Judged result (line.now.number + 1) ls answer }
+{
+    if !is_line(b"end", line) {
+        return Err(DepthError::Syntax(line.number));
+    }
+    Ok(Stage::Done { verdict })
+}
+
+/// Takes the next line.
+pub(crate) fn take(alloc: Global, stage: Stage, line: &TextLine) -> Result<Stage, DepthError>
+    requires stage { IsStage stage }
+    ensures keeps { IfOk result (λ s. IsStage s) }
+    ensures answer { (lines ls : List Line) (answer : Answer) → Stands stage line.now.number lines answer →
+        lines ≡ line_of line.now ∷ ls → Judged result (line.now.number + 1) ls answer }
+{
+    match stage {
+        Stage::Due { flat } => at_due(alloc, flat, line),
+        Stage::Begun { flat } => at_begun(alloc, flat, line),
+        Stage::Within { flat, reader } => at_within(alloc, flat, reader, line),
+        Stage::End { verdict } => at_end(verdict, line),
+        Stage::Done { .. } => Err(DepthError::Syntax(line.number)),
+    }
+}
+
+/// The verdict, where nothing is due.
+fn verdict_in(stage: Stage) -> Option<DepthVerdict>
+    ensures { result ≡ stages.verdict_in stage }
+{
+    match stage {
+        Stage::Done { verdict } => Some(verdict),
+        _ => None,
+    }
+}
+
+/// What the lines come to, where none is left.
+#[tactic(auto, unfolding(depth_theory::specs::DepthJudging::flat_from, depth_theory::specs::DepthJudging::end_of))]
+pub(crate) fn verdict_of(stage: Stage, number: u32) -> Result<DepthVerdict, DepthError>
+    requires { IsStage stage }
+    ensures { (answer : Answer) → Stands stage number [] answer → Gives (λ v. v) result answer }
+{
+    let Some(verdict) = verdict_in(stage) else {
+        return Err(DepthError::Syntax(number));
+    };
+    Ok(verdict)
+}

@@ -1,0 +1,35 @@
+//! How far the lines behind a bundle have come: what is due next, and what is kept of the lines before. A stage stands
+//! for the answer of all lines, whatever lines come next (`specs/Stages.antt`).
+use cert_file::PartReader;
+use cert_theory::Heading;
+use depth_theory::DepthVerdict;
+use enc_theory::Part;
+
+/// The fences that are flatter than the chain, and one of them.
+#[derive(Debug, Drop)]
+pub(crate) struct Flat {
+    pub(crate) heading: Heading,
+    /// How many steps the chain has, and on how many levels.
+    pub(crate) size: u32,
+    pub(crate) levels: u32,
+    pub(crate) fences: Vec<Part>,
+    /// How many fences stand before this one.
+    pub(crate) at: usize,
+    /// How many levels the first open fence before it has.
+    pub(crate) low: Option<u32>,
+}
+
+/// What is due next behind a bundle and the line of the depth, where the lines were good so far.
+#[derive(Debug, Drop)]
+pub(crate) enum Stage {
+    /// The title of this fence, or the verdict where none is left.
+    Due { flat: Flat },
+    /// How the log of this fence ends.
+    Begun { flat: Flat },
+    /// A line of the log of this fence.
+    Within { flat: Flat, reader: PartReader },
+    /// The last line.
+    End { verdict: DepthVerdict },
+    /// Nothing.
+    Done { verdict: DepthVerdict },
+}
