@@ -1,8 +1,9 @@
 -- The patterns of some assignments: word after word, and of signals.
 use Rattle.std.proofs.Common.{◌≡◌, ◌∙◌, ℕ, ◌+◌, ◌-◌, ◌*◌, ◌/◌, ◌%◌, ◌^◌, ◌≤◌, ◌<◌, Bool, true, ◌&&◌, List, length, take, refl, ap, sym, subst, arith, min, ⊎_elim}
-use Rattle.std.specs.Prelude.{bit_and, bit_or, slice_index_or}
+use Rattle.std.specs.Prelude.{bit_and, bit_or, slice_index_or, ◌==◌}
 use Rattle.std.proofs.lemmas.Bool.{cases_lt}
 use Rattle.std.proofs.lemmas.Nat.{or_lt}
+use Rattle.std.proofs.lemmas.Nat.Bits.{bit_at_ones}
 use Rattle.chain_theory.specs.Operator.{digit}
 use Rattle.net_theory.specs.declared.data.Sig.{Sig}
 use Rattle.net_theory.specs.Net.{sig_value}
@@ -10,13 +11,15 @@ use Rattle.lane_sim.specs.declared.rows.Operand.{Operand}
 use Rattle.lane_sim.specs.Chosen.{chosen_at, AreChosenBelow}
 use Rattle.lane_sim.specs.Cone.{Cone, places, value_in}
 use Rattle.lane_sim.specs.Combining.{operand_word, EndsBefore}
+use Rattle.lane_sim.specs.FourLaws.{each_masked}
 use Rattle.lane_sim.specs.LaneLaws.{operand_bit, operand_ends, words_are_lanes}
-use Rattle.lane_sim.specs.PatternLaws.{same_pattern}
+use Rattle.lane_sim.specs.PatternLaws.{pattern_low, same_pattern}
 use Rattle.lane_sim.specs.Rows.{IsOperandOf}
-use Rattle.lane_sim.specs.Seen.{pattern_at, AreSeen, AreRows, AreOperands}
+use Rattle.lane_sim.specs.Seen.{pattern_at, four_of, AreSeen, AreSeenFour, AreRows, AreOperands}
 use Rattle.lane_sim.specs.SeenLaws.{above_zero, no_digit, digit_or, digit_or_left, digit_or_right, mask_only, mask_all, both_true}
+use Rattle.lane_sim.specs.ShownLaws.{step_is}
 use Rattle.lane_sim.specs.WordLaws.{digit_and}
-use Rattle.lane_sim.specs.Words.{Words, AreWords, ArePatternsOf, pattern_under, width_of}
+use Rattle.lane_sim.specs.Words.{Words, AreWords, ArePatterns, ArePatternsOf, pattern_under, width_of}
 
 -- ---- word after word
 
@@ -55,6 +58,48 @@ chosen_more n at words o rows count end seen mask word more are low end_is mask_
           subst (λ (k : ℕ). digit (bit_or seen more) (at k b) ≡ true) (sym same)
           (digit_or_right seen more (at count b) (here.all b low_b (digit_and mask word b ∙ and_both (digit mask b) (digit word b) in_mask in_word))))
           (cases_lt j count);
+    }
+
+pub four_more : (n : ℕ) (at : ℕ → ℕ → ℕ) (words : List ℕ) (o : Operand) (rows j end seen mask x y z w more : ℕ) → AreRows rows → j + 4 ≤ end → end ≡ width_of rows → mask ≡ 2 ^ min rows 64 - 1
+    → x ≡ operand_word words o j → y ≡ operand_word words o (j + 1) → z ≡ operand_word words o (j + 2) → w ≡ operand_word words o (j + 3)
+    → AreChosenBelow n at (chosen_at words o) rows j seen → AreSeenFour n at j (four_of (bit_and mask x) (bit_and mask y) (bit_and mask z) (bit_and mask w)) more → AreChosenBelow n at (chosen_at words o) rows (j + 4) (bit_or seen more)
+four_more n at words o rows j end seen mask x y z w more are low end_is mask_is ex ey ez ew before here =
+    let within : (l : ℕ) → l < 4 → j + l < width_of rows = λ l low_l. subst (λ (k : ℕ). j + l < k) end_is (omega (arith, low, low_l)) in
+    let each : (l : ℕ) → l < 4 → four_of (bit_and mask x) (bit_and mask y) (bit_and mask z) (bit_and mask w) l ≡ bit_and mask (operand_word words o (j + l)) = λ l low_l. each_masked (operand_word words o) mask j x y z w l ex ey ez ew low_l in
+    record {
+      low = or_lt (2 ^ n) seen more before.low here.low;
+      only = λ t e.
+          ⊎_elim
+          (λ (l : digit seen t ≡ true). before.only t l)
+          (λ (r : digit more t ≡ true).
+          let i = here.only t r in
+          let parts : (digit mask i.1 ≡ true) × (digit (operand_word words o (j + i.0)) i.1 ≡ true) = both_true _ _ (sym (digit_and mask (operand_word words o (j + i.0)) i.1) ∙ ap (λ (m : ℕ). digit m i.1) (sym (each i.0 i.2)) ∙ i.4) in
+          let row : 64 * (j + i.0) + i.1 < rows = mask_only rows (j + i.0) i.1 are (within i.0 i.2) i.3 (ap (λ (m : ℕ). digit m i.1) (sym mask_is) ∙ parts.0) in
+          (j + i.0, i.1, i.3, row, parts.1, i.5))
+          (digit_or seen more t e);
+      all = λ k b low_k low_b row on.
+          ⊎_elim
+          (λ (earlier : k < j). digit_or_left seen more (at k b) (before.all k b earlier low_b row on))
+          (λ (past : j ≤ k).
+          let same : k ≡ j + (k - j) = omega (arith, past) in
+          let few : k - j < 4 = omega (arith, low_k, past) in
+          let row_here : 64 * (j + (k - j)) + b < rows = subst (λ (i : ℕ). 64 * i + b < rows) same row in
+          let in_mask : digit mask b ≡ true = ap (λ (m : ℕ). digit m b) mask_is ∙ mask_all rows (j + (k - j)) b low_b row_here in
+          let in_word : digit (operand_word words o (j + (k - j))) b ≡ true = ap (λ (i : ℕ). chosen_at words o i b) (sym same) ∙ on in
+          let in_both : digit (bit_and mask (operand_word words o (j + (k - j)))) b ≡ true = digit_and mask (operand_word words o (j + (k - j))) b ∙ and_both (digit mask b) (digit (operand_word words o (j + (k - j))) b) in_mask in_word in
+          subst (λ (i : ℕ). digit (bit_or seen more) (at i b) ≡ true) (sym same)
+          (digit_or_right seen more (at (j + (k - j)) b) (here.all (k - j) b few low_b (ap (λ (m : ℕ). digit m b) (each (k - j) few) ∙ in_both))))
+          (cases_lt k j);
+    }
+
+-- where all patterns were seen, no further word has another
+pub chosen_full : (lanes : List ℕ) (os : List Operand) (when : ℕ → ℕ → Bool) (rows count count' found : ℕ) → length os ≤ 6 → found ≡ 2 ^ (1 * 2 ^ length os % 4294967296) - 1 → AreChosenBelow (length os) (pattern_at lanes os) when rows count found → AreChosenBelow (length os) (pattern_at lanes os) when rows count' found
+chosen_full lanes os when rows count count' found few full are =
+    let ones : found ≡ 2 ^ 2 ^ length os - 1 = full ∙ ap (λ (k : ℕ). 2 ^ k - 1) (step_is (length os) few) in
+    record {
+      low = are.low;
+      only = are.only;
+      all = λ j b low_j low_b row on. ap (λ (x : ℕ). digit x (pattern_at lanes os j b)) ones ∙ ap (λ (x : ℕ). x == 1) (bit_at_ones (2 ^ length os) (pattern_at lanes os j b) (pattern_low (λ (o : Operand). digit (operand_word lanes o j) b) os));
     }
 
 -- ---- of signals
@@ -109,3 +154,13 @@ word_chosen chosen j b low =
     let word : 0 + j ≡ (64 * j + b) / 64 = omega (arith, low) in
     let bit : b ≡ (64 * j + b) % 64 = omega (arith, low) in
     ap (λ (k : ℕ). digit (slice_index_or chosen k 0) b) word ∙ ap (digit (slice_index_or chosen ((64 * j + b) / 64) 0)) bit
+
+-- all of them
+pub all_chosen : (j b : ℕ) → b < 64 → digit 18446744073709551615 b ≡ true
+all_chosen j b low = ap (λ (x : ℕ). x == 1) (bit_at_ones 64 b low)
+
+pub of_all : (c : Cone) (signals : List Sig) (mask : ℕ) → ArePatternsOf c signals (λ row. true) mask → ArePatterns c signals mask
+of_all c signals mask are = record {
+  only = λ t e. let r = are.only t e in (r.0, r.1, r.3);
+  all = λ row low. are.all row low refl;
+}

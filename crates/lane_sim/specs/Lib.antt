@@ -5,6 +5,7 @@ pub mod ChosenLaws
 pub mod Combining
 pub mod Cone
 pub mod ConeLaws
+pub mod FourLaws
 pub mod LaneLaws
 pub mod PatternLaws
 pub mod PlaceLaws

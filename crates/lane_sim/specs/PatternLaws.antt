@@ -17,9 +17,9 @@ use Rattle.lane_sim.specs.Cone.{Cone, IsSigAmong, places, place_of, value_in}
 use Rattle.lane_sim.specs.LaneLaws.{at_front, operand_bit, operand_ends, words_are_lanes}
 use Rattle.lane_sim.specs.RowLaws.{ends_less}
 use Rattle.lane_sim.specs.Rows.{IsOperandOf}
-use Rattle.lane_sim.specs.Seen.{pattern_at, AreSeenBelow, AreRows, AllEnd, AreOperands}
+use Rattle.lane_sim.specs.Seen.{pattern_at, AreRows, AllEnd, AreOperands}
 use Rattle.lane_sim.specs.SeenLaws.{above_zero, at_most_32}
-use Rattle.lane_sim.specs.Words.{Words, AreWords, ArePatterns, pattern, pattern_under, width_of}
+use Rattle.lane_sim.specs.Words.{Words, AreWords, pattern, pattern_under, width_of}
 
 -- ---- patterns
 
@@ -170,24 +170,6 @@ pub same_pattern : (c : Cone) (w : Words) (signals : List Sig) (os : List Operan
 same_pattern c w signals os j b words are room low within =
     pattern_same (λ (o : Operand). digit (operand_word w.lanes o j) b) (sig_value (value_in c (64 * j + b))) (take (length signals) os) signals (length-take-le (length signals) os room)
     (λ i o s at_o at_s. operand_bit (places c) (value_in c) (width_of w.rows) w.rows w.lanes s o j b (words_are_lanes c w words) (used_at (places c) (width_of w.rows) signals os i o s are room at_o at_s) low within)
-
--- What the rows of the signals show is what the signals show.
-pub patterns_are : (c : Cone) (w : Words) (signals : List Sig) (os : List Operand) (n found : ℕ) → AreWords c w → AreOperands (places c) (width_of w.rows) signals (length signals) os → length signals ≤ length os
-    → AreSeenBelow n (pattern_at w.lanes (take (length signals) os)) w.rows (width_of w.rows) found → ArePatterns c signals found
-patterns_are c w signals os n found words are room seen = record {
-  only = λ t e.
-      let r = seen.only t e in
-      let row : ℕ = 64 * r.0 + r.1 in
-      (row, subst (λ (k : ℕ). row < k) words.rows r.3, sym (same_pattern c w signals os r.0 r.1 words are room r.2 r.3) ∙ r.4);
-  all = λ row low.
-      let rows : row < w.rows = subst (λ (k : ℕ). row < k) (sym words.rows) low in
-      let whole : 64 * (row / 64) + row % 64 ≡ row = omega arith in
-      let within : 64 * (row / 64) + row % 64 < w.rows = omega (arith, rows) in
-      let e : digit found (pattern_at w.lanes (take (length signals) os) (row / 64) (row % 64)) ≡ true = seen.all (row / 64) (row % 64) (omega (arith, rows)) (omega arith) within in
-      ap (λ (k : ℕ). digit found (pattern_under c signals k)) (sym whole)
-      ∙ ap (digit found) (sym (same_pattern c w signals os (row / 64) (row % 64) words are room (omega arith) within))
-      ∙ e;
-}
 
 -- ---- how many words there are
 

@@ -1,5 +1,5 @@
--- Which patterns some of 64 assignments show, and which those of the first words show.
-use Rattle.std.specs.Prelude.{◌≡◌, ℕ, ◌+◌, ◌*◌, ◌≤◌, ◌<◌, ◌^◌, ◌%◌, true, List, slice_get, slice_index_or, Some}
+-- Which patterns some of 64 assignments show, and which some of four words show.
+use Rattle.std.specs.Prelude.{◌≡◌, ℕ, zero, suc, ◌+◌, ◌*◌, ◌≤◌, ◌<◌, ◌^◌, ◌%◌, true, List, slice_get, slice_index_or, Some}
 use Rattle.chain_theory.specs.Operator.{digit}
 use Rattle.net_theory.specs.declared.data.Sig.{Sig}
 use Rattle.lane_sim.specs.declared.rows.Operand.{Operand}
@@ -18,11 +18,18 @@ pub record AreSeen (n : ℕ) (at : ℕ → ℕ) (mask seen : ℕ) : Type 0 where
   pub only : (t : ℕ) → digit seen t ≡ true → (b : ℕ) × (b < 64) × (digit mask b ≡ true) × (at b ≡ t)
   pub all : (b : ℕ) → b < 64 → digit mask b ≡ true → digit seen (at b) ≡ true
 
--- The same of the assignments of the first words, as far as there are rows.
-pub record AreSeenBelow (n : ℕ) (at : ℕ → ℕ → ℕ) (rows count seen : ℕ) : Type 0 where
+-- one of four numbers, by its place
+abbrev pub four_of : ℕ → ℕ → ℕ → ℕ → ℕ → ℕ
+four_of first second third fourth zero = first
+four_of first second third fourth (suc zero) = second
+four_of first second third fourth (suc (suc zero)) = third
+four_of first second third fourth (suc (suc (suc l))) = fourth
+
+-- The same of the assignments of four words, from word j on, under a mask for each.
+pub record AreSeenFour (n : ℕ) (at : ℕ → ℕ → ℕ) (j : ℕ) (masks : ℕ → ℕ) (seen : ℕ) : Type 0 where
   pub low : seen < 2 ^ 2 ^ n
-  pub only : (t : ℕ) → digit seen t ≡ true → (j : ℕ) × (b : ℕ) × (b < 64) × (64 * j + b < rows) × (at j b ≡ t)
-  pub all : (j b : ℕ) → j < count → b < 64 → 64 * j + b < rows → digit seen (at j b) ≡ true
+  pub only : (t : ℕ) → digit seen t ≡ true → (l : ℕ) × (b : ℕ) × (l < 4) × (b < 64) × (digit (masks l) b ≡ true) × (at (j + l) b ≡ t)
+  pub all : (l b : ℕ) → l < 4 → b < 64 → digit (masks l) b ≡ true → digit seen (at (j + l) b) ≡ true
 
 -- there are rows, and from 64 on they fill whole words
 pub record AreRows (rows : ℕ) : Type 0 where

@@ -6,7 +6,7 @@ use Rattle.std.proofs.lemmas.Bool.{cases_lt, cases_Bool, cond-true, cond-false}
 use Rattle.std.proofs.lemmas.Nat.{shl_whole, or_shifted, or_lt, mul-add-lt}
 use Rattle.std.proofs.lemmas.Nat.Bits.{bit_at-suc, bit_at-zero, bit_at_or, bit_at_ones, bit_at-lt, bit_at_above, bit_at_cat_low, bit_at_cat_high, bit_at_not}
 use Rattle.chain_theory.specs.Operator.{digit}
-use Rattle.lane_sim.specs.Seen.{AreSeen, AreSeenBelow, AreRows}
+use Rattle.lane_sim.specs.Seen.{AreSeen, AreRows}
 use Rattle.lane_sim.specs.WordLaws.{digit_and, some_bit}
 use Rattle.lane_sim.specs.Words.{width_of}
 
@@ -24,14 +24,14 @@ pub no_digit : (t : ℕ) → digit 0 t ≡ true → ⊥
 no_digit t e = true≢false (sym e ∙ ap (λ (x : ℕ). x == 1) (bit_at-zero t))
 
 -- a digit that is 1 stands below the number's end
-digit_below : (n k t : ℕ) → n < 2 ^ k → digit n t ≡ true → t < k
+pub digit_below : (n k t : ℕ) → n < 2 ^ k → digit n t ≡ true → t < k
 digit_below n k t low e =
     ⊎_elim
     (λ (within : t < k). within)
     (λ (past : k ≤ t). absurd (true≢false (sym e ∙ ap (λ (x : ℕ). x == 1) (bit_at_above n k t low past))))
     (cases_lt t k)
 
-digit_one : (t : ℕ) → digit 1 t ≡ true → t ≡ 0
+pub digit_one : (t : ℕ) → digit 1 t ≡ true → t ≡ 0
 digit_one zero e = refl
 digit_one (suc t) e = absurd (no_digit t (sym (ap (λ (x : ℕ). x == 1) (bit_at-suc 1 t)) ∙ e))
 
@@ -40,7 +40,7 @@ not_bits zero low = refl
 not_bits (suc zero) low = refl
 not_bits (suc (suc x)) low = absurd (omega (arith, low))
 
-digit_not : (n i : ℕ) → n < 2 ^ 64 → i < 64 → digit (bit_not w64 n) i ≡ not (digit n i)
+pub digit_not : (n i : ℕ) → n < 2 ^ 64 → i < 64 → digit (bit_not w64 n) i ≡ not (digit n i)
 digit_not n i low within = ap (λ (x : ℕ). x == 1) (bit_at_not w64 n i low within) ∙ not_bits (bit_at n i) (bit_at-lt n i)
 
 pub both_true : (a b : Bool) → (a && b) ≡ true → (a ≡ true) × (b ≡ true)
@@ -96,7 +96,7 @@ seen_end at mask some low zero_at =
       all = λ b low_b e. ap (digit 1) (zero_at b);
     }
 
-zero_plus : (n : ℕ) → 0 + n ≡ n
+pub zero_plus : (n : ℕ) → 0 + n ≡ n
 zero_plus n = omega arith
 
 -- by a signal: where it is 1 the pattern has a digit more
@@ -153,14 +153,7 @@ seen_split n at at' mask word high low few fits split is_high is_low =
     and_true true b ea eb = eb
     and_true false b ea eb = absurd (true≢false (sym ea))
 
--- ---- word after word
-
-pub below_none : (n : ℕ) (at : ℕ → ℕ → ℕ) (rows : ℕ) → AreSeenBelow n at rows 0 0
-below_none n at rows = record {
-  low = above_zero (2 ^ n);
-  only = λ t e. absurd (no_digit t e);
-  all = λ j b low_j low within. absurd (omega arith);
-}
+-- ---- the mask of a word
 
 -- the mask of a word has a digit for each assignment that there is
 pub mask_only : (rows count b : ℕ) → AreRows rows → count < width_of rows → b < 64 → digit (2 ^ min rows 64 - 1) b ≡ true → 64 * count + b < rows
@@ -175,31 +168,3 @@ mask_only rows count b are within low e =
 
 pub mask_all : (rows count b : ℕ) → b < 64 → 64 * count + b < rows → digit (2 ^ min rows 64 - 1) b ≡ true
 mask_all rows count b low within = ap (λ (x : ℕ). x == 1) (bit_at_ones (min rows 64) b (omega (arith, low, within)))
-
-pub below_more : (n : ℕ) (at : ℕ → ℕ → ℕ) (rows count seen more : ℕ) → AreRows rows → count < width_of rows → AreSeenBelow n at rows count seen → AreSeen n (at count) (2 ^ min rows 64 - 1) more → AreSeenBelow n at rows (count + 1) (bit_or seen more)
-below_more n at rows count seen more are within before here = record {
-  low = or_lt (2 ^ n) seen more before.low here.low;
-  only = λ t e.
-      ⊎_elim
-      (λ (l : digit seen t ≡ true). before.only t l)
-      (λ (r : digit more t ≡ true).
-      let x = here.only t r in
-      (count, x.0, x.1, mask_only rows count x.0 are within x.1 x.2, x.3))
-      (digit_or seen more t e);
-  all = λ j b low_j low row.
-      ⊎_elim
-      (λ (earlier : j < count). digit_or_left seen more (at j b) (before.all j b earlier low row))
-      (λ (past : count ≤ j).
-      let same : j ≡ count = omega arith in
-      subst (λ (k : ℕ). digit (bit_or seen more) (at k b) ≡ true) (sym same)
-      (digit_or_right seen more (at count b) (here.all b low (mask_all rows count b low (subst (λ (k : ℕ). 64 * k + b < rows) same row)))))
-      (cases_lt j count);
-}
-
--- where all patterns were seen, no further word has another
-pub below_full : (n : ℕ) (at : ℕ → ℕ → ℕ) (rows count count' seen : ℕ) → ((j b : ℕ) → at j b < 2 ^ n) → seen ≡ 2 ^ 2 ^ n - 1 → AreSeenBelow n at rows count seen → AreSeenBelow n at rows count' seen
-below_full n at rows count count' seen fits full are = record {
-  low = are.low;
-  only = are.only;
-  all = λ j b low_j low row. ap (λ (x : ℕ). digit x (at j b)) full ∙ ap (λ (x : ℕ). x == 1) (bit_at_ones (2 ^ n) (at j b) (fits j b));
-}

@@ -1,5 +1,5 @@
-//! Which patterns signals show under some of the assignments: those that give a further signal the bit 1, or those that
-//! words name.
+//! Which patterns signals show under all assignments, under those that give a further signal the bit 1, or under those
+//! that words name. Four words are taken at a time, and where all patterns were seen the search ends.
 
 ghost use Rattle.std.specs.Prelude.{◌≡◌, ℕ, ◌*◌, ◌/◌, ◌%◌, ◌≤◌, ◌<◌, ◌^◌, length, slice_index_or, All};
 ghost use Rattle.chain_theory.specs.Operator.{digit};
@@ -8,16 +8,52 @@ ghost use Rattle.lane_sim.specs.Chosen.{chosen_at, AreChosenBelow};
 ghost use Rattle.lane_sim.specs.Combining.{EndsBefore};
 ghost use Rattle.lane_sim.specs.Cone.{IsSigAmong, places, value_in};
 ghost use Rattle.lane_sim.specs.Seen.{pattern_at, AreRows, AllEnd};
-ghost use Rattle.lane_sim.specs.Words.{AreWords, ArePatternsOf, width_of as width_of_rows};
+ghost use Rattle.lane_sim.specs.Words.{AreWords, ArePatterns, ArePatternsOf, width_of as width_of_rows};
 
 use crate::cone::Cone;
-use crate::rows::{Operand, word};
-use crate::showing::{fill_operands, operand_in, seen, word_mask};
+use crate::rows::{Operand, four_words, word};
+use crate::showing::{fill_operands, ones, operand_in, seen, seen_four, word_mask};
 use crate::words::{Words, lanes_of, rows_of, width_of};
 use net_theory::Sig;
 
-/// The patterns of the operands' rows under the assignments at which the chosen row, which stands among other words,
-/// is 1.
+/// The patterns of whole fours of words of the operands' rows, under the assignments at which the chosen row, which
+/// stands among other words, is 1.
+fn seen_in_fours(
+    lanes: &[u64],
+    rows: u32,
+    operands: &[Operand],
+    words: &[u64],
+    chosen: Operand,
+) -> u64
+    requires few { length operands.now ≤ 6 }
+    requires rows { AreRows rows }
+    requires ends { AllEnd (length lanes.now) (width_of_rows rows) operands.now }
+    requires end { EndsBefore (length words.now) (width_of_rows rows) chosen }
+    ensures { AreChosenBelow (length operands.now) (pattern_at lanes.now operands.now) (chosen_at words.now chosen) rows (width_of_rows rows / 4 * 4) result }
+{
+    let mut found = 0;
+    for block in 0..width_of(rows) / 4 {
+        let j = block * 4;
+        let mask = word_mask(rows);
+        let w = four_words(words, chosen, j);
+        found |= seen_four(
+            mask & w.first,
+            mask & w.second,
+            mask & w.third,
+            mask & w.fourth,
+            lanes,
+            operands,
+            j,
+        );
+        if found == ones(1u32 << operands.len()) {
+            return found;
+        }
+    }
+    found
+}
+
+/// The patterns of the operands' rows under the assignments at which the chosen row is 1. What is left of whole fours of
+/// words goes word by word.
 fn seen_chosen(
     lanes: &[u64],
     rows: u32,
@@ -31,12 +67,29 @@ fn seen_chosen(
     requires end { EndsBefore (length words.now) (width_of_rows rows) chosen }
     ensures { AreChosenBelow (length operands.now) (pattern_at lanes.now operands.now) (chosen_at words.now chosen) rows (width_of_rows rows) result }
 {
-    let mut found = 0;
-    for j in 0..width_of(rows) {
+    let mut found = seen_in_fours(lanes, rows, operands, words, chosen);
+    for j in width_of(rows) / 4 * 4..width_of(rows) {
         let mask = word_mask(rows) & word(words, chosen, j);
         found |= seen(mask, lanes, operands, j);
     }
     found
+}
+
+/// The mask of the patterns that the signals show: digit `t` is 1 exactly where some assignment of the leaves
+/// gives the signals the bits of `t`, the first signal's the most significant.
+pub fn patterns(words: &Words, cone: &Cone, signals: &[Sig]) -> u64
+    requires few { length signals.now ≤ 6 }
+    requires known { All (IsSigAmong (places cone.now)) signals.now }
+    requires words { AreWords cone.now words.now }
+    ensures { ArePatterns cone.now signals.now result }
+{
+    let lanes = lanes_of(words);
+    let rows = rows_of(words);
+    let width = width_of(rows);
+    let mut operands = [Operand::Zero; 6];
+    fill_operands(&mut operands, cone, width, signals);
+    let (used, _) = operands.split_at(signals.len());
+    seen_chosen(lanes, rows, used, lanes, Operand::One)
 }
 
 /// The mask of the patterns that the signals show where a further signal is 1: digit `t` is 1 exactly where some

@@ -18,9 +18,8 @@ mod showing;
 mod simulation;
 mod words;
 
-pub use choosing::{patterns_on, patterns_where};
+pub use choosing::{patterns, patterns_on, patterns_where};
 pub use cone::Cone;
 pub use net_theory::{Gate, Sig};
-pub use showing::patterns;
 pub use simulation::cone_words;
 pub use words::{Words, lanes_of};

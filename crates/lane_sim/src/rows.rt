@@ -30,7 +30,53 @@ pub fn word(lanes: &[u64], operand: Operand, j: usize) -> u64
     }
 }
 
-/// Four words of an operand.
+/// Quad words, one after the other.
+#[derive(Clone, Copy, Debug)]
+pub struct Quad {
+    pub first: u64,
+    pub second: u64,
+    pub third: u64,
+    pub fourth: u64,
+}
+
+/// Quad words of an operand, each by itself.
+pub fn four_words(lanes: &[u64], operand: Operand, j: usize) -> Quad
+    requires { EndsBefore (length lanes.now) (j + 4) operand }
+    ensures first { result.first ≡ operand_word lanes.now operand j }
+    ensures second { result.second ≡ operand_word lanes.now operand (j + 1) }
+    ensures third { result.third ≡ operand_word lanes.now operand (j + 2) }
+    ensures fourth { result.fourth ≡ operand_word lanes.now operand (j + 3) }
+    ensures small_first { result.first < 2 ^ 64 }
+    ensures small_second { result.second < 2 ^ 64 }
+    ensures small_third { result.third < 2 ^ 64 }
+    ensures small_fourth { result.fourth < 2 ^ 64 }
+{
+    match operand {
+        Operand::Zero => Quad {
+            first: 0,
+            second: 0,
+            third: 0,
+            fourth: 0,
+        },
+        Operand::One => Quad {
+            first: u64::MAX,
+            second: u64::MAX,
+            third: u64::MAX,
+            fourth: u64::MAX,
+        },
+        Operand::Row(start) => {
+            let at = start + j;
+            Quad {
+                first: lanes[at],
+                second: lanes[at + 1],
+                third: lanes[at + 2],
+                fourth: lanes[at + 3],
+            }
+        }
+    }
+}
+
+/// Quad words of an operand.
 fn four(lanes: &[u64], operand: Operand, j: usize) -> u64x4
     requires { EndsBefore (length lanes.now) (j + 4) operand }
     ensures value { result ≡ operand_four lanes.now operand j }

@@ -1,20 +1,18 @@
-//! Which patterns signals show under some assignment. A word's assignments are split by one signal after the
-//! other, and where none is left the search stops; it ends with the word by which all patterns were seen.
+//! Which patterns operands show under the assignments of a word, or of four words. They are split by one operand after
+//! the other, and where none is left the search stops.
 
 ghost use Rattle.std.specs.Prelude.{◌≡◌, ℕ, ◌+◌, ◌-◌, ◌*◌, ◌≤◌, ◌<◌, ◌^◌, length, min, slice_get, slice_index_or, All, IfSome, IfNone};
 ghost use Rattle.net_theory.specs.declared.data.Gate.{Gate as GateValue};
 ghost use Rattle.lane_sim.specs.Cone.{IsSigAmong, places, place_of};
 ghost use Rattle.lane_sim.specs.Rows.{IsOperandOf};
-ghost use Rattle.lane_sim.specs.Seen.{pattern_at, AreSeen, AreSeenBelow, AreRows, AllEnd, AreOperands};
-ghost use Rattle.lane_sim.specs.Words.{AreWords, ArePatterns, width_of as width_of_rows};
+ghost use Rattle.lane_sim.specs.Seen.{pattern_at, four_of, AreSeen, AreSeenFour, AllEnd, AreOperands};
 
 use crate::cone::Cone;
-use crate::rows::{Operand, word};
-use crate::words::{Words, lanes_of, rows_of, width_of};
+use crate::rows::{Operand, four_words, word};
 use net_theory::{Gate, Sig};
 
 /// So many ones.
-fn ones(count: u32) -> u64
+pub(crate) fn ones(count: u32) -> u64
     requires some { 1 ≤ count }
     requires few { count ≤ 64 }
     ensures { result ≡ 2 ^ count - 1 }
@@ -49,21 +47,47 @@ pub(crate) fn seen(mask: u64, lanes: &[u64], operands: &[Operand], j: usize) -> 
     (high << step) | low
 }
 
-/// The patterns of the operands' rows under all assignments.
-fn seen_rows(lanes: &[u64], rows: u32, operands: &[Operand]) -> u64
+/// The patterns of four of the operands' words, one after the other, under the assignments of four masks.
+pub(crate) fn seen_four(
+    first: u64,
+    second: u64,
+    third: u64,
+    fourth: u64,
+    lanes: &[u64],
+    operands: &[Operand],
+    j: usize,
+) -> u64
     requires few { length operands.now ≤ 6 }
-    requires rows { AreRows rows }
-    requires ends { AllEnd (length lanes.now) (width_of_rows rows) operands.now }
-    ensures { AreSeenBelow (length operands.now) (pattern_at lanes.now operands.now) rows (width_of_rows rows) result }
+    requires ends { AllEnd (length lanes.now) (j + 4) operands.now }
+    ensures { AreSeenFour (length operands.now) (pattern_at lanes.now operands.now) j (four_of first second third fourth) result }
 {
-    let mut found = 0;
-    for j in 0..width_of(rows) {
-        found |= seen(word_mask(rows), lanes, operands, j);
-        if found == ones(1u32 << operands.len()) {
-            return found;
-        }
+    if first | second | third | fourth == 0 {
+        return 0;
     }
-    found
+    let Some((operand, rest)) = operands.split_first() else {
+        return 1;
+    };
+    let w = four_words(lanes, *operand, j);
+    let high = seen_four(
+        first & w.first,
+        second & w.second,
+        third & w.third,
+        fourth & w.fourth,
+        lanes,
+        rest,
+        j,
+    );
+    let low = seen_four(
+        first & !w.first,
+        second & !w.second,
+        third & !w.third,
+        fourth & !w.fourth,
+        lanes,
+        rest,
+        j,
+    );
+    let step = 1u32 << rest.len();
+    (high << step) | low
 }
 
 /// Where a place stands among the leaves.
@@ -124,20 +148,4 @@ pub(crate) fn fill_operands(operands: &mut [Operand], cone: &Cone, width: usize,
     for i in 0..signals.len() {
         operands[i] = operand_in(cone, width, signals[i]);
     }
-}
-
-/// The mask of the patterns that the signals show: digit `t` is 1 exactly where some assignment of the leaves
-/// gives the signals the bits of `t`, the first signal's the most significant.
-pub fn patterns(words: &Words, cone: &Cone, signals: &[Sig]) -> u64
-    requires few { length signals.now ≤ 6 }
-    requires known { All (IsSigAmong (places cone.now)) signals.now }
-    requires words { AreWords cone.now words.now }
-    ensures { ArePatterns cone.now signals.now result }
-{
-    let lanes = lanes_of(words);
-    let rows = rows_of(words);
-    let mut operands = [Operand::Zero; 6];
-    fill_operands(&mut operands, cone, width_of(rows), signals);
-    let (used, _) = operands.split_at(signals.len());
-    seen_rows(lanes, rows, used)
 }

@@ -15,6 +15,9 @@ use indexmap::IndexSet;
 use net_theory::{Gate, Sig};
 use std::alloc::{AllocError, Global};
 
+/// For how many signals there is room from the beginning; few cones have more.
+const ROOM: usize = 32;
+
 /// The row of a signal, by the places whose rows there are.
 #[tactic(auto, using(crate::specs::PlaceLaws::found_at))]
 fn operand(places: &IndexSet<u32>, width: usize, sig: Sig) -> Operand
@@ -80,8 +83,8 @@ pub fn cone_words(alloc: Global, cone: &Cone) -> Result<Words, AllocError>
 {
     let rows = 1u32 << cone.leaves().len();
     let width = width_of(rows);
-    let mut lanes = Vec::new(alloc);
-    let mut places = IndexSet::new(alloc);
+    let mut lanes = Vec::with_capacity(alloc, width.saturating_mul(ROOM))?;
+    let mut places = IndexSet::with_capacity(alloc, ROOM)?;
     simulate_leaves(&mut lanes, &mut places, width, cone)?;
     simulate_gates(&mut lanes, &mut places, width, cone)?;
     Ok(Words { lanes, rows })

@@ -29,7 +29,7 @@ pub fn all_inputs(alloc: Global, net: &Net, gates: &[u32]) -> Result<Vec<u32>, A
     requires { (p : ℕ) → among gates.now p ≡ true → IsGate net.now p }
     ensures { IfOk result (λ inputs. AreJust (IsInput net.now gates.now) inputs.items) }
 {
-    let mut inputs = Vec::new(alloc);
+    let mut inputs = Vec::with_capacity(alloc, 16)?;
     let mut left = gates;
     while let Some((place, rest)) = left.split_first() {
         let gate = gate_at(net, *place);

@@ -107,7 +107,7 @@ pub fn take_gates(
     ensures count { IfOk result (λ answer. IfSome answer (λ taken. length taken.items ≡ count)) }
     ensures none { IfOk result (λ answer. IfNone answer ((w : window.Window) → IsWindow net.now root partner count w → ⊥)) }
 {
-    let mut taken = Vec::new(alloc);
+    let mut taken = Vec::with_capacity(alloc, 8)?;
     for _taken in 0..count {
         let Some(place) = next_gate(net, root, partner, &taken) else {
             return Ok(None);

@@ -77,7 +77,7 @@ pub fn all_outputs(
     ensures outputs { IfOk result (λ outputs. AreJust (IsOutput net.now gates.now) outputs.items) }
     ensures few { IfOk result (λ outputs. length outputs.items ≤ length gates.now) }
 {
-    let mut outputs = Vec::new(alloc);
+    let mut outputs = Vec::with_capacity(alloc, 8)?;
     let mut left = gates;
     while let Some((place, rest)) = left.split_first() {
         if is_output(net, readers, gates, *place) {

@@ -4,7 +4,7 @@ use Rattle.window_core.specs.EndsLaws.{found_start, found_more, found_end, put_o
 use Rattle.window_core.proofs.ends.all_inputs.Goals as goal
 
 pub loop-place-init : goal.loop-place-init
-loop-place-init c = found_start c.args.net.now c.args.gates.now c.new-inputs.result.items c.new-inputs.ensures.items
+loop-place-init c = found_start c.args.net.now c.args.gates.now c.in_ok-inputs.inputs.items c.in_ok-inputs.ensures.items
 
 pub loop-place-preserved : goal.loop-place-preserved
 loop-place-preserved c =

@@ -5,8 +5,8 @@ use Rattle.window_core.proofs.growing.take_gates.Goals as goal
 
 pub loop-taken-init : goal.loop-taken-init
 loop-taken-init c = record {
-  are = subst (AreTaken c.args.net.now c.args.root c.args.partner) (sym c.new-taken.ensures.items) (none_taken c.args.net.now c.args.root c.args.partner);
-  count = ap (length {A = ℕ}) c.new-taken.ensures.items;
+  are = subst (AreTaken c.args.net.now c.args.root c.args.partner) (sym c.in_ok-taken.ensures.items) (none_taken c.args.net.now c.args.root c.args.partner);
+  count = ap (length {A = ℕ}) c.in_ok-taken.ensures.items;
 }
 
 pub returns-in_default-clause-none : goal.returns-in_default-clause-none

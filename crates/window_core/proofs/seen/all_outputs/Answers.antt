@@ -3,7 +3,7 @@ use Rattle.window_core.specs.SeenLaws.{shown_start, shown_on, shown_off, shown_e
 use Rattle.window_core.proofs.seen.all_outputs.Goals as goal
 
 pub loop-place-init : goal.loop-place-init
-loop-place-init c = shown_start c.args.net.now c.args.gates.now c.new-outputs.result.items c.requires.rising c.new-outputs.ensures.items
+loop-place-init c = shown_start c.args.net.now c.args.gates.now c.in_ok-outputs.outputs.items c.requires.rising c.in_ok-outputs.ensures.items
 
 pub is_output-requires-clause-inside : goal.is_output-requires-clause-inside
 is_output-requires-clause-inside c = shown_inside c.args.net.now c.args.gates.now c.loop-place.left.now c.in-Some.place.now c.in-Some.rest.now c.loop-place.outputs.items c.in-Some.ensures.cases.0 c.loop-place.invariant
