@@ -1,5 +1,5 @@
 //! Netlists through the improvement by windows, with settings, and the report.
-ghost use Rattle.settings.specs.Improve.{IsInRange};
+ghost use Rattle.improve_settings.specs.Improve.{IsInRange};
 ghost use Rattle.bench_core.specs.Bench.{bench_format};
 ghost use Rattle.improve_windows.specs.Improving.{FitsFormat};
 
