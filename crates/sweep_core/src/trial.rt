@@ -1,8 +1,8 @@
 //! What the sweep asks of whoever tries a window.
 use crate::visit::Visit;
 use bundle_core::Bundle;
-use net_core::Net;
 use improve_settings::ImproveSettings;
+use net_core::Net;
 use std::alloc::{AllocError, Global};
 
 /// What a visit came to.

@@ -4,8 +4,8 @@ ghost use Rattle.improve_settings.specs.Improve.{IsInRange};
 ghost use Rattle.window_trial.specs.Improvement.{Leaves};
 
 use crate::trying::WindowTrial;
-use net_core::{Net, drop_dead};
 use improve_settings::ImproveSettings;
+use net_core::{Net, drop_dead};
 use std::alloc::{AllocError, Global};
 use sweep_core::{Swept, Undecided, sweep};
 

@@ -21,7 +21,7 @@ mod partners;
 mod replacing;
 mod trying;
 
-pub use improving::{ImprovedNet, improve_net};
 pub use improve_settings::ImproveSettings;
+pub use improving::{ImprovedNet, improve_net};
 pub use sweep_core::{Undecided, Visit};
 pub use trying::WindowTrial;
