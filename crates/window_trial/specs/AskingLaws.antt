@@ -1,11 +1,10 @@
 -- What is asked of a window, by whether unseen rows are left out of account.
 use Rattle.std.specs.Prelude.{◌≡◌, ℕ, Bool, true, false}
 use Rattle.std.proofs.Common.{sym, subst}
-use Rattle.std.proofs.lemmas.Bool.{both_ways}
 use Rattle.std.proofs.lemmas.Grind.{common_steps}
 use Rattle.chain_theory.specs.Operator.{Basis}
-use Rattle.chain_theory.specs.Chain.{Chain, IsChain}
-use Rattle.chain_theory.specs.Agreement.{Agrees, NoneBelow}
+use Rattle.chain_theory.specs.Chain.{Chain}
+use Rattle.chain_theory.specs.Agreement.{NoneBelow}
 use Rattle.chain_theory.specs.Specification.{Specification}
 use Rattle.net_theory.specs.Net.{Net}
 use Rattle.window_theory.specs.Window.{Window}

@@ -2,7 +2,6 @@
 use Rattle.std.specs.Prelude.{◌≡◌, ℕ, ◌+◌, ◌≤◌, ◌<◌, List, length, Option, refl}
 use Rattle.std.proofs.Common.{arith, sym, ◌∙◌, ap, subst}
 use Rattle.std.proofs.lemmas.Grind.{common_steps}
-use Rattle.chain_theory.specs.Operator.{Basis}
 use Rattle.chain_theory.specs.Chain.{Chain}
 use Rattle.chain_theory.specs.Agreement.{IsOver, NoneBelow}
 use Rattle.tt_core.specs.Words.{Words, IsSpec, specification}
