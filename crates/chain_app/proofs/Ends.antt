@@ -9,7 +9,7 @@ use Rattle.frame_core.specs.declared.status.Status.TheVariants.{Done, Usage}
 use Rattle.frame_core.specs.Run.{Run, Outcome, IsRun}
 use Rattle.chain_app.specs.Ending.{Ending, Idle, Ran, IsIdle, IsEnding}
 use Rattle.frame_core.specs.Promise.{AllSteady, CommandPromise}
-use Rattle.settings.specs.declared.improve.ImproveSettings.{ImproveSettings}
+use Rattle.improve_settings.specs.declared.improve.ImproveSettings.{ImproveSettings}
 use Rattle.net_document.specs.Format.{IsNetlist}
 use Rattle.chain_app.specs.ImproveReport.{FormatAsked, format_of, most_of_netlist}
 use Rattle.chain_app.specs.Runs.{Runs}

@@ -10,7 +10,7 @@ use Rattle.net_document.specs.FormatLaws.{fault_one, fault_never}
 use Rattle.blif_text.specs.ListingLaws as tables
 use Rattle.bench_text.specs.ListingLaws as gates
 use Rattle.op_basis.specs.Text.{bench_set}
-use Rattle.settings.specs.declared.improve.ImproveSettings.{ImproveSettings}
+use Rattle.improve_settings.specs.declared.improve.ImproveSettings.{ImproveSettings}
 use Rattle.improve_windows.specs.Improving.{FitsFormat, IsReported}
 use Rattle.improve_windows.specs.FitsLaws.{fits_bench}
 use Rattle.command_line.specs.declared.command.Command.TheVariants.{Improve}

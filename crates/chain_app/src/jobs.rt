@@ -13,8 +13,9 @@ ghost use Rattle.chain_app.specs.GenReport.{gen_task};
 use crate::{agree, equiv, improve, netlists, synth};
 use command_line::{Deed, Format};
 use frame_core::{Ended, Job, finish};
+use improve_settings::ImproveSettings;
 use port_io::Sink;
-use settings::{ImproveSettings, SynthSettings};
+use settings::SynthSettings;
 use std::alloc::Global;
 
 /// Whether a chain agrees with tables.

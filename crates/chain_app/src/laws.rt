@@ -2,7 +2,7 @@
 ghost use Rattle.std.specs.Prelude.{◌≡◌, ◌↔◌, ℕ, ◌≤◌, List, length, Ok};
 ghost use Rattle.command_line.specs.declared.command.Command.{Command};
 ghost use Rattle.command_line.specs.declared.command.Command.TheVariants.{Improve};
-ghost use Rattle.settings.specs.declared.improve.ImproveSettings.{ImproveSettings};
+ghost use Rattle.improve_settings.specs.declared.improve.ImproveSettings.{ImproveSettings};
 ghost use Rattle.net_document.specs.Format.{IsNetlist};
 ghost use Rattle.chain_app.specs.Agree.{Question, question_of};
 ghost use Rattle.chain_app.specs.Asked.{AsksQuestion};

@@ -10,9 +10,9 @@ use Rattle.op_basis.specs.ListLaws.{basis_some}
 use Rattle.op_basis.specs.declared.error.BasisError.{BasisError}
 use Rattle.enc_theory.specs.declared.data.Method.{Method}
 use Rattle.settings.specs.declared.synth.SynthSettings.{SynthSettings}
-use Rattle.settings.specs.declared.improve.ImproveSettings.{ImproveSettings}
+use Rattle.improve_settings.specs.declared.improve.ImproveSettings.{ImproveSettings}
 use Rattle.settings.specs.Synth.{IsInRange}
-use Rattle.settings.specs.Improve as improver
+use Rattle.improve_settings.specs.Improve as improver
 use Rattle.command_line.specs.declared.command.Command.{Command}
 use Rattle.command_line.specs.declared.command.Command.TheVariants as commands
 use Rattle.command_line.specs.declared.table.Kind.{Kind}
@@ -20,7 +20,7 @@ use Rattle.command_line.specs.declared.table.Kind.TheVariants.{Agree, Recheck, S
 use Rattle.command_line.specs.declared.command.Deed.{Deed}
 use Rattle.command_line.specs.declared.command.Format.{Format}
 use Rattle.command_line.specs.declared.command.Format.TheVariants.{Blif, Bench}
-use Rattle.command_line.specs.Options.{Row, from_on, number_within, basis_or_none, basis_in, is_within, if_of_gates, basis_row, gates_row, format_basis_row, method_row, max_row, conflicts_row, cap_row, rounds_row, format_row, blocks_row, run_row, kind_named, options_of}
+use Rattle.command_line.specs.Options.{Row, from_on, number_within, basis_or_none, basis_in, is_within, if_of_gates, basis_row, gates_row, format_basis_row, method_row, max_row, conflicts_row, cap_row, rounds_row, format_row, observe_row, blocks_row, run_row, kind_named, options_of}
 use Rattle.command_line.specs.CommandLine.{word_behind, are_options, value_in, value, synth_from, settings_from, settings_for, improve_with, improve_for, equiv_from, gen_from, command_with, command_in, command_of, HasGatesOf, IsAsked, IsAskable}
 
 pub some_is : {A : Type 0} (a b : A) → Some a ≡ Some b → a ≡ b
@@ -71,15 +71,16 @@ synth_made (Some b) None max conflicts c e = absurd cc
 synth_made None method max conflicts c e = absurd cc
 
 -- the settings of `improve` are the values of all its options
-pub record AreSettingsOf (basis : Option ℕ) (method : Option Method) (cap rounds conflicts : Option ℕ) (s : ImproveSettings) : Type 0 where
+pub record AreSettingsOf (basis : Option ℕ) (method : Option Method) (cap rounds conflicts : Option ℕ) (observe : Option Bool) (s : ImproveSettings) : Type 0 where
   pub basis_is : basis ≡ Some s.basis
   pub method_is : method ≡ Some s.method
   pub cap_is : cap ≡ Some s.cap
   pub rounds_is : rounds ≡ Some s.rounds
   pub conflicts_is : conflicts ≡ Some s.conflicts
+  pub observe_is : observe ≡ Some s.observe
 
-settings_made : (basis : Option ℕ) (method : Option Method) (cap rounds conflicts : Option ℕ) (s : ImproveSettings) → settings_from basis method cap rounds conflicts ≡ Some s → AreSettingsOf basis method cap rounds conflicts s
-settings_made (Some b) (Some m) (Some n) (Some r) (Some x) s e =
+settings_made : (basis : Option ℕ) (method : Option Method) (cap rounds conflicts : Option ℕ) (observe : Option Bool) (s : ImproveSettings) → settings_from basis method cap rounds conflicts observe ≡ Some s → AreSettingsOf basis method cap rounds conflicts observe s
+settings_made (Some b) (Some m) (Some n) (Some r) (Some x) (Some o) s e =
     let same = some_is _ s e in
     record {
       basis_is = ap (λ (t : ImproveSettings). Some t.basis) same;
@@ -87,19 +88,21 @@ settings_made (Some b) (Some m) (Some n) (Some r) (Some x) s e =
       cap_is = ap (λ (t : ImproveSettings). Some t.cap) same;
       rounds_is = ap (λ (t : ImproveSettings). Some t.rounds) same;
       conflicts_is = ap (λ (t : ImproveSettings). Some t.conflicts) same;
+      observe_is = ap (λ (t : ImproveSettings). Some t.observe) same;
     }
-settings_made (Some b) (Some m) (Some n) (Some r) None s e = absurd cc
-settings_made (Some b) (Some m) (Some n) None conflicts s e = absurd cc
-settings_made (Some b) (Some m) None rounds conflicts s e = absurd cc
-settings_made (Some b) None cap rounds conflicts s e = absurd cc
-settings_made None method cap rounds conflicts s e = absurd cc
+settings_made (Some b) (Some m) (Some n) (Some r) (Some x) None s e = absurd cc
+settings_made (Some b) (Some m) (Some n) (Some r) None observe s e = absurd cc
+settings_made (Some b) (Some m) (Some n) None conflicts observe s e = absurd cc
+settings_made (Some b) (Some m) None rounds conflicts observe s e = absurd cc
+settings_made (Some b) None cap rounds conflicts observe s e = absurd cc
+settings_made None method cap rounds conflicts observe s e = absurd cc
 
-pub settings_back : (basis : Option ℕ) (method : Option Method) (cap rounds conflicts : Option ℕ) (s : ImproveSettings) → AreSettingsOf basis method cap rounds conflicts s → settings_from basis method cap rounds conflicts ≡ Some s
-settings_back basis method cap rounds conflicts s are = rw (are.basis_is, are.method_is, are.cap_is, are.rounds_is, are.conflicts_is) refl
+pub settings_back : (basis : Option ℕ) (method : Option Method) (cap rounds conflicts : Option ℕ) (observe : Option Bool) (s : ImproveSettings) → AreSettingsOf basis method cap rounds conflicts observe s → settings_from basis method cap rounds conflicts observe ≡ Some s
+settings_back basis method cap rounds conflicts observe s are = rw (are.basis_is, are.method_is, are.cap_is, are.rounds_is, are.conflicts_is, are.observe_is) refl
 
 -- those of words, by a format
 abbrev pub AreSettingsIn : List (List ℕ) → Format → ImproveSettings → Type 0
-AreSettingsIn words f s = AreSettingsOf (value (format_basis_row f) words) (value method_row words) (value cap_row words) (value rounds_row words) (value conflicts_row words) s
+AreSettingsIn words f s = AreSettingsOf (value (format_basis_row f) words) (value method_row words) (value cap_row words) (value rounds_row words) (value conflicts_row words) (value observe_row words) s
 
 -- words ask `improve` for a format, with settings
 pub record IsImproveIn (words : List (List ℕ)) (c : Command) : Type 0 where
@@ -117,7 +120,7 @@ improve_made : (words : List (List ℕ)) (o : Option Format) (c : Command) → v
 improve_made words None c is e = absurd cc
 improve_made words (Some f) c is e =
     let made = with_made f (settings_for f words) c e in
-    record { f = f; s = made.0; is = made.2; format_is = is; are = settings_made _ _ _ _ _ made.0 made.1 }
+    record { f = f; s = made.0; is = made.2; format_is = is; are = settings_made _ _ _ _ _ _ made.0 made.1 }
 
 pub improve_in_made : (words : List (List ℕ)) (c : Command) → command_with Improve words ≡ Some c → IsImproveIn words c
 improve_in_made words c e = improve_made words (value format_row words) c refl e

@@ -12,13 +12,13 @@ use Rattle.std.proofs.lemmas.List.Sorted.{All-permutation, Contains-permutation,
 use Rattle.std.proofs.lemmas.Map.Keys.{IsDistinct-cons, IsDistinct-head, IsDistinct-tail, IsDistinct-IsPermutation}
 use Rattle.std.proofs.lemmas.Map.Made.{is_some-lookup}
 use Rattle.std.proofs.lemmas.Map.Views.{lookup-from_Contains, Contains-from_lookup}
-use Rattle.settings.specs.declared.improve.ImproveSettings.{ImproveSettings}
+use Rattle.improve_settings.specs.declared.improve.ImproveSettings.{ImproveSettings}
 use Rattle.command_line.specs.declared.command.Command.{Command}
 use Rattle.command_line.specs.declared.command.Command.TheVariants as commands
 use Rattle.command_line.specs.declared.table.Kind.{Kind}
 use Rattle.command_line.specs.declared.table.Kind.TheVariants.{Agree, Recheck, Synth, Improve, Equiv, Gen}
 use Rattle.command_line.specs.declared.command.Format.{Format}
-use Rattle.command_line.specs.Options.{Row, is_word, is_among, basis_row, format_basis_row, method_row, max_row, conflicts_row, cap_row, rounds_row, format_row, blocks_row, run_row, kind_text, kind_named, options_of}
+use Rattle.command_line.specs.Options.{Row, is_word, is_among, basis_row, format_basis_row, method_row, max_row, conflicts_row, cap_row, rounds_row, format_row, observe_row, blocks_row, run_row, kind_text, kind_named, options_of}
 use Rattle.command_line.specs.CommandLine.{word_behind, is_named, are_options, value_in, value, improve_with, improve_for, command_with, command_in, command_of, AsksFor}
 use Rattle.command_line.specs.Spelling.{Pair, both, flat, Gives, GivesSynth, GivesImprove, GivesGen, GivesAll, kind_of, Spells}
 use Rattle.command_line.proofs.Ranges.{some_is, passed, synth_made, AreSettingsIn, settings_back, improve_in_made, equiv_made, gen_made}
@@ -172,6 +172,7 @@ made Improve pairs c once e =
       cap = gives cap_row pairs m.s.cap once m.are.cap_is;
       rounds = gives rounds_row pairs m.s.rounds once m.are.rounds_is;
       conflicts = gives conflicts_row pairs m.s.conflicts once m.are.conflicts_is;
+      observe = gives observe_row pairs m.s.observe once m.are.observe_is;
     } in
     subst (λ (d : Command). IsMade Improve pairs d) m.is (refl, all)
 made Equiv pairs c once e =
@@ -192,12 +193,13 @@ settings_are f pairs s once all = record {
   cap_is = value_is cap_row pairs s.cap once all.cap;
   rounds_is = value_is rounds_row pairs s.rounds once all.rounds;
   conflicts_is = value_is conflicts_row pairs s.conflicts once all.conflicts;
+  observe_is = value_is observe_row pairs s.observe once all.observe;
 }
 
 improve_back : (f : Format) (pairs : List Pair) (s : ImproveSettings) → IsDistinct is_word (keys_of pairs) → GivesImprove pairs f s → command_with Improve (flat pairs) ≡ Some (commands.Improve f s)
 improve_back f pairs s once all =
     ap (improve_for (flat pairs)) (value_is format_row pairs f once all.format_is)
-    ∙ ap (improve_with f) (settings_back _ _ _ _ _ s (settings_are f pairs s once all))
+    ∙ ap (improve_with f) (settings_back _ _ _ _ _ _ s (settings_are f pairs s once all))
 
 made_back : (c : Command) (pairs : List Pair) → IsDistinct is_word (keys_of pairs) → GivesAll pairs c → command_with (kind_of c) (flat pairs) ≡ Some c
 made_back commands.Agree pairs once all = refl
@@ -225,6 +227,7 @@ given_again (commands.Improve f s) pairs other moved all = record {
   cap = gives_again cap_row pairs other s.cap moved all.cap;
   rounds = gives_again rounds_row pairs other s.rounds moved all.rounds;
   conflicts = gives_again conflicts_row pairs other s.conflicts moved all.conflicts;
+  observe = gives_again observe_row pairs other s.observe moved all.observe;
 }
 given_again (commands.Equiv budget) pairs other moved all = gives_again conflicts_row pairs other budget moved all
 given_again (commands.Gen blocks deed) pairs other moved all = record {

@@ -5,8 +5,8 @@ use Rattle.std.specs.String.{string_bytes}
 use Rattle.enc_theory.specs.declared.data.Method.{Method}
 use Rattle.settings.specs.Synth.{most_conflicts, IsInRange}
 use Rattle.op_basis.specs.Text.{bench_set}
-use Rattle.settings.specs.declared.improve.ImproveSettings.{ImproveSettings}
-use Rattle.settings.specs.Improve as improver
+use Rattle.improve_settings.specs.declared.improve.ImproveSettings.{ImproveSettings}
+use Rattle.improve_settings.specs.Improve as improver
 use Rattle.command_line.specs.declared.command.Command.{Command}
 use Rattle.command_line.specs.declared.command.Command.TheVariants as commands
 use Rattle.command_line.specs.declared.command.WordsError.{WordsError}
@@ -16,7 +16,7 @@ use Rattle.command_line.specs.declared.table.Kind.TheVariants as kinds
 use Rattle.command_line.specs.declared.command.Deed.{Deed}
 use Rattle.command_line.specs.declared.command.Format.{Format}
 use Rattle.command_line.specs.declared.command.Format.TheVariants.{Blif, Bench}
-use Rattle.command_line.specs.Options.{Row, is_word, is_among, is_within, basis_row, format_basis_row, method_row, max_row, conflicts_row, cap_row, rounds_row, format_row, most_blocks, blocks_row, run_row, kind_named, options_of}
+use Rattle.command_line.specs.Options.{Row, is_word, is_among, is_within, basis_row, format_basis_row, method_row, max_row, conflicts_row, cap_row, rounds_row, format_row, observe_row, most_blocks, blocks_row, run_row, kind_named, options_of}
 
 -- the bytes of each word
 abbrev pub spelled : Vec (String Global) Global → List (List ℕ)
@@ -56,14 +56,14 @@ synth_from basis method max conflicts = None
 abbrev pub synth_in : List (List ℕ) → Option Command
 synth_in words = synth_from (value basis_row words) (value method_row words) (value max_row words) (value conflicts_row words)
 
-abbrev pub settings_from : Option ℕ → Option Method → Option ℕ → Option ℕ → Option ℕ → Option ImproveSettings
-settings_from (Some basis) (Some method) (Some cap) (Some rounds) (Some conflicts) =
-    Some (record { basis = basis; method = method; cap = cap; rounds = rounds; conflicts = conflicts })
-settings_from basis method cap rounds conflicts = None
+abbrev pub settings_from : Option ℕ → Option Method → Option ℕ → Option ℕ → Option ℕ → Option Bool → Option ImproveSettings
+settings_from (Some basis) (Some method) (Some cap) (Some rounds) (Some conflicts) (Some observe) =
+    Some (record { basis = basis; method = method; cap = cap; rounds = rounds; conflicts = conflicts; observe = observe })
+settings_from basis method cap rounds conflicts observe = None
 
 -- the settings of `improve` for a format
 abbrev pub settings_for : Format → List (List ℕ) → Option ImproveSettings
-settings_for format words = settings_from (value (format_basis_row format) words) (value method_row words) (value cap_row words) (value rounds_row words) (value conflicts_row words)
+settings_for format words = settings_from (value (format_basis_row format) words) (value method_row words) (value cap_row words) (value rounds_row words) (value conflicts_row words) (value observe_row words)
 
 abbrev pub improve_with : Format → Option ImproveSettings → Option Command
 improve_with format None = None

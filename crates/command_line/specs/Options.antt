@@ -1,5 +1,5 @@
 -- The one table of options: how each is named and read, and which command takes it.
-use Rattle.std.specs.Prelude.{ℕ, List, [], ◌∷◌, codes, nat_eq, nat_lt, ◌==◌, bit_and, Bool, Option, Some, None, Result, Ok, Err, if◌then◌else◌}
+use Rattle.std.specs.Prelude.{ℕ, List, [], ◌∷◌, codes, nat_eq, nat_lt, ◌==◌, bit_and, Bool, true, false, Option, Some, None, Result, Ok, Err, if◌then◌else◌}
 use Rattle.std.specs.List.{list_any}
 use Rattle.std.specs.Cmp.Lexicographic.{pointwise}
 use Rattle.text_core.specs.Numbers.{number_up_to}
@@ -8,7 +8,7 @@ use Rattle.op_basis.specs.declared.error.BasisError.{BasisError}
 use Rattle.enc_theory.specs.declared.data.Method.{Method}
 use Rattle.settings.specs.Methods.{method_named}
 use Rattle.settings.specs.Synth.{usual, most_steps, most_conflicts}
-use Rattle.settings.specs.Improve as improver
+use Rattle.improve_settings.specs.Improve as improver
 use Rattle.command_line.specs.declared.table.Kind.{Kind}
 use Rattle.command_line.specs.declared.table.Kind.TheVariants.{Agree, Recheck, Synth, Improve, Equiv, Gen}
 use Rattle.command_line.specs.declared.command.Deed.{Deed}
@@ -63,6 +63,14 @@ format_in word = if is_word word (codes "blif") then Some Blif else (if is_word 
 abbrev pub deed_in : List ℕ → Option Deed
 deed_in word = if is_word word (codes "write") then Some deeds.Write else (if is_word word (codes "improve") then Some deeds.Improve else None)
 
+-- `yes` or `no`
+abbrev pub flag_in : List ℕ → Option Bool
+flag_in word = if is_word word (codes "yes") then Some true else (if is_word word (codes "no") then Some false else None)
+
+-- `no` where it isn't named
+abbrev pub flag_row : List ℕ → Row Bool
+flag_row name = record { name = name; read = flag_in; default = Some false }
+
 -- ---- the rows
 
 abbrev pub basis_row : Row ℕ
@@ -97,6 +105,10 @@ rounds_row = number_row (codes "--rounds") 1 improver.most_rounds (Some improver
 
 abbrev pub format_row : Row Format
 format_row = record { name = codes "--format"; read = format_in; default = Some Blif }
+
+-- whether a window may do anything on the rows that nobody sees
+abbrev pub observe_row : Row Bool
+observe_row = flag_row (codes "--observe")
 
 -- how many blocks are generated; the number has to be named
 abbrev pub most_blocks : ℕ
@@ -135,6 +147,6 @@ abbrev pub options_of : Kind → List (List ℕ)
 options_of Agree = []
 options_of Recheck = []
 options_of Synth = basis_row.name ∷ method_row.name ∷ max_row.name ∷ conflicts_row.name ∷ []
-options_of Improve = basis_row.name ∷ method_row.name ∷ cap_row.name ∷ rounds_row.name ∷ conflicts_row.name ∷ format_row.name ∷ []
+options_of Improve = basis_row.name ∷ method_row.name ∷ cap_row.name ∷ rounds_row.name ∷ conflicts_row.name ∷ format_row.name ∷ observe_row.name ∷ []
 options_of Equiv = conflicts_row.name ∷ []
 options_of Gen = blocks_row.name ∷ run_row.name ∷ []

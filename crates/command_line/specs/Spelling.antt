@@ -3,14 +3,14 @@ use Rattle.std.specs.Prelude.{◌≡◌, ℕ, List, [], ◌∷◌, true, Some, A
 use Rattle.std.specs.List.{IsDistinct, flat_map}
 use Rattle.std.specs.Map.{keys_of}
 use Rattle.settings.specs.declared.synth.SynthSettings.{SynthSettings}
-use Rattle.settings.specs.declared.improve.ImproveSettings.{ImproveSettings}
+use Rattle.improve_settings.specs.declared.improve.ImproveSettings.{ImproveSettings}
 use Rattle.command_line.specs.declared.command.Command.{Command}
 use Rattle.command_line.specs.declared.command.Command.TheVariants as commands
 use Rattle.command_line.specs.declared.table.Kind.{Kind}
 use Rattle.command_line.specs.declared.table.Kind.TheVariants as kinds
 use Rattle.command_line.specs.declared.command.Deed.{Deed}
 use Rattle.command_line.specs.declared.command.Format.{Format}
-use Rattle.command_line.specs.Options.{Row, is_word, is_among, basis_row, format_basis_row, method_row, max_row, conflicts_row, cap_row, rounds_row, format_row, blocks_row, run_row, kind_text, options_of}
+use Rattle.command_line.specs.Options.{Row, is_word, is_among, basis_row, format_basis_row, method_row, max_row, conflicts_row, cap_row, rounds_row, format_row, observe_row, blocks_row, run_row, kind_text, options_of}
 
 -- a name and the word behind it
 abbrev pub Pair : Type 0
@@ -43,6 +43,7 @@ pub record GivesImprove (pairs : List Pair) (format : Format) (s : ImproveSettin
   pub cap : Gives cap_row pairs s.cap
   pub rounds : Gives rounds_row pairs s.rounds
   pub conflicts : Gives conflicts_row pairs s.conflicts
+  pub observe : Gives observe_row pairs s.observe
 
 pub record GivesGen (pairs : List Pair) (count : ℕ) (deed : Deed) : Type 0 where
   pub blocks : Gives blocks_row pairs count

@@ -1,6 +1,7 @@
 //! What words can ask for.
 
-use settings::{ImproveSettings, SynthSettings};
+use improve_settings::ImproveSettings;
+use settings::SynthSettings;
 
 /// A format of netlists.
 #[derive(Clone, Copy, Debug, PartialEq, Eq)]

@@ -21,7 +21,8 @@ mod table;
 mod words;
 
 pub use command::{Command, Deed, Format, WordsError};
-pub use settings::{ImproveSettings, SynthSettings};
+pub use improve_settings::ImproveSettings;
+pub use settings::SynthSettings;
 pub use words::read_words;
 
 #[cfg(test)]

@@ -8,11 +8,9 @@ ghost use Rattle.command_line.specs.CommandLine.{value};
 
 use crate::command::{Deed, Format};
 use crate::pairs::{is_word, word_behind};
+use improve_settings::{ImproveSettings, MOST_GATES_OF_WINDOW, MOST_ROUNDS};
 use op_basis::{Basis, read_basis};
-use settings::{
-    ImproveSettings, MOST_CONFLICTS, MOST_GATES_OF_WINDOW, MOST_ROUNDS, MOST_STEPS, Method,
-    SynthSettings, method_named,
-};
+use settings::{MOST_CONFLICTS, MOST_STEPS, Method, SynthSettings, method_named};
 use text_core::number_up_to;
 
 /// A command by its name.
@@ -39,6 +37,8 @@ const CAP: &[u8] = b"--cap";
 const ROUNDS: &[u8] = b"--rounds";
 
 const FORMAT: &[u8] = b"--format";
+
+const OBSERVE: &[u8] = b"--observe";
 
 const BLOCKS: &[u8] = b"--blocks";
 
@@ -94,6 +94,7 @@ pub(crate) fn takes(kind: Kind, name: &[u8]) -> bool
                 || is_word(name, ROUNDS)
                 || is_word(name, CONFLICTS)
                 || is_word(name, FORMAT)
+                || is_word(name, OBSERVE)
         }
         Kind::Equiv => is_word(name, CONFLICTS),
         Kind::Gen => is_word(name, BLOCKS) || is_word(name, RUN),
@@ -117,6 +118,18 @@ fn number(name: &[u8], low: u32, high: u32, usual: Option<u32>, words: &[String]
     match word_behind(name, words) {
         None => usual,
         Some(word) => number_within(low, high, word),
+    }
+}
+
+/// The value of an option that is `yes` or `no`, and `no` where it isn't named.
+fn flag(name: &[u8], words: &[String]) -> Option<bool>
+    ensures { result ≡ value (spec.flag_row name.now) (map string_bytes words.now) }
+{
+    match word_behind(name, words) {
+        None => Some(false),
+        Some(word) if is_word(word, b"yes") => Some(true),
+        Some(word) if is_word(word, b"no") => Some(false),
+        Some(_) => None,
     }
 }
 
@@ -214,6 +227,13 @@ pub(crate) fn given_format(words: &[String]) -> Option<Format>
         Some(word) if is_word(word, b"bench") => Some(Format::Bench),
         Some(_) => None,
     }
+}
+
+/// The value of `--observe`.
+pub(crate) fn given_observe(words: &[String]) -> Option<bool>
+    ensures { result ≡ value spec.observe_row (map string_bytes words.now) }
+{
+    flag(OBSERVE, words)
 }
 
 /// The value of `--blocks`, which has to be named.

@@ -129,6 +129,28 @@ fn improve_is_asked_with_settings(rt: HostRuntime) -> Result<(), Fail> {
             cap,
             rounds,
             conflicts,
+            observe: false,
+        };
+        let format = Format::Blif;
+        assert_eq!(rt;
+            asked(rt.alloc(), line)?,
+            Some(Command::Improve { format, settings }),
+            "{line}"
+        );
+    }
+    Ok(())
+}
+
+#[test]
+fn rows_that_nobody_sees_are_left_out_where_that_is_named(rt: HostRuntime) -> Result<(), Fail> {
+    for (line, observe) in [
+        ("improve --observe no", false),
+        ("improve --observe yes", true),
+        ("improve --cap 5 --observe yes --rounds 1000", true),
+    ] {
+        let settings = ImproveSettings {
+            observe,
+            ..ImproveSettings::usual()
         };
         let format = Format::Blif;
         assert_eq!(rt;
@@ -197,6 +219,11 @@ fn other_words_ask_for_none(rt: HostRuntime) -> Result<(), Fail> {
         "improve --method none",
         "improve --max 3",
         "improve --format aiger",
+        "improve --observe",
+        "improve --observe Yes",
+        "improve --observe yes --observe yes",
+        "synth --observe yes",
+        "gen --blocks 3 --observe yes",
         "improve --format bench --basis all",
         "improve --format bench --basis u2",
         "improve --basis 0001,0010 --format bench",

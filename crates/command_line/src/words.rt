@@ -7,9 +7,10 @@ use crate::command::{Command, Format, WordsError};
 use crate::pairs::are_options;
 use crate::table::{
     Kind, given_basis, given_basis_for, given_blocks, given_cap, given_conflicts, given_deed,
-    given_format, given_max, given_method, given_rounds, kind_named,
+    given_format, given_max, given_method, given_observe, given_rounds, kind_named,
 };
-use settings::{ImproveSettings, SynthSettings};
+use improve_settings::ImproveSettings;
+use settings::SynthSettings;
 
 /// `synth` with the values of its options.
 fn synth_in(words: &[String]) -> Option<Command>
@@ -42,12 +43,14 @@ fn settings_for(format: Format, words: &[String]) -> Option<ImproveSettings>
     let cap = given_cap(words)?;
     let rounds = given_rounds(words)?;
     let conflicts = given_conflicts(words)?;
+    let observe = given_observe(words)?;
     Some(ImproveSettings {
         basis,
         method,
         cap,
         rounds,
         conflicts,
+        observe,
     })
 }
 

@@ -1,5 +1,5 @@
 //! Netlists through the improvement by windows, with settings, and the report.
-ghost use Rattle.settings.specs.Improve.{IsInRange};
+ghost use Rattle.improve_settings.specs.Improve.{IsInRange};
 ghost use Rattle.bench_core.specs.Bench.{bench_format};
 ghost use Rattle.improve_windows.specs.Improving.{FitsFormat};
 
@@ -18,6 +18,7 @@ fn settings(cap: u32, rounds: u32, conflicts: u32) -> ImproveSettings
         cap: cap.min(8),
         rounds: rounds.clamp(1, 1000),
         conflicts: conflicts.clamp(1, 100_000),
+        observe: usual.observe,
     }
 }
 
@@ -80,6 +81,54 @@ fn windows_shrink(rt: HostRuntime) -> Result<(), AllocError> {
     Ok(())
 }
 
+/// The usual settings with windows of at most so many gates, where rows that nobody sees are left out of account or not.
+fn observing(cap: u32, observe: bool) -> ImproveSettings
+    ensures { IsInRange result }
+{
+    let usual = ImproveSettings::usual();
+    ImproveSettings {
+        basis: usual.basis,
+        method: usual.method,
+        cap: cap.min(8),
+        rounds: usual.rounds,
+        conflicts: usual.conflicts,
+        observe,
+    }
+}
+
+// y sees p only where a is 1, and there p is b
+const HIDDEN: &[u8] =
+    b".model o\n.inputs a b\n.outputs y\n.names a b p\n00 1\n11 1\n.names p a y\n11 1\n.end\n";
+
+// the same, with p as an output
+const BARE: &[u8] =
+    b".model o\n.inputs a b\n.outputs y p\n.names a b p\n00 1\n11 1\n.names p a y\n11 1\n.end\n";
+
+#[test]
+fn rows_that_nobody_sees_are_free(rt: HostRuntime) -> Result<(), AllocError> {
+    for (text, observe, wanted) in [
+        (
+            HIDDEN,
+            true,
+            b".model o\n.inputs a b\n.outputs y\n.names b a y\n11 1\n.end\ngates 2 -> 1\nsettled\n".as_slice(),
+        ),
+        (
+            HIDDEN,
+            false,
+            b".model o\n.inputs a b\n.outputs y\n.names a b g1\n00 1\n11 1\n.names g1 a y\n11 1\n.end\ngates 2 -> 2\nsettled\n".as_slice(),
+        ),
+        (
+            BARE,
+            true,
+            b".model o\n.inputs a b\n.outputs y p\n.names a b p\n00 1\n11 1\n.names p a y\n11 1\n.end\ngates 2 -> 2\nsettled\n".as_slice(),
+        ),
+    ] {
+        let told = told(rt.alloc(), text, observing(1, observe))?;
+        assert_eq!(rt; told.as_slice(), wanted);
+    }
+    Ok(())
+}
+
 const ADDER: &[u8] =
     b".model a\n.inputs a b c\n.outputs s k\n.names a b p\n01 1\n10 1\n.names p c s\n01 1\n10 1\n.names a b q\n11 1\n.names p c r\n11 1\n.names q r k\n1- 1\n-1 1\n.end\n";
 
@@ -119,6 +168,7 @@ fn gates_alone() -> ImproveSettings
         cap: usual.cap,
         rounds: usual.rounds,
         conflicts: usual.conflicts,
+        observe: usual.observe,
     }
 }
 

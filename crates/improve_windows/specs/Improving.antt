@@ -12,7 +12,7 @@ use Rattle.net_theory.specs.WellFormed.{IsWellFormed}
 use Rattle.net_document.specs.Listed.{Listed}
 use Rattle.net_document.specs.Format.{Format}
 use Rattle.net_document.specs.Alike.{AreAlike}
-use Rattle.settings.specs.declared.improve.ImproveSettings.{ImproveSettings}
+use Rattle.improve_settings.specs.declared.improve.ImproveSettings.{ImproveSettings}
 use Rattle.sweep_core.specs.Undecided.{Undecided}
 use Rattle.window_trial.specs.Improvement.{Leaves}
 use Rattle.improve_windows.specs.Report.{report_text}

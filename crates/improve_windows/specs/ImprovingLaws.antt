@@ -21,7 +21,7 @@ use Rattle.bench_core.specs.Gates.{bench_written}
 use Rattle.bench_core.specs.Spelling as gates
 use Rattle.bench_core.specs.Bench.{bench_format}
 use Rattle.bench_laws.specs.Spelled as bench
-use Rattle.settings.specs.declared.improve.ImproveSettings.{ImproveSettings}
+use Rattle.improve_settings.specs.declared.improve.ImproveSettings.{ImproveSettings}
 use Rattle.sweep_core.specs.Outcomes.{HasOperatorsWithin}
 use Rattle.sweep_core.specs.Undecided.{Undecided, IsUndecided}
 use Rattle.window_trial.specs.Improvement.{Leaves}

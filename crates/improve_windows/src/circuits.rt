@@ -6,7 +6,7 @@ ghost use Rattle.net_core.specs.Names.{HasRoom};
 ghost use Rattle.blif_core.specs.Written.{written as written_of};
 ghost use Rattle.blif_core.specs.Spelling.{HasInit};
 ghost use Rattle.blif_core.specs.Blif.{blif_format};
-ghost use Rattle.settings.specs.Improve.{IsInRange};
+ghost use Rattle.improve_settings.specs.Improve.{IsInRange};
 ghost use Rattle.window_trial.specs.Improvement.{Leaves};
 ghost use Rattle.improve_windows.specs.Improving.{IsBetter};
 

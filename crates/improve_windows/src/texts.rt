@@ -9,7 +9,7 @@ ghost use Rattle.blif_core.specs.Spelling.{spelled, HasInit};
 ghost use Rattle.blif_core.specs.Blif.{blif_format};
 ghost use Rattle.bench_core.specs.Spelling.{circuit_text as gates_text};
 ghost use Rattle.bench_core.specs.Bench.{bench_format};
-ghost use Rattle.settings.specs.Improve.{IsInRange};
+ghost use Rattle.improve_settings.specs.Improve.{IsInRange};
 ghost use Rattle.improve_windows.specs.Report.{report_text};
 ghost use Rattle.improve_windows.specs.ReportLaws.{CanBeWritten};
 ghost use Rattle.improve_windows.specs.Improving.{FitsFormat, IsReported};

@@ -1,3 +1,2 @@
-pub mod Improve
 pub mod Methods
 pub mod Synth

@@ -1,9 +1,9 @@
-//! What commands are asked with, as data with ranges and defaults, for whoever reads it from words,
+//! What a search is asked with, as data with ranges and defaults, for whoever reads it from words,
 //! searches by it or writes it into a certificate. It stands on `op_basis` for bases and on
 //! `enc_theory` for the methods, and on nothing that searches or reads.
 //!
-//! `specs/Synth.antt` and `specs/Improve.antt` say which settings are in their ranges (`IsInRange`), and
-//! which hold where nothing is named (`usual`); `specs/Methods.antt` has the name of each method. A name is that of one
+//! `specs/Synth.antt` says which settings are in their ranges (`IsInRange`), and which hold where
+//! nothing is named (`usual`); `specs/Methods.antt` has the name of each method. A name is that of one
 //! method, and each method has one name (`laws::names_are_of_one_method`).
 //!
 //! ```text
@@ -12,12 +12,10 @@
 //! ```
 #![tactic(auto)]
 
-mod improve;
 pub mod laws;
 mod methods;
 mod synth;
 
 pub use enc_theory::Method;
-pub use improve::{ImproveSettings, MOST_GATES_OF_WINDOW, MOST_ROUNDS};
 pub use methods::{method_name, method_named};
 pub use synth::{MOST_CONFLICTS, MOST_STEPS, SynthSettings};

@@ -1,5 +1,6 @@
 pub use Rattle.net_theory.specs.Net
 pub use Rattle.window_theory.specs.Window
+pub mod Asked
 pub mod Settled
 pub mod Undecided
 pub mod Visits

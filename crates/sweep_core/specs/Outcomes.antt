@@ -7,7 +7,7 @@ use Rattle.net_theory.specs.Answers.{IsPruned}
 use Rattle.op_basis.specs.Basis.{members}
 use Rattle.window_theory.specs.Paths.{IsGate}
 use Rattle.window_theory.specs.Window.{IsPartnerOrNone}
-use Rattle.settings.specs.declared.improve.ImproveSettings.{ImproveSettings}
+use Rattle.improve_settings.specs.declared.improve.ImproveSettings.{ImproveSettings}
 use Rattle.sweep_core.specs.declared.visit.Visit.{Visit}
 use Rattle.sweep_core.specs.declared.trial.Tried.{Tried}
 use Rattle.sweep_core.specs.declared.trial.Tried.TheVariants.{Passed, Open, Smaller}
@@ -35,12 +35,12 @@ pub record Leads (basis : Basis) (n m : Net) : Type 0 where
 -- ---- visits
 
 -- The window of a visit, if the root is a gate and the partner one of it, has no shorter chain, where it counts.
-pub record IsDone (n : Net) (basis : Basis) (v : Visit) : Type 0 where
-  pub done : IsGate n v.root → IsPartnerOrNone n v.root v.partner → IsLeast n basis v
+pub record IsDone (s : ImproveSettings) (n : Net) (v : Visit) : Type 0 where
+  pub done : IsGate n v.root → IsPartnerOrNone n v.root v.partner → IsLeast s n v
 
 -- Passed: nothing is left to be found, and the net is as it was. Open: the visit is undecided, by the certificate.
 -- Smaller: the net can take the place of the one before, and has fewer gates.
 abbrev pub IsTried : ImproveSettings → Net → Net → Visit → Tried → Type 0
-IsTried s n m v Passed = (m ≡ n) × IsDone n (members s.basis) v
+IsTried s n m v Passed = (m ≡ n) × IsDone s n v
 IsTried s n m v (Open search) = (m ≡ n) × IsUndecided n s (record { visit = v; search = search })
 IsTried s n m v Smaller = Leads (members s.basis) n m × (length m.gates < length n.gates)

@@ -3,7 +3,7 @@ use Rattle.std.specs.Prelude.{◌≡◌, ℕ, ◌+◌, ◌≤◌, ◌<◌, Bool,
 use Rattle.chain_theory.specs.Operator.{Basis}
 use Rattle.net_theory.specs.Net.{Net}
 use Rattle.op_basis.specs.Basis.{members}
-use Rattle.settings.specs.declared.improve.ImproveSettings.{ImproveSettings}
+use Rattle.improve_settings.specs.declared.improve.ImproveSettings.{ImproveSettings}
 use Rattle.sweep_core.specs.declared.visit.Visit.{Visit}
 use Rattle.sweep_core.specs.Undecided.{Undecided, visits, IsUndecided}
 use Rattle.sweep_core.specs.Outcomes.{Leads, IsDone}
@@ -46,7 +46,7 @@ pub record IsSwept (P : Visit → Type 0) (a b : Stage) : Type 0 where
   pub was : b.round.changed ≡ false → a.round.changed ≡ false
   pub same : b.round.changed ≡ false → b.net ≡ a.net
   pub kept : b.round.changed ≡ false → (v : Visit) → Contains (names_of a) v → Contains (names_of b) v
-  pub done : b.round.changed ≡ false → (v : Visit) → P v → Contains (names_of b) v ⊎ IsDone b.net (basis_of b) v
+  pub done : b.round.changed ≡ false → (v : Visit) → P v → Contains (names_of b) v ⊎ IsDone b.settings b.net v
   pub adds : b.round.changed ≡ false → Adds P a.round.named b.round.named
   pub sound : b.round.changed ≡ false → All (IsUndecided a.net a.settings) a.round.named → All (IsUndecided b.net b.settings) b.round.named
   pub fell : a.round.changed ≡ false → b.round.changed ≡ true → length b.net.gates < length a.net.gates

@@ -1,5 +1,5 @@
 -- Parts of a round put together.
-use Rattle.std.specs.Prelude.{◌≡◌, ℕ, ◌+◌, ◌-◌, ◌≤◌, ◌<◌, Bool, true, false, Option, None, Some, List, [], ◌∷◌, ◌++◌, length, All, Contains, ◌⊎◌, refl}
+use Rattle.std.specs.Prelude.{◌≡◌, ℕ, ◌+◌, ◌≤◌, ◌<◌, Bool, true, false, Option, None, Some, List, [], ◌∷◌, ◌++◌, length, All, Contains, ◌⊎◌, refl}
 use Rattle.std.proofs.Common.{arith, sym, ◌∙◌, ap, subst, inl, inr, ⊎_elim}
 use Rattle.std.proofs.lemmas.Bool.{cases_Bool, both_ways, cases_lt}
 use Rattle.std.proofs.lemmas.Grind.{common_steps}
@@ -8,7 +8,7 @@ use Rattle.std.proofs.lemmas.List.Elements.{All-push, Contains-append_left, Cont
 use Rattle.chain_theory.specs.Operator.{Basis}
 use Rattle.net_theory.specs.Net.{Net, end_of}
 use Rattle.op_basis.specs.Basis.{members}
-use Rattle.settings.specs.declared.improve.ImproveSettings.{ImproveSettings}
+use Rattle.improve_settings.specs.declared.improve.ImproveSettings.{ImproveSettings}
 use Rattle.window_theory.specs.Places.{among}
 use Rattle.window_theory.specs.PlaceLaws.{among_cases}
 use Rattle.window_theory.specs.Paths.{IsGate}
@@ -60,19 +60,19 @@ leads_on basis a b c first second = record {
 
 -- ---- visits that are done
 
-done_same : (basis : Basis) (n m : Net) (v : Visit) → m ≡ n → IsDone n basis v → IsDone m basis v
-done_same basis n m v same is = subst (λ (x : Net). IsDone x basis v) (sym same) is
+done_same : (s : ImproveSettings) (n m : Net) (v : Visit) → m ≡ n → IsDone s n v → IsDone s m v
+done_same s n m v same is = subst (λ (x : Net). IsDone s x v) (sym same) is
 
 -- a root that is no gate
-no_gate : (n : Net) (basis : Basis) (v : Visit) → (IsGate n v.root → ⊥) → IsDone n basis v
-no_gate n basis v none = record { done = λ gate partner. absurd (none gate) }
+no_gate : (s : ImproveSettings) (n : Net) (v : Visit) → (IsGate n v.root → ⊥) → IsDone s n v
+no_gate s n v none = record { done = λ gate partner. absurd (none gate) }
 
 partner_of : (n : Net) (v : Visit) (h : ℕ) → v.partner ≡ Some h → IsPartnerOrNone n v.root v.partner → IsPartner n v.root h
 partner_of n v h e is = subst (λ (o : Option ℕ). IsPartnerOrNone n v.root o) e is
 
 -- a partner that is none
-no_partner : (n : Net) (basis : Basis) (v : Visit) (h : ℕ) → v.partner ≡ Some h → (IsGate n v.root → IsPartner n v.root h → ⊥) → IsDone n basis v
-no_partner n basis v h e none = record { done = λ gate partner. absurd (none gate (partner_of n v h e partner)) }
+no_partner : (s : ImproveSettings) (n : Net) (v : Visit) (h : ℕ) → v.partner ≡ Some h → (IsGate n v.root → IsPartner n v.root h → ⊥) → IsDone s n v
+no_partner s n v h e none = record { done = λ gate partner. absurd (none gate (partner_of n v h e partner)) }
 
 partner_low : (n : Net) (g h : ℕ) → IsPartner n g h → h < g
 partner_low n g h is = (is.are.share h is.one).below
@@ -98,8 +98,8 @@ window_alone n root h w low gate is = taken_alone n root h is.takes.taken low ga
 abbrev IsWindowOf : Net → ℕ → Window → Option ℕ → ℕ → Type 0
 IsWindowOf n root w partner count = IsWindow n root partner count w
 
-one_alone : (n : Net) (basis : Basis) (v : Visit) (h : ℕ) → v.partner ≡ Some h → v.count ≡ 1 → IsDone n basis v
-one_alone n basis v h e one = record {
+one_alone : (s : ImproveSettings) (n : Net) (v : Visit) (h : ℕ) → v.partner ≡ Some h → v.count ≡ 1 → IsDone s n v
+one_alone s n v h e one = record {
   done = λ gate partner. record {
     least = λ w is. absurd (window_alone n v.root h w (partner_low n v.root h (partner_of n v h e partner)) gate (subst (λ (o : Option ℕ). IsWindowOf n v.root w o 1) e (subst (λ (k : ℕ). IsWindowOf n v.root w v.partner k) one is)));
   };
@@ -108,7 +108,7 @@ one_alone n basis v h e one = record {
 -- ---- parts of a round
 
 -- Nothing is done where there is nothing to do.
-pub swept_none : (P : Visit → Type 0) (a : Stage) → ((v : Visit) → P v → IsDone a.net (basis_of a) v) → IsSwept P a a
+pub swept_none : (P : Visit → Type 0) (a : Stage) → ((v : Visit) → P v → IsDone a.settings a.net v) → IsSwept P a a
 swept_none P a none =
     record {
       asked = refl;
@@ -127,7 +127,7 @@ swept_none P a none =
 pub swept_on : (P Q R : Visit → Type 0) (a b c : Stage)
     → IsSwept P a b
     → IsSwept Q b c
-    → (c.round.changed ≡ false → c.net ≡ b.net → (v : Visit) → R v → (P v ⊎ Q v) ⊎ IsDone c.net (basis_of c) v)
+    → (c.round.changed ≡ false → c.net ≡ b.net → (v : Visit) → R v → (P v ⊎ Q v) ⊎ IsDone c.settings c.net v)
     → ((v : Visit) → P v → R v)
     → ((v : Visit) → Q v → R v)
     → ((v w : Visit) → P v → Q w → ComesBefore v w)
@@ -144,7 +144,7 @@ swept_on P Q R a b c first second covers p_in q_in before =
           (λ made. ⊎_elim
           (λ p. ⊎_elim
           (λ named. inl (second.kept off v named))
-          (λ done. inr (done_same (basis_of c) b.net c.net v (second.same off) (subst (λ (s : ImproveSettings). IsDone b.net (members s.basis) v) (sym second.asked) done)))
+          (λ done. inr (done_same c.settings b.net c.net v (second.same off) (subst (λ (s : ImproveSettings). IsDone s b.net v) (sym second.asked) done)))
           (first.done (second.was off) v p))
           (λ q. second.done off v q)
           made)
@@ -159,7 +159,7 @@ swept_on P Q R a b c first second covers p_in q_in before =
     }
 
 -- Fewer visits, or some that are done anyway.
-pub swept_as : (P R : Visit → Type 0) (a b : Stage) → IsSwept P a b → ((v : Visit) → R v → P v ⊎ IsDone b.net (basis_of b) v) → ((v : Visit) → P v → R v) → IsSwept R a b
+pub swept_as : (P R : Visit → Type 0) (a b : Stage) → IsSwept P a b → ((v : Visit) → R v → P v ⊎ IsDone b.settings b.net v) → ((v : Visit) → P v → R v) → IsSwept R a b
 swept_as P R a b swept covers p_in =
     record {
       asked = swept.asked;
@@ -176,17 +176,17 @@ swept_as P R a b swept covers p_in =
 
 -- ---- one visit
 
-this_done : (n : Net) (basis : Basis) (v x : Visit) → IsDone n basis v → IsThis v x → IsDone n basis x
-this_done n basis v x is e = subst (λ (y : Visit). IsDone n basis y) (sym e) is
+this_done : (s : ImproveSettings) (n : Net) (v x : Visit) → IsDone s n v → IsThis v x → IsDone s n x
+this_done s n v x is e = subst (λ (y : Visit). IsDone s n y) (sym e) is
 
 pub swept_gone : (s : ImproveSettings) (n : Net) (r : Round) (v : Visit) → (IsGate n v.root → ⊥) → IsSwept (IsThis v) (stage s n r) (stage s n r)
-swept_gone s n r v none = swept_none (IsThis v) (stage s n r) (λ x is. this_done n (members s.basis) v x (no_gate n (members s.basis) v none) is)
+swept_gone s n r v none = swept_none (IsThis v) (stage s n r) (λ x is. this_done s n v x (no_gate s n v none) is)
 
 pub swept_passed : (s t : ImproveSettings) (n m : Net) (r : Round) (v : Visit) → t ≡ s → IsTried s n m v Passed → IsSwept (IsThis v) (stage s n r) (stage t m r)
 swept_passed s t n m r v asked tried =
     subst (λ (u : ImproveSettings). IsSwept (IsThis v) (stage s n r) (stage u m r)) (sym asked)
     (subst (λ (x : Net). IsSwept (IsThis v) (stage s n r) (stage s x r)) (sym tried.0)
-    (swept_none (IsThis v) (stage s n r) (λ x is. this_done n (members s.basis) v x tried.1 is)))
+    (swept_none (IsThis v) (stage s n r) (λ x is. this_done s n v x tried.1 is)))
 
 abbrev left_open : Round → Undecided → Round
 left_open r u = record { changed = r.changed; named = r.named ++ u ∷ [] }
@@ -269,7 +269,7 @@ counts_more a b c root partner first count from before one =
 
 pub partners_start : (a : Stage) (root cap : ℕ) → IsSwept (IsOfPartners root cap root) a a
 partners_start a root cap = swept_none (IsOfPartners root cap root) a
-    (λ v is. no_partner a.net (basis_of a) v is.partner is.partner_is
+    (λ v is. no_partner a.settings a.net v is.partner is.partner_is
     (λ gate partner. omega (arith, partner_low a.net v.root is.partner partner, is.high, is.root_is)))
 
 low_partner : (n : Net) (root below : ℕ) (v : Visit) (h : ℕ) → IsGreatestPartner n root below h → v.root ≡ root → (p : ℕ) → IsPartner n v.root p → p < below → p ≤ h
@@ -290,10 +290,10 @@ partners_on a b c root cap below partner greatest before counts =
     let here : is.partner ≡ partner = omega (arith, own, is.high) in
     let partner_is : v.partner ≡ Some partner = is.partner_is ∙ ap Some here in
     ⊎_elim
-    (λ (one : v.count < 2). inr (one_alone c.net (basis_of c) v partner partner_is (omega (arith, one, is.some))))
+    (λ (one : v.count < 2). inr (one_alone c.settings c.net v partner partner_is (omega (arith, one, is.some))))
     (λ (more : 2 ≤ v.count). inl (inr (record { root_is = is.root_is; partner_is = partner_is; from = more; to = omega (arith, is.to) })))
     (cases_lt v.count 2))
-    (λ (above : partner + 1 ≤ is.partner). inr (no_partner c.net (basis_of c) v is.partner is.partner_is
+    (λ (above : partner + 1 ≤ is.partner). inr (no_partner c.settings c.net v is.partner is.partner_is
     (λ gate p. let most : is.partner ≤ partner = low_partner b.net root below v partner greatest is.root_is is.partner (subst (λ (n : Net). IsPartner n v.root is.partner) same p) low in omega (arith, most, above))))
     (cases_lt is.partner (partner + 1)))
     (λ (high : below ≤ is.partner). inl (inl (record { root_is = is.root_is; partner = is.partner; partner_is = is.partner_is; high = high; some = is.some; to = is.to })))
@@ -310,7 +310,7 @@ pub partners_end : (a b : Stage) (root cap below : ℕ) → HasNoPartner b.net r
 partners_end a b root cap below none before =
     swept_as (IsOfPartners root cap below) (IsOfPartners root cap 0) a b before
     (λ v is. ⊎_elim
-    (λ (low : is.partner < below). inr (no_partner b.net (basis_of b) v is.partner is.partner_is
+    (λ (low : is.partner < below). inr (no_partner b.settings b.net v is.partner is.partner_is
     (λ gate p. none.none is.partner (subst (λ (g : ℕ). IsGate b.net g) is.root_is gate) (subst (λ (g : ℕ). IsPartner b.net g is.partner) is.root_is p) low)))
     (λ (high : below ≤ is.partner). inl (record { root_is = is.root_is; partner = is.partner; partner_is = is.partner_is; high = high; some = is.some; to = is.to }))
     (cases_lt is.partner below))
@@ -337,7 +337,7 @@ pub root_made : (a b c : Stage) (root : ℕ) → IsSwept (IsOfCounts root None 1
 root_made a b c root first second = root_on a b c root a.settings.cap first (subst (λ (s : ImproveSettings). IsSwept (IsOfPartners root s.cap 0) b c) first.asked second)
 
 pub roots_start : (a : Stage) (cap first : ℕ) → first ≡ a.net.sources + 1 → IsSwept (IsOfRoots cap first) a a
-roots_start a cap first e = swept_none (IsOfRoots cap first) a (λ v is. no_gate a.net (basis_of a) v (gate_low a.net v.root (omega (arith, is.root_low, e))))
+roots_start a cap first e = swept_none (IsOfRoots cap first) a (λ v is. no_gate a.settings a.net v (gate_low a.net v.root (omega (arith, is.root_low, e))))
 
 roots_on : (a b c : Stage) (cap root : ℕ) → IsSwept (IsOfRoots cap root) a b → IsSwept (IsOfRoot root cap) b c → IsSwept (IsOfRoots cap (root + 1)) a c
 roots_on a b c cap root before one =
@@ -374,17 +374,17 @@ rounds_more P rounds s t u n m k r q has off swept on =
 pub rounds_lead : (P : Visit → Type 0) (rounds : ℕ) (s t u : ImproveSettings) (n m k : Net) (r q : Round) → HasRounds rounds s t n m → IsSwept P (stage t m r) (stage u k q) → Leads (members s.basis) n k
 rounds_lead P rounds s t u n m k r q has swept = leads_on (members s.basis) n m k has.leads (subst (λ (x : ImproveSettings). Leads (members x.basis) m k) has.asked swept.leads)
 
-settled_at : (t u : ImproveSettings) (m k : Net) (r q : Round) → IsSwept (IsOfRoots t.cap (end_of m)) (stage t m r) (stage u k q) → q.changed ≡ false → (v : Visit) → IsListed k t.cap v → Contains (visits q.named) v ⊎ IsLeast k (members t.basis) v
+settled_at : (t u : ImproveSettings) (m k : Net) (r q : Round) → IsSwept (IsOfRoots t.cap (end_of m)) (stage t m r) (stage u k q) → q.changed ≡ false → (v : Visit) → IsListed k t.cap v → Contains (visits q.named) v ⊎ IsLeast t k v
 settled_at t u m k r q swept off v is =
     let root_low : v.root < end_of m = subst (λ (x : Net). v.root < end_of x) (swept.same off) (windows.gate_high k v.root is.root).1 in
     ⊎_elim
     (λ named. inl named)
-    (λ done. inr (subst (λ (x : ImproveSettings). IsLeast k (members x.basis) v) swept.asked (done.done is.root is.partner)))
+    (λ done. inr (subst (λ (x : ImproveSettings). IsLeast x k v) swept.asked (done.done is.root is.partner)))
     (swept.done off v (record { root_low = root_low; some = is.from; to = is.to }))
 
-pub rounds_settle : (rounds : ℕ) (s t u : ImproveSettings) (n m k : Net) (r q : Round) → HasRounds rounds s t n m → IsSwept (IsOfRoots t.cap (end_of m)) (stage t m r) (stage u k q) → q.changed ≡ false → IsSettled k (members s.basis) s.cap (visits q.named)
+pub rounds_settle : (rounds : ℕ) (s t u : ImproveSettings) (n m k : Net) (r q : Round) → HasRounds rounds s t n m → IsSwept (IsOfRoots t.cap (end_of m)) (stage t m r) (stage u k q) → q.changed ≡ false → IsSettled s k (visits q.named)
 rounds_settle rounds s t u n m k r q has swept off =
-    subst (λ (x : ImproveSettings). IsSettled k (members x.basis) x.cap (visits q.named)) has.asked (record { each = settled_at t u m k r q swept off })
+    subst (λ (x : ImproveSettings). IsSettled x k (visits q.named)) has.asked (record { each = settled_at t u m k r q swept off })
 
 none_named : (n : Net) (s : ImproveSettings) (named : List Undecided) → named ≡ [] → All (IsUndecided n s) named
 none_named n s named e = subst (λ (us : List Undecided). All (IsUndecided n s) us) (sym e) (λ k d low. absurd (omega (arith, low)))
@@ -405,7 +405,7 @@ parts_as P a u k q changed named e swept = subst (λ (x : Round). IsSwept P a (s
 pub sweep_more : (P : Visit → Type 0) (rounds : ℕ) (s t u : ImproveSettings) (n m k : Net) (r q : Round) (changed : Bool) (named : List Undecided) → HasRounds rounds s t n m → r.changed ≡ false → IsSwept P (stage t m r) (stage u k q) → record { changed = changed; named = named } ≡ q → changed ≡ true → HasRounds (rounds + 1) s u n k
 sweep_more P rounds s t u n m k r q changed named has off swept e on = rounds_more P rounds s t u n m k r (record { changed = changed; named = named }) has off (parts_as P (stage t m r) u k q changed named e swept) on
 
-pub sweep_settles : (rounds : ℕ) (s t u : ImproveSettings) (n m k : Net) (r q : Round) (changed : Bool) (named : List Undecided) → HasRounds rounds s t n m → IsSwept (IsOfRoots t.cap (end_of m)) (stage t m r) (stage u k q) → record { changed = changed; named = named } ≡ q → changed ≡ false → IsSettled k (members s.basis) s.cap (visits named)
+pub sweep_settles : (rounds : ℕ) (s t u : ImproveSettings) (n m k : Net) (r q : Round) (changed : Bool) (named : List Undecided) → HasRounds rounds s t n m → IsSwept (IsOfRoots t.cap (end_of m)) (stage t m r) (stage u k q) → record { changed = changed; named = named } ≡ q → changed ≡ false → IsSettled s k (visits named)
 sweep_settles rounds s t u n m k r q changed named has swept e off = rounds_settle rounds s t u n m k r (record { changed = changed; named = named }) has (parts_as (IsOfRoots t.cap (end_of m)) (stage t m r) u k q changed named e swept) off
 
 pub sweep_names : (rounds : ℕ) (s t u : ImproveSettings) (n m k : Net) (r q : Round) (changed : Bool) (named : List Undecided) → HasRounds rounds s t n m → r.named ≡ [] → IsSwept (IsOfRoots t.cap (end_of m)) (stage t m r) (stage u k q) → record { changed = changed; named = named } ≡ q → changed ≡ false → All (IsUndecided k s) named

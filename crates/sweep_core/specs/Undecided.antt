@@ -3,12 +3,12 @@ use Rattle.std.specs.Prelude.{◌≡◌, ℕ, ◌+◌, List, map}
 use Rattle.net_theory.specs.Net.{Net}
 use Rattle.tt_core.specs.Words.{specification}
 use Rattle.window_theory.specs.Window.{Window, IsWindow}
-use Rattle.window_theory.specs.Care.{IsSpecificationOf}
-use Rattle.settings.specs.declared.improve.ImproveSettings.{ImproveSettings}
+use Rattle.improve_settings.specs.declared.improve.ImproveSettings.{ImproveSettings}
 use Rattle.cert_theory.specs.declared.data.Verdict.TheVariants as verdicts
 use Rattle.cert_theory.specs.Bundle.{Bundle, IsValid, HasOutput}
 use Rattle.size_loop.specs.Thrift.{AreThrifty}
 use Rattle.sweep_core.specs.declared.visit.Visit.{Visit}
+use Rattle.sweep_core.specs.Asked.{IsAskedOf}
 use Rattle.sweep_core.specs.Settled.{IsListed}
 
 pub record Undecided : Type 0 where
@@ -22,13 +22,13 @@ visit_of u = u.visit
 abbrev pub visits : List Undecided → List Visit
 visits named = map visit_of named
 
--- A window of the net that counts, and a valid certificate for what it has to compute, by the settings, that
+-- A window of the net that counts, and a valid certificate for what is asked of it, by the settings, that
 -- leaves open whether a chain has fewer steps than the window has gates.
 pub record IsUndecided (n : Net) (s : ImproveSettings) (u : Undecided) : Type 0 where
   pub listed : IsListed n s.cap u.visit
   pub window : Window
   pub is : IsWindow n u.visit.root u.visit.partner u.visit.count window
-  pub tables : IsSpecificationOf n window (specification u.search.heading.spec)
+  pub tables : IsAskedOf s.observe n window (specification u.search.heading.spec)
   pub basis_is : u.search.heading.basis ≡ s.basis
   pub method_is : u.search.heading.method ≡ s.method
   pub conflicts_is : u.search.heading.conflicts ≡ s.conflicts

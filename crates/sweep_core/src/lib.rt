@@ -21,7 +21,7 @@ mod trial;
 mod undecided;
 mod visit;
 
-pub use settings::ImproveSettings;
+pub use improve_settings::ImproveSettings;
 pub use sweeping::{Swept, sweep};
 pub use trial::{Trial, Tried};
 pub use undecided::Undecided;

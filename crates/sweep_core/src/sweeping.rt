@@ -31,7 +31,7 @@ pub fn sweep<T: Trial>(alloc: Global, trial: &mut T) -> Result<Swept, AllocError
     ensures leads { IfOk result (λ _.
         Leads (members (T.settings_of trial.old).basis) (T.net_of trial.old) (T.net_of trial.new)) }
     ensures settled { IfOk result (λ swept. swept.settled ≡ true →
-        IsSettled (T.net_of trial.new) (members (T.settings_of trial.old).basis) (T.settings_of trial.old).cap (visits swept.undecided.items)) }
+        IsSettled (T.settings_of trial.old) (T.net_of trial.new) (visits swept.undecided.items)) }
     ensures undecided { IfOk result (λ swept. All (IsUndecided (T.net_of trial.new) (T.settings_of trial.old)) swept.undecided.items) }
     ensures stopped { IfOk result (λ swept. swept.settled ≡ false →
         length (T.net_of trial.new).gates + (T.settings_of trial.old).rounds ≤ length (T.net_of trial.old).gates) }

@@ -1,8 +1,8 @@
 //! What the sweep asks of whoever tries a window.
 use crate::visit::Visit;
 use bundle_core::Bundle;
+use improve_settings::ImproveSettings;
 use net_core::Net;
-use settings::ImproveSettings;
 use std::alloc::{AllocError, Global};
 
 /// What a visit came to.
@@ -20,8 +20,8 @@ pub enum Tried {
 pub trait Trial {
     ghost use Rattle.std.specs.Prelude.{◌≡◌, ◌≤◌, IfOk};
     ghost use Rattle.net_theory.specs.Net.{Net};
-    ghost use Rattle.settings.specs.declared.improve.ImproveSettings.{ImproveSettings};
-    ghost use Rattle.settings.specs.Improve.{IsInRange};
+    ghost use Rattle.improve_settings.specs.declared.improve.ImproveSettings.{ImproveSettings};
+    ghost use Rattle.improve_settings.specs.Improve.{IsInRange};
     ghost use Rattle.window_theory.specs.Paths.{IsGate};
     ghost use Rattle.sweep_core.specs.Visits.{IsNextPartner};
     ghost use Rattle.sweep_core.specs.Outcomes.{IsTried};

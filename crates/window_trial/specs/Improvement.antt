@@ -4,20 +4,20 @@ use Rattle.op_basis.specs.Basis.{members}
 use Rattle.net_theory.specs.Net.{Net}
 use Rattle.net_theory.specs.Answers.{IsPruned}
 use Rattle.net_theory.specs.Dead.{dropped}
-use Rattle.settings.specs.declared.improve.ImproveSettings.{ImproveSettings}
+use Rattle.improve_settings.specs.declared.improve.ImproveSettings.{ImproveSettings}
 use Rattle.sweep_core.specs.Settled.{IsSettled}
 use Rattle.sweep_core.specs.Undecided.{Undecided, visits, IsUndecided}
 use Rattle.sweep_core.specs.Visits.{IsRising}
 use Rattle.sweep_core.specs.Outcomes.{HasOperatorsWithin}
 
 -- m is left of n by the settings. It answers what n answers, with no more gates, and some sink reads each of its
--- gates; each operator is of the basis or of n. Settled, no window up to the cap has a shorter chain, but for
--- those that are named, each once and in the order of visits, and each of these is undecided by a certificate. Else as many gates have gone besides dead
+-- gates; each operator is of the basis or of n. Settled, no window up to the cap has a shorter chain for what the
+-- settings ask of it, but for those that are named, each once and in the order of visits, and each of these is undecided by a certificate. Else as many gates have gone besides dead
 -- ones as there were rounds, and none is named. With the cap 0 dead gates alone go.
 pub record Leaves (s : ImproveSettings) (n m : Net) (settled : Bool) (undecided : List Undecided) : Type 0 where
   pub pruned : IsPruned n m
   pub operators : HasOperatorsWithin (members s.basis) n m
-  pub settled_is : settled ≡ true → IsSettled m (members s.basis) s.cap (visits undecided)
+  pub settled_is : settled ≡ true → IsSettled s m (visits undecided)
   pub undecided_are : All (IsUndecided m s) undecided
   pub rising : IsRising (visits undecided)
   pub stopped : settled ≡ false → length m.gates + s.rounds ≤ length (dropped n).gates

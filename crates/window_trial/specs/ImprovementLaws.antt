@@ -1,5 +1,5 @@
 -- A sweep behind the loss of dead gates is an improvement.
-use Rattle.std.specs.Prelude.{◌≡◌, ℕ, ◌+◌, ◌≤◌, Bool, true, false, List, [], length, slice_get, Some, All, ◌⊎◌, refl}
+use Rattle.std.specs.Prelude.{◌≡◌, ℕ, ◌+◌, ◌≤◌, Bool, true, false, List, [], length, slice_get, Some, All, refl}
 use Rattle.std.proofs.Common.{arith, sym, ◌∙◌, subst, inl, inr, ⊎_elim}
 use Rattle.std.proofs.lemmas.Bool.{both_ways}
 use Rattle.std.proofs.lemmas.Grind.{common_steps}
@@ -10,7 +10,7 @@ use Rattle.net_theory.specs.Net.{Net, IsNet}
 use Rattle.net_theory.specs.Answers.{IsPruned}
 use Rattle.net_theory.specs.Dead.{dropped}
 use Rattle.net_theory.specs.DeadLaws.{dropped_is, dropped_operators}
-use Rattle.settings.specs.declared.improve.ImproveSettings.{ImproveSettings}
+use Rattle.improve_settings.specs.declared.improve.ImproveSettings.{ImproveSettings}
 use Rattle.sweep_core.specs.Settled.{IsSettled}
 use Rattle.sweep_core.specs.Undecided.{Undecided, visits, IsUndecided}
 use Rattle.sweep_core.specs.Visits.{IsRising}
@@ -26,8 +26,8 @@ dropped_has n i g net at =
 dropped_within : (basis : Basis) (n : Net) → IsNet n → HasOperatorsWithin basis n (dropped n)
 dropped_within basis n net = record { each = λ i g at. inr (dropped_has n i g net at) }
 
-none_listed : (m : Net) (basis : Basis) (named : List Undecided) → IsSettled m basis 0 (visits named)
-none_listed m basis named = record { each = λ v is. absurd (omega (arith, is.from, is.to)) }
+none_listed : (s : ImproveSettings) (m : Net) (named : List Undecided) → s.cap ≡ 0 → IsSettled s m (visits named)
+none_listed s m named cap = record { each = λ v is. absurd (omega (arith, is.from, is.to, cap)) }
 
 nothing_named : (m : Net) (s : ImproveSettings) (named : List Undecided) → named ≡ [] → All (IsUndecided m s) named
 nothing_named m s named e = subst (λ (us : List Undecided). All (IsUndecided m s) us) (sym e) (λ k d low. absurd (omega (arith, low)))
@@ -37,7 +37,7 @@ idle s n named net cap none =
     record {
       pruned = dropped_is n net;
       operators = dropped_within (members s.basis) n net;
-      settled_is = λ e. subst (λ (k : ℕ). IsSettled (dropped n) (members s.basis) k (visits named)) (sym cap) (none_listed (dropped n) (members s.basis) named);
+      settled_is = λ e. none_listed s (dropped n) named cap;
       undecided_are = nothing_named (dropped n) s named none;
       rising = none_rise named none;
       stopped = λ e. absurd (both_ways true e refl);
@@ -56,7 +56,7 @@ within_on basis n m net within = record {
       (within.each i g at);
 }
 
-pub leaves_swept : (s : ImproveSettings) (n d m : Net) (settled : Bool) (named : List Undecided) → IsNet n → 1 ≤ s.cap → d ≡ dropped n → Leads (members s.basis) d m → (settled ≡ true → IsSettled m (members s.basis) s.cap (visits named)) → All (IsUndecided m s) named → IsRising (visits named) → (settled ≡ false → length m.gates + s.rounds ≤ length d.gates) → (settled ≡ false → named ≡ []) → Leaves s n m settled named
+pub leaves_swept : (s : ImproveSettings) (n d m : Net) (settled : Bool) (named : List Undecided) → IsNet n → 1 ≤ s.cap → d ≡ dropped n → Leads (members s.basis) d m → (settled ≡ true → IsSettled s m (visits named)) → All (IsUndecided m s) named → IsRising (visits named) → (settled ≡ false → length m.gates + s.rounds ≤ length d.gates) → (settled ≡ false → named ≡ []) → Leaves s n m settled named
 leaves_swept s n d m settled named net cap same leads settles undecided rising stops none =
     record {
       pruned = leads.pruned n (subst (IsPruned n) (sym same) (dropped_is n net));
@@ -69,7 +69,7 @@ leaves_swept s n d m settled named net cap same leads settles undecided rising s
       untouched = λ e. absurd (omega (arith, e, cap));
     }
 
-pub swept_leaves : (s t : ImproveSettings) (n d e m k : Net) (settled : Bool) (named : List Undecided) → IsNet n → 1 ≤ s.cap → t ≡ s → e ≡ d → d ≡ dropped n → k ≡ m → Leads (members t.basis) e m → (settled ≡ true → IsSettled m (members t.basis) t.cap (visits named)) → All (IsUndecided m t) named → IsRising (visits named) → (settled ≡ false → length m.gates + t.rounds ≤ length e.gates) → (settled ≡ false → named ≡ []) → Leaves s n k settled named
+pub swept_leaves : (s t : ImproveSettings) (n d e m k : Net) (settled : Bool) (named : List Undecided) → IsNet n → 1 ≤ s.cap → t ≡ s → e ≡ d → d ≡ dropped n → k ≡ m → Leads (members t.basis) e m → (settled ≡ true → IsSettled t m (visits named)) → All (IsUndecided m t) named → IsRising (visits named) → (settled ≡ false → length m.gates + t.rounds ≤ length e.gates) → (settled ≡ false → named ≡ []) → Leaves s n k settled named
 swept_leaves s t n d e m k settled named net cap asked begun same last leads settles undecided rising stops none =
     let low : 1 ≤ t.cap = subst (λ (x : ImproveSettings). 1 ≤ x.cap) (sym asked) cap in
     subst (λ (x : Net). Leaves s n x settled named) (sym last)

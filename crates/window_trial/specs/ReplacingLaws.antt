@@ -1,5 +1,5 @@
 -- A chain in a window's place makes a net that leads on.
-use Rattle.std.specs.Prelude.{◌≡◌, ℕ, ◌+◌, ◌≤◌, ◌<◌, ◌^◌, true, List, length, None, refl, ◌⊎◌}
+use Rattle.std.specs.Prelude.{◌≡◌, ℕ, ◌+◌, ◌≤◌, ◌<◌, ◌^◌, true, List, length, None, refl}
 use Rattle.std.proofs.Common.{arith, sym, ◌∙◌, ap, inl, inr, ⊎_elim}
 use Rattle.std.proofs.lemmas.Grind.{common_steps}
 use Rattle.chain_theory.specs.Operator.{Basis}
@@ -29,6 +29,9 @@ lists_room n w c gates net same less =
     let size : length gates ≡ length w.gates = ap (λ (ps : List ℕ). length ps) same in
     omega (arith, net.places, size, less)
 
+pub room_there : (n : Net) (w : Window) (c : Chain) → IsNet n → length c.steps < length w.gates → n.sources + length n.gates + length c.steps < 2 ^ 31 + length w.gates
+room_there n w c net less = omega (arith, net.places, less)
+
 -- ---- the new net
 
 step_over : (basis : Basis) (c : Chain) (op : ℕ) → IsOver basis c → IsStepOperator c op → basis op ≡ true
@@ -49,4 +52,4 @@ replaced_leads basis n m c gates pruned less over old =
 pub replaced_less : (n m : Net) (c : Chain) (gates : List ℕ) → length m.gates + length gates ≤ length n.gates + length c.steps → length c.steps < length gates → length m.gates < length n.gates
 replaced_less n m c gates few less = omega (arith, few, less)
 
-pub ruleset replacing = (common_steps, lists_belong, lists_meet, lists_room, replaced_leads, replaced_less)
+pub ruleset replacing = (common_steps, lists_belong, lists_meet, lists_room, room_there, replaced_leads, replaced_less)

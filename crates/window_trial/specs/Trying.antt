@@ -1,17 +1,20 @@
 -- What the trial of a window comes to.
-use Rattle.std.specs.Prelude.{◌≡◌, ℕ, ◌+◌, ◌<◌, length}
+use Rattle.std.specs.Prelude.{◌≡◌, ℕ, ◌+◌, ◌<◌, Bool, length}
+use Rattle.chain_theory.specs.Chain.{Chain, IsChain}
+use Rattle.chain_theory.specs.Agreement.{Agrees}
+use Rattle.chain_theory.specs.Specification.{Specification}
 use Rattle.tt_core.specs.Words.{specification}
 use Rattle.op_basis.specs.Basis.{members}
 use Rattle.net_theory.specs.Net.{Net}
 use Rattle.window_theory.specs.Window.{Window}
-use Rattle.window_theory.specs.Care.{IsSpecificationOf}
 use Rattle.window_core.specs.Readers.{Readers, AreReaders}
-use Rattle.settings.specs.declared.improve.ImproveSettings.{ImproveSettings}
-use Rattle.settings.specs.Improve.{IsInRange}
+use Rattle.improve_settings.specs.declared.improve.ImproveSettings.{ImproveSettings}
+use Rattle.improve_settings.specs.Improve.{IsInRange}
 use Rattle.cert_theory.specs.declared.data.Heading.{Heading}
 use Rattle.decide_core.specs.declared.deciding.Decided.{Decided}
 use Rattle.decide_core.specs.Decided.{IsDecided}
 use Rattle.sweep_core.specs.declared.visit.Visit.{Visit}
+use Rattle.sweep_core.specs.Asked.{IsAskedOf}
 use Rattle.sweep_core.specs.Undecided.{IsUndecided}
 use Rattle.sweep_core.specs.Outcomes.{Leads, IsDone}
 use Rattle.window_trial.specs.declared.trying.Outcome.{Outcome}
@@ -29,9 +32,9 @@ pub record IsTrying (t : Trying) : Type 0 where
   pub readers : AreReaders t.net t.readers
   pub basis : t.basis ≡ t.settings.basis
 
--- A heading asks by the settings for a specification of a window, and for fewer steps than it has gates.
+-- A heading asks by the settings for what is asked of a window, and for fewer steps than it has gates.
 pub record AsksFor (s : ImproveSettings) (n : Net) (w : Window) (h : Heading) : Type 0 where
-  pub tables : IsSpecificationOf n w (specification h.spec)
+  pub tables : IsAskedOf s.observe n w (specification h.spec)
   pub basis_is : h.basis ≡ s.basis
   pub method_is : h.method ≡ s.method
   pub conflicts_is : h.conflicts ≡ s.conflicts
@@ -43,8 +46,15 @@ pub record IsDecidedFor (s : ImproveSettings) (n : Net) (w : Window) (d : Decide
   pub asks : AsksFor s n w heading
   pub decided : IsDecided heading d
 
+-- The chain agrees with what is asked of the window.
+pub record MeetsAsked (observe : Bool) (n : Net) (w : Window) (c : Chain) : Type 0 where
+  pub chain : IsChain c
+  pub specification : Specification
+  pub is : IsAskedOf observe n w specification
+  pub agrees : Agrees c specification
+
 -- a visit to a net, with the net that takes its place, if one does
 abbrev pub IsOutcome : ImproveSettings → Net → Visit → Outcome → Type 0
-IsOutcome s n v Passed = IsDone n (members s.basis) v
+IsOutcome s n v Passed = IsDone s n v
 IsOutcome s n v (Open search) = IsUndecided n s (record { visit = v; search = search })
 IsOutcome s n v (Smaller m) = Leads (members s.basis) n m × (length m.gates < length n.gates)

@@ -2,7 +2,6 @@
 use Rattle.std.specs.Prelude.{◌≡◌, ℕ, ◌+◌, ◌≤◌, ◌<◌, List, length, Option, refl}
 use Rattle.std.proofs.Common.{arith, sym, ◌∙◌, ap, subst}
 use Rattle.std.proofs.lemmas.Grind.{common_steps}
-use Rattle.chain_theory.specs.Operator.{Basis}
 use Rattle.chain_theory.specs.Chain.{Chain}
 use Rattle.chain_theory.specs.Agreement.{IsOver, NoneBelow}
 use Rattle.tt_core.specs.Words.{Words, IsSpec, specification}
@@ -12,20 +11,20 @@ use Rattle.window_theory.specs.PlaceLaws.{rising_same}
 use Rattle.window_theory.specs.Paths.{IsGate}
 use Rattle.window_theory.specs.Window.{Window, IsPartnerOrNone, IsWindow, Belongs}
 use Rattle.window_theory.specs.WindowLaws.{taken_rising, window_one, window_belongs}
-use Rattle.window_theory.specs.Care.{IsSpecificationOf, HasNoFewer}
-use Rattle.settings.specs.declared.improve.ImproveSettings.{ImproveSettings}
-use Rattle.settings.specs.Improve.{IsInRange}
+use Rattle.improve_settings.specs.declared.improve.ImproveSettings.{ImproveSettings}
+use Rattle.improve_settings.specs.Improve.{IsInRange}
 use Rattle.cert_theory.specs.declared.data.Heading.{Heading}
 use Rattle.cert_theory.specs.Bundle.{Bundle, IsHeading}
 use Rattle.decide_core.specs.declared.deciding.Decided.{Decided}
 use Rattle.decide_core.specs.declared.deciding.Decided.TheVariants as decisions
 use Rattle.decide_core.specs.Decided.{HasNone, IsLeftOpen, IsDecided}
 use Rattle.sweep_core.specs.declared.visit.Visit.{Visit}
+use Rattle.sweep_core.specs.Asked.{IsAskedOf, HasNoFewerAsked}
 use Rattle.sweep_core.specs.Settled.{IsListed}
 use Rattle.sweep_core.specs.Undecided.{IsUndecided}
 use Rattle.sweep_core.specs.Outcomes.{IsDone}
-use Rattle.subst_core.specs.Substitution.{Meets}
-use Rattle.window_trial.specs.Trying.{AsksFor, IsDecidedFor}
+use Rattle.window_trial.specs.Trying.{AsksFor, IsDecidedFor, MeetsAsked}
+use Rattle.window_trial.specs.AskingLaws.{none_asked}
 
 -- ---- headings
 
@@ -40,7 +39,7 @@ asked_well s spec max range tables basis few =
       asked = record { basis_from = range.basis_from; max_to = few; conflicts_from = range.conflicts_from; conflicts_to = range.conflicts_to };
     }
 
-pub decided_by : (s : ImproveSettings) (n : Net) (w : Window) (spec : Words) (max : ℕ) (d : Decided) → IsSpecificationOf n w (specification spec) → max + 1 ≡ length w.gates → IsDecided (record { spec = spec; basis = s.basis; method = s.method; conflicts = s.conflicts; max = max }) d → IsDecidedFor s n w d
+pub decided_by : (s : ImproveSettings) (n : Net) (w : Window) (spec : Words) (max : ℕ) (d : Decided) → IsAskedOf s.observe n w (specification spec) → max + 1 ≡ length w.gates → IsDecided (record { spec = spec; basis = s.basis; method = s.method; conflicts = s.conflicts; max = max }) d → IsDecidedFor s n w d
 decided_by s n w spec max d tables size is =
     record {
       heading = heading_by s spec max;
@@ -63,39 +62,36 @@ IsOf n v w = IsWindow n v.root v.partner v.count w
 
 -- ---- what is left as it is
 
-least_of : (n : Net) (basis : Basis) (v : Visit) (w : Window) → IsOf n v w → HasNoFewer n basis w v.count → IsDone n basis v
-least_of n basis v w is least = record {
+least_of : (s : ImproveSettings) (n : Net) (v : Visit) (w : Window) → IsOf n v w → HasNoFewerAsked s.observe n (members s.basis) w v.count → IsDone s n v
+least_of s n v w is least = record {
   done = λ gate partner. record {
-    least = λ u other. subst (λ (x : Window). HasNoFewer n basis x v.count) (window_one n v.root v.partner v.count w u is other) least;
+    least = λ u other. subst (λ (x : Window). HasNoFewerAsked s.observe n (members s.basis) x v.count) (window_one n v.root v.partner v.count w u is other) least;
   };
 }
 
-none_of : (s : ImproveSettings) (n : Net) (v : Visit) (w : Window) (h : Heading) → IsNet n → IsOf n v w → AsksFor s n w h → HasNone h → HasNoFewer n (members s.basis) w v.count
+none_of : (s : ImproveSettings) (n : Net) (v : Visit) (w : Window) (h : Heading) → IsNet n → IsOf n v w → AsksFor s n w h → HasNone h → HasNoFewerAsked s.observe n (members s.basis) w v.count
 none_of s n v w h net is asks none =
     let size : h.max + 1 ≡ v.count = asks.max_is ∙ window_size n v.root v.partner v.count w net is in
-    record {
-      specification = specification h.spec;
-      is = asks.tables;
-      none = subst (λ (k : ℕ). NoneBelow (specification h.spec) (members s.basis) k) size (subst (λ (b : ℕ). NoneBelow (specification h.spec) (members b) (h.max + 1)) asks.basis_is none);
-    }
+    none_asked s.observe n (members s.basis) w v.count (specification h.spec) asks.tables
+    (subst (λ (k : ℕ). NoneBelow (specification h.spec) (members s.basis) k) size (subst (λ (b : ℕ). NoneBelow (specification h.spec) (members b) (h.max + 1)) asks.basis_is none))
 
 decided_as : (s : ImproveSettings) (n : Net) (w : Window) (d e : Decided) → d ≡ e → IsDecidedFor s n w d → IsDecidedFor s n w e
 decided_as s n w d e same is = subst (λ (x : Decided). IsDecidedFor s n w x) same is
 
-least_by : (s : ImproveSettings) (n : Net) (v : Visit) (w : Window) → IsNet n → IsOf n v w → IsDecidedFor s n w decisions.Least → IsDone n (members s.basis) v
-least_by s n v w net is decided = least_of n (members s.basis) v w is (none_of s n v w decided.heading net is decided.asks decided.decided)
+least_by : (s : ImproveSettings) (n : Net) (v : Visit) (w : Window) → IsNet n → IsOf n v w → IsDecidedFor s n w decisions.Least → IsDone s n v
+least_by s n v w net is decided = least_of s n v w is (none_of s n v w decided.heading net is decided.asks decided.decided)
 
-pub trial_least : (s : ImproveSettings) (n : Net) (v : Visit) (w : Window) (d : Decided) → IsNet n → IsWindow n v.root v.partner v.count w → IsDecidedFor s n w d → d ≡ decisions.Least → IsDone n (members s.basis) v
+pub trial_least : (s : ImproveSettings) (n : Net) (v : Visit) (w : Window) (d : Decided) → IsNet n → IsWindow n v.root v.partner v.count w → IsDecidedFor s n w d → d ≡ decisions.Least → IsDone s n v
 trial_least s n v w d net is decided e = least_by s n v w net is (decided_as s n w d decisions.Least e decided)
 
 -- no partner, or no window
-pub trial_apart : (n : Net) (basis : Basis) (v : Visit) → (IsPartnerOrNone n v.root v.partner → ⊥) → IsDone n basis v
-trial_apart n basis v none = record { done = λ gate partner. absurd (none partner) }
+pub trial_apart : (s : ImproveSettings) (n : Net) (v : Visit) → (IsPartnerOrNone n v.root v.partner → ⊥) → IsDone s n v
+trial_apart s n v none = record { done = λ gate partner. absurd (none partner) }
 
-pub trial_none : (n : Net) (basis : Basis) (v : Visit) → ((w : Window) → IsWindow n v.root v.partner v.count w → ⊥) → IsDone n basis v
-trial_none n basis v none = record { done = λ gate partner. record { least = λ w is. absurd (none w is) } }
+pub trial_none : (s : ImproveSettings) (n : Net) (v : Visit) → ((w : Window) → IsWindow n v.root v.partner v.count w → ⊥) → IsDone s n v
+trial_none s n v none = record { done = λ gate partner. record { least = λ w is. absurd (none w is) } }
 
-shorter_meets : (s : ImproveSettings) (n : Net) (w : Window) (c : Chain) (low : ℕ) → IsDecidedFor s n w (decisions.Shorter c low) → Meets n w c
+shorter_meets : (s : ImproveSettings) (n : Net) (w : Window) (c : Chain) (low : ℕ) → IsDecidedFor s n w (decisions.Shorter c low) → MeetsAsked s.observe n w c
 shorter_meets s n w c low is = record { chain = is.decided.0.found.chain; specification = specification is.heading.spec; is = is.asks.tables; agrees = is.decided.0.found.agrees }
 
 shorter_fewer : (s : ImproveSettings) (n : Net) (w : Window) (c : Chain) (low : ℕ) → IsDecidedFor s n w (decisions.Shorter c low) → length c.steps < length w.gates
@@ -112,7 +108,7 @@ open_by s n v w h b net listed is asks left =
       listed = listed;
       window = w;
       is = is;
-      tables = subst (λ (k : Heading). IsSpecificationOf n w (specification k.spec)) (sym left.heading) asks.tables;
+      tables = subst (λ (k : Heading). IsAskedOf s.observe n w (specification k.spec)) (sym left.heading) asks.tables;
       basis_is = ap (λ (k : Heading). k.basis) left.heading ∙ asks.basis_is;
       method_is = ap (λ (k : Heading). k.method) left.heading ∙ asks.method_is;
       conflicts_is = ap (λ (k : Heading). k.conflicts) left.heading ∙ asks.conflicts_is;
@@ -132,7 +128,7 @@ trial_open s n v w d b net listed is decided e = left_by s n v w b net listed is
 
 -- ---- shorter chains
 
-pub trial_meets : (s : ImproveSettings) (n : Net) (w : Window) (d : Decided) (c : Chain) (low : ℕ) → IsDecidedFor s n w d → d ≡ decisions.Shorter c low → Meets n w c
+pub trial_meets : (s : ImproveSettings) (n : Net) (w : Window) (d : Decided) (c : Chain) (low : ℕ) → IsDecidedFor s n w d → d ≡ decisions.Shorter c low → MeetsAsked s.observe n w c
 trial_meets s n w d c low decided e = shorter_meets s n w c low (decided_as s n w d (decisions.Shorter c low) e decided)
 
 pub trial_fewer : (s : ImproveSettings) (n : Net) (w : Window) (d : Decided) (c : Chain) (low : ℕ) → IsDecidedFor s n w d → d ≡ decisions.Shorter c low → length c.steps < length w.gates

@@ -1,11 +1,11 @@
 //! A net improved: dead gates go, and then the sweep tries its windows.
 ghost use Rattle.std.specs.Prelude.{IfOk};
-ghost use Rattle.settings.specs.Improve.{IsInRange};
+ghost use Rattle.improve_settings.specs.Improve.{IsInRange};
 ghost use Rattle.window_trial.specs.Improvement.{Leaves};
 
 use crate::trying::WindowTrial;
+use improve_settings::ImproveSettings;
 use net_core::{Net, drop_dead};
-use settings::ImproveSettings;
 use std::alloc::{AllocError, Global};
 use sweep_core::{Swept, Undecided, sweep};
 

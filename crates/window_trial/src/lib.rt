@@ -1,12 +1,13 @@
 //! A net whose windows are tried: what the sweep asks of a trial, by windows, specifications, searches and
 //! substitution.
 //!
-//! It stands on `window_core` for the windows and what they have to compute, on `decide_core` for the search of
-//! a shorter chain, on `subst_core` for the net in which a chain has taken a window's place, and it is a `Trial`
-//! of `sweep_core`. The net and its index are kept together; the index is made anew when the net changes.
+//! It stands on `window_core` for the windows and what they have to compute, on `observe_core` for what those who see
+//! them ask, on `decide_core` for the search of a shorter chain, on `subst_core` for the net in which a chain has taken
+//! a window's place, and it is a `Trial` of `sweep_core`. The net and its index are kept together; the index is made anew when the net changes.
 //!
 //! The one theorem is that of `improve_net`, which drops dead gates and then sweeps: what is left answers what the
-//! net answers, and once it is settled no window up to the cap has a shorter chain, but for those that are named.
+//! net answers, and once it is settled no window up to the cap has a shorter chain for what the settings ask of it, but
+//! for those that are named.
 //!
 //! ```text
 //! let left = improve_net(alloc, &net, ImproveSettings::usual())?;
@@ -14,12 +15,13 @@
 //! ```
 #![tactic(auto)]
 
+mod asking;
 mod improving;
 mod partners;
 mod replacing;
 mod trying;
 
+pub use improve_settings::ImproveSettings;
 pub use improving::{ImprovedNet, improve_net};
-pub use settings::ImproveSettings;
 pub use sweep_core::{Undecided, Visit};
 pub use trying::WindowTrial;

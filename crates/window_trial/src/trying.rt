@@ -1,21 +1,22 @@
 //! The trial of a window: its specification, the search, and the new net.
 ghost use Rattle.std.specs.Prelude.{◌≡◌, ◌≤◌, IfOk, OnOk};
-ghost use Rattle.settings.specs.Improve.{IsInRange};
+ghost use Rattle.improve_settings.specs.Improve.{IsInRange};
 ghost use Rattle.window_theory.specs.Paths.{IsGate};
 ghost use Rattle.window_theory.specs.Window.{IsWindow, Belongs};
 ghost use Rattle.sweep_core.specs.Settled.{IsListed};
 ghost use Rattle.window_core.specs.Readers.{AreReaders};
 ghost use Rattle.window_trial.specs.Trying.{IsDecidedFor, IsOutcome};
 
+use crate::asking::asked_spec;
 use crate::partners::{is_partner_or_none, next_partner};
 use crate::replacing::with_chain;
 use decide_core::{Decided, Heading, Memory, decide};
+use improve_settings::ImproveSettings;
 use net_core::Net;
-use settings::ImproveSettings;
 use std::alloc::{AllocError, Global};
 use std::marker::Model;
 use sweep_core::{Trial, Tried, Visit};
-use window_core::{Readers, Window, readers_of, spec_of, window_by};
+use window_core::{Readers, Window, readers_of, window_by};
 
 /// A net whose windows are tried, with its index, the settings, and what was found of windows before.
 #[derive(Debug, Drop)]
@@ -36,15 +37,17 @@ impl Model for WindowTrial {
     ghost invariant = { λ t. IsTrying (record { settings = t.settings; net = t.net; readers = t.readers; basis = t.memory }) };
 }
 
-/// Whether a window of a net has a shorter chain, by a heading that asks for its specification.
+/// Whether a window of a net has a shorter chain, by a heading that asks for what the settings ask of it.
 #[tactic(auto, using(crate::specs::TryingLaws::trying))]
 fn decide_window(
     alloc: Global,
     net: &Net,
+    readers: &Readers,
     window: &Window,
     settings: ImproveSettings,
     memory: &mut Memory,
 ) -> Result<Decided, AllocError>
+    requires readers { AreReaders net.now readers.now }
     requires belongs { Belongs net.now window.now }
     requires range { IsInRange settings }
     requires basis { memory.old ≡ settings.basis }
@@ -52,7 +55,7 @@ fn decide_window(
     ensures basis { memory.new ≡ memory.old }
 {
     let max = window.gates().len() as u32 - 1;
-    let spec = spec_of(alloc, net, window)?;
+    let spec = asked_spec(alloc, net, readers, window, settings.observe)?;
     // brings what the types of tables and bases say
     let _inputs = spec.n();
     let _operators = settings.basis.get();
@@ -80,11 +83,13 @@ enum Outcome {
 fn try_window(
     alloc: Global,
     net: &Net,
+    readers: &Readers,
     window: &Window,
     settings: ImproveSettings,
     memory: &mut Memory,
     visit: Visit,
 ) -> Result<Outcome, AllocError>
+    requires readers { AreReaders net.now readers.now }
     requires window { IsWindow net.now visit.root visit.partner visit.count window.now }
     requires belongs { Belongs net.now window.now }
     requires range { IsInRange settings }
@@ -95,15 +100,11 @@ fn try_window(
 {
     // brings what the type of a net says
     let _gates = net.gates();
-    match decide_window(alloc, net, window, settings, memory)? {
+    match decide_window(alloc, net, readers, window, settings, memory)? {
         Decided::Least => Ok(Outcome::Passed),
         Decided::Open(search) => Ok(Outcome::Open(search)),
         Decided::Shorter { chain, low: _ } => Ok(Outcome::Smaller(with_chain(
-            alloc,
-            net,
-            window,
-            &chain,
-            settings.basis,
+            alloc, net, window, &chain, settings,
         )?)),
     }
 }
@@ -134,7 +135,7 @@ fn try_visit(
     }
     match window_by(alloc, net, readers, visit.root, visit.partner, visit.count)? {
         None => Ok(Outcome::Passed),
-        Some(window) => try_window(alloc, net, &window, settings, memory, visit),
+        Some(window) => try_window(alloc, net, readers, &window, settings, memory, visit),
     }
 }
 

@@ -1,7 +1,7 @@
 -- One count more was visited.
 use Rattle.std.specs.Prelude.{◌≤◌}
 use Rattle.std.proofs.Common.{ap, ◌+◌, arith}
-use Rattle.settings.specs.declared.improve.ImproveSettings.{ImproveSettings}
+use Rattle.improve_settings.specs.declared.improve.ImproveSettings.{ImproveSettings}
 use Rattle.sweep_core.specs.Swept.{stage}
 use Rattle.sweep_core.specs.SweptLaws.{counts_start, counts_more}
 use Rattle.sweep_core.proofs.round.visit_counts.Goals as goal

@@ -1,7 +1,7 @@
 -- A round that changed nothing settles; one that did counts.
 use Rattle.std.specs.Prelude.{◌≡◌, true, false}
 use Rattle.std.proofs.Common.{refl, ap}
-use Rattle.settings.specs.declared.improve.ImproveSettings.{ImproveSettings}
+use Rattle.improve_settings.specs.declared.improve.ImproveSettings.{ImproveSettings}
 use Rattle.sweep_core.specs.SweptLaws.{sweep_more, sweep_settles, sweep_names, sweep_rises}
 use Rattle.sweep_core.proofs.sweeping.sweep.Goals as goal
 

@@ -2,7 +2,7 @@ use Rattle.std.specs.Prelude.{ℕ, ◌<◌, List, length}
 use Rattle.std.proofs.Common.{sym, subst}
 use Rattle.op_basis.specs.Basis.{members}
 use Rattle.window_trial.specs.ReplacingLaws.{replaced_leads}
-use Rattle.window_trial.proofs.replacing.with_chain.Goals as goal
+use Rattle.window_trial.proofs.replacing.with_own.Goals as goal
 
 pub returns-clause-leads : goal.returns-clause-leads
 returns-clause-leads c =

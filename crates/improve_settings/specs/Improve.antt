@@ -1,9 +1,9 @@
 -- What the improver of netlists is asked with.
-use Rattle.std.specs.Prelude.{ℕ, ◌≤◌, ◌<◌}
+use Rattle.std.specs.Prelude.{ℕ, ◌≤◌, ◌<◌, false}
 use Rattle.op_basis.specs.Text.{all_set}
 use Rattle.enc_theory.specs.declared.data.Method.TheVariants.{Ssv}
 use Rattle.settings.specs.Synth.{most_conflicts}
-use Rattle.settings.specs.declared.improve.ImproveSettings.{ImproveSettings}
+use Rattle.improve_settings.specs.declared.improve.ImproveSettings.{ImproveSettings}
 
 abbrev pub most_gates_of_window : ℕ
 most_gates_of_window = 8
@@ -22,4 +22,4 @@ pub record IsInRange (s : ImproveSettings) : Type 0 where
 
 -- what holds where nothing is named
 abbrev pub usual : ImproveSettings
-usual = record { basis = all_set; method = Ssv; cap = 5; rounds = 1000; conflicts = 100000 }
+usual = record { basis = all_set; method = Ssv; cap = 5; rounds = 1000; conflicts = 100000; observe = false }

@@ -1,9 +1,9 @@
 //! What the improver of netlists is asked with.
 ghost use Rattle.std.specs.Prelude.{◌≡◌};
-ghost use Rattle.settings.specs.Improve.{usual, IsInRange};
+ghost use Rattle.improve_settings.specs.Improve.{usual, IsInRange};
 
-use enc_theory::Method;
 use op_basis::Basis;
+use settings::Method;
 
 /// The most gates that a window has.
 pub const MOST_GATES_OF_WINDOW: u32 = 8;
@@ -24,11 +24,13 @@ pub struct ImproveSettings {
     pub rounds: u32,
     /// How many clauses at least are learnt before a formula is left open, from 1 to 10,000,000.
     pub conflicts: u32,
+    /// Whether a window may do anything on the rows that nobody sees.
+    pub observe: bool,
 }
 
 impl ImproveSettings {
     /// What holds where nothing is named: all operators, the method `ssv`, windows of at most 5 gates,
-    /// 1,000 rounds and a budget of 100,000.
+    /// 1,000 rounds, a budget of 100,000, and all rows are seen.
     pub fn usual() -> ImproveSettings
         ensures value { result ≡ usual }
         ensures range { IsInRange result }
@@ -39,6 +41,7 @@ impl ImproveSettings {
             cap: 5,
             rounds: 1000,
             conflicts: 100_000,
+            observe: false,
         }
     }
 }

@@ -1,0 +1,20 @@
+-- What is asked of a window: its own specification, or, where the rows that nobody sees are left out of account, its
+-- observed one.
+use Rattle.std.specs.Prelude.{ℕ, Bool, true, false}
+use Rattle.chain_theory.specs.Operator.{Basis}
+use Rattle.chain_theory.specs.Specification.{Specification}
+use Rattle.net_theory.specs.Net.{Net}
+use Rattle.window_theory.specs.Window.{Window}
+use Rattle.window_theory.specs.Care.{IsSpecificationOf, HasNoFewer}
+use Rattle.observe_theory.specs.Observed.{IsObservedOf, HasNoFewerSeen}
+
+abbrev pub IsAskedOf : Bool → Net → Window → Specification → Type 0
+IsAskedOf false n w s = IsSpecificationOf n w s
+IsAskedOf true n w s = IsObservedOf n w s
+
+-- No chain over the basis of fewer steps than the count does what is asked of the window.
+-- Example: where the gate 3 is XNOR of the sources 1 and 2, gate 4 is AND of 3 and the source 1, and the only sink is
+-- 4, the window 3 has no chain of fewer than 1 steps. Observed it has one, the source 2.
+abbrev pub HasNoFewerAsked : Bool → Net → Basis → Window → ℕ → Type 0
+HasNoFewerAsked false n basis w count = HasNoFewer n basis w count
+HasNoFewerAsked true n basis w count = HasNoFewerSeen n basis w count

@@ -1,0 +1,33 @@
+//! What the settings ask of a window.
+ghost use Rattle.std.specs.Prelude.{IfOk};
+ghost use Rattle.tt_core.specs.Words.{specification};
+ghost use Rattle.window_theory.specs.Window.{Belongs};
+ghost use Rattle.window_core.specs.Readers.{AreReaders};
+ghost use Rattle.sweep_core.specs.Asked.{IsAskedOf};
+
+use net_core::Net;
+use observe_core::observed_spec_by;
+use std::alloc::{AllocError, Global};
+use tt_core::Spec;
+use window_core::{Readers, Window, spec_of};
+
+/// The specification of a window, or, where rows that nobody sees are left out of account, its observed one.
+#[tactic(auto, using(crate::specs::AskingLaws::asking))]
+pub fn asked_spec(
+    alloc: Global,
+    net: &Net,
+    readers: &Readers,
+    window: &Window,
+    observe: bool,
+) -> Result<Spec, AllocError>
+    requires readers { AreReaders net.now readers.now }
+    requires belongs { Belongs net.now window.now }
+    ensures { IfOk result (λ spec. IsAskedOf observe net.now window.now (specification spec)) }
+{
+    if observe {
+        let seen = observed_spec_by(alloc, net, readers, window)?;
+        return Ok(seen);
+    }
+    let own = spec_of(alloc, net, window)?;
+    Ok(own)
+}
