@@ -21,4 +21,4 @@ is_task (Equiv budget) = equiv_is_task budget
 is_task (Gen blocks deed) = gen_is_task blocks deed
 
 -- What was told of bytes, sent out, answers them.
-pub ruleset answering = (common_steps, agree_is_task, recheck_is_task, synth_is_task, improve_is_task, equiv_is_task, gen_is_task, answered)
+pub ruleset answering = (common_steps, agree_is_task, recheck_is_task, improve_is_task, equiv_is_task, gen_is_task, answered)

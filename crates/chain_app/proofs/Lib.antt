@@ -11,4 +11,5 @@ pub mod Improving
 pub mod Obeying
 pub mod Rechecking
 pub mod Synthesising
+pub mod Writing
 pub mod TablesRead

@@ -1,5 +1,5 @@
 -- What `synth` tells of bytes, and what it promises.
-use Rattle.std.specs.Prelude.{◌≡◌, ℕ, ◌≤◌, ◌⊎◌, List, [], length, Some, Result, Ok, Err}
+use Rattle.std.specs.Prelude.{◌≡◌, ℕ, ◌<◌, ◌≤◌, ◌⊎◌, List, [], length, Some, Result, Ok, Err}
 use Rattle.std.proofs.Common.{arith, sym, ◌∙◌, ap, refl, inl, inr}
 use Rattle.std.proofs.Math.Logic.{⊎_elim}
 use Rattle.std.proofs.lemmas.Grind.{common_steps}
@@ -16,20 +16,20 @@ use Rattle.settings.specs.declared.synth.SynthSettings.{SynthSettings}
 use Rattle.synth_core.specs.Certifying.{IsCertificate}
 use Rattle.synth_core.specs.Tables.{words_alone, tables_alone}
 use Rattle.command_line.specs.CommandLine.{AsksFor}
-use Rattle.frame_core.specs.declared.status.Status.TheVariants.{Done, Undecided, Refused}
+use Rattle.frame_core.specs.declared.status.Status.TheVariants.{Done, Undecided, WriteFault, Memory, Refused}
 use Rattle.chain_app.specs.Agree.{most_of_tables}
 use Rattle.chain_app.specs.AgreeReport.{spec_status, named_spec}
-use Rattle.chain_app.specs.SynthReport.{verdict_status, Certified, synth_reply, synth_refusal, AreTables, IsCertified, HasTablesFault, synth_task}
+use Rattle.chain_app.specs.SynthReport.{verdict_status, Certified, synth_reply, synth_refusal, AreTables, IsCertified, HasTablesFault, BeginsCertificate, synth_task}
 use Rattle.frame_core.specs.Told.{Reply, Refusal, memory_refusal}
-use Rattle.frame_core.specs.Task.{IsAnswerStatus, IsRefusalStatus, IsTask, Tells, Refuses}
+use Rattle.port_io.specs.Bytes.{Appends}
+use Rattle.frame_core.specs.Task.{IsAnswerStatus, IsRefusalStatus, IsTask, Refuses, IsAnswerFront, IsBegunFront, MayStand}
 use Rattle.command_line.specs.declared.command.Command.TheVariants.{Synth}
 use Rattle.frame_core.specs.Run.{Run}
-use Rattle.frame_core.specs.Promise.{OutputHeld, Replies, Faults, CommandPromise}
-use Rattle.chain_app.specs.SynthPromise.{SynthPromise}
-use Rattle.chain_app.proofs.Certified.{certified}
-use Rattle.frame_core.specs.TaskLaws.{at_once_task}
+use Rattle.frame_core.specs.Promise.{OutputHeld, TellsError, Replies, Faults, OfInput, ReplyCut, ReportCut, ReplyStarved, CommandPromise}
+use Rattle.chain_app.specs.SynthPromise.{LeavesFront, SynthPromise}
+use Rattle.frame_core.specs.TaskLaws.{in_pieces_task}
 use Rattle.frame_core.specs.KeepingLaws.{of_input}
-use Rattle.frame_core.specs.ReadOffLaws.{gets}
+use Rattle.frame_core.specs.ReadOffLaws.{gets, no_report}
 
 -- ---- what the search answers
 
@@ -42,13 +42,6 @@ told_fault tables.TooManyOutputs read fails other = fails
 told_fault tables.NoOutput read fails other = fails
 told_fault tables.Memory read fails other = absurd (other refl)
 
-pub tells : (asked : SynthSettings) (bytes text : List ℕ) (verdict : Verdict) (reply : Reply) → length bytes ≤ most_of_tables → IsCertificate bytes asked text verdict → reply ≡ synth_reply (record { text = text; verdict = verdict }) → Tells (synth_task asked) bytes reply
-tells asked bytes text verdict reply within certificate is = record {
-  answer = record { text = text; verdict = verdict };
-  has = certified asked bytes (record { text = text; verdict = verdict }) within certificate;
-  is = is;
-}
-
 pub refuses : (asked : SynthSettings) (bytes : List ℕ) (e : SpecError) (refusal : Refusal) → length bytes ≤ most_of_tables → (e ≡ tables.Memory → ⊥) → Fails e (tables_alone (lines_of bytes)) → refusal ≡ synth_refusal e → Refuses (synth_task asked) bytes refusal
 refuses asked bytes e refusal within other fails is = record {
   fault = e;
@@ -56,7 +49,7 @@ refuses asked bytes e refusal within other fails is = record {
   is = is;
 }
 
-pub ruleset telling = (common_steps, tells, refuses)
+pub ruleset telling = (common_steps, refuses)
 
 -- ---- `synth` is a command
 
@@ -97,15 +90,20 @@ one_error read d e is other = cc
 its_tables : (asked : SynthSettings) (bytes text : List ℕ) (verdict : Verdict) (c : IsCertificate bytes asked text verdict) → IsSpec c.bundle.heading.spec
 its_tables asked bytes text verdict c = c.is_bundle.valid.heading.tables
 
+not_beyond : (bytes : List ℕ) → length bytes ≤ most_of_tables → most_of_tables < length bytes → ⊥
+not_beyond bytes within long = omega arith
+
 pub synth_is_task : (asked : SynthSettings) → IsTask (synth_task asked)
 synth_is_task asked =
-    at_once_task most_of_tables Certified (IsCertified asked) synth_reply SpecError HasTablesFault synth_refusal
+    in_pieces_task (Some most_of_tables) Certified (IsCertified asked) synth_reply SpecError HasTablesFault synth_refusal (BeginsCertificate asked)
     (λ c. answer_statuses c.verdict)
     (λ bytes fault meets. statuses_of fault)
     (λ bytes c error has fault. no_fault has.certificate.bundle.heading.spec (lines_of bytes) error (its_tables asked bytes c.text c.verdict has.certificate) has.certificate.tables fault.fault)
     (λ bytes a b x y. ap synth_refusal (one_error (tables_alone (lines_of bytes)) a b x.fault y.fault))
-    (λ bytes c has. has.within)
-    (λ bytes error fault. fault.within)
+    (λ bytes c has long. not_beyond bytes has.within long)
+    (λ bytes error fault long. not_beyond bytes fault.within long)
+    (λ bytes text error begins fault. no_fault begins.tables (lines_of bytes) error begins.are.are begins.are.spelled fault.fault)
+    (λ bytes text begins long. not_beyond bytes begins.are.within long)
 
 -- ---- what it promises besides
 
@@ -144,6 +142,48 @@ never_refused r asked promise is =
     (λ (none : Faults (synth_task asked) r of.bytes). not_refused none.fault (sym none.told.status_is ∙ is))
     of.holds
 
+-- what may stand on the output where a certificate was cut
+front_left : (r : Run) (asked : SynthSettings) (input front : List ℕ) → MayStand (synth_task asked) input front → Appends r.out.bytes r.out'.bytes front → LeavesFront r asked input
+front_left r asked input front stands on_out =
+    ⊎_elim
+    (λ (of : IsAnswerFront (synth_task asked) input front). let c = of.has.certificate in
+    let left : LeavesFront r asked input = record {
+      tables = c.bundle.heading.spec;
+      are = record { within = of.has.within; are = c.is_bundle.valid.heading.tables; spelled = c.tables };
+      text = of.answer.text;
+      is_front = inl (c.bundle, c.is_bundle, c.heading_is);
+      written = front;
+      begins = of.is_front;
+      on_out = on_out;
+    } in left)
+    (λ (of : IsBegunFront (synth_task asked) input front).
+    let left : LeavesFront r asked input = record {
+      tables = of.begins.tables;
+      are = of.begins.are;
+      text = of.text;
+      is_front = inr (of.begins.sections, of.begins.begun);
+      written = front;
+      begins = of.is_front;
+      on_out = on_out;
+    } in left)
+    stands
+
+cut : (r : Run) (asked : SynthSettings) (input : List ℕ) → CommandPromise (synth_task asked) r → r.source.bytes ≡ Some input → r.status ≡ WriteFault → LeavesFront r asked input
+cut r asked input promise told is =
+    ⊎_elim
+    (λ (left : ReplyCut (synth_task asked) r input). front_left r asked input left.front left.leaves left.on_out)
+    (λ (none : ReportCut (synth_task asked) r input). no_report (synth_task asked) r input (λ c. refl) none)
+    (of_input (synth_task asked) r (λ bytes. ReplyCut (synth_task asked) r bytes ⊎ ReportCut (synth_task asked) r bytes) input (promise.write_fault_only is) told)
+
+starved : (r : Run) (asked : SynthSettings) (input : List ℕ) → CommandPromise (synth_task asked) r → r.source.bytes ≡ Some input → r.status ≡ Memory → (r.out' ≡ r.out) ⊎ LeavesFront r asked input
+starved r asked input promise told is =
+    ⊎_elim
+    (λ (error : TellsError r memory_refusal). inl error.on_out)
+    (λ (of : OfInput (synth_task asked) r (ReplyStarved (synth_task asked) r)).
+    let left = of_input (synth_task asked) r (ReplyStarved (synth_task asked) r) input of told in
+    inr (front_left r asked input left.front left.leaves left.on_out))
+    (promise.memory_only is)
+
 -- All that `synth` promises besides.
 pub synth_promised : (r : Run) → ((asked : SynthSettings) → AsksFor r.words (Synth asked) → CommandPromise (synth_task asked) r) → SynthPromise r
 synth_promised r keeps = record {
@@ -151,4 +191,6 @@ synth_promised r keeps = record {
   answer_only = λ asked input run is. answer_only r asked input (keeps asked run.asks) run.told is;
   never_refused = λ asked asks is. never_refused r asked (keeps asked asks) is;
   refused = λ asked input error run fault held. (keeps asked run.asks).refused input error run.told fault held;
+  cut = λ asked input run is. cut r asked input (keeps asked run.asks) run.told is;
+  starved = λ asked input run is. starved r asked input (keeps asked run.asks) run.told is;
 }

@@ -17,4 +17,5 @@ pub mod RunPromise
 pub mod Runs
 pub mod SynthPromise
 pub mod SynthReport
+pub mod SynthWriting
 pub mod Tasks

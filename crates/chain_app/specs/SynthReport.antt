@@ -1,5 +1,5 @@
 -- What `synth` tells.
-use Rattle.std.specs.Prelude.{◌≡◌, ℕ, ◌≤◌, List, [], length, None, Ok, Err}
+use Rattle.std.specs.Prelude.{◌≡◌, ℕ, ◌≤◌, List, [], length, Some, None, Ok, Err}
 use Rattle.text_core.specs.Lines.{lines_of}
 use Rattle.tt_core.specs.Words.{Words, IsSpec, specification}
 use Rattle.tt_core.specs.Spelling.{SpellsTables}
@@ -7,9 +7,12 @@ use Rattle.tt_core.specs.declared.error.SpecError.{SpecError}
 use Rattle.op_basis.specs.Basis.{members}
 use Rattle.cert_theory.specs.declared.data.Verdict.{Verdict}
 use Rattle.cert_theory.specs.declared.data.Verdict.TheVariants as verdicts
+use Rattle.cert_theory.specs.Bundle.{Section}
+use Rattle.cert_theory.specs.Front.{IsBegun}
 use Rattle.cert_theory.specs.Meaning.{Means}
 use Rattle.cert_theory.specs.Judging.{bundle_of}
 use Rattle.settings.specs.declared.synth.SynthSettings.{SynthSettings}
+use Rattle.synth_core.specs.Asking.{heading_of}
 use Rattle.synth_core.specs.Certifying.{IsCertificate}
 use Rattle.synth_core.specs.Tables.{tables_alone}
 use Rattle.frame_core.specs.declared.status.Status.{Status}
@@ -18,7 +21,7 @@ use Rattle.chain_app.specs.Agree.{most_of_tables}
 use Rattle.chain_app.specs.AgreeReport.{spec_status, named_spec}
 use Rattle.chain_app.specs.RecheckReport.{most_of_bundle, GivesVerdict}
 use Rattle.frame_core.specs.Told.{Reply, Refusal}
-use Rattle.frame_core.specs.Task.{Task, at_once}
+use Rattle.frame_core.specs.Task.{Task, in_pieces}
 
 -- Where the fewest steps are known, or no chain is within the limit, that is an answer; a budget that
 -- was spent before leaves it undecided.
@@ -63,5 +66,14 @@ pub record HasTablesFault (bytes : List ℕ) (error : SpecError) : Type 0 where
   pub within : length bytes ≤ most_of_tables
   pub fault : tables_alone (lines_of bytes) ≡ Err error
 
+-- The text is that of the heading of a certificate for the tables in the bytes and for what is asked, and of
+-- whole sections behind it: those of the sizes 0, 1, 2 and so on.
+pub record BeginsCertificate (asked : SynthSettings) (bytes text : List ℕ) : Type 0 where
+  pub tables : Words
+  pub are : AreTables bytes tables
+  pub sections : List Section
+  pub begun : IsBegun (heading_of tables asked) sections text
+
+-- It goes out a section at a time.
 abbrev pub synth_task : SynthSettings → Task
-synth_task asked = at_once most_of_tables Certified (IsCertified asked) synth_reply SpecError HasTablesFault synth_refusal
+synth_task asked = in_pieces (Some most_of_tables) Certified (IsCertified asked) synth_reply SpecError HasTablesFault synth_refusal (BeginsCertificate asked)

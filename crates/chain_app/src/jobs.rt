@@ -1,21 +1,18 @@
 //! The commands that read all of their input and then tell all that they found, as jobs of the frame: how much each
 //! reads, and what it tells of bytes.
 ghost use Rattle.std.specs.Prelude.{◌≤◌};
-ghost use Rattle.settings.specs.Synth.{IsInRange};
 ghost use Rattle.command_line.specs.CommandLine.{IsAsked, IsBudget};
 ghost use Rattle.command_line.specs.Options.{most_blocks};
 ghost use Rattle.chain_app.specs.AgreeReport.{agree_task};
-ghost use Rattle.chain_app.specs.SynthReport.{synth_task};
 ghost use Rattle.chain_app.specs.ImproveReport.{improve_task};
 ghost use Rattle.chain_app.specs.EquivReport.{equiv_task};
 ghost use Rattle.chain_app.specs.GenReport.{gen_task};
 
-use crate::{agree, equiv, improve, netlists, synth};
+use crate::{agree, equiv, improve, netlists};
 use command_line::{Deed, Format};
 use frame_core::{Ended, Job, finish};
 use improve_settings::ImproveSettings;
 use port_io::Sink;
-use settings::SynthSettings;
 use std::alloc::Global;
 
 /// Whether a chain agrees with tables.
@@ -40,31 +37,6 @@ impl Job for Agree {
         note: &mut N,
     ) -> Ended {
         finish(agree::agree(alloc, bytes), out, note)
-    }
-}
-
-/// A certificate of the fewest steps for tables.
-#[derive(Drop)]
-pub(crate) struct Synth(pub(crate) SynthSettings);
-
-impl Job for Synth {
-    ghost task = { λ job. synth_task job.0 };
-
-    ghost ready = { λ job. IsInRange job.0 };
-
-    fn reads(&self) -> Option<usize> {
-        Some(synth::MOST_BYTES)
-    }
-
-    #[tactic(auto, using(crate::proofs::Commands::answering))]
-    fn answer<O: Sink, N: Sink>(
-        &self,
-        alloc: Global,
-        bytes: &[u8],
-        out: &mut O,
-        note: &mut N,
-    ) -> Ended {
-        finish(synth::synth(alloc, bytes, &self.0), out, note)
     }
 }
 

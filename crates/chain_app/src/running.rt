@@ -5,8 +5,9 @@ ghost use Rattle.frame_core.specs.Run.{Outcome, IsRun, run_of, before_after};
 ghost use Rattle.chain_app.specs.Tasks.{task_of};
 ghost use Rattle.chain_app.specs.KeepsPromises.{KeepsPromises};
 
-use crate::jobs::{Agree, Equiv, Gen, Improve, Synth};
+use crate::jobs::{Agree, Equiv, Gen, Improve};
 use crate::recheck::Recheck;
+use crate::synth::Synth;
 use command_line::{Command, read_words};
 use frame_core::{ErrorLine, Status, perform, perform_stream, tell_error};
 use port_io::{Sink, Source};
