@@ -1,5 +1,5 @@
 -- The one table of options: how each is named and read, and which command takes it.
-use Rattle.std.specs.Prelude.{ℕ, List, [], ◌∷◌, codes, nat_eq, nat_lt, ◌==◌, bit_and, Bool, Option, Some, None, Result, Ok, Err, if◌then◌else◌}
+use Rattle.std.specs.Prelude.{ℕ, List, [], ◌∷◌, codes, nat_eq, nat_lt, ◌==◌, bit_and, Bool, true, false, Option, Some, None, Result, Ok, Err, if◌then◌else◌}
 use Rattle.std.specs.List.{list_any}
 use Rattle.std.specs.Cmp.Lexicographic.{pointwise}
 use Rattle.text_core.specs.Numbers.{number_up_to}
@@ -63,6 +63,14 @@ format_in word = if is_word word (codes "blif") then Some Blif else (if is_word 
 abbrev pub deed_in : List ℕ → Option Deed
 deed_in word = if is_word word (codes "write") then Some deeds.Write else (if is_word word (codes "improve") then Some deeds.Improve else None)
 
+-- a flag
+abbrev pub flag_in : List ℕ → Option Bool
+flag_in word = if is_word word (codes "yes") then Some true else (if is_word word (codes "no") then Some false else None)
+
+-- one that isn't named is `no`
+abbrev pub flag_row : List ℕ → Row Bool
+flag_row name = record { name = name; read = flag_in; default = Some false }
+
 -- ---- the rows
 
 abbrev pub basis_row : Row ℕ
@@ -109,6 +117,14 @@ blocks_row = number_row (codes "--blocks") 1 most_blocks None
 abbrev pub run_row : Row Deed
 run_row = record { name = codes "--run"; read = deed_in; default = Some deeds.Write }
 
+-- whether a chain of the fewest levels is sought, among those of the fewest steps
+abbrev pub least_depth_row : Row Bool
+least_depth_row = flag_row (codes "--least-depth")
+
+-- whether certificates of that are judged
+abbrev pub depth_row : Row Bool
+depth_row = flag_row (codes "--depth")
+
 -- ---- which command takes which
 
 abbrev pub kind_text : Kind → List ℕ
@@ -133,8 +149,8 @@ kind_named name =
 -- the names of the options that a command takes
 abbrev pub options_of : Kind → List (List ℕ)
 options_of Agree = []
-options_of Recheck = []
-options_of Synth = basis_row.name ∷ method_row.name ∷ max_row.name ∷ conflicts_row.name ∷ []
+options_of Recheck = depth_row.name ∷ []
+options_of Synth = basis_row.name ∷ method_row.name ∷ max_row.name ∷ conflicts_row.name ∷ least_depth_row.name ∷ []
 options_of Improve = basis_row.name ∷ method_row.name ∷ cap_row.name ∷ rounds_row.name ∷ conflicts_row.name ∷ format_row.name ∷ []
 options_of Equiv = conflicts_row.name ∷ []
 options_of Gen = blocks_row.name ∷ run_row.name ∷ []
