@@ -8,7 +8,9 @@ pub mod Equating
 pub mod Faults
 pub mod Generating
 pub mod Improving
+pub mod LeastDepths
 pub mod Obeying
 pub mod Rechecking
+pub mod RecheckingDepth
 pub mod Synthesising
 pub mod TablesRead
