@@ -4,7 +4,7 @@ use Rattle.std.proofs.Common.{arith, sym, ◌∙◌, ap, subst, refl, inl, inr}
 use Rattle.std.proofs.Math.Logic.{⊎_elim}
 use Rattle.std.proofs.lemmas.Grind.{common_steps}
 use Rattle.text_core.specs.Lines.{lines_of}
-use Rattle.tt_core.specs.Words.{Words, IsSpec, specification}
+use Rattle.tt_core.specs.Words.{Words, specification}
 use Rattle.tt_core.specs.Gives.{Fails}
 use Rattle.tt_core.specs.declared.error.SpecError.{SpecError}
 use Rattle.tt_core.specs.declared.error.SpecError.TheVariants as tables
@@ -19,7 +19,7 @@ use Rattle.settings.specs.declared.synth.SynthSettings.{SynthSettings}
 use Rattle.synth_core.specs.Tables.{tables_alone}
 use Rattle.depth_run.specs.declared.certificate.Found.{Found}
 use Rattle.depth_run.specs.declared.certificate.Found.TheVariants.{Least, Other}
-use Rattle.depth_run.specs.Certifying.{IsLeast, IsOther, IsCertificate}
+use Rattle.depth_run.specs.Certifying.{IsLeast, IsCertificate}
 use Rattle.command_line.specs.CommandLine.{AsksFor}
 use Rattle.command_line.specs.declared.command.Command.TheVariants.{LeastDepth}
 use Rattle.frame_core.specs.declared.status.Status.{Status}
@@ -27,12 +27,12 @@ use Rattle.frame_core.specs.declared.status.Status.TheVariants.{Done, Undecided,
 use Rattle.frame_core.specs.Told.{Reply, Refusal}
 use Rattle.frame_core.specs.Task.{IsAnswerStatus, IsTask, Tells, Refuses}
 use Rattle.frame_core.specs.Run.{Run}
-use Rattle.frame_core.specs.Promise.{OutputHeld, Stands, Replies, Faults, CommandPromise}
+use Rattle.frame_core.specs.Promise.{OutputHeld, Replies, Faults, CommandPromise}
 use Rattle.frame_core.specs.TaskLaws.{at_once_task}
 use Rattle.frame_core.specs.KeepingLaws.{of_input}
 use Rattle.frame_core.specs.ReadOffLaws.{gets}
 use Rattle.chain_app.specs.Agree.{most_of_tables}
-use Rattle.chain_app.specs.SynthReport.{verdict_status, synth_refusal, AreTables, HasTablesFault}
+use Rattle.chain_app.specs.SynthReport.{synth_refusal, AreTables, HasTablesFault}
 use Rattle.chain_app.specs.LeastDepthReport.{found_status, Certified, least_depth_reply, Means, IsCertified, least_depth_task}
 use Rattle.chain_app.specs.LeastDepthPromise.{LeastDepthPromise}
 use Rattle.chain_app.proofs.Certified.{tables_are, its_meaning}

@@ -1,5 +1,5 @@
 -- What `recheck --depth yes` tells of bytes, and what it promises.
-use Rattle.std.specs.Prelude.{◌≡◌, ℕ, ◌<◌, ◌≤◌, ◌⊎◌, List, ◌∷◌, length, codes, Some, Result, Ok, Err}
+use Rattle.std.specs.Prelude.{◌≡◌, ℕ, ◌<◌, ◌≤◌, ◌⊎◌, List, ◌∷◌, length, codes, Some, Ok, Err}
 use Rattle.std.proofs.Common.{arith, sym, ◌∙◌, ap, subst, refl, inl, inr}
 use Rattle.std.proofs.Math.Logic.{⊎_elim}
 use Rattle.std.proofs.lemmas.Grind.{common_steps}
@@ -78,18 +78,18 @@ judged_fault e lines other judged = record {
 no_bundle : (bytes : List ℕ) (e : DepthError) (b : DepthBundle) → IsJudged (lines_of bytes) (Err e) → IsDepthText bytes b → ⊥
 no_bundle bytes e b judged is = let bad : Err e ≡ Ok b.verdict = judged_again bytes b (Err e) is judged in cc
 
-one_fault : (d e : DepthError) → Err {DepthVerdict} d ≡ Err e → d ≡ e
-one_fault d e is = cc
+one_fault : (answer : Answer) (d e : DepthError) → answer ≡ Err d → answer ≡ Err e → d ≡ e
+one_fault answer d e is other = cc
 
-one_verdict : (v w : DepthVerdict) → Ok {DepthVerdict} {DepthError} v ≡ Ok w → v ≡ w
-one_verdict v w is = cc
+one_verdict : (answer : Answer) (v w : DepthVerdict) → answer ≡ Ok v → answer ≡ Ok w → v ≡ w
+one_verdict answer v w is other = cc
 
 -- So an answer is a verdict that the bytes have, or a fault.
 pub tells : (bytes : List ℕ) (v : DepthVerdict) (reply : Reply) → length bytes ≤ most_of_bundle → HasDepth bytes v → ((b : DepthBundle) → IsDepthText bytes b → Gives (λ (x : DepthVerdict). x) (Ok v) (Ok b.verdict))
     → ((b : DepthBundle) (is : IsDepthText bytes b) → Means (specification b.bundle.heading.spec) (members b.bundle.heading.basis) (length is.is_depth.chain.steps) v) → reply ≡ depth_reply v → Tells depth_task bytes reply
 tells bytes v reply within has accepted means is = record {
   answer = v;
-  has = record { within = within; has = has; only = λ b text. one_verdict b.verdict v (accepted b text); means = means };
+  has = record { within = within; has = has; only = λ b text. one_verdict (Ok b.verdict) b.verdict v refl (accepted b text); means = means };
   is = is;
 }
 
@@ -141,7 +141,7 @@ depth_is_task =
     (λ verdict. inl refl)
     (λ bytes fault meets. statuses_of fault)
     (λ bytes verdict error gives fault. fault.none gives.has.bundle gives.has.is_text)
-    (λ bytes a b x y. ap depth_refusal (one_fault a b (one_answer (lines_of bytes) (Err a) (Err b) x.fault y.fault)))
+    (λ bytes a b x y. ap depth_refusal (one_fault (Err a) a b refl (one_answer (lines_of bytes) (Err a) (Err b) x.fault y.fault)))
     (λ bytes verdict gives. gives.within)
     (λ bytes error fault. fault.within)
 

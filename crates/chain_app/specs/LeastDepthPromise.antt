@@ -10,7 +10,7 @@ use Rattle.depth_theory.specs.declared.data.DepthVerdict.TheVariants.{Levels, Bo
 use Rattle.depth_run.specs.declared.certificate.Found.TheVariants.{Least}
 use Rattle.frame_core.specs.declared.status.Status.TheVariants.{Done, Undecided, Refused}
 use Rattle.chain_app.specs.SynthReport.{synth_refusal, AreTables, HasTablesFault}
-use Rattle.chain_app.specs.LeastDepthReport.{Certified, least_depth_reply, IsCertified, least_depth_task}
+use Rattle.chain_app.specs.LeastDepthReport.{least_depth_reply, IsCertified, least_depth_task}
 use Rattle.command_line.specs.declared.command.Command.TheVariants.{LeastDepth}
 use Rattle.frame_core.specs.Run.{Run}
 use Rattle.chain_app.specs.Runs.{Runs}

@@ -1,5 +1,5 @@
 -- What `synth --least-depth yes` tells.
-use Rattle.std.specs.Prelude.{◌≡◌, ℕ, ◌≤◌, List, length, None}
+use Rattle.std.specs.Prelude.{ℕ, ◌≤◌, List, length, None}
 use Rattle.chain_theory.specs.Operator.{Basis}
 use Rattle.chain_theory.specs.Specification.{Specification}
 use Rattle.tt_core.specs.Words.{Words, specification}
@@ -7,7 +7,6 @@ use Rattle.tt_core.specs.declared.error.SpecError.{SpecError}
 use Rattle.op_basis.specs.Basis.{members}
 use Rattle.settings.specs.declared.synth.SynthSettings.{SynthSettings}
 use Rattle.cert_theory.specs.Meaning as sizes
-use Rattle.depth_theory.specs.declared.data.DepthVerdict.{DepthVerdict}
 use Rattle.depth_theory.specs.declared.data.DepthVerdict.TheVariants.{Levels, Bounded}
 use Rattle.depth_theory.specs.DepthMeaning as depths
 use Rattle.depth_run.specs.declared.certificate.Found.{Found}

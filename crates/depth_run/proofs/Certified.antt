@@ -9,11 +9,11 @@ use Rattle.enc_theory.specs.declared.data.Method.TheVariants.{Fence}
 use Rattle.settings.specs.declared.synth.SynthSettings.{SynthSettings}
 use Rattle.settings.specs.Synth.{IsInRange}
 use Rattle.cert_theory.specs.declared.data.Heading.{Heading}
-use Rattle.cert_theory.specs.Bundle.{Bundle, HasOutput}
+use Rattle.cert_theory.specs.Bundle.{Bundle}
 use Rattle.cert_theory.specs.Spelling.{bundle_text}
 use Rattle.size_loop.specs.Thrift.{IsThriftyLog, AreThrifty}
 use Rattle.synth_core.specs.Asking.{heading_of}
-use Rattle.depth_theory.specs.DepthBundle.{DepthBundle, IsDepth}
+use Rattle.depth_theory.specs.DepthBundle.{DepthBundle}
 use Rattle.depth_theory.specs.DepthSpelling.{depth_text}
 use Rattle.depth_core.specs.Flattened as found
 use Rattle.depth_run.specs.Certifying.{IsLeast, IsOther}
