@@ -1,7 +1,9 @@
 //! Tests of the program on memory: what each command answers, and one table of hostile cases: every read, every
-//! write and every note failing in its turn, and limits at their values and one past them.
+//! write and every note failing in its turn, limits at their values and one past them, and chains of the fewest levels.
 #![tactic(auto)]
 
+#[cfg(test)]
+mod depths;
 #[cfg(test)]
 mod faults;
 #[cfg(test)]

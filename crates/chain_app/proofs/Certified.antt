@@ -38,11 +38,11 @@ same_tables : (read : Result Words SpecError) (a b : Words) → read ≡ Ok a �
 same_tables read a b is other = cc
 
 -- the tables that bytes spell are one
-tables_are : (a b : Words) (bytes : List ℕ) → IsSpec a → IsSpec b → SpellsTables (specification a) (lines_of bytes) [] → SpellsTables (specification b) (lines_of bytes) [] → a ≡ b
+pub tables_are : (a b : Words) (bytes : List ℕ) → IsSpec a → IsSpec b → SpellsTables (specification a) (lines_of bytes) [] → SpellsTables (specification b) (lines_of bytes) [] → a ≡ b
 tables_are a b bytes spec other spelled again =
     same_tables (tables_alone (lines_of bytes)) a b (ap words_alone (tables_again a (lines_of bytes) [] spec spelled)) (ap words_alone (tables_again b (lines_of bytes) [] other again))
 
-its_meaning : (asked : SynthSettings) (bytes text : List ℕ) (verdict : Verdict) → IsCertificate bytes asked text verdict → (w : Words) → IsSpec w → SpellsTables (specification w) (lines_of bytes) [] → Means (specification w) (members asked.basis) verdict
+pub its_meaning : (asked : SynthSettings) (bytes text : List ℕ) (verdict : Verdict) → IsCertificate bytes asked text verdict → (w : Words) → IsSpec w → SpellsTables (specification w) (lines_of bytes) [] → Means (specification w) (members asked.basis) verdict
 its_meaning asked bytes text verdict c w spec spelled =
     means_as c.bundle.heading.spec w c.bundle.heading.basis asked.basis c.bundle.verdict verdict
     (tables_are c.bundle.heading.spec w bytes c.is_bundle.valid.heading.tables spec c.tables spelled)

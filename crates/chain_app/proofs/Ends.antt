@@ -2,7 +2,7 @@
 use Rattle.std.specs.Prelude.{◌≡◌, List, ℕ, ◌≤◌, length, Option, Some, None, Ok, Err}
 use Rattle.std.proofs.Common.{sym, ◌∙◌, ap, subst}
 use Rattle.command_line.specs.declared.command.Command.{Command}
-use Rattle.command_line.specs.declared.command.Command.TheVariants.{Agree, Recheck, Synth, Improve, Equiv, Gen}
+use Rattle.command_line.specs.declared.command.Command.TheVariants.{Agree, Recheck, RecheckDepth, Synth, LeastDepth, Improve, Equiv, Gen}
 use Rattle.command_line.specs.declared.command.WordsError.{WordsError}
 use Rattle.command_line.specs.CommandLine.{command_of, or_usage, read, AsksFor}
 use Rattle.frame_core.specs.declared.status.Status.TheVariants.{Done, Usage}
@@ -20,7 +20,9 @@ use Rattle.frame_core.specs.KeepingLaws.{not_usage, promised}
 use Rattle.chain_app.proofs.Commands.{is_task}
 use Rattle.chain_app.proofs.AgreeKeeping.{agree_promised}
 use Rattle.chain_app.proofs.Rechecking.{recheck_promised}
+use Rattle.chain_app.proofs.RecheckingDepth.{depth_promised}
 use Rattle.chain_app.proofs.Synthesising.{synth_promised}
+use Rattle.chain_app.proofs.LeastDepths.{least_depth_promised}
 use Rattle.chain_app.proofs.Improving.{improve_promised}
 use Rattle.chain_app.proofs.Equating.{equiv_promised}
 use Rattle.chain_app.proofs.Generating.{gen_promised}
@@ -79,7 +81,9 @@ kept r e ends = record {
   every = every r e ends;
   agree = agree_promised r (λ asks. keeps r e Agree ends asks);
   recheck = recheck_promised r (λ asks. keeps r e Recheck ends asks);
+  recheck_depth = depth_promised r (λ asks. keeps r e RecheckDepth ends asks);
   synth = synth_promised r (λ asked asks. keeps r e (Synth asked) ends asks);
+  least_depth = least_depth_promised r (λ asked asks. keeps r e (LeastDepth asked) ends asks);
   improve = improve_promised r (λ format asked asks. keeps r e (Improve format asked) ends asks);
   equiv = equiv_promised r (λ budget asks. keeps r e (Equiv budget) ends asks);
   gen = gen_promised r (λ blocks deed asks. keeps r e (Gen blocks deed) ends asks) (λ blocks deed asks. ran r e (Gen blocks deed) ends asks);

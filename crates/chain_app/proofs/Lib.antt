@@ -8,8 +8,10 @@ pub mod Equating
 pub mod Faults
 pub mod Generating
 pub mod Improving
+pub mod LeastDepths
 pub mod Obeying
 pub mod Rechecking
+pub mod RecheckingDepth
 pub mod Synthesising
 pub mod Writing
 pub mod TablesRead

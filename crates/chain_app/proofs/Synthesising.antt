@@ -33,7 +33,7 @@ use Rattle.frame_core.specs.ReadOffLaws.{gets, no_report}
 
 -- ---- what the search answers
 
-told_fault : (e : SpecError) (read : Result Words SpecError) → Fails e read → (e ≡ tables.Memory → ⊥) → read ≡ Err e
+pub told_fault : (e : SpecError) (read : Result Words SpecError) → Fails e read → (e ≡ tables.Memory → ⊥) → read ≡ Err e
 told_fault (tables.BadHeader line) read fails other = fails
 told_fault (tables.BadRow line) read fails other = fails
 told_fault (tables.WrongLength line) read fails other = fails
@@ -53,7 +53,7 @@ pub ruleset telling = (common_steps, refuses)
 
 -- ---- `synth` is a command
 
-answer_statuses : (v : Verdict) → IsAnswerStatus (verdict_status v)
+pub answer_statuses : (v : Verdict) → IsAnswerStatus (verdict_status v)
 answer_statuses (verdicts.Minimum r) = inl refl
 answer_statuses (verdicts.NoChain x) = inl refl
 answer_statuses (verdicts.Bounded low r) = inr (inl refl)
@@ -72,7 +72,7 @@ statuses tables.TooManyOutputs = inl (inr (inl refl))
 statuses tables.NoOutput = inl (inl refl)
 statuses tables.Memory = inr refl
 
-statuses_of : (e : SpecError) → IsRefusalStatus (spec_status e) ⊎ (synth_refusal e ≡ memory_refusal)
+pub statuses_of : (e : SpecError) → IsRefusalStatus (spec_status e) ⊎ (synth_refusal e ≡ memory_refusal)
 unfolding IsStatus
 statuses_of e = statuses e
 
@@ -80,10 +80,10 @@ ok_or_fault : {A : Type 0} (read : Result Words SpecError) (w : Words) (e : Spec
 ok_or_fault read w e good bad = absurd cc
 
 -- tables alone have no fault
-no_fault : {A : Type 0} (w : Words) (ls : List Line) (e : SpecError) → IsSpec w → SpellsTables (specification w) ls [] → tables_alone ls ≡ Err e → A
+pub no_fault : {A : Type 0} (w : Words) (ls : List Line) (e : SpecError) → IsSpec w → SpellsTables (specification w) ls [] → tables_alone ls ≡ Err e → A
 no_fault w ls e spec spelled bad = ok_or_fault (tables_alone ls) w e (ap words_alone (tables_again w ls [] spec spelled)) bad
 
-one_error : (read : Result Words SpecError) (d e : SpecError) → read ≡ Err d → read ≡ Err e → d ≡ e
+pub one_error : (read : Result Words SpecError) (d e : SpecError) → read ≡ Err d → read ≡ Err e → d ≡ e
 one_error read d e is other = cc
 
 -- the tables of a certificate are ones
@@ -119,7 +119,7 @@ answer_only r asked input promise told is =
     (λ (left : r.status ≡ Undecided). of_input (synth_task asked) r (Replies (synth_task asked) r) input (promise.undecided_only left) told)
     is
 
-not_refused : (e : SpecError) → spec_status e ≡ Refused → ⊥
+pub not_refused : (e : SpecError) → spec_status e ≡ Refused → ⊥
 not_refused (tables.BadHeader line) is = cc
 not_refused (tables.BadRow line) is = cc
 not_refused (tables.WrongLength line) is = cc
@@ -128,7 +128,7 @@ not_refused tables.TooManyOutputs is = cc
 not_refused tables.NoOutput is = cc
 not_refused tables.Memory is = cc
 
-not_refused_by : (v : Verdict) → verdict_status v ≡ Refused → ⊥
+pub not_refused_by : (v : Verdict) → verdict_status v ≡ Refused → ⊥
 not_refused_by (verdicts.Minimum r) is = cc
 not_refused_by (verdicts.NoChain x) is = cc
 not_refused_by (verdicts.Bounded low r) is = cc

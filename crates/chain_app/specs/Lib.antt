@@ -11,6 +11,10 @@ pub mod ImprovePromise
 pub mod ImproveReport
 pub mod Keeping
 pub mod KeepsPromises
+pub mod LeastDepthPromise
+pub mod LeastDepthReport
+pub mod RecheckDepthPromise
+pub mod RecheckDepthReport
 pub mod RecheckPromise
 pub mod RecheckReport
 pub mod RunPromise

@@ -1,10 +1,12 @@
 -- What each command is.
 use Rattle.command_line.specs.declared.command.Command.{Command}
-use Rattle.command_line.specs.declared.command.Command.TheVariants.{Agree, Recheck, Synth, Improve, Equiv, Gen}
+use Rattle.command_line.specs.declared.command.Command.TheVariants.{Agree, Recheck, RecheckDepth, Synth, LeastDepth, Improve, Equiv, Gen}
 use Rattle.frame_core.specs.Task.{Task}
 use Rattle.chain_app.specs.AgreeReport.{agree_task}
 use Rattle.chain_app.specs.RecheckReport.{recheck_task}
+use Rattle.chain_app.specs.RecheckDepthReport.{depth_task}
 use Rattle.chain_app.specs.SynthReport.{synth_task}
+use Rattle.chain_app.specs.LeastDepthReport.{least_depth_task}
 use Rattle.chain_app.specs.ImproveReport.{improve_task}
 use Rattle.chain_app.specs.EquivReport.{equiv_task}
 use Rattle.chain_app.specs.GenReport.{gen_task}
@@ -12,7 +14,9 @@ use Rattle.chain_app.specs.GenReport.{gen_task}
 abbrev pub task_of : Command → Task
 task_of Agree = agree_task
 task_of Recheck = recheck_task
+task_of RecheckDepth = depth_task
 task_of (Synth settings) = synth_task settings
+task_of (LeastDepth settings) = least_depth_task settings
 task_of (Improve format settings) = improve_task format settings
 task_of (Equiv budget) = equiv_task budget
 task_of (Gen blocks deed) = gen_task blocks deed

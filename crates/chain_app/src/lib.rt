@@ -14,14 +14,17 @@
 #![tactic(auto)]
 
 mod agree;
+mod bundles;
 mod equiv;
 mod improve;
 mod jobs;
 mod judging;
 pub mod laws;
+mod least_depth;
 mod netlists;
 mod nets;
 mod recheck;
+mod recheck_depth;
 mod running;
 mod synth;
 

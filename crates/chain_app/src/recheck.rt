@@ -1,16 +1,16 @@
 //! The command `recheck`: what it tells of bytes.
-ghost use Rattle.std.specs.Prelude.{◌≡◌, ℕ, ◌+◌, ◌^◌, ◌<◌, ◌≤◌, List, ◌∷◌, [], ◌++◌, Err, IfOk, length};
+ghost use Rattle.std.specs.Prelude.{◌≡◌, ℕ, ◌+◌, ◌^◌, ◌<◌, ◌≤◌, List, ◌++◌, Err, IfOk, length};
 ghost use Rattle.text_core.specs.Lines.{lines_of};
 ghost use Rattle.cert_theory.specs.Gives.{Fails};
 ghost use Rattle.cert_theory.specs.Judging.{bundle_of};
 ghost use Rattle.cert_file.specs.Reader.{seen, IsReader, StandsFor};
-ghost use Rattle.chain_app.specs.RecheckReport.{most_of_bundle, verdict_text, bundle_status as bundle_status_of, refused_step, two_of, named_step, named_bundle, recheck_reply, recheck_refusal, recheck_task};
+ghost use Rattle.chain_app.specs.RecheckReport.{most_of_bundle, verdict_text, recheck_reply, recheck_refusal, recheck_task};
 ghost use Rattle.chain_app.specs.Keeping.{Keeps, IsWhole, count_of};
-ghost use Rattle.frame_core.specs.Views.{shown, line_value, reply_value, refusal_value, Judges};
+ghost use Rattle.frame_core.specs.Views.{reply_value, refusal_value, Judges};
 
+use crate::bundles::{bundle_status, name_bundle};
 use cert_file::{BundleError, BundleReader, Verdict};
-use frame_core::{Ended, ErrorLine, Field, Refusal, Reply, Status, Stop, StreamJob, finish};
-use lrat_check::CheckError;
+use frame_core::{Ended, Field, Refusal, Reply, Status, Stop, StreamJob, finish};
 use port_io::Sink;
 use std::alloc::{AllocError, Global};
 use text_core::push_number;
@@ -18,91 +18,14 @@ use text_core::push_number;
 /// The most bytes that `recheck` reads.
 pub(crate) const MOST_BYTES: usize = 268_435_456;
 
-/// The status that tells of a fault.
-fn bundle_status(error: BundleError) -> Status
-    ensures { result ≡ bundle_status_of error }
-{
-    match error {
-        BundleError::Syntax(_) => Status::Malformed,
-        BundleError::Memory => Status::Memory,
-        BundleError::SizeOutOfOrder(_)
-        | BundleError::StepRefused(_, _)
-        | BundleError::NotRefuted(_)
-        | BundleError::ChainDiffers(_, _)
-        | BundleError::OperatorNotInBasis(_)
-        | BundleError::OpenTooShort(_)
-        | BundleError::NotNew(_)
-        | BundleError::WrongVerdict(_) => Status::Refused,
-    }
-}
-
-/// A refused step: its line, the name of its fault, and what that speaks of.
-#[tactic(auto, unfolding(frame_core::specs::Views::shown))]
-fn step(line: u32, word: &'static [u8], of: Field) -> ErrorLine
-    ensures { line_value result ≡ refused_step line word.now (shown (of ∷ [])) }
-{
-    ErrorLine::of(b"StepRefused", Field::Count(line), Field::Known(word), of)
-}
-
-/// What the error line of a refused step names.
-#[tactic(auto, unfolding(crate::specs::RecheckReport::named_step, frame_core::specs::Views::shown))]
-fn name_step(line: u32, error: CheckError) -> ErrorLine
-    ensures { line_value result ≡ named_step line error }
-{
-    match error {
-        CheckError::UnknownId(id) => step(line, b"UnknownId", Field::Count(id)),
-        CheckError::NotUnit(id) => step(line, b"NotUnit", Field::Count(id)),
-        CheckError::NoConflict => step(line, b"NoConflict", Field::Nothing),
-        CheckError::UnknownDelete(id) => step(line, b"UnknownDelete", Field::Count(id)),
-        CheckError::IdNotGreater(id) => step(line, b"IdNotGreater", Field::Count(id)),
-        CheckError::UnknownVariable(variable) => step(
-            line,
-            b"UnknownVariable",
-            Field::Count(variable),
-        ),
-        CheckError::Memory => step(line, b"Memory", Field::Nothing),
-    }
-}
-
-/// A variant with two numbers.
-#[tactic(auto, unfolding(frame_core::specs::Views::shown))]
-fn two(name: &'static [u8], number: u32, last: u32) -> ErrorLine
-    ensures { line_value result ≡ two_of name.now number last }
-{
-    ErrorLine::of(
-        name,
-        Field::Count(number),
-        Field::Count(last),
-        Field::Nothing,
-    )
-}
-
-/// What a fault's error line names.
-#[tactic(auto, unfolding(crate::specs::RecheckReport::named_bundle, frame_core::specs::Told::memory))]
-fn name_bundle(error: BundleError) -> ErrorLine
-    ensures { line_value result ≡ named_bundle error }
-{
-    match error {
-        BundleError::Syntax(line) => ErrorLine::at(b"Syntax", line),
-        BundleError::SizeOutOfOrder(line) => ErrorLine::at(b"SizeOutOfOrder", line),
-        BundleError::StepRefused(line, error) => name_step(line, error),
-        BundleError::NotRefuted(line) => ErrorLine::at(b"NotRefuted", line),
-        BundleError::ChainDiffers(output, row) => two(b"ChainDiffers", output, row),
-        BundleError::OperatorNotInBasis(place) => ErrorLine::at(b"OperatorNotInBasis", place),
-        BundleError::OpenTooShort(line) => ErrorLine::at(b"OpenTooShort", line),
-        BundleError::NotNew(line) => ErrorLine::at(b"NotNew", line),
-        BundleError::WrongVerdict(line) => ErrorLine::at(b"WrongVerdict", line),
-        BundleError::Memory => ErrorLine::plain(b"Memory"),
-    }
-}
-
 /// A fault as a refusal.
+#[tactic(auto, unfolding(frame_core::specs::Views::shown))]
 fn refusal_of(error: BundleError) -> Refusal
     ensures { refusal_value result ≡ recheck_refusal error }
 {
     Refusal {
         status: bundle_status(error),
-        line: name_bundle(error),
+        line: name_bundle(Field::Nothing, error),
     }
 }
 

@@ -6,7 +6,9 @@ ghost use Rattle.chain_app.specs.Tasks.{task_of};
 ghost use Rattle.chain_app.specs.KeepsPromises.{KeepsPromises};
 
 use crate::jobs::{Agree, Equiv, Gen, Improve};
+use crate::least_depth::LeastDepth;
 use crate::recheck::Recheck;
+use crate::recheck_depth::RecheckDepth;
 use crate::synth::Synth;
 use command_line::{Command, read_words};
 use frame_core::{ErrorLine, Status, perform, perform_stream, tell_error};
@@ -32,7 +34,9 @@ fn obey<S: Source, O: Sink, N: Sink>(
     match command {
         Command::Agree => perform(alloc, &Agree, source, out, note),
         Command::Recheck => perform_stream(alloc, &Recheck, source, out, note),
+        Command::RecheckDepth => perform(alloc, &RecheckDepth, source, out, note),
         Command::Synth(settings) => perform(alloc, &Synth(settings), source, out, note),
+        Command::LeastDepth(settings) => perform(alloc, &LeastDepth(settings), source, out, note),
         Command::Improve { format, settings } => {
             perform(alloc, &Improve { format, settings }, source, out, note)
         }

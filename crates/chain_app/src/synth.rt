@@ -24,7 +24,7 @@ use tt_core::SpecError;
 pub(crate) const MOST_BYTES: usize = 65_536;
 
 /// The status of a verdict.
-fn verdict_status(verdict: Verdict) -> Status
+pub(crate) fn verdict_status(verdict: Verdict) -> Status
     ensures { result ≡ verdict_status_of verdict }
 {
     match verdict {
@@ -34,7 +34,7 @@ fn verdict_status(verdict: Verdict) -> Status
 }
 
 /// A fault of the tables as a refusal.
-fn refusal_of(error: SpecError) -> Refusal
+pub(crate) fn refusal_of(error: SpecError) -> Refusal
     ensures { refusal_value result ≡ synth_refusal error }
 {
     Refusal {

@@ -9,6 +9,7 @@ use Rattle.op_basis.specs.Text.{bench_set, basis_of}
 use Rattle.op_basis.specs.ListLaws.{basis_some}
 use Rattle.op_basis.specs.declared.error.BasisError.{BasisError}
 use Rattle.enc_theory.specs.declared.data.Method.{Method}
+use Rattle.enc_theory.specs.declared.data.Method.TheVariants.{Plain, Ssv, Select, Fence}
 use Rattle.settings.specs.declared.synth.SynthSettings.{SynthSettings}
 use Rattle.improve_settings.specs.declared.improve.ImproveSettings.{ImproveSettings}
 use Rattle.settings.specs.Synth.{IsInRange}
@@ -20,8 +21,8 @@ use Rattle.command_line.specs.declared.table.Kind.TheVariants.{Agree, Recheck, S
 use Rattle.command_line.specs.declared.command.Deed.{Deed}
 use Rattle.command_line.specs.declared.command.Format.{Format}
 use Rattle.command_line.specs.declared.command.Format.TheVariants.{Blif, Bench}
-use Rattle.command_line.specs.Options.{Row, from_on, number_within, basis_or_none, basis_in, is_within, if_of_gates, basis_row, gates_row, format_basis_row, method_row, max_row, conflicts_row, cap_row, rounds_row, format_row, observe_row, blocks_row, run_row, kind_named, options_of}
-use Rattle.command_line.specs.CommandLine.{word_behind, are_options, value_in, value, synth_from, settings_from, settings_for, improve_with, improve_for, equiv_from, gen_from, command_with, command_in, command_of, HasGatesOf, IsAsked, IsAskable}
+use Rattle.command_line.specs.Options.{Row, from_on, number_within, basis_or_none, basis_in, is_within, if_of_gates, basis_row, gates_row, format_basis_row, method_row, max_row, conflicts_row, cap_row, rounds_row, format_row, observe_row, blocks_row, run_row, least_depth_row, depth_row, kind_named, options_of}
+use Rattle.command_line.specs.CommandLine.{word_behind, are_options, value_in, value, asked_from, asked_in, least_depth_by, synth_from, recheck_from, settings_from, settings_for, improve_with, improve_for, equiv_from, gen_from, command_with, command_in, command_of, HasGatesOf, IsAsked, IsAskable}
 
 pub some_is : {A : Type 0} (a b : A) → Some a ≡ Some b → a ≡ b
 some_is a b e = cc
@@ -61,14 +62,77 @@ in_row row P reads default (Some word) x e = reads word x e
 
 -- ---- commands
 
--- `synth` has the values of all its options
-pub synth_made : (basis : Option ℕ) (method : Option Method) (max conflicts : Option ℕ) (c : Command) → synth_from basis method max conflicts ≡ Some c →
-    (s : SynthSettings) × (commands.Synth s ≡ c) × (basis ≡ Some s.basis) × (method ≡ Some s.method) × (max ≡ Some s.max) × (conflicts ≡ Some s.conflicts)
-synth_made (Some b) (Some m) (Some x) (Some n) c e = (record { basis = b; method = m; max = x; conflicts = n }, some_is _ c e, refl, refl, refl, refl)
-synth_made (Some b) (Some m) (Some x) None c e = absurd cc
-synth_made (Some b) (Some m) None conflicts c e = absurd cc
-synth_made (Some b) None max conflicts c e = absurd cc
-synth_made None method max conflicts c e = absurd cc
+-- the settings of `synth` are the values of its options
+pub record AreAsked (basis : Option ℕ) (method : Option Method) (max conflicts : Option ℕ) (s : SynthSettings) : Type 0 where
+  pub basis_is : basis ≡ Some s.basis
+  pub method_is : method ≡ Some s.method
+  pub max_is : max ≡ Some s.max
+  pub conflicts_is : conflicts ≡ Some s.conflicts
+
+asked_made : (basis : Option ℕ) (method : Option Method) (max conflicts : Option ℕ) (s : SynthSettings) → asked_from basis method max conflicts ≡ Some s → AreAsked basis method max conflicts s
+asked_made (Some b) (Some m) (Some x) (Some n) s e =
+    let same = some_is _ s e in
+    record {
+      basis_is = ap (λ (t : SynthSettings). Some t.basis) same;
+      method_is = ap (λ (t : SynthSettings). Some t.method) same;
+      max_is = ap (λ (t : SynthSettings). Some t.max) same;
+      conflicts_is = ap (λ (t : SynthSettings). Some t.conflicts) same;
+    }
+asked_made (Some b) (Some m) (Some x) None s e = absurd cc
+asked_made (Some b) (Some m) None conflicts s e = absurd cc
+asked_made (Some b) None max conflicts s e = absurd cc
+asked_made None method max conflicts s e = absurd cc
+
+pub asked_back : (basis : Option ℕ) (method : Option Method) (max conflicts : Option ℕ) (s : SynthSettings) → AreAsked basis method max conflicts s → asked_from basis method max conflicts ≡ Some s
+asked_back basis method max conflicts s are = rw (are.basis_is, are.method_is, are.max_is, are.conflicts_is) refl
+
+-- those of words
+abbrev pub AreAskedIn : List (List ℕ) → SynthSettings → Type 0
+AreAskedIn words s = AreAsked (value basis_row words) (value method_row words) (value max_row words) (value conflicts_row words) s
+
+-- what `synth` is with settings and a flag; the fewest levels are sought by fences alone
+abbrev pub IsSynth : SynthSettings → Bool → Command → Type 0
+IsSynth s false c = commands.Synth s ≡ c
+IsSynth s true c = (commands.LeastDepth s ≡ c) × (s.method ≡ Fence)
+
+-- words ask `synth` with settings, and with a flag
+pub record IsSynthIn (words : List (List ℕ)) (c : Command) : Type 0 where
+  pub s : SynthSettings
+  pub flag : Bool
+  pub is : IsSynth s flag c
+  pub are : AreAskedIn words s
+  pub flag_is : value least_depth_row words ≡ Some flag
+
+depth_by : (m : Method) (s : SynthSettings) (c : Command) → s.method ≡ m → least_depth_by m s ≡ Some c → IsSynth s true c
+depth_by Fence s c is e = (some_is _ c e, is)
+depth_by Plain s c is e = absurd cc
+depth_by Ssv s c is e = absurd cc
+depth_by Select s c is e = absurd cc
+
+flag_by : (s : SynthSettings) (flag : Bool) (c : Command) → synth_from (Some s) (Some flag) ≡ Some c → IsSynth s flag c
+flag_by s false c e = some_is _ c e
+flag_by s true c e = depth_by s.method s c refl e
+
+synth_made : (words : List (List ℕ)) (o : Option SynthSettings) (flag : Option Bool) (c : Command) → asked_in words ≡ o → value least_depth_row words ≡ flag → synth_from o flag ≡ Some c → IsSynthIn words c
+synth_made words (Some s) (Some flag) c is flag_is e = record { s = s; flag = flag; is = flag_by s flag c e; are = asked_made _ _ _ _ s is; flag_is = flag_is }
+synth_made words (Some s) None c is flag_is e = absurd cc
+synth_made words None flag c is flag_is e = absurd cc
+
+pub synth_in_made : (words : List (List ℕ)) (c : Command) → command_with Synth words ≡ Some c → IsSynthIn words c
+synth_in_made words c e = synth_made words (asked_in words) (value least_depth_row words) c refl refl e
+
+-- what `recheck` is with a flag
+abbrev pub rechecks : Bool → Command
+rechecks false = commands.Recheck
+rechecks true = commands.RecheckDepth
+
+recheck_by : (flag : Bool) (c : Command) → recheck_from (Some flag) ≡ Some c → rechecks flag ≡ c
+recheck_by false c e = some_is _ c e
+recheck_by true c e = some_is _ c e
+
+pub recheck_made : (flag : Option Bool) (c : Command) → recheck_from flag ≡ Some c → (b : Bool) × (rechecks b ≡ c) × (flag ≡ Some b)
+recheck_made (Some b) c e = (b, recheck_by b c e, refl)
+recheck_made None c e = absurd cc
 
 -- the settings of `improve` are the values of all its options
 pub record AreSettingsOf (basis : Option ℕ) (method : Option Method) (cap rounds conflicts : Option ℕ) (observe : Option Bool) (s : ImproveSettings) : Type 0 where
@@ -197,12 +261,24 @@ format_range Bench words n e = gates_range words n e
 askable : (c d : Command) → c ≡ d → IsAskable c → IsAskable d
 askable c d e is = subst (λ (x : Command). IsAskable x) e is
 
+asked_in_range : (words : List (List ℕ)) (s : SynthSettings) → AreAskedIn words s → IsInRange s
+asked_in_range words s are =
+    let within = conflicts_range words s.conflicts are.conflicts_is in
+    record { basis_from = bases_range words s.basis are.basis_is; max_to = max_range words s.max are.max_is; conflicts_from = within.0; conflicts_to = within.1 }
+
+synth_askable : (words : List (List ℕ)) (s : SynthSettings) (flag : Bool) (c : Command) → IsSynth s flag c → AreAskedIn words s → IsAskable c
+synth_askable words s false c is are = askable (commands.Synth s) c is (asked_in_range words s are)
+synth_askable words s true c is are = askable (commands.LeastDepth s) c is.0 (asked_in_range words s are, is.1)
+
 synth_range : (words : List (List ℕ)) (c : Command) → command_with Synth words ≡ Some c → IsAskable c
-synth_range words c e =
-    let made = synth_made (value basis_row words) (value method_row words) (value max_row words) (value conflicts_row words) c e in
-    let within = conflicts_range words made.0.conflicts made.5 in
-    let is : IsInRange made.0 = record { basis_from = bases_range words made.0.basis made.2; max_to = max_range words made.0.max made.4; conflicts_from = within.0; conflicts_to = within.1 } in
-    askable (commands.Synth made.0) c made.1 is
+synth_range words c e = let made = synth_in_made words c e in synth_askable words made.s made.flag c made.is made.are
+
+recheck_askable : (flag : Bool) → IsAskable (rechecks flag)
+recheck_askable false = tt
+recheck_askable true = tt
+
+recheck_range : (words : List (List ℕ)) (c : Command) → command_with Recheck words ≡ Some c → IsAskable c
+recheck_range words c e = let made = recheck_made (value depth_row words) c e in askable (rechecks made.0) c made.1 (recheck_askable made.0)
 
 improve_range : (words : List (List ℕ)) (c : Command) → command_with Improve words ≡ Some c → IsAskable c
 improve_range words c e =
@@ -216,7 +292,7 @@ improve_range words c e =
 
 kind_range : (kind : Kind) (words : List (List ℕ)) (c : Command) → command_with kind words ≡ Some c → IsAskable c
 kind_range Agree words c e = askable commands.Agree c (some_is _ c e) tt
-kind_range Recheck words c e = askable commands.Recheck c (some_is _ c e) tt
+kind_range Recheck words c e = recheck_range words c e
 kind_range Synth words c e = synth_range words c e
 kind_range Improve words c e = improve_range words c e
 kind_range Equiv words c e =

@@ -12,16 +12,18 @@ use Rattle.std.proofs.lemmas.List.Sorted.{All-permutation, Contains-permutation,
 use Rattle.std.proofs.lemmas.Map.Keys.{IsDistinct-cons, IsDistinct-head, IsDistinct-tail, IsDistinct-IsPermutation}
 use Rattle.std.proofs.lemmas.Map.Made.{is_some-lookup}
 use Rattle.std.proofs.lemmas.Map.Views.{lookup-from_Contains, Contains-from_lookup}
+use Rattle.enc_theory.specs.declared.data.Method.{Method}
+use Rattle.settings.specs.declared.synth.SynthSettings.{SynthSettings}
 use Rattle.improve_settings.specs.declared.improve.ImproveSettings.{ImproveSettings}
 use Rattle.command_line.specs.declared.command.Command.{Command}
 use Rattle.command_line.specs.declared.command.Command.TheVariants as commands
 use Rattle.command_line.specs.declared.table.Kind.{Kind}
 use Rattle.command_line.specs.declared.table.Kind.TheVariants.{Agree, Recheck, Synth, Improve, Equiv, Gen}
 use Rattle.command_line.specs.declared.command.Format.{Format}
-use Rattle.command_line.specs.Options.{Row, is_word, is_among, basis_row, format_basis_row, method_row, max_row, conflicts_row, cap_row, rounds_row, format_row, observe_row, blocks_row, run_row, kind_text, kind_named, options_of}
-use Rattle.command_line.specs.CommandLine.{word_behind, is_named, are_options, value_in, value, improve_with, improve_for, command_with, command_in, command_of, AsksFor}
+use Rattle.command_line.specs.Options.{Row, is_word, is_among, basis_row, format_basis_row, method_row, max_row, conflicts_row, cap_row, rounds_row, format_row, observe_row, blocks_row, run_row, least_depth_row, depth_row, kind_text, kind_named, options_of}
+use Rattle.command_line.specs.CommandLine.{word_behind, is_named, are_options, value_in, value, least_depth_by, synth_from, improve_with, improve_for, command_with, command_in, command_of, AsksFor}
 use Rattle.command_line.specs.Spelling.{Pair, both, flat, Gives, GivesSynth, GivesImprove, GivesGen, GivesAll, kind_of, Spells}
-use Rattle.command_line.proofs.Ranges.{some_is, passed, synth_made, AreSettingsIn, settings_back, improve_in_made, equiv_made, gen_made}
+use Rattle.command_line.proofs.Ranges.{some_is, passed, AreAskedIn, asked_back, IsSynth, synth_in_made, rechecks, recheck_made, AreSettingsIn, settings_back, improve_in_made, equiv_made, gen_made}
 
 -- ---- tests
 
@@ -151,18 +153,35 @@ gives_again row pairs other x moved g = record {
 abbrev IsMade : Kind → List Pair → Command → Type 0
 IsMade kind pairs c = (kind_of c ≡ kind) × GivesAll pairs c
 
+recheck_gives : (pairs : List Pair) (flag : Bool) → Gives depth_row pairs flag → IsMade Recheck pairs (rechecks flag)
+recheck_gives pairs false given = (refl, given)
+recheck_gives pairs true given = (refl, given)
+
+recheck_is : (pairs : List Pair) (c : Command) → IsDistinct is_word (keys_of pairs) → command_with Recheck (flat pairs) ≡ Some c → IsMade Recheck pairs c
+recheck_is pairs c once e =
+    let m = recheck_made (value depth_row (flat pairs)) c e in
+    subst (λ (d : Command). IsMade Recheck pairs d) m.1 (recheck_gives pairs m.0 (gives depth_row pairs m.0 once m.2))
+
+synth_gives : (pairs : List Pair) (s : SynthSettings) (flag : Bool) (c : Command) → IsSynth s flag c → GivesSynth pairs s flag → IsMade Synth pairs c
+synth_gives pairs s false c is given = subst (λ (d : Command). IsMade Synth pairs d) is (refl, given)
+synth_gives pairs s true c is given = subst (λ (d : Command). IsMade Synth pairs d) is.0 (refl, (given, is.1))
+
+synth_is : (pairs : List Pair) (c : Command) → IsDistinct is_word (keys_of pairs) → command_with Synth (flat pairs) ≡ Some c → IsMade Synth pairs c
+synth_is pairs c once e =
+    let m = synth_in_made (flat pairs) c e in
+    let all : GivesSynth pairs m.s m.flag = record {
+      basis = gives basis_row pairs m.s.basis once m.are.basis_is;
+      method = gives method_row pairs m.s.method once m.are.method_is;
+      max = gives max_row pairs m.s.max once m.are.max_is;
+      conflicts = gives conflicts_row pairs m.s.conflicts once m.are.conflicts_is;
+      flag = gives least_depth_row pairs m.flag once m.flag_is;
+    } in
+    synth_gives pairs m.s m.flag c m.is all
+
 made : (kind : Kind) (pairs : List Pair) (c : Command) → IsDistinct is_word (keys_of pairs) → command_with kind (flat pairs) ≡ Some c → IsMade kind pairs c
 made Agree pairs c once e = subst (λ (d : Command). IsMade Agree pairs d) (some_is commands.Agree c e) (refl, tt)
-made Recheck pairs c once e = subst (λ (d : Command). IsMade Recheck pairs d) (some_is commands.Recheck c e) (refl, tt)
-made Synth pairs c once e =
-    let m = synth_made (value basis_row (flat pairs)) (value method_row (flat pairs)) (value max_row (flat pairs)) (value conflicts_row (flat pairs)) c e in
-    let all : GivesSynth pairs m.0 = record {
-      basis = gives basis_row pairs m.0.basis once m.2;
-      method = gives method_row pairs m.0.method once m.3;
-      max = gives max_row pairs m.0.max once m.4;
-      conflicts = gives conflicts_row pairs m.0.conflicts once m.5;
-    } in
-    subst (λ (d : Command). IsMade Synth pairs d) m.1 (refl, all)
+made Recheck pairs c once e = recheck_is pairs c once e
+made Synth pairs c once e = synth_is pairs c once e
 made Improve pairs c once e =
     let m = improve_in_made (flat pairs) c e in
     let all : GivesImprove pairs m.f m.s = record {
@@ -201,25 +220,46 @@ improve_back f pairs s once all =
     ap (improve_for (flat pairs)) (value_is format_row pairs f once all.format_is)
     ∙ ap (improve_with f) (settings_back _ _ _ _ _ _ s (settings_are f pairs s once all))
 
+asked_are : (pairs : List Pair) (s : SynthSettings) (flag : Bool) → IsDistinct is_word (keys_of pairs) → GivesSynth pairs s flag → AreAskedIn (flat pairs) s
+asked_are pairs s flag once all = record {
+  basis_is = value_is basis_row pairs s.basis once all.basis;
+  method_is = value_is method_row pairs s.method once all.method;
+  max_is = value_is max_row pairs s.max once all.max;
+  conflicts_is = value_is conflicts_row pairs s.conflicts once all.conflicts;
+}
+
+synth_back : (pairs : List Pair) (s : SynthSettings) (flag : Bool) → IsDistinct is_word (keys_of pairs) → GivesSynth pairs s flag → command_with Synth (flat pairs) ≡ synth_from (Some s) (Some flag)
+synth_back pairs s flag once all =
+    ap (λ (o : Option SynthSettings). synth_from o (value least_depth_row (flat pairs))) (asked_back _ _ _ _ s (asked_are pairs s flag once all))
+    ∙ ap (λ (o : Option Bool). synth_from (Some s) o) (value_is least_depth_row pairs flag once all.flag)
+
 made_back : (c : Command) (pairs : List Pair) → IsDistinct is_word (keys_of pairs) → GivesAll pairs c → command_with (kind_of c) (flat pairs) ≡ Some c
 made_back commands.Agree pairs once all = refl
-made_back commands.Recheck pairs once all = refl
-made_back (commands.Synth s) pairs once all =
-    rw (value_is basis_row pairs s.basis once all.basis, value_is method_row pairs s.method once all.method, value_is max_row pairs s.max once all.max, value_is conflicts_row pairs s.conflicts once all.conflicts) refl
+made_back commands.Recheck pairs once all = rw (value_is depth_row pairs false once all) refl
+made_back commands.RecheckDepth pairs once all = rw (value_is depth_row pairs true once all) refl
+made_back (commands.Synth s) pairs once all = synth_back pairs s false once all
+made_back (commands.LeastDepth s) pairs once all =
+    synth_back pairs s true once all.0 ∙ ap (λ (m : Method). least_depth_by m s) all.1
 made_back (commands.Improve f s) pairs once all = improve_back f pairs s once all
 made_back (commands.Equiv budget) pairs once all = rw (value_is conflicts_row pairs budget once all) refl
 made_back (commands.Gen blocks deed) pairs once all =
     rw (value_is blocks_row pairs blocks once all.blocks, value_is run_row pairs deed once all.run) refl
 
-given_again : (c : Command) (pairs other : List Pair) → IsPermutation pairs other → GivesAll pairs c → GivesAll other c
-given_again commands.Agree pairs other moved all = tt
-given_again commands.Recheck pairs other moved all = tt
-given_again (commands.Synth s) pairs other moved all = record {
+synth_again : (pairs other : List Pair) (s : SynthSettings) (flag : Bool) → IsPermutation pairs other → GivesSynth pairs s flag → GivesSynth other s flag
+synth_again pairs other s flag moved all = record {
   basis = gives_again basis_row pairs other s.basis moved all.basis;
   method = gives_again method_row pairs other s.method moved all.method;
   max = gives_again max_row pairs other s.max moved all.max;
   conflicts = gives_again conflicts_row pairs other s.conflicts moved all.conflicts;
+  flag = gives_again least_depth_row pairs other flag moved all.flag;
 }
+
+given_again : (c : Command) (pairs other : List Pair) → IsPermutation pairs other → GivesAll pairs c → GivesAll other c
+given_again commands.Agree pairs other moved all = tt
+given_again commands.Recheck pairs other moved all = gives_again depth_row pairs other false moved all
+given_again commands.RecheckDepth pairs other moved all = gives_again depth_row pairs other true moved all
+given_again (commands.Synth s) pairs other moved all = synth_again pairs other s false moved all
+given_again (commands.LeastDepth s) pairs other moved all = (synth_again pairs other s true moved all.0, all.1)
 given_again (commands.Improve f s) pairs other moved all = record {
   format_is = gives_again format_row pairs other f moved all.format_is;
   basis = gives_again (format_basis_row f) pairs other s.basis moved all.basis;

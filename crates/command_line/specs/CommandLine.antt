@@ -3,6 +3,8 @@ use Rattle.std.specs.Prelude.{◌≡◌, ℕ, ◌≤◌, List, [], ◌∷◌, ma
 use Rattle.std.specs.Global.{Global}
 use Rattle.std.specs.String.{string_bytes}
 use Rattle.enc_theory.specs.declared.data.Method.{Method}
+use Rattle.enc_theory.specs.declared.data.Method.TheVariants.{Fence}
+use Rattle.settings.specs.declared.synth.SynthSettings.{SynthSettings}
 use Rattle.settings.specs.Synth.{most_conflicts, IsInRange}
 use Rattle.op_basis.specs.Text.{bench_set}
 use Rattle.improve_settings.specs.declared.improve.ImproveSettings.{ImproveSettings}
@@ -16,7 +18,7 @@ use Rattle.command_line.specs.declared.table.Kind.TheVariants as kinds
 use Rattle.command_line.specs.declared.command.Deed.{Deed}
 use Rattle.command_line.specs.declared.command.Format.{Format}
 use Rattle.command_line.specs.declared.command.Format.TheVariants.{Blif, Bench}
-use Rattle.command_line.specs.Options.{Row, is_word, is_among, is_within, basis_row, format_basis_row, method_row, max_row, conflicts_row, cap_row, rounds_row, format_row, observe_row, most_blocks, blocks_row, run_row, kind_named, options_of}
+use Rattle.command_line.specs.Options.{Row, is_word, is_among, is_within, basis_row, format_basis_row, method_row, max_row, conflicts_row, cap_row, rounds_row, format_row, observe_row, most_blocks, blocks_row, run_row, least_depth_row, depth_row, kind_named, options_of}
 
 -- the bytes of each word
 abbrev pub spelled : Vec (String Global) Global → List (List ℕ)
@@ -49,12 +51,34 @@ value row words = value_in row (word_behind row.name words)
 
 -- ---- commands
 
-abbrev pub synth_from : Option ℕ → Option Method → Option ℕ → Option ℕ → Option Command
-synth_from (Some basis) (Some method) (Some max) (Some conflicts) = Some (commands.Synth (record { basis = basis; method = method; max = max; conflicts = conflicts }))
-synth_from basis method max conflicts = None
+abbrev pub asked_from : Option ℕ → Option Method → Option ℕ → Option ℕ → Option SynthSettings
+asked_from (Some basis) (Some method) (Some max) (Some conflicts) = Some (record { basis = basis; method = method; max = max; conflicts = conflicts })
+asked_from basis method max conflicts = None
+
+-- the settings of `synth`
+abbrev pub asked_in : List (List ℕ) → Option SynthSettings
+asked_in words = asked_from (value basis_row words) (value method_row words) (value max_row words) (value conflicts_row words)
+
+-- the fewest levels are sought by fences alone
+abbrev pub least_depth_by : Method → SynthSettings → Option Command
+least_depth_by Fence asked = Some (commands.LeastDepth asked)
+least_depth_by method asked = None
+
+abbrev pub synth_from : Option SynthSettings → Option Bool → Option Command
+synth_from (Some asked) (Some false) = Some (commands.Synth asked)
+synth_from (Some asked) (Some true) = least_depth_by asked.method asked
+synth_from asked least_depth = None
 
 abbrev pub synth_in : List (List ℕ) → Option Command
-synth_in words = synth_from (value basis_row words) (value method_row words) (value max_row words) (value conflicts_row words)
+synth_in words = synth_from (asked_in words) (value least_depth_row words)
+
+abbrev pub recheck_from : Option Bool → Option Command
+recheck_from (Some false) = Some commands.Recheck
+recheck_from (Some true) = Some commands.RecheckDepth
+recheck_from None = None
+
+abbrev pub recheck_in : List (List ℕ) → Option Command
+recheck_in words = recheck_from (value depth_row words)
 
 abbrev pub settings_from : Option ℕ → Option Method → Option ℕ → Option ℕ → Option ℕ → Option Bool → Option ImproveSettings
 settings_from (Some basis) (Some method) (Some cap) (Some rounds) (Some conflicts) (Some observe) =
@@ -93,7 +117,7 @@ gen_in words = gen_from (value blocks_row words) (value run_row words)
 -- a command with the values of its options
 abbrev pub command_with : Kind → List (List ℕ) → Option Command
 command_with kinds.Agree words = Some commands.Agree
-command_with kinds.Recheck words = Some commands.Recheck
+command_with kinds.Recheck words = recheck_in words
 command_with kinds.Synth words = synth_in words
 command_with kinds.Improve words = improve_in words
 command_with kinds.Equiv words = equiv_in words
@@ -143,7 +167,9 @@ pub record IsAsked (format : Format) (settings : ImproveSettings) : Type 0 where
 abbrev pub IsAskable : Command → Type 0
 IsAskable commands.Agree = Unit {0}
 IsAskable commands.Recheck = Unit {0}
+IsAskable commands.RecheckDepth = Unit {0}
 IsAskable (commands.Synth settings) = IsInRange settings
+IsAskable (commands.LeastDepth settings) = IsInRange settings × (settings.method ≡ Fence)
 IsAskable (commands.Improve format settings) = IsAsked format settings
 IsAskable (commands.Equiv conflicts) = IsBudget conflicts
 IsAskable (commands.Gen blocks deed) = (1 ≤ blocks) × (blocks ≤ most_blocks)

@@ -121,6 +121,14 @@ blocks_row = number_row (codes "--blocks") 1 most_blocks None
 abbrev pub run_row : Row Deed
 run_row = record { name = codes "--run"; read = deed_in; default = Some deeds.Write }
 
+-- whether a chain of the fewest levels is sought, among those of the fewest steps
+abbrev pub least_depth_row : Row Bool
+least_depth_row = flag_row (codes "--least-depth")
+
+-- whether certificates of that are judged
+abbrev pub depth_row : Row Bool
+depth_row = flag_row (codes "--depth")
+
 -- ---- which command takes which
 
 abbrev pub kind_text : Kind → List ℕ
@@ -145,8 +153,8 @@ kind_named name =
 -- the names of the options that a command takes
 abbrev pub options_of : Kind → List (List ℕ)
 options_of Agree = []
-options_of Recheck = []
-options_of Synth = basis_row.name ∷ method_row.name ∷ max_row.name ∷ conflicts_row.name ∷ []
+options_of Recheck = depth_row.name ∷ []
+options_of Synth = basis_row.name ∷ method_row.name ∷ max_row.name ∷ conflicts_row.name ∷ least_depth_row.name ∷ []
 options_of Improve = basis_row.name ∷ method_row.name ∷ cap_row.name ∷ rounds_row.name ∷ conflicts_row.name ∷ format_row.name ∷ observe_row.name ∷ []
 options_of Equiv = conflicts_row.name ∷ []
 options_of Gen = blocks_row.name ∷ run_row.name ∷ []

@@ -1,7 +1,8 @@
 -- How a command line is spelled: a name, and pairs of a name and a value in any order.
-use Rattle.std.specs.Prelude.{◌≡◌, ℕ, List, [], ◌∷◌, true, Some, All, Contains}
+use Rattle.std.specs.Prelude.{◌≡◌, ℕ, List, [], ◌∷◌, Bool, true, false, Some, All, Contains}
 use Rattle.std.specs.List.{IsDistinct, flat_map}
 use Rattle.std.specs.Map.{keys_of}
+use Rattle.enc_theory.specs.declared.data.Method.TheVariants.{Fence}
 use Rattle.settings.specs.declared.synth.SynthSettings.{SynthSettings}
 use Rattle.improve_settings.specs.declared.improve.ImproveSettings.{ImproveSettings}
 use Rattle.command_line.specs.declared.command.Command.{Command}
@@ -10,7 +11,7 @@ use Rattle.command_line.specs.declared.table.Kind.{Kind}
 use Rattle.command_line.specs.declared.table.Kind.TheVariants as kinds
 use Rattle.command_line.specs.declared.command.Deed.{Deed}
 use Rattle.command_line.specs.declared.command.Format.{Format}
-use Rattle.command_line.specs.Options.{Row, is_word, is_among, basis_row, format_basis_row, method_row, max_row, conflicts_row, cap_row, rounds_row, format_row, observe_row, blocks_row, run_row, kind_text, options_of}
+use Rattle.command_line.specs.Options.{Row, is_word, is_among, basis_row, format_basis_row, method_row, max_row, conflicts_row, cap_row, rounds_row, format_row, observe_row, blocks_row, run_row, least_depth_row, depth_row, kind_text, options_of}
 
 -- a name and the word behind it
 abbrev pub Pair : Type 0
@@ -29,11 +30,12 @@ pub record Gives {A : Type 0} (row : Row A) (pairs : List Pair) (x : A) : Type 0
   pub named : (word : List ℕ) → Contains pairs (row.name, word) → row.read word ≡ Some x
   pub unnamed : ((word : List ℕ) → Contains pairs (row.name, word) → ⊥) → row.default ≡ Some x
 
-pub record GivesSynth (pairs : List Pair) (s : SynthSettings) : Type 0 where
+pub record GivesSynth (pairs : List Pair) (s : SynthSettings) (least_depth : Bool) : Type 0 where
   pub basis : Gives basis_row pairs s.basis
   pub method : Gives method_row pairs s.method
   pub max : Gives max_row pairs s.max
   pub conflicts : Gives conflicts_row pairs s.conflicts
+  pub flag : Gives least_depth_row pairs least_depth
 
 -- which basis they may give goes by the format
 pub record GivesImprove (pairs : List Pair) (format : Format) (s : ImproveSettings) : Type 0 where
@@ -49,11 +51,13 @@ pub record GivesGen (pairs : List Pair) (count : ℕ) (deed : Deed) : Type 0 whe
   pub blocks : Gives blocks_row pairs count
   pub run : Gives run_row pairs deed
 
--- pairs give what a command is asked with
+-- Pairs give what a command is asked with. The fewest levels are sought by fences alone.
 abbrev pub GivesAll : List Pair → Command → Type 0
 GivesAll pairs commands.Agree = Unit {0}
-GivesAll pairs commands.Recheck = Unit {0}
-GivesAll pairs (commands.Synth settings) = GivesSynth pairs settings
+GivesAll pairs commands.Recheck = Gives depth_row pairs false
+GivesAll pairs commands.RecheckDepth = Gives depth_row pairs true
+GivesAll pairs (commands.Synth settings) = GivesSynth pairs settings false
+GivesAll pairs (commands.LeastDepth settings) = GivesSynth pairs settings true × (settings.method ≡ Fence)
 GivesAll pairs (commands.Improve format settings) = GivesImprove pairs format settings
 GivesAll pairs (commands.Equiv budget) = Gives conflicts_row pairs budget
 GivesAll pairs (commands.Gen blocks deed) = GivesGen pairs blocks deed
@@ -61,7 +65,9 @@ GivesAll pairs (commands.Gen blocks deed) = GivesGen pairs blocks deed
 abbrev pub kind_of : Command → Kind
 kind_of commands.Agree = kinds.Agree
 kind_of commands.Recheck = kinds.Recheck
+kind_of commands.RecheckDepth = kinds.Recheck
 kind_of (commands.Synth settings) = kinds.Synth
+kind_of (commands.LeastDepth settings) = kinds.Synth
 kind_of (commands.Improve format settings) = kinds.Improve
 kind_of (commands.Equiv budget) = kinds.Equiv
 kind_of (commands.Gen blocks deed) = kinds.Gen

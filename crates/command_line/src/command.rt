@@ -26,8 +26,12 @@ pub enum Command {
     Agree,
     /// Say whether a certificate is valid, and its verdict.
     Recheck,
+    /// Say the same of a certificate that the chain has the fewest levels too.
+    RecheckDepth,
     /// Find a chain with the fewest steps, and write the certificate.
     Synth(SynthSettings),
+    /// Find a chain with the fewest steps, and of these one with the fewest levels, by fences.
+    LeastDepth(SynthSettings),
     /// Write a netlist of a format again that does the same with no more gates, by its windows.
     Improve {
         format: Format,

@@ -1,6 +1,7 @@
 //! What the definitions come to. Each law is the contract of a function that does nothing.
 ghost use Rattle.std.specs.Prelude.{◌≡◌, ◌↔◌, true, ℕ, List, [], ◌∷◌, codes};
 ghost use Rattle.std.specs.List.Sorted.{IsPermutation};
+ghost use Rattle.enc_theory.specs.declared.data.Method.TheVariants.{Fence};
 ghost use Rattle.settings.specs.declared.synth.SynthSettings.{SynthSettings};
 ghost use Rattle.improve_settings.specs.declared.improve.ImproveSettings.{ImproveSettings};
 ghost use Rattle.settings.specs.Synth.{usual, IsInRange};
@@ -8,7 +9,7 @@ ghost use Rattle.improve_settings.specs.Improve as improver;
 ghost use Rattle.command_line.specs.declared.command.Format.{Format};
 ghost use Rattle.command_line.specs.declared.command.Format.TheVariants.{Blif, Bench};
 ghost use Rattle.command_line.specs.declared.command.Command.{Command};
-ghost use Rattle.command_line.specs.declared.command.Command.TheVariants.{Synth, Improve, Equiv};
+ghost use Rattle.command_line.specs.declared.command.Command.TheVariants.{Synth, LeastDepth, Improve, Equiv};
 ghost use Rattle.command_line.specs.CommandLine.{AsksFor, IsBudget, IsAsked, usual_for};
 ghost use Rattle.command_line.specs.Options.{is_within};
 ghost use Rattle.command_line.specs.Spelling.{Pair, flat, Spells};
@@ -28,9 +29,10 @@ pub fn order_of_options_is_free()
 {}
 
 /// What `synth` and `improve` are asked with is in their ranges, the basis of a format with it, and so is the budget
-/// of `equiv`.
+/// of `equiv`. The fewest levels are sought by fences alone.
 pub fn settings_are_in_range()
     ensures synth { (words : List (List ℕ)) (settings : SynthSettings) → AsksFor words (Synth settings) → IsInRange settings }
+    ensures least_depth { (words : List (List ℕ)) (settings : SynthSettings) → AsksFor words (LeastDepth settings) → IsInRange settings × (settings.method ≡ Fence) }
     ensures improve { (words : List (List ℕ)) (format : Format) (settings : ImproveSettings) → AsksFor words (Improve format settings) → IsAsked format settings }
     ensures equiv { (words : List (List ℕ)) (budget : ℕ) → AsksFor words (Equiv budget) → IsBudget budget }
 {}

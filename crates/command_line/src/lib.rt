@@ -6,8 +6,10 @@
 //! `specs/Options.antt` is the one table of options: a row for each has its name, how its value is
 //! read and what holds where it isn't named; beside it stands which command takes which. A list of
 //! words asks for one command at most (`command_of` of `specs/CommandLine.antt`), and `read_words`
-//! answers it. `laws` says the same without the program: words are a command exactly where they are
-//! its name and pairs of a name and a value, and the order of the pairs is free.
+//! answers it. A flag (`--least-depth`, `--depth`) has the value `yes` or `no`, and makes a command of
+//! its own: the fewest levels are another search than the fewest steps, and have other certificates.
+//! `laws` says the same without the program: words are a command exactly where they are its name and
+//! pairs of a name and a value, and the order of the pairs is free.
 //!
 //! ```text
 //! let command = read_words(&words)?;   // of synth --max 3 --basis nand

@@ -44,6 +44,10 @@ const BLOCKS: &[u8] = b"--blocks";
 
 const RUN: &[u8] = b"--run";
 
+const LEAST_DEPTH: &[u8] = b"--least-depth";
+
+const DEPTH: &[u8] = b"--depth";
+
 // The most blocks of a netlist that is generated.
 const MOST_BLOCKS: u32 = 10_000;
 
@@ -80,12 +84,14 @@ pub(crate) fn takes(kind: Kind, name: &[u8]) -> bool
     ensures { result ≡ spec.is_among name.now (spec.options_of kind) }
 {
     match kind {
-        Kind::Agree | Kind::Recheck => false,
+        Kind::Agree => false,
+        Kind::Recheck => is_word(name, DEPTH),
         Kind::Synth => {
             is_word(name, BASIS)
                 || is_word(name, METHOD)
                 || is_word(name, MAX)
                 || is_word(name, CONFLICTS)
+                || is_word(name, LEAST_DEPTH)
         }
         Kind::Improve => {
             is_word(name, BASIS)
@@ -253,4 +259,20 @@ pub(crate) fn given_deed(words: &[String]) -> Option<Deed>
         Some(word) if is_word(word, b"improve") => Some(Deed::Improve),
         Some(_) => None,
     }
+}
+
+// ---- flags
+
+/// The value of `--least-depth`.
+pub(crate) fn given_least_depth(words: &[String]) -> Option<bool>
+    ensures { result ≡ value spec.least_depth_row (map string_bytes words.now) }
+{
+    flag(LEAST_DEPTH, words)
+}
+
+/// The value of `--depth`.
+pub(crate) fn given_depth(words: &[String]) -> Option<bool>
+    ensures { result ≡ value spec.depth_row (map string_bytes words.now) }
+{
+    flag(DEPTH, words)
 }

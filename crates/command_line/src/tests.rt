@@ -25,6 +25,8 @@ fn lines_ask_for_commands(rt: HostRuntime) -> Result<(), Fail> {
     for (line, command) in [
         ("agree", Command::Agree),
         ("recheck", Command::Recheck),
+        ("recheck --depth no", Command::Recheck),
+        ("recheck --depth yes", Command::RecheckDepth),
         ("equiv", Command::Equiv(100_000)),
         ("equiv --conflicts 7", Command::Equiv(7)),
         (
@@ -185,12 +187,55 @@ fn bench_has_bases_of_its_gates(rt: HostRuntime) -> Result<(), Fail> {
 }
 
 #[test]
+fn fewest_levels_are_sought_by_fences(rt: HostRuntime) -> Result<(), Fail> {
+    let by_fences = SynthSettings {
+        method: Method::Fence,
+        ..SynthSettings::usual()
+    };
+    for (line, command) in [
+        (
+            "synth --least-depth yes --method fence",
+            Command::LeastDepth(by_fences),
+        ),
+        (
+            "synth --method fence --max 3 --least-depth yes",
+            Command::LeastDepth(SynthSettings {
+                max: 3,
+                ..by_fences
+            }),
+        ),
+        (
+            "synth --method fence --least-depth no",
+            Command::Synth(by_fences),
+        ),
+        (
+            "synth --least-depth no",
+            Command::Synth(SynthSettings::usual()),
+        ),
+    ] {
+        assert_eq!(rt; asked(rt.alloc(), line)?, Some(command), "{line}");
+    }
+    Ok(())
+}
+
+#[test]
 fn other_words_ask_for_none(rt: HostRuntime) -> Result<(), Fail> {
     for line in [
         "",
         "Agree",
         "agree agree",
-        "recheck --depth yes",
+        "recheck --depth",
+        "recheck --depth maybe",
+        "recheck --depth yes --depth yes",
+        "recheck --least-depth yes",
+        "agree --depth no",
+        "synth --least-depth yes",
+        "synth --least-depth yes --method ssv",
+        "synth --method plain --least-depth yes",
+        "synth --method fence --least-depth Yes",
+        "synth --method fence --least-depth 1",
+        "synth --method fence --depth yes",
+        "improve --method fence --least-depth yes",
         "equiv --conflicts 0",
         "equiv --max 3",
         "gen",

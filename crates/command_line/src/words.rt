@@ -7,14 +7,15 @@ use crate::command::{Command, Format, WordsError};
 use crate::pairs::are_options;
 use crate::table::{
     Kind, given_basis, given_basis_for, given_blocks, given_cap, given_conflicts, given_deed,
-    given_format, given_max, given_method, given_observe, given_rounds, kind_named,
+    given_depth, given_format, given_least_depth, given_max, given_method, given_observe,
+    given_rounds, kind_named,
 };
 use improve_settings::ImproveSettings;
-use settings::SynthSettings;
+use settings::{Method, SynthSettings};
 
-/// `synth` with the values of its options.
-fn synth_in(words: &[String]) -> Option<Command>
-    ensures { result ≡ spec.synth_in (map string_bytes words.now) }
+/// The settings of `synth`.
+fn asked_in(words: &[String]) -> Option<SynthSettings>
+    ensures { result ≡ spec.asked_in (map string_bytes words.now) }
 {
     match (
         given_basis(words),
@@ -22,15 +23,45 @@ fn synth_in(words: &[String]) -> Option<Command>
         given_max(words),
         given_conflicts(words),
     ) {
-        (Some(basis), Some(method), Some(max), Some(conflicts)) => {
-            Some(Command::Synth(SynthSettings {
-                basis,
-                method,
-                max,
-                conflicts,
-            }))
-        }
+        (Some(basis), Some(method), Some(max), Some(conflicts)) => Some(SynthSettings {
+            basis,
+            method,
+            max,
+            conflicts,
+        }),
         _ => None,
+    }
+}
+
+/// The search for the fewest levels, which goes by fences alone.
+fn least_depth_by(asked: SynthSettings) -> Option<Command>
+    ensures { result ≡ spec.least_depth_by asked.method asked }
+{
+    match asked.method {
+        Method::Fence => Some(Command::LeastDepth(asked)),
+        Method::Plain | Method::Ssv | Method::Select => None,
+    }
+}
+
+/// `synth` with the values of its options.
+fn synth_in(words: &[String]) -> Option<Command>
+    ensures { result ≡ spec.synth_in (map string_bytes words.now) }
+{
+    match (asked_in(words), given_least_depth(words)) {
+        (Some(asked), Some(false)) => Some(Command::Synth(asked)),
+        (Some(asked), Some(true)) => least_depth_by(asked),
+        _ => None,
+    }
+}
+
+/// `recheck` with the value of its option.
+fn recheck_in(words: &[String]) -> Option<Command>
+    ensures { result ≡ spec.recheck_in (map string_bytes words.now) }
+{
+    match given_depth(words) {
+        Some(false) => Some(Command::Recheck),
+        Some(true) => Some(Command::RecheckDepth),
+        None => None,
     }
 }
 
@@ -89,7 +120,7 @@ fn command_with(kind: Kind, words: &[String]) -> Option<Command>
 {
     match kind {
         Kind::Agree => Some(Command::Agree),
-        Kind::Recheck => Some(Command::Recheck),
+        Kind::Recheck => recheck_in(words),
         Kind::Synth => synth_in(words),
         Kind::Improve => improve_in(words),
         Kind::Equiv => equiv_in(words),

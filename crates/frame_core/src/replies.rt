@@ -24,7 +24,7 @@ pub enum Field {
 #[derive(Drop)]
 pub struct ErrorLine {
     /// The fields, the variant's name first.
-    pub fields: [Field; 4],
+    pub fields: [Field; 5],
 }
 
 impl ErrorLine {
@@ -50,7 +50,7 @@ impl ErrorLine {
         ensures { line_value result ≡ shown (lead ∷ []) ++ (Word name.now ∷ shown (first ∷ second ∷ [])) }
     {
         ErrorLine {
-            fields: [lead, Field::Known(name), first, second],
+            fields: [lead, Field::Known(name), first, second, Field::Nothing],
         }
     }
 
@@ -60,7 +60,23 @@ impl ErrorLine {
         ensures { line_value result ≡ Word name.now ∷ shown (first ∷ second ∷ third ∷ []) }
     {
         ErrorLine {
-            fields: [Field::Known(name), first, second, third],
+            fields: [Field::Known(name), first, second, third, Field::Nothing],
+        }
+    }
+
+    /// A variant with at most three fields, behind a word where `lead` is one.
+    #[tactic(auto, unfolding(crate::specs::Views::shown), using(crate::proofs::Leads::leading))]
+    pub fn behind(
+        lead: Field,
+        name: &'static [u8],
+        first: Field,
+        second: Field,
+        third: Field,
+    ) -> ErrorLine
+        ensures { line_value result ≡ shown (lead ∷ []) ++ (Word name.now ∷ shown (first ∷ second ∷ third ∷ [])) }
+    {
+        ErrorLine {
+            fields: [lead, Field::Known(name), first, second, third],
         }
     }
 }

@@ -24,7 +24,7 @@ pub struct Certificate {
 }
 
 /// The tables that the bytes are, with nothing behind them.
-pub(crate) fn tables(alloc: Global, bytes: &[u8]) -> Result<Spec, SpecError>
+pub fn tables(alloc: Global, bytes: &[u8]) -> Result<Spec, SpecError>
     requires { length bytes.now < 2 ^ 31 }
     ensures exact { Gives (λ spec. spec) result (tables_alone (lines_of bytes.now)) }
     ensures spelled { IfOk result (λ spec. SpellsTables (specification spec) (lines_of bytes.now) []) }

@@ -16,6 +16,6 @@ mod certificate;
 mod pieces;
 
 pub use bundle_core::Verdict;
-pub use certificate::{Certificate, synthesise};
+pub use certificate::{Certificate, synthesise, tables};
 pub use pieces::{Begun, Piece, begin, go_on};
 pub use settings::SynthSettings;

@@ -1,0 +1,117 @@
+//! Chains of the fewest levels: what `synth --least-depth yes` writes, and what `recheck --depth yes` tells of it and
+//! of what it isn't.
+use crate::running::told;
+use std::test::Fail;
+
+const SYNTH: &str = "synth --method fence --least-depth yes";
+
+const RECHECK: &str = "recheck --depth yes";
+
+/// The front of a certificate of x1 AND x2, and of that AND x3: two steps, on two levels.
+const FRONT: &str =
+    "chains 1\ninputs 3\n00000011\n00000001\nbasis all\nmethod fence\nconflicts 100000\nmax 16\nsize 0\nfence\nrefuted\ndone\nsize 1\nfence 1\nrefuted\n132 0 1 2 9 17 0\ndone\nchain 2\nx4 x1 x2 0001\nx5 x3 x4 0001\nout x4\nout x5\nminimum 2\nend\n";
+
+/// The log that refutes its one flatter fence.
+const FLATTER: &str =
+    "fence 2\nrefuted\n276 -1 0 3 19 274 0\n277 -38 -15 9 0 181 194 0\n278 -33 -8 6 0 111 116 0\n279 24 33 -8 0 270 271 52 84 100 35 0\n280 -19 0 270 271 24 25 26 278 279 236 240 81 35 0\n281 -39 0 280 2 34 32 207 212 0\n282 28 0 280 229 10 8 278 279 236 270 240 271 35 256 272 281 273 2 34 196 180 36 0\n283 0 270 271 280 2 229 33 8 10 278 279 236 240 35 272 273 256 281 282 252 177 36 0\ndone\n";
+
+/// A text of parts.
+fn joined(rt: &HostRuntime, parts: &[&str]) -> Result<Vec<u8>, Fail> {
+    let mut text = Vec::new(rt.alloc());
+    for part in parts {
+        text.extend_from_slice(part.as_bytes())?;
+    }
+    Ok(text)
+}
+
+#[test]
+fn fewest_levels_are_found(rt: HostRuntime) -> Result<(), Fail> {
+    for (input, ending) in [
+        (
+            "inputs 4\n0000000000000001\n",
+            "chain 3\nx5 x1 x2 0001\nx6 x3 x4 0001\nx7 x5 x6 0001\nout x7\nminimum 3\nend\ndepth 2\nlevels 2\nend\n",
+        ),
+        ("inputs 4\n0000000000011111\n", "done\nlevels 3\nend\n"),
+        (
+            "inputs 2\n0--1\n",
+            "minimum 0\nend\ndepth 0\nlevels 0\nend\n",
+        ),
+    ] {
+        let seen = told(rt.alloc(), SYNTH, input.as_bytes())?;
+        assert_eq!(rt; seen.status, 0, "{input}");
+        assert!(rt; seen.out.written().ends_with(ending.as_bytes()), "{input}");
+        assert!(rt; seen.note.written().is_empty(), "{input}");
+        let again = told(rt.alloc(), RECHECK, seen.out.written())?;
+        assert_eq!(rt; again.status, 0, "{input}");
+    }
+    Ok(())
+}
+
+#[test]
+fn spent_budgets_leave_levels_open(rt: HostRuntime) -> Result<(), Fail> {
+    let input = "inputs 3\n00000011\n00000001\n";
+    let line = "synth --method fence --conflicts 1 --least-depth yes";
+    let seen = told(rt.alloc(), line, input.as_bytes())?;
+    assert_eq!(rt; seen.status, 4);
+    assert!(rt; seen.out.written().ends_with(b"done\nlevels-bounded 1 2\nend\n"));
+    let again = told(rt.alloc(), RECHECK, seen.out.written())?;
+    assert!(rt; again.is(0, b"levels-bounded 1 2\n", b""));
+    Ok(())
+}
+
+#[test]
+fn depth_bundles_are_judged(rt: HostRuntime) -> Result<(), Fail> {
+    for (parts, status, out, note) in [
+        ([FRONT, "depth 2\n", FLATTER, "levels 2\nend\n"], 0, "levels 2\n", ""),
+        ([FRONT, "depth 2\n", "", "levels 2\nend\n"], 8, "", "error: NotRefuted 26\n"),
+        ([FRONT, "depth 3\n", FLATTER, "levels 2\nend\n"], 8, "", "error: WrongDepth 25\n"),
+        ([FRONT, "depth\n", FLATTER, "levels 2\nend\n"], 2, "", "error: Syntax 25\n"),
+        ([FRONT, "depth 2\n", FLATTER, "levels 1\nend\n"], 8, "", "error: WrongLevels 37\n"),
+        (
+            [FRONT, "depth 2\n", FLATTER, "levels-bounded 1 2\nend\n"],
+            8,
+            "",
+            "error: WrongLevels 37\n",
+        ),
+        ([FRONT, "depth 2\n", FLATTER, "fence 1 1\n"], 8, "", "error: NotRefuted 37\n"),
+        ([FRONT, "depth 2\n", FLATTER, "levels 2\n"], 2, "", "error: Syntax 38\n"),
+        ([FRONT, "depth 2\n", FLATTER, "levels 2\nend\n\n"], 2, "", "error: Syntax 39\n"),
+        ([FRONT, "depth 2\n", "fence 1 1\n", ""], 8, "", "error: NotRefuted 26\n"),
+        (
+            [FRONT, "depth 2\n", "fence 2\nrefuted\n276 0 0\n", ""],
+            8,
+            "",
+            "error: StepRefused 28 NoConflict\n",
+        ),
+        (
+            [FRONT, "depth 2\n", "fence 2\nrefuted\ndone\n", ""],
+            8,
+            "",
+            "error: NotRefuted 28\n",
+        ),
+        (
+            [FRONT, "depth 2\n", "fence 2\nopen\ndone\n", ""],
+            8,
+            "",
+            "error: OpenTooShort 28\n",
+        ),
+        ([FRONT, "", "", ""], 2, "", "error: Syntax 25\n"),
+        (["chains 1\n", "", "", ""], 2, "", "error: Bundle Syntax 2\n"),
+        (["", "", "", ""], 2, "", "error: Bundle Syntax 1\n"),
+        (
+            [
+                "chains 1\ninputs 1\n01\nbasis all\nmethod ssv\nconflicts 7\nmax 0\nchain 0\nout x1\nminimum 0\nend\n",
+                "",
+                "",
+                "",
+            ],
+            8,
+            "",
+            "error: NotLeastForm\n",
+        ),
+    ] {
+        let seen = told(rt.alloc(), RECHECK, &joined(&rt, &parts)?)?;
+        assert!(rt; seen.is(status, out.as_bytes(), note.as_bytes()), "{note}");
+    }
+    Ok(())
+}

@@ -1,0 +1,146 @@
+//! The command `recheck --depth yes`: what it tells of bytes.
+ghost use Rattle.std.specs.Prelude.{◌≡◌, ◌≤◌, IfOk, length};
+ghost use Rattle.frame_core.specs.Views.{line_value, reply_value, refusal_value, Judges};
+ghost use Rattle.chain_app.specs.RecheckReport.{most_of_bundle};
+ghost use Rattle.chain_app.specs.RecheckDepthReport.{levels_text, depth_status as depth_status_of, named_inside, named_depth, depth_reply, depth_refusal, depth_task};
+
+use crate::bundles::{bundle_status, name_bundle, name_step};
+use crate::recheck::MOST_BYTES;
+use cert_file::BundleError;
+use depth_run::{DepthError, DepthVerdict, check_depth};
+use frame_core::{Ended, ErrorLine, Field, Job, Refusal, Reply, Status, Stop, finish};
+use port_io::Sink;
+use std::alloc::{AllocError, Global};
+use text_core::push_number;
+
+/// The status that tells of a fault.
+fn depth_status(error: DepthError) -> Status
+    ensures { result ≡ depth_status_of error }
+{
+    match error {
+        DepthError::Bundle(error) => bundle_status(error),
+        DepthError::Syntax(_) => Status::Malformed,
+        DepthError::Memory => Status::Memory,
+        DepthError::NotLeastForm
+        | DepthError::WrongDepth(_)
+        | DepthError::StepRefused(_, _)
+        | DepthError::NotNew(_)
+        | DepthError::NotRefuted(_)
+        | DepthError::OpenTooShort(_)
+        | DepthError::WrongLevels(_) => Status::Refused,
+    }
+}
+
+/// What the error line of a fault of the bundle names.
+#[tactic(auto, unfolding(frame_core::specs::Told::memory, frame_core::specs::Views::shown), using(crate::proofs::RecheckingDepth::inside))]
+fn name_inside(error: BundleError) -> ErrorLine
+    ensures { line_value result ≡ named_inside error }
+{
+    match error {
+        BundleError::Memory => ErrorLine::plain(b"Memory"),
+        error => name_bundle(Field::Known(b"Bundle"), error),
+    }
+}
+
+/// What a fault's error line names.
+#[tactic(auto, unfolding(crate::specs::RecheckDepthReport::named_depth, frame_core::specs::Told::memory, frame_core::specs::Views::shown))]
+fn name_depth(error: DepthError) -> ErrorLine
+    ensures { line_value result ≡ named_depth error }
+{
+    match error {
+        DepthError::Bundle(error) => name_inside(error),
+        DepthError::NotLeastForm => ErrorLine::plain(b"NotLeastForm"),
+        DepthError::Syntax(line) => ErrorLine::at(b"Syntax", line),
+        DepthError::WrongDepth(line) => ErrorLine::at(b"WrongDepth", line),
+        DepthError::StepRefused(line, error) => name_step(Field::Nothing, line, error),
+        DepthError::NotNew(line) => ErrorLine::at(b"NotNew", line),
+        DepthError::NotRefuted(line) => ErrorLine::at(b"NotRefuted", line),
+        DepthError::OpenTooShort(line) => ErrorLine::at(b"OpenTooShort", line),
+        DepthError::WrongLevels(line) => ErrorLine::at(b"WrongLevels", line),
+        DepthError::Memory => ErrorLine::plain(b"Memory"),
+    }
+}
+
+/// A fault as a refusal.
+fn refusal_of(error: DepthError) -> Refusal
+    ensures { refusal_value result ≡ depth_refusal error }
+{
+    Refusal {
+        status: depth_status(error),
+        line: name_depth(error),
+    }
+}
+
+/// The text of a verdict.
+#[tactic(auto, unfolding(crate::specs::RecheckDepthReport::levels_text, depth_theory::specs::DepthSpelling::levels_line))]
+fn text_of(alloc: Global, verdict: DepthVerdict) -> Result<Vec<u8>, AllocError>
+    ensures { IfOk result (λ text. text.items ≡ levels_text verdict) }
+{
+    let mut text = Vec::new(alloc);
+    match verdict {
+        DepthVerdict::Levels(levels) => {
+            text.extend_from_slice(b"levels ")?;
+            push_number(&mut text, levels)?;
+        }
+        DepthVerdict::Bounded { low, levels } => {
+            text.extend_from_slice(b"levels-bounded ")?;
+            push_number(&mut text, low)?;
+            text.extend_from_slice(b" ")?;
+            push_number(&mut text, levels)?;
+        }
+    }
+    text.extend_from_slice(b"\n")?;
+    Ok(text)
+}
+
+/// A verdict as a reply.
+fn reply_of(alloc: Global, verdict: DepthVerdict) -> Result<Reply, AllocError>
+    ensures { IfOk result (λ reply. reply_value reply ≡ depth_reply verdict) }
+{
+    Ok(Reply {
+        text: text_of(alloc, verdict)?,
+        report: None,
+        status: Status::Done,
+    })
+}
+
+/// What `recheck --depth yes` tells of bytes.
+#[tactic(auto, using(crate::proofs::RecheckingDepth::telling))]
+fn tell(alloc: Global, bytes: &[u8]) -> Result<Reply, Stop>
+    requires { length bytes.now ≤ most_of_bundle }
+    ensures { Judges depth_task bytes.now result }
+{
+    match check_depth(alloc, bytes) {
+        Ok(verdict) => match reply_of(alloc, verdict) {
+            Ok(reply) => Ok(reply),
+            Err(AllocError) => Err(Stop::NoMemory),
+        },
+        Err(DepthError::Memory) => Err(Stop::NoMemory),
+        Err(error) => Err(Stop::NoAnswer(refusal_of(error))),
+    }
+}
+
+/// The verdict of a certificate of the fewest levels.
+#[derive(Drop)]
+pub(crate) struct RecheckDepth;
+
+impl Job for RecheckDepth {
+    ghost task = { λ _. depth_task };
+
+    ghost ready = { λ _. Unit {0} };
+
+    fn reads(&self) -> Option<usize> {
+        Some(MOST_BYTES)
+    }
+
+    #[tactic(auto, using(crate::proofs::Commands::answering))]
+    fn answer<O: Sink, N: Sink>(
+        &self,
+        alloc: Global,
+        bytes: &[u8],
+        out: &mut O,
+        note: &mut N,
+    ) -> Ended {
+        finish(tell(alloc, bytes), out, note)
+    }
+}

@@ -1,0 +1,37 @@
+-- Texts that certify the fewest steps and levels for tables.
+use Rattle.std.specs.Prelude.{◌≡◌, ℕ, List, [], length, All, None}
+use Rattle.text_core.specs.Lines.{lines_of}
+use Rattle.tt_core.specs.Words.{specification}
+use Rattle.tt_core.specs.Spelling.{SpellsTables}
+use Rattle.settings.specs.declared.synth.SynthSettings.{SynthSettings}
+use Rattle.cert_theory.specs.declared.data.Verdict.{Verdict}
+use Rattle.size_loop.specs.Thrift.{IsThriftyLog, AreThrifty}
+use Rattle.synth_core.specs.Asking.{heading_of}
+use Rattle.synth_core.specs.Certifying as sizes
+use Rattle.depth_theory.specs.declared.data.DepthVerdict.{DepthVerdict}
+use Rattle.depth_theory.specs.DepthBundle.{DepthBundle}
+use Rattle.depth_theory.specs.DepthSpelling.{IsDepthText}
+use Rattle.depth_core.specs.Flattened.{minimum_of}
+use Rattle.depth_run.specs.declared.certificate.Found.{Found}
+use Rattle.depth_run.specs.declared.certificate.Found.TheVariants.{Least, Other}
+
+-- The text is that of a depth bundle with this verdict. It is for the tables that the bytes spell, with nothing
+-- behind them, and for what is asked. Its logs owe nothing, those of flatter fences with them: at least half of what
+-- an open one adds stays live.
+pub record IsLeast (bytes : List ℕ) (asked : SynthSettings) (text : List ℕ) (verdict : DepthVerdict) : Type 0 where
+  pub bundle : DepthBundle
+  pub is_text : IsDepthText text bundle
+  pub verdict_is : bundle.verdict ≡ verdict
+  pub heading_is : bundle.bundle.heading ≡ heading_of bundle.bundle.heading.spec asked
+  pub tables : SpellsTables (specification bundle.bundle.heading.spec) (lines_of bytes) []
+  pub thrifty : AreThrifty bundle.bundle.heading bundle.bundle.sections
+  pub parts_thrifty : All (IsThriftyLog bundle.bundle.heading (length bundle.bundle.sections)) bundle.parts
+
+-- The text is that of a certificate of the fewest steps, whose verdict is no minimum.
+pub record IsOther (bytes : List ℕ) (asked : SynthSettings) (text : List ℕ) (verdict : Verdict) : Type 0 where
+  pub certificate : sizes.IsCertificate bytes asked text verdict
+  pub no_minimum : minimum_of verdict ≡ None
+
+abbrev pub IsCertificate : List ℕ → SynthSettings → List ℕ → Found → Type 0
+IsCertificate bytes asked text (Least verdict) = IsLeast bytes asked text verdict
+IsCertificate bytes asked text (Other verdict) = IsOther bytes asked text verdict
