@@ -233,21 +233,6 @@ fn netlists_of_bench_that_depend_on_themselves_are_refused(rt: HostRuntime) -> R
             2,
             "error: DrivenTwice q\n",
         ),
-        (
-            "INPUT(a)\nOUTPUT(y)\ny = Vdd\n",
-            2,
-            "error: NotSupported 3 Vdd\n",
-        ),
-        (
-            "INPUT(a)\r\nOUTPUT(y[0])\r\ny[0] = not ( a )\r\n",
-            0,
-            "gates 1 -> 1\nsettled\n",
-        ),
-        (
-            "INPUT(a)\nOUTPUT(y)\ny = AND(a) b\n",
-            2,
-            "error: Syntax 3\n",
-        ),
     ] {
         let seen = told(rt.alloc(), "improve --format bench", input.as_bytes())?;
         assert!(rt;
