@@ -15,18 +15,29 @@ const NONE: &str =
 const THREE_GATES: &str =
     ".model s\n.inputs a b\n.outputs y\n.names a b p\n10 1\n.names a b q\n01 1\n.names p q y\n1- 1\n-1 1\n.end\n";
 
+/// The same of gates in BENCH.
+const GATES: &str =
+    "INPUT(a)\nINPUT(b)\nOUTPUT(y)\nn = NAND(a, b)\np = NAND(a, n)\nq = NAND(b, n)\ny = NAND(p, q)\n";
+
+/// AND twice, once as NOR of complements.
+const SAME: &str =
+    ".model s\n.inputs a b\n.outputs y\n.names a b y\n11 1\n.end\n.model t\n.inputs a b\n.outputs y\n.names a p\n0 1\n.names b q\n0 1\n.names p q y\n00 1\n.end\n";
+
 /// That netlist, and one that differs from it.
 const TWO: &str =
     ".model s\n.inputs a b\n.outputs y\n.names a b p\n10 1\n.names a b q\n01 1\n.names p q y\n1- 1\n-1 1\n.end\n.model t\n.inputs a b\n.outputs y\n.names y\n.end\n";
 
 /// Every command with an input that has an answer, and the status of that answer.
-const RUNS: [(&str, &str, u8); 6] = [
+const RUNS: [(&str, &str, u8); 9] = [
     ("agree", XOR, 0),
     ("synth", AND_OF_THREE, 0),
     ("recheck", NONE, 0),
     ("improve", THREE_GATES, 0),
+    ("improve --format bench", GATES, 0),
     ("equiv", TWO, 8),
+    ("equiv", SAME, 0),
     ("gen --blocks 3", "", 0),
+    ("gen --blocks 1 --run improve", "", 0),
 ];
 
 /// How many writes a run makes. 0 where one of them that fails isn't told, or leaves no front of the whole text.
@@ -129,14 +140,15 @@ fn notes_of(alloc: Global, line: &str, input: &[u8], whole: &[u8]) -> Result<u64
 
 #[test]
 fn each_note_that_fails_leaves_the_netlist(rt: HostRuntime) -> Result<(), Fail> {
-    let whole = told(rt.alloc(), "improve", THREE_GATES.as_bytes())?;
-    let notes = notes_of(
-        rt.alloc(),
-        "improve",
-        THREE_GATES.as_bytes(),
-        whole.out.written(),
-    )?;
-    assert!(rt; notes > 0);
+    for (line, input) in [
+        ("improve", THREE_GATES),
+        ("improve --format bench", GATES),
+        ("gen --blocks 1 --run improve", ""),
+    ] {
+        let whole = told(rt.alloc(), line, input.as_bytes())?;
+        let notes = notes_of(rt.alloc(), line, input.as_bytes(), whole.out.written())?;
+        assert!(rt; notes > 0, "{line}");
+    }
     Ok(())
 }
 
@@ -150,8 +162,13 @@ fn notes_that_fail_change_no_other_status(rt: HostRuntime) -> Result<(), Fail> {
             2,
         ),
         ("improve", ".model u\n.inputs a\n.outputs y\n.end\n", 2),
+        ("improve --format bench", "INPUT(a)\nOUTPUT(y)\n", 2),
         ("recheck", "chains 1\n", 2),
         ("equiv", TWO, 8),
+        ("equiv", SAME, 0),
+        ("equiv", ".model u\n", 2),
+        ("gen --blocks 2", "", 0),
+        ("gen --blocks 10001", "", 1),
         ("synth --max 17", "", 1),
     ] {
         let seen = run_on(

@@ -22,6 +22,7 @@ fn joined(alloc: Global, parts: [&[u8]; 3]) -> Result<Vec<u8>, AllocError> {
 /// Whether a netlist with a name, or a comment, of this length is refused so; nothing is refused where no text is given.
 fn is_refused_at(
     alloc: Global,
+    line: &str,
     parts: (&[u8], &[u8]),
     byte: u8,
     length: usize,
@@ -29,7 +30,7 @@ fn is_refused_at(
 ) -> Result<bool, AllocError> {
     let long = bytes_of(alloc, byte, length)?;
     let text = joined(alloc, [parts.0, &long, parts.1])?;
-    let seen = told(alloc, "improve --cap 0", &text)?;
+    let seen = told(alloc, line, &text)?;
     if refusal.is_empty() {
         return Ok(seen.status == 0);
     }
@@ -57,7 +58,35 @@ fn names_and_lines_have_a_greatest_length(rt: HostRuntime) -> Result<(), Fail> {
             b"error: LineTooLong 2\n".as_slice(),
         ),
     ] {
-        let well = is_refused_at(rt.alloc(), parts, byte, length, refusal)?;
+        let well = is_refused_at(rt.alloc(), "improve --cap 0", parts, byte, length, refusal)?;
+        assert!(rt; well, "{length}");
+    }
+    Ok(())
+}
+
+#[test]
+fn names_and_lines_of_bench_have_a_greatest_length(rt: HostRuntime) -> Result<(), Fail> {
+    let name = (b"INPUT(a)\nINPUT(".as_slice(), b")\nOUTPUT(a)\n".as_slice());
+    let comment = (b"INPUT(a)\n#".as_slice(), b"\nOUTPUT(a)\n".as_slice());
+    for (parts, byte, length, refusal) in [
+        (name, b'n', 1_024, b"".as_slice()),
+        (name, b'n', 1_025, b"error: NameTooLong 2\n".as_slice()),
+        (comment, b'#', 1_048_575, b"".as_slice()),
+        (
+            comment,
+            b'#',
+            1_048_576,
+            b"error: LineTooLong 2\n".as_slice(),
+        ),
+    ] {
+        let well = is_refused_at(
+            rt.alloc(),
+            "improve --format bench --cap 0",
+            parts,
+            byte,
+            length,
+            refusal,
+        )?;
         assert!(rt; well, "{length}");
     }
     Ok(())
@@ -85,6 +114,32 @@ fn tables_have_a_greatest_width(rt: HostRuntime) -> Result<(), Fail> {
         assert!(rt;
             seen.status == status && seen.note.written() == note,
             "{width}"
+        );
+    }
+    Ok(())
+}
+
+/// An AND of a and of itself, with so many operands.
+fn wide_gate(alloc: Global, operands: usize) -> Result<Vec<u8>, AllocError> {
+    let mut text = Vec::from_slice(alloc, b"INPUT(a)\nOUTPUT(y)\ny = AND(a")?;
+    for _ in 1..operands {
+        text.extend_from_slice(b", a")?;
+    }
+    text.extend_from_slice(b")\n")?;
+    Ok(text)
+}
+
+#[test]
+fn gates_of_bench_have_a_greatest_width(rt: HostRuntime) -> Result<(), Fail> {
+    for (operands, status, note) in [
+        (256usize, 0, b"gates 255 -> 254\nsettled\n".as_slice()),
+        (257, 3, b"error: TooWide 3\n".as_slice()),
+    ] {
+        let text = wide_gate(rt.alloc(), operands)?;
+        let seen = told(rt.alloc(), "improve --format bench --cap 0", &text)?;
+        assert!(rt;
+            seen.status == status && seen.note.written() == note,
+            "{operands}"
         );
     }
     Ok(())
@@ -150,6 +205,39 @@ fn netlists_have_a_greatest_number_of_gates(rt: HostRuntime) -> Result<(), Fail>
         assert!(rt;
             seen.status == status && seen.note.written() == note,
             "{gates}"
+        );
+    }
+    Ok(())
+}
+
+#[test]
+fn netlists_of_bench_that_depend_on_themselves_are_refused(rt: HostRuntime) -> Result<(), Fail> {
+    for (input, status, note) in [
+        (
+            "INPUT(a)\nOUTPUT(y)\ny = AND(y, a)\n",
+            2,
+            "error: Cycle y\n",
+        ),
+        (
+            "INPUT(a)\nINPUT(a)\nOUTPUT(a)\n",
+            2,
+            "error: DrivenTwice a\n",
+        ),
+        (
+            "INPUT(a)\nOUTPUT(q)\nq = DFF(q)\n",
+            0,
+            "gates 0 -> 0\nsettled\n",
+        ),
+        (
+            "INPUT(a)\nOUTPUT(q)\nq = DFF(a)\nq = NOT(a)\n",
+            2,
+            "error: DrivenTwice q\n",
+        ),
+    ] {
+        let seen = told(rt.alloc(), "improve --format bench", input.as_bytes())?;
+        assert!(rt;
+            seen.status == status && seen.note.written() == note.as_bytes(),
+            "{input}"
         );
     }
     Ok(())

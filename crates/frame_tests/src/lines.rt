@@ -7,13 +7,17 @@ use frame_core::{Ended, Job, Status};
 use port_io::{Sink, WriteFault, write_all};
 use std::alloc::{AllocError, Global};
 
-/// A command that writes each byte of its input, three at most, on a line of its own.
+/// A command that writes each byte of its input, three at most, on a line of its own. For the line of a `!` it
+/// says that memory is wanting.
 pub struct Lines;
 
-/// A byte's line.
+/// A byte's line, but for that of a `!`.
 fn line_of(alloc: Global, byte: u8) -> Result<Vec<u8>, AllocError>
     ensures { IfOk result (λ line. line.items ≡ line_text byte) }
 {
+    if byte == b'!' {
+        return Err(AllocError);
+    }
     let mut line = Vec::new(alloc);
     line.push(byte)?;
     line.push(b'\n')?;

@@ -72,6 +72,10 @@ fn a_text_goes_out_in_pieces(rt: HostRuntime) -> Result<(), Fail> {
         ("abc", ("", "1", ""), 6, "", "error: WriteFault\n"),
         ("abc", ("", "3", ""), 6, "a\nb\n", "error: WriteFault\n"),
         ("abc", ("", "4", "1"), 0, "a\nb\nc\n", ""),
+        ("!", ("", "", ""), 7, "", "error: Memory\n"),
+        ("ab!", ("", "", ""), 7, "a\nb\n", "error: Memory\n"),
+        ("ab!", ("", "", "1"), 7, "a\nb\n", ""),
+        ("ab!", ("", "2", ""), 6, "a\n", "error: WriteFault\n"),
     ] {
         let seen = lines(rt.alloc(), input, fails)?;
         assert!(rt; seen.is(status, out, note), "{input} {fails:?}");
