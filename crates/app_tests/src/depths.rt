@@ -15,6 +15,10 @@ const FRONT: &str =
 const FLATTER: &str =
     "fence 2\nrefuted\n276 -1 0 3 19 274 0\n277 -38 -15 9 0 181 194 0\n278 -33 -8 6 0 111 116 0\n279 24 33 -8 0 270 271 52 84 100 35 0\n280 -19 0 270 271 24 25 26 278 279 236 240 81 35 0\n281 -39 0 280 2 34 32 207 212 0\n282 28 0 280 229 10 8 278 279 236 270 240 271 35 256 272 281 273 2 34 196 180 36 0\n283 0 270 271 280 2 229 33 8 10 278 279 236 240 35 272 273 256 281 282 252 177 36 0\ndone\n";
 
+/// The same with a budget of one clause, which leaves its one flatter fence open.
+const OPEN: &str =
+    "chains 1\ninputs 3\n00000011\n00000001\nbasis all\nmethod fence\nconflicts 1\nmax 16\nsize 0\nfence\nrefuted\ndone\nsize 1\nfence 1\nrefuted\n132 0 1 2 9 17 0\ndone\nchain 2\nx4 x1 x2 0001\nx5 x3 x4 0001\nout x4\nout x5\nminimum 2\nend\ndepth 2\nfence 2\nopen\n276 -1 0 3 19 274 0\ndone\n";
+
 /// A text of parts.
 fn joined(rt: &HostRuntime, parts: &[&str]) -> Result<Vec<u8>, Fail> {
     let mut text = Vec::new(rt.alloc());
@@ -49,34 +53,83 @@ fn fewest_levels_are_found(rt: HostRuntime) -> Result<(), Fail> {
 
 #[test]
 fn spent_budgets_leave_levels_open(rt: HostRuntime) -> Result<(), Fail> {
-    let input = "inputs 3\n00000011\n00000001\n";
-    let line = "synth --method fence --conflicts 1 --least-depth yes";
-    let seen = told(rt.alloc(), line, input.as_bytes())?;
-    assert_eq!(rt; seen.status, 4);
-    assert!(rt; seen.out.written().ends_with(b"done\nlevels-bounded 1 2\nend\n"));
-    let again = told(rt.alloc(), RECHECK, seen.out.written())?;
-    assert!(rt; again.is(0, b"levels-bounded 1 2\n", b""));
+    for (ending, status, out, note) in [
+        ("levels-bounded 1 2\nend\n", 0, "levels-bounded 1 2\n", ""),
+        ("levels 2\nend\n", 8, "", "error: WrongLevels 30\n"),
+    ] {
+        let text = joined(&rt, &[OPEN, ending])?;
+        let seen = told(rt.alloc(), RECHECK, &text)?;
+        assert!(rt;
+            seen.is(status, out.as_bytes(), note.as_bytes()),
+            "{ending}"
+        );
+    }
     Ok(())
 }
 
 #[test]
 fn depth_bundles_are_judged(rt: HostRuntime) -> Result<(), Fail> {
     for (parts, status, out, note) in [
-        ([FRONT, "depth 2\n", FLATTER, "levels 2\nend\n"], 0, "levels 2\n", ""),
-        ([FRONT, "depth 2\n", "", "levels 2\nend\n"], 8, "", "error: NotRefuted 26\n"),
-        ([FRONT, "depth 3\n", FLATTER, "levels 2\nend\n"], 8, "", "error: WrongDepth 25\n"),
-        ([FRONT, "depth\n", FLATTER, "levels 2\nend\n"], 2, "", "error: Syntax 25\n"),
-        ([FRONT, "depth 2\n", FLATTER, "levels 1\nend\n"], 8, "", "error: WrongLevels 37\n"),
+        (
+            [FRONT, "depth 2\n", FLATTER, "levels 2\nend\n"],
+            0,
+            "levels 2\n",
+            "",
+        ),
+        (
+            [FRONT, "depth 2\n", "", "levels 2\nend\n"],
+            8,
+            "",
+            "error: NotRefuted 26\n",
+        ),
+        (
+            [FRONT, "depth 3\n", FLATTER, "levels 2\nend\n"],
+            8,
+            "",
+            "error: WrongDepth 25\n",
+        ),
+        (
+            [FRONT, "depth\n", FLATTER, "levels 2\nend\n"],
+            2,
+            "",
+            "error: Syntax 25\n",
+        ),
+        (
+            [FRONT, "depth 2\n", FLATTER, "levels 1\nend\n"],
+            8,
+            "",
+            "error: WrongLevels 37\n",
+        ),
         (
             [FRONT, "depth 2\n", FLATTER, "levels-bounded 1 2\nend\n"],
             8,
             "",
             "error: WrongLevels 37\n",
         ),
-        ([FRONT, "depth 2\n", FLATTER, "fence 1 1\n"], 8, "", "error: NotRefuted 37\n"),
-        ([FRONT, "depth 2\n", FLATTER, "levels 2\n"], 2, "", "error: Syntax 38\n"),
-        ([FRONT, "depth 2\n", FLATTER, "levels 2\nend\n\n"], 2, "", "error: Syntax 39\n"),
-        ([FRONT, "depth 2\n", "fence 1 1\n", ""], 8, "", "error: NotRefuted 26\n"),
+        (
+            [FRONT, "depth 2\n", FLATTER, "fence 1 1\n"],
+            8,
+            "",
+            "error: NotRefuted 37\n",
+        ),
+        (
+            [FRONT, "depth 2\n", FLATTER, "levels 2\n"],
+            2,
+            "",
+            "error: Syntax 38\n",
+        ),
+        (
+            [FRONT, "depth 2\n", FLATTER, "levels 2\nend\n\n"],
+            2,
+            "",
+            "error: Syntax 39\n",
+        ),
+        (
+            [FRONT, "depth 2\n", "fence 1 1\n", ""],
+            8,
+            "",
+            "error: NotRefuted 26\n",
+        ),
         (
             [FRONT, "depth 2\n", "fence 2\nrefuted\n276 0 0\n", ""],
             8,
@@ -96,7 +149,12 @@ fn depth_bundles_are_judged(rt: HostRuntime) -> Result<(), Fail> {
             "error: OpenTooShort 28\n",
         ),
         ([FRONT, "", "", ""], 2, "", "error: Syntax 25\n"),
-        (["chains 1\n", "", "", ""], 2, "", "error: Bundle Syntax 2\n"),
+        (
+            ["chains 1\n", "", "", ""],
+            2,
+            "",
+            "error: Bundle Syntax 2\n",
+        ),
         (["", "", "", ""], 2, "", "error: Bundle Syntax 1\n"),
         (
             [

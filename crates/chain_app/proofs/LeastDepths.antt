@@ -50,13 +50,14 @@ least_means : (asked : SynthSettings) (bytes text : List ℕ) (v : DepthVerdict)
 least_means asked bytes text v c w are =
     let is = c.is_text.is_depth in
     let h = c.bundle.bundle.heading in
-    let steps = length is.chain.steps in
-    (steps,
-    means_as h.spec w h.basis asked.basis steps c.bundle.verdict v
-    (tables_are h.spec w bytes is.valid.heading.tables are.are c.tables are.spelled)
-    (ap (λ (x : Heading). x.basis) c.heading_is)
-    c.verdict_is
-    (depth_means c.bundle is))
+    let steps = length is.chain.steps in (
+      steps,
+      means_as h.spec w h.basis asked.basis steps c.bundle.verdict v
+          (tables_are h.spec w bytes is.valid.heading.tables are.are c.tables are.spelled)
+          (ap (λ (x : Heading). x.basis) c.heading_is)
+          c.verdict_is
+          (depth_means c.bundle is),
+    )
 
 found_means : (asked : SynthSettings) (bytes text : List ℕ) (f : Found) → IsCertificate bytes asked text f → (w : Words) → AreTables bytes w → Means (specification w) (members asked.basis) f
 found_means asked bytes text (Least v) c w are = least_means asked bytes text v c w are

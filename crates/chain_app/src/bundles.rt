@@ -31,7 +31,13 @@ pub(crate) fn bundle_status(error: BundleError) -> Status
 fn step(lead: Field, line: u32, word: &'static [u8], of: Field) -> ErrorLine
     ensures { line_value result ≡ shown (lead ∷ []) ++ refused_step line word.now (shown (of ∷ [])) }
 {
-    ErrorLine::behind(lead, b"StepRefused", Field::Count(line), Field::Known(word), of)
+    ErrorLine::behind(
+        lead,
+        b"StepRefused",
+        Field::Count(line),
+        Field::Known(word),
+        of,
+    )
 }
 
 /// What the error line of a refused step names, behind a word where there is one.
