@@ -86,6 +86,34 @@ fn each_write_that_fails_leaves_a_front(rt: HostRuntime) -> Result<(), Fail> {
     Ok(())
 }
 
+/// Whether `synth` leaves what it wrote before its call of this number, where that call fails: whole pieces, of which
+/// the last is the heading, a section, or nothing.
+fn leaves_pieces(alloc: Global, call: u64, end: &[u8]) -> Result<bool, AllocError> {
+    let seen = run_on(
+        alloc,
+        "synth",
+        AND_OF_THREE.as_bytes(),
+        Fails::None,
+        Fails::At(call),
+        Fails::None,
+    )?;
+    Ok(seen.status == 6 && seen.out.written().ends_with(end))
+}
+
+#[test]
+fn certificates_go_out_in_pieces(rt: HostRuntime) -> Result<(), Fail> {
+    let pieces: [(u64, &str); 3] = [
+        (2, "\nmax 16\n"),
+        (3, "\nmax 16\nsize 0\nrefuted\ndone\n"),
+        (4, "\ndone\n"),
+    ];
+    for (call, end) in pieces {
+        let leaves = leaves_pieces(rt.alloc(), call, end.as_bytes())?;
+        assert!(rt; leaves, "{call}");
+    }
+    Ok(())
+}
+
 /// How many reads a run makes. 0 where one of them that fails isn't told, or something stands on the output.
 fn reads_of(alloc: Global, line: &str, input: &[u8], status: u8) -> Result<u64, AllocError> {
     for call in 1..1_000u64 {
