@@ -3,19 +3,16 @@ use Rattle.std.proofs.Common.{◌≡◌, ℕ, zero, suc, ◌+◌, ◌-◌, ◌<�
 use Rattle.std.specs.Option.{option_flatten}
 use Rattle.std.proofs.Math.Logic.{⊎_elim}
 use Rattle.std.proofs.lemmas.Bool.{ne_eqb, cases_lt}
-use Rattle.std.proofs.lemmas.List.{map-append, length-map, length_push, take_more, take_all, get_or_append_left, get_or_push}
+use Rattle.std.proofs.lemmas.List.{map-append, length_push, take_more, take_all, get_or_append_left, get_or_push}
 use Rattle.std.proofs.lemmas.List.Elements.{All-push}
 use Rattle.clause_db.specs.declared.watches.Pair.{Pair}
 use Rattle.clause_db.specs.declared.windows.Window.{Window}
-use Rattle.clause_db.specs.Watching.{Watching, pair_of}
-use Rattle.clause_db.specs.Windows.{entry_of, entries_of, AreInside}
-use Rattle.clause_db.specs.Stored.{Entries, AreEntries, Stored, IsStored, live_at}
+use Rattle.clause_db.specs.Watching.{pair_of}
+use Rattle.clause_db.specs.Windows.{entry_of, entries_of}
+use Rattle.clause_db.specs.Stored.{Entries, AreEntries, live_at}
 use Rattle.clause_db.specs.StoredLaws.{live_within}
-use Rattle.clause_db.specs.Blocking.{AreBlockers}
-use Rattle.clause_db.specs.Arranging.{Arranged, watching_of, block_at, ArePacked, AreArranged}
-use Rattle.std.specs.List.Sorted.{IsPermutation}
+use Rattle.clause_db.specs.Arranging.{ArePacked}
 use Rattle.clause_db.proofs.Rows.{IsLaid, shown}
-use Rattle.clause_db.proofs.Databases.{AreWhole}
 
 flat_none : (xs : List (Option (List ℤ))) (k : ℕ) → option_flatten (slice_get (xs ++ None ∷ []) k) ≡ option_flatten (slice_get xs k)
 flat_none [] zero = refl
@@ -77,18 +74,6 @@ not_some (Some c) not = absurd (not (search))
 
 pub taken_none : (cs : List (Option (List ℤ))) (k : ℕ) → k < length cs → (IsSome (live_at cs (k + 1)) → ⊥) → take k cs ++ None ∷ [] ≡ take (k + 1) cs
 taken_none cs k low dead = sym (take_more cs k None low ∙ ap (λ (e : Option (List ℤ)). take k cs ++ e ∷ []) (sym (entry_live cs k None low) ∙ not_some (live_at cs (k + 1)) dead))
-
--- With the same first two literals and the same live clauses all is whole.
-pub whole_packed : (e e_new : Entries) (a a_new : Arranged) → AreWhole e a → e_new ≡ e → a_new ≡ record a { blocks = a_new.blocks } → ArePacked e.clauses a.blocks a_new.blocks → AreWhole e_new a_new
-whole_packed e e_new a a_new whole e_is a_is packed =
-    let watches : watching_of (record a { blocks = a_new.blocks }) ≡ watching_of a = rw packed.pairs refl in
-    let both : IsStored (with_watches (watching_of (record a { blocks = a_new.blocks }))) × AreBlockers (with_watches (watching_of (record a { blocks = a_new.blocks }))) a.rows = subst (λ (w : Watching). IsStored (with_watches w) × AreBlockers (with_watches w) a.rows) (sym watches) (whole.0, whole.1) in
-    let arranged : AreArranged e.clauses a_new.blocks = record { same = λ id clause live. subst (λ (xs : List ℤ). IsPermutation clause xs) (sym (packed.same id clause live)) (whole.2.same id clause live) } in
-    let all : AreWhole e (record a { blocks = a_new.blocks }) = (both.0, both.1, arranged) in
-    rw e_is (subst (λ (x : Arranged). AreWhole e x) (sym a_is) all)
-  where
-    with_watches : Watching → Stored
-    with_watches w = record { vars = e.vars; clauses = e.clauses; watches = w }
 
 -- One more entry of the packed store, as it was.
 pub packed_live : (s p more : Entries) (k : ℕ) (lits : List ℤ) → p ≡ record { vars = s.vars; clauses = take k s.clauses } → more ≡ record p { clauses = p.clauses ++ Some lits ∷ [] } → k < length s.clauses → live_at s.clauses (k + 1) ≡ Some lits → more ≡ record { vars = s.vars; clauses = take (k + 1) s.clauses }
