@@ -10,7 +10,6 @@ use Rattle.tt_core.specs.declared.error.SpecError.{SpecError}
 use Rattle.tt_core.specs.declared.error.SpecError.TheVariants as tables
 use Rattle.op_basis.specs.Basis.{members}
 use Rattle.cert_theory.specs.declared.data.Heading.{Heading}
-use Rattle.cert_theory.specs.declared.data.Verdict.{Verdict}
 use Rattle.depth_theory.specs.declared.data.DepthVerdict.{DepthVerdict}
 use Rattle.depth_theory.specs.declared.data.DepthVerdict.TheVariants.{Levels, Bounded}
 use Rattle.depth_theory.specs.DepthMeaning as depths
@@ -22,7 +21,6 @@ use Rattle.depth_run.specs.declared.certificate.Found.TheVariants.{Least, Other}
 use Rattle.depth_run.specs.Certifying.{IsLeast, IsCertificate}
 use Rattle.command_line.specs.CommandLine.{AsksFor}
 use Rattle.command_line.specs.declared.command.Command.TheVariants.{LeastDepth}
-use Rattle.frame_core.specs.declared.status.Status.{Status}
 use Rattle.frame_core.specs.declared.status.Status.TheVariants.{Done, Undecided, Refused}
 use Rattle.frame_core.specs.Told.{Reply, Refusal}
 use Rattle.frame_core.specs.Task.{IsAnswerStatus, IsTask, Tells, Refuses}

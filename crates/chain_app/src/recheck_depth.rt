@@ -1,5 +1,9 @@
 //! The command `recheck --depth yes`: what it tells of bytes.
-ghost use Rattle.std.specs.Prelude.{◌≡◌, ◌≤◌, IfOk, length};
+ghost use Rattle.std.specs.Prelude.{◌≡◌, ℕ, ◌≤◌, List, Err, IfOk, length};
+ghost use Rattle.text_core.specs.Lines.{lines_of};
+ghost use Rattle.depth_theory.specs.declared.data.DepthVerdict.{DepthVerdict};
+ghost use Rattle.depth_theory.specs.DepthGives.{Gives};
+ghost use Rattle.depth_theory.specs.DepthJudging.{Judged};
 ghost use Rattle.frame_core.specs.Views.{line_value, reply_value, refusal_value, Judges};
 ghost use Rattle.chain_app.specs.RecheckReport.{most_of_bundle};
 ghost use Rattle.chain_app.specs.RecheckDepthReport.{levels_text, depth_status as depth_status_of, named_inside, named_depth, depth_reply, depth_refusal, depth_task};
@@ -104,6 +108,18 @@ fn reply_of(alloc: Global, verdict: DepthVerdict) -> Result<Reply, AllocError>
     })
 }
 
+/// Why bytes have no verdict.
+#[tactic(auto, using(crate::proofs::RecheckingDepth::telling))]
+fn stop_of(error: DepthError) -> Stop
+    ensures { (bytes : List ℕ) → length bytes ≤ most_of_bundle →
+        Judged (Gives (λ (v : DepthVerdict). v) (Err error)) (lines_of bytes) → Judges depth_task bytes (Err result) }
+{
+    match error {
+        DepthError::Memory => Stop::NoMemory,
+        error => Stop::NoAnswer(refusal_of(error)),
+    }
+}
+
 /// What `recheck --depth yes` tells of bytes.
 #[tactic(auto, using(crate::proofs::RecheckingDepth::telling))]
 fn tell(alloc: Global, bytes: &[u8]) -> Result<Reply, Stop>
@@ -115,8 +131,7 @@ fn tell(alloc: Global, bytes: &[u8]) -> Result<Reply, Stop>
             Ok(reply) => Ok(reply),
             Err(AllocError) => Err(Stop::NoMemory),
         },
-        Err(DepthError::Memory) => Err(Stop::NoMemory),
-        Err(error) => Err(Stop::NoAnswer(refusal_of(error))),
+        Err(error) => Err(stop_of(error)),
     }
 }
 

@@ -5,7 +5,6 @@ use Rattle.text_core.specs.Lines.{Line, lines_of}
 use Rattle.tt_core.specs.Words.{Words, specification}
 use Rattle.op_basis.specs.Basis.{members}
 use Rattle.chain_core.specs.Spelling.{line}
-use Rattle.cert_theory.specs.Bundle.{Bundle}
 use Rattle.cert_theory.specs.Spelling.{first_text, tables_lines, basis_line, method_line, conflicts_line, max_line, section_lines, ending_lines}
 use Rattle.cert_theory.specs.Question.{HasQuestion}
 use Rattle.cert_laws.specs.BundlesAgain.{spells_tables, basis_lower}
