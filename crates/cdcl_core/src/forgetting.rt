@@ -148,7 +148,7 @@ impl Search {
         self.merits.containing(alloc, &self.clauses, lits)
     }
 
-    /// Forgets idle clauses, where it is time for that, and packs the others.
+    /// Forgets idle clauses, where it is time for that.
     pub(crate) fn tidy(&mut self) -> Result<(), AllocError>
         requires searching { IsSearching self.old }
         requires visited { IsVisited self.old }
@@ -158,20 +158,7 @@ impl Search {
         ensures logged { (f : Formula) → IsLogged f self.old → OnOk result (IsLogged f self.new) }
     {
         let idle = self.due_ones()?;
-        if idle.is_empty() {
-            return Ok(());
-        }
         self.forget(&idle)?;
-        self.pack()?;
-        Ok(())
-    }
-
-    /// Lets the literals of the live clauses move together.
-    fn pack(&mut self) -> Result<(), AllocError>
-        requires { IsStored self.old.clauses }
-        ensures { self.new ≡ self.old }
-    {
-        self.clauses.pack()?;
         Ok(())
     }
 

@@ -55,10 +55,10 @@ pub inside_added : (row new lits : List ℤ) (windows : List Window) (w : Window
 inside_added row new lits windows w is inside at end = All-push (λ (v : Window). (v.start ≤ v.end) × (v.end ≤ length new)) windows w (inside_written row new lits windows is inside) (let long : length new ≡ length row + length lits = ap length is ∙ length-append row lits in (omega arith, omega arith))
 
 -- the invariant of the store, and what it shows
-abbrev pub IsLaid : ℕ → List ℤ → List Window → Type 0
+abbrev IsLaid : ℕ → List ℤ → List Window → Type 0
 IsLaid vars row windows = AreInside row windows × AreEntries (record { vars = vars; clauses = entries_of row windows })
 
-abbrev pub shown : ℕ → List ℤ → List Window → Entries
+abbrev shown : ℕ → List ℤ → List Window → Entries
 shown vars row windows = record { vars = vars; clauses = entries_of row windows }
 
 -- where the window couldn't be kept, the literals behind the row don't show

@@ -34,11 +34,6 @@ IsNoneOf p l = (l ≡ p.first) ⊎ (l ≡ p.second) → ⊥
 pub record ArePermuted (blocks new : List (List ℤ)) : Type 0 where
   pub each : (id : ℕ) → IsPermutation (block_at blocks id) (block_at new id)
 
--- Each id has the same first two literals as before, and that of a live clause has all that it had.
-pub record ArePacked (clauses : List (Option (List ℤ))) (blocks new : List (List ℤ)) : Type 0 where
-  pub pairs : map pair_of new ≡ map pair_of blocks
-  pub same : (id : ℕ) (clause : List ℤ) → live_at clauses id ≡ Some clause → block_at new id ≡ block_at blocks id
-
 -- the literals of each live clause, in some order
 pub record AreArranged (clauses : List (Option (List ℤ))) (blocks : List (List ℤ)) : Type 0 where
   pub same : (id : ℕ) (clause : List ℤ) → live_at clauses id ≡ Some clause → IsPermutation clause (block_at blocks id)

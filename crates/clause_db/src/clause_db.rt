@@ -220,16 +220,6 @@ impl ClauseDb {
         self.store.delete(id);
     }
 
-    /// Lets the literals of the live clauses move together, so that no room is taken by those of others.
-    pub fn pack(&mut self) -> Result<(), AllocError>
-        ensures same { self.new ≡ self.old }
-        ensures whole { IsStored self.new }
-    {
-        self.store.pack()?;
-        self.watches.pack(&self.store)?;
-        Ok(())
-    }
-
     /// Lets a clause that watches `from` watch `to`, another one of its literals, in place of it: as
     /// `rewatch_at` does, where the index isn't known.
     pub fn rewatch(&mut self, id: u32, from: Lit, to: Lit) -> Result<(), AllocError>

@@ -60,43 +60,6 @@ impl Store {
         Ok(self.windows.len() as u32)
     }
 
-    /// Gives an id to no clause.
-    fn add_none(&mut self) -> Result<(), AllocError>
-        requires few { length self.old.clauses < 4000000000 }
-        ensures ok { OnOk result (self.new ≡ record self.old { clauses = self.old.clauses ++ None ∷ [] }) }
-        ensures err { OnErr result (self.new ≡ self.old) }
-    {
-        self.windows.push(Window {
-            start: 0,
-            end: 0,
-            live: false,
-        })?;
-        Ok(())
-    }
-
-    /// The same clauses in a new row, which has the literals of no others.
-    fn packed(&self) -> Result<Store, AllocError>
-        ensures { IfOk result (λ s. s ≡ self.now) }
-    {
-        let mut packed = Store::none(*self.windows.allocator(), self.vars);
-        for index in 0..self.last() {
-            if self.live(index + 1) {
-                packed.add(self.lits(index + 1))?;
-                continue;
-            }
-            packed.add_none()?;
-        }
-        Ok(packed)
-    }
-
-    /// Takes out of the row of literals what no live clause needs.
-    pub(crate) fn pack(&mut self) -> Result<(), AllocError>
-        ensures { self.new ≡ self.old }
-    {
-        *self = self.packed()?;
-        Ok(())
-    }
-
     /// Takes the last clause off.
     pub(crate) fn take_last(&mut self)
         requires { 0 < length self.old.clauses }

@@ -1,17 +1,16 @@
 //! Which clauses watch a literal. What a clause watches are the first two of its literals in an order of their own, so
 //! no pair is kept; moving a watch is a push to one list, a taking out of another, and a change of two places. The push
 //! comes first, since it alone can want memory.
-ghost use Rattle.std.specs.Prelude.{◌≡◌, ◌≢◌, ◌⊎◌, ℤ, ◌+◌, ◌-◌, ◌*◌, ◌<◌, ◌≤◌, [], length, take, All, Contains, pos, slice_index_or, slice_set, replicate, IsTrue, IfOk, OnOk, OnErr};
+ghost use Rattle.std.specs.Prelude.{◌≡◌, ◌≢◌, ◌⊎◌, ℤ, ◌+◌, ◌-◌, ◌*◌, ◌<◌, ◌≤◌, [], length, take, All, Contains, pos, slice_index_or, slice_set, replicate, IfOk, OnOk, OnErr};
 ghost use Rattle.std.specs.List.{swap_remove, swap};
 ghost use Rattle.cdcl_theory.specs.Codes.{code_of};
 ghost use Rattle.clause_db.specs.Watching.{listed_in, pair_of, with_id, with_ids, watching_moved};
 ghost use Rattle.clause_db.specs.Blocking.{row_of, with_row, with_blocker, with_blockers, rows_moved, besides};
-ghost use Rattle.clause_db.specs.Arranging.{block_at, watching_of, arranged_more, ArePermuted, ArePacked, IsNoneOf};
+ghost use Rattle.clause_db.specs.Arranging.{block_at, watching_of, arranged_more, ArePermuted, IsNoneOf};
 ghost use Rattle.clause_db.specs.Deleting.{arranged_left};
 
 use crate::blocks::Blocks;
 use crate::lists::WatchList;
-use crate::store::Store;
 use cnf_core::Lit;
 use std::alloc::{AllocError, Global};
 use std::marker::Model;
@@ -148,31 +147,6 @@ impl Watches {
         }
     }
 
-    /// The literals of each id in a new row: all of them where its clause is live, and else those two that
-    /// stand first.
-    fn packed(&self, store: &Store) -> Result<Blocks, AllocError>
-        requires { length self.now.blocks ≡ length store.now.clauses }
-        ensures { IfOk result (ArePacked store.now.clauses self.now.blocks) }
-    {
-        let mut packed = Blocks::none(*self.lists.allocator());
-        for index in 0..store.last() {
-            let lits = self.blocks.get(index as usize);
-            packed.push(needed(lits, store.live(index + 1)))?;
-        }
-        Ok(packed)
-    }
-
-    /// Takes out of the row of literals what no live clause needs.
-    pub(crate) fn pack(&mut self, store: &Store) -> Result<(), AllocError>
-        requires { length self.old.blocks ≡ length store.now.clauses }
-        ensures ok { OnOk result (ArePacked store.now.clauses self.old.blocks self.new.blocks) }
-        ensures same { self.new ≡ record self.old { blocks = self.new.blocks } }
-        ensures err { OnErr result (self.new ≡ self.old) }
-    {
-        self.blocks = self.packed(store)?;
-        Ok(())
-    }
-
     /// Puts a literal beside the id at an index in a literal's list.
     pub(crate) fn set(&mut self, lit: Lit, index: usize, by: Lit)
         requires room { code_of lit < length self.old.lists }
@@ -258,17 +232,6 @@ fn first_two(lits: &[Lit]) -> Pair
         first: literal_at(lits, 0),
         second: literal_at(lits, 1),
     }
-}
-
-/// All literals of a live clause, and else the first two.
-fn needed(lits: &[Lit], live: bool) -> &[Lit]
-    ensures pair { pair_of result.now ≡ pair_of lits.now }
-    ensures live { IsTrue live → result.now ≡ lits.now }
-{
-    if live || lits.len() <= 2 {
-        return lits;
-    }
-    &lits[..2]
 }
 
 fn literal_at(lits: &[Lit], index: usize) -> Lit
