@@ -1,5 +1,5 @@
 //! What the definitions come to. Each law is the contract of a function that does nothing.
-ghost use Rattle.std.specs.Prelude.{◌≡◌, ◌↔◌, true, ℕ, List, [], ◌∷◌, codes};
+ghost use Rattle.std.specs.Prelude.{◌≡◌, ◌↔◌, ◌≤◌, true, ℕ, List, [], ◌∷◌, codes};
 ghost use Rattle.std.specs.List.Sorted.{IsPermutation};
 ghost use Rattle.enc_theory.specs.declared.data.Method.TheVariants.{Fence};
 ghost use Rattle.settings.specs.declared.synth.SynthSettings.{SynthSettings};
@@ -8,10 +8,11 @@ ghost use Rattle.settings.specs.Synth.{usual, IsInRange};
 ghost use Rattle.improve_settings.specs.Improve as improver;
 ghost use Rattle.command_line.specs.declared.command.Format.{Format};
 ghost use Rattle.command_line.specs.declared.command.Format.TheVariants.{Blif, Bench};
+ghost use Rattle.command_line.specs.declared.command.Deed.{Deed};
 ghost use Rattle.command_line.specs.declared.command.Command.{Command};
-ghost use Rattle.command_line.specs.declared.command.Command.TheVariants.{Synth, LeastDepth, Improve, Equiv};
+ghost use Rattle.command_line.specs.declared.command.Command.TheVariants.{Synth, LeastDepth, Improve, Equiv, Gen};
 ghost use Rattle.command_line.specs.CommandLine.{AsksFor, IsBudget, IsAsked, usual_for};
-ghost use Rattle.command_line.specs.Options.{is_within};
+ghost use Rattle.command_line.specs.Options.{is_within, most_blocks};
 ghost use Rattle.command_line.specs.Spelling.{Pair, flat, Spells};
 ghost use Rattle.command_line.specs.WithinLaws.{AreWithin};
 
@@ -28,13 +29,14 @@ pub fn order_of_options_is_free()
         AsksFor (name ∷ flat pairs) command → AsksFor (name ∷ flat other) command }
 {}
 
-/// What `synth` and `improve` are asked with is in their ranges, the basis of a format with it, and so is the budget
-/// of `equiv`. The fewest levels are sought by fences alone.
+/// What `synth` and `improve` are asked with is in their ranges, the basis of a format with it, and so are the budget
+/// of `equiv` and the number of blocks of `gen`. The fewest levels are sought by fences alone.
 pub fn settings_are_in_range()
     ensures synth { (words : List (List ℕ)) (settings : SynthSettings) → AsksFor words (Synth settings) → IsInRange settings }
     ensures least_depth { (words : List (List ℕ)) (settings : SynthSettings) → AsksFor words (LeastDepth settings) → IsInRange settings × (settings.method ≡ Fence) }
     ensures improve { (words : List (List ℕ)) (format : Format) (settings : ImproveSettings) → AsksFor words (Improve format settings) → IsAsked format settings }
     ensures equiv { (words : List (List ℕ)) (budget : ℕ) → AsksFor words (Equiv budget) → IsBudget budget }
+    ensures blocks { (words : List (List ℕ)) (blocks : ℕ) (deed : Deed) → AsksFor words (Gen blocks deed) → (1 ≤ blocks) × (blocks ≤ most_blocks) }
 {}
 
 /// `synth` and `improve` alone ask with what is usual, and so does `improve` with the format alone.

@@ -1,4 +1,4 @@
-use Rattle.command_line.specs.declared.command.Command.TheVariants.{Synth, LeastDepth, Improve, Equiv}
+use Rattle.command_line.specs.declared.command.Command.TheVariants.{Synth, LeastDepth, Improve, Equiv, Gen}
 use Rattle.command_line.proofs.Ranges.{command_range}
 use Rattle.command_line.proofs.laws.settings_are_in_range.Goals as goal
 
@@ -13,3 +13,6 @@ returns-clause-improve c words format settings = command_range words (Improve fo
 
 pub returns-clause-equiv : goal.returns-clause-equiv
 returns-clause-equiv c words budget = command_range words (Equiv budget)
+
+pub returns-clause-blocks : goal.returns-clause-blocks
+returns-clause-blocks c words blocks deed = command_range words (Gen blocks deed)
