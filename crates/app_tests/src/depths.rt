@@ -19,13 +19,32 @@ const FLATTER: &str =
 const OPEN: &str =
     "chains 1\ninputs 3\n00000011\n00000001\nbasis all\nmethod fence\nconflicts 1\nmax 16\nsize 0\nfence\nrefuted\ndone\nsize 1\nfence 1\nrefuted\n132 0 1 2 9 17 0\ndone\nchain 2\nx4 x1 x2 0001\nx5 x3 x4 0001\nout x4\nout x5\nminimum 2\nend\ndepth 2\nfence 2\nopen\n276 -1 0 3 19 274 0\ndone\n";
 
-/// A text of parts.
-fn joined(rt: &HostRuntime, parts: &[&str]) -> Result<Vec<u8>, Fail> {
+/// The text of a bundle by its front, its line of the depth, its logs and its ending.
+fn bundle(
+    rt: &HostRuntime,
+    front: &str,
+    depth: &str,
+    logs: &str,
+    ending: &str,
+) -> Result<Vec<u8>, Fail> {
     let mut text = Vec::new(rt.alloc());
-    for part in parts {
-        text.extend_from_slice(part.as_bytes())?;
-    }
+    text.extend_from_slice(front.as_bytes())?;
+    text.extend_from_slice(depth.as_bytes())?;
+    text.extend_from_slice(logs.as_bytes())?;
+    text.extend_from_slice(ending.as_bytes())?;
     Ok(text)
+}
+
+/// Whether `recheck --depth yes` tells this of a text.
+fn is_judged(
+    rt: &HostRuntime,
+    text: &[u8],
+    status: u8,
+    out: &str,
+    note: &str,
+) -> Result<bool, Fail> {
+    let seen = told(rt.alloc(), RECHECK, text)?;
+    Ok(seen.is(status, out.as_bytes(), note.as_bytes()))
 }
 
 #[test]
@@ -57,119 +76,149 @@ fn spent_budgets_leave_levels_open(rt: HostRuntime) -> Result<(), Fail> {
         ("levels-bounded 1 2\nend\n", 0, "levels-bounded 1 2\n", ""),
         ("levels 2\nend\n", 8, "", "error: WrongLevels 30\n"),
     ] {
-        let text = joined(&rt, &[OPEN, ending])?;
-        let seen = told(rt.alloc(), RECHECK, &text)?;
-        assert!(rt;
-            seen.is(status, out.as_bytes(), note.as_bytes()),
-            "{ending}"
-        );
+        let text = bundle(&rt, OPEN, "", "", ending)?;
+        let is_told = is_judged(&rt, &text, status, out, note)?;
+        assert!(rt; is_told, "{ending}");
     }
     Ok(())
 }
 
 #[test]
 fn depth_bundles_are_judged(rt: HostRuntime) -> Result<(), Fail> {
-    for (parts, status, out, note) in [
+    for (front, depth, logs, ending, status, out, note) in [
         (
-            [FRONT, "depth 2\n", FLATTER, "levels 2\nend\n"],
+            FRONT,
+            "depth 2\n",
+            FLATTER,
+            "levels 2\nend\n",
             0,
             "levels 2\n",
             "",
         ),
         (
-            [FRONT, "depth 2\n", "", "levels 2\nend\n"],
+            FRONT,
+            "depth 2\n",
+            "",
+            "levels 2\nend\n",
             8,
             "",
             "error: NotRefuted 26\n",
         ),
         (
-            [FRONT, "depth 3\n", FLATTER, "levels 2\nend\n"],
+            FRONT,
+            "depth 3\n",
+            FLATTER,
+            "levels 2\nend\n",
             8,
             "",
             "error: WrongDepth 25\n",
         ),
         (
-            [FRONT, "depth\n", FLATTER, "levels 2\nend\n"],
+            FRONT,
+            "depth\n",
+            FLATTER,
+            "levels 2\nend\n",
             2,
             "",
             "error: Syntax 25\n",
         ),
         (
-            [FRONT, "depth 2\n", FLATTER, "levels 1\nend\n"],
+            FRONT,
+            "depth 2\n",
+            FLATTER,
+            "levels 1\nend\n",
             8,
             "",
             "error: WrongLevels 37\n",
         ),
         (
-            [FRONT, "depth 2\n", FLATTER, "levels-bounded 1 2\nend\n"],
+            FRONT,
+            "depth 2\n",
+            FLATTER,
+            "levels-bounded 1 2\nend\n",
             8,
             "",
             "error: WrongLevels 37\n",
         ),
         (
-            [FRONT, "depth 2\n", FLATTER, "fence 1 1\n"],
+            FRONT,
+            "depth 2\n",
+            FLATTER,
+            "fence 1 1\n",
             8,
             "",
             "error: NotRefuted 37\n",
         ),
         (
-            [FRONT, "depth 2\n", FLATTER, "levels 2\n"],
+            FRONT,
+            "depth 2\n",
+            FLATTER,
+            "levels 2\n",
             2,
             "",
             "error: Syntax 38\n",
         ),
         (
-            [FRONT, "depth 2\n", FLATTER, "levels 2\nend\n\n"],
+            FRONT,
+            "depth 2\n",
+            FLATTER,
+            "levels 2\nend\n\n",
             2,
             "",
             "error: Syntax 39\n",
         ),
         (
-            [FRONT, "depth 2\n", "fence 1 1\n", ""],
+            FRONT,
+            "depth 2\n",
+            "fence 1 1\n",
+            "",
             8,
             "",
             "error: NotRefuted 26\n",
         ),
         (
-            [FRONT, "depth 2\n", "fence 2\nrefuted\n276 0 0\n", ""],
+            FRONT,
+            "depth 2\n",
+            "fence 2\nrefuted\n276 0 0\n",
+            "",
             8,
             "",
             "error: StepRefused 28 NoConflict\n",
         ),
         (
-            [FRONT, "depth 2\n", "fence 2\nrefuted\ndone\n", ""],
+            FRONT,
+            "depth 2\n",
+            "fence 2\nrefuted\ndone\n",
+            "",
             8,
             "",
             "error: NotRefuted 28\n",
         ),
         (
-            [FRONT, "depth 2\n", "fence 2\nopen\ndone\n", ""],
+            FRONT,
+            "depth 2\n",
+            "fence 2\nopen\ndone\n",
+            "",
             8,
             "",
             "error: OpenTooShort 28\n",
         ),
-        ([FRONT, "", "", ""], 2, "", "error: Syntax 25\n"),
+        (FRONT, "", "", "", 2, "", "error: Syntax 25\n"),
+        ("chains 1\n", "", "", "", 2, "", "error: Bundle Syntax 2\n"),
+        ("", "", "", "", 2, "", "error: Bundle Syntax 1\n"),
         (
-            ["chains 1\n", "", "", ""],
-            2,
+            "chains 1\ninputs 1\n01\nbasis all\nmethod ssv\nconflicts 7\nmax 0\nchain 0\nout x1\nminimum 0\nend\n",
             "",
-            "error: Bundle Syntax 2\n",
-        ),
-        (["", "", "", ""], 2, "", "error: Bundle Syntax 1\n"),
-        (
-            [
-                "chains 1\ninputs 1\n01\nbasis all\nmethod ssv\nconflicts 7\nmax 0\nchain 0\nout x1\nminimum 0\nend\n",
-                "",
-                "",
-                "",
-            ],
+            "",
+            "",
             8,
             "",
             "error: NotLeastForm\n",
         ),
     ] {
-        let seen = told(rt.alloc(), RECHECK, &joined(&rt, &parts)?)?;
-        assert!(rt; seen.is(status, out.as_bytes(), note.as_bytes()), "{note}");
+        let text = bundle(&rt, front, depth, logs, ending)?;
+        let is_told = is_judged(&rt, &text, status, out, note)?;
+        assert!(rt; is_told, "{note}");
     }
     Ok(())
 }

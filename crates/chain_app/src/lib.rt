@@ -31,6 +31,3 @@ mod synth;
 pub use agree::{AgreeError, Answer};
 pub use frame_core::Status;
 pub use running::run;
-
-#[cfg(test)]
-mod tests;

@@ -1,5 +1,5 @@
 //! Runs of each command on memory, as tables: what comes in, the status, and what stands outside.
-use crate::run;
+use chain_app::run;
 use port_io::{MemorySink, MemorySource};
 use std::alloc::{AllocError, Global};
 use std::test::Fail;
