@@ -100,7 +100,6 @@ chains_apart chains.Memory is = cc
 
 -- no error of `agree` has the status of a difference
 not_refused : (error : AgreeError) → error_status error ≡ Refused → ⊥
-not_refused errors.TooLong is = cc
 not_refused (errors.Tables e) is = tables_apart e is
 not_refused (errors.Chained e) is = chains_apart e is
 not_refused (errors.BadEnd line) is = cc

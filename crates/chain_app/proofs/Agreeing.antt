@@ -1,6 +1,6 @@
 -- What `agree` tells of bytes.
 use Rattle.std.specs.Prelude.{◌≡◌, ℕ, ◌≤◌, ◌⊎◌, List, length}
-use Rattle.std.proofs.Common.{arith, ap, refl, inl, inr}
+use Rattle.std.proofs.Common.{ap, refl, inl, inr}
 use Rattle.std.proofs.lemmas.Grind.{common_steps}
 use Rattle.tt_core.specs.declared.error.SpecError.TheVariants as tables
 use Rattle.chain_core.specs.declared.error.ChainError.TheVariants as chains
@@ -16,7 +16,6 @@ use Rattle.frame_core.specs.TaskLaws.{at_once_task}
 
 -- What the readers answer within the limit is the cause of their error.
 pub cause_of : (bytes : List ℕ) (error : AgreeError) → length bytes ≤ most_of_tables → Fails error (question_of bytes) → IsCause bytes error
-cause_of bytes errors.TooLong within fails = absurd fails
 cause_of bytes (errors.Tables e) within fails = record { within = within; fault = fails }
 cause_of bytes (errors.Chained e) within fails = record { within = within; fault = fails }
 cause_of bytes (errors.BadEnd line) within fails = record { within = within; fault = fails }
@@ -24,7 +23,6 @@ cause_of bytes errors.Memory within fails = tt
 
 -- A cause within the limit that isn't want of memory is a fault.
 pub fault_of : (bytes : List ℕ) (error : AgreeError) → length bytes ≤ most_of_tables → IsCause bytes error → (error ≡ errors.Memory → ⊥) → HasFault bytes error
-fault_of bytes errors.TooLong within cause other = absurd (omega arith)
 fault_of bytes (errors.Tables e) within cause other = cause
 fault_of bytes (errors.Chained e) within cause other = cause
 fault_of bytes (errors.BadEnd line) within cause other = cause
@@ -62,7 +60,6 @@ IsStatus e = IsRefusalStatus (error_status e) ⊎ (agree_refusal e ≡ memory_re
 
 statuses : (e : AgreeError) → IsStatus e
 unfolding IsStatus named_error named_spec named_chain
-statuses errors.TooLong = inl (inr (inl refl))
 statuses (errors.Tables (tables.BadHeader line)) = inl (inl refl)
 statuses (errors.Tables (tables.BadRow line)) = inl (inl refl)
 statuses (errors.Tables (tables.WrongLength line)) = inl (inl refl)

@@ -5,7 +5,6 @@ pub mod Certified
 pub mod Commands
 pub mod Ends
 pub mod Equating
-pub mod Faults
 pub mod Generating
 pub mod Improving
 pub mod LeastDepths

@@ -1,5 +1,5 @@
 -- What `agree` is asked, and what it answers.
-use Rattle.std.specs.Prelude.{◌≡◌, ℕ, ◌+◌, ◌*◌, ◌&&◌, List, [], ◌∷◌, length, codes, Result, Ok, Err, ◌<◌, ◌≤◌, if◌then◌else◌}
+use Rattle.std.specs.Prelude.{◌≡◌, ℕ, ◌+◌, ◌*◌, ◌&&◌, List, [], ◌∷◌, length, codes, Result, Ok, Err, ◌≤◌, if◌then◌else◌}
 use Rattle.std.specs.Str.{bytes_eq}
 use Rattle.chain_theory.specs.Specification.{Specification}
 use Rattle.chain_theory.specs.Chain.{Chain}
@@ -14,7 +14,7 @@ use Rattle.chain_core.specs.Block as block
 use Rattle.chain_app.specs.declared.agree.Answer.{Answer}
 use Rattle.chain_app.specs.declared.agree.Answer.TheVariants.{Agrees, Differs}
 use Rattle.chain_app.specs.declared.agree.AgreeError.{AgreeError}
-use Rattle.chain_app.specs.declared.agree.AgreeError.TheVariants.{TooLong, Tables, Chained, BadEnd, Memory}
+use Rattle.chain_app.specs.declared.agree.AgreeError.TheVariants.{Tables, Chained, BadEnd, Memory}
 
 -- whether a chain agrees with tables
 pub record Question : Type 0 where
@@ -78,15 +78,12 @@ pub record HasFault (bytes : List ℕ) (error : AgreeError) : Type 0 where
 
 -- the cause of an error; want of memory has none
 abbrev pub IsCause : List ℕ → AgreeError → Type 0
-IsCause bytes TooLong = most_of_tables < length bytes
 IsCause bytes Memory = Unit {0}
 IsCause bytes error = HasFault bytes error
 
 -- An error of the readers is the first fault of what was read, and want of memory may come anywhere.
--- They don't judge the length of all.
 abbrev pub Fails : {Y : Type 0} → AgreeError → Result Y AgreeError → Type 0
 Fails Memory read = Unit {0}
-Fails TooLong read = ⊥
 Fails error read = read ≡ Err error
 
 -- What a function returned, seen by view, is what was read.

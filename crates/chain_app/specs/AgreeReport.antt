@@ -11,7 +11,7 @@ use Rattle.chain_app.specs.declared.agree.AgreeError.TheVariants as errors
 use Rattle.frame_core.specs.declared.status.Status.{Status}
 use Rattle.frame_core.specs.declared.status.Status.TheVariants.{Done, Malformed, Limit, Memory, Refused}
 use Rattle.chain_app.specs.Agree.{HasAnswer, HasFault, most_of_tables}
-use Rattle.frame_core.specs.Told.{Reply, Field, Refusal, plain, at, too_long, memory}
+use Rattle.frame_core.specs.Told.{Reply, Field, Refusal, plain, at, memory}
 use Rattle.frame_core.specs.Task.{Task, at_once}
 
 -- An answer that the chain differs is a refusal.
@@ -38,7 +38,6 @@ chain_status (chains.BadCount line) = Malformed
 chain_status chains.Memory = Memory
 
 abbrev pub error_status : AgreeError → Status
-error_status errors.TooLong = Limit
 error_status (errors.Tables error) = spec_status error
 error_status (errors.Chained error) = chain_status error
 error_status (errors.BadEnd line) = Malformed
@@ -68,7 +67,6 @@ named_chain (chains.BadCount line) = at (codes "BadCount") line
 named_chain chains.Memory = memory
 
 unfoldable pub named_error : AgreeError → List Field
-named_error errors.TooLong = too_long
 named_error (errors.Tables error) = named_spec error
 named_error (errors.Chained error) = named_chain error
 named_error (errors.BadEnd line) = at (codes "BadEnd") line

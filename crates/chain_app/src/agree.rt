@@ -16,7 +16,7 @@ pub(crate) const MOST_BYTES: usize = 65_536;
 
 /// What a chain is to the tables that it was given with.
 #[derive(Clone, Copy, Debug, PartialEq, Eq)]
-pub enum Answer {
+pub(crate) enum Answer {
     /// It meets every specified cell.
     Agrees,
     /// It misses a cell: the least output, from 1 on, that has one, and the least row of that output.
@@ -25,9 +25,7 @@ pub enum Answer {
 
 /// Why `agree` has no answer, though its input could be read.
 #[derive(Clone, Copy, Debug, PartialEq, Eq)]
-pub enum AgreeError {
-    /// The input has more bytes than `agree` reads.
-    TooLong,
+pub(crate) enum AgreeError {
     /// The tables are at fault. Their want of memory is told as `Memory`.
     Tables(SpecError),
     /// The chain block is at fault. Its want of memory is told as `Memory`.
@@ -40,7 +38,7 @@ pub enum AgreeError {
 
 impl Answer {
     /// The status that tells of the answer.
-    pub fn status(self) -> Status
+    pub(crate) fn status(self) -> Status
         ensures { result ≡ answer_status self }
     {
         match self {
@@ -52,11 +50,10 @@ impl Answer {
 
 impl AgreeError {
     /// The status that tells of the error.
-    pub fn status(self) -> Status
+    pub(crate) fn status(self) -> Status
         ensures { result ≡ error_status self }
     {
         match self {
-            AgreeError::TooLong => Status::Limit,
             AgreeError::Tables(error) => spec_status(error),
             AgreeError::Chained(error) => chain_status(error),
             AgreeError::BadEnd(_) => Status::Malformed,
@@ -124,12 +121,11 @@ fn name_chain(error: ChainError) -> ErrorLine
 }
 
 /// What an error's line names.
-#[tactic(auto, unfolding(crate::specs::AgreeReport::named_error, frame_core::specs::Told::too_long, frame_core::specs::Told::memory))]
+#[tactic(auto, unfolding(crate::specs::AgreeReport::named_error, frame_core::specs::Told::memory))]
 fn name_error(error: AgreeError) -> ErrorLine
     ensures { line_value result ≡ named_error error }
 {
     match error {
-        AgreeError::TooLong => ErrorLine::plain(b"TooLong"),
         AgreeError::Tables(error) => name_spec(error),
         AgreeError::Chained(error) => name_chain(error),
         AgreeError::BadEnd(line) => ErrorLine::at(b"BadEnd", line),

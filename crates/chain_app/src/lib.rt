@@ -28,6 +28,5 @@ mod recheck_depth;
 mod running;
 mod synth;
 
-pub use agree::{AgreeError, Answer};
 pub use frame_core::Status;
 pub use running::run;
