@@ -1,5 +1,5 @@
 //! What the outside is to this program: where bytes come from, and where they go.
-ghost use Rattle.std.specs.Prelude.{◌≡◌, ℕ, ◌<◌, ◌≤◌, List, Option, Ok, IfOk, OnErr, length, take};
+ghost use Rattle.std.specs.Prelude.{◌≡◌, ℕ, ◌<◌, ◌≤◌, List, Option, Ok, IfOk, OnOk, OnErr, length, take};
 ghost use Rattle.port_io.specs.Bytes.{Appends, Consumes, IsAtEnd};
 ghost use Rattle.port_io.specs.Faults.{Rose};
 
@@ -13,7 +13,7 @@ pub trait Source {
     /// changes.
     ghost left: { Self → Option (List ℕ) };
 
-    /// How many calls have failed, up to the last value of a u64.
+    /// How many calls have failed, up to the last value of a u64. A call that succeeds leaves the count.
     ghost faults: { Self → ℕ };
 
     /// Takes the next bytes into the front of `buf`, and answers how many. What the rest of `buf` holds
@@ -24,6 +24,7 @@ pub trait Source {
             (λ count. Consumes (left self.old) (left self.new) (take count buf.new)) }
         ensures end { result ≡ Ok 0 → 0 < length buf.new → IsAtEnd (left self.new) }
         ensures none_taken { OnErr result (left self.new ≡ left self.old) }
+        ensures quiet { OnOk result (faults self.new ≡ faults self.old) }
         ensures only_if_rose { OnErr result (Rose (faults self.old) (faults self.new)) }
         ensures never_falls { faults self.old ≤ faults self.new };
 }
@@ -34,7 +35,7 @@ pub trait Sink {
     /// changes.
     ghost written: { Self → Option (List ℕ) };
 
-    /// How many calls have failed, up to the last value of a u64.
+    /// How many calls have failed, up to the last value of a u64. A call that succeeds leaves the count.
     ghost faults: { Self → ℕ };
 
     /// Writes bytes from the front of `piece`, and answers how many.
@@ -44,6 +45,7 @@ pub trait Sink {
         ensures gone { IfOk result
             (λ count. Appends (written self.old) (written self.new) (take count piece.now)) }
         ensures none_gone { OnErr result (written self.new ≡ written self.old) }
+        ensures quiet { OnOk result (faults self.new ≡ faults self.old) }
         ensures only_if_rose { OnErr result (Rose (faults self.old) (faults self.new)) }
         ensures never_falls { faults self.old ≤ faults self.new };
 }

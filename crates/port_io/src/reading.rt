@@ -48,6 +48,7 @@ pub fn read_all<S: Source>(
         IsErrOf result ReadError.TooLong → limit < length input }
     ensures only_if_rose { IsErrOf result ReadError.ReadFault →
         Rose (S.faults source.old) (S.faults source.new) }
+    ensures quiet { (IsErrOf result ReadError.ReadFault → ⊥) → S.faults source.new ≡ S.faults source.old }
 
     ensures front { TakesFront (S.left source.old) (S.left source.new) }
     ensures told { is_some (S.left source.new) ≡ is_some (S.left source.old) }

@@ -1,4 +1,4 @@
-use Rattle.std.proofs.Common.{◌≤◌, vec_len}
+use Rattle.std.proofs.Common.{◌≡◌, ◌≤◌, vec_len}
 use Rattle.port_io.specs.Bytes.{Consumes}
 use Rattle.port_io.proofs.reading.read_all.Given as goal
 
@@ -10,4 +10,5 @@ invariant-loop-turn g l =
       turns : l._turn ≤ vec_len l.all;
       within : vec_len l.all ≤ l.limit;
       never_falls : g.S.Source.faults l.initial.source ≤ g.S.Source.faults l.source;
+      quiet : g.S.Source.faults l.source ≡ g.S.Source.faults l.initial.source;
     }

@@ -1,4 +1,4 @@
-use Rattle.std.proofs.Common.{◌-◌, ◌≤◌, length, take}
+use Rattle.std.proofs.Common.{◌≡◌, ◌-◌, ◌≤◌, length, take}
 use Rattle.port_io.specs.Bytes.{Appends}
 use Rattle.port_io.proofs.writing.write_all.Given as goal
 
@@ -8,6 +8,7 @@ invariant-loop-at g l = record {
   within : l.at ≤ length l.bytes;
   gone : Appends (g.O.Sink.written l.initial.sink) (g.O.Sink.written l.sink) (take l.at l.bytes);
   never_falls : g.O.Sink.faults l.initial.sink ≤ g.O.Sink.faults l.sink;
+  quiet : g.O.Sink.faults l.sink ≡ g.O.Sink.faults l.initial.sink;
 }
 
 abbrev pub decreases-loop-at : goal.decreases-loop-at
