@@ -1,13 +1,13 @@
 -- What the outcome of a command's run says to its caller.
-use Rattle.std.specs.Prelude.{◌≡◌, ◌≢◌, ℕ, ◌≤◌, ◌⊎◌, Bool, true, false, List, [], Option, Some, None}
-use Rattle.std.proofs.Common.{sym, ◌∙◌, ap, subst, inl, inr}
+use Rattle.std.specs.Prelude.{◌≡◌, ◌≢◌, ℕ, ◌<◌, ◌≤◌, ◌⊎◌, Bool, true, false, List, [], Option, Some, None}
+use Rattle.std.proofs.Common.{refl, sym, ◌∙◌, ap, subst, inl, inr, arith}
 use Rattle.std.proofs.Math.Logic.{⊎_elim}
 use Rattle.port_io.specs.Bytes.{Appends}
 use Rattle.port_io.specs.Faults.{Rose}
 use Rattle.port_io.specs.CountLaws.{rose_later}
 use Rattle.frame_core.specs.declared.status.Status.{Status}
 use Rattle.frame_core.specs.declared.status.Status.TheVariants as statuses
-use Rattle.frame_core.specs.Outside.{Side, Writes}
+use Rattle.frame_core.specs.Outside.{Side, IsQuiet, Writes}
 use Rattle.frame_core.specs.Told.{Reply, Refusal, error_line, read_fault, write_fault, too_long, memory, too_long_refusal, read_fault_refusal, memory_refusal}
 use Rattle.frame_core.specs.Task.{Task, IsAnswerFront, IsBegunFront, MayStand, Tells, Refuses, HasNoReport, IsBeyond, IsAnswerable, IsRefusalStatus, IsTask}
 use Rattle.frame_core.specs.Run.{Outcome, ReadFault, TooLong, Memory, Answered, CutShort, Starved, ReportCut, NoAnswer, status_of, Run, IsRun, IsInput, HasInput, SourceRead, SourceLeft, SourceAfter, OutAfter, Reports, ReportsFront}
@@ -36,8 +36,10 @@ replies task r reply run =
     let tells : Tells task run.bytes reply = run.judged.1 in
     let here : Stands r reply = record {
       status_is = run.status_is;
-      on_out = run.on_out;
-      on_note = subst (λ (s : Side). Reports r.note s reply.report) (sym run.on_note.line) run.on_note.report;
+      on_out = run.on_out.0;
+      on_note = subst (λ (s : Side). Reports r.note s reply.report) (sym run.on_note.line) run.on_note.report.0;
+      out_quiet = run.on_out.1;
+      note_quiet = subst (λ (s : Side). IsQuiet r.note s) (sym run.on_note.line) run.on_note.report.1;
     } in
     record {
       bytes = run.bytes;
@@ -64,9 +66,10 @@ starved task r run = record {
   are = run.judged.0;
   holds = record {
     in_pieces = run.judged.1;
-    front = run.on_out.front;
-    leaves = run.on_out.leaves;
-    on_out = run.on_out.on_out;
+    front = run.on_out.0.front;
+    leaves = run.on_out.0.leaves;
+    on_out = run.on_out.0.on_out;
+    out_quiet = run.on_out.1;
     on_note = line_alone r.note run.on_note.between r.note' (error_line memory) run.on_note.report run.on_note.line;
   };
 }
@@ -86,7 +89,8 @@ report_cut task r reply run =
         answer = tells.answer;
         has = tells.has;
         status_is = run.status_is;
-        on_out = subst (λ (x : Reply). Appends r.out.bytes r.out'.bytes x.text) tells.is run.on_out;
+        on_out = subst (λ (x : Reply). Appends r.out.bytes r.out'.bytes x.text) tells.is run.on_out.0;
+        out_quiet = run.on_out.1;
         rose = report_rose r.note run.on_note.between r.note' reply.report run.on_note.first run.on_note.report run.on_note.then;
         between = run.on_note.between;
         front = subst (λ (x : Reply). ReportsFront r.note run.on_note.between x.report) tells.is run.on_note.report;
@@ -353,10 +357,10 @@ unread_by : (o : Outcome) (task : Task) (bytes : List ℕ) (source source' out o
 unread_by ReadFault task bytes source source' out out' input read after told left = after
 unread_by TooLong task bytes source source' out out' input read after told left = after
 unread_by Memory task bytes source source' out out' input read after told left = after
-unread_by (Answered reply) task bytes source source' out out' input read after told left = absurd (left (read input told))
-unread_by CutShort task bytes source source' out out' input read after told left = absurd (left (read input told))
-unread_by Starved task bytes source source' out out' input read after told left = absurd (left (read input told))
-unread_by (ReportCut reply) task bytes source source' out out' input read after told left = absurd (left (read input told))
+unread_by (Answered reply) task bytes source source' out out' input read after told left = absurd (left (read.end input told))
+unread_by CutShort task bytes source source' out out' input read after told left = absurd (left (read.end input told))
+unread_by Starved task bytes source source' out out' input read after told left = absurd (left (read.end input told))
+unread_by (ReportCut reply) task bytes source source' out out' input read after told left = absurd (left (read.end input told))
 unread_by (NoAnswer refusal) task bytes source source' out out' input read after told left = after
 
 unread : (task : Task) (r : Run) (o : Outcome) (most : ℕ) (input : List ℕ) → IsRun task r o → task.reads ≡ Some most → r.source.bytes ≡ Some input → (r.source'.bytes ≡ Some [] → ⊥) → r.out' ≡ r.out
@@ -412,6 +416,49 @@ unchanged task r Starved is_task run a b c d whole = both task.in_pieces run.jud
 unchanged task r (ReportCut reply) is_task run a b c d whole = absurd (d run.status_is)
 unchanged task r (NoAnswer refusal) is_task run a b c d whole = run.on_out
 
+-- ---- calls that failed
+
+-- a side that is as before counted no call that failed
+same_quiet : {A : Type 0} (old new : Side) → new ≡ old → old.faults < new.faults → A
+same_quiet old new same more =
+    let counts : new.faults ≡ old.faults = ap (λ (s : Side). s.faults) same in
+    absurd (omega (arith, counts, more))
+
+quiet_none : {A : Type 0} (old new : Side) → IsQuiet old new → old.faults < new.faults → A
+quiet_none old new quiet more = absurd (omega (arith, quiet, more))
+
+-- one on the source is a read fault
+failed_read : (old new : Side) (o : Outcome) → SourceRead old new o → old.faults < new.faults → status_of o ≡ statuses.ReadFault
+failed_read old new ReadFault after more = refl
+failed_read old new TooLong after more = quiet_none old new after more
+failed_read old new Memory after more = quiet_none old new after more
+failed_read old new (Answered reply) after more = quiet_none old new after.quiet more
+failed_read old new CutShort after more = quiet_none old new after.quiet more
+failed_read old new Starved after more = quiet_none old new after.quiet more
+failed_read old new (ReportCut reply) after more = quiet_none old new after.quiet more
+failed_read old new (NoAnswer refusal) after more = quiet_none old new after.quiet more
+
+failed_source : (reads : Option ℕ) (old new : Side) (o : Outcome) → SourceAfter reads old new o → old.faults < new.faults → status_of o ≡ statuses.ReadFault
+failed_source None old new o after more = same_quiet old new (left_alone o old new after) more
+failed_source (Some most) old new o after more = failed_read old new o after more
+
+read_failed : (task : Task) (r : Run) (o : Outcome) → IsRun task r o → r.source.faults < r.source'.faults → r.status ≡ statuses.ReadFault
+read_failed task r o run more = run.status_is ∙ failed_source task.reads r.source r.source' o run.on_source more
+
+-- and one on the output a write fault
+failed_write : (task : Task) (bytes : List ℕ) (old new : Side) (o : Outcome) → OutAfter task bytes old new o → old.faults < new.faults → status_of o ≡ statuses.WriteFault
+failed_write task bytes old new ReadFault after more = same_quiet old new after more
+failed_write task bytes old new TooLong after more = same_quiet old new after more
+failed_write task bytes old new Memory after more = same_quiet old new after more
+failed_write task bytes old new (Answered reply) after more = quiet_none old new after.1 more
+failed_write task bytes old new CutShort after more = refl
+failed_write task bytes old new Starved after more = quiet_none old new after.1 more
+failed_write task bytes old new (ReportCut reply) after more = refl
+failed_write task bytes old new (NoAnswer refusal) after more = same_quiet old new after more
+
+write_failed : (task : Task) (r : Run) (o : Outcome) → IsRun task r o → r.out.faults < r.out'.faults → r.status ≡ statuses.WriteFault
+write_failed task r o run more = run.status_is ∙ failed_write task run.bytes r.out r.out' o run.on_out more
+
 -- ---- the promise
 
 -- All that is promised follows from a run's having an outcome.
@@ -430,6 +477,8 @@ promised task r o is_task run = record {
   write_fault_only = λ is. write_fault_only task r o is_task run is;
   write_rose = λ is. write_rose task r o is_task run is;
   out_rose = λ none is. out_rose task r o is_task run none is;
+  read_failed = λ more. read_failed task r o run more;
+  write_failed = λ more. write_failed task r o run more;
   memory_only = λ is. memory_only task r o is_task run is;
   unchanged = λ a b c d whole. unchanged task r o is_task run a b c d whole;
   unread = λ most input reads told left. unread task r o most input run reads told left;

@@ -1,5 +1,5 @@
 -- What a run leaves outside.
-use Rattle.std.specs.Prelude.{ℕ, List, Option}
+use Rattle.std.specs.Prelude.{◌≡◌, ℕ, List, Option}
 use Rattle.port_io.specs.Bytes.{Appends, AppendsFront}
 use Rattle.port_io.specs.Faults.{Rose}
 
@@ -11,6 +11,10 @@ pub record Side : Type 0 where
 
 abbrev pub side : {T : Type 0} → (T → Option (List ℕ)) → (T → ℕ) → T → Side
 side bytes faults x = record { bytes = bytes x; faults = faults x }
+
+-- No call on it failed: the count is as before.
+abbrev pub IsQuiet : Side → Side → Type 0
+IsQuiet old new = new.faults ≡ old.faults
 
 -- A text was written: a front of it, and all of it where no call failed.
 pub record Writes (old new : Side) (text : List ℕ) : Type 0 where

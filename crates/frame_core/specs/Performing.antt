@@ -6,7 +6,7 @@ use Rattle.frame_core.specs.declared.replies.Reply.{Reply}
 use Rattle.frame_core.specs.declared.replies.Stop.{Stop}
 use Rattle.frame_core.specs.declared.replies.Stop.TheVariants as stops
 use Rattle.frame_core.specs.declared.replies.Ended.{Ended}
-use Rattle.frame_core.specs.Outside.{Side}
+use Rattle.frame_core.specs.Outside.{Side, IsQuiet}
 use Rattle.frame_core.specs.Told as told
 use Rattle.frame_core.specs.Task.{Task, Tells, Refuses}
 use Rattle.frame_core.specs.Run.{Outcome, ReadFault, TooLong, Memory, Answered, CutShort, Starved, ReportCut, NoAnswer, IsOutcome, SourceAfter, OutAfter, ReportAfter}
@@ -55,7 +55,7 @@ IsSent reply outcome = ⊥
 -- Its text stands on the output, or a front of it where the output failed.
 abbrev pub OutSent : List ℕ → Side → Side → Outcome → Type 0
 OutSent text old new CutShort = AppendsFront old.bytes new.bytes text × Rose old.faults new.faults
-OutSent text old new outcome = Appends old.bytes new.bytes text
+OutSent text old new outcome = Appends old.bytes new.bytes text × IsQuiet old new
 
 pub record Sent (reply : told.Reply) (e : Ended) (out note : Side × Side) : Type 0 where
   pub outcome : Outcome

@@ -10,7 +10,7 @@ use Rattle.frame_core.specs.declared.replies.Stop.{Stop}
 use Rattle.frame_core.specs.declared.replies.Stop.TheVariants as stops
 use Rattle.frame_core.specs.declared.replies.Ended.{Ended}
 use Rattle.frame_core.specs.declared.replies.Ended.TheVariants as ended
-use Rattle.frame_core.specs.Outside.{Side, Writes}
+use Rattle.frame_core.specs.Outside.{Side, IsQuiet, Writes}
 use Rattle.frame_core.specs.Told as told
 use Rattle.frame_core.specs.Told.{error_line}
 use Rattle.frame_core.specs.Task.{Task, Tells, IsBeyond, IsTask}
@@ -38,7 +38,7 @@ outcome_by task left bytes (NoAnswer refusal) are judged = (are, judged)
 source_read : (task : Task) (bytes : List ℕ) (old new : Side) (o : Outcome) → IsReadToEnd old new → IsJudged task bytes o → SourceRead old new o
 source_read task bytes old new ReadFault read judged = absurd judged
 source_read task bytes old new TooLong read judged = absurd judged
-source_read task bytes old new Memory read judged = judged
+source_read task bytes old new Memory read judged = read.quiet
 source_read task bytes old new (Answered reply) read judged = read
 source_read task bytes old new CutShort read judged = read
 source_read task bytes old new Starved read judged = read
@@ -85,25 +85,25 @@ fault_read task most source out note same rose on_out on_note = record {
   never_falls = let counts : note.1.faults ≡ note.0.faults = ap (λ (s : Side). s.faults) on_note in omega arith;
 }
 
-pub long_read : (task : Task) (most : ℕ) (source out note : Side × Side) → Some most ≡ task.reads → ((input : List ℕ) → source.0.bytes ≡ Some input → IsBeyond (Some most) input) → out.1 ≡ out.0 → note.1 ≡ note.0 → Performs task ended.TooLong source out note
-long_read task most source out note same long on_out on_note = record {
+pub long_read : (task : Task) (most : ℕ) (source out note : Side × Side) → Some most ≡ task.reads → ((input : List ℕ) → source.0.bytes ≡ Some input → IsBeyond (Some most) input) → IsQuiet source.0 source.1 → out.1 ≡ out.0 → note.1 ≡ note.0 → Performs task ended.TooLong source out note
+long_read task most source out note same long quiet on_out on_note = record {
   outcome = TooLong;
   ends = record { status_is = refl; line_is = refl };
   bytes = [];
   judged = subst (λ (r : Option ℕ). (input : List ℕ) → HasInput r source.0.bytes input → IsBeyond r input) same long;
-  on_source = subst (λ (r : Option ℕ). SourceAfter r source.0 source.1 TooLong) same tt;
+  on_source = subst (λ (r : Option ℕ). SourceAfter r source.0 source.1 TooLong) same quiet;
   on_out = on_out;
   on_note = on_note;
   never_falls = let counts : note.1.faults ≡ note.0.faults = ap (λ (s : Side). s.faults) on_note in omega arith;
 }
 
-pub want_read : (task : Task) (most : ℕ) (source out note : Side × Side) → Some most ≡ task.reads → out.1 ≡ out.0 → note.1 ≡ note.0 → Performs task ended.Memory source out note
-want_read task most source out note same on_out on_note = record {
+pub want_read : (task : Task) (most : ℕ) (source out note : Side × Side) → Some most ≡ task.reads → IsQuiet source.0 source.1 → out.1 ≡ out.0 → note.1 ≡ note.0 → Performs task ended.Memory source out note
+want_read task most source out note same quiet on_out on_note = record {
   outcome = Memory;
   ends = record { status_is = refl; line_is = refl };
   bytes = [];
   judged = tt;
-  on_source = subst (λ (r : Option ℕ). SourceAfter r source.0 source.1 Memory) same tt;
+  on_source = subst (λ (r : Option ℕ). SourceAfter r source.0 source.1 Memory) same quiet;
   on_out = on_out;
   on_note = on_note;
   never_falls = let counts : note.1.faults ≡ note.0.faults = ap (λ (s : Side). s.faults) on_note in omega arith;
@@ -144,10 +144,10 @@ sent_out : (task : Task) (bytes : List ℕ) (reply : told.Reply) (o : Outcome) (
 sent_out task bytes reply ReadFault old new tells is out = absurd is
 sent_out task bytes reply TooLong old new tells is out = absurd is
 sent_out task bytes reply Memory old new tells is out = absurd is
-sent_out task bytes reply (Answered x) old new tells is out = subst (λ (y : told.Reply). Appends old.bytes new.bytes y.text) (sym is) out
+sent_out task bytes reply (Answered x) old new tells is out = (subst (λ (y : told.Reply). Appends old.bytes new.bytes y.text) (sym is) out.0, out.1)
 sent_out task bytes reply CutShort old new tells is out = (left_of task bytes reply old new tells out.0, out.1)
 sent_out task bytes reply Starved old new tells is out = absurd is
-sent_out task bytes reply (ReportCut x) old new tells is out = subst (λ (y : told.Reply). Appends old.bytes new.bytes y.text) (sym is) out
+sent_out task bytes reply (ReportCut x) old new tells is out = (subst (λ (y : told.Reply). Appends old.bytes new.bytes y.text) (sym is) out.0, out.1)
 sent_out task bytes reply (NoAnswer refusal) old new tells is out = absurd is
 
 -- What judged the bytes rightly, and was sent out, answers them.
@@ -213,23 +213,23 @@ text_cut reply text out note same front rose on_note = record {
 }
 
 -- It stands whole, and so does its report.
-pub all_sent : (reply : told.Reply) (text : List ℕ) (out note : Side × Side) → text ≡ reply.text → Appends out.0.bytes out.1.bytes text → Reports note.0 note.1 reply.report → note.0.faults ≤ note.1.faults → Sent reply (ended.Answered reply.status) out note
-all_sent reply text out note same on_out reports never = record {
+pub all_sent : (reply : told.Reply) (text : List ℕ) (out note : Side × Side) → text ≡ reply.text → Appends out.0.bytes out.1.bytes text → IsQuiet out.0 out.1 → Reports note.0 note.1 reply.report → IsQuiet note.0 note.1 → Sent reply (ended.Answered reply.status) out note
+all_sent reply text out note same on_out out_quiet reports note_quiet = record {
   outcome = Answered reply;
   ends = record { status_is = refl; line_is = refl };
   is = refl;
-  on_out = subst (λ (t : List ℕ). Appends out.0.bytes out.1.bytes t) same on_out;
-  on_note = reports;
-  never_falls = never;
+  on_out = (subst (λ (t : List ℕ). Appends out.0.bytes out.1.bytes t) same on_out, out_quiet);
+  on_note = (reports, note_quiet);
+  never_falls = omega (arith, note_quiet);
 }
 
 -- Its report was cut.
-pub report_cut : (reply : told.Reply) (text : List ℕ) (out note : Side × Side) → text ≡ reply.text → Appends out.0.bytes out.1.bytes text → ReportsFront note.0 note.1 reply.report → note.0.faults ≤ note.1.faults → Sent reply ended.ReportCut out note
-report_cut reply text out note same on_out front never = record {
+pub report_cut : (reply : told.Reply) (text : List ℕ) (out note : Side × Side) → text ≡ reply.text → Appends out.0.bytes out.1.bytes text → IsQuiet out.0 out.1 → ReportsFront note.0 note.1 reply.report → note.0.faults ≤ note.1.faults → Sent reply ended.ReportCut out note
+report_cut reply text out note same on_out out_quiet front never = record {
   outcome = ReportCut reply;
   ends = record { status_is = refl; line_is = refl };
   is = refl;
-  on_out = subst (λ (t : List ℕ). Appends out.0.bytes out.1.bytes t) same on_out;
+  on_out = (subst (λ (t : List ℕ). Appends out.0.bytes out.1.bytes t) same on_out, out_quiet);
   on_note = front;
   never_falls = never;
 }
@@ -237,13 +237,13 @@ report_cut reply text out note same on_out front never = record {
 -- ---- how a text goes out in pieces
 
 -- All of it did.
-pub pieces_sent : (task : Task) (bytes : List ℕ) (reply : told.Reply) (out note : Side × Side) → Tells task bytes reply → reply.report ≡ None → Appends out.0.bytes out.1.bytes reply.text → note.1 ≡ note.0 → Answers task bytes (ended.Answered reply.status) out note
-pieces_sent task bytes reply out note tells none on_out on_note = record {
+pub pieces_sent : (task : Task) (bytes : List ℕ) (reply : told.Reply) (out note : Side × Side) → Tells task bytes reply → reply.report ≡ None → Appends out.0.bytes out.1.bytes reply.text → IsQuiet out.0 out.1 → note.1 ≡ note.0 → Answers task bytes (ended.Answered reply.status) out note
+pieces_sent task bytes reply out note tells none on_out quiet on_note = record {
   outcome = Answered reply;
   ends = record { status_is = refl; line_is = refl };
   judged = tells;
-  on_out = on_out;
-  on_note = subst (λ (report : Option (List ℕ)). Reports note.0 note.1 report) (sym none) on_note;
+  on_out = (on_out, quiet);
+  on_note = (subst (λ (report : Option (List ℕ)). Reports note.0 note.1 report) (sym none) on_note, ap (λ (s : Side). s.faults) on_note);
   never_falls = let counts : note.1.faults ≡ note.0.faults = ap (λ (s : Side). s.faults) on_note in omega arith;
 }
 
@@ -259,12 +259,12 @@ pieces_cut task bytes out note left rose on_note = record {
 }
 
 -- Memory ran out in it.
-pub pieces_starved : (task : Task) (bytes : List ℕ) (out note : Side × Side) → task.in_pieces ≡ true → IsLeft task bytes out.0 out.1 → note.1 ≡ note.0 → Answers task bytes ended.Starved out note
-pieces_starved task bytes out note pieces left on_note = record {
+pub pieces_starved : (task : Task) (bytes : List ℕ) (out note : Side × Side) → task.in_pieces ≡ true → IsLeft task bytes out.0 out.1 → IsQuiet out.0 out.1 → note.1 ≡ note.0 → Answers task bytes ended.Starved out note
+pieces_starved task bytes out note pieces left quiet on_note = record {
   outcome = Starved;
   ends = record { status_is = refl; line_is = refl };
   judged = pieces;
-  on_out = left;
+  on_out = (left, quiet);
   on_note = on_note;
   never_falls = let counts : note.1.faults ≡ note.0.faults = ap (λ (s : Side). s.faults) on_note in omega arith;
 }

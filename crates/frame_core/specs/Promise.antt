@@ -1,9 +1,9 @@
 -- What every command promises, for every source and every sink.
-use Rattle.std.specs.Prelude.{◌≡◌, ◌≢◌, ℕ, ◌≤◌, ◌⊎◌, List, [], true, false, Some, None}
+use Rattle.std.specs.Prelude.{◌≡◌, ◌≢◌, ℕ, ◌<◌, ◌≤◌, ◌⊎◌, List, [], true, false, Some, None}
 use Rattle.port_io.specs.Bytes.{Appends}
 use Rattle.port_io.specs.Faults.{Rose}
 use Rattle.frame_core.specs.declared.status.Status.TheVariants.{Done, Malformed, Limit, Undecided, ReadFault, WriteFault, Memory, Refused}
-use Rattle.frame_core.specs.Outside.{Side, Writes}
+use Rattle.frame_core.specs.Outside.{Side, IsQuiet, Writes}
 use Rattle.frame_core.specs.Told.{Reply, Refusal, error_line, write_fault, memory, too_long_refusal, read_fault_refusal, memory_refusal}
 use Rattle.frame_core.specs.Task.{Task, MayStand, HasNoReport, IsBeyond, IsAnswerable}
 use Rattle.frame_core.specs.Run.{Run, IsInput, HasInput, Reports, ReportsFront}
@@ -31,11 +31,13 @@ pub record AllSteady (r : Run) : Type 0 where
 
 -- ---- what a caller sees
 
--- The reply stands outside, whole and alone.
+-- The reply stands outside, whole and alone, and no call on the sinks failed.
 pub record Stands (r : Run) (reply : Reply) : Type 0 where
   pub status_is : r.status ≡ reply.status
   pub on_out : Appends r.out.bytes r.out'.bytes reply.text
   pub on_note : Reports r.note r.note' reply.report
+  pub out_quiet : IsQuiet r.out r.out'
+  pub note_quiet : IsQuiet r.note r.note'
 
 -- The output is as before, and the error is told.
 pub record TellsError (r : Run) (refusal : Refusal) : Type 0 where
@@ -70,6 +72,7 @@ pub record ReportCut (task : Task) (r : Run) (input : List ℕ) : Type 0 where
   pub has : task.Has input answer
   pub status_is : r.status ≡ WriteFault
   pub on_out : Appends r.out.bytes r.out'.bytes (task.reply answer).text
+  pub out_quiet : IsQuiet r.out r.out'
   pub rose : Rose r.note.faults r.note'.faults
   pub between : Side
   pub front : ReportsFront r.note between (task.reply answer).report
@@ -83,6 +86,7 @@ pub record ReplyStarved (task : Task) (r : Run) (input : List ℕ) : Type 0 wher
   pub front : List ℕ
   pub leaves : MayStand task input front
   pub on_out : Appends r.out.bytes r.out'.bytes front
+  pub out_quiet : IsQuiet r.out r.out'
   pub on_note : Writes r.note r.note' (error_line memory)
 
 -- This holds of what the command judged: of all that the source told, where it tells its bytes.
@@ -132,6 +136,10 @@ pub record CommandPromise (task : Task) (r : Run) : Type 0 where
   pub write_fault_only : r.status ≡ WriteFault → OfInput task r (λ input. ReplyCut task r input ⊎ ReportCut task r input)
   pub write_rose : r.status ≡ WriteFault → Rose r.out.faults r.out'.faults ⊎ Rose r.note.faults r.note'.faults
   pub memory_only : r.status ≡ Memory → TellsError r memory_refusal ⊎ OfInput task r (ReplyStarved task r)
+  -- Where a call on the source or on the output failed, that is told and nothing else. One on the notes that fails in
+  -- a report is told too: without it the reply wouldn't stand.
+  pub read_failed : r.source.faults < r.source'.faults → r.status ≡ ReadFault
+  pub write_failed : r.out.faults < r.out'.faults → r.status ≡ WriteFault
   -- A command without a report is never told a fault of the notes.
   pub out_rose : HasNoReport task → r.status ≡ WriteFault → Rose r.out.faults r.out'.faults
   -- Without an answer the output is as before.

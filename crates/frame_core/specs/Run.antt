@@ -4,7 +4,7 @@ use Rattle.port_io.specs.Bytes.{Appends, AppendsFront}
 use Rattle.port_io.specs.Faults.{Rose}
 use Rattle.frame_core.specs.declared.status.Status.{Status}
 use Rattle.frame_core.specs.declared.status.Status.TheVariants as statuses
-use Rattle.frame_core.specs.Outside.{Side, side, Writes}
+use Rattle.frame_core.specs.Outside.{Side, side, IsQuiet, Writes}
 use Rattle.frame_core.specs.Told.{Reply, Field, Refusal, error_line, read_fault, write_fault, too_long, memory}
 use Rattle.frame_core.specs.Task.{Task, MayStand, Tells, Refuses, IsBeyond}
 
@@ -73,15 +73,16 @@ IsOutcome task left bytes Starved = IsInput task.reads left bytes × (task.in_pi
 IsOutcome task left bytes (ReportCut reply) = IsInput task.reads left bytes × Tells task bytes reply
 IsOutcome task left bytes (NoAnswer refusal) = IsInput task.reads left bytes × Refuses task bytes refusal
 
--- what was told to be left was read to its end
-abbrev pub IsReadToEnd : Side → Side → Type 0
-IsReadToEnd old new = (input : List ℕ) → old.bytes ≡ Some input → new.bytes ≡ Some []
+-- What was told to be left was read to its end, and no call failed.
+pub record IsReadToEnd (old new : Side) : Type 0 where
+  pub end : (input : List ℕ) → old.bytes ≡ Some input → new.bytes ≡ Some []
+  pub quiet : IsQuiet old new
 
--- Bytes that are judged were read to their end.
+-- Bytes that are judged were read to their end. Where a call failed, that is the outcome.
 abbrev pub SourceRead : Side → Side → Outcome → Type 0
 SourceRead old new ReadFault = Rose old.faults new.faults
-SourceRead old new TooLong = Unit {0}
-SourceRead old new Memory = Unit {0}
+SourceRead old new TooLong = IsQuiet old new
+SourceRead old new Memory = IsQuiet old new
 SourceRead old new (Answered reply) = IsReadToEnd old new
 SourceRead old new CutShort = IsReadToEnd old new
 SourceRead old new Starved = IsReadToEnd old new
@@ -99,15 +100,15 @@ SourceAfter None old new outcome = SourceLeft old new outcome
 SourceAfter (Some most) old new outcome = SourceRead old new outcome
 
 -- The reply's text stands on the output whole, and a front of one where the output failed, or memory ran
--- out. With every other outcome the output is as before.
+-- out. With every other outcome the output is as before. Where a call failed, that is the outcome.
 abbrev pub OutAfter : Task → List ℕ → Side → Side → Outcome → Type 0
 OutAfter task bytes old new ReadFault = new ≡ old
 OutAfter task bytes old new TooLong = new ≡ old
 OutAfter task bytes old new Memory = new ≡ old
-OutAfter task bytes old new (Answered reply) = Appends old.bytes new.bytes reply.text
+OutAfter task bytes old new (Answered reply) = Appends old.bytes new.bytes reply.text × IsQuiet old new
 OutAfter task bytes old new CutShort = IsLeft task bytes old new × Rose old.faults new.faults
-OutAfter task bytes old new Starved = IsLeft task bytes old new
-OutAfter task bytes old new (ReportCut reply) = Appends old.bytes new.bytes reply.text
+OutAfter task bytes old new Starved = IsLeft task bytes old new × IsQuiet old new
+OutAfter task bytes old new (ReportCut reply) = Appends old.bytes new.bytes reply.text × IsQuiet old new
 OutAfter task bytes old new (NoAnswer refusal) = new ≡ old
 
 -- A report went to the notes whole, or a front of it. Without one they are as before.
@@ -120,7 +121,7 @@ ReportsFront old new None = ⊥
 ReportsFront old new (Some text) = AppendsFront old.bytes new.bytes text × Rose old.faults new.faults
 
 abbrev pub ReportAfter : Side → Side → Outcome → Type 0
-ReportAfter old new (Answered reply) = Reports old new reply.report
+ReportAfter old new (Answered reply) = Reports old new reply.report × IsQuiet old new
 ReportAfter old new (ReportCut reply) = ReportsFront old new reply.report
 ReportAfter old new outcome = new ≡ old
 

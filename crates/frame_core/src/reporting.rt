@@ -1,5 +1,5 @@
 //! The texts of the notes: a report, and the error line.
-ghost use Rattle.std.specs.Prelude.{◌≤◌, ◌++◌, OnOk, OnErr};
+ghost use Rattle.std.specs.Prelude.{◌≡◌, ◌≤◌, ◌++◌, OnOk, OnErr};
 ghost use Rattle.port_io.specs.Bytes.{Appends, AppendsFront};
 ghost use Rattle.port_io.specs.Faults.{Rose};
 ghost use Rattle.frame_core.specs.Told.{joined, error_line};
@@ -90,6 +90,7 @@ fn write_line<N: Sink>(
 fn write_parts<N: Sink>(note: &mut N, parts: &[Vec<u8>]) -> Result<(), WriteFault>
     ensures all { OnOk result (Appends (N.written note.old) (N.written note.new) (joined (texts_of parts.now))) }
     ensures front { AppendsFront (N.written note.old) (N.written note.new) (joined (texts_of parts.now)) }
+    ensures quiet { OnOk result (N.faults note.new ≡ N.faults note.old) }
     ensures only_if_rose { OnErr result (Rose (N.faults note.old) (N.faults note.new)) }
     ensures never_falls { N.faults note.old ≤ N.faults note.new }
 {
@@ -106,6 +107,7 @@ fn write_parts<N: Sink>(note: &mut N, parts: &[Vec<u8>]) -> Result<(), WriteFaul
 fn write_to_last<N: Sink>(note: &mut N, parts: &[Vec<u8>], last: &[u8]) -> Result<(), WriteFault>
     ensures all { OnOk result (Appends (N.written note.old) (N.written note.new) (joined (texts_of parts.now) ++ last.now)) }
     ensures front { AppendsFront (N.written note.old) (N.written note.new) (joined (texts_of parts.now) ++ last.now) }
+    ensures quiet { OnOk result (N.faults note.new ≡ N.faults note.old) }
     ensures only_if_rose { OnErr result (Rose (N.faults note.old) (N.faults note.new)) }
     ensures never_falls { N.faults note.old ≤ N.faults note.new }
 {
@@ -118,6 +120,7 @@ fn write_to_last<N: Sink>(note: &mut N, parts: &[Vec<u8>], last: &[u8]) -> Resul
 pub(crate) fn write_report<N: Sink>(note: &mut N, report: &Report) -> Result<(), WriteFault>
     ensures all { OnOk result (Appends (N.written note.old) (N.written note.new) (report_text report.now)) }
     ensures front { AppendsFront (N.written note.old) (N.written note.new) (report_text report.now) }
+    ensures quiet { OnOk result (N.faults note.new ≡ N.faults note.old) }
     ensures only_if_rose { OnErr result (Rose (N.faults note.old) (N.faults note.new)) }
     ensures never_falls { N.faults note.old ≤ N.faults note.new }
 {

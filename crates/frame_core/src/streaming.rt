@@ -131,6 +131,7 @@ pub(crate) fn read_pieces<J: StreamJob, S: Source>(
         IsErrOf result ReadError.TooLong → most < length input }
     ensures only_if_rose { IsErrOf result ReadError.ReadFault →
         Rose (S.faults source.old) (S.faults source.new) }
+    ensures quiet { (IsErrOf result ReadError.ReadFault → ⊥) → S.faults source.new ≡ S.faults source.old }
 {
     let mut kept = job.begin(alloc);
     let mut room = most;

@@ -1,6 +1,6 @@
 use Rattle.std.specs.Prelude.{Option}
 use Rattle.std.specs.Option.{option_map}
-use Rattle.std.proofs.Common.{refl, sym, subst, arith}
+use Rattle.std.proofs.Common.{refl, sym, subst}
 use Rattle.frame_core.specs.declared.replies.Report.{Report}
 use Rattle.frame_core.specs.Outside.{side}
 use Rattle.frame_core.specs.Run.{Reports, ReportsFront}
@@ -14,18 +14,18 @@ returns-in-Err-WriteFault g c =
 
 pub returns-in_default-report : goal.returns-in_default-report
 returns-in_default-report g c =
-    all_sent (reply_value c.args.reply.now) _ _ _ c.deref.ensures.value c.in_default.ensures.all
+    all_sent (reply_value c.args.reply.now) _ _ _ c.deref.ensures.value c.in_default.ensures.all c.in_default.ensures.quiet
     (subst (λ (o : Option Report). Reports (side g.N.Sink.written g.N.Sink.faults c.args.note.now) (side g.N.Sink.written g.N.Sink.faults c.args.note.now) (option_map report_text o)) (sym c.in_default-report.is) refl)
-    (omega arith)
+    refl
 
 pub returns-in-Ok : goal.returns-in-Ok
 returns-in-Ok g c =
-    all_sent (reply_value c.args.reply.now) _ _ _ c.deref.ensures.value c.in_default.ensures.all
+    all_sent (reply_value c.args.reply.now) _ _ _ c.deref.ensures.value c.in_default.ensures.all c.in_default.ensures.quiet
     (subst (λ (o : Option Report). Reports (side g.N.Sink.written g.N.Sink.faults c.args.note.now) (side g.N.Sink.written g.N.Sink.faults c.write_report.new.note) (option_map report_text o)) (sym c.in-Some.is) c.in-Ok.ensures.all)
-    c.write_report.ensures.never_falls
+    c.in-Ok.ensures.quiet
 
 pub returns-in-Err-WriteFault-write_report : goal.returns-in-Err-WriteFault-write_report
 returns-in-Err-WriteFault-write_report g c =
-    report_cut (reply_value c.args.reply.now) _ _ _ c.deref.ensures.value c.in_default.ensures.all
+    report_cut (reply_value c.args.reply.now) _ _ _ c.deref.ensures.value c.in_default.ensures.all c.in_default.ensures.quiet
     (subst (λ (o : Option Report). ReportsFront (side g.N.Sink.written g.N.Sink.faults c.args.note.now) (side g.N.Sink.written g.N.Sink.faults c.write_report.new.note) (option_map report_text o)) (sym c.in-Some.is) ((c.in-Err-WriteFault-write_report).ensures.front, (c.in-Err-WriteFault-write_report).ensures.only_if_rose))
     c.write_report.ensures.never_falls

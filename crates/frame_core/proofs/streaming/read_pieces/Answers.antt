@@ -1,5 +1,5 @@
 -- With each turn a piece more was taken, and with the last none is left.
-use Rattle.std.proofs.Common.{◌≡◌, ℕ, ◌≤◌, List, Ok, take, length, subst, sym, arith, ap, ◌∙◌}
+use Rattle.std.proofs.Common.{◌≡◌, ℕ, ◌≤◌, List, refl, Ok, take, length, subst, sym, arith, ap, ◌∙◌}
 use Rattle.std.proofs.lemmas.Grind.{common_steps}
 use Rattle.port_io.specs.Bytes.{Consumes}
 use Rattle.frame_core.proofs.Streams.{taking_none, taking_more, taking_all, taking_long}
@@ -12,6 +12,7 @@ loop-turn-init g c = record {
   turns = omega arith;
   counted = let none = c.begin-kept.ensures.count in omega (arith, none);
   never_falls = omega arith;
+  quiet = refl;
 }
 
 pub returns-in-Ok-eq0-clause-taken : goal.returns-in-Ok-eq0-clause-taken
@@ -44,4 +45,5 @@ loop-turn-preserved g c =
       turns = let before = c.loop-turn.invariant.turns in omega (arith, before, fits, some);
       counted = let before = c.loop-turn.invariant.counted in let more = c.in_ok-kept-in-Ok.ensures.count in omega (arith, before, more, long, fits);
       never_falls = let before = c.loop-turn.invariant.never_falls in let more = c.read.ensures.never_falls in omega (arith, before, more);
+      quiet = c.in-Ok.ensures.quiet ∙ c.loop-turn.invariant.quiet;
     }
