@@ -1,6 +1,6 @@
 -- What the outcome of a command's run says to its caller.
-use Rattle.std.specs.Prelude.{◌≡◌, ◌≢◌, ℕ, ◌<◌, ◌≤◌, ◌⊎◌, Bool, true, false, List, [], Option, Some, None}
-use Rattle.std.proofs.Common.{refl, sym, ◌∙◌, ap, subst, inl, inr, arith}
+use Rattle.std.specs.Prelude.{◌≡◌, ◌≢◌, ℕ, ◌≤◌, ◌⊎◌, Bool, true, false, List, Option, Some, None}
+use Rattle.std.proofs.Common.{sym, ◌∙◌, ap, subst, inl, inr}
 use Rattle.std.proofs.Math.Logic.{⊎_elim}
 use Rattle.port_io.specs.Bytes.{Appends}
 use Rattle.port_io.specs.Faults.{Rose}
@@ -10,7 +10,8 @@ use Rattle.frame_core.specs.declared.status.Status.TheVariants as statuses
 use Rattle.frame_core.specs.Outside.{Side, IsQuiet, Writes}
 use Rattle.frame_core.specs.Told.{Reply, Refusal, error_line, read_fault, write_fault, too_long, memory, too_long_refusal, read_fault_refusal, memory_refusal}
 use Rattle.frame_core.specs.Task.{Task, IsAnswerFront, IsBegunFront, MayStand, Tells, Refuses, HasNoReport, IsBeyond, IsAnswerable, IsRefusalStatus, IsTask}
-use Rattle.frame_core.specs.Run.{Outcome, ReadFault, TooLong, Memory, Answered, CutShort, Starved, ReportCut, NoAnswer, status_of, Run, IsRun, IsInput, HasInput, SourceRead, SourceLeft, SourceAfter, OutAfter, Reports, ReportsFront}
+use Rattle.frame_core.specs.Run.{Outcome, ReadFault, TooLong, Memory, Answered, CutShort, Starved, ReportCut, NoAnswer, status_of, Run, IsRun, IsInput, HasInput, SourceAfter, Reports, ReportsFront}
+use Rattle.frame_core.specs.CallLaws.{read_failed, write_failed, read_to_end, unread, untouched}
 use Rattle.frame_core.specs.Promise.{InputHeld, OutputHeld, AllSteady, Stands, TellsError, Replies, Faults, ReplyCut, ReportCut as CutReport, ReplyStarved, OfInput, IsTooLong, CommandPromise}
 
 -- ---- the input
@@ -352,34 +353,6 @@ not_usage task r (NoAnswer refusal) is_task run is = no_refusal task r refusal s
 
 -- ---- the source
 
--- what wrote read to the end
-unread_by : (o : Outcome) (task : Task) (bytes : List ℕ) (source source' out out' : Side) (input : List ℕ) → SourceRead source source' o → OutAfter task bytes out out' o → source.bytes ≡ Some input → (source'.bytes ≡ Some [] → ⊥) → out' ≡ out
-unread_by ReadFault task bytes source source' out out' input read after told left = after
-unread_by TooLong task bytes source source' out out' input read after told left = after
-unread_by Memory task bytes source source' out out' input read after told left = after
-unread_by (Answered reply) task bytes source source' out out' input read after told left = absurd (left (read.end input told))
-unread_by CutShort task bytes source source' out out' input read after told left = absurd (left (read.end input told))
-unread_by Starved task bytes source source' out out' input read after told left = absurd (left (read.end input told))
-unread_by (ReportCut reply) task bytes source source' out out' input read after told left = absurd (left (read.end input told))
-unread_by (NoAnswer refusal) task bytes source source' out out' input read after told left = after
-
-unread : (task : Task) (r : Run) (o : Outcome) (most : ℕ) (input : List ℕ) → IsRun task r o → task.reads ≡ Some most → r.source.bytes ≡ Some input → (r.source'.bytes ≡ Some [] → ⊥) → r.out' ≡ r.out
-unread task r o most input run reads told left =
-    unread_by o task run.bytes r.source r.source' r.out r.out' input (subst (λ (m : Option ℕ). SourceAfter m r.source r.source' o) reads run.on_source) run.on_out told left
-
-left_alone : (o : Outcome) (old new : Side) → SourceLeft old new o → new ≡ old
-left_alone ReadFault old new after = absurd after
-left_alone TooLong old new after = absurd after
-left_alone Memory old new after = after
-left_alone (Answered reply) old new after = after
-left_alone CutShort old new after = after
-left_alone Starved old new after = after
-left_alone (ReportCut reply) old new after = after
-left_alone (NoAnswer refusal) old new after = after
-
-untouched : (task : Task) (r : Run) (o : Outcome) → IsRun task r o → task.reads ≡ None → r.source' ≡ r.source
-untouched task r o run reads = left_alone o r.source r.source' (subst (λ (m : Option ℕ). SourceAfter m r.source r.source' o) reads run.on_source)
-
 -- a source that isn't read has no fault
 no_fault : (reads : Option ℕ) (old new : Side) → reads ≡ None → SourceAfter reads old new ReadFault → ⊥
 no_fault None old new none after = after
@@ -416,49 +389,6 @@ unchanged task r Starved is_task run a b c d whole = both task.in_pieces run.jud
 unchanged task r (ReportCut reply) is_task run a b c d whole = absurd (d run.status_is)
 unchanged task r (NoAnswer refusal) is_task run a b c d whole = run.on_out
 
--- ---- calls that failed
-
--- a side that is as before counted no call that failed
-same_quiet : {A : Type 0} (old new : Side) → new ≡ old → old.faults < new.faults → A
-same_quiet old new same more =
-    let counts : new.faults ≡ old.faults = ap (λ (s : Side). s.faults) same in
-    absurd (omega (arith, counts, more))
-
-quiet_none : {A : Type 0} (old new : Side) → IsQuiet old new → old.faults < new.faults → A
-quiet_none old new quiet more = absurd (omega (arith, quiet, more))
-
--- one on the source is a read fault
-failed_read : (old new : Side) (o : Outcome) → SourceRead old new o → old.faults < new.faults → status_of o ≡ statuses.ReadFault
-failed_read old new ReadFault after more = refl
-failed_read old new TooLong after more = quiet_none old new after more
-failed_read old new Memory after more = quiet_none old new after more
-failed_read old new (Answered reply) after more = quiet_none old new after.quiet more
-failed_read old new CutShort after more = quiet_none old new after.quiet more
-failed_read old new Starved after more = quiet_none old new after.quiet more
-failed_read old new (ReportCut reply) after more = quiet_none old new after.quiet more
-failed_read old new (NoAnswer refusal) after more = quiet_none old new after.quiet more
-
-failed_source : (reads : Option ℕ) (old new : Side) (o : Outcome) → SourceAfter reads old new o → old.faults < new.faults → status_of o ≡ statuses.ReadFault
-failed_source None old new o after more = same_quiet old new (left_alone o old new after) more
-failed_source (Some most) old new o after more = failed_read old new o after more
-
-read_failed : (task : Task) (r : Run) (o : Outcome) → IsRun task r o → r.source.faults < r.source'.faults → r.status ≡ statuses.ReadFault
-read_failed task r o run more = run.status_is ∙ failed_source task.reads r.source r.source' o run.on_source more
-
--- and one on the output a write fault
-failed_write : (task : Task) (bytes : List ℕ) (old new : Side) (o : Outcome) → OutAfter task bytes old new o → old.faults < new.faults → status_of o ≡ statuses.WriteFault
-failed_write task bytes old new ReadFault after more = same_quiet old new after more
-failed_write task bytes old new TooLong after more = same_quiet old new after more
-failed_write task bytes old new Memory after more = same_quiet old new after more
-failed_write task bytes old new (Answered reply) after more = quiet_none old new after.1 more
-failed_write task bytes old new CutShort after more = refl
-failed_write task bytes old new Starved after more = quiet_none old new after.1 more
-failed_write task bytes old new (ReportCut reply) after more = refl
-failed_write task bytes old new (NoAnswer refusal) after more = same_quiet old new after more
-
-write_failed : (task : Task) (r : Run) (o : Outcome) → IsRun task r o → r.out.faults < r.out'.faults → r.status ≡ statuses.WriteFault
-write_failed task r o run more = run.status_is ∙ failed_write task run.bytes r.out r.out' o run.on_out more
-
 -- ---- the promise
 
 -- All that is promised follows from a run's having an outcome.
@@ -481,6 +411,7 @@ promised task r o is_task run = record {
   write_failed = λ more. write_failed task r o run more;
   memory_only = λ is. memory_only task r o is_task run is;
   unchanged = λ a b c d whole. unchanged task r o is_task run a b c d whole;
+  read_to_end = λ most input reads told a b c. read_to_end task r o most input run reads told a b c;
   unread = λ most input reads told left. unread task r o most input run reads told left;
   untouched = λ reads. untouched task r o run reads;
   never_read = λ reads is. never_read task r o is_task run reads is;

@@ -1,3 +1,4 @@
+pub mod CallLaws
 pub mod KeepingLaws
 pub mod Outside
 pub mod Performing

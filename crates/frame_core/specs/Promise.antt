@@ -149,7 +149,15 @@ pub record CommandPromise (task : Task) (r : Run) : Type 0 where
       → r.status ≢ WriteFault
       → (r.status ≡ Memory → task.in_pieces ≡ false)
       → r.out' ≡ r.out
-  -- Nothing goes out before the input was read to its end.
+  -- What was judged was read to its end, whatever is told of it.
+  pub read_to_end : (most : ℕ) (input : List ℕ)
+      → task.reads ≡ Some most
+      → r.source.bytes ≡ Some input
+      → r.status ≢ ReadFault
+      → r.status ≢ Limit
+      → r.status ≢ Memory
+      → r.source'.bytes ≡ Some []
+  -- Nothing goes out before that.
   pub unread : (most : ℕ) (input : List ℕ)
       → task.reads ≡ Some most
       → r.source.bytes ≡ Some input
