@@ -44,11 +44,11 @@ lines_answered bytes ended.TooLong out note within writes same = absurd writes
 lines_answered bytes ended.Memory out note within writes same = absurd writes
 lines_answered bytes (ended.Answered status) out note within writes same =
     subst (λ (s : Status). Answers lines_task bytes (ended.Answered s) out note) (sym writes.0)
-    (pieces_sent lines_task bytes (lines_reply bytes) out note (lines_tell bytes within) refl writes.1 same)
+    (pieces_sent lines_task bytes (lines_reply bytes) out note (lines_tell bytes within) refl writes.1.0 writes.1.1 same)
 lines_answered bytes ended.CutShort out note within writes same =
     pieces_cut lines_task bytes out note (left_of lines_task bytes (lines_reply bytes) out.0 out.1 (lines_tell bytes within) writes.0) writes.1 same
 lines_answered bytes ended.Starved out note within writes same =
-    pieces_starved lines_task bytes out note refl (left_of lines_task bytes (lines_reply bytes) out.0 out.1 (lines_tell bytes within) writes) same
+    pieces_starved lines_task bytes out note refl (left_of lines_task bytes (lines_reply bytes) out.0 out.1 (lines_tell bytes within) writes.0) writes.1 same
 lines_answered bytes ended.ReportCut out note within writes same = absurd writes
 lines_answered bytes (ended.NoAnswer refusal) out note within writes same = absurd writes
 

@@ -5,7 +5,7 @@ use Rattle.port_io.specs.Bytes.{Appends, AppendsFront}
 use Rattle.port_io.specs.Faults.{Rose}
 use Rattle.frame_core.specs.declared.replies.Ended.{Ended}
 use Rattle.frame_core.specs.declared.replies.Ended.TheVariants as ended
-use Rattle.frame_core.specs.Outside.{Side}
+use Rattle.frame_core.specs.Outside.{Side, IsQuiet}
 use Rattle.frame_core.specs.Told.{Reply, joined, parted}
 use Rattle.frame_core.specs.Task.{Task, from_nothing, in_pieces, begins_none}
 
@@ -36,7 +36,7 @@ lines_task = in_pieces (Some 3) (List ℕ) AreBytes lines_reply ⊥ (λ (bytes :
 
 -- What the writer of lines leaves on the output.
 abbrev pub WritesLines : List ℕ → Ended → Side → Side → Type 0
-WritesLines bytes (ended.Answered status) old new = (status ≡ Done) × Appends old.bytes new.bytes (lines_text bytes)
+WritesLines bytes (ended.Answered status) old new = (status ≡ Done) × (Appends old.bytes new.bytes (lines_text bytes) × IsQuiet old new)
 WritesLines bytes ended.CutShort old new = AppendsFront old.bytes new.bytes (lines_text bytes) × Rose old.faults new.faults
-WritesLines bytes ended.Starved old new = AppendsFront old.bytes new.bytes (lines_text bytes)
+WritesLines bytes ended.Starved old new = AppendsFront old.bytes new.bytes (lines_text bytes) × IsQuiet old new
 WritesLines bytes e old new = ⊥
