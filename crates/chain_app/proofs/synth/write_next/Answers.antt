@@ -12,7 +12,7 @@ returns-in-Ok-write_all-clause-comes g c = λ asked bytes first within out.
     let whole : Appends now.bytes new.bytes c.in-Section.text.items = subst (λ (t : List ℕ). Appends now.bytes new.bytes t) c.deref.ensures.value c.in-Ok-write_all.ensures.all in
     out_more asked bytes c.in-Section.text.items c.args.search c.in-Section.search first now new out
     (under_next asked bytes out.text c.args.search c.in-Section.search c.in-Ok.piece c.in-Section.text c.in-Ok.ensures.piece c.in-Section.is out.under_way)
-    whole c.write_all.ensures.never_falls
+    whole c.in-Ok-write_all.ensures.quiet
 
 pub returns-in-Section-clause-comes : goal.returns-in-Section-clause-comes
 returns-in-Section-clause-comes g c = λ asked bytes first within out.
@@ -30,7 +30,7 @@ returns-in-Ok-write_all-2-clause-comes g c = λ asked bytes first within out.
     let whole : Appends now.bytes new.bytes c.in-Ending.text.items = subst (λ (t : List ℕ). Appends now.bytes new.bytes t) c.deref-in-Ending.ensures.value c.in-Ok-write_all-2.ensures.all in
     all_out asked bytes c.in-Ending.text.items c.args.search c.in-Ending.verdict c.verdict_status.result first now new within out
     (certified_by asked bytes out.text c.args.search c.in-Ending.verdict c.in-Ok.piece c.in-Ending.text c.in-Ok.ensures.piece c.in-Ending.is out.under_way)
-    c.verdict_status.ensures whole
+    c.verdict_status.ensures whole c.in-Ok-write_all-2.ensures.quiet
 
 pub returns-clause-comes : goal.returns-clause-comes
 returns-clause-comes g c = λ asked bytes first within out.
