@@ -144,6 +144,33 @@ fn each_read_that_fails_leaves_nothing(rt: HostRuntime) -> Result<(), Fail> {
     Ok(())
 }
 
+/// A text with this front, which more than one read brings.
+fn long_text(alloc: Global, front: &str) -> Result<Vec<u8>, AllocError> {
+    let mut text = Vec::from_slice(alloc, front.as_bytes())?;
+    for _ in 0..5_000u32 {
+        text.push(b'\n')?;
+    }
+    Ok(text)
+}
+
+#[test]
+fn reads_that_fail_behind_a_refused_line_are_told(rt: HostRuntime) -> Result<(), Fail> {
+    for (line, front) in [
+        ("agree", "inputs 2\n0110\nchain 1\nx3 x3 x1 0110\n"),
+        ("synth", "inputs 2\n012\n"),
+        ("recheck", "chains 2\n"),
+        ("recheck", "chains 1\ninputs 1\n1\n"),
+        ("recheck --depth yes", "depths 2\n"),
+        ("improve", ".model u\n.inputs a\n.outputs y\n.end\n"),
+        ("equiv", ".model u\n"),
+    ] {
+        let text = long_text(rt.alloc(), front)?;
+        // the last of three finds the end
+        assert_eq!(rt; reads_of(rt.alloc(), line, &text, 2)?, 3, "{line} {front}");
+    }
+    Ok(())
+}
+
 /// How many calls a run makes on the notes. 0 where one of them fails and the whole text doesn't stand on the output,
 /// or the status isn't that of a write that failed.
 fn notes_of(alloc: Global, line: &str, input: &[u8], whole: &[u8]) -> Result<u64, AllocError> {
