@@ -8,3 +8,4 @@ pub mod Outcomes
 pub mod Swept
 pub mod OrderLaws
 pub mod SweptLaws
+pub mod RoundLaws

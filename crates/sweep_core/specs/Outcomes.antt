@@ -1,5 +1,5 @@
 -- What a visit comes to.
-use Rattle.std.specs.Prelude.{◌≡◌, ℕ, ◌<◌, true, length, slice_get, Some, ◌⊎◌}
+use Rattle.std.specs.Prelude.{◌≡◌, ℕ, ◌<◌, Bool, true, false, length, slice_get, Some, ◌⊎◌}
 use Rattle.chain_theory.specs.Operator.{Basis}
 use Rattle.net_theory.specs.declared.data.Gate.{Gate}
 use Rattle.net_theory.specs.Net.{Net}
@@ -31,6 +31,12 @@ pub record HasOperatorsWithin (basis : Basis) (n m : Net) : Type 0 where
 pub record Leads (basis : Basis) (n m : Net) : Type 0 where
   pub pruned : (first : Net) → IsPruned first n → IsPruned first m
   pub operators : HasOperatorsWithin basis n m
+
+-- Whether the net has become smaller without a visit: it can take the place of the one before and has fewer gates, or it is
+-- as it was.
+abbrev pub IsShrunk : ImproveSettings → Net → Net → Bool → Type 0
+IsShrunk s n m true = Leads (members s.basis) n m × (length m.gates < length n.gates)
+IsShrunk s n m false = m ≡ n
 
 -- ---- visits
 

@@ -22,6 +22,10 @@ IsNextPartner n root below (Some partner) = IsGreatestPartner n root below partn
 
 -- ---- visits
 
+-- none
+abbrev pub IsNoVisit : Visit → Type 0
+IsNoVisit v = ⊥
+
 -- this visit
 abbrev pub IsThis : Visit → Visit → Type 0
 IsThis this v = v ≡ this

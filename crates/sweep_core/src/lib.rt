@@ -2,7 +2,9 @@
 //! one window is tried stands behind the trait `Trial`, so that this crate knows no window, no solver and no
 //! memory of earlier answers.
 //!
-//! A round visits the gates as roots in rising place. For each root come the counts from 1 to the cap without a
+//! A round begins with gates that are alike, which the trial makes one: two of them are often no window that is listed, since
+//! of the gates that read what a gate reads the eight greatest below it are its partners and no others. Then it visits the gates
+//! as roots in rising place. For each root come the counts from 1 to the cap without a
 //! partner, and then, for each partner from the greatest to the least, the counts from 2 on. A visit is passed,
 //! left open with a certificate, or makes the net smaller. The one argument: of a round that changed nothing
 //! each visit was tried on the net as it is in the end, so that each window that counts has no shorter chain or

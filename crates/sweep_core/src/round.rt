@@ -1,6 +1,6 @@
-//! One round: the visits in their order.
+//! One round: gates that are alike become one, and then come the visits in their order.
 ghost use Rattle.std.specs.Prelude.{◌+◌, ◌≤◌, ◌<◌, None, Some, IfOk, OnOk};
-ghost use Rattle.sweep_core.specs.Visits.{IsThis, IsOfCounts, IsOfPartners, IsOfRoot, IsOfRoots, IsNextPartner};
+ghost use Rattle.sweep_core.specs.Visits.{IsNoVisit, IsThis, IsOfCounts, IsOfPartners, IsOfRoot, IsOfRoots, IsNextPartner};
 ghost use Rattle.net_theory.specs.Net.{end_of};
 ghost use Rattle.sweep_core.specs.Swept.{stage, IsSwept};
 
@@ -146,11 +146,7 @@ fn visit_root<T: Trial>(
 
 /// Visits all roots that the net has at first, in rising place.
 #[tactic(auto, using(crate::specs::SweptLaws::visiting))]
-pub fn visit_all<T: Trial>(
-    alloc: Global,
-    trial: &mut T,
-    round: &mut Round,
-) -> Result<(), AllocError>
+fn visit_all<T: Trial>(alloc: Global, trial: &mut T, round: &mut Round) -> Result<(), AllocError>
     requires cap { 1 ≤ (T.settings_of trial.old).cap }
     ensures { OnOk result (IsSwept (IsOfRoots (T.settings_of trial.old).cap (end_of (T.net_of trial.old)))
         (stage (T.settings_of trial.old) (T.net_of trial.old) round.old)
@@ -161,5 +157,37 @@ pub fn visit_all<T: Trial>(
     for root in first..end {
         visit_root(alloc, trial, round, root)?;
     }
+    Ok(())
+}
+
+/// Makes gates that are alike one.
+#[tactic(auto, using(crate::specs::RoundLaws::merging))]
+fn merge_gates<T: Trial>(alloc: Global, trial: &mut T, round: &mut Round) -> Result<(), AllocError>
+    ensures { OnOk result (IsSwept IsNoVisit
+        (stage (T.settings_of trial.old) (T.net_of trial.old) round.old)
+        (stage (T.settings_of trial.new) (T.net_of trial.new) round.new)) }
+{
+    let merged = trial.merge_alike(alloc)?;
+    if !merged {
+        return Ok(());
+    }
+    round.changed = true;
+    Ok(())
+}
+
+/// Makes a round.
+#[tactic(auto, using(crate::specs::SweptLaws::sweeping))]
+pub fn make_round<T: Trial>(
+    alloc: Global,
+    trial: &mut T,
+    round: &mut Round,
+) -> Result<(), AllocError>
+    requires cap { 1 ≤ (T.settings_of trial.old).cap }
+    ensures { OnOk result (IsSwept (IsOfRoots (T.settings_of trial.old).cap (end_of (T.net_of trial.old)))
+        (stage (T.settings_of trial.old) (T.net_of trial.old) round.old)
+        (stage (T.settings_of trial.new) (T.net_of trial.new) round.new)) }
+{
+    merge_gates(alloc, trial, round)?;
+    visit_all(alloc, trial, round)?;
     Ok(())
 }

@@ -6,7 +6,7 @@ ghost use Rattle.sweep_core.specs.Undecided.{visits, IsUndecided};
 ghost use Rattle.sweep_core.specs.Visits.{IsRising};
 ghost use Rattle.sweep_core.specs.Outcomes.{Leads};
 
-use crate::round::{Round, visit_all};
+use crate::round::{Round, make_round};
 use crate::trial::Trial;
 use crate::undecided::Undecided;
 use std::alloc::{AllocError, Global};
@@ -44,7 +44,7 @@ pub fn sweep<T: Trial>(alloc: Global, trial: &mut T) -> Result<Swept, AllocError
             changed: false,
             named: Vec::new(alloc),
         };
-        visit_all(alloc, trial, &mut round)?;
+        make_round(alloc, trial, &mut round)?;
         let Round { changed, named } = round;
         if !changed {
             return Ok(Swept {

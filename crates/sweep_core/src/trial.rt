@@ -24,7 +24,7 @@ pub trait Trial {
     ghost use Rattle.improve_settings.specs.Improve.{IsInRange};
     ghost use Rattle.window_theory.specs.Paths.{IsGate};
     ghost use Rattle.sweep_core.specs.Visits.{IsNextPartner};
-    ghost use Rattle.sweep_core.specs.Outcomes.{IsTried};
+    ghost use Rattle.sweep_core.specs.Outcomes.{IsTried, IsShrunk};
 
     /// The settings.
     ghost settings_of: { Self → ImproveSettings };
@@ -40,6 +40,11 @@ pub trait Trial {
     /// The net as it is.
     fn net(&self) -> &Net
         ensures { result.now ≡ net_of self.now };
+
+    /// Makes gates that are alike one, where that is to be done. Whether the net has become smaller.
+    fn merge_alike(&mut self, alloc: Global) -> Result<bool, AllocError>
+        ensures asked { IfOk result (λ _. settings_of self.new ≡ settings_of self.old) }
+        ensures shrunk { IfOk result (λ merged. IsShrunk (settings_of self.old) (net_of self.old) (net_of self.new) merged) };
 
     /// Tries the window of a root, a partner or none, and a count from 1 to the cap. There may be no such
     /// window, and the place of the partner may be none of a partner.

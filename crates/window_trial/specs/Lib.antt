@@ -4,5 +4,6 @@ pub mod ReplacingLaws
 pub mod Trying
 pub mod AskingLaws
 pub mod TryingLaws
+pub mod MergedLaws
 pub mod Improvement
 pub mod ImprovementLaws

@@ -3,7 +3,7 @@
 //!
 //! It stands on `window_core` for the windows and what they have to compute, on `observe_core` for what those who see
 //! them ask, on `decide_core` for the search of a shorter chain, on `subst_core` for the net in which a chain has taken
-//! a window's place, and it is a `Trial` of `sweep_core`. The net and its index are kept together; the index is made anew when the net changes.
+//! a window's place, on `merge_core` for gates that are alike, and it is a `Trial` of `sweep_core`. The net and its index are kept together; the index is made anew when the net changes.
 //!
 //! The one theorem is that of `improve_net`, which drops dead gates and then sweeps: what is left answers what the
 //! net answers, and once it is settled no window up to the cap has a shorter chain for what the settings ask of it, but
@@ -17,6 +17,7 @@
 
 mod asking;
 mod improving;
+mod merging;
 mod partners;
 mod replacing;
 mod trying;

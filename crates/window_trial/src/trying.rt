@@ -8,6 +8,7 @@ ghost use Rattle.window_core.specs.Readers.{AreReaders};
 ghost use Rattle.window_trial.specs.Trying.{IsDecidedFor, IsOutcome};
 
 use crate::asking::asked_spec;
+use crate::merging::merged;
 use crate::partners::{is_partner_or_none, next_partner};
 use crate::replacing::with_chain;
 use decide_core::{Decided, Heading, Memory, decide};
@@ -195,6 +196,21 @@ impl Trial for WindowTrial {
 
     fn net(&self) -> &Net {
         &self.net
+    }
+
+    // A cap of 1 leaves two gates that are alike: each of them alone needs a step.
+    #[tactic(auto, using(crate::specs::MergedLaws::merging))]
+    fn merge_alike(&mut self, alloc: Global) -> Result<bool, AllocError> {
+        if self.settings.cap < 2 {
+            return Ok(false);
+        }
+        match merged(alloc, &self.net)? {
+            None => Ok(false),
+            Some(net) => {
+                self.put(alloc, net)?;
+                Ok(true)
+            }
+        }
     }
 
     #[tactic(auto, using(crate::specs::TryingLaws::trying))]

@@ -1,0 +1,17 @@
+-- The place goes where it is said, and the gate that was looked up is the one with its operands where they went.
+use Rattle.std.proofs.Common.{subst, ap, ◌∙◌}
+use Rattle.net_theory.specs.declared.data.Sig.{Sig}
+use Rattle.net_theory.specs.Expansion.{gate_of}
+use Rattle.net_theory.specs.declared.data.Gate.{Gate}
+use Rattle.merge_core.specs.Merging.{IsPut}
+use Rattle.merge_core.specs.MergingLaws.{places_put}
+use Rattle.merge_core.proofs.merging.merge_gate.Goals as goal
+
+pub returns-clause-passed : goal.returns-clause-passed
+returns-clause-passed c = record {
+  index = c.in_ok-index.index;
+  put = subst (λ (g : Gate). IsPut g c.args.gates.now.items c.index_of.new.gates.items c.in_ok-index.index)
+      (ap (λ (s : Sig). gate_of c.args.gate.now.op s c.moved-2.result) c.moved.ensures ∙ ap (gate_of c.args.gate.now.op _) c.moved-2.ensures)
+      c.in_ok-index.ensures.put;
+  places = places_put _ _ _ c.requires.within;
+}

@@ -1,0 +1,22 @@
+-- The form of a gate.
+use Rattle.std.specs.Prelude.{ℕ, ◌+◌, nat_le, if◌then◌else◌}
+use Rattle.op_basis.specs.Closed.{swapped}
+use Rattle.net_theory.specs.declared.data.Sig.{Sig}
+use Rattle.net_theory.specs.declared.data.Sig.TheVariants.{Zero, One, Place}
+use Rattle.net_theory.specs.declared.data.Gate.{Gate}
+use Rattle.merge_core.specs.declared.form.Form.{Form}
+
+-- a signal as a number: the constants, and then the places
+abbrev pub code : Sig → ℕ
+code Zero = 0
+code One = 1
+code (Place p) = 2 + p
+
+-- The operator and the operands as numbers. Where the second is the lesser one they are exchanged, and the operator with
+-- them.
+-- Example: AND of the places 3 and 2 and AND of 2 and 3 have the form 1, 4, 5; 3 and not 2 and not 2 and 3 have the form 4, 4, 5.
+unfoldable pub form_of : Gate → Form
+form_of g =
+    if nat_le (code g.a) (code g.b)
+    then record { word = g.op; low = code g.a; high = code g.b }
+    else record { word = swapped g.op; low = code g.b; high = code g.a }

@@ -1,0 +1,66 @@
+-- Nets in which gates that are alike are one.
+use Rattle.std.specs.Prelude.{◌≡◌, ℕ, ◌+◌, ◌≤◌, ◌<◌, List, [], ◌∷◌, ◌++◌, length, map, slice_get, Some, ◌⊎◌}
+use Rattle.net_theory.specs.declared.data.Sig.TheVariants.{Place}
+use Rattle.net_theory.specs.declared.data.Gate.{Gate}
+use Rattle.net_theory.specs.Net.{Net, end_of, value}
+use Rattle.net_theory.specs.Moving.{Kept, moved, moved_gate, put_sig}
+use Rattle.net_theory.specs.MovingLaws.{Moves}
+use Rattle.merge_core.specs.declared.form.Form.{Form}
+use Rattle.merge_core.specs.Form.{form_of}
+
+-- no two of the gates have one form
+pub record AreApart (gates : List Gate) : Type 0 where
+  pub apart : (i j : ℕ) (g h : Gate) → slice_get gates i ≡ Some g → slice_get gates j ≡ Some h → form_of g ≡ form_of h → i ≡ j
+
+-- some gate of the net has the operator
+pub record IsOperatorOf (n : Net) (op : ℕ) : Type 0 where
+  pub index : ℕ
+  pub gate : Gate
+  pub at : slice_get n.gates index ≡ Some gate
+  pub same : gate.op ≡ op
+
+-- each operator of the gates is that of a gate of the net
+pub record HaveOperatorsOf (n : Net) (gates : List Gate) : Type 0 where
+  pub each : (j : ℕ) (h : Gate) → slice_get gates j ≡ Some h → IsOperatorOf n h.op
+
+-- ---- the walk
+
+-- The gates are those before, or the gate is put behind them; at the index stands one of its form.
+pub record IsPut (gate : Gate) (before after : List Gate) (index : ℕ) : Type 0 where
+  pub grown : (after ≡ before) ⊎ (after ≡ before ++ gate ∷ [])
+  pub there : Gate
+  pub at : slice_get after index ≡ Some there
+  pub same : form_of there ≡ form_of gate
+
+-- The gate of a place is passed: its place goes to that of a gate of the form that it has where its operands went.
+pub record IsPassed (sources place : ℕ) (g : Gate) (k m : Kept) : Type 0 where
+  pub index : ℕ
+  pub put : IsPut (moved_gate k.places g) k.gates m.gates index
+  pub places : m.places ≡ put_sig k.places place (Place (sources + 1 + index))
+
+-- a place below this one
+abbrev pub IsPlaceBelow : ℕ → ℕ → Type 0
+IsPlaceBelow place p = (1 ≤ p) × (p < place)
+
+-- All places below this one went to signals that have their values, and the sources to themselves; each gate that was put
+-- there has the operator of a gate of the net.
+pub record IsMerged (n : Net) (place : ℕ) (k : Kept) : Type 0 where
+  pub moves : Moves n.sources (value n) (IsPlaceBelow place) k
+  pub stay : (p : ℕ) → p ≤ n.sources → k.places p ≡ Place p
+  pub few : n.sources + 1 + length k.gates ≤ place
+  pub old : HaveOperatorsOf n k.gates
+
+-- the net of the gates that were put there, and the sinks where they went
+abbrev pub net_with : Net → Kept → Net
+net_with n k = record { sources = n.sources; gates = k.gates; sinks = map (moved k.places) n.sinks }
+
+-- the forms that the gates have, each once
+pub record AreForms (forms : List Form) (gates : List Gate) : Type 0 where
+  pub forms_are : forms ≡ map form_of gates
+  pub apart : AreApart gates
+
+-- the gates of the net from this place on
+pub record AreLeft (n : Net) (place : ℕ) (left : List Gate) : Type 0 where
+  pub all : place + length left ≡ end_of n
+  pub behind : n.sources + 1 ≤ place
+  pub each : (i j : ℕ) (g : Gate) → slice_get left i ≡ Some g → n.sources + 1 + j ≡ place + i → slice_get n.gates j ≡ Some g

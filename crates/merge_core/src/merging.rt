@@ -1,0 +1,108 @@
+//! The walk over the gates. A table says where each place went; the forms of the gates that are kept stand in a set in
+//! the order of these gates, so that the index of a form is that of its gate.
+ghost use Rattle.std.specs.Prelude.{◌≡◌, ◌+◌, ◌≤◌, ◌<◌, ◌^◌, length, IfOk, OnOk, vec_len};
+ghost use Rattle.net_theory.specs.Net.{IsGateAt, end_of};
+ghost use Rattle.net_theory.specs.Answers.{Answers};
+ghost use Rattle.net_theory.specs.Moving.{sources_stay};
+ghost use Rattle.net_core.specs.Marks.{places_of, kept};
+ghost use Rattle.merge_core.specs.Merging.{AreApart, AreForms, HaveOperatorsOf, IsPut, IsPassed, IsMerged};
+
+use crate::form::{Form, form_of};
+use indexmap::IndexSet;
+use net_core::{Gate, Net, Sig, moved, moved_sinks, start_places};
+use std::alloc::{AllocError, Global};
+
+/// The index of the gate that has a gate's form. Where there is none the gate is put behind the others.
+fn index_of(
+    gate: &Gate,
+    forms: &mut IndexSet<Form>,
+    gates: &mut Vec<Gate>,
+) -> Result<u32, AllocError>
+    requires forms { AreForms forms.old.keys gates.old.items }
+    requires room { vec_len gates.old < 2 ^ 31 }
+    ensures forms { OnOk result (AreForms forms.new.keys gates.new.items) }
+    ensures put { IfOk result (λ index. IsPut gate.now gates.old.items gates.new.items index) }
+{
+    let (index, is_new) = forms.insert_full(form_of(gate))?;
+    if !is_new {
+        return Ok(index as u32);
+    }
+    gates.push(*gate)?;
+    Ok(index as u32)
+}
+
+/// Passes the gate of a place: it is put behind the others with its operands where they went, or its place goes to the gate
+/// that has its form.
+fn merge_gate(
+    sources: u32,
+    place: usize,
+    gate: &Gate,
+    forms: &mut IndexSet<Form>,
+    gates: &mut Vec<Gate>,
+    places: &mut [Sig],
+) -> Result<(), AllocError>
+    requires gate { IsGateAt place gate.now }
+    requires within { place < length places.old }
+    requires room { sources + 1 + vec_len gates.old ≤ place }
+    requires small { place < 2 ^ 31 }
+    requires forms { AreForms forms.old.keys gates.old.items }
+    ensures forms { OnOk result (AreForms forms.new.keys gates.new.items) }
+    ensures passed { OnOk result (IsPassed sources place gate.now (kept places.old gates.old.items) (kept places.new gates.new.items)) }
+{
+    let moved = Gate {
+        op: gate.op,
+        a: moved(places, gate.a),
+        b: moved(places, gate.b),
+    };
+    let index = index_of(&moved, forms, gates)?;
+    places[place] = Sig::Place(sources + 1 + index);
+    Ok(())
+}
+
+/// Merges the gates of a net, from the first to the last, and says where their places went.
+fn merge_gates(alloc: Global, net: &Net, places: &mut [Sig]) -> Result<Vec<Gate>, AllocError>
+    requires start { places_of places.old ≡ sources_stay net.now.sources }
+    requires count { length places.old ≡ end_of net.now }
+    ensures merged { IfOk result (λ gates. IsMerged net.now (end_of net.now) (kept places.new gates.items)) }
+    ensures apart { IfOk result (λ gates. AreApart gates.items) }
+{
+    let sources = net.sources();
+    let mut forms = IndexSet::new(alloc);
+    let mut gates = Vec::new(alloc);
+    let mut place = sources as usize + 1;
+    let mut left = net.gates();
+    while let Some((gate, rest)) = left.split_first() {
+        merge_gate(sources, place, gate, &mut forms, &mut gates, places)?;
+        place += 1;
+        left = rest;
+    }
+    Ok(gates)
+}
+
+/// The net of the gates that are left, with its sinks where they went.
+fn merge_in(alloc: Global, net: &Net, places: &mut [Sig]) -> Result<Net, AllocError>
+    requires start { places_of places.old ≡ sources_stay net.now.sources }
+    requires count { length places.old ≡ end_of net.now }
+    ensures answers { IfOk result (Answers net.now) }
+    ensures operators { IfOk result (λ merged. HaveOperatorsOf net.now merged.gates) }
+    ensures apart { IfOk result (λ merged. AreApart merged.gates) }
+{
+    let gates = merge_gates(alloc, net, places)?;
+    let sinks = moved_sinks(alloc, places, net.sinks())?;
+    Ok(Net::new(net.sources(), gates, sinks))
+}
+
+/// The net in which gates that are alike are one: of those of one form the first is left, and all who read one of them
+/// read that one.
+///
+/// It answers what the net answers, with no more gates, each of which has the operator of a gate of the net.
+pub fn merge_alike(alloc: Global, net: &Net) -> Result<Net, AllocError>
+    ensures answers { IfOk result (Answers net.now) }
+    ensures operators { IfOk result (λ merged. HaveOperatorsOf net.now merged.gates) }
+    ensures apart { IfOk result (λ merged. AreApart merged.gates) }
+{
+    let sources = net.sources();
+    let count = sources + 1 + net.gates().len() as u32;
+    let mut places = start_places(alloc, sources, count)?;
+    merge_in(alloc, net, &mut places)
+}
