@@ -1,12 +1,17 @@
-//! Tests of the program on memory: what each command answers, and one table of hostile cases: every read, every
-//! write and every note failing in its turn, limits at their values and one past them, and chains of the fewest levels.
+//! Tests of the program on memory: what words ask for, what each command answers, and one table of hostile cases:
+//! every read, every write and every note failing in its turn, limits at their values and one past them, and chains
+//! of the fewest levels.
 #![tactic(auto)]
 
+#[cfg(test)]
+mod commands;
 #[cfg(test)]
 mod depths;
 #[cfg(test)]
 mod faults;
 #[cfg(test)]
 mod limits;
+#[cfg(test)]
+mod lines;
 #[cfg(test)]
 mod running;

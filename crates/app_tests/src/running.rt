@@ -16,6 +16,11 @@ impl Seen {
     pub(crate) fn is(&self, status: u8, out: &[u8], note: &[u8]) -> bool {
         self.status == status && self.out.written() == out && self.note.written() == note
     }
+
+    /// The same of texts.
+    pub(crate) fn tells(&self, status: u8, out: &str, note: &str) -> bool {
+        self.is(status, out.as_bytes(), note.as_bytes())
+    }
 }
 
 /// Which call of a port fails: this one, all up to this one, or none.
@@ -38,12 +43,29 @@ fn calls(alloc: Global, fails: Fails) -> Result<Vec<u64>, AllocError> {
 }
 
 /// The words of a line, which blanks part.
-fn words_of(alloc: Global, line: &str) -> Result<Vec<String>, AllocError> {
+pub(crate) fn words_of(alloc: Global, line: &str) -> Result<Vec<String>, AllocError> {
     let mut words = Vec::new(alloc);
     for word in line.split(' ') {
         words.push(String::from_str(alloc, word)?)?;
     }
     Ok(words)
+}
+
+/// Runs on memory, where these calls of the source, of the output and of the notes fail.
+pub(crate) fn run_failing(
+    alloc: Global,
+    line: &str,
+    input: &[u8],
+    reads: Vec<u64>,
+    writes: Vec<u64>,
+    notes: Vec<u64>,
+) -> Result<Seen, AllocError> {
+    let words = words_of(alloc, line)?;
+    let mut source = MemorySource::new(Vec::from_slice(alloc, input)?, reads);
+    let mut out = MemorySink::new(alloc, writes);
+    let mut note = MemorySink::new(alloc, notes);
+    let status = run(alloc, &words, &mut source, &mut out, &mut note).number();
+    Ok(Seen { status, out, note })
 }
 
 /// Runs on memory, where calls of the source, of the output and of the notes may fail.
@@ -55,12 +77,10 @@ pub(crate) fn run_on(
     writes: Fails,
     notes: Fails,
 ) -> Result<Seen, AllocError> {
-    let words = words_of(alloc, line)?;
-    let mut source = MemorySource::new(Vec::from_slice(alloc, input)?, calls(alloc, reads)?);
-    let mut out = MemorySink::new(alloc, calls(alloc, writes)?);
-    let mut note = MemorySink::new(alloc, calls(alloc, notes)?);
-    let status = run(alloc, &words, &mut source, &mut out, &mut note).number();
-    Ok(Seen { status, out, note })
+    let reads = calls(alloc, reads)?;
+    let writes = calls(alloc, writes)?;
+    let notes = calls(alloc, notes)?;
+    run_failing(alloc, line, input, reads, writes, notes)
 }
 
 /// Runs where nothing fails.

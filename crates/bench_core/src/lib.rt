@@ -19,5 +19,4 @@ mod writing;
 
 pub use net_core::{Circuit, NetError};
 pub use reading::read_bench;
-pub use spelling::write_document;
 pub use writing::{first_source, write_bench, write_gates};

@@ -52,11 +52,11 @@ fn push_tables(text: &mut Vec<u8>, source: &[u8], tables: &[Table]) -> Result<()
     Ok(())
 }
 
-/// Appends the BENCH text of a document whose tables have at most two inputs: the inputs, the outputs,
+/// Adds the BENCH text of a document whose tables have at most two inputs: the inputs, the outputs,
 /// the latches without their controls and first values, and the tables as gates. A table without inputs
 /// is made of a source.
 #[tactic(auto, unfolding(crate::specs::Spelling::spelled))]
-pub fn write_document(
+pub(crate) fn write_document(
     text: &mut Vec<u8>,
     source: &[u8],
     document: &Document,

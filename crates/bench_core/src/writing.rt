@@ -1,5 +1,5 @@
-//! The one writer: the document as which BLIF would write a circuit, spelled as gates in a text of its own
-//! and appended at once, so that nothing is appended where memory is wanting.
+//! The one writer: the document as which BLIF would write a circuit, spelled as gates and appended at once,
+//! so that nothing is appended where memory is wanting.
 
 ghost use Rattle.std.specs.Prelude.{◌≡◌, ◌++◌, OnOk, OnErr};
 ghost use Rattle.net_theory.specs.Circuit.{IsProper};
@@ -29,7 +29,8 @@ pub fn first_source(circuit: &Circuit) -> &[u8]
     }
 }
 
-/// Appends the BENCH text of a circuit, by the document as which BLIF would write it.
+/// Appends the BENCH text of a circuit, by the document as which BLIF would write it: made in a text of its own
+/// and appended at once, so that nothing is appended where memory is wanting.
 #[tactic(auto, using(crate::proofs::Small::smalls))]
 pub fn write_gates(
     text: &mut Vec<u8>,
@@ -37,9 +38,12 @@ pub fn write_gates(
     document: &Document,
 ) -> Result<(), AllocError>
     requires { document.now ≡ written circuit.now }
-    ensures { OnOk result (text.new.items ≡ text.old.items ++ circuit_text circuit.now) }
+    ensures ok { OnOk result (text.new.items ≡ text.old.items ++ circuit_text circuit.now) }
+    ensures err { OnErr result (text.new.items ≡ text.old.items) }
 {
-    write_document(text, first_source(circuit), document)
+    let mut whole = Vec::new(*text.allocator());
+    write_document(&mut whole, first_source(circuit), document)?;
+    text.extend_from_slice(&whole)
 }
 
 /// Appends the BENCH text of a circuit: the inputs, the outputs, the latches, the gates in the order of
@@ -55,9 +59,6 @@ pub fn write_bench(circuit: &Circuit, out: &mut Vec<u8>) -> Result<(), AllocErro
     ensures room { OnOk result (HasRoom circuit.now) }
     ensures err { OnErr result (out.new.items ≡ out.old.items) }
 {
-    let alloc = *out.allocator();
-    let document = document_of(alloc, circuit)?;
-    let mut text = Vec::new(alloc);
-    write_gates(&mut text, circuit, &document)?;
-    out.extend_from_slice(&text)
+    let document = document_of(*out.allocator(), circuit)?;
+    write_gates(out, circuit, &document)
 }

@@ -1,6 +1,6 @@
 //! Documents as texts.
 
-ghost use Rattle.std.specs.Prelude.{◌≡◌, ◌+◌, ◌++◌, All, OnOk};
+ghost use Rattle.std.specs.Prelude.{◌≡◌, ◌+◌, ◌++◌, All, OnOk, OnErr};
 ghost use Rattle.std.specs.List.{flat_map};
 ghost use Rattle.net_theory.specs.WellFormed.{IsInit};
 ghost use Rattle.blif_core.specs.Spelling.{HasInit};
@@ -202,10 +202,9 @@ fn push_model(text: &mut Vec<u8>, model: &[u8]) -> Result<(), AllocError>
     Ok(())
 }
 
-/// Appends the BLIF text of a document (the Berkeley BLIF manual): the model, the inputs, outputs and
-/// clocks, 16 on a line, the latches, the tables with their cover lines, and `.end`.
+/// Adds the lines of a document.
 #[tactic(auto, unfolding(crate::specs::Spelling::spelled))]
-pub fn write_document(text: &mut Vec<u8>, document: &Document) -> Result<(), AllocError>
+fn push_document(text: &mut Vec<u8>, document: &Document) -> Result<(), AllocError>
     requires { All HasInit document.now.latches }
     ensures { OnOk result (text.new.items ≡ text.old.items ++ spelling.spelled document.now) }
 {
@@ -217,4 +216,17 @@ pub fn write_document(text: &mut Vec<u8>, document: &Document) -> Result<(), All
     push_tables(text, &document.tables)?;
     text.extend_from_slice(b".end\n")?;
     Ok(())
+}
+
+/// Appends the BLIF text of a document (the Berkeley BLIF manual): the model, the inputs, outputs and
+/// clocks, 16 on a line, the latches, the tables with their cover lines, and `.end`. It is made in a text of
+/// its own and appended at once, so that nothing is appended where memory is wanting.
+pub fn write_document(text: &mut Vec<u8>, document: &Document) -> Result<(), AllocError>
+    requires { All HasInit document.now.latches }
+    ensures ok { OnOk result (text.new.items ≡ text.old.items ++ spelling.spelled document.now) }
+    ensures err { OnErr result (text.new.items ≡ text.old.items) }
+{
+    let mut whole = Vec::new(*text.allocator());
+    push_document(&mut whole, document)?;
+    text.extend_from_slice(&whole)
 }

@@ -1,5 +1,5 @@
-//! The one writer: the document as which a circuit is written, spelled in a text of its own and appended at
-//! once, so that nothing is appended where memory is wanting.
+//! The one writer: the document as which a circuit is written, spelled and appended at once, so that nothing is
+//! appended where memory is wanting.
 
 ghost use Rattle.std.specs.Prelude.{◌≡◌, ◌++◌, OnOk, OnErr};
 ghost use Rattle.net_theory.specs.Circuit.{IsProper};
@@ -21,9 +21,6 @@ pub fn write_blif(circuit: &Circuit, out: &mut Vec<u8>) -> Result<(), AllocError
     ensures room { OnOk result (HasRoom circuit.now) }
     ensures err { OnErr result (out.new.items ≡ out.old.items) }
 {
-    let alloc = *out.allocator();
-    let document = document_of(alloc, circuit)?;
-    let mut text = Vec::new(alloc);
-    write_document(&mut text, &document)?;
-    out.extend_from_slice(&text)
+    let document = document_of(*out.allocator(), circuit)?;
+    write_document(out, &document)
 }

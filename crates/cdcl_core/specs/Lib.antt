@@ -1,3 +1,4 @@
+pub mod Budgets
 pub mod Verdicts
 pub mod Levels
 pub mod Choosing

@@ -4,6 +4,7 @@ ghost use Rattle.sat_theory.specs.Formula.{Formula, bits_of, Satisfies};
 ghost use Rattle.sat_theory.specs.Log.{Refutes, IsSpent, IsKept, IsThrifty, IsThinned};
 ghost use Rattle.lrat_text.specs.Values.{line_values};
 ghost use Rattle.clause_db.specs.Stored.{IsStored};
+ghost use Rattle.cdcl_core.specs.Budgets.{most_budget};
 ghost use Rattle.cdcl_core.specs.Searching.{IsAccounted};
 ghost use Rattle.cdcl_core.specs.Endings.{HasRefuted, HasSpent};
 ghost use Rattle.cdcl_core.specs.Answering.{IfSat, IfUnsat, IfOpen, IfLogged, IsDecided};
@@ -28,7 +29,7 @@ pub enum Solved {
 /// is Open at the first decision that is due after so many.
 pub fn solve(alloc: Global, cnf: &Cnf, budget: u32) -> Result<Solved, AllocError>
     requires some { 0 < budget }
-    requires most { budget ≤ 10000000 }
+    requires most { budget ≤ most_budget }
     ensures bits { IfOk result (λ s. IfSat s (λ bits. length bits ≡ cnf.now.vars)) }
     ensures sat { IfOk result (λ s. IfSat s (λ bits. Satisfies (bits_of bits) cnf.now)) }
     ensures unsat { IfOk result (λ s. IfUnsat s (Refutes cnf.now)) }

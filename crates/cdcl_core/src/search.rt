@@ -6,6 +6,7 @@ ghost use Rattle.sat_theory.specs.Formula.{Formula};
 ghost use Rattle.cdcl_theory.specs.Falling.{AllSettled, IsFalsified};
 ghost use Rattle.cdcl_theory.specs.Trails.{fell as fell_of};
 ghost use Rattle.clause_db.specs.Stored.{live_in, IsStored};
+ghost use Rattle.cdcl_core.specs.Budgets.{most_budget};
 ghost use Rattle.cdcl_core.specs.Levels.{IsFirstStart, IsLastStart};
 
 use crate::choosing::Choice;
@@ -270,7 +271,7 @@ impl Search {
     /// Searches until the formula is decided, or a decision is due after `budget` additions.
     pub(crate) fn run(&mut self, budget: u32) -> Result<Ending, AllocError>
         requires searching { IsSearching self.old }
-        requires budget { budget ≤ 10000000 }
+        requires budget { budget ≤ most_budget }
         requires few { length self.old.clauses.clauses < 2000000000 }
         requires given { self.old.given ≡ length self.old.clauses.clauses }
         requires starts { self.old.starts.items ≡ [] }
@@ -289,7 +290,7 @@ impl Search {
     fn go_on(&mut self, budget: u32) -> Result<Ending, AllocError>
         requires searching { IsSearching self.old }
         requires visited { IsVisited self.old }
-        requires budget { budget ≤ 10000000 }
+        requires budget { budget ≤ most_budget }
         requires few { length self.old.clauses.clauses < 2000000000 }
         requires given { self.old.given ≡ length self.old.clauses.clauses }
         requires starts { self.old.starts.items ≡ [] }

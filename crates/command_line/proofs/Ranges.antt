@@ -12,7 +12,7 @@ use Rattle.enc_theory.specs.declared.data.Method.{Method}
 use Rattle.enc_theory.specs.declared.data.Method.TheVariants.{Plain, Ssv, Select, Fence}
 use Rattle.settings.specs.declared.synth.SynthSettings.{SynthSettings}
 use Rattle.improve_settings.specs.declared.improve.ImproveSettings.{ImproveSettings}
-use Rattle.settings.specs.Synth.{IsInRange}
+use Rattle.settings.specs.Synth.{IsInRange, most_conflicts}
 use Rattle.improve_settings.specs.Improve as improver
 use Rattle.command_line.specs.declared.command.Command.{Command}
 use Rattle.command_line.specs.declared.command.Command.TheVariants as commands
@@ -226,10 +226,10 @@ rounds_range words n e =
     (λ (x : ℕ) at. let same = some_is 1000 x at in (omega (arith, same), omega (arith, same)))
     (word_behind rounds_row.name words) n e
 
-conflicts_range : (words : List (List ℕ)) (n : ℕ) → value conflicts_row words ≡ Some n → (1 ≤ n) × (n ≤ 10000000)
+conflicts_range : (words : List (List ℕ)) (n : ℕ) → value conflicts_row words ≡ Some n → (1 ≤ n) × (n ≤ most_conflicts)
 conflicts_range words n e =
-    in_row conflicts_row (λ (x : ℕ). (1 ≤ x) × (x ≤ 10000000))
-    (λ (word : List ℕ) (x : ℕ) at. number_range 1 10000000 x word (omega arith) at)
+    in_row conflicts_row (λ (x : ℕ). (1 ≤ x) × (x ≤ most_conflicts))
+    (λ (word : List ℕ) (x : ℕ) at. number_range 1 most_conflicts x word (omega arith) at)
     (λ (x : ℕ) at. let same = some_is 100000 x at in (omega (arith, same), omega (arith, same)))
     (word_behind conflicts_row.name words) n e
 

@@ -26,6 +26,3 @@ pub use command::{Command, Deed, Format, WordsError};
 pub use improve_settings::ImproveSettings;
 pub use settings::SynthSettings;
 pub use words::read_words;
-
-#[cfg(test)]
-mod tests;

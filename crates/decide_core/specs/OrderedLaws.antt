@@ -1,6 +1,5 @@
 -- What tables with their inputs in another order say of a heading.
 use Rattle.std.proofs.Common.{◌≡◌, ℕ, ◌+◌, List, subst}
-use Rattle.std.proofs.lemmas.Grind.{common_steps}
 use Rattle.chain_theory.specs.Agreement.{NoneBelow}
 use Rattle.tt_core.specs.Words.{Words, IsSpec, specification}
 use Rattle.op_basis.specs.Basis.{members}

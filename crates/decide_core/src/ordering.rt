@@ -3,13 +3,11 @@
 //! left open, the tables as they are asked for are searched with a certificate.
 ghost use Rattle.std.specs.Prelude.{◌≡◌, ◌<◌, ◌≤◌, length, IfSome, IfOk};
 ghost use Rattle.tt_core.specs.Words.{specification};
-ghost use Rattle.op_basis.specs.Basis.{members};
-ghost use Rattle.chain_theory.specs.Agreement.{NoneBelow};
 ghost use Rattle.cert_theory.specs.Bundle.{IsHeading};
 ghost use Rattle.spec_order.specs.Order.{IsOrder, IsTurned};
 ghost use Rattle.decide_core.specs.Decided.{IsDecided, IsShorter};
 
-use crate::deciding::{Decided, Sized, no_steps, search_from, search_whole};
+use crate::deciding::{Decided, Sized, no_steps, search_whole};
 use crate::remembering::{decide_sizes, serves};
 use bound_core::lower_bound;
 use bundle_core::Heading;

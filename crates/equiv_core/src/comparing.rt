@@ -3,6 +3,7 @@
 ghost use Rattle.std.specs.Prelude.{◌≡◌, ◌≤◌, ◌<◌, ◌*◌, ◌^◌, length, Err, IfOk, IfErr};
 ghost use Rattle.sat_theory.specs.Formula.{bits_of, Satisfies};
 ghost use Rattle.sat_theory.specs.Log.{Refutes, IsSpent, IsKept};
+ghost use Rattle.cdcl_core.specs.Budgets.{most_budget};
 ghost use Rattle.net_theory.specs.Circuit.{IsProper};
 ghost use Rattle.net_document.specs.Alike.{AreAlike};
 ghost use Rattle.equiv_theory.specs.Miter.{miter as miter_of, variables};
@@ -64,7 +65,7 @@ fn compare(
     requires comparable { AreComparable first.now second.now }
     requires small { IsSmall first.now }
     requires miter { cnf.now ≡ miter_of first.now second.now }
-    requires budget { (1 ≤ budget) × (budget ≤ 10000000) }
+    requires budget { (1 ≤ budget) × (budget ≤ most_budget) }
     ensures equal { IfOk result (λ e. IfEqual e (Refutes (miter_of first.now second.now))) }
     ensures differ { IfOk result (λ e. IfDiffer e (IsFirstDifference first.now second.now)) }
     ensures undecided { IfOk result (λ e. IfUndecided e (λ lines. IsSpent (miter_of first.now second.now) lines budget)) }
@@ -98,7 +99,7 @@ pub fn equiv(
     requires second { IsProper second.now }
     requires small { IsSmall first.now.net }
     requires other { IsSmall second.now.net }
-    requires budget { (1 ≤ budget) × (budget ≤ 10000000) }
+    requires budget { (1 ≤ budget) × (budget ≤ most_budget) }
     ensures equal { IfOk result (λ e. IfEqual e (Refutes (miter_of first.now.net second.now.net))) }
     ensures alike { IfOk result (λ e. IfEqual e (λ _. AreAlike first.now second.now)) }
     ensures differ { IfOk result (λ e. IfDiffer e (IsFirstDifference first.now.net second.now.net)) }

@@ -1,5 +1,6 @@
 //! Two netlists read, and compared.
 ghost use Rattle.std.specs.Prelude.{◌≡◌, ◌≤◌, ◌<◌, ◌^◌, length, None, Err, IfOk, IfErr};
+ghost use Rattle.cdcl_core.specs.Budgets.{most_budget};
 ghost use Rattle.net_theory.specs.Circuit.{IsProper};
 ghost use Rattle.net_document.specs.Format.{IsCircuitOfText};
 ghost use Rattle.blif_core.specs.Blif.{blif_format};
@@ -54,7 +55,7 @@ fn compare_circuits(
     requires second { IsProper second.now }
     requires small { IsSmall first.now.net }
     requires other { IsSmall second.now.net }
-    requires budget { (1 ≤ conflicts) × (conflicts ≤ 10000000) }
+    requires budget { (1 ≤ conflicts) × (conflicts ≤ most_budget) }
     ensures told { IfOk result (λ c. IsCircuitTold conflicts first.now second.now c.text.items c.standing) }
     ensures refused { IfErr result (IsOther first.now second.now) }
 {
@@ -99,7 +100,7 @@ fn compare_circuits(
 /// refused for want of memory alone. No second is told before memory is asked for.
 pub fn compare_texts(alloc: Global, bytes: &[u8], conflicts: u32) -> Result<Compared, CompareError>
     requires small { length bytes.now ≤ most_of_two }
-    requires budget { (1 ≤ conflicts) × (conflicts ≤ 10000000) }
+    requires budget { (1 ≤ conflicts) × (conflicts ≤ most_budget) }
     ensures answer { IfOk result (λ c. IsAnswer conflicts bytes.now c.text.items c.standing) }
     ensures refused { IfErr result (IsRefusedPair bytes.now) }
     ensures second { split_of bytes.now ≡ None → result ≡ Err NoSecond }

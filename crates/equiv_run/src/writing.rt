@@ -1,5 +1,5 @@
 //! The texts that tell how two netlists compare.
-ghost use Rattle.std.specs.Prelude.{◌≡◌, ◌++◌, ◌+◌, ◌≤◌, length, codes, OnOk, IfOk};
+ghost use Rattle.std.specs.Prelude.{◌≡◌, ◌++◌, ◌+◌, ◌≤◌, length, OnOk, IfOk};
 ghost use Rattle.lrat_text.specs.Values.{line_values};
 ghost use Rattle.equiv_run.specs.Texts.{log_text, logged_text, characters, bits_text as bits_text_of, sink_text, differ_text as differ_text_of};
 

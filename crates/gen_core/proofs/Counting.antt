@@ -1,9 +1,9 @@
 -- Blocks, one after the other.
-use Rattle.std.proofs.Common.{◌≡◌, ℕ, zero, suc, ◌+◌, List, [], ◌∷◌, ◌++◌, refl, ap, sym, ◌∙◌, subst, arith}
+use Rattle.std.proofs.Common.{◌≡◌, ℕ, suc, ◌+◌, List, [], ◌++◌, refl, ap, sym, subst, arith}
 use Rattle.std.specs.Prelude.{All}
 use Rattle.std.proofs.lemmas.Grind.{common_steps}
 use Rattle.std.proofs.lemmas.List.Elements.{All-nil}
-use Rattle.net_theory.specs.Document.{LatchLine, Document}
+use Rattle.net_theory.specs.Document.{Document}
 use Rattle.blif_core.specs.Spelling.{HasInit}
 use Rattle.gen_core.specs.Generated.{of_blocks, generated}
 

@@ -1,5 +1,5 @@
 -- From operands' rows to the patterns of signals.
-use Rattle.std.proofs.Common.{◌≡◌, ◌∙◌, ℕ, zero, suc, ◌+◌, ◌-◌, ◌*◌, ◌/◌, ◌%◌, ◌^◌, ◌≤◌, ◌<◌, Bool, true, false, List, [], ◌∷◌, ◌++◌, length, map, take, set, get_or, Some, refl, ap, sym, subst, arith, pow_mono, pow-add, ⊎_elim, length-take-le, get_or-take, get_or-set_same, get_or-set_other, length-append, mul-le-mul_right}
+use Rattle.std.proofs.Common.{◌≡◌, ◌∙◌, ℕ, zero, suc, ◌+◌, ◌-◌, ◌*◌, ◌%◌, ◌^◌, ◌≤◌, ◌<◌, Bool, true, false, List, [], ◌∷◌, ◌++◌, length, map, take, set, get_or, Some, refl, ap, sym, subst, arith, pow_mono, pow-add, ⊎_elim, length-take-le, get_or-take, get_or-set_same, get_or-set_other, length-append, mul-le-mul_right}
 use Rattle.std.specs.Prelude.{slice_get, if◌then◌else◌}
 use Rattle.std.proofs.lemmas.Bool.{cases_lt, cases_Bool, cond-true, cond-false}
 use Rattle.std.proofs.lemmas.List.{length-map}

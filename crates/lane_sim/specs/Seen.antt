@@ -1,5 +1,5 @@
 -- Which patterns some of 64 assignments show, and which some of four words show.
-use Rattle.std.specs.Prelude.{◌≡◌, ℕ, zero, suc, ◌+◌, ◌*◌, ◌≤◌, ◌<◌, ◌^◌, ◌%◌, true, List, slice_get, slice_index_or, Some}
+use Rattle.std.specs.Prelude.{◌≡◌, ℕ, zero, suc, ◌+◌, ◌≤◌, ◌<◌, ◌^◌, ◌%◌, true, List, slice_get, slice_index_or, Some}
 use Rattle.chain_theory.specs.Operator.{digit}
 use Rattle.net_theory.specs.declared.data.Sig.{Sig}
 use Rattle.lane_sim.specs.declared.rows.Operand.{Operand}

@@ -1,7 +1,7 @@
 //! Which patterns signals show under all assignments, under those that give a further signal the bit 1, or under those
 //! that words name. Four words are taken at a time, and where all patterns were seen the search ends.
 
-ghost use Rattle.std.specs.Prelude.{◌≡◌, ℕ, ◌*◌, ◌/◌, ◌%◌, ◌≤◌, ◌<◌, ◌^◌, length, slice_index_or, All};
+ghost use Rattle.std.specs.Prelude.{◌*◌, ◌/◌, ◌%◌, ◌≤◌, ◌<◌, length, slice_index_or, All};
 ghost use Rattle.chain_theory.specs.Operator.{digit};
 ghost use Rattle.net_theory.specs.Net.{sig_value};
 ghost use Rattle.lane_sim.specs.Chosen.{chosen_at, AreChosenBelow};

@@ -2,9 +2,8 @@
 //! tail is evaluated with each number in their place, and its watchers' words are compared with those for the number 0.
 
 ghost use Rattle.std.specs.Prelude.{◌≡◌, ℕ, ◌+◌, ◌*◌, ◌≤◌, ◌<◌, ◌^◌, true, length, slice_index_or, slice_set, bit_or, bit_xor, IfOk, OnOk};
-ghost use Rattle.lane_sim.specs.Cone.{IsCone, places};
 ghost use Rattle.lane_sim.specs.Words.{width_of};
-ghost use Rattle.window_theory.specs.Places.{among, IsRising};
+ghost use Rattle.window_theory.specs.Places.{among};
 ghost use Rattle.observe_core.specs.Differing.{IsAdded, AreAdded, ArePutWords, AreTold, AreTelling};
 ghost use Rattle.observe_core.specs.Putting.{IsAbove};
 

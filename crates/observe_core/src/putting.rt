@@ -3,7 +3,6 @@
 ghost use Rattle.std.specs.Prelude.{◌≡◌, ℕ, ◌≤◌, true, [], length, if◌then◌else◌, IfOk, OnOk};
 ghost use Rattle.net_theory.specs.declared.data.Sig.TheVariants as sigs;
 ghost use Rattle.net_theory.specs.declared.data.Gate.{Gate as GateValue};
-ghost use Rattle.lane_sim.specs.Cone.{IsCone};
 ghost use Rattle.window_theory.specs.Places.{among};
 ghost use Rattle.window_theory.specs.Paths.{IsGate};
 ghost use Rattle.window_core.specs.Gates.{IsGateOf};

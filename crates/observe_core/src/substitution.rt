@@ -1,10 +1,9 @@
 //! A chain that agrees with what those who see a window ask of it takes its place.
 
-ghost use Rattle.std.specs.Prelude.{◌≡◌, ◌+◌, ◌≤◌, length, IfOk};
+ghost use Rattle.std.specs.Prelude.{◌+◌, ◌≤◌, length, IfOk};
 ghost use Rattle.net_theory.specs.Net as nets;
 ghost use Rattle.net_theory.specs.Answers.{Answers, IsPruned};
 ghost use Rattle.window_theory.specs.Window.{Belongs};
-ghost use Rattle.window_theory.specs.Splice.{IsSpliced};
 ghost use Rattle.subst_core.specs.Substitution.{HasRoom, IsSubstituted, HasOldOperators};
 ghost use Rattle.observe_core.specs.Observing.{MeetsSeen};
 

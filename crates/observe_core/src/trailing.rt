@@ -1,6 +1,6 @@
 //! The tail of a window, its side inputs, its watchers, and whether the window is seen past it.
 
-ghost use Rattle.std.specs.Prelude.{◌≡◌, ℕ, ◌≤◌, true, false, [], ◌⊎◌, IfOk, OnOk};
+ghost use Rattle.std.specs.Prelude.{◌≡◌, ℕ, true, false, [], ◌⊎◌, IfOk, OnOk};
 ghost use Rattle.net_theory.specs.Reach.{is_place};
 ghost use Rattle.window_theory.specs.Places.{among, IsRising, AreJust};
 ghost use Rattle.window_theory.specs.Paths.{IsGate};

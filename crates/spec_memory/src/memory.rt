@@ -1,5 +1,5 @@
 //! The memory: a map from the keys to what was found.
-ghost use Rattle.std.specs.Prelude.{◌≡◌, OnOk};
+ghost use Rattle.std.specs.Prelude.{◌≡◌};
 ghost use Rattle.op_basis.specs.Basis.{members};
 ghost use Rattle.spec_memory.specs.Facts.{IsFact};
 

@@ -10,8 +10,8 @@ use Rattle.chain_theory.specs.Operator.{Basis}
 use Rattle.chain_theory.specs.Rows.{row_digit, row_low}
 use Rattle.chain_theory.specs.Specification.{Specification, input}
 use Rattle.chain_theory.specs.Chain.{Step, Chain, IsStepAt, AreSteps, NamesPlace, IsChain}
-use Rattle.chain_theory.specs.Value.{step_value, values_on, out_value}
-use Rattle.chain_theory.specs.Agreement.{is_met, output_value, IsOver, Agrees, HasChain, NoneBelow}
+use Rattle.chain_theory.specs.Value.{values_on, out_value}
+use Rattle.chain_theory.specs.Agreement.{is_met, output_value, HasChain, NoneBelow}
 use Rattle.chain_theory.specs.declared.data.Out.{Out}
 use Rattle.chain_theory.specs.declared.data.Out.TheVariants.{Zero, One, Place}
 use Rattle.chain_laws.specs.Follow.{input_value, step_is, values_are}

@@ -1,17 +1,15 @@
 -- Words whose rows are turned.
-use Rattle.std.proofs.Common.{◌≡◌, ℕ, ◌+◌, ◌-◌, ◌^◌, ◌≤◌, ◌<◌, ◌==◌, Bool, true, false, List, length, map, refl, sym, ap, ◌∙◌, arith, subst, ⊎_elim}
+use Rattle.std.proofs.Common.{◌≡◌, ℕ, ◌+◌, ◌-◌, ◌^◌, ◌≤◌, ◌<◌, ◌==◌, Bool, false, List, length, map, refl, sym, ap, ◌∙◌, arith, subst, ⊎_elim}
 use Rattle.std.specs.Prelude.{slice_index, if◌then◌else◌}
 use Rattle.std.proofs.lemmas.Bool.{cases_lt, both_ways}
 use Rattle.std.proofs.lemmas.Grind.{common_steps}
 use Rattle.std.proofs.lemmas.List.{get_or-map, length-map, get_or_past}
 use Rattle.std.proofs.lemmas.Nat.Bits.{bit_at-zero, bit_at_above}
 use Rattle.chain_theory.specs.Operator.{digit}
-use Rattle.chain_theory.specs.Rows.{row_of, row_digit, row_low}
-use Rattle.chain_theory.specs.Specification.{Specification, input}
-use Rattle.chain_theory.specs.declared.data.Cell.{Cell}
+use Rattle.chain_theory.specs.Rows.{row_digit, row_low}
 use Rattle.chain_theory.specs.declared.data.Cell.TheVariants.{Zero, One, Free}
 use Rattle.tt_core.specs.Words.{Words, IsSpec, specification}
-use Rattle.spec_order.specs.Order.{IsOrder, turned_row, turned_word, IsTurned}
+use Rattle.spec_order.specs.Order.{turned_row, turned_word, IsTurned}
 
 zero_digit : (t : ℕ) → digit 0 t ≡ false
 zero_digit t = ap (λ (x : ℕ). x == 1) (bit_at-zero t)

@@ -1,10 +1,8 @@
 //! Counts what all windows of a net have.
 
-ghost use Rattle.std.specs.Prelude.{◌≡◌, ◌≤◌, ◌<◌, length, slice_get, Some};
-ghost use Rattle.net_theory.specs.Net.{end_of};
+ghost use Rattle.std.specs.Prelude.{◌≤◌, ◌<◌, Some};
 ghost use Rattle.window_theory.specs.Paths.{IsGate};
 ghost use Rattle.window_theory.specs.Window.{IsPartnerOrNone};
-ghost use Rattle.window_theory.specs.Partner.{ArePartners};
 ghost use Rattle.window_core.specs.Readers.{AreReaders};
 
 use net_core::Net;

@@ -1,4 +1,4 @@
-use Rattle.std.proofs.Common.{◌≡◌, ◌∙◌, ◌≤◌, true, length, arith}
+use Rattle.std.proofs.Common.{◌≡◌, ◌∙◌, true, length, arith}
 use Rattle.lane_sim.specs.declared.rows.Operand.TheVariants.{One}
 use Rattle.lane_sim.specs.Chosen.{chosen_at}
 use Rattle.lane_sim.specs.ChosenLaws.{chosen_shown, all_chosen, of_all}

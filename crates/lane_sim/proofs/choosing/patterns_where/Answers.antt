@@ -1,4 +1,4 @@
-use Rattle.std.proofs.Common.{◌≡◌, ◌∙◌, ◌≤◌, ℕ, length, ap, arith, subst, sym}
+use Rattle.std.proofs.Common.{◌≡◌, ◌∙◌, length, arith}
 use Rattle.net_theory.specs.Net.{sig_value}
 use Rattle.lane_sim.specs.Chosen.{chosen_at}
 use Rattle.lane_sim.specs.ChosenLaws.{chosen_shown, signal_chosen, signal_ends}

@@ -1,19 +1,11 @@
-//! Lines and what they ask for.
+//! Command lines, and what they ask for.
 
-use crate::{Command, Deed, Format, ImproveSettings, SynthSettings, WordsError, read_words};
+use crate::running::words_of;
+use command_line::{Command, Deed, Format, ImproveSettings, SynthSettings, WordsError, read_words};
 use op_basis::Basis;
 use settings::Method;
 use std::alloc::{AllocError, Global};
 use std::test::Fail;
-
-/// The words of a line, which blanks part.
-fn words_of(alloc: Global, line: &str) -> Result<Vec<String>, AllocError> {
-    let mut words = Vec::new(alloc);
-    for word in line.split(' ') {
-        words.push(String::from_str(alloc, word)?)?;
-    }
-    Ok(words)
-}
 
 /// What a line asks for; None where it asks for nothing.
 fn asked(alloc: Global, line: &str) -> Result<Option<Command>, AllocError> {

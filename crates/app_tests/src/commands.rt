@@ -1,6 +1,5 @@
 //! Runs of each command on memory, as tables: what comes in, the status, and what stands outside.
-use chain_app::run;
-use port_io::{MemorySink, MemorySource};
+use crate::running::{Seen, run_failing, told};
 use std::alloc::{AllocError, Global};
 use std::test::Fail;
 
@@ -21,31 +20,6 @@ const REFUSED: &str =
 const CUT: &str =
     "chains 1\ninputs 1\n10\nbasis 0001\nmethod ssv\nconflicts 100000\nmax 1\nsize 0\nrefuted\ndone\nsize 1\nrefuted\n27 -5 0 4 25 26 22 20 0\n28 0 4 25 26 27 18 16 0\ndone\n";
 
-/// What a run came to: its status, and what stands on the output and on the notes.
-#[derive(Debug, Drop)]
-struct Seen {
-    status: u8,
-    out: MemorySink,
-    note: MemorySink,
-}
-
-impl Seen {
-    fn is(&self, status: u8, out: &str, note: &str) -> bool {
-        self.status == status
-            && self.out.written() == out.as_bytes()
-            && self.note.written() == note.as_bytes()
-    }
-}
-
-/// The words of a line, which blanks part.
-fn words_of(alloc: Global, line: &str) -> Result<Vec<String>, AllocError> {
-    let mut words = Vec::new(alloc);
-    for word in line.split(' ') {
-        words.push(String::from_str(alloc, word)?)?;
-    }
-    Ok(words)
-}
-
 /// The numbers of the calls that are to fail, a digit each.
 fn failing(alloc: Global, digits: &str) -> Result<Vec<u64>, AllocError> {
     let mut calls = Vec::new(alloc);
@@ -62,18 +36,14 @@ fn run_on(
     input: &[u8],
     fails: (&str, &str, &str),
 ) -> Result<Seen, AllocError> {
-    let words = words_of(alloc, line)?;
-    let bytes = Vec::from_slice(alloc, input)?;
-    let mut source = MemorySource::new(bytes, failing(alloc, fails.0)?);
-    let mut out = MemorySink::new(alloc, failing(alloc, fails.1)?);
-    let mut note = MemorySink::new(alloc, failing(alloc, fails.2)?);
-    let status = run(alloc, &words, &mut source, &mut out, &mut note).number();
-    Ok(Seen { status, out, note })
-}
-
-/// Runs where nothing fails.
-fn told(alloc: Global, line: &str, input: &[u8]) -> Result<Seen, AllocError> {
-    run_on(alloc, line, input, ("", "", ""))
+    run_failing(
+        alloc,
+        line,
+        input,
+        failing(alloc, fails.0)?,
+        failing(alloc, fails.1)?,
+        failing(alloc, fails.2)?,
+    )
 }
 
 #[test]
@@ -102,7 +72,7 @@ fn agree_tells(rt: HostRuntime) -> Result<(), Fail> {
         ),
     ] {
         let seen = told(rt.alloc(), "agree", input.as_bytes())?;
-        assert!(rt; seen.is(status, out, note), "{input}");
+        assert!(rt; seen.tells(status, out, note), "{input}");
     }
     Ok(())
 }
@@ -116,7 +86,7 @@ fn recheck_tells(rt: HostRuntime) -> Result<(), Fail> {
         (CUT, 2, "", "error: Syntax 16\n"),
     ] {
         let seen = told(rt.alloc(), "recheck", input.as_bytes())?;
-        assert!(rt; seen.is(status, out, note), "{input}");
+        assert!(rt; seen.tells(status, out, note), "{input}");
     }
     Ok(())
 }
@@ -149,7 +119,7 @@ fn synth_tells(rt: HostRuntime) -> Result<(), Fail> {
         ("", XOR, 1, "", "error: Usage\n"),
     ] {
         let seen = told(rt.alloc(), line, input.as_bytes())?;
-        assert!(rt; seen.is(status, out, note), "{line}");
+        assert!(rt; seen.tells(status, out, note), "{line}");
     }
     Ok(())
 }
@@ -184,7 +154,7 @@ fn certificates_are_found_valid_again(rt: HostRuntime) -> Result<(), Fail> {
         let made = told(alloc, line, input.as_bytes())?;
         let judged = told(alloc, "recheck", made.out.written())?;
         assert_eq!(rt; made.status, status, "{line}");
-        assert!(rt; judged.is(0, verdict, ""), "{line}");
+        assert!(rt; judged.tells(0, verdict, ""), "{line}");
     }
     Ok(())
 }
@@ -199,7 +169,7 @@ fn faults_are_told(rt: HostRuntime) -> Result<(), Fail> {
         (("1", "", "1"), 5, "", ""),
     ] {
         let seen = run_on(rt.alloc(), "agree", XOR.as_bytes(), fails)?;
-        assert!(rt; seen.is(status, out, note), "{fails:?}");
+        assert!(rt; seen.tells(status, out, note), "{fails:?}");
     }
     Ok(())
 }
@@ -226,7 +196,7 @@ fn reports_are_cut_where_the_notes_fail(rt: HostRuntime) -> Result<(), Fail> {
             TWO.as_bytes(),
             ("", "", calls),
         )?;
-        assert!(rt; seen.is(status, ONE_LEFT, note), "{calls}");
+        assert!(rt; seen.tells(status, ONE_LEFT, note), "{calls}");
     }
     Ok(())
 }
@@ -272,7 +242,7 @@ fn equiv_tells(rt: HostRuntime) -> Result<(), Fail> {
     ] {
         let input = joined(rt.alloc(), first, second)?;
         let seen = told(rt.alloc(), "equiv", input.as_bytes())?;
-        assert!(rt; seen.is(status, out, note), "{input}");
+        assert!(rt; seen.tells(status, out, note), "{input}");
     }
     Ok(())
 }
@@ -337,7 +307,7 @@ fn gen_tells(rt: HostRuntime) -> Result<(), Fail> {
         ),
     ] {
         let seen = run_on(rt.alloc(), line, b"unread", fails)?;
-        assert!(rt; seen.is(status, out, note), "{line} {fails:?}");
+        assert!(rt; seen.tells(status, out, note), "{line} {fails:?}");
     }
     Ok(())
 }
@@ -356,9 +326,9 @@ fn inputs_have_a_greatest_length(rt: HostRuntime) -> Result<(), Fail> {
     let greatest = zeros(rt.alloc(), 65_536)?;
     let longer = zeros(rt.alloc(), 65_537)?;
     let seen = told(rt.alloc(), "synth", greatest.as_bytes())?;
-    assert!(rt; seen.is(2, "", "error: BadHeader 1\n"));
+    assert!(rt; seen.tells(2, "", "error: BadHeader 1\n"));
     let seen = told(rt.alloc(), "synth", longer.as_bytes())?;
-    assert!(rt; seen.is(3, "", "error: TooLong\n"));
+    assert!(rt; seen.tells(3, "", "error: TooLong\n"));
     Ok(())
 }
 
@@ -430,7 +400,7 @@ fn improve_tells(rt: HostRuntime) -> Result<(), Fail> {
         ),
     ] {
         let seen = told(rt.alloc(), line, input.as_bytes())?;
-        assert!(rt; seen.is(status, out, note), "{line}");
+        assert!(rt; seen.tells(status, out, note), "{line}");
     }
     Ok(())
 }
