@@ -1,2 +1,4 @@
+pub mod Entries
+pub mod Fronts
 pub mod Judged
 pub mod Written

@@ -9,7 +9,7 @@ ghost use Rattle.lrat_text.specs.Spelling.{line_body};
 ghost use Rattle.lrat_text.specs.Values.{line_value};
 ghost use Rattle.lrat_text.specs.Gives.{Gives};
 
-use crate::numerals::{begins_minus, id_in, is_letter_d, literal_in};
+use crate::numerals::{begins_minus, is_letter_d, next_id, next_literal};
 use crate::repeats::comes_again;
 use crate::{Line, LineError};
 use cnf_core::Lit;
@@ -35,11 +35,10 @@ fn hints_of(alloc: Global, id: u32, lits: Vec<Lit>, text: Option<&[u8]>) -> Resu
     let mut hints = Vec::new(alloc);
     let mut left = text;
     while let Some(text) = left {
-        let (item, rest) = next_item(text);
-        if begins_minus(item) {
+        if begins_minus(text) {
             return Err(LineError::RatHint);
         }
-        let Some(entry) = id_in(item) else {
+        let Some((entry, rest)) = next_id(text) else {
             return Err(LineError::BadNumber);
         };
         let Some(hint) = entry else {
@@ -60,8 +59,7 @@ fn lits_of(alloc: Global, id: u32, text: &[u8]) -> Result<Line, LineError>
     let mut seen = HashSet::new(alloc);
     let mut left = Some(text);
     while let Some(text) = left {
-        let (item, rest) = next_item(text);
-        let Some(entry) = literal_in(item) else {
+        let Some((entry, rest)) = next_literal(text) else {
             return Err(LineError::BadNumber);
         };
         let Some(lit) = entry else {
@@ -84,8 +82,7 @@ fn ids_of(alloc: Global, id: u32, text: Option<&[u8]>) -> Result<Line, LineError
     let mut ids = Vec::new(alloc);
     let mut left = text;
     while let Some(text) = left {
-        let (item, rest) = next_item(text);
-        let Some(entry) = id_in(item) else {
+        let Some((entry, rest)) = next_id(text) else {
             return Err(LineError::BadNumber);
         };
         let Some(deleted) = entry else {
@@ -115,8 +112,7 @@ fn behind_id(alloc: Global, id: u32, left: Option<&[u8]>) -> Result<Line, LineEr
 fn read(alloc: Global, text: &[u8]) -> Result<Line, LineError>
     ensures { Gives result (spec.line_in text.now) }
 {
-    let (item, rest) = next_item(text);
-    let Some(Some(id)) = id_in(item) else {
+    let Some((Some(id), rest)) = next_id(text) else {
         return Err(LineError::BadNumber);
     };
     behind_id(alloc, id, rest)
