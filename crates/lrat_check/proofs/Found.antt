@@ -1,11 +1,13 @@
--- Finding clauses by their literals, with one more id in a list.
-use Rattle.std.proofs.Common.{◌≡◌, ℕ, ◌<◌, ℤ, Bool, true, false, ◌||◌, ◌==◌, List, [], ◌∷◌, ◌++◌, length, Any, slice_index_or, refl, inl, inr, arith}
+-- Finding clauses by their literals, with one more entry in a list.
+use Rattle.std.proofs.Common.{◌≡◌, ℕ, ◌<◌, ℤ, Bool, true, false, ◌||◌, ◌==◌, List, [], ◌∷◌, ◌++◌, length, Any, Contains, slice_index_or, refl, sym, subst, inl, inr, arith}
 use Rattle.std.proofs.Math.Logic.{⊎_elim}
 use Rattle.std.proofs.lemmas.Bool.{cases_eq, eq-eqb}
 use Rattle.std.proofs.lemmas.Grind.{common_steps}
+use Rattle.std.proofs.lemmas.List.Quantifiers.{Any-push}
 use Rattle.sat_theory.specs.State.{is_listed}
 use Rattle.cnf_core.specs.Codes.{code_of}
-use Rattle.lrat_check.specs.Index.{with_id, IsFound, KeepsFound}
+use Rattle.lrat_check.specs.declared.index.Entry.{Entry}
+use Rattle.lrat_check.specs.Index.{with_entry, IsEntryOf, IsListed, IsFound, KeepsFound}
 
 -- an id that is pushed is listed, and so are those before it
 listed_last : (ids : List ℕ) (id : ℕ) → is_listed (ids ++ id ∷ []) id ≡ true
@@ -24,49 +26,56 @@ listed_front : (ids more : List ℕ) (id : ℕ) → is_listed ids id ≡ true �
 listed_front [] more id is = absurd (cc)
 listed_front (k ∷ ks) more id is = or_either (id == k) (is_listed ks id) (is_listed (ks ++ more) id) (listed_front ks more id) is
 
-at_place : (heads : List (List ℕ)) (place id code : ℕ) → place < length heads → code ≡ place → slice_index_or (with_id heads place id) code [] ≡ slice_index_or heads code [] ++ id ∷ []
-at_place heads place id code within same = rw same (grind (arith, common_steps))
+any_more : {X : Type 0} (P : X → Type 0) (xs : List X) (y : X) → Any P xs → Any P (xs ++ y ∷ [])
+any_more P xs y (k, x, within, at, holds) = (k, x, grind (arith, common_steps, within), grind (arith, common_steps, within, at), holds)
 
-at_other : (heads : List (List ℕ)) (place id code : ℕ) → place < length heads → (code ≡ place → ⊥) → slice_index_or (with_id heads place id) code [] ≡ slice_index_or heads code []
-at_other heads place id code within apart = grind (arith, common_steps)
+at_place : (heads : List (List Entry)) (place code : ℕ) (e : Entry) → place < length heads → code ≡ place → slice_index_or (with_entry heads place e) code [] ≡ slice_index_or heads code [] ++ e ∷ []
+at_place heads place code e within same = rw same (grind (arith, common_steps))
+
+at_other : (heads : List (List Entry)) (place code : ℕ) (e : Entry) → place < length heads → (code ≡ place → ⊥) → slice_index_or (with_entry heads place e) code [] ≡ slice_index_or heads code []
+at_other heads place code e within apart = grind (arith, common_steps)
 
 -- the lists by literals only grow
-grown : (heads : List (List ℕ)) (place id k code : ℕ) → place < length heads → is_listed (slice_index_or heads code []) k ≡ true → is_listed (slice_index_or (with_id heads place id) code []) k ≡ true
-grown heads place id k code within is =
+grown : (heads : List (List Entry)) (place id code : ℕ) (clause : List ℤ) (e : Entry) → place < length heads → IsListed (slice_index_or heads code []) id clause → IsListed (slice_index_or (with_entry heads place e) code []) id clause
+unfolding IsListed
+grown heads place id code clause e within is =
     ⊎_elim
-    (λ (same : code ≡ place). rw (at_place heads place id code within same) (listed_front (slice_index_or heads code []) (id ∷ []) k is))
-    (λ (apart : code ≡ place → ⊥). rw (at_other heads place id code within apart) is)
+    (λ (same : code ≡ place). subst (λ (es : List Entry). Any (IsEntryOf id clause) es) (sym (at_place heads place code e within same)) (any_more (IsEntryOf id clause) (slice_index_or heads code []) e is))
+    (λ (apart : code ≡ place → ⊥). subst (λ (es : List Entry). Any (IsEntryOf id clause) es) (sym (at_other heads place code e within apart)) is)
     (cases_eq code place)
 
--- what was found is found with one more id in a literal's list,
-pub kept_at_head : (heads : List (List ℕ)) (others : List ℕ) (place id : ℕ) → place < length heads → KeepsFound (record { heads = heads; others = others }) (record { heads = with_id heads place id; others = others })
+-- what was found is found with one more entry in a literal's list,
+pub kept_at_head : (heads : List (List Entry)) (others : List ℕ) (place : ℕ) (e : Entry) → place < length heads → KeepsFound (record { heads = heads; others = others }) (record { heads = with_entry heads place e; others = others })
 unfolding IsFound
-kept_at_head heads others place id within = record {
+kept_at_head heads others place e within = record {
   each = λ k clause found.
       ⊎_elim
-      (λ (some : Any (λ (l : ℤ). is_listed (slice_index_or heads (code_of l) []) k ≡ true) clause). inl (some.0, some.1, some.2, some.3, grown heads place id k (code_of some.1) within some.4))
+      (λ (some : Any (λ (l : ℤ). IsListed (slice_index_or heads (code_of l) []) k clause) clause). inl (some.0, some.1, some.2, some.3, grown heads place k (code_of some.1) clause e within some.4))
       (λ (other : is_listed others k ≡ true). inr other)
       found;
 }
 
--- and with one more in the list of the others
-pub kept_in_others : (heads : List (List ℕ)) (others : List ℕ) (id : ℕ) → KeepsFound (record { heads = heads; others = others }) (record { heads = heads; others = others ++ id ∷ [] })
+-- and with one more id in the list of the others
+pub kept_in_others : (heads : List (List Entry)) (others : List ℕ) (id : ℕ) → KeepsFound (record { heads = heads; others = others }) (record { heads = heads; others = others ++ id ∷ [] })
 unfolding IsFound
 kept_in_others heads others id = record {
   each = λ k clause found.
       ⊎_elim
-      (λ (some : Any (λ (l : ℤ). is_listed (slice_index_or heads (code_of l) []) k ≡ true) clause). inl some)
+      (λ (some : Any (λ (l : ℤ). IsListed (slice_index_or heads (code_of l) []) k clause) clause). inl some)
       (λ (other : is_listed others k ≡ true). inr (listed_front others (id ∷ []) k other))
       found;
 }
 
--- The clause whose id was put there is found.
-pub found_at_head : (heads : List (List ℕ)) (others : List ℕ) (place id : ℕ) (clause : List ℤ) → place < length heads → Any (λ (l : ℤ). code_of l ≡ place) clause → IsFound (record { heads = with_id heads place id; others = others }) id clause
-unfolding IsFound
-found_at_head heads others place id clause within some =
-    inl (some.0, some.1, some.2, some.3, rw (at_place heads place id (code_of some.1) within some.4) (listed_last (slice_index_or heads (code_of some.1) []) id))
+-- The clause whose entry was put there is found.
+pub found_at_head : (heads : List (List Entry)) (others : List ℕ) (place id : ℕ) (other : ℤ) (clause : List ℤ) → place < length heads → Any (λ (l : ℤ). code_of l ≡ place) clause → Contains clause other → IsFound (record { heads = with_entry heads place (record { id = id; other = other }); others = others }) id clause
+unfolding IsFound IsListed
+found_at_head heads others place id other clause within some its =
+    let e : Entry = record { id = id; other = other } in
+    let is : IsEntryOf id clause e = record { own = refl; its = its } in
+    let there : Any (IsEntryOf id clause) (slice_index_or heads (code_of some.1) [] ++ e ∷ []) = Any-push (IsEntryOf id clause) (slice_index_or heads (code_of some.1) []) e is in
+    inl (some.0, some.1, some.2, some.3, subst (λ (es : List Entry). Any (IsEntryOf id clause) es) (sym (at_place heads place (code_of some.1) e within some.4)) there)
 
-pub found_in_others : (heads : List (List ℕ)) (others : List ℕ) (id : ℕ) (clause : List ℤ) → IsFound (record { heads = heads; others = others ++ id ∷ [] }) id clause
+pub found_in_others : (heads : List (List Entry)) (others : List ℕ) (id : ℕ) (clause : List ℤ) → IsFound (record { heads = heads; others = others ++ id ∷ [] }) id clause
 unfolding IsFound
 found_in_others heads others id clause = inr (listed_last others id)
 

@@ -1,12 +1,13 @@
 -- Clauses inside a list of literals, and new clauses.
-use Rattle.std.proofs.Common.{◌≡◌, ℕ, ◌==◌, ℤ, true, List, Any, Contains, Option, subst}
+use Rattle.std.proofs.Common.{◌≡◌, ℕ, ◌==◌, ℤ, true, List, Any, Contains, All, Option, subst, sym}
 use Rattle.std.proofs.Math.Logic.{⊎_elim}
 use Rattle.std.proofs.lemmas.Bool.{eqb-true}
 use Rattle.std.proofs.lemmas.List.Elements.{All-contains}
 use Rattle.std.proofs.lemmas.List.Folds.{Any-from_list_any}
 use Rattle.sat_theory.specs.State.{is_listed}
 use Rattle.sat_theory.specs.Log.{IsNew}
-use Rattle.lrat_check.specs.Index.{Lists, ids_of, IsFound, IsIndexed, HasLiteral, IsInside, NamesInside}
+use Rattle.lrat_check.specs.declared.index.Entry.{Entry}
+use Rattle.lrat_check.specs.Index.{Lists, entries_of, IsListed, IsFound, IsIndexed, HasLiteral, IsInside, NamesInside, IsInsideBy, EntersInside}
 
 -- a clause inside shows that the literals are no new clause
 pub inside_is_old : (live : ℕ → Option (List ℤ)) (lits : List ℤ) (ids : List ℕ) → NamesInside live lits ids → IsNew live lits → ⊥
@@ -19,18 +20,28 @@ listed_inside live lits ids id listed inside =
     let found : Any (λ (k : ℕ). (id == k) ≡ true) ids = Any-from_list_any (λ (k : ℕ). id == k) ids listed in
     (found.0, found.1, found.2, found.3, subst (λ (k : ℕ). IsInside live lits k) (eqb-true id found.1 found.4) inside)
 
--- and where no list of one of the literals, nor that of the others, names one, they are
-pub none_is_new : (live : ℕ → Option (List ℤ)) (index : Lists) (lits : List ℤ) → IsIndexed live index → (NamesInside live lits index.others → ⊥) → (Any (λ (l : ℤ). NamesInside live lits (ids_of index l)) lits → ⊥) → IsNew live lits
+listed_enters : (live : ℕ → Option (List ℤ)) (lits : List ℤ) (entries : List Entry) (id : ℕ) (clause : List ℤ) → IsListed entries id clause → All (Contains lits) clause → IsInside live lits id → EntersInside live lits entries
+unfolding IsListed EntersInside HasLiteral
+listed_enters live lits entries id clause (k, e, within, at, is) all inside =
+    let by : IsInsideBy live lits e = record { other = All-contains (Contains lits) clause e.other all is.its; named = subst (λ (i : ℕ). IsInside live lits i) (sym is.own) inside } in
+    (k, e, within, at, by)
+
+-- and where no list of one of the literals has an entry of one, nor that of the others its id, they are
+pub none_is_new : (live : ℕ → Option (List ℤ)) (index : Lists) (lits : List ℤ) → IsIndexed live index → (NamesInside live lits index.others → ⊥) → (Any (λ (l : ℤ). EntersInside live lits (entries_of index l)) lits → ⊥) → IsNew live lits
 unfolding IsFound HasLiteral
 none_is_new live index lits indexed no_other no_head id clause is all =
     let inside : IsInside live lits id = record { clause = clause; is_live = is; inside = all } in
     ⊎_elim
-    (λ (some : Any (λ (l : ℤ). is_listed (ids_of index l) id ≡ true) clause).
+    (λ (some : Any (λ (l : ℤ). IsListed (entries_of index l) id clause) clause).
     let l : ℤ = some.1 in
     let there : Contains lits l = All-contains (Contains lits) clause l all (some.0, some.2, some.3) in
-    no_head (there.0, l, there.1, there.2, listed_inside live lits (ids_of index l) id some.4 inside))
+    no_head (there.0, l, there.1, there.2, listed_enters live lits (entries_of index l) id clause some.4 all inside))
     (λ (other : is_listed index.others id ≡ true). no_other (listed_inside live lits index.others id other inside))
     (indexed.each id clause is)
 
-pub headed_is_old : (live : ℕ → Option (List ℤ)) (index : Lists) (lits : List ℤ) → Any (λ (l : ℤ). NamesInside live lits (ids_of index l)) lits → IsNew live lits → ⊥
-headed_is_old live index lits some new = inside_is_old live lits (ids_of index some.1) some.4 new
+enters_is_old : (live : ℕ → Option (List ℤ)) (lits : List ℤ) (entries : List Entry) → EntersInside live lits entries → IsNew live lits → ⊥
+unfolding EntersInside HasLiteral
+enters_is_old live lits entries some new = new some.1.id some.4.named.clause some.4.named.is_live some.4.named.inside
+
+pub headed_is_old : (live : ℕ → Option (List ℤ)) (index : Lists) (lits : List ℤ) → Any (λ (l : ℤ). EntersInside live lits (entries_of index l)) lits → IsNew live lits → ⊥
+headed_is_old live index lits some new = enters_is_old live lits (entries_of index some.1) some.4 new

@@ -1,6 +1,7 @@
 pub mod Accepting
 pub mod Above
 pub mod Entries
+pub mod Filled
 pub mod Found
 pub mod Inside
 pub mod Kept

@@ -1,27 +1,37 @@
 -- Where a clause is looked for by its literals.
-use Rattle.std.specs.Prelude.{◌≡◌, ℕ, ◌⊎◌, ℤ, Bool, true, is_some, List, [], ◌∷◌, ◌++◌, slice_set, Any, All, Contains, slice_index_or, Option, Some}
+use Rattle.std.specs.Prelude.{◌≡◌, ℕ, ◌⊎◌, ℤ, Bool, true, not, ◌==◌, is_some, List, [], ◌∷◌, ◌++◌, slice_set, length, Any, All, Contains, slice_index_or, Option, Some}
 use Rattle.sat_theory.specs.State.{is_listed}
 use Rattle.cnf_core.specs.Codes.{code_of}
+use Rattle.lrat_check.specs.declared.index.Entry.{Entry}
 
 -- whether a clause has the id
 abbrev pub is_live : (ℕ → Option (List ℤ)) → ℕ → Bool
 is_live live id = is_some (live id)
 
--- lists of ids by the codes of literals, and a list for what stands in none of them
+-- lists of entries by the codes of literals, and a list of ids for what stands in none of them
 pub record Lists : Type 0 where
-  pub heads : List (List ℕ)
+  pub heads : List (List Entry)
   pub others : List ℕ
 
-abbrev pub ids_of : Lists → ℤ → List ℕ
-ids_of index l = slice_index_or index.heads (code_of l) []
+abbrev pub entries_of : Lists → ℤ → List Entry
+entries_of index l = slice_index_or index.heads (code_of l) []
 
--- one more id in a list
-abbrev pub with_id : List (List ℕ) → ℕ → ℕ → List (List ℕ)
-with_id heads place id = slice_set heads place (slice_index_or heads place [] ++ id ∷ [])
+-- one more entry in a list
+abbrev pub with_entry : List (List Entry) → ℕ → Entry → List (List Entry)
+with_entry heads place e = slice_set heads place (slice_index_or heads place [] ++ e ∷ [])
 
--- a clause's id is in the list of one of its literals, or among the others
+-- an entry has the id of a clause, and one of its literals
+pub record IsEntryOf (id : ℕ) (clause : List ℤ) (e : Entry) : Type 0 where
+  pub own : e.id ≡ id
+  pub its : Contains clause e.other
+
+-- one of these is an entry of a clause
+unfoldable pub IsListed : List Entry → ℕ → List ℤ → Type 0
+IsListed entries id clause = Any (IsEntryOf id clause) entries
+
+-- a clause has an entry in the list of one of its literals, or its id is among the others
 unfoldable pub IsFound : Lists → ℕ → List ℤ → Type 0
-IsFound index id clause = Any (λ l. is_listed (ids_of index l) id ≡ true) clause ⊎ (is_listed index.others id ≡ true)
+IsFound index id clause = Any (λ l. IsListed (entries_of index l) id clause) clause ⊎ (is_listed index.others id ≡ true)
 
 -- what could be found is found
 pub record KeepsFound (old new : Lists) : Type 0 where
@@ -31,9 +41,14 @@ pub record KeepsFound (old new : Lists) : Type 0 where
 pub record KeepsLive (live : ℕ → Option (List ℤ)) (old new : Lists) : Type 0 where
   pub each : (id : ℕ) (clause : List ℤ) → is_live live id ≡ true → IsFound old id clause → IsFound new id clause
 
--- no list loses an id that is live
-pub record SweepsLists (live : ℕ → Option (List ℤ)) (old new : List (List ℕ)) : Type 0 where
-  pub each : (place id : ℕ) → is_live live id ≡ true → is_listed (slice_index_or old place []) id ≡ true → is_listed (slice_index_or new place []) id ≡ true
+-- an entry isn't of an id
+abbrev pub has_other_id : ℕ → Entry → Bool
+has_other_id id e = not (e.id == id)
+
+-- no list loses an entry but those of one id
+pub record DropsEntries (gone : ℕ) (old new : List (List Entry)) : Type 0 where
+  pub each : (place id : ℕ) (clause : List ℤ) → (id ≡ gone → ⊥) → IsListed (slice_index_or old place []) id clause → IsListed (slice_index_or new place []) id clause
+  pub whole : length new ≡ length old
 
 -- all clauses are found
 pub record IsIndexed (live : ℕ → Option (List ℤ)) (index : Lists) : Type 0 where
@@ -51,3 +66,12 @@ pub record IsInside (live : ℕ → Option (List ℤ)) (lits : List ℤ) (id : �
 -- one of these ids does
 unfoldable pub NamesInside : (ℕ → Option (List ℤ)) → List ℤ → List ℕ → Type 0
 NamesInside live lits ids = Any (IsInside live lits) ids
+
+-- an entry has a literal of a list, and names a live clause with all its literals there
+pub record IsInsideBy (live : ℕ → Option (List ℤ)) (lits : List ℤ) (e : Entry) : Type 0 where
+  pub other : HasLiteral lits e.other
+  pub named : IsInside live lits e.id
+
+-- one of these entries does
+unfoldable pub EntersInside : (ℕ → Option (List ℤ)) → List ℤ → List Entry → Type 0
+EntersInside live lits entries = Any (IsInsideBy live lits) entries

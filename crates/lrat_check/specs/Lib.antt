@@ -2,6 +2,7 @@ pub mod Marks
 pub mod Seen
 pub mod Hints
 pub mod Scan
+pub mod Slots
 pub mod Index
 pub mod Checked
 pub mod FaultLaws

@@ -59,7 +59,8 @@ impl Checker {
     }
 
     /// The same, with lists of clauses by their literals, so that `is_new` is fast. They take memory for
-    /// each literal, and each line takes a step more for each of its literals.
+    /// each literal; an addition takes a step more for each of its literals, and a deletion one for each
+    /// clause in the lists of its clauses' literals.
     pub fn indexed(alloc: Global, cnf: Cnf) -> Result<Checker, AllocError>
         ensures state { IfOk result (λ c. state_of c ≡ start cnf) }
         ensures accepted { IfOk result (HasAccepted cnf []) }
@@ -119,7 +120,8 @@ impl Checker {
     /// Whether a clause is new: no live clause has all its literals among these. It goes through the live
     /// clauses, and holds each against these literals; an `indexed` checker goes through those clauses
     /// alone that stand in the list of one of these literals, and each stands in one list, the shortest
-    /// of its literals' when it came.
+    /// of its literals' when it came. There a second literal of each stands beside it, and only a clause
+    /// whose second literal is one of these is held against them.
     pub fn is_new(&self, lits: &[Lit]) -> bool
         ensures { IsTrue result ↔ IsNew (live_at self.now.live) lits.now }
     {

@@ -7,9 +7,11 @@ ghost use Rattle.std.specs.FinMap as map;
 ghost use Rattle.sat_theory.specs.State.{with_clause, without, by_id};
 ghost use Rattle.sat_theory.specs.Log.{IsNew};
 ghost use Rattle.lrat_check.specs.Live.{live_at};
-ghost use Rattle.lrat_check.specs.Index.{ids_of, HasLiteral, IsInside, NamesInside};
+ghost use Rattle.lrat_check.specs.Index.{entries_of, HasLiteral, IsInside, NamesInside, IsInsideBy, EntersInside};
+ghost use Rattle.lrat_check.specs.Slots.{AreSlots};
 
-use crate::index::Index;
+use crate::index::{Entry, Index};
+use crate::slots::Among;
 use cnf_core::{Clause, Lit};
 use std::alloc::{AllocError, Global};
 use std::collections::HashMap;
@@ -84,8 +86,10 @@ impl Clauses {
     pub(crate) fn remove(&mut self, id: u32)
         ensures { live_at self.new ≡ without (live_at self.old) (id ∷ []) }
     {
-        let _gone = self.live.remove(&id);
-        self.index.forget_one(&self.live);
+        let Some(clause) = self.live.remove(&id) else {
+            return;
+        };
+        self.index.forget(id, clause.lits(), &self.live);
     }
 
     /// Whether no live clause has all its literals among these. Where there are lists by literals it
@@ -95,46 +99,64 @@ impl Clauses {
         ensures new { result ≡ true → IsNew (live_at self.now) lits.now }
         ensures old { result ≡ false → IsNew (live_at self.now) lits.now → ⊥ }
     {
-        !self.has_inside(self.index.others(), lits) && !self.is_headed(&self.index, lits)
+        let among = Among::of(lits);
+        !self.has_inside(self.index.others(), &among) && !self.is_headed(&self.index, &among)
     }
 
-    /// Whether the list of one of the literals names a live clause with all its literals among these.
-    fn is_headed(&self, index: &Index, lits: &[Lit]) -> bool
-        ensures { IsTrue result ↔ Any (λ (l : ℤ). NamesInside (live_at self.now) lits.now (ids_of index.now l)) lits.now }
+    /// Whether the list of one of the literals has an entry of a live clause with all its literals among
+    /// these.
+    fn is_headed(&self, index: &Index, among: &Among) -> bool
+        requires { AreSlots among.now.slots among.now.lits.now }
+        ensures { IsTrue result ↔ Any (λ (l : ℤ). EntersInside (live_at self.now) among.now.lits.now (entries_of index.now l)) among.now.lits.now }
     {
-        lits.iter()
-            .any(|lit| self.has_inside(index.ids_of(*lit), lits))
+        among
+            .lits
+            .iter()
+            .any(|lit| self.enters_inside(index.entries_of(*lit), among))
+    }
+
+    /// Whether one of the entries is of a live clause with all its literals among these.
+    #[tactic(auto, unfolding(crate::specs::Index::EntersInside))]
+    fn enters_inside(&self, entries: &[Entry], among: &Among) -> bool
+        requires { AreSlots among.now.slots among.now.lits.now }
+        ensures { IsTrue result ↔ EntersInside (live_at self.now) among.now.lits.now entries.now }
+    {
+        entries.iter().any(|entry| self.is_inside_by(entry, among))
+    }
+
+    /// Whether an entry is so. Its own literal is looked for first, so that few clauses are looked at.
+    fn is_inside_by(&self, entry: &Entry, among: &Among) -> bool
+        requires { AreSlots among.now.slots among.now.lits.now }
+        ensures { IsTrue result ↔ IsInsideBy (live_at self.now) among.now.lits.now entry.now }
+    {
+        among.has(entry.other) && self.is_id_inside(entry.id, among)
     }
 
     /// Whether one of the ids names a live clause with all its literals among these.
     #[tactic(auto, unfolding(crate::specs::Index::NamesInside))]
-    fn has_inside(&self, ids: &[u32], lits: &[Lit]) -> bool
-        ensures { IsTrue result ↔ NamesInside (live_at self.now) lits.now ids.now }
+    fn has_inside(&self, ids: &[u32], among: &Among) -> bool
+        requires { AreSlots among.now.slots among.now.lits.now }
+        ensures { IsTrue result ↔ NamesInside (live_at self.now) among.now.lits.now ids.now }
     {
-        ids.iter().any(|id| self.is_id_inside(*id, lits))
+        ids.iter().any(|id| self.is_id_inside(*id, among))
     }
 
     /// Whether an id does so.
-    fn is_id_inside(&self, id: u32, lits: &[Lit]) -> bool
-        ensures { IsTrue result ↔ IsInside (live_at self.now) lits.now id }
+    fn is_id_inside(&self, id: u32, among: &Among) -> bool
+        requires { AreSlots among.now.slots among.now.lits.now }
+        ensures { IsTrue result ↔ IsInside (live_at self.now) among.now.lits.now id }
     {
         let Some(clause) = self.get(id) else {
             return false;
         };
-        is_inside(clause.lits(), lits)
+        is_inside(clause.lits(), among)
     }
 }
 
 /// Whether all literals of a clause are among these.
-fn is_inside(clause: &[Lit], lits: &[Lit]) -> bool
-    ensures { IsTrue result ↔ All (HasLiteral lits.now) clause.now }
+fn is_inside(clause: &[Lit], among: &Among) -> bool
+    requires { AreSlots among.now.slots among.now.lits.now }
+    ensures { IsTrue result ↔ All (HasLiteral among.now.lits.now) clause.now }
 {
-    clause.iter().all(|lit| has_literal(lits, *lit))
-}
-
-#[tactic(auto, unfolding(crate::specs::Index::HasLiteral))]
-fn has_literal(lits: &[Lit], lit: Lit) -> bool
-    ensures { IsTrue result ↔ HasLiteral lits.now lit }
-{
-    lits.contains(&lit)
+    clause.iter().all(|lit| among.has(*lit))
 }

@@ -1,15 +1,76 @@
-//! Lists of ids by literals, for the question whether a clause is new. A clause that is contained in another one has
-//! each of its literals there, so it is found in the lists of the other one's literals, wherever it was put. Ids of
-//! clauses that went are swept out from time to time, so that they cost no question more than a constant factor.
-ghost use Rattle.std.specs.Prelude.{◌≡◌, ◌+◌, ◌*◌, ◌<◌, ℤ, [], ◌∷◌, ◌++◌, length, filter, slice_set, slice_index_or, nat_eq, OnOk, OnErr, IfSome, Any};
+//! Lists of clauses by their literals, for the question whether a clause is new. A clause that is contained in another
+//! one has each of its literals there, so it is found in the lists of the other one's literals, wherever it was put; and
+//! an entry has a second literal of its clause beside the id, so that most clauses that aren't contained are passed
+//! over without a look at them. A clause that goes takes its entry with it. Ids in no literal's list are swept out from
+//! time to time, so that they cost no question more than a constant factor.
+ghost use Rattle.std.specs.Prelude.{◌≡◌, ◌+◌, ◌*◌, ◌<◌, ℤ, [], ◌∷◌, ◌++◌, false, length, filter, slice_set, slice_index_or, nat_eq, OnOk, OnErr, IfSome, Any, Contains};
 ghost use Rattle.std.specs.HashMap.{get};
 ghost use Rattle.cnf_core.specs.Codes.{code_of};
-ghost use Rattle.lrat_check.specs.Index.{ids_of as ids_of_lit, is_live, with_id, IsFound, KeepsFound, KeepsLive, SweepsLists};
+ghost use Rattle.lrat_check.specs.Index.{entries_of as entries_of_lit, is_live, has_other_id, with_entry, IsFound, KeepsFound, KeepsLive, DropsEntries};
 
 use cnf_core::{Clause, Lit};
 use std::alloc::{AllocError, Global};
 use std::collections::HashMap;
 use std::marker::Model;
+
+/// A clause's id, and one of its literals.
+#[derive(Clone, Copy, Debug)]
+pub(crate) struct Entry {
+    pub(crate) id: u32,
+    pub(crate) other: Lit,
+}
+
+/// A list of entries.
+#[derive(Debug, Drop)]
+pub(crate) struct Entries {
+    entries: Vec<Entry>,
+}
+
+impl Model for Entries {
+    ghost use Rattle.std.specs.Prelude.{List};
+    ghost use Rattle.lrat_check.specs.declared.index.Entry.{Entry};
+
+    ghost Value = { List Entry };
+
+    ghost view = { λ e. e.entries.items };
+}
+
+impl Entries {
+    fn new(alloc: Global) -> Entries
+        ensures { result ≡ [] }
+    {
+        Entries {
+            entries: Vec::new(alloc),
+        }
+    }
+
+    fn push(&mut self, entry: Entry) -> Result<(), AllocError>
+        ensures ok { OnOk result (self.new ≡ self.old ++ entry ∷ []) }
+        ensures err { OnErr result (self.new ≡ self.old) }
+    {
+        self.entries.push(entry)?;
+        Ok(())
+    }
+
+    fn len(&self) -> usize
+        ensures { result ≡ length self.now }
+    {
+        self.entries.len()
+    }
+
+    pub(crate) fn get(&self) -> &[Entry]
+        ensures { result.now ≡ self.now }
+    {
+        &self.entries
+    }
+
+    /// Takes out what has an id.
+    fn drop_id(&mut self, id: u32)
+        ensures { self.new ≡ filter (has_other_id id) self.old }
+    {
+        self.entries.retain(|entry| entry.id != id);
+    }
+}
 
 /// A list of ids.
 #[derive(Debug, Drop)]
@@ -42,12 +103,6 @@ impl Ids {
         Ok(())
     }
 
-    fn len(&self) -> usize
-        ensures { result ≡ length self.now }
-    {
-        self.ids.len()
-    }
-
     pub(crate) fn get(&self) -> &[u32]
         ensures { result.now ≡ self.now }
     {
@@ -62,11 +117,11 @@ impl Ids {
     }
 }
 
-/// Where clauses are looked for by their literals: each clause has its id in the list of one of its
-/// literals, the one whose list was the shortest. Without lists for literals each has it in `others`.
+/// Where clauses are looked for by their literals: each clause has an entry in the list of one of its
+/// literals, the one whose list was the shortest. Without lists for literals each has its id in `others`.
 #[derive(Debug, Drop)]
 pub(crate) struct Index {
-    heads: Vec<Ids>,
+    heads: Vec<Entries>,
     others: Ids,
     dead: usize,
 }
@@ -95,17 +150,17 @@ impl Index {
         let mut index = Index::new(alloc);
         index.heads.reserve(codes)?;
         for _ in 0..codes {
-            index.heads.push(Ids::new(alloc))?;
+            index.heads.push(Entries::new(alloc))?;
         }
         Ok(index)
     }
 
-    /// The ids in the list of a literal.
-    pub(crate) fn ids_of(&self, lit: Lit) -> &[u32]
-        ensures { result.now ≡ ids_of_lit self.now lit }
+    /// The entries in the list of a literal.
+    pub(crate) fn entries_of(&self, lit: Lit) -> &[Entry]
+        ensures { result.now ≡ entries_of_lit self.now lit }
     {
         match self.heads.get(lit.code()) {
-            Some(ids) => ids.get(),
+            Some(entries) => entries.get(),
             None => &[],
         }
     }
@@ -117,7 +172,7 @@ impl Index {
         self.others.get()
     }
 
-    /// Puts a clause's id into a list. It takes a step for each of its literals.
+    /// Puts a clause's entry into a list. It takes a step for each of its literals.
     #[tactic(auto, using(crate::proofs::Found::finding))]
     pub(crate) fn add(&mut self, id: u32, lits: &[Lit]) -> Result<(), AllocError>
         ensures found { OnOk result (IsFound self.new id lits.now) }
@@ -127,21 +182,25 @@ impl Index {
         let Some(place) = self.shortest(lits) else {
             return self.others.push(id);
         };
-        push_at(&mut self.heads, place, id)
+        let Some(other) = other_than(lits, place) else {
+            return self.others.push(id);
+        };
+        push_at(&mut self.heads, place, Entry { id, other })
     }
 
-    /// One more clause has gone. Where more have gone than are live and than there are lists, their ids
-    /// are taken out, so that this takes a step for each of them.
-    #[tactic(auto, using(crate::proofs::Swept::sweeping))]
-    pub(crate) fn forget_one(&mut self, live: &HashMap<u32, Clause>)
+    /// A clause has gone: so does its entry, for a step with each entry in the lists of its literals.
+    /// Where more have gone than are live, their ids are taken out of the others, so that this takes a
+    /// step for each of them.
+    pub(crate) fn forget(&mut self, id: u32, lits: &[Lit], live: &HashMap<u32, Clause>)
+        requires { is_live (get nat_eq live.now) id ≡ false }
         ensures { KeepsLive (get nat_eq live.now) self.old self.new }
     {
+        drop_entries(&mut self.heads, id, lits);
         self.dead = self.dead.saturating_add(1);
-        if self.dead / 2 <= live.len().max(self.heads.len()) {
+        if self.dead / 2 <= live.len() {
             return;
         }
         self.dead = 0;
-        sweep_lists(&mut self.heads, live);
         self.others.sweep(live);
     }
 
@@ -153,46 +212,61 @@ impl Index {
         let mut best: Option<(usize, usize)> = None;
         for lit in lits {
             let place = lit.code();
-            let Some(ids) = self.heads.get(place) else {
+            let Some(entries) = self.heads.get(place) else {
                 continue;
             };
             if let Some((_, least)) = best {
-                if least <= ids.len() {
+                if least <= entries.len() {
                     continue;
                 }
             }
-            best = Some((place, ids.len()));
+            best = Some((place, entries.len()));
         }
         best.map(|(place, _)| place)
     }
 }
 
-/// Takes the ids that aren't live out of lists.
-#[tactic(auto, using(crate::proofs::Swept::sweeping))]
-fn sweep_lists(lists: &mut Vec<Ids>, live: &HashMap<u32, Clause>)
-    ensures { SweepsLists (get nat_eq live.now) lists.old.items lists.new.items }
+/// The last of some literals; where its list is the one at a place, the first.
+fn other_than(lits: &[Lit], place: usize) -> Option<Lit>
+    ensures { IfSome result (λ l. Contains lits.now l) }
 {
-    for place in 0..lists.len() {
-        sweep_at(lists, place, live);
+    let first = lits.first()?;
+    let last = lits.last()?;
+    if last.code() == place {
+        return Some(*first);
+    }
+    Some(*last)
+}
+
+/// Takes an id's entries out of the lists of literals.
+#[tactic(auto, using(crate::proofs::Swept::sweeping))]
+fn drop_entries(lists: &mut Vec<Entries>, id: u32, lits: &[Lit])
+    ensures { DropsEntries id lists.old.items lists.new.items }
+{
+    for lit in lits {
+        let place = lit.code();
+        if place >= lists.len() {
+            continue;
+        }
+        drop_at(lists, place, id);
     }
 }
 
-/// Takes them out of the list at a place.
-fn sweep_at(lists: &mut Vec<Ids>, place: usize, live: &HashMap<u32, Clause>)
+/// Takes an id's entries out of the list at a place.
+fn drop_at(lists: &mut Vec<Entries>, place: usize, id: u32)
     requires { place < length lists.old.items }
-    ensures set { lists.new.items ≡ slice_set lists.old.items place (filter (is_live (get nat_eq live.now)) (slice_index_or lists.old.items place [])) }
-    ensures length { length lists.new.items ≡ length lists.old.items }
+    ensures { lists.new.items ≡ slice_set lists.old.items place (filter (has_other_id id) (slice_index_or lists.old.items place [])) }
 {
-    let ids = &mut lists[place];
-    ids.sweep(live);
+    let entries = &mut lists[place];
+    entries.drop_id(id);
 }
 
-/// Puts an id into the list at a place.
-fn push_at(heads: &mut Vec<Ids>, place: usize, id: u32) -> Result<(), AllocError>
+/// Puts an entry into the list at a place.
+fn push_at(heads: &mut Vec<Entries>, place: usize, entry: Entry) -> Result<(), AllocError>
     requires { place < length heads.old.items }
-    ensures ok { OnOk result (heads.new.items ≡ with_id heads.old.items place id) }
+    ensures ok { OnOk result (heads.new.items ≡ with_entry heads.old.items place entry) }
     ensures err { OnErr result (heads.new.items ≡ heads.old.items) }
 {
-    let ids = &mut heads[place];
-    ids.push(id)
+    let entries = &mut heads[place];
+    entries.push(entry)
 }

@@ -22,6 +22,7 @@ mod index;
 mod judging;
 pub mod laws;
 mod marks;
+mod slots;
 
 pub use checker::Checker;
 pub use error::CheckError;

@@ -1,2 +1,5 @@
+pub mod Entries
+pub mod Fronts
 pub mod Judged
+pub mod Marked
 pub mod Written

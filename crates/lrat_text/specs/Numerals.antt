@@ -1,6 +1,7 @@
 -- The items of a line, as numbers. A list of numbers ends with the item 0.
 use Rattle.std.specs.Prelude.{ℕ, ℤ, pos, Bool, false, ◌==◌, if◌then◌else◌, List, [], ◌∷◌, Option, Some, None}
 use Rattle.text_core.specs.Numbers.{number_up_to}
+use Rattle.text_core.specs.Items.{split_from}
 use Rattle.sat_theory.specs.Formula.{opposite}
 
 -- nothing where an item is no number of its range; else the number, or nothing for the 0 that ends a list
@@ -35,3 +36,10 @@ abbrev pub is_letter_d : List ℕ → Bool
 is_letter_d [] = false
 is_letter_d (b ∷ []) = b == 100
 is_letter_d (b ∷ c ∷ bs) = false
+
+-- the first item of a text, and the items behind it
+abbrev pub first_of : List ℕ → List ℕ
+first_of text = (split_from [] text).first
+
+abbrev pub behind_first : List ℕ → List (List ℕ)
+behind_first text = (split_from [] text).more

@@ -1,5 +1,5 @@
--- The variables of a clause that is read, in a set.
-use Rattle.std.specs.Prelude.{◌≡◌, ℕ, ◌<◌, ◌≤◌, ℤ, List, [], length, nat_eq}
+-- The variables of a clause that is read: a table of marks, and a set.
+use Rattle.std.specs.Prelude.{◌≡◌, ℕ, ◌<◌, ◌≤◌, ◌%◌, ℤ, Bool, true, false, List, [], length, nat_eq, slice_index_or}
 use Rattle.std.specs.declared.hash.FoldHasher.{FoldHasher}
 use Rattle.std.specs.declared.hash.BuildHasherDefault.{BuildHasherDefault}
 use Rattle.std.specs.HashSet.{HashSet, contains}
@@ -12,7 +12,12 @@ Numbers = HashSet ℕ (BuildHasherDefault FoldHasher)
 pub record HasVariables (seen : Numbers) (lits : List ℤ) : Type 0 where
   pub each : (v : ℕ) → contains nat_eq seen v ≡ has_variable lits v
 
--- the set is kept for more than 32 literals, and is empty before
+-- the set is kept for more than 256 literals, and is empty before
 pub record IsSeen (seen : Numbers) (lits : List ℤ) : Type 0 where
-  pub none : length lits ≤ 32 → seen.keys ≡ []
-  pub all : 32 < length lits → HasVariables seen lits
+  pub none : length lits ≤ 256 → seen.keys ≡ []
+  pub all : 256 < length lits → HasVariables seen lits
+
+-- there are 1024 marks, and that of each variable of the literals is set; others may be set, too
+pub record AreMarked (marks : List Bool) (lits : List ℤ) : Type 0 where
+  pub each : (v : ℕ) → has_variable lits v ≡ true → slice_index_or marks (v % 1024) false ≡ true
+  pub room : length marks ≡ 1024

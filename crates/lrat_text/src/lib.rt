@@ -15,6 +15,7 @@
 mod error;
 mod laws;
 mod line;
+mod numbers;
 mod numerals;
 mod reading;
 mod repeats;

@@ -1,51 +1,82 @@
-//! Numbers within a range, as lines have them: no sign, no 0 in front, no digit too many.
-ghost use Rattle.std.specs.Prelude.{◌≡◌, ◌<◌, ◌^◌, IfSome};
+//! Numbers within a range, as lines have them at their front: no sign, no 0 in front, no digit too many.
+ghost use Rattle.std.specs.Prelude.{◌≡◌, ◌+◌, ◌<◌, length, None, Some, IfNone, IfSome};
+ghost use Rattle.text_core.specs.Items.{items_left, size_left};
 ghost use Rattle.text_core.specs.Numbers.{number_up_to as number_up_to_of};
 ghost use Rattle.lrat_text.specs.Numerals as spec;
+ghost use Rattle.lrat_text.specs.Numerals.{first_of, behind_first};
 
+use crate::numbers::next_number;
 use cnf_core::Lit;
-use text_core::number_up_to;
 
-/// The id that an item spells, `Some(None)` for the 0 that ends a list; None for no number of the range.
-pub(crate) fn id_in(item: &[u8]) -> Option<Option<u32>>
-    ensures { result ≡ spec.id_in item.now }
+/// The id that the first item of a text spells, None for the 0 that ends a list, and what stands behind
+/// the item's blank; None for no number of the range.
+#[tactic(auto, using(crate::proofs::Entries::entries))]
+pub(crate) fn next_id(text: &[u8]) -> Option<(Option<u32>, Option<&[u8]>)>
+    ensures none { IfNone result (spec.id_in (first_of text.now) ≡ None) }
+    ensures id { IfSome result (λ x. spec.id_in (first_of text.now) ≡ Some x.0) }
+    ensures rest { IfSome result (λ x. behind_first text.now ≡ items_left x.1) }
+    ensures shorter { IfSome result (λ x. size_left x.1 < length text.now + 1) }
 {
-    let id = number_up_to(4_294_967_295, item)?;
-    Some(if id == 0 { None } else { Some(id) })
+    let Some((id, rest)) = next_number(4_294_967_295, text) else {
+        return None;
+    };
+    if id == 0 {
+        return Some((None, rest));
+    }
+    Some((Some(id), rest))
 }
 
-/// The number that digits spell, up to the greatest variable of a literal.
-fn variable_in(digits: &[u8]) -> Option<u32>
-    ensures value { result ≡ number_up_to_of 2147483647 digits.now }
-    ensures within { IfSome result (λ n. n < 2 ^ 31) }
+/// The digits of a literal that begins with a minus sign, and what stands behind them.
+#[tactic(auto, using(crate::proofs::Entries::entries))]
+fn behind_minus(text: &[u8]) -> Option<&[u8]>
+    ensures none { IfNone result (spec.literal_in (first_of text.now) ≡ spec.positive (number_up_to_of 2147483647 (first_of text.now))) }
+    ensures literal { IfSome result (λ digits. spec.literal_in (first_of text.now) ≡ spec.negative (number_up_to_of 2147483647 (first_of digits.now))) }
+    ensures rest { IfSome result (λ digits. behind_first text.now ≡ behind_first digits.now) }
+    ensures shorter { IfSome result (λ digits. length digits.now < length text.now) }
 {
-    number_up_to(2_147_483_647, digits)
+    let (first, digits) = text.split_first()?;
+    if *first != b'-' {
+        return None;
+    }
+    Some(digits)
 }
 
-/// The literal that an item spells, in the same way.
-pub(crate) fn literal_in(item: &[u8]) -> Option<Option<Lit>>
-    ensures { result ≡ spec.literal_in item.now }
+/// The literal that the first item spells, in the same way.
+#[tactic(auto, using(crate::proofs::Entries::entries))]
+pub(crate) fn next_literal(text: &[u8]) -> Option<(Option<Lit>, Option<&[u8]>)>
+    ensures none { IfNone result (spec.literal_in (first_of text.now) ≡ None) }
+    ensures literal { IfSome result (λ x. spec.literal_in (first_of text.now) ≡ Some x.0) }
+    ensures rest { IfSome result (λ x. behind_first text.now ≡ items_left x.1) }
+    ensures shorter { IfSome result (λ x. size_left x.1 < length text.now + 1) }
 {
-    if let [b'-', digits @ ..] = item {
-        let variable = variable_in(digits)?;
+    if let Some(digits) = behind_minus(text) {
+        let Some((variable, rest)) = next_number(2_147_483_647, digits) else {
+            return None;
+        };
         if variable == 0 {
             return None;
         }
         let lit = Lit::new(variable as i32);
-        return Some(Some(lit.opposite()));
+        return Some((Some(lit.opposite()), rest));
     }
-    let variable = variable_in(item)?;
+    let Some((variable, rest)) = next_number(2_147_483_647, text) else {
+        return None;
+    };
     if variable == 0 {
-        return Some(None);
+        return Some((None, rest));
     }
-    Some(Some(Lit::new(variable as i32)))
+    Some((Some(Lit::new(variable as i32)), rest))
 }
 
-/// Whether an item begins with a minus sign.
-pub(crate) fn begins_minus(item: &[u8]) -> bool
-    ensures { result ≡ spec.begins_minus item.now }
+/// Whether the first item of a text begins with a minus sign.
+#[tactic(auto, using(crate::proofs::Entries::entries))]
+pub(crate) fn begins_minus(text: &[u8]) -> bool
+    ensures { result ≡ spec.begins_minus (first_of text.now) }
 {
-    item.first() == Some(&b'-')
+    let Some((first, _)) = text.split_first() else {
+        return false;
+    };
+    *first == b'-'
 }
 
 /// Whether an item is the letter d.

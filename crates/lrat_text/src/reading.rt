@@ -9,11 +9,11 @@ ghost use Rattle.lrat_text.specs.Spelling.{line_body};
 ghost use Rattle.lrat_text.specs.Values.{line_value};
 ghost use Rattle.lrat_text.specs.Gives.{Gives};
 
-use crate::numerals::{begins_minus, id_in, is_letter_d, literal_in};
-use crate::repeats::comes_again;
+use crate::numerals::{begins_minus, is_letter_d, next_id, next_literal};
+use crate::repeats::{MARKS, comes_again};
 use crate::{Line, LineError};
 use cnf_core::Lit;
-use std::alloc::Global;
+use std::alloc::{AllocError, Global};
 use std::collections::HashSet;
 use text_core::next_item;
 
@@ -27,19 +27,29 @@ fn finish(line: Line, rest: Option<&[u8]>) -> Result<Line, LineError>
     Ok(line)
 }
 
+/// No hints, with room for those of a text, so that few lines make it grow. Most hints take four bytes and
+/// more there.
+fn room(alloc: Global, text: Option<&[u8]>) -> Result<Vec<u32>, AllocError>
+    ensures { IfOk result (λ hints. hints.items ≡ []) }
+{
+    match text {
+        Some(text) => Vec::with_capacity(alloc, text.len() / 4),
+        None => Ok(Vec::new(alloc)),
+    }
+}
+
 /// The hints of an addition, and with them the line.
 #[tactic(auto, unfolding(crate::specs::Reading::hints_of))]
 fn hints_of(alloc: Global, id: u32, lits: Vec<Lit>, text: Option<&[u8]>) -> Result<Line, LineError>
     ensures { Gives result (spec.hints_of id lits.items [] (items_left text.entry)) }
 {
-    let mut hints = Vec::new(alloc);
+    let mut hints = room(alloc, text)?;
     let mut left = text;
     while let Some(text) = left {
-        let (item, rest) = next_item(text);
-        if begins_minus(item) {
+        if begins_minus(text) {
             return Err(LineError::RatHint);
         }
-        let Some(entry) = id_in(item) else {
+        let Some((entry, rest)) = next_id(text) else {
             return Err(LineError::BadNumber);
         };
         let Some(hint) = entry else {
@@ -57,17 +67,17 @@ fn lits_of(alloc: Global, id: u32, text: &[u8]) -> Result<Line, LineError>
     ensures { Gives result (spec.lits_of id [] (items_of text.now)) }
 {
     let mut lits = Vec::new(alloc);
+    let mut marks = [false; MARKS];
     let mut seen = HashSet::new(alloc);
     let mut left = Some(text);
     while let Some(text) = left {
-        let (item, rest) = next_item(text);
-        let Some(entry) = literal_in(item) else {
+        let Some((entry, rest)) = next_literal(text) else {
             return Err(LineError::BadNumber);
         };
         let Some(lit) = entry else {
             return hints_of(alloc, id, lits, rest);
         };
-        if comes_again(&mut seen, &lits, lit)? {
+        if comes_again(&mut marks, &mut seen, &lits, lit)? {
             return Err(LineError::RepeatedVariable);
         }
         lits.push(lit)?;
@@ -84,8 +94,7 @@ fn ids_of(alloc: Global, id: u32, text: Option<&[u8]>) -> Result<Line, LineError
     let mut ids = Vec::new(alloc);
     let mut left = text;
     while let Some(text) = left {
-        let (item, rest) = next_item(text);
-        let Some(entry) = id_in(item) else {
+        let Some((entry, rest)) = next_id(text) else {
             return Err(LineError::BadNumber);
         };
         let Some(deleted) = entry else {
@@ -115,8 +124,7 @@ fn behind_id(alloc: Global, id: u32, left: Option<&[u8]>) -> Result<Line, LineEr
 fn read(alloc: Global, text: &[u8]) -> Result<Line, LineError>
     ensures { Gives result (spec.line_in text.now) }
 {
-    let (item, rest) = next_item(text);
-    let Some(Some(id)) = id_in(item) else {
+    let Some((Some(id), rest)) = next_id(text) else {
         return Err(LineError::BadNumber);
     };
     behind_id(alloc, id, rest)

@@ -1,0 +1,115 @@
+-- The first item of a text, byte by byte.
+use Rattle.std.proofs.Common.{◌≡◌, ℕ, ◌<◌, ◌≤◌, ◌+◌, ◌-◌, ◌*◌, true, false, List, [], ◌∷◌, ◌++◌, Some, None, refl, sym, ap, ◌∙◌, arith}
+use Rattle.std.specs.Char.{is_ascii_digit}
+use Rattle.std.proofs.lemmas.Bool.{ne_eqb, le-ltb, lt-ltb}
+use Rattle.std.proofs.lemmas.Grind.{common_steps}
+use Rattle.text_core.specs.Items.{split_from, items_of}
+use Rattle.text_core.specs.Numbers.{number_from, number_up_to}
+use Rattle.lrat_text.specs.Numerals.{first_of, behind_first}
+
+-- what was gone over stands in front of the first item
+first_front : (front bs : List ℕ) → (split_from front bs).first ≡ front ++ first_of bs
+unfolding split_from
+first_front front [] = grind (arith, common_steps)
+first_front front (b ∷ bs) = grind (arith, common_steps, first_front (front ++ b ∷ []) bs, first_front (b ∷ []) bs)
+
+more_front : (front bs : List ℕ) → (split_from front bs).more ≡ behind_first bs
+unfolding split_from
+more_front front [] = refl
+more_front front (b ∷ bs) = grind (arith, common_steps, more_front (front ++ b ∷ []) bs, more_front (b ∷ []) bs)
+
+-- A text without a byte has one empty item.
+pub first_of-nil : first_of [] ≡ []
+unfolding split_from
+first_of-nil = refl
+
+pub behind_first-nil : behind_first [] ≡ []
+unfolding split_from
+behind_first-nil = refl
+
+-- A blank ends the first item,
+pub first_of-blank : (b : ℕ) (bs : List ℕ) → b ≡ 32 → first_of (b ∷ bs) ≡ []
+unfolding split_from
+first_of-blank b bs is = grind (arith, common_steps, is)
+
+pub behind_first-blank : (b : ℕ) (bs : List ℕ) → b ≡ 32 → behind_first (b ∷ bs) ≡ items_of bs
+unfolding split_from
+behind_first-blank b bs is = grind (arith, common_steps, is)
+
+-- and another byte stands in it.
+pub first_of-byte : (b : ℕ) (bs : List ℕ) → (b ≡ 32 → ⊥) → first_of (b ∷ bs) ≡ b ∷ first_of bs
+unfolding split_from
+first_of-byte b bs isnt = grind (arith, common_steps, isnt, first_front (b ∷ []) bs)
+
+pub behind_first-byte : (b : ℕ) (bs : List ℕ) → (b ≡ 32 → ⊥) → behind_first (b ∷ bs) ≡ behind_first bs
+unfolding split_from
+behind_first-byte b bs isnt = grind (arith, common_steps, isnt, more_front (b ∷ []) bs)
+
+-- The digits are all of an item that begins with no 0,
+up_to_from : (limit b : ℕ) (bs : List ℕ) → (b ≡ 48 → ⊥) → number_up_to limit (b ∷ bs) ≡ number_from limit 0 (b ∷ bs)
+up_to_from limit b [] isnt = refl
+up_to_from limit b (c ∷ bs) isnt = rw (ne_eqb b 48 isnt) refl
+
+pub number_of_digits : (limit b : ℕ) (text bs : List ℕ) → text ≡ b ∷ bs → (b ≡ 32 → ⊥) → (b ≡ 48 → ⊥) → number_up_to limit (first_of text) ≡ number_from limit 0 (first_of text)
+number_of_digits limit b text bs split no_blank no_zero =
+    let whole : first_of text ≡ b ∷ first_of bs = ap first_of split ∙ first_of-byte b bs no_blank in
+    ap (number_up_to limit) whole ∙ up_to_from limit b (first_of bs) no_zero ∙ ap (number_from limit 0) (sym whole)
+
+-- an item that begins with 0 is 0, or no number,
+zero_spelled : (limit : ℕ) → number_up_to limit (48 ∷ []) ≡ Some 0
+unfolding number_from
+zero_spelled limit = grind (arith, common_steps)
+
+behind_a_zero : (b : ℕ) (text bs : List ℕ) → text ≡ b ∷ bs → b ≡ 48 → first_of text ≡ 48 ∷ first_of bs
+behind_a_zero b text bs split is = ap first_of split ∙ ap (λ (x : ℕ). first_of (x ∷ bs)) is ∙ first_of-byte 48 bs (λ e. cc)
+
+pub number_of_zero : (limit b : ℕ) (text bs : List ℕ) → text ≡ b ∷ bs → b ≡ 48 → first_of bs ≡ [] → number_up_to limit (first_of text) ≡ Some 0
+number_of_zero limit b text bs split is none = ap (number_up_to limit) (behind_a_zero b text bs split is ∙ ap (λ (ds : List ℕ). 48 ∷ ds) none) ∙ zero_spelled limit
+
+pub number_of_long : (limit b : ℕ) (text bs : List ℕ) → text ≡ b ∷ bs → b ≡ 48 → number_up_to limit (48 ∷ first_of bs) ≡ None → number_up_to limit (first_of text) ≡ None
+number_of_long limit b text bs split is none = ap (number_up_to limit) (behind_a_zero b text bs split is) ∙ none
+
+pub rest_of_zero : (b : ℕ) (text bs : List ℕ) → text ≡ b ∷ bs → b ≡ 48 → behind_first text ≡ behind_first bs
+rest_of_zero b text bs split is = ap behind_first split ∙ ap (λ (x : ℕ). behind_first (x ∷ bs)) is ∙ behind_first-byte 48 bs (λ e. cc)
+
+pub long_zero : (limit b : ℕ) (text bs : List ℕ) → text ≡ b ∷ bs → (b ≡ 32 → ⊥) → number_up_to limit (48 ∷ first_of text) ≡ None
+long_zero limit b text bs split isnt = ap (λ (ds : List ℕ). number_up_to limit (48 ∷ ds)) (ap first_of split ∙ first_of-byte b bs isnt)
+
+-- and an empty one is none.
+pub number_of_blank : (limit b : ℕ) (text bs : List ℕ) → text ≡ b ∷ bs → b ≡ 32 → number_up_to limit (first_of text) ≡ None
+number_of_blank limit b text bs split is = ap (number_up_to limit) (ap first_of split ∙ first_of-blank b bs is)
+
+-- Digits, where those before are worth a number and some text is left.
+pub digits_blank : (limit value b : ℕ) (text left bs : List ℕ) → left ≡ b ∷ bs → b ≡ 32 → number_from limit value (first_of left) ≡ number_from limit 0 (first_of text) → number_from limit 0 (first_of text) ≡ Some value
+unfolding number_from
+digits_blank limit value b text left bs split is so_far = sym so_far ∙ ap (number_from limit value) (ap first_of split ∙ first_of-blank b bs is)
+
+pub digits_end : (limit value : ℕ) (text left : List ℕ) → left ≡ [] → number_from limit value (first_of left) ≡ number_from limit 0 (first_of text) → number_from limit 0 (first_of text) ≡ Some value
+unfolding number_from
+digits_end limit value text left none so_far = sym so_far ∙ ap (number_from limit value) (ap first_of none ∙ first_of-nil)
+
+pub rest_blank : (b : ℕ) (text left bs : List ℕ) → left ≡ b ∷ bs → b ≡ 32 → behind_first left ≡ behind_first text → behind_first text ≡ items_of bs
+rest_blank b text left bs split is so_far = sym so_far ∙ ap behind_first split ∙ behind_first-blank b bs is
+
+pub rest_end : (text left : List ℕ) → left ≡ [] → behind_first left ≡ behind_first text → behind_first text ≡ []
+rest_end text left none so_far = sym so_far ∙ ap behind_first none ∙ behind_first-nil
+
+pub rest_byte : (b : ℕ) (text left bs : List ℕ) → left ≡ b ∷ bs → (b ≡ 32 → ⊥) → behind_first left ≡ behind_first text → behind_first bs ≡ behind_first text
+rest_byte b text left bs split isnt so_far = sym (behind_first-byte b bs isnt) ∙ ap behind_first (sym split) ∙ so_far
+
+one_more : (limit value b : ℕ) (text left bs : List ℕ) → left ≡ b ∷ bs → (b ≡ 32 → ⊥) → number_from limit value (first_of left) ≡ number_from limit 0 (first_of text) → number_from limit 0 (first_of text) ≡ number_from limit value (b ∷ first_of bs)
+one_more limit value b text left bs split isnt so_far = sym so_far ∙ ap (number_from limit value) (ap first_of split ∙ first_of-byte b bs isnt)
+
+pub digits_other : (limit value b : ℕ) (text left bs : List ℕ) → left ≡ b ∷ bs → (b ≡ 32 → ⊥) → is_ascii_digit b ≡ false → number_from limit value (first_of left) ≡ number_from limit 0 (first_of text) → number_from limit 0 (first_of text) ≡ None
+unfolding number_from
+digits_other limit value b text left bs split isnt other so_far = one_more limit value b text left bs split isnt so_far ∙ rw other refl
+
+pub digits_above : (limit value b : ℕ) (text left bs : List ℕ) → left ≡ b ∷ bs → (b ≡ 32 → ⊥) → is_ascii_digit b ≡ true → limit < value * 10 + (b - 48) → number_from limit value (first_of left) ≡ number_from limit 0 (first_of text) → number_from limit 0 (first_of text) ≡ None
+unfolding number_from
+digits_above limit value b text left bs split isnt digit above so_far = one_more limit value b text left bs split isnt so_far ∙ rw (digit, lt-ltb limit (value * 10 + (b - 48)) above) refl
+
+pub digits_more : (limit value b : ℕ) (text left bs : List ℕ) → left ≡ b ∷ bs → (b ≡ 32 → ⊥) → is_ascii_digit b ≡ true → value * 10 + (b - 48) ≤ limit → number_from limit value (first_of left) ≡ number_from limit 0 (first_of text) → number_from limit (value * 10 + (b - 48)) (first_of bs) ≡ number_from limit 0 (first_of text)
+unfolding number_from
+digits_more limit value b text left bs split isnt digit within so_far = sym (one_more limit value b text left bs split isnt so_far ∙ rw (digit, le-ltb limit (value * 10 + (b - 48)) within) refl)
+
+pub ruleset fronts = (common_steps, first_of-nil, behind_first-nil, digits_blank, digits_end, rest_blank, rest_end, rest_byte, digits_other, digits_above, digits_more, number_of_digits, number_of_zero, number_of_long, number_of_blank, rest_of_zero, long_zero, first_of-blank, behind_first-blank)
