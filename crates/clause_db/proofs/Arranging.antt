@@ -135,9 +135,6 @@ besides_is lits from m low found two is = ⊎_elim
 pub pushed_list : (w a : Arranged) (from to m : ℤ) (id : ℕ) → a ≡ record w { lists = with_id w.lists to id; rows = with_blocker w.rows to m } → (from ≡ to → ⊥) → listed_in a.lists from ≡ listed_in w.lists from
 pushed_list w a from to m id pushed apart = ap (λ (x : Arranged). listed_in x.lists from) pushed ∙ listed-other w.lists to from _ apart
 
-pub pushed_row : (w a : Arranged) (from to m : ℤ) (id : ℕ) → a ≡ record w { lists = with_id w.lists to id; rows = with_blocker w.rows to m } → (from ≡ to → ⊥) → row_of a.rows from ≡ row_of w.rows from
-pushed_row w a from to m id pushed apart = ap (λ (x : Arranged). row_of x.rows from) pushed ∙ row-other w.rows to from _ apart
-
 pub all_moved : (w a b c : Arranged) (from to m : ℤ) (block : List ℤ) (id place index low high : ℕ) → a ≡ record w { lists = with_id w.lists to id; rows = with_blocker w.rows to m } → b ≡ record a { lists = slice_set a.lists (code_of from) (swap_remove (listed_in a.lists from) index 0); rows = with_row a.rows from (swap_remove (row_of a.rows from) index (pos 1)) }
     → c ≡ record b { blocks = slice_set b.blocks (id - 1) (swap (block_at b.blocks id) low high) } → (from ≡ to → ⊥) → id ≡ place → (0 < place) × (place ≤ length w.blocks) → block ≡ block_at w.blocks id → IsFound block from low → high < length block → ((d : ℤ) → slice_index_or block high d ≡ to)
     → 2 ≤ length (block_at w.blocks place) → m ≡ slice_index_or block (1 - low) m → IsNoneOf (pair_of (block_at w.blocks place)) to

@@ -1,5 +1,5 @@
-//! The list of a literal: ids, and beside each a literal of its clause. Both are pushed and taken out together, so that
-//! they stay as long as each other.
+//! The list of a literal: for each clause that watches it the id, and beside that a literal of the clause. The two stand
+//! in one struct, so that a list of ids and one of literals that contracts see are as long as each other by themselves.
 ghost use Rattle.std.specs.Prelude.{◌≡◌, ◌-◌, ◌<◌, ◌∷◌, [], ◌++◌, pos, length, take, slice_set, OnOk, OnErr};
 ghost use Rattle.std.specs.List.{swap_remove};
 ghost use Rattle.clause_db.specs.Lists.{nothing_listed};
@@ -8,73 +8,68 @@ use cnf_core::Lit;
 use std::alloc::{AllocError, Global};
 use std::marker::Model;
 
-/// The clauses that watch a literal, by their ids, and beside each id a literal of its clause.
+/// A clause in the list of a literal that it watches.
+#[derive(Clone, Copy, Debug)]
+pub struct Watch {
+    /// The id of the clause.
+    pub id: u32,
+    /// One of its literals: while that is true, the clause is.
+    pub blocker: Lit,
+}
+
+/// The clauses that watch a literal. Contracts see their ids, and the literals beside these.
 #[derive(Debug, Drop)]
 pub(crate) struct WatchList {
-    ids: Vec<u32>,
-    blockers: Vec<Lit>,
+    entries: Vec<Watch>,
 }
 
 impl Model for WatchList {
-    ghost use Rattle.clause_db.specs.Lists.{Listed};
+    ghost use Rattle.clause_db.specs.Lists.{Listed, listed_of};
 
     ghost Value = { Listed };
 
-    ghost view = { λ l. record { ids = l.ids.items; blockers = l.blockers.items } };
+    ghost view = { λ l. listed_of l.entries.items };
 }
 
+#[tactic(auto, using(crate::proofs::Listed::entries))]
 impl WatchList {
+    ghost use Rattle.clause_db.specs.Lists.{listed_of};
+
     pub(crate) fn none(alloc: Global) -> WatchList
         ensures { result ≡ nothing_listed }
     {
         WatchList {
-            ids: Vec::new(alloc),
-            blockers: Vec::new(alloc),
+            entries: Vec::new(alloc),
         }
     }
 
-    pub(crate) fn ids(&self) -> &[u32]
-        ensures { result.now ≡ self.now.ids }
+    pub(crate) fn entries(&self) -> &[Watch]
+        ensures { listed_of result.now ≡ self.now }
     {
-        &self.ids
+        &self.entries
     }
 
-    pub(crate) fn blockers(&self) -> &[Lit]
-        ensures { result.now ≡ self.now.blockers }
-    {
-        &self.blockers
-    }
-
-    pub(crate) fn push(&mut self, id: u32, blocker: Lit) -> Result<(), AllocError>
-        ensures ok { OnOk result (self.new ≡ record { ids = self.old.ids ++ id ∷ []; blockers = self.old.blockers ++ blocker ∷ [] }) }
+    pub(crate) fn push(&mut self, watch: Watch) -> Result<(), AllocError>
+        ensures ok { OnOk result (self.new ≡ record { ids = self.old.ids ++ watch.id ∷ []; blockers = self.old.blockers ++ watch.blocker ∷ [] }) }
         ensures err { OnErr result (self.new ≡ self.old) }
     {
-        self.ids.push(id)?;
-        match self.blockers.push(blocker) {
-            Ok(()) => Ok(()),
-            Err(_) => {
-                self.ids.pop();
-                Err(AllocError)
-            }
-        }
+        self.entries.push(watch)?;
+        Ok(())
     }
 
-    /// Takes the last id off, and what stands beside it.
+    /// Takes the last entry off.
     pub(crate) fn take_last(&mut self)
         ensures { self.new ≡ record { ids = take (length self.old.ids - 1) self.old.ids; blockers = take (length self.old.blockers - 1) self.old.blockers } }
     {
-        self.ids.pop();
-        self.blockers.pop();
+        self.entries.pop();
     }
 
-    /// Takes the id at an index out, with what stands beside it, and puts the last ones there.
+    /// Takes the entry at an index out, and puts the last one there.
     pub(crate) fn take_out(&mut self, index: usize)
-        requires inside { index < length self.old.ids }
-        requires beside { index < length self.old.blockers }
+        requires { index < length self.old.ids }
         ensures { self.new ≡ record { ids = swap_remove self.old.ids index 0; blockers = swap_remove self.old.blockers index (pos 1) } }
     {
-        self.ids.swap_remove(index);
-        self.blockers.swap_remove(index);
+        self.entries.swap_remove(index);
     }
 
     /// Puts a literal beside the id at an index.
@@ -82,6 +77,6 @@ impl WatchList {
         requires { index < length self.old.blockers }
         ensures { self.new ≡ record self.old { blockers = slice_set self.old.blockers index blocker } }
     {
-        self.blockers[index] = blocker;
+        self.entries[index].blocker = blocker;
     }
 }

@@ -8,9 +8,10 @@ ghost use Rattle.clause_db.specs.Watching.{listed_in, pair_of, with_id, with_ids
 ghost use Rattle.clause_db.specs.Blocking.{row_of, with_row, with_blocker, with_blockers, rows_moved, besides};
 ghost use Rattle.clause_db.specs.Arranging.{block_at, watching_of, arranged_more, ArePermuted, IsNoneOf};
 ghost use Rattle.clause_db.specs.Deleting.{arranged_left};
+ghost use Rattle.clause_db.specs.Lists.{ids_of, blockers_of};
 
 use crate::blocks::Blocks;
-use crate::lists::WatchList;
+use crate::lists::{Watch, WatchList};
 use cnf_core::Lit;
 use std::alloc::{AllocError, Global};
 use std::marker::Model;
@@ -75,20 +76,13 @@ impl Watches {
         first_two(self.block(id))
     }
 
-    /// The list of a literal.
-    pub(crate) fn list(&self, lit: Lit) -> &[u32]
+    /// The list of a literal, with the literals beside its ids.
+    pub(crate) fn list(&self, lit: Lit) -> &[Watch]
         requires { code_of lit < length self.now.lists }
-        ensures { result.now ≡ listed_in self.now.lists lit }
+        ensures ids { ids_of result.now ≡ listed_in self.now.lists lit }
+        ensures blockers { blockers_of result.now ≡ row_of self.now.rows lit }
     {
-        self.lists[lit.code()].ids()
-    }
-
-    /// The literals beside the ids of a literal's list.
-    pub(crate) fn row(&self, lit: Lit) -> &[Lit]
-        requires { code_of lit < length self.now.lists }
-        ensures { result.now ≡ row_of self.now.rows lit }
-    {
-        self.lists[lit.code()].blockers()
+        self.lists[lit.code()].entries()
     }
 
     /// Puts an id at the end of a literal's list, and a literal beside it.
@@ -97,7 +91,7 @@ impl Watches {
         ensures ok { OnOk result (self.new ≡ record self.old { lists = with_id self.old.lists lit id; rows = with_blocker self.old.rows lit blocker }) }
         ensures err { OnErr result (self.new ≡ self.old) }
     {
-        self.lists[lit.code()].push(id, blocker)?;
+        self.lists[lit.code()].push(Watch { id, blocker })?;
         Ok(())
     }
 
@@ -168,7 +162,6 @@ impl Watches {
     ) -> Result<(), AllocError>
         requires rooms { (code_of from < length self.old.lists) × (code_of to < length self.old.lists) }
         requires inside { index < length (listed_in self.old.lists from) }
-        requires beside { index < length (row_of self.old.rows from) }
         requires id { (0 < slice_index_or (listed_in self.old.lists from) index 0) × (slice_index_or (listed_in self.old.lists from) index 0 ≤ length self.old.blocks) }
         requires two { 2 ≤ length (block_at self.old.blocks (slice_index_or (listed_in self.old.lists from) index 0)) }
         requires apart { from ≢ to }
@@ -179,7 +172,7 @@ impl Watches {
         ensures order { OnOk result (ArePermuted self.old.blocks self.new.blocks) }
         ensures err { OnErr result (self.new ≡ self.old) }
     {
-        let id = self.list(from)[index];
+        let id = self.list(from)[index].id;
         let block = self.block(id);
         let low = place_of_watch(block, from);
         let other = block[1 - low];
@@ -195,7 +188,6 @@ impl Watches {
         requires rooms { (code_of one < length self.old.lists) × (code_of other < length self.old.lists) }
         requires apart { one ≢ other }
         requires inside { (index < length (listed_in self.old.lists one)) × (place < length (listed_in self.old.lists other)) }
-        requires beside { (index < length (row_of self.old.rows one)) × (place < length (row_of self.old.rows other)) }
         ensures { self.new ≡ arranged_left (arranged_left self.old one index) other place }
     {
         self.take_out(one, index);
@@ -206,7 +198,6 @@ impl Watches {
     fn take_out(&mut self, lit: Lit, index: usize)
         requires room { code_of lit < length self.old.lists }
         requires inside { index < length (listed_in self.old.lists lit) }
-        requires beside { index < length (row_of self.old.rows lit) }
         ensures { self.new ≡ record self.old { lists = slice_set self.old.lists (code_of lit) (swap_remove (listed_in self.old.lists lit) index 0); rows = with_row self.old.rows lit (swap_remove (row_of self.old.rows lit) index (pos 1)) } }
     {
         self.lists[lit.code()].take_out(index);
