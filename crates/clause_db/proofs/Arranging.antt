@@ -35,6 +35,10 @@ both_back w a b l m id pushed taken =
     again : {xs : List (List ℕ)} {ys : List (List ℤ)} → xs ≡ w.lists → ys ≡ w.rows → (let x : Arranged = record { blocks = w.blocks; lists = xs; rows = ys } in x) ≡ w
     again e f = rw (e, f) refl
 
+-- two literals of an id changed places
+abbrev pub exchanged_at : Arranged → ℕ → ℕ → ℕ → Arranged
+exchanged_at w id low high = record { blocks = slice_set w.blocks (id - 1) (swap (block_at w.blocks id) low high); lists = w.lists; rows = w.rows }
+
 -- the watched pair of an id
 pub pair_block : (a : Arranged) (id : ℕ) → pair_at (watching_of a) id ≡ pair_of (block_at a.blocks id)
 pair_block a id = pair_in_blocks a.blocks (id - 1)

@@ -1,5 +1,5 @@
 -- The store and what its clauses watch, together.
-use Rattle.std.proofs.Common.{◌≡◌, ◌≢◌, ◌↔◌, ℕ, ◌+◌, ◌*◌, ◌<◌, ◌≤◌, ℤ, List, [], ◌∷◌, ◌++◌, length, take, slice_index_or, slice_set, replicate, ◌-◌, ◌⊎◌, inl, inr, Contains, All, pos, Option, Some, None, IsSome, refl, sym, ap, ◌∙◌, subst, arith}
+use Rattle.std.proofs.Common.{◌≡◌, ◌≢◌, ℕ, ◌+◌, ◌*◌, ◌<◌, ◌≤◌, ℤ, List, [], ◌∷◌, ◌++◌, length, take, slice_index_or, slice_set, replicate, ◌-◌, ◌⊎◌, inl, inr, Contains, All, pos, Option, Some, None, IsSome, refl, sym, ap, ◌∙◌, subst, arith}
 use Rattle.std.proofs.lemmas.List.Elements.{All-contains}
 use Rattle.std.proofs.lemmas.Grind.{common_steps}
 use Rattle.std.proofs.Math.Logic.{⊎_elim}
@@ -15,8 +15,8 @@ use Rattle.std.proofs.lemmas.List.{length_push, length-map, get_or-map}
 use Rattle.std.proofs.lemmas.List.Elements.{Contains-get_or}
 use Rattle.clause_db.specs.Blocking.{row_of, with_row, with_blockers, rows_moved, blocker_at, besides, IsOf, AreBeside, AreBlockers}
 use Rattle.clause_db.specs.declared.lists.Watch.{Watch}
-use Rattle.clause_db.specs.Lists.{ids_of, blockers_of}
-use Rattle.clause_db.specs.WatchingLaws.{pair_new, pair_old, watch_id}
+use Rattle.clause_db.specs.Lists.{blockers_of}
+use Rattle.clause_db.specs.WatchingLaws.{pair_new, pair_old}
 use Rattle.clause_db.proofs.Beside.{blockers_none, blockers_set, blockers_added, blockers_moved}
 use Rattle.clause_db.specs.Arranging.{Arranged, block_at, watching_of, arranged_more, ArePermuted, AreArranged, IsNoneOf}
 use Rattle.clause_db.proofs.Arranging.{pair_block, more_is, clause_permuted, arranged_none, arranged_added, arranged_moved}
@@ -153,24 +153,17 @@ entries_beside s now rows l entries view are is index d low =
     subst (λ (x : Stored). IsOf x (slice_index_or (list_of x.watches l) index 0) (slice_index_or entries index d).blocker) view
     (subst (λ (m : ℤ). IsOf s (slice_index_or (list_of s.watches l) index 0) m) same (are.there l index (omega (arith, low, long))))
 
--- An entry of a list is a live clause, and what holds of its id holds of the id in the list.
-pub entry_live : (s : Stored) (l : ℤ) (entries : List Watch) (index : ℕ) (d : Watch) → IsStored s → ids_of entries ≡ list_of s.watches l → index < length (list_of s.watches l) → IsSome (live_in s (slice_index_or entries index d).id)
-entry_live s l entries index d stored is inside =
+-- What stands in a list is a live clause of two literals or more.
+pub listed_long : (s : Stored) (l : ℤ) (index : ℕ) → IsStored s → index < length (list_of s.watches l) → IsLong s (slice_index_or (list_of s.watches l) index 0)
+listed_long s l index stored inside =
     let watches : Watches s (slice_index_or (list_of s.watches l) index 0) l = stored.only l (slice_index_or (list_of s.watches l) index 0) (Contains-get_or (list_of s.watches l) index 0 inside) in
-    let live : live_in s (slice_index_or (list_of s.watches l) index 0) ≡ Some watches.clause = watches.is_live in
-    rw (watch_id entries (list_of s.watches l) index d is inside, live) refl
+    record { clause = watches.clause; is_live = watches.is_live; long = watches.long }
 
-pub entry_same : (s : Stored) (l : ℤ) (entries : List Watch) (index : ℕ) (d : Watch) (lits : List ℤ) → ids_of entries ≡ list_of s.watches l → index < length (list_of s.watches l) → ((clause : List ℤ) → live_in s (slice_index_or entries index d).id ≡ Some clause → (m : ℤ) → Contains lits m ↔ Contains clause m)
-    → (clause : List ℤ) → live_in s (slice_index_or (list_of s.watches l) index 0) ≡ Some clause → (m : ℤ) → Contains lits m ↔ Contains clause m
-entry_same s l entries index d lits is inside same clause live = same clause (ap (live_in s) (watch_id entries (list_of s.watches l) index d is inside) ∙ live)
-
-pub entry_front : (s : Stored) (l : ℤ) (entries : List Watch) (index : ℕ) (d : Watch) (lits : List ℤ) → IsStored s → ids_of entries ≡ list_of s.watches l → index < length (list_of s.watches l) → (IsLong s (slice_index_or entries index d).id → (2 ≤ length lits) × (pair_of lits ≡ pair_at s.watches (slice_index_or entries index d).id))
-    → (2 ≤ length lits) × (pair_of lits ≡ pair_at s.watches (slice_index_or (list_of s.watches l) index 0))
-entry_front s l entries index d lits stored is inside front =
-    let id : (slice_index_or entries index d).id ≡ slice_index_or (list_of s.watches l) index 0 = watch_id entries (list_of s.watches l) index d is inside in
-    let watches : Watches s (slice_index_or (list_of s.watches l) index 0) l = stored.only l (slice_index_or (list_of s.watches l) index 0) (Contains-get_or (list_of s.watches l) index 0 inside) in
-    let long : IsLong s (slice_index_or entries index d).id = record { clause = watches.clause; is_live = ap (live_in s) id ∙ watches.is_live; long = watches.long } in
-    subst (λ (n : ℕ). (2 ≤ length lits) × (pair_of lits ≡ pair_at s.watches n)) id (front long)
+pub listed_live : (s : Stored) (l : ℤ) (index : ℕ) → IsStored s → index < length (list_of s.watches l) → IsSome (live_in s (slice_index_or (list_of s.watches l) index 0))
+listed_live s l index stored inside =
+    let long : IsLong s (slice_index_or (list_of s.watches l) index 0) = listed_long s l index stored inside in
+    let live : live_in s (slice_index_or (list_of s.watches l) index 0) ≡ Some long.clause = long.is_live in
+    rw live refl
 
 -- A clause that was found in a list can be moved from there.
 pub found_movable : (s : Stored) (from to : ℤ) (id index : ℕ) (ids : List ℕ) → ids ≡ list_of s.watches from → index < length ids → slice_index_or ids index 0 ≡ id → ((clause : List ℤ) → live_in s id ≡ Some clause → Contains clause to) → (Watches s id to → ⊥) → IsMovable s id from to index

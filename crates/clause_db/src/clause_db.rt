@@ -123,8 +123,7 @@ impl ClauseDb {
         ensures over { IsWithin self.now.vars result.now }
         ensures whole { IsStored self.now }
     {
-        let id = self.watching(lit)[index].id;
-        self.arranged(id)
+        self.watches.entry_block(lit, index)
     }
 
     /// Whether an id is that of a live clause.
