@@ -13,7 +13,9 @@ use Rattle.std.specs.List.{swap_remove}
 use Rattle.cdcl_theory.specs.Codes.{code_of}
 use Rattle.cdcl_theory.specs.CodeLaws.{code_of-room}
 use Rattle.clause_db.specs.Stored.{Stored, live_at, live_in, Watches, IsLong, IsStored, rewatched}
-use Rattle.clause_db.specs.Blocking.{IsOf}
+use Rattle.clause_db.specs.Blocking.{IsOf, AreBeside}
+use Rattle.clause_db.specs.declared.lists.Watch.{Watch}
+use Rattle.clause_db.specs.Lists.{no_watch}
 use Rattle.clause_db.specs.Moving.{IsMovable, movable_watches, watched_in, watched_variable, rewatched_old}
 use Rattle.cdcl_core.specs.Guarding.{HasTrue, HasTrueAt, IsGuarded}
 use Rattle.cdcl_core.proofs.Guards.{guarded_moved, guarded_visited}
@@ -165,11 +167,11 @@ rest_moved a b c r s t l index trail stored rest moved = rw (moved.is, moved.sam
 })
 
 -- Clauses whose blocking literals are true need no visit.
-pub visited_open : (s : Stored) (t : Trailed) (l : ℤ) (blockers : List ℤ) (index open_at : ℕ) → ((k : ℕ) (d : ℤ) → k < length blockers → IsOf s (slice_index_or (list_of s.watches l) k 0) (slice_index_or blockers k d)) → AreTrue t blockers index open_at → open_at ≤ length blockers → ((k : ℕ) → k < index → HasTrueAt s (fell t) (id_at s l k)) → (k : ℕ) → k < open_at → HasTrueAt s (fell t) (id_at s l k)
-visited_open s t l blockers index open_at there on low before k under =
+pub visited_open : (s : Stored) (t : Trailed) (l : ℤ) (watches : List Watch) (index open_at : ℕ) → AreBeside s l watches → AreTrue t watches index open_at → open_at ≤ length watches → ((k : ℕ) → k < index → HasTrueAt s (fell t) (id_at s l k)) → (k : ℕ) → k < open_at → HasTrueAt s (fell t) (id_at s l k)
+visited_open s t l watches index open_at beside on low before k under =
     ⊎_elim
     (λ (old : k < index). before k old)
-    (λ (new : index ≤ k). λ clause is. record { lit = slice_index_or blockers k l; there = there k l (omega (arith, under, low)) clause is; on = on k l new under })
+    (λ (new : index ≤ k). λ clause is. record { lit = (slice_index_or watches k no_watch).blocker; there = beside k no_watch (omega (arith, under, low)) clause is; on = on k no_watch new under })
     (cases_lt k index)
 
 -- The visited entries stay visited.

@@ -6,6 +6,7 @@ use Rattle.cdcl_theory.specs.Trails.{Trailed, fell, IsGrown}
 use Rattle.clause_db.specs.Watching.{list_of}
 use Rattle.clause_db.specs.Stored.{Stored, live_in, Watches, rewatched}
 use Rattle.clause_db.specs.Moving.{IsMovable}
+use Rattle.clause_db.specs.declared.lists.Watch.{Watch}
 use Rattle.cdcl_core.specs.Guarding.{HasTrueAt}
 use Rattle.cdcl_core.specs.declared.visiting.Fate.{Fate}
 use Rattle.cdcl_core.specs.declared.visiting.Fate.TheVariants.{Kept, Moved, Falsified}
@@ -18,9 +19,9 @@ id_at s l index = slice_index_or (list_of s.watches l) index 0
 abbrev pub AreDown : Trailed → List ℤ → ℕ → ℕ → Type 0
 AreDown t lits low high = (k : ℕ) (d : ℤ) → low ≤ k → k < high → 0 < fell t (slice_index_or lits k d)
 
--- the literals in a range of places are true
-abbrev pub AreTrue : Trailed → List ℤ → ℕ → ℕ → Type 0
-AreTrue t lits low high = (k : ℕ) (d : ℤ) → low ≤ k → k < high → 0 < fell t (opposite (slice_index_or lits k d))
+-- the blocking literals in a range of places are true
+abbrev pub AreTrue : Trailed → List Watch → ℕ → ℕ → Type 0
+AreTrue t watches low high = (k : ℕ) (d : Watch) → low ≤ k → k < high → 0 < fell t (opposite (slice_index_or watches k d).blocker)
 
 -- The clause stays, and has a true literal now.
 pub record IsKept (a b : Stored) (s t : Trailed) (l : ℤ) (index : ℕ) : Type 0 where

@@ -1,7 +1,7 @@
 //! Propagation by watched literals: only the clauses that watch a literal which falls are visited
 //! (Moskewicz and others, "Chaff", 2001). A visited clause keeps its watch where its other watched literal is
 //! true or becomes so, and else watches another literal that hasn't fallen. Its literals are read as
-//! `ClauseDb::arranged` gives them: the two that it watches stand first, and the search for another one goes
+//! `ClauseDb::arranged_at` gives them: the two that it watches stand first, and the search for another one goes
 //! over the rest. Beside each clause in a list stands one of its literals, its blocking literal: while that is
 //! true the clause isn't even read (Sörensson and Eén, "MiniSat 2.1", 2008).
 ghost use Rattle.std.specs.Prelude.{◌≡◌, ℕ, ℤ, ◌<◌, ◌≤◌, ◌⊎◌, List, [], length, slice_index_or, All, IfOk, IfSome, IfNone};
@@ -13,7 +13,7 @@ ghost use Rattle.clause_db.specs.Stored.{live_in, Watches, IsStored};
 ghost use Rattle.cdcl_core.specs.Guarding.{HasTrueAt, IsGuarded};
 ghost use Rattle.cdcl_core.specs.Visiting.{AreDown, AreTrue, IsFate, IsRest};
 
-use clause_db::ClauseDb;
+use clause_db::{ClauseDb, Watch};
 use cnf_core::Lit;
 use std::alloc::AllocError;
 use trail_core::Trail;
@@ -28,7 +28,7 @@ pub(crate) enum Fate {
     Falsified(u32),
 }
 
-/// A literal that a clause can watch, and its place in `arranged`.
+/// A literal that a clause can watch, and its place in `arranged_at`.
 #[derive(Clone, Copy)]
 struct Standing {
     place: usize,
@@ -83,8 +83,8 @@ fn visit(
     ensures stored { IsStored clauses.new }
     ensures visit { IfOk result (IsFate clauses.old clauses.new trail.old trail.new fallen index) }
 {
-    let id = clauses.watching(fallen)[index];
-    let lits = clauses.arranged(id);
+    let id = clauses.watching(fallen)[index].id;
+    let lits = clauses.arranged_at(fallen, index);
     let other = besides(lits, fallen);
     if trail.fell(other.opposite()) > 0 {
         clauses.block(fallen, index, other);
@@ -102,13 +102,13 @@ fn visit(
 }
 
 /// The first index from one on at which the blocking literal isn't true.
-fn first_open(trail: &Trail, blockers: &[Lit], from: usize) -> Option<usize>
-    requires within { IsWithin trail.now.vars blockers.now }
-    ensures some { IfSome result (λ k. (from ≤ k) × (k < length blockers.now) × AreTrue trail.now blockers.now from k) }
-    ensures none { IfNone result (AreTrue trail.now blockers.now from (length blockers.now)) }
+fn first_open(trail: &Trail, watches: &[Watch], from: usize) -> Option<usize>
+    requires within { All (λ w. variable_of w.blocker ≤ trail.now.vars) watches.now }
+    ensures some { IfSome result (λ k. (from ≤ k) × (k < length watches.now) × AreTrue trail.now watches.now from k) }
+    ensures none { IfNone result (AreTrue trail.now watches.now from (length watches.now)) }
 {
-    for index in from..blockers.len() {
-        if trail.fell(blockers[index].opposite()) == 0 {
+    for index in from..watches.len() {
+        if trail.fell(watches[index].blocker.opposite()) == 0 {
             return Some(index);
         }
     }
@@ -134,7 +134,7 @@ fn visit_watching(
     ensures conflict { IfOk result (λ found. IfSome found (IsFalsified (live_in clauses.new) (fell_of trail.new))) }
 {
     let mut index = 0;
-    while let Some(next) = first_open(trail, clauses.blockers(fallen), index) {
+    while let Some(next) = first_open(trail, clauses.watching(fallen), index) {
         match visit(trail, clauses, fallen, next)? {
             Fate::Kept => index = next + 1,
             Fate::Moved => {

@@ -35,6 +35,10 @@ both_back w a b l m id pushed taken =
     again : {xs : List (List ℕ)} {ys : List (List ℤ)} → xs ≡ w.lists → ys ≡ w.rows → (let x : Arranged = record { blocks = w.blocks; lists = xs; rows = ys } in x) ≡ w
     again e f = rw (e, f) refl
 
+-- two literals of an id changed places
+abbrev pub exchanged_at : Arranged → ℕ → ℕ → ℕ → Arranged
+exchanged_at w id low high = record { blocks = slice_set w.blocks (id - 1) (swap (block_at w.blocks id) low high); lists = w.lists; rows = w.rows }
+
 -- the watched pair of an id
 pub pair_block : (a : Arranged) (id : ℕ) → pair_at (watching_of a) id ≡ pair_of (block_at a.blocks id)
 pair_block a id = pair_in_blocks a.blocks (id - 1)
@@ -134,9 +138,6 @@ besides_is lits from m low found two is = ⊎_elim
 -- What stands in the list that the clause leaves is as it was.
 pub pushed_list : (w a : Arranged) (from to m : ℤ) (id : ℕ) → a ≡ record w { lists = with_id w.lists to id; rows = with_blocker w.rows to m } → (from ≡ to → ⊥) → listed_in a.lists from ≡ listed_in w.lists from
 pushed_list w a from to m id pushed apart = ap (λ (x : Arranged). listed_in x.lists from) pushed ∙ listed-other w.lists to from _ apart
-
-pub pushed_row : (w a : Arranged) (from to m : ℤ) (id : ℕ) → a ≡ record w { lists = with_id w.lists to id; rows = with_blocker w.rows to m } → (from ≡ to → ⊥) → row_of a.rows from ≡ row_of w.rows from
-pushed_row w a from to m id pushed apart = ap (λ (x : Arranged). row_of x.rows from) pushed ∙ row-other w.rows to from _ apart
 
 pub all_moved : (w a b c : Arranged) (from to m : ℤ) (block : List ℤ) (id place index low high : ℕ) → a ≡ record w { lists = with_id w.lists to id; rows = with_blocker w.rows to m } → b ≡ record a { lists = slice_set a.lists (code_of from) (swap_remove (listed_in a.lists from) index 0); rows = with_row a.rows from (swap_remove (row_of a.rows from) index (pos 1)) }
     → c ≡ record b { blocks = slice_set b.blocks (id - 1) (swap (block_at b.blocks id) low high) } → (from ≡ to → ⊥) → id ≡ place → (0 < place) × (place ≤ length w.blocks) → block ≡ block_at w.blocks id → IsFound block from low → high < length block → ((d : ℤ) → slice_index_or block high d ≡ to)

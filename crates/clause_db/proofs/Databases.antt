@@ -1,5 +1,5 @@
 -- The store and what its clauses watch, together.
-use Rattle.std.proofs.Common.{◌≡◌, ◌≢◌, ℕ, ◌+◌, ◌*◌, ◌<◌, ◌≤◌, ℤ, List, [], ◌∷◌, ◌++◌, length, take, slice_index_or, slice_set, replicate, ◌-◌, ◌⊎◌, inl, inr, Contains, Option, Some, None, IsSome, refl, sym, ap, ◌∙◌, subst, arith}
+use Rattle.std.proofs.Common.{◌≡◌, ◌≢◌, ℕ, ◌+◌, ◌*◌, ◌<◌, ◌≤◌, ℤ, List, [], ◌∷◌, ◌++◌, length, take, slice_index_or, slice_set, replicate, ◌-◌, ◌⊎◌, inl, inr, Contains, All, pos, Option, Some, None, IsSome, refl, sym, ap, ◌∙◌, subst, arith}
 use Rattle.std.proofs.lemmas.List.Elements.{All-contains}
 use Rattle.std.proofs.lemmas.Grind.{common_steps}
 use Rattle.std.proofs.Math.Logic.{⊎_elim}
@@ -11,9 +11,11 @@ use Rattle.clause_db.specs.declared.watches.Pair.{Pair}
 use Rattle.clause_db.specs.Watching.{Watching, list_of, pair_of, pair_at, watching_more, watching_moved}
 use Rattle.clause_db.specs.Stored.{Stored, Entries, live_in, Watches, IsLong, IsPair, IsStored, none_stored, added, all_added, rewatched}
 use Rattle.clause_db.specs.StoredLaws.{all_added-push, all_added-none, live_in-start, live_added, live_inside}
-use Rattle.std.proofs.lemmas.List.{length_push, length-map}
+use Rattle.std.proofs.lemmas.List.{length_push, length-map, get_or-map}
 use Rattle.std.proofs.lemmas.List.Elements.{Contains-get_or}
-use Rattle.clause_db.specs.Blocking.{row_of, with_row, with_blockers, rows_moved, blocker_at, besides, IsOf, AreBlockers}
+use Rattle.clause_db.specs.Blocking.{row_of, with_row, with_blockers, rows_moved, blocker_at, besides, IsOf, AreBeside, AreBlockers}
+use Rattle.clause_db.specs.declared.lists.Watch.{Watch}
+use Rattle.clause_db.specs.Lists.{blockers_of}
 use Rattle.clause_db.specs.WatchingLaws.{pair_new, pair_old}
 use Rattle.clause_db.proofs.Beside.{blockers_none, blockers_set, blockers_added, blockers_moved}
 use Rattle.clause_db.specs.Arranging.{Arranged, block_at, watching_of, arranged_more, ArePermuted, AreArranged, IsNoneOf}
@@ -140,12 +142,40 @@ blockers_over s now rows l row view stored are row_is = rw row_is (subst (λ (x 
         let same : slice_index_or (row_of rows l) k d ≡ blocker_at rows l k = grind (arith, common_steps, within) in
         rw same over_one
 
--- beside each id of a list stands a literal
-pub movable_beside : (s now : Stored) (rows : List (List ℤ)) (from to : ℤ) (id index : ℕ) → s ≡ now → AreBlockers s rows → IsMovable now id from to index → index < length (row_of rows from)
-movable_beside s now rows from to id index view are movable =
-    let inside : index < length (list_of s.watches from) = subst (λ (x : Stored). index < length (list_of x.watches from)) (sym view) movable.inside in
-    let long : length (row_of rows from) ≡ length (list_of s.watches from) = are.long from in
-    omega (arith, inside, long)
+-- and so are those of the entries of a list, of which each is a literal of its clause
+pub entries_over : (vars : ℕ) (entries : List Watch) → IsWithin vars (blockers_of entries) → All (λ w. variable w.blocker ≤ vars) entries
+entries_over vars entries within k d low = subst (λ (m : ℤ). variable m ≤ vars) (get_or-map (λ (w : Watch). w.blocker) entries k d (pos 1) low) (within k (pos 1) (rw length-map low))
+
+pub entries_beside : (s now : Stored) (rows : List (List ℤ)) (l : ℤ) (entries : List Watch) → s ≡ now → AreBlockers s rows → blockers_of entries ≡ row_of rows l → AreBeside now l entries
+entries_beside s now rows l entries view are is index d low =
+    let same : blocker_at rows l index ≡ (slice_index_or entries index d).blocker = ap (λ (row : List ℤ). slice_index_or row index (pos 1)) (sym is) ∙ get_or-map (λ (w : Watch). w.blocker) entries index d (pos 1) low in
+    let long : length entries ≡ length (list_of s.watches l) = sym (length-map entries (λ (w : Watch). w.blocker)) ∙ ap length is ∙ are.long l in
+    subst (λ (x : Stored). IsOf x (slice_index_or (list_of x.watches l) index 0) (slice_index_or entries index d).blocker) view
+    (subst (λ (m : ℤ). IsOf s (slice_index_or (list_of s.watches l) index 0) m) same (are.there l index (omega (arith, low, long))))
+
+-- What stands in a list is a live clause of two literals or more.
+pub listed_long : (s : Stored) (l : ℤ) (index : ℕ) → IsStored s → index < length (list_of s.watches l) → IsLong s (slice_index_or (list_of s.watches l) index 0)
+listed_long s l index stored inside =
+    let watches : Watches s (slice_index_or (list_of s.watches l) index 0) l = stored.only l (slice_index_or (list_of s.watches l) index 0) (Contains-get_or (list_of s.watches l) index 0 inside) in
+    record { clause = watches.clause; is_live = watches.is_live; long = watches.long }
+
+pub listed_live : (s : Stored) (l : ℤ) (index : ℕ) → IsStored s → index < length (list_of s.watches l) → IsSome (live_in s (slice_index_or (list_of s.watches l) index 0))
+listed_live s l index stored inside =
+    let long : IsLong s (slice_index_or (list_of s.watches l) index 0) = listed_long s l index stored inside in
+    let live : live_in s (slice_index_or (list_of s.watches l) index 0) ≡ Some long.clause = long.is_live in
+    rw live refl
+
+-- A clause that was found in a list can be moved from there.
+pub found_movable : (s : Stored) (from to : ℤ) (id index : ℕ) (ids : List ℕ) → ids ≡ list_of s.watches from → index < length ids → slice_index_or ids index 0 ≡ id → ((clause : List ℤ) → live_in s id ≡ Some clause → Contains clause to) → (Watches s id to → ⊥) → IsMovable s id from to index
+found_movable s from to id index ids is inside at there other = record {
+  inside = subst (λ (xs : List ℕ). index < length xs) is inside;
+  at_index = subst (λ (xs : List ℕ). slice_index_or xs index 0 ≡ id) is at;
+  there = there;
+  other = other;
+}
+
+pub found_moved : (s new : Stored) (from to : ℤ) (id index : ℕ) → IsMovable s id from to index → new ≡ rewatched s (slice_index_or (list_of s.watches from) index 0) from to index → (k : ℕ) × IsMovable s id from to k × (new ≡ rewatched s id from to k)
+found_moved s new from to id index movable is = (index, movable, is ∙ ap (λ (n : ℕ). rewatched s n from to index) movable.at_index)
 
 besides_of : (p : Pair) (l : ℤ) → (besides p l ≡ p.first) ⊎ (besides p l ≡ p.second)
 besides_of p l = ⊎_elim (λ (e : p.first ≡ l). inr (rw (int_eq-same p.first l e) refl)) (λ (apart : p.first ≡ l → ⊥). inl (rw (int_eq-other p.first l apart) refl)) (cases_literal p.first l)

@@ -1,5 +1,5 @@
 -- A clause that goes, and what its store and lists are then.
-use Rattle.std.proofs.Common.{◌≡◌, ℕ, ◌-◌, ◌<◌, ◌≤◌, ◌⊎◌, ℤ, List, length, slice_index_or, Some, sym, ap, ◌∙◌, subst, arith, refl}
+use Rattle.std.proofs.Common.{◌≡◌, ℕ, ◌<◌, ◌≤◌, ◌⊎◌, ℤ, List, length, slice_index_or, Some, sym, ap, ◌∙◌, subst, arith, refl}
 use Rattle.std.specs.List.{swap_remove}
 use Rattle.std.proofs.Math.Logic.{⊎_elim}
 use Rattle.std.proofs.lemmas.List.{length-set}

@@ -3,12 +3,12 @@ use Rattle.std.proofs.Common.{◌≡◌, ℕ, suc, ◌+◌, ◌-◌, ◌<◌, �
 use Rattle.std.specs.List.{slice_range, swap}
 use Rattle.std.proofs.Math.Logic.{⊎_elim}
 use Rattle.std.proofs.lemmas.Bool.{cases_eq, cases_lt}
-use Rattle.std.proofs.lemmas.List.{length-drop, length-take-le, length-map, length-set, map-append, take-map, get_or-take, get_or-drop, get_or-map, get_or-set_same, get_or-set_other, same_lists}
+use Rattle.std.proofs.lemmas.List.{length-drop, length-take-le, length-map, length-set, map-append, take-map, get_or-take, get_or_append_left, get_or-drop, get_or-map, get_or-set_same, get_or-set_other, same_lists}
 use Rattle.std.proofs.lemmas.List.Elements.{All-push}
 use Rattle.std.proofs.lemmas.List.Edits.{length-swap, swapped_from_swap, Swapped}
 use Rattle.std.proofs.lemmas.List.Quantifiers.{all_pairs_push}
 use Rattle.clause_db.specs.declared.blocks.Range.{Range}
-use Rattle.clause_db.specs.BlockRanges.{list_in, lists_in, AreRanges}
+use Rattle.clause_db.specs.BlockRanges.{Blocked, no_range, KeepsRanges, list_in, lists_in, AreRanges}
 use Rattle.clause_db.proofs.Rows.{range_front, range_behind}
 
 range_long : (row : List ℤ) (a b : ℕ) → a ≤ b → b ≤ length row → length (slice_range row a b) ≡ b - a
@@ -105,9 +105,27 @@ lists_same row new (r ∷ rs) same =
     let tail : lists_in new rs ≡ lists_in row rs = lists_same row new rs (λ k d low. same (suc k) d (omega arith)) in
     ap (λ (xs : List ℤ). xs ∷ lists_in new rs) (same 0 r (omega arith)) ∙ ap (λ (ls : List (List ℤ)). list_in row r ∷ ls) tail
 
+-- what blocks show
+abbrev pub shown : List ℤ → List Range → Blocked
+shown row ranges = record { lists = lists_in row ranges; ranges = ranges }
+
 -- More literals are written behind the row.
 pub lists_written : (row new lits : List ℤ) (ranges same : List Range) → new ≡ row ++ lits → same ≡ ranges → AreRanges row ranges → lists_in new same ≡ lists_in row ranges
 lists_written row new lits ranges same is kept are = rw (kept, is) (lists_same row (row ++ lits) ranges (λ k d low. let fine = are.inside k d low in range_front row lits (slice_index_or ranges k d).start (slice_index_or ranges k d).end fine.0 fine.1))
+
+pub shown_written : (b : Blocked) (row new lits : List ℤ) (ranges same : List Range) → new ≡ row ++ lits → same ≡ ranges → AreRanges row ranges → shown row ranges ≡ b → shown new same ≡ b
+shown_written b row new lits ranges same is kept are view = rw (lists_written row new lits ranges same is kept are, kept) view
+
+-- One more range stands behind the others, or the last one is taken off.
+pub kept_more : (b new : Blocked) (row now : List ℤ) (ranges more : List Range) (r : Range) → shown row ranges ≡ b → shown now more ≡ new → more ≡ ranges ++ r ∷ [] → KeepsRanges b new (length b.lists)
+kept_more b new row now ranges more r view view_new is index low =
+    let inside : index < length ranges = rw length-map at (subst (λ (x : Blocked). index < length x.lists) (sym view) low) in
+    ap (λ (x : Blocked). slice_index_or x.ranges index no_range) (sym view_new) ∙ ap (λ (rs : List Range). slice_index_or rs index no_range) is ∙ get_or_append_left ranges (r ∷ []) no_range index inside ∙ ap (λ (x : Blocked). slice_index_or x.ranges index no_range) view
+
+pub kept_front : (b new : Blocked) (row now : List ℤ) (ranges front : List Range) (n : ℕ) → shown row ranges ≡ b → shown now front ≡ new → front ≡ take n ranges → n + 1 ≡ length ranges → KeepsRanges b new (length b.lists - 1)
+kept_front b new row now ranges front n view view_new is all index low =
+    let long : length b.lists ≡ length ranges = ap (λ (x : Blocked). length x.lists) (sym view) ∙ length-map ranges (list_in row) in
+    ap (λ (x : Blocked). slice_index_or x.ranges index no_range) (sym view_new) ∙ ap (λ (rs : List Range). slice_index_or rs index no_range) is ∙ get_or-take n ranges index no_range (omega (arith, low, long, all)) ∙ ap (λ (x : Blocked). slice_index_or x.ranges index no_range) view
 
 pub ranges_written : (row new lits : List ℤ) (ranges same : List Range) → new ≡ row ++ lits → same ≡ ranges → AreRanges row ranges → AreRanges new same
 ranges_written row new lits ranges same is kept are =

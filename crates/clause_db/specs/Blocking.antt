@@ -7,6 +7,7 @@ use Rattle.cdcl_theory.specs.Codes.{code_of}
 use Rattle.clause_db.specs.declared.watches.Pair.{Pair}
 use Rattle.clause_db.specs.Watching.{list_of, pair_of}
 use Rattle.clause_db.specs.Stored.{Stored, live_in}
+use Rattle.clause_db.specs.declared.lists.Watch.{Watch}
 
 -- the row of a literal
 unfoldable pub row_of : List (List ℤ) → ℤ → List ℤ
@@ -39,6 +40,10 @@ rows_moved rows from to index m = with_row (with_blocker rows to m) from (swap_r
 -- a literal of the clause of an id
 abbrev pub IsOf : Stored → ℕ → ℤ → Type 0
 IsOf s id l = (clause : List ℤ) → live_in s id ≡ Some clause → Contains clause l
+
+-- what stands beside each id of a literal's list is a literal of that clause
+abbrev pub AreBeside : Stored → ℤ → List Watch → Type 0
+AreBeside s l watches = (index : ℕ) (d : Watch) → index < length watches → IsOf s (slice_index_or (list_of s.watches l) index 0) (slice_index_or watches index d).blocker
 
 -- Each literal has a row as long as its list, and beside each entry stands a literal of that clause.
 pub record AreBlockers (s : Stored) (rows : List (List ℤ)) : Type 0 where

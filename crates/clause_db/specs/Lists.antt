@@ -1,18 +1,44 @@
--- How the lists of ids lie, and the rows of literals beside them: the two of a literal together.
-use Rattle.std.specs.Prelude.{ℕ, ℤ, List, [], map}
+-- How the lists of ids lie, and the rows of literals beside them: an id and the literal beside it together, with the range
+-- of the clause's literals.
+use Rattle.std.specs.Prelude.{◌≡◌, ℕ, ◌-◌, ◌<◌, ◌≤◌, ℤ, pos, List, [], map, length, slice_index_or, All}
+use Rattle.clause_db.specs.declared.lists.Watch.{Watch}
+use Rattle.clause_db.specs.BlockRanges.{Blocked, no_range}
 
--- the ids of the clauses that watch a literal, and beside each id a literal of its clause
-pub record Listed : Type 0 where
-  pub ids : List ℕ
-  pub blockers : List ℤ
+-- the entries of a literal's list
+abbrev pub Listed : Type 0
+Listed = List Watch
 
 abbrev pub nothing_listed : Listed
-nothing_listed = record { ids = []; blockers = [] }
+nothing_listed = []
+
+-- an entry that stands for what is missing
+abbrev pub no_watch : Watch
+no_watch = record { id = 0; blocker = pos 1; range = no_range }
+
+-- an entry with another literal beside its id
+abbrev pub blocked_by : Watch → ℤ → Watch
+blocked_by w l = record { id = w.id; blocker = l; range = w.range }
+
+-- the ids alone, and the literals alone
+abbrev pub ids_of : Listed → List ℕ
+ids_of entries = map (λ (w : Watch). w.id) entries
+
+abbrev pub blockers_of : Listed → List ℤ
+blockers_of entries = map (λ (w : Watch). w.blocker) entries
 
 -- the lists alone
 unfoldable pub lists_of : List Listed → List (List ℕ)
-lists_of all = map (λ (e : Listed). e.ids) all
+lists_of all = map (λ (e : Listed). ids_of e) all
 
 -- the rows alone
 unfoldable pub rows_of : List Listed → List (List ℤ)
-rows_of all = map (λ (e : Listed). e.blockers) all
+rows_of all = map (λ (e : Listed). blockers_of e) all
+
+-- An entry has the range of its id.
+pub record IsDirect (b : Blocked) (w : Watch) : Type 0 where
+  pub some : 0 < w.id
+  pub given : w.id ≤ length b.lists
+  pub is : slice_index_or b.ranges (w.id - 1) no_range ≡ w.range
+
+abbrev pub AreDirect : Blocked → List Listed → Type 0
+AreDirect b all = All (All (IsDirect b)) all

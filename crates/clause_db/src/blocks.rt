@@ -1,7 +1,8 @@
 //! Lists of literals in one row, one behind another. That the ranges lie in the row and behind each other is the
 //! invariant, and so a change of places in one list leaves all others as they were.
-ghost use Rattle.std.specs.Prelude.{◌≡◌, [], ◌∷◌, ◌++◌, ◌<◌, ◌-◌, length, take, slice_index_or, slice_set, OnOk, OnErr};
+ghost use Rattle.std.specs.Prelude.{◌≡◌, ℕ, [], ◌∷◌, ◌++◌, ◌<◌, ◌-◌, length, take, slice_index_or, slice_set, OnOk, OnErr};
 ghost use Rattle.std.specs.List.{swap};
+ghost use Rattle.clause_db.specs.BlockRanges.{no_range, KeepsRanges};
 
 use cnf_core::Lit;
 use std::alloc::{AllocError, Global};
@@ -9,13 +10,13 @@ use std::marker::Model;
 
 /// Where a list stands in the row of all literals.
 #[derive(Clone, Copy, Debug)]
-struct Range {
+pub(crate) struct Range {
     start: u32,
     end: u32,
 }
 
 /// Lists of literals. They lie in one row, one behind another, without an allocation for each. Contracts
-/// see the list of lists.
+/// see the lists, and the range of each.
 #[derive(Debug, Drop)]
 pub(crate) struct Blocks {
     row: Vec<Lit>,
@@ -23,20 +24,18 @@ pub(crate) struct Blocks {
 }
 
 impl Model for Blocks {
-    ghost use Rattle.std.specs.Prelude.{ℤ, List};
+    ghost use Rattle.clause_db.specs.BlockRanges.{Blocked, lists_in, AreRanges};
 
-    ghost Value = { List (List ℤ) };
+    ghost Value = { Blocked };
 
-    ghost use Rattle.clause_db.specs.BlockRanges.{lists_in, AreRanges};
-
-    ghost view = { λ b. lists_in b.row.items b.ranges.items };
+    ghost view = { λ b. record { lists = lists_in b.row.items b.ranges.items; ranges = b.ranges.items } };
 
     ghost invariant = { λ b. AreRanges b.row.items b.ranges.items };
 }
 
 impl Blocks {
     pub(crate) fn none(alloc: Global) -> Blocks
-        ensures { result ≡ [] }
+        ensures { result ≡ record { lists = []; ranges = [] } }
     {
         Blocks {
             row: Vec::new(alloc),
@@ -46,7 +45,8 @@ impl Blocks {
 
     /// Puts a list behind the others. A row of more literals than 32 bits count is an error too.
     pub(crate) fn push(&mut self, lits: &[Lit]) -> Result<(), AllocError>
-        ensures ok { OnOk result (self.new ≡ self.old ++ lits.now ∷ []) }
+        ensures ok { OnOk result (self.new.lists ≡ self.old.lists ++ lits.now ∷ []) }
+        ensures kept { OnOk result (KeepsRanges self.old self.new (length self.old.lists)) }
         ensures err { OnErr result (self.new ≡ self.old) }
     {
         let start = self.row.len();
@@ -64,7 +64,8 @@ impl Blocks {
 
     /// Takes the last list off.
     pub(crate) fn pop(&mut self)
-        ensures { self.new ≡ take (length self.old - 1) self.old }
+        ensures lists { self.new.lists ≡ take (length self.old.lists - 1) self.old.lists }
+        ensures kept { KeepsRanges self.old self.new (length self.old.lists - 1) }
     {
         if let Some(range) = self.ranges.pop() {
             self.row.truncate(range.start as usize);
@@ -73,19 +74,36 @@ impl Blocks {
 
     /// The list at an index.
     pub(crate) fn get(&self, index: usize) -> &[Lit]
-        requires { index < length self.now }
-        ensures { result.now ≡ slice_index_or self.now index [] }
+        requires { index < length self.now.lists }
+        ensures { result.now ≡ slice_index_or self.now.lists index [] }
     {
         let range = &self.ranges[index];
         &self.row[range.start as usize..range.end as usize]
     }
 
+    /// The range of the list at an index.
+    pub(crate) fn range(&self, index: usize) -> Range
+        requires { index < length self.now.lists }
+        ensures { slice_index_or self.now.ranges index no_range ≡ result }
+    {
+        self.ranges[index]
+    }
+
+    /// The list of a range.
+    pub(crate) fn read(&self, range: Range) -> &[Lit]
+        requires { (index : ℕ) × (index < length self.now.lists) × (slice_index_or self.now.ranges index no_range ≡ range) }
+        ensures { (index : ℕ) → index < length self.now.lists → slice_index_or self.now.ranges index no_range ≡ range → result.now ≡ slice_index_or self.now.lists index [] }
+    {
+        &self.row[range.start as usize..range.end as usize]
+    }
+
     /// Lets two literals of a list change places.
     pub(crate) fn exchange(&mut self, index: usize, low: usize, high: usize)
-        requires inside { index < length self.old }
+        requires inside { index < length self.old.lists }
         requires order { low < high }
-        requires places { high < length (slice_index_or self.old index []) }
-        ensures { self.new ≡ slice_set self.old index (swap (slice_index_or self.old index []) low high) }
+        requires places { high < length (slice_index_or self.old.lists index []) }
+        ensures lists { self.new.lists ≡ slice_set self.old.lists index (swap (slice_index_or self.old.lists index []) low high) }
+        ensures ranges { self.new.ranges ≡ self.old.ranges }
     {
         let start = self.ranges[index].start as usize;
         self.row.swap(start + low, start + high);

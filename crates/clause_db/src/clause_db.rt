@@ -2,15 +2,17 @@
 //! clause in a second order, the watched ones in front; a literal beside each entry of a list; and windows in a row of
 //! literals. The invariant ties all three to the value of contracts, on which every call says its effect as an equation
 //! (`added`, `rewatched`), so that what the solver needs of watches are laws over these.
-ghost use Rattle.std.specs.Prelude.{◌≡◌, ◌≢◌, ℕ, ◌+◌, ◌<◌, ◌≤◌, ◌⊎◌, ◌↔◌, ◌∷◌, [], length, slice_index_or, Contains, AllPairs, Some, List, ℤ, IsTrue, IsSome, IfOk, OnOk, OnErr};
+ghost use Rattle.std.specs.Prelude.{◌≡◌, ◌≢◌, ℕ, ◌+◌, ◌<◌, ◌≤◌, ◌⊎◌, ◌↔◌, ◌∷◌, [], length, slice_index_or, Contains, All, AllPairs, Some, List, ℤ, IsTrue, IsSome, IfOk, OnOk, OnErr};
 ghost use Rattle.sat_theory.specs.Formula.{variable as variable_of, IsClause, IsWithin};
 ghost use Rattle.sat_theory.specs.State.{by_id, without};
 ghost use Rattle.clause_db.specs.Watching.{list_of, pair_at, pair_of};
 ghost use Rattle.clause_db.specs.Stored.{live_in, Watches as WatchesOf, IsLong, IsStored, none_stored, added, all_added, rewatched};
 ghost use Rattle.clause_db.specs.Moving.{IsMovable};
-ghost use Rattle.clause_db.specs.Blocking.{IsOf};
+ghost use Rattle.clause_db.specs.Blocking.{IsOf, AreBeside};
+ghost use Rattle.clause_db.specs.Lists.{ids_of};
 ghost use Rattle.clause_db.specs.Deleting.{IsDeleted};
 
+use crate::lists::Watch;
 use crate::store::Store;
 use crate::watches::Watches;
 use cnf_core::{Cnf, Lit};
@@ -110,6 +112,20 @@ impl ClauseDb {
         self.watches.block(id)
     }
 
+    /// The literals of the clause at an index in the list of a literal of the formula's variables, in the order of
+    /// `arranged`: the two that it watches stand first.
+    pub fn arranged_at(&self, lit: Lit, index: usize) -> &[Lit]
+        requires over { variable_of lit ≤ self.now.vars }
+        requires inside { index < length (list_of self.now.watches lit) }
+        ensures same { (clause : List ℤ) → live_in self.now (slice_index_or (list_of self.now.watches lit) index 0) ≡ Some clause → (l : ℤ) → Contains result.now l ↔ Contains clause l }
+        ensures front { (2 ≤ length result.now) × (pair_of result.now ≡ pair_at self.now.watches (slice_index_or (list_of self.now.watches lit) index 0)) }
+        ensures clause { IsClause result.now }
+        ensures over { IsWithin self.now.vars result.now }
+        ensures whole { IsStored self.now }
+    {
+        self.watches.entry_block(lit, index)
+    }
+
     /// Whether an id is that of a live clause.
     pub fn live(&self, id: u32) -> bool
         ensures { IsTrue result ↔ IsSome (live_in self.now id) }
@@ -147,29 +163,22 @@ impl ClauseDb {
         (pair.first, pair.second)
     }
 
-    /// The ids of the clauses that watch a literal of the formula's variables, each once.
-    pub fn watching(&self, lit: Lit) -> &[u32]
+    /// The clauses that watch a literal of the formula's variables, each once: the id of each, and beside it one of
+    /// its literals.
+    pub fn watching(&self, lit: Lit) -> &[Watch]
         requires { variable_of lit ≤ self.now.vars }
-        ensures value { result.now ≡ list_of self.now.watches lit }
-        ensures exact { (id : ℕ) → Contains result.now id ↔ WatchesOf self.now id lit }
-        ensures once { AllPairs (λ a b. a ≢ b) result.now }
+        ensures value { ids_of result.now ≡ list_of self.now.watches lit }
+        ensures exact { (id : ℕ) → Contains (ids_of result.now) id ↔ WatchesOf self.now id lit }
+        ensures once { AllPairs (λ a b. a ≢ b) (ids_of result.now) }
+        ensures long { length result.now ≡ length (list_of self.now.watches lit) }
+        ensures beside { AreBeside self.now lit result.now }
+        ensures over { All (λ w. variable_of w.blocker ≤ self.now.vars) result.now }
         ensures whole { IsStored self.now }
     {
         self.watches.list(lit)
     }
 
-    /// For each clause that watches a literal one of its literals: while that is true, the clause is.
-    pub fn blockers(&self, lit: Lit) -> &[Lit]
-        requires { variable_of lit ≤ self.now.vars }
-        ensures long { length result.now ≡ length (list_of self.now.watches lit) }
-        ensures there { (index : ℕ) (d : ℤ) → index < length result.now → IsOf self.now (slice_index_or (list_of self.now.watches lit) index 0) (slice_index_or result.now index d) }
-        ensures over { IsWithin self.now.vars result.now }
-        ensures whole { IsStored self.now }
-    {
-        self.watches.row(lit)
-    }
-
-    /// Lets a literal of the clause at an index in a literal's list be the one that `blockers` gives. Nothing
+    /// Lets a literal of the clause at an index in a literal's list be the one that stands beside its id. Nothing
     /// else is changed.
     pub fn block(&mut self, lit: Lit, index: usize, by: Lit)
         requires over { variable_of lit ≤ self.old.vars }
@@ -233,18 +242,19 @@ impl ClauseDb {
         // brings what the type says of the lists
         let _last = self.last();
         let index = find(self.watching(from), id);
-        self.rewatch_at(from, index, to, 0)
+        self.rewatch_at(from, index, to, 0)?;
+        Ok(())
     }
 }
 
 /// The index of an id in a list that has it.
-fn find(ids: &[u32], id: u32) -> usize
-    requires { Contains ids.now id }
-    ensures inside { result < length ids.now }
-    ensures there { slice_index_or ids.now result 0 ≡ id }
+fn find(watches: &[Watch], id: u32) -> usize
+    requires { Contains (ids_of watches.now) id }
+    ensures inside { result < length (ids_of watches.now) }
+    ensures there { slice_index_or (ids_of watches.now) result 0 ≡ id }
 {
     let mut index = 0;
-    while index + 1 < ids.len() && ids[index] != id {
+    while index + 1 < watches.len() && watches[index].id != id {
         index += 1;
     }
     index

@@ -11,8 +11,8 @@
 //! watched two in front, where propagation finds all that it reads of a clause side by side. A clause that
 //! watches another literal puts it in front, and the one that it gives up goes to that literal's place.
 //!
-//! Beside each clause in a list stands one of its literals, its blocking literal: `blockers` gives them, and
-//! `block` puts another one there (Sörensson and Eén, "MiniSat 2.1", 2008).
+//! A list has beside each id one of the clause's literals, its blocking literal, and `block` puts another one
+//! there (Sörensson and Eén, "MiniSat 2.1", 2008).
 //!
 //! ```text
 //! let mut clauses = ClauseDb::new(alloc, &cnf)?;     // the clauses 1 to 4
@@ -29,3 +29,4 @@ mod watches;
 mod windows;
 
 pub use clause_db::ClauseDb;
+pub use lists::Watch;

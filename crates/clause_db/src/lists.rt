@@ -1,18 +1,30 @@
-//! The list of a literal: ids, and beside each a literal of its clause. Both are pushed and taken out together, so that
-//! they stay as long as each other.
-ghost use Rattle.std.specs.Prelude.{◌≡◌, ◌-◌, ◌<◌, ◌∷◌, [], ◌++◌, pos, length, take, slice_set, OnOk, OnErr};
+//! The list of a literal: for each clause that watches it the id, and beside that a literal of the clause and where its
+//! literals stand. All of it stands in one struct, so that nothing has to be as long as anything else, and a visit reads
+//! no table of ranges.
+ghost use Rattle.std.specs.Prelude.{◌≡◌, ◌-◌, ◌<◌, ◌∷◌, [], ◌++◌, length, take, slice_index_or, slice_set, OnOk, OnErr};
 ghost use Rattle.std.specs.List.{swap_remove};
-ghost use Rattle.clause_db.specs.Lists.{nothing_listed};
+ghost use Rattle.clause_db.specs.Lists.{no_watch, blocked_by};
 
+use crate::blocks::Range;
 use cnf_core::Lit;
 use std::alloc::{AllocError, Global};
 use std::marker::Model;
 
-/// The clauses that watch a literal, by their ids, and beside each id a literal of its clause.
+/// A clause in the list of a literal that it watches.
+#[derive(Clone, Copy, Debug)]
+pub struct Watch {
+    /// The id of the clause.
+    pub id: u32,
+    /// One of its literals: while that is true, the clause is.
+    pub blocker: Lit,
+    /// where all of them stand
+    pub(crate) range: Range,
+}
+
+/// The clauses that watch a literal. Contracts see the entries.
 #[derive(Debug, Drop)]
 pub(crate) struct WatchList {
-    ids: Vec<u32>,
-    blockers: Vec<Lit>,
+    entries: Vec<Watch>,
 }
 
 impl Model for WatchList {
@@ -20,68 +32,61 @@ impl Model for WatchList {
 
     ghost Value = { Listed };
 
-    ghost view = { λ l. record { ids = l.ids.items; blockers = l.blockers.items } };
+    ghost view = { λ l. l.entries.items };
 }
 
+#[tactic(auto, using(crate::proofs::Listed::entries))]
 impl WatchList {
     pub(crate) fn none(alloc: Global) -> WatchList
-        ensures { result ≡ nothing_listed }
+        ensures { result ≡ [] }
     {
         WatchList {
-            ids: Vec::new(alloc),
-            blockers: Vec::new(alloc),
+            entries: Vec::new(alloc),
         }
     }
 
-    pub(crate) fn ids(&self) -> &[u32]
-        ensures { result.now ≡ self.now.ids }
+    pub(crate) fn entries(&self) -> &[Watch]
+        ensures { result.now ≡ self.now }
     {
-        &self.ids
+        &self.entries
     }
 
-    pub(crate) fn blockers(&self) -> &[Lit]
-        ensures { result.now ≡ self.now.blockers }
+    /// The entry at an index.
+    pub(crate) fn at(&self, index: usize) -> Watch
+        requires { index < length self.now }
+        ensures { slice_index_or self.now index no_watch ≡ result }
     {
-        &self.blockers
+        self.entries[index]
     }
 
-    pub(crate) fn push(&mut self, id: u32, blocker: Lit) -> Result<(), AllocError>
-        ensures ok { OnOk result (self.new ≡ record { ids = self.old.ids ++ id ∷ []; blockers = self.old.blockers ++ blocker ∷ [] }) }
+    pub(crate) fn push(&mut self, watch: Watch) -> Result<(), AllocError>
+        ensures ok { OnOk result (self.new ≡ self.old ++ watch ∷ []) }
         ensures err { OnErr result (self.new ≡ self.old) }
     {
-        self.ids.push(id)?;
-        match self.blockers.push(blocker) {
-            Ok(()) => Ok(()),
-            Err(_) => {
-                self.ids.pop();
-                Err(AllocError)
-            }
-        }
+        self.entries.push(watch)?;
+        Ok(())
     }
 
-    /// Takes the last id off, and what stands beside it.
+    /// Takes the last entry off.
     pub(crate) fn take_last(&mut self)
-        ensures { self.new ≡ record { ids = take (length self.old.ids - 1) self.old.ids; blockers = take (length self.old.blockers - 1) self.old.blockers } }
+        ensures { self.new ≡ take (length self.old - 1) self.old }
     {
-        self.ids.pop();
-        self.blockers.pop();
+        self.entries.pop();
     }
 
-    /// Takes the id at an index out, with what stands beside it, and puts the last ones there.
+    /// Takes the entry at an index out, and puts the last one there.
     pub(crate) fn take_out(&mut self, index: usize)
-        requires inside { index < length self.old.ids }
-        requires beside { index < length self.old.blockers }
-        ensures { self.new ≡ record { ids = swap_remove self.old.ids index 0; blockers = swap_remove self.old.blockers index (pos 1) } }
+        requires { index < length self.old }
+        ensures { self.new ≡ swap_remove self.old index no_watch }
     {
-        self.ids.swap_remove(index);
-        self.blockers.swap_remove(index);
+        self.entries.swap_remove(index);
     }
 
     /// Puts a literal beside the id at an index.
     pub(crate) fn set(&mut self, index: usize, blocker: Lit)
-        requires { index < length self.old.blockers }
-        ensures { self.new ≡ record self.old { blockers = slice_set self.old.blockers index blocker } }
+        requires { index < length self.old }
+        ensures { self.new ≡ slice_set self.old index (blocked_by (slice_index_or self.old index no_watch) blocker) }
     {
-        self.blockers[index] = blocker;
+        self.entries[index].blocker = blocker;
     }
 }

@@ -1,5 +1,6 @@
 //! Which clauses watch a literal. What a clause watches are the first two of its literals in an order of their own, so
-//! no pair is kept; moving a watch is a push to one list, a taking out of another, and a change of two places. The push
+//! no pair is kept, and an entry of a list says where they stand, which the invariant ties to the table of ranges.
+//! Moving a watch is a push to one list, a taking out of another, and a change of two places. The push
 //! comes first, since it alone can want memory.
 ghost use Rattle.std.specs.Prelude.{◌≡◌, ◌≢◌, ◌⊎◌, ℤ, ◌+◌, ◌-◌, ◌*◌, ◌<◌, ◌≤◌, [], length, take, All, Contains, pos, slice_index_or, slice_set, replicate, IfOk, OnOk, OnErr};
 ghost use Rattle.std.specs.List.{swap_remove, swap};
@@ -8,9 +9,10 @@ ghost use Rattle.clause_db.specs.Watching.{listed_in, pair_of, with_id, with_ids
 ghost use Rattle.clause_db.specs.Blocking.{row_of, with_row, with_blocker, with_blockers, rows_moved, besides};
 ghost use Rattle.clause_db.specs.Arranging.{block_at, watching_of, arranged_more, ArePermuted, IsNoneOf};
 ghost use Rattle.clause_db.specs.Deleting.{arranged_left};
+ghost use Rattle.clause_db.specs.Lists.{ids_of, blockers_of};
 
 use crate::blocks::Blocks;
-use crate::lists::WatchList;
+use crate::lists::{Watch, WatchList};
 use cnf_core::Lit;
 use std::alloc::{AllocError, Global};
 use std::marker::Model;
@@ -35,9 +37,11 @@ impl Model for Watches {
 
     ghost Value = { Arranged };
 
-    ghost use Rattle.clause_db.specs.Lists.{lists_of, rows_of};
+    ghost use Rattle.clause_db.specs.Lists.{lists_of, rows_of, AreDirect};
 
-    ghost view = { λ w. record { blocks = w.blocks; lists = lists_of w.lists.items; rows = rows_of w.lists.items } };
+    ghost view = { λ w. record { blocks = w.blocks.lists; lists = lists_of w.lists.items; rows = rows_of w.lists.items } };
+
+    ghost invariant = { λ w. AreDirect w.blocks w.lists.items };
 }
 
 #[tactic(auto, using(crate::proofs::Listed::listing))]
@@ -75,29 +79,47 @@ impl Watches {
         first_two(self.block(id))
     }
 
-    /// The list of a literal.
-    pub(crate) fn list(&self, lit: Lit) -> &[u32]
+    /// The list of a literal, with the literals beside its ids.
+    pub(crate) fn list(&self, lit: Lit) -> &[Watch]
         requires { code_of lit < length self.now.lists }
-        ensures { result.now ≡ listed_in self.now.lists lit }
+        ensures ids { ids_of result.now ≡ listed_in self.now.lists lit }
+        ensures blockers { blockers_of result.now ≡ row_of self.now.rows lit }
     {
-        self.lists[lit.code()].ids()
+        self.lists[lit.code()].entries()
     }
 
-    /// The literals beside the ids of a literal's list.
-    pub(crate) fn row(&self, lit: Lit) -> &[Lit]
-        requires { code_of lit < length self.now.lists }
-        ensures { result.now ≡ row_of self.now.rows lit }
+    /// The literals of the clause at an index in a literal's list.
+    pub(crate) fn entry_block(&self, lit: Lit, index: usize) -> &[Lit]
+        requires room { code_of lit < length self.now.lists }
+        requires inside { index < length (listed_in self.now.lists lit) }
+        ensures { result.now ≡ block_at self.now.blocks (slice_index_or (listed_in self.now.lists lit) index 0) }
     {
-        self.lists[lit.code()].blockers()
+        let watch = self.lists[lit.code()].at(index);
+        self.blocks.read(watch.range)
+    }
+
+    /// Puts the entry at an index in a literal's list at the end of another one's, with another literal beside its id.
+    fn hand_on(&mut self, from: Lit, index: usize, to: Lit, blocker: Lit) -> Result<(), AllocError>
+        requires rooms { (code_of from < length self.old.lists) × (code_of to < length self.old.lists) }
+        requires inside { index < length (listed_in self.old.lists from) }
+        ensures ok { OnOk result (self.new ≡ record self.old { lists = with_id self.old.lists to (slice_index_or (listed_in self.old.lists from) index 0); rows = with_blocker self.old.rows to blocker }) }
+        ensures err { OnErr result (self.new ≡ self.old) }
+    {
+        let watch = self.lists[from.code()].at(index);
+        self.lists[to.code()].push(Watch { blocker, ..watch })?;
+        Ok(())
     }
 
     /// Puts an id at the end of a literal's list, and a literal beside it.
     fn push(&mut self, lit: Lit, id: u32, blocker: Lit) -> Result<(), AllocError>
-        requires { code_of lit < length self.old.lists }
+        requires room { code_of lit < length self.old.lists }
+        requires some { 0 < id }
+        requires given { id ≤ length self.old.blocks }
         ensures ok { OnOk result (self.new ≡ record self.old { lists = with_id self.old.lists lit id; rows = with_blocker self.old.rows lit blocker }) }
         ensures err { OnErr result (self.new ≡ self.old) }
     {
-        self.lists[lit.code()].push(id, blocker)?;
+        let range = self.blocks.range(id as usize - 1);
+        self.lists[lit.code()].push(Watch { id, blocker, range })?;
         Ok(())
     }
 
@@ -112,7 +134,9 @@ impl Watches {
     /// Puts an id at the ends of the lists of a clause's first two literals, if it has two, and beside it the
     /// other one of them.
     fn push_both(&mut self, lits: &[Lit], id: u32) -> Result<(), AllocError>
-        requires { All (λ l. code_of l < length self.old.lists) lits.now }
+        requires rooms { All (λ l. code_of l < length self.old.lists) lits.now }
+        requires some { 0 < id }
+        requires given { id ≤ length self.old.blocks }
         ensures ok { OnOk result (self.new ≡ record self.old { lists = with_ids self.old.lists lits.now id; rows = with_blockers self.old.rows lits.now }) }
         ensures err { OnErr result (self.new ≡ self.old) }
     {
@@ -133,7 +157,8 @@ impl Watches {
 
     /// Adds the clause of the next id, which watches its first two literals.
     pub(crate) fn add(&mut self, lits: &[Lit], id: u32) -> Result<(), AllocError>
-        requires { All (λ l. code_of l < length self.old.lists) lits.now }
+        requires rooms { All (λ l. code_of l < length self.old.lists) lits.now }
+        requires next { id ≡ length self.old.blocks + 1 }
         ensures ok { OnOk result (self.new ≡ arranged_more self.old lits.now id) }
         ensures err { OnErr result (self.new ≡ self.old) }
     {
@@ -168,7 +193,6 @@ impl Watches {
     ) -> Result<(), AllocError>
         requires rooms { (code_of from < length self.old.lists) × (code_of to < length self.old.lists) }
         requires inside { index < length (listed_in self.old.lists from) }
-        requires beside { index < length (row_of self.old.rows from) }
         requires id { (0 < slice_index_or (listed_in self.old.lists from) index 0) × (slice_index_or (listed_in self.old.lists from) index 0 ≤ length self.old.blocks) }
         requires two { 2 ≤ length (block_at self.old.blocks (slice_index_or (listed_in self.old.lists from) index 0)) }
         requires apart { from ≢ to }
@@ -179,12 +203,12 @@ impl Watches {
         ensures order { OnOk result (ArePermuted self.old.blocks self.new.blocks) }
         ensures err { OnErr result (self.new ≡ self.old) }
     {
-        let id = self.list(from)[index];
-        let block = self.block(id);
+        let id = self.list(from)[index].id;
+        let block = self.entry_block(from, index);
         let low = place_of_watch(block, from);
         let other = block[1 - low];
         let high = place_of(block, to, place);
-        self.push(to, id, other)?;
+        self.hand_on(from, index, to, other)?;
         self.take_out(from, index);
         self.exchange(id, low, high);
         Ok(())
@@ -195,7 +219,6 @@ impl Watches {
         requires rooms { (code_of one < length self.old.lists) × (code_of other < length self.old.lists) }
         requires apart { one ≢ other }
         requires inside { (index < length (listed_in self.old.lists one)) × (place < length (listed_in self.old.lists other)) }
-        requires beside { (index < length (row_of self.old.rows one)) × (place < length (row_of self.old.rows other)) }
         ensures { self.new ≡ arranged_left (arranged_left self.old one index) other place }
     {
         self.take_out(one, index);
@@ -206,7 +229,6 @@ impl Watches {
     fn take_out(&mut self, lit: Lit, index: usize)
         requires room { code_of lit < length self.old.lists }
         requires inside { index < length (listed_in self.old.lists lit) }
-        requires beside { index < length (row_of self.old.rows lit) }
         ensures { self.new ≡ record self.old { lists = slice_set self.old.lists (code_of lit) (swap_remove (listed_in self.old.lists lit) index 0); rows = with_row self.old.rows lit (swap_remove (row_of self.old.rows lit) index (pos 1)) } }
     {
         self.lists[lit.code()].take_out(index);

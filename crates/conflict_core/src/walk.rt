@@ -237,20 +237,19 @@ impl Walk {
         if !self.marks.has(first) {
             return Ok(());
         }
-        let blockers = clauses.blockers(first);
-        for index in 0..blockers.len() {
-            let lit = blockers[index].opposite();
+        let watches = clauses.watching(first);
+        for index in 0..watches.len() {
+            let lit = watches[index].blocker.opposite();
             if !self.marks.has(lit) {
                 continue;
             }
-            let clause = clauses.watching(first)[index];
-            let lits = clauses.arranged(clause);
+            let lits = clauses.arranged_at(first, index);
             let count = lits.len();
             if count != 2 {
                 continue;
             }
             self.marks.unset(lit);
-            self.hints.push(clause)?;
+            self.hints.push(watches[index].id)?;
         }
         Ok(())
     }

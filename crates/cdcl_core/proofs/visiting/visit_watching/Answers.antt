@@ -14,9 +14,9 @@ loop-next-preserved c =
     let s : Trailed = c.loop-next.trail in
     let i : ℕ = c.in-Some.next in
     let kept : IsKept b c.visit.new.clauses s c.visit.new.trail c.args.fallen i = subst (λ (v : Fate). IsFate b c.visit.new.clauses s c.visit.new.trail c.args.fallen i v) c.in-Kept.is c.in_ok-visit.ensures.visit in
-    let long : length c.blockers.result.now ≡ length (list_of b.watches c.args.fallen) = c.blockers.ensures.long in
+    let long : length c.watching.result.now ≡ length (list_of b.watches c.args.fallen) = c.watching.ensures.long in
     let found = c.in-Some.ensures.some in
-    let before : (k : ℕ) → k < i → HasTrueAt b (fell s) (id_at b c.args.fallen k) = visited_open b s c.args.fallen c.blockers.result.now c.loop-next.index i c.blockers.ensures.there found.2 (omega (arith, found.1)) c.loop-next.invariant.visited in
+    let before : (k : ℕ) → k < i → HasTrueAt b (fell s) (id_at b c.args.fallen k) = visited_open b s c.args.fallen c.watching.result.now c.loop-next.index i c.watching.ensures.beside found.2 (omega (arith, found.1)) c.loop-next.invariant.visited in
     record {
       whole = c.in_ok-visit.ensures.whole;
       stored = c.in_ok-visit.ensures.stored;
@@ -31,7 +31,7 @@ loop-next-smaller-in-Moved c =
     let s : Trailed = c.loop-next.trail in
     let i : ℕ = c.in-Some.next in
     let moved : IsMoved b c.visit.new.clauses s c.visit.new.trail c.args.fallen i = subst (λ (v : Fate). IsFate b c.visit.new.clauses s c.visit.new.trail c.args.fallen i v) c.in-Moved.is c.in_ok-visit.ensures.visit in
-    let long : length c.blockers.result.now ≡ length (list_of b.watches c.args.fallen) = c.blockers.ensures.long in
+    let long : length c.watching.result.now ≡ length (list_of b.watches c.args.fallen) = c.watching.ensures.long in
     let found = c.in-Some.ensures.some in
     let shorter = moved_shorter b c.visit.new.clauses s c.visit.new.trail c.args.fallen i c.loop-next.invariant.stored moved in
     omega (arith, shorter, long, found.0, found.1)
@@ -42,9 +42,9 @@ loop-next-preserved-in-Moved c =
     let s : Trailed = c.loop-next.trail in
     let i : ℕ = c.in-Some.next in
     let moved : IsMoved b c.visit.new.clauses s c.visit.new.trail c.args.fallen i = subst (λ (v : Fate). IsFate b c.visit.new.clauses s c.visit.new.trail c.args.fallen i v) c.in-Moved.is c.in_ok-visit.ensures.visit in
-    let long : length c.blockers.result.now ≡ length (list_of b.watches c.args.fallen) = c.blockers.ensures.long in
+    let long : length c.watching.result.now ≡ length (list_of b.watches c.args.fallen) = c.watching.ensures.long in
     let found = c.in-Some.ensures.some in
-    let before : (k : ℕ) → k < i → HasTrueAt b (fell s) (id_at b c.args.fallen k) = visited_open b s c.args.fallen c.blockers.result.now c.loop-next.index i c.blockers.ensures.there found.2 (omega (arith, found.1)) c.loop-next.invariant.visited in
+    let before : (k : ℕ) → k < i → HasTrueAt b (fell s) (id_at b c.args.fallen k) = visited_open b s c.args.fallen c.watching.result.now c.loop-next.index i c.watching.ensures.beside found.2 (omega (arith, found.1)) c.loop-next.invariant.visited in
     let shorter = moved_shorter b c.visit.new.clauses s c.visit.new.trail c.args.fallen i c.loop-next.invariant.stored moved in
     record {
       whole = c.in_ok-visit.ensures.whole;
@@ -58,6 +58,6 @@ pub returns-clause-visited : goal.returns-clause-visited
 returns-clause-visited c =
     let b : Stored = c.loop-next.clauses in
     let s : Trailed = c.loop-next.trail in
-    let long : length c.blockers.result.now ≡ length (list_of b.watches c.args.fallen) = c.blockers.ensures.long in
-    let all : (k : ℕ) → k < length c.blockers.result.now → HasTrueAt b (fell s) (id_at b c.args.fallen k) = visited_open b s c.args.fallen c.blockers.result.now c.loop-next.index (length c.blockers.result.now) c.blockers.ensures.there c.in_default.ensures.none (omega arith) c.loop-next.invariant.visited in
-    λ id watches. visited_each b (fell s) c.args.fallen (length c.blockers.result.now) c.loop-next.invariant.stored (omega (arith, long)) all id watches
+    let long : length c.watching.result.now ≡ length (list_of b.watches c.args.fallen) = c.watching.ensures.long in
+    let all : (k : ℕ) → k < length c.watching.result.now → HasTrueAt b (fell s) (id_at b c.args.fallen k) = visited_open b s c.args.fallen c.watching.result.now c.loop-next.index (length c.watching.result.now) c.watching.ensures.beside c.in_default.ensures.none (omega arith) c.loop-next.invariant.visited in
+    λ id watches. visited_each b (fell s) c.args.fallen (length c.watching.result.now) c.loop-next.invariant.stored (omega (arith, long)) all id watches

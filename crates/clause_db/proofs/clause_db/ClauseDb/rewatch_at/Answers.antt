@@ -3,14 +3,11 @@ use Rattle.clause_db.specs.Watching.{list_of}
 use Rattle.clause_db.specs.Stored.{Stored}
 use Rattle.clause_db.specs.Arranging.{watching_of}
 use Rattle.clause_db.specs.Moving.{IsMovable}
-use Rattle.clause_db.proofs.Databases.{movable_rooms, movable_given, movable_beside, movable_two, movable_block, whole_moved}
+use Rattle.clause_db.proofs.Databases.{movable_rooms, movable_given, movable_two, movable_block, whole_moved}
 use Rattle.clause_db.proofs.clause_db.ClauseDb.rewatch_at.Goals as goal
 
 pub move_to-requires-clause-rooms : goal.move_to-requires-clause-rooms
 move_to-requires-clause-rooms c = movable_rooms _ c.args.self.now c.args.from c.args.to c.args.index c.self.view_is c.self.invariant.0 c.requires.movable
-
-pub move_to-requires-clause-beside : goal.move_to-requires-clause-beside
-move_to-requires-clause-beside c = movable_beside _ c.args.self.now c.self.inside.watches.rows c.args.from c.args.to _ c.args.index c.self.view_is c.self.invariant.1 c.requires.movable
 
 pub move_to-requires-clause-id : goal.move_to-requires-clause-id
 move_to-requires-clause-id c = movable_given c.self.inside.store c.self.inside.watches c.args.self.now c.args.from c.args.to c.args.index c.self.view_is c.self.invariant.0 c.requires.movable

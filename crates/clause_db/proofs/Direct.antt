@@ -1,0 +1,108 @@
+-- The entries of all lists have the ranges of their ids.
+use Rattle.std.proofs.Common.{◌≡◌, ℕ, ◌+◌, ◌-◌, ◌<◌, ◌≤◌, ℤ, List, [], ◌∷◌, ◌++◌, length, take, slice_index_or, slice_set, replicate, All, sym, ap, ◌∙◌, subst, arith}
+use Rattle.std.specs.List.{swap_remove}
+use Rattle.std.proofs.lemmas.List.{length-map, length-append, length-take, get_or-map}
+use Rattle.std.proofs.lemmas.List.Elements.{All-nil, All-replicate, All-get_or, All-set, All-take, All-weaker}
+use Rattle.cdcl_theory.specs.Codes.{code_of}
+use Rattle.clause_db.specs.declared.lists.Watch.{Watch}
+use Rattle.clause_db.specs.BlockRanges.{Blocked, no_range, KeepsRanges}
+use Rattle.clause_db.specs.Lists.{Listed, nothing_listed, no_watch, blocked_by, ids_of, lists_of, IsDirect, AreDirect}
+use Rattle.clause_db.specs.Watching.{listed_in}
+use Rattle.clause_db.specs.WatchingLaws.{watch_id}
+use Rattle.clause_db.specs.Arranging.{Arranged, block_at}
+use Rattle.clause_db.proofs.Listed.{shown_lists, shown_list, ids_inside, lists_room}
+
+pub direct_none : (b : Blocked) (n : ℕ) → AreDirect b (replicate n nothing_listed)
+direct_none b n = All-replicate (All (IsDirect b)) n nothing_listed (All-nil (IsDirect b))
+
+shown_room : (blocks : List (List ℤ)) (all : List Listed) (w : Arranged) (l : ℤ) (k : ℕ) → shown_lists blocks all ≡ w → k ≡ code_of l → code_of l < length w.lists → k < length all
+shown_room blocks all w l k view at room =
+    let long : length w.lists ≡ length all = ap (λ (x : Arranged). length x.lists) (sym view) ∙ lists_room all in
+    omega (arith, long, room, at)
+
+-- the entries of one list
+pub direct_read : (b : Blocked) (blocks : List (List ℤ)) (all : List Listed) (w : Arranged) (l : ℤ) (k : ℕ) (e : Listed) → shown_lists blocks all ≡ w → k ≡ code_of l → code_of l < length w.lists → e ≡ slice_index_or all k e → AreDirect b all → All (IsDirect b) e
+direct_read b blocks all w l k e view at room is are = subst (All (IsDirect b)) (sym is) (All-get_or (All (IsDirect b)) all k e (shown_room blocks all w l k view at room) are)
+
+-- An index of a list is one of its entries,
+pub entry_inside : (blocks : List (List ℤ)) (all : List Listed) (w : Arranged) (l : ℤ) (k : ℕ) (e : Listed) (index : ℕ) → shown_lists blocks all ≡ w → k ≡ code_of l → code_of l < length w.lists → e ≡ slice_index_or all k e → index < length (listed_in w.lists l) → index < length e
+entry_inside blocks all w l k e index view at room is inside = ids_inside e (listed_in w.lists l) index (shown_list blocks all w l k e view at room is) inside
+
+-- which has its range,
+pub entry_direct : (b : Blocked) (blocks : List (List ℤ)) (all : List Listed) (w : Arranged) (l : ℤ) (k : ℕ) (e : Listed) (index : ℕ) (watch : Watch) → shown_lists blocks all ≡ w → k ≡ code_of l → code_of l < length w.lists → e ≡ slice_index_or all k e → index < length (listed_in w.lists l) → slice_index_or e index no_watch ≡ watch → AreDirect b all → IsDirect b watch
+entry_direct b blocks all w l k e index watch view at room is inside here are =
+    subst (IsDirect b) here (All-get_or (IsDirect b) e index no_watch (entry_inside blocks all w l k e index view at room is inside) (direct_read b blocks all w l k e view at room is are))
+
+-- and whose id is the one in the list of ids.
+pub entry_id : (blocks : List (List ℤ)) (all : List Listed) (w : Arranged) (l : ℤ) (k : ℕ) (e : Listed) (index : ℕ) (watch : Watch) → shown_lists blocks all ≡ w → k ≡ code_of l → code_of l < length w.lists → e ≡ slice_index_or all k e → index < length (listed_in w.lists l) → slice_index_or e index no_watch ≡ watch → watch.id ≡ slice_index_or (listed_in w.lists l) index 0
+entry_id blocks all w l k e index watch view at room is inside here = ap (λ (x : Watch). x.id) (sym here) ∙ watch_id e (listed_in w.lists l) index no_watch (shown_list blocks all w l k e view at room is) inside
+
+pub range_there : (b : Blocked) (w : Watch) → IsDirect b w → (n : ℕ) × (n < length b.lists) × (slice_index_or b.ranges n no_range ≡ w.range)
+range_there b w is = (w.id - 1, (let some : 0 < w.id = is.some in let given : w.id ≤ length b.lists = is.given in omega (arith, some, given)), is.is)
+
+-- What is read by the range is the list of the id.
+pub read_direct : (b : Blocked) (blocks : List (List ℤ)) (arranged : List (List ℤ)) (w : Watch) (id : ℕ) (result : List ℤ) → blocks ≡ arranged → w.id ≡ id → IsDirect b w → ((n : ℕ) → n < length b.lists → slice_index_or b.ranges n no_range ≡ w.range → result ≡ slice_index_or blocks n []) → result ≡ block_at arranged id
+read_direct b blocks arranged w id result same id_is is read =
+    let low : w.id - 1 < length b.lists = (let some : 0 < w.id = is.some in let given : w.id ≤ length b.lists = is.given in omega (arith, some, given)) in
+    read (w.id - 1) low is.is ∙ ap (λ (n : ℕ). slice_index_or blocks (n - 1) []) id_is ∙ ap (λ (ls : List (List ℤ)). slice_index_or ls (id - 1) []) same
+
+-- One list is written.
+pub direct_set : (b : Blocked) (all : List Listed) (k : ℕ) (new : Listed) → AreDirect b all → All (IsDirect b) new → AreDirect b (slice_set all k new)
+direct_set b all k new are is = All-set (All (IsDirect b)) all k new is are
+
+pub direct_swap : (b : Blocked) (e : Listed) (i : ℕ) → i < length e → All (IsDirect b) e → All (IsDirect b) (swap_remove e i no_watch)
+direct_swap b e i low are = All-take (IsDirect b) (length e - 1) (slice_set e i (slice_index_or e (length e - 1) no_watch)) (All-set (IsDirect b) e i (slice_index_or e (length e - 1) no_watch) (All-get_or (IsDirect b) e (length e - 1) no_watch (omega (arith, low)) are) are)
+
+pub direct_blocked : (b : Blocked) (w : Watch) (m : ℤ) → IsDirect b w → IsDirect b (blocked_by w m)
+direct_blocked b w m is = record { some = is.some; given = is.given; is = is.is }
+
+pub direct_put : (b : Blocked) (e : Listed) (i : ℕ) (m : ℤ) → i < length e → All (IsDirect b) e → All (IsDirect b) (slice_set e i (blocked_by (slice_index_or e i no_watch) m))
+direct_put b e i m low are = All-set (IsDirect b) e i (blocked_by (slice_index_or e i no_watch) m) (direct_blocked b (slice_index_or e i no_watch) m (All-get_or (IsDirect b) e i no_watch low are)) are
+
+-- One more list stands behind the others,
+pub direct_more : (old new : Blocked) (lits : List ℤ) (all : List Listed) → new.lists ≡ old.lists ++ lits ∷ [] → KeepsRanges old new (length old.lists) → AreDirect old all → AreDirect new all
+direct_more old new lits all more kept are = All-weaker (All (IsDirect old)) (All (IsDirect new)) (λ e. All-weaker (IsDirect old) (IsDirect new) one e) all are
+  where
+    one : (w : Watch) → IsDirect old w → IsDirect new w
+    one w is =
+        let some : 0 < w.id = is.some in
+        let given : w.id ≤ length old.lists = is.given in
+        record { some = some; given = rw (more, length-append) (omega (arith, given)); is = kept (w.id - 1) (omega (arith, some, given)) ∙ is.is }
+
+-- or is taken off again, while the ids are those of before.
+pub direct_back : (old new back : Blocked) (lits : List ℤ) (before all : List Listed) → new.lists ≡ old.lists ++ lits ∷ [] → back.lists ≡ take (length new.lists - 1) new.lists → KeepsRanges new back (length new.lists - 1) → lists_of all ≡ lists_of before → AreDirect old before → AreDirect new all → AreDirect back all
+unfolding lists_of
+direct_back old new back lits before all more back_is kept same was are k d low i e inside = record { some = is.some; given = given; is = kept (w.id - 1) (let some : 0 < w.id = is.some in omega (arith, low_id, count_new, some)) ∙ is.is }
+  where
+    list : Listed
+    list = slice_index_or all k d
+
+    w : Watch
+    w = slice_index_or list i e
+
+    is : IsDirect new w
+    is = are k d low i e inside
+
+    long : length all ≡ length before
+    long = sym (length-map all (λ (x : Listed). ids_of x)) ∙ ap length same ∙ length-map before (λ (x : Listed). ids_of x)
+
+    old_list : Listed
+    old_list = slice_index_or before k d
+
+    ids : ids_of list ≡ ids_of old_list
+    ids = sym (get_or-map (λ (x : Listed). ids_of x) all k d [] low) ∙ ap (λ (xs : List (List ℕ)). slice_index_or xs k []) same ∙ get_or-map (λ (x : Listed). ids_of x) before k d [] (omega (arith, low, long))
+
+    within : i < length old_list
+    within = (let count : length list ≡ length old_list = sym (length-map list (λ (x : Watch). x.id)) ∙ ap length ids ∙ length-map old_list (λ (x : Watch). x.id) in omega (arith, inside, count))
+
+    id : w.id ≡ (slice_index_or old_list i e).id
+    id = sym (get_or-map (λ (x : Watch). x.id) list i e 0 inside) ∙ ap (λ (xs : List ℕ). slice_index_or xs i 0) ids ∙ get_or-map (λ (x : Watch). x.id) old_list i e 0 within
+
+    low_id : w.id ≤ length old.lists
+    low_id = (let was_low : (slice_index_or old_list i e).id ≤ length old.lists = (was k d (omega (arith, low, long)) i e within).given in omega (arith, was_low, id))
+
+    count_new : length new.lists ≡ length old.lists + 1
+    count_new = ap length more ∙ length-append old.lists (lits ∷ [])
+
+    given : w.id ≤ length back.lists
+    given = rw (back_is, length-take) (omega (arith, low_id, count_new))
