@@ -42,13 +42,19 @@ step_fails h f low steps done l ls error e same due fails is =
     (fails_on error (step_at f done l) (steps_then f (steps_from f steps (l ∷ ls)))
     (λ d told. ap (steps_then f) (step_is f steps l ls due ∙ ap (λ (r : Result Step ChainError). r >>= λ s. steps_from f (steps ++ s ∷ []) ls) (ap (λ (n : ℕ). step_at f n l) (sym same) ∙ told))) fails) is
 
+pub step_reads : (f : Frame) (steps : List Step) (done : ℕ) (l : Line) (ls : List Line) (s : Step) → done ≡ length steps → length steps < f.steps → step_at f done l ≡ Ok s → steps_then f (steps_from f steps (l ∷ ls)) ≡ steps_then f (steps_from f (steps ++ s ∷ []) ls)
+step_reads f steps done l ls s same due read =
+    ap (λ (r : Result (List Step × List Line) ChainError). steps_then f r) (step_is f steps l ls due ∙ ap (λ (r : Result Step ChainError). r >>= λ s. steps_from f (steps ++ s ∷ []) ls) (ap (λ (n : ℕ). step_at f n l) (sym same) ∙ read))
+
 pub step_goes : (h : Heading) (f : Frame) (low : Option ℕ) (steps : List Step) (done : ℕ) (l : Line) (ls : List Line) (s : Step) → done ≡ length steps → length steps < f.steps → step_at f done l ≡ Ok s → with_block h f low (steps_then f (steps_from f steps (l ∷ ls))) ≡ with_block h f low (steps_then f (steps_from f (steps ++ s ∷ []) ls))
-step_goes h f low steps done l ls s same due read =
-    ap (λ (r : Result (List Step × List Line) ChainError). with_block h f low (steps_then f r)) (step_is f steps l ls due ∙ ap (λ (r : Result Step ChainError). r >>= λ s. steps_from f (steps ++ s ∷ []) ls) (ap (λ (n : ℕ). step_at f n l) (sym same) ∙ read))
+step_goes h f low steps done l ls s same due read = ap (with_block h f low) (step_reads f steps done l ls s same due read)
 
 -- all steps were read
+pub steps_out : (f : Frame) (steps : List Step) (ls : List Line) → length steps ≡ f.steps → steps_then f (steps_from f steps ls) ≡ outs_then f steps (outs_from f [] ls)
+steps_out f steps ls all = ap (λ (r : Result (List Step × List Line) ChainError). steps_then f r) (steps_done f steps ls all)
+
 pub steps_end : (h : Heading) (f : Frame) (low : Option ℕ) (steps : List Step) (ls : List Line) → length steps ≡ f.steps → with_block h f low (steps_then f (steps_from f steps ls)) ≡ with_block h f low (outs_then f steps (outs_from f [] ls))
-steps_end h f low steps ls all = ap (λ (r : Result (List Step × List Line) ChainError). with_block h f low (steps_then f r)) (steps_done f steps ls all)
+steps_end h f low steps ls all = ap (with_block h f low) (steps_out f steps ls all)
 
 -- ---- outs
 
@@ -62,6 +68,9 @@ out_fails h f low steps os done l ls error e same due fails is =
     (fails_on error (out_at f done l) (outs_then f steps (outs_from f os (l ∷ ls)))
     (λ d told. ap (outs_then f steps) (out_is f os l ls due ∙ ap (λ (r : Result Out ChainError). r >>= λ o. outs_from f (os ++ o ∷ []) ls) (ap (λ (n : ℕ). out_at f n l) (sym same) ∙ told))) fails) is
 
+pub out_reads : (f : Frame) (steps : List Step) (os : List Out) (done : ℕ) (l : Line) (ls : List Line) (o : Out) → done ≡ length os → length os < f.outputs → out_at f done l ≡ Ok o → outs_then f steps (outs_from f os (l ∷ ls)) ≡ outs_then f steps (outs_from f (os ++ o ∷ []) ls)
+out_reads f steps os done l ls o same due read =
+    ap (λ (r : Result (List Out × List Line) ChainError). outs_then f steps r) (out_is f os l ls due ∙ ap (λ (r : Result Out ChainError). r >>= λ o. outs_from f (os ++ o ∷ []) ls) (ap (λ (n : ℕ). out_at f n l) (sym same) ∙ read))
+
 pub out_goes : (h : Heading) (f : Frame) (low : Option ℕ) (steps : List Step) (os : List Out) (done : ℕ) (l : Line) (ls : List Line) (o : Out) → done ≡ length os → length os < f.outputs → out_at f done l ≡ Ok o → with_block h f low (outs_then f steps (outs_from f os (l ∷ ls))) ≡ with_block h f low (outs_then f steps (outs_from f (os ++ o ∷ []) ls))
-out_goes h f low steps os done l ls o same due read =
-    ap (λ (r : Result (List Out × List Line) ChainError). with_block h f low (outs_then f steps r)) (out_is f os l ls due ∙ ap (λ (r : Result Out ChainError). r >>= λ o. outs_from f (os ++ o ∷ []) ls) (ap (λ (n : ℕ). out_at f n l) (sym same) ∙ read))
+out_goes h f low steps os done l ls o same due read = ap (with_block h f low) (out_reads f steps os done l ls o same due read)

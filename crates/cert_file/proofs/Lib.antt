@@ -4,6 +4,7 @@ pub mod SectionLines
 pub mod Refusing
 pub mod Blocks
 pub mod Chains
+pub mod Keeping
 pub mod Taking
 pub mod Cutting
 pub mod Verdicts

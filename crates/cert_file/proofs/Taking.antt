@@ -13,10 +13,10 @@ use Rattle.chain_core.specs.declared.error.ChainError.TheVariants.{BadStep, BadO
 use Rattle.chain_core.specs.Block.{steps_from, outs_from}
 use Rattle.chain_core.specs.Steps.{step_of, steps_of}
 use Rattle.cert_theory.specs.declared.data.Heading.{Heading}
-use Rattle.cert_theory.specs.declared.data.Verdict.{Verdict}
+use Rattle.cert_file.specs.declared.told.Told.{Told}
 use Rattle.cert_theory.specs.declared.data.BundleError.TheVariants.{Syntax}
 use Rattle.cert_theory.specs.Judging.{with_block, with_tables, behind_tables, behind_basis, behind_method, behind_conflicts, sections_of, behind_chain, end_of, bundle_of}
-use Rattle.cert_file.specs.Stages.{Answer, IsStage, Stands, verdict_in, steps_then, outs_then}
+use Rattle.cert_file.specs.Stages.{Answer, IsStage, Stands, told_in, steps_then, outs_then}
 use Rattle.cert_file.specs.declared.stage.Stage.{Stage}
 use Rattle.cert_file.specs.declared.stage.Stage.TheVariants.{Start, Inputs, Tables, Methods, Conflicts, Sizes, Between, Due, Begun, Within, Steps, Outs, Found, End, Done}
 
@@ -50,11 +50,11 @@ rows_short n number (x ∷ on) care same =
     ∙ ap (λ (k : ℕ). let r : Answer = Err (Syntax k) in r) (sym same)
 
 -- what the lines come to where none is left
-abbrev pub closed_at : ℕ → Option Verdict → Answer
+abbrev pub closed_at : ℕ → Option Told → Answer
 closed_at number None = Err (Syntax number)
-closed_at number (Some verdict) = Ok verdict
+closed_at number (Some told) = Ok told.verdict
 
-pub ended_as : (stage : Stage) (number : ℕ) (answer : Answer) → IsStage stage number → Stands stage number [] answer → answer ≡ closed_at number (verdict_in stage)
+pub ended_as : (stage : Stage) (number : ℕ) (answer : Answer) → IsStage stage number → Stands stage number [] answer → answer ≡ closed_at number (told_in stage)
 unfolding bundle_of with_tables behind_basis behind_method behind_conflicts sections_of behind_chain end_of
 ended_as Start number answer is stands = stands ∙ ap (λ (k : ℕ). let r : Answer = Err (Syntax k) in r) (sym is)
 ended_as Inputs number answer is stands = stands ∙ ap (λ (k : ℕ). let r : Answer = Err (Syntax k) in r) (sym is)
@@ -73,6 +73,6 @@ ended_as (Steps h low f steps) number answer is stands =
 ended_as (Outs h low f steps os) number answer is stands =
     stands ∙ ap (λ (r : Result (List Out × List Line) ChainError). with_block h f low (outs_then f (steps_of steps.items) r)) (outs_short f os.items is.due)
     ∙ block_short_outs h f low number (f.first_line + 1 + f.steps + length os.items) is.number_is
-ended_as (Found size low) number answer is stands = stands
-ended_as (End verdict) number answer is stands = stands
-ended_as (Done verdict) number answer is stands = stands
+ended_as (Found h low c) number answer is stands = stands
+ended_as (End told) number answer is stands = stands
+ended_as (Done told) number answer is stands = stands

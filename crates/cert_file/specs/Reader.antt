@@ -7,6 +7,7 @@ use Rattle.cert_theory.specs.declared.data.BundleError.{BundleError}
 use Rattle.cert_theory.specs.Gives.{Fails}
 use Rattle.cert_theory.specs.Judging.{bundle_of}
 use Rattle.cert_file.specs.Stages.{Answer, IsStage, Stands}
+use Rattle.cert_file.specs.Telling.{Tells}
 use Rattle.cert_file.specs.declared.stage.Stage.{Stage}
 use Rattle.cert_file.specs.declared.reader.BundleReader.{BundleReader}
 
@@ -43,11 +44,12 @@ pub record IsCut (text : List ℕ) (number : ℕ) (unfinished : List ℕ) : Type
   pub number_is : number ≡ length lines + 1
 
 -- A reader stands for a text: it was fed so many bytes, it keeps the unfinished line, and whatever comes
--- behind the text, the whole has the answer for which the stage stands.
+-- behind the text, the whole has the answer for which the stage stands, and the heading and the chain that it keeps.
 pub record StandsFor (r : Reader) (text : List ℕ) : Type 0 where
   pub fed_is : r.fed ≡ length text
   pub cut : IsCut text r.number r.unfinished
   pub stands : (rest : List ℕ) → Stands r.stage r.number (lines_from r.unfinished rest) (bundle_of (lines_of (text ++ rest)))
+  pub tells : (rest : List ℕ) → Tells r.stage r.number (lines_from r.unfinished rest) (lines_of (text ++ rest))
 
 -- Whatever comes behind the text, the whole is refused so.
 abbrev pub IsRefused : BundleError → List ℕ → Type 0

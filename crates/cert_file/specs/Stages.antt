@@ -22,6 +22,7 @@ use Rattle.enc_theory.specs.declared.part.Part.{Part}
 use Rattle.cert_theory.specs.Bundle.{parts_of, formula_of}
 use Rattle.cert_file.specs.declared.part.PartReader.{PartReader}
 use Rattle.cert_file.specs.Logged.{IsReading}
+use Rattle.cert_file.specs.declared.told.Told.{Told}
 use Rattle.cert_file.specs.declared.stage.Running.{Running}
 use Rattle.cert_file.specs.declared.stage.Stage.{Stage}
 use Rattle.cert_file.specs.declared.stage.Stage.TheVariants as stages
@@ -79,14 +80,14 @@ IsStage (stages.Begun r) number = IsRunning r
 IsStage (stages.Within r reader) number = IsRunning r
 IsStage (stages.Steps h low f steps) number = AreRead h f steps.items number
 IsStage (stages.Outs h low f steps os) number = AreNamed h f steps.items os.items number
-IsStage (stages.Found size low) number = Unit {0}
-IsStage (stages.End verdict) number = Unit {0}
-IsStage (stages.Done verdict) number = Unit {0}
+IsStage (stages.Found h low c) number = IsKnown h
+IsStage (stages.End told) number = IsKnown told.heading
+IsStage (stages.Done told) number = IsKnown told.heading
 
--- the verdict, where nothing is due
-abbrev pub verdict_in : Stage → Option Verdict
-verdict_in (stages.Done verdict) = Some verdict
-verdict_in stage = None
+-- what the text tells, where nothing is due
+abbrev pub told_in : Stage → Option Told
+told_in (stages.Done told) = Some told
+told_in stage = None
 
 -- the parts behind the one that is read or due
 abbrev pub later_of : Running → List Part
@@ -132,9 +133,9 @@ Stands (stages.Begun r) number lines answer = IsBegun r number lines answer
 Stands (stages.Within r reader) number lines answer = IsLogging r reader number lines answer
 Stands (stages.Steps h low f steps) number lines answer = answer ≡ with_block h f low (steps_then f (block.steps_from f (steps_of steps.items) lines))
 Stands (stages.Outs h low f steps os) number lines answer = answer ≡ with_block h f low (outs_then f (steps_of steps.items) (block.outs_from f os.items lines))
-Stands (stages.Found size low) number lines answer = answer ≡ behind_chain number size low lines
-Stands (stages.End verdict) number lines answer = answer ≡ end_of number verdict lines
-Stands (stages.Done verdict) number lines answer = answer ≡ nothing_behind number verdict lines
+Stands (stages.Found h low c) number lines answer = answer ≡ behind_chain number (length c.steps) low lines
+Stands (stages.End told) number lines answer = answer ≡ end_of number told.verdict lines
+Stands (stages.Done told) number lines answer = answer ≡ nothing_behind number told.verdict lines
 
 -- after one more line: a stage stands for what comes next, or the line is at fault, whatever comes next
 abbrev pub Judged : Result Stage BundleError → ℕ → List Line → Answer → Type 0

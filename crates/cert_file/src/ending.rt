@@ -1,5 +1,5 @@
 //! The chain block, the verdict and the end.
-ghost use Rattle.std.specs.Prelude.{◌≡◌, ◌+◌, ◌<◌, ◌≤◌, ◌^◌, ◌==◌, ◌&&◌, nat_lt, List, ◌∷◌, length, Ok, IfOk};
+ghost use Rattle.std.specs.Prelude.{◌≡◌, ◌+◌, ◌<◌, ◌≤◌, ◌^◌, ◌==◌, ◌&&◌, nat_lt, List, ◌∷◌, length, Some, Ok, IfOk};
 ghost use Rattle.text_core.specs.Lines.{Line};
 ghost use Rattle.chain_theory.specs.Chain as chain;
 ghost use Rattle.chain_core.specs.Block as block;
@@ -8,13 +8,16 @@ ghost use Rattle.text_core.specs.Items.{items_of};
 ghost use Rattle.cert_theory.specs.Gives.{Gives};
 ghost use Rattle.cert_theory.specs.Coding.{is_titled};
 ghost use Rattle.cert_theory.specs.Judging as judging;
+ghost use Rattle.cert_file.specs.Asking.{heading_in};
 ghost use Rattle.cert_file.specs.Refusals.{IsRefusal};
 ghost use Rattle.cert_file.specs.TextLines.{line_of};
 ghost use Rattle.cert_file.specs.Stages.{Answer, Judged, IsStage, IsKnown, AreRead, AreNamed, outs_then, steps_then};
+ghost use Rattle.cert_file.specs.Telling.{IsPlace, IsBlock, IsHeld, HasEnded, Tells};
 
 use crate::lines::{GREATEST, TextLine, begins, is_line, number_behind, value_of};
 use crate::stage::Stage;
 use crate::titles::is_title;
+use crate::told::Told;
 use cert_theory::{BundleError, Heading, Verdict};
 use chain_core::{
     Chain, ChainError, Frame, Out, Step, add_step, count_at, first_difference, first_outside,
@@ -43,6 +46,7 @@ fn refusal(error: ChainError) -> BundleError
 fn steps_at(heading: &Heading, size: u32, line: &TextLine) -> Result<u32, BundleError>
     ensures exact { Gives (λ x. x) result (judging.steps_at heading.now line.now.number size (line_of line.now)) }
     ensures few { IfOk result (λ steps. steps ≤ 16) }
+    ensures count { IfOk result (λ steps. block.count_at line.now.number (line_of line.now) ≡ Ok steps) }
 {
     let steps = match count_at(line.number, line.text, line.ended) {
         Ok(steps) => steps,
@@ -66,6 +70,7 @@ fn at_chain(
     requires number { line.now.number < 2 ^ 31 }
     ensures keeps { IfOk result (λ s. IsStage s (line.now.number + 1)) }
     ensures answer { (ls : List Line) (answer : Answer) → answer ≡ judging.chain_at heading line.now.number size low (line_of line.now) ls → Judged result (line.now.number + 1) ls answer }
+    ensures tells { (ls all : List Line) → IsPlace line.now.number (line_of line.now ∷ ls) all → heading_in all ≡ Some heading → IfOk result (λ s. Tells s (line.now.number + 1) ls all) }
 {
     let steps = steps_at(&heading, size, line)?;
     let n = heading.spec.n();
@@ -106,6 +111,7 @@ pub(crate) fn at_steps(
     requires read { AreRead heading frame steps.items line.now.number }
     ensures keeps { IfOk result (λ s. IsStage s (line.now.number + 1)) }
     ensures answer { (ls : List Line) (answer : Answer) → answer ≡ judging.with_block heading frame low (steps_then frame (block.steps_from frame (steps_of steps.items) (line_of line.now ∷ ls))) → Judged result (line.now.number + 1) ls answer }
+    ensures tells { (ls all : List Line) → heading_in all ≡ Some heading → IsBlock frame all (steps_then frame (block.steps_from frame (steps_of steps.items) (line_of line.now ∷ ls))) → IfOk result (λ s. Tells s (line.now.number + 1) ls all) }
 {
     let _inputs = heading.spec.n();
     let step = match step_at(&frame, steps.len() as u32, line.text, line.ended) {
@@ -161,6 +167,7 @@ pub(crate) fn at_outs(
     requires read { AreNamed heading frame steps.items outs.items line.now.number }
     ensures keeps { IfOk result (λ s. IsStage s (line.now.number + 1)) }
     ensures answer { (ls : List Line) (answer : Answer) → answer ≡ judging.with_block heading frame low (outs_then frame (steps_of steps.items) (block.outs_from frame outs.items (line_of line.now ∷ ls))) → Judged result (line.now.number + 1) ls answer }
+    ensures tells { (ls all : List Line) → heading_in all ≡ Some heading → IsBlock frame all (outs_then frame (steps_of steps.items) (block.outs_from frame outs.items (line_of line.now ∷ ls))) → IfOk result (λ s. Tells s (line.now.number + 1) ls all) }
 {
     let _inputs = heading.spec.n();
     let out = match out_at(&frame, outs.len() as u32, line.text, line.ended) {
@@ -178,10 +185,13 @@ pub(crate) fn at_outs(
             outs,
         });
     }
-    let size = frame.steps;
     let chain = Chain::new(frame.n, steps, outs);
     chain_judged(&heading, &chain)?;
-    Ok(Stage::Found { size, low })
+    Ok(Stage::Found {
+        heading,
+        low,
+        chain,
+    })
 }
 
 /// Whether two verdicts are the same.
@@ -241,17 +251,31 @@ pub(crate) fn not_found_in(line: &TextLine) -> Option<Verdict>
 
 /// The verdict behind a chain.
 #[tactic(auto, unfolding(cert_theory::specs::Judging::behind_chain))]
-pub(crate) fn at_found(size: u32, low: Option<u32>, line: &TextLine) -> Result<Stage, BundleError>
+pub(crate) fn at_found(
+    heading: Heading,
+    low: Option<u32>,
+    chain: Chain,
+    line: &TextLine,
+) -> Result<Stage, BundleError>
+    requires known { IsKnown heading }
     ensures keeps { IfOk result (λ s. IsStage s (line.now.number + 1)) }
-    ensures answer { (ls : List Line) (answer : Answer) → answer ≡ judging.behind_chain line.now.number size low (line_of line.now ∷ ls) → Judged result (line.now.number + 1) ls answer }
+    ensures answer { (ls : List Line) (answer : Answer) → answer ≡ judging.behind_chain line.now.number (length chain.steps) low (line_of line.now ∷ ls) → Judged result (line.now.number + 1) ls answer }
+    ensures tells { (ls all : List Line) → heading_in all ≡ Some heading → IsHeld heading chain 0 line.now.number all → IfOk result (λ s. Tells s (line.now.number + 1) ls all) }
 {
+    let size = chain.steps().len() as u32;
     let Some(verdict) = found_in(line) else {
         return Err(BundleError::Syntax(line.number));
     };
     if !is_same(verdict, Verdict::found(size, low)) {
         return Err(BundleError::WrongVerdict(line.number));
     }
-    Ok(Stage::End { verdict })
+    Ok(Stage::End {
+        told: Told {
+            heading,
+            chain: Some(chain),
+            verdict,
+        },
+    })
 }
 
 /// The verdict of a line where no chain stands. By fences a title behind a section, where no part is due
@@ -275,15 +299,22 @@ fn at_not_found(
     low: Option<u32>,
     line: &TextLine,
 ) -> Result<Stage, BundleError>
-    requires { heading.max ≤ 16 }
+    requires { IsKnown heading }
     ensures keeps { IfOk result (λ s. IsStage s (line.now.number + 1)) }
     ensures answer { (ls : List Line) (answer : Answer) → answer ≡ judging.no_chain_at heading line.now.number size low (line_of line.now) ls → Judged result (line.now.number + 1) ls answer }
+    ensures tells { (ls all : List Line) → heading_in all ≡ Some heading → IfOk result (λ s. Tells s (line.now.number + 1) ls all) }
 {
     let verdict = verdict_at(heading.method, size, line)?;
     if size != heading.max + 1 || !is_same(verdict, Verdict::not_found(heading.max, low)) {
         return Err(BundleError::WrongVerdict(line.number));
     }
-    Ok(Stage::End { verdict })
+    Ok(Stage::End {
+        told: Told {
+            heading,
+            chain: None,
+            verdict,
+        },
+    })
 }
 
 /// The first line of the ending.
@@ -298,6 +329,7 @@ pub(crate) fn at_ending(
     requires number { line.now.number < 2 ^ 31 }
     ensures keeps { IfOk result (λ s. IsStage s (line.now.number + 1)) }
     ensures answer { (ls : List Line) (answer : Answer) → answer ≡ judging.ending_at heading line.now.number size low (line_of line.now) ls → Judged result (line.now.number + 1) ls answer }
+    ensures tells { (ls all : List Line) → IsPlace line.now.number (line_of line.now ∷ ls) all → heading_in all ≡ Some heading → IfOk result (λ s. Tells s (line.now.number + 1) ls all) }
 {
     if begins(b"chain ", line) {
         return at_chain(alloc, heading, size, low, line);
@@ -307,12 +339,14 @@ pub(crate) fn at_ending(
 
 /// The last line.
 #[tactic(auto, unfolding(cert_theory::specs::Judging::end_of))]
-pub(crate) fn at_end(verdict: Verdict, line: &TextLine) -> Result<Stage, BundleError>
+pub(crate) fn at_end(told: Told, line: &TextLine) -> Result<Stage, BundleError>
+    requires known { IsKnown told.heading }
     ensures keeps { IfOk result (λ s. IsStage s (line.now.number + 1)) }
-    ensures answer { (ls : List Line) (answer : Answer) → answer ≡ judging.end_of line.now.number verdict (line_of line.now ∷ ls) → Judged result (line.now.number + 1) ls answer }
+    ensures answer { (ls : List Line) (answer : Answer) → answer ≡ judging.end_of line.now.number told.verdict (line_of line.now ∷ ls) → Judged result (line.now.number + 1) ls answer }
+    ensures tells { (ls all : List Line) → heading_in all ≡ Some told.heading → HasEnded told.heading told.chain told.verdict 1 line.now.number all → IfOk result (λ s. Tells s (line.now.number + 1) ls all) }
 {
     if !is_line(b"end", line) {
         return Err(BundleError::Syntax(line.number));
     }
-    Ok(Stage::Done { verdict })
+    Ok(Stage::Done { told })
 }

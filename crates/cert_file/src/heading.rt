@@ -6,7 +6,9 @@ ghost use Rattle.tt_core.specs.Tables as tables;
 ghost use Rattle.settings.specs.Synth.{most_steps};
 ghost use Rattle.cert_theory.specs.Judging as judging;
 ghost use Rattle.cert_file.specs.TextLines.{line_of};
+ghost use Rattle.cert_file.specs.Asking.{with_max, with_conflicts, with_method, heading_by, heading_in};
 ghost use Rattle.cert_file.specs.Stages.{Answer, Judged, IsStage};
+ghost use Rattle.cert_file.specs.Telling.{Tells};
 
 use crate::lines::{TextLine, is_line, value_of};
 use crate::stage::Stage;
@@ -19,11 +21,12 @@ use text_core::{begins_lower, number_up_to};
 use tt_core::{Spec, are_cells, inputs, push_row};
 
 /// The first line.
-#[tactic(auto, unfolding(cert_theory::specs::Judging::bundle_of))]
+#[tactic(auto, unfolding(cert_theory::specs::Judging::bundle_of, crate::specs::Asking::heading_in))]
 pub(crate) fn at_start(line: &TextLine) -> Result<Stage, BundleError>
     requires { line.now.number ≡ 1 }
     ensures keeps { IfOk result (λ s. IsStage s (line.now.number + 1)) }
     ensures answer { (ls : List Line) (answer : Answer) → answer ≡ judging.bundle_of (line_of line.now ∷ ls) → Judged result (line.now.number + 1) ls answer }
+    ensures tells { (ls all : List Line) → heading_in all ≡ heading_in (line_of line.now ∷ ls) → IfOk result (λ s. Tells s (line.now.number + 1) ls all) }
 {
     if !is_line(b"chains 1", line) {
         return Err(BundleError::Syntax(line.number));
@@ -32,11 +35,12 @@ pub(crate) fn at_start(line: &TextLine) -> Result<Stage, BundleError>
 }
 
 /// The number of inputs.
-#[tactic(auto, unfolding(cert_theory::specs::Judging::with_tables))]
+#[tactic(auto, unfolding(cert_theory::specs::Judging::with_tables, crate::specs::Asking::heading_by))]
 pub(crate) fn at_inputs(alloc: Global, line: &TextLine) -> Result<Stage, BundleError>
     requires { line.now.number ≡ 2 }
     ensures keeps { IfOk result (λ s. IsStage s (line.now.number + 1)) }
     ensures answer { (ls : List Line) (answer : Answer) → answer ≡ judging.with_tables (tables.tables_of (line_of line.now ∷ ls)) → Judged result (line.now.number + 1) ls answer }
+    ensures tells { (ls all : List Line) → heading_in all ≡ heading_by (tables.tables_of (line_of line.now ∷ ls)) → IfOk result (λ s. Tells s (line.now.number + 1) ls all) }
 {
     let Some(n) = inputs(line.text, line.ended) else {
         return Err(BundleError::Syntax(line.number));
@@ -72,7 +76,7 @@ pub fn basis_in(alloc: Global, line: &TextLine) -> Result<Option<Basis>, AllocEr
 }
 
 /// The line behind the tables, which is that of the basis.
-#[tactic(auto, unfolding(cert_theory::specs::Judging::with_tables, cert_theory::specs::Judging::behind_tables))]
+#[tactic(auto, unfolding(cert_theory::specs::Judging::with_tables, cert_theory::specs::Judging::behind_tables, crate::specs::Asking::heading_by, crate::specs::Asking::with_basis))]
 fn at_basis(
     alloc: Global,
     n: u32,
@@ -84,6 +88,7 @@ fn at_basis(
     requires tables { IsSpec (record { n = n; on = on.items; care = care.items }) }
     ensures keeps { IfOk result (λ s. IsStage s (line.now.number + 1)) }
     ensures answer { (ls : List Line) (answer : Answer) → answer ≡ judging.with_tables (tables.end_of (record { n = n; on = on.items; care = care.items }) (line_of line.now ∷ ls)) → Judged result (line.now.number + 1) ls answer }
+    ensures tells { (ls all : List Line) → heading_in all ≡ heading_by (tables.end_of (record { n = n; on = on.items; care = care.items }) (line_of line.now ∷ ls)) → IfOk result (λ s. Tells s (line.now.number + 1) ls all) }
 {
     if on.is_empty() {
         return Err(BundleError::Syntax(line.number));
@@ -98,7 +103,7 @@ fn at_basis(
 }
 
 /// A table, or the line behind the tables.
-#[tactic(auto, unfolding(cert_theory::specs::Judging::with_tables, tt_core::specs::Tables::rows_of))]
+#[tactic(auto, unfolding(cert_theory::specs::Judging::with_tables, tt_core::specs::Tables::rows_of, crate::specs::Asking::heading_by))]
 pub(crate) fn at_tables(
     alloc: Global,
     n: u32,
@@ -110,6 +115,7 @@ pub(crate) fn at_tables(
     requires tables { IsSpec (record { n = n; on = on.items; care = care.items }) }
     ensures keeps { IfOk result (λ s. IsStage s (line.now.number + 1)) }
     ensures answer { (ls : List Line) (answer : Answer) → answer ≡ judging.with_tables (tables.rows_of (record { n = n; on = on.items; care = care.items }) (line_of line.now ∷ ls)) → Judged result (line.now.number + 1) ls answer }
+    ensures tells { (ls all : List Line) → heading_in all ≡ heading_by (tables.rows_of (record { n = n; on = on.items; care = care.items }) (line_of line.now ∷ ls)) → IfOk result (λ s. Tells s (line.now.number + 1) ls all) }
 {
     if begins_lower(line.text) {
         return at_basis(alloc, n, on, care, line);
@@ -137,12 +143,13 @@ pub fn method_in(line: &TextLine) -> Option<Method>
 }
 
 /// The method.
-#[tactic(auto, unfolding(cert_theory::specs::Judging::behind_basis))]
+#[tactic(auto, unfolding(cert_theory::specs::Judging::behind_basis, crate::specs::Asking::with_method))]
 pub(crate) fn at_method(spec: Spec, basis: Basis, line: &TextLine) -> Result<Stage, BundleError>
     requires basis { 0 < basis }
     requires output { 0 < length spec.on }
     ensures keeps { IfOk result (λ s. IsStage s (line.now.number + 1)) }
     ensures answer { (ls : List Line) (answer : Answer) → answer ≡ judging.behind_basis spec basis line.now.number (line_of line.now ∷ ls) → Judged result (line.now.number + 1) ls answer }
+    ensures tells { (ls all : List Line) → heading_in all ≡ with_method spec basis (line_of line.now ∷ ls) → IfOk result (λ s. Tells s (line.now.number + 1) ls all) }
 {
     let Some(method) = method_in(line) else {
         return Err(BundleError::Syntax(line.number));
@@ -167,7 +174,7 @@ pub fn conflicts_in(line: &TextLine) -> Option<u32>
 }
 
 /// The number of conflicts.
-#[tactic(auto, unfolding(cert_theory::specs::Judging::behind_method))]
+#[tactic(auto, unfolding(cert_theory::specs::Judging::behind_method, crate::specs::Asking::with_conflicts))]
 pub(crate) fn at_conflicts(
     spec: Spec,
     basis: Basis,
@@ -178,6 +185,7 @@ pub(crate) fn at_conflicts(
     requires output { 0 < length spec.on }
     ensures keeps { IfOk result (λ s. IsStage s (line.now.number + 1)) }
     ensures answer { (ls : List Line) (answer : Answer) → answer ≡ judging.behind_method spec basis method line.now.number (line_of line.now ∷ ls) → Judged result (line.now.number + 1) ls answer }
+    ensures tells { (ls all : List Line) → heading_in all ≡ with_conflicts spec basis method (line_of line.now ∷ ls) → IfOk result (λ s. Tells s (line.now.number + 1) ls all) }
 {
     let Some(conflicts) = conflicts_in(line) else {
         return Err(BundleError::Syntax(line.number));
@@ -201,7 +209,7 @@ pub fn max_in(line: &TextLine) -> Option<u32>
 }
 
 /// The greatest size.
-#[tactic(auto, unfolding(cert_theory::specs::Judging::behind_conflicts))]
+#[tactic(auto, unfolding(cert_theory::specs::Judging::behind_conflicts, crate::specs::Asking::with_max))]
 pub(crate) fn at_max(
     spec: Spec,
     basis: Basis,
@@ -213,6 +221,7 @@ pub(crate) fn at_max(
     requires output { 0 < length spec.on }
     ensures keeps { IfOk result (λ s. IsStage s (line.now.number + 1)) }
     ensures answer { (ls : List Line) (answer : Answer) → answer ≡ judging.behind_conflicts spec basis method conflicts line.now.number (line_of line.now ∷ ls) → Judged result (line.now.number + 1) ls answer }
+    ensures tells { (ls all : List Line) → heading_in all ≡ with_max spec basis method conflicts (line_of line.now ∷ ls) → IfOk result (λ s. Tells s (line.now.number + 1) ls all) }
 {
     let Some(max) = max_in(line) else {
         return Err(BundleError::Syntax(line.number));

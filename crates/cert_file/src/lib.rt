@@ -26,6 +26,7 @@ mod reader;
 mod sections;
 mod stage;
 mod titles;
+mod told;
 
 pub use cert_theory::{BundleError, Ended, Heading, PartError, Verdict};
 pub use checking::check_bundle;
@@ -35,3 +36,4 @@ pub use logs::ended_in;
 pub use part::{PartReader, PartStep};
 pub use reader::BundleReader;
 pub use titles::is_title;
+pub use told::Told;

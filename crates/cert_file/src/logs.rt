@@ -1,13 +1,15 @@
 //! The lines of a log, and its end, as lines of a bundle: each goes to the reader of the part, and what comes
 //! behind the end is the next part or the next size.
-ghost use Rattle.std.specs.Prelude.{◌≡◌, ℕ, ◌+◌, ◌<◌, List, ◌∷◌, IfOk};
+ghost use Rattle.std.specs.Prelude.{◌≡◌, ℕ, ◌+◌, ◌<◌, List, ◌∷◌, Some, IfOk};
 ghost use Rattle.text_core.specs.Lines as lines;
 ghost use Rattle.cert_theory.specs.Judging as judging;
 ghost use Rattle.cert_theory.specs.PartLines as parts;
 ghost use Rattle.cert_theory.specs.Bundle as bundles;
 ghost use Rattle.enc_theory.specs.declared.part.Part.{Part};
+ghost use Rattle.cert_file.specs.Asking.{heading_in};
 ghost use Rattle.cert_file.specs.TextLines.{line_of};
 ghost use Rattle.cert_file.specs.Stages.{Answer, Judged, Stands, IsStage, IsRunning, IsPart, later_of, IsBegun, IsLogging};
+ghost use Rattle.cert_file.specs.Telling.{Tells};
 
 use crate::formulas::formula_of;
 use crate::lines::{TextLine, fault_at, is_line};
@@ -51,6 +53,7 @@ pub(crate) fn at_begun(
     ensures keeps { IfOk result (λ s. IsStage s (line.now.number + 1)) }
     ensures answer { (lines ls : List lines.Line) (answer : Answer) → IsBegun running line.now.number lines answer →
         lines ≡ line_of line.now ∷ ls → Judged result (line.now.number + 1) ls answer }
+    ensures tells { (ls all : List lines.Line) → heading_in all ≡ Some running.heading → IfOk result (λ s. Tells s (line.now.number + 1) ls all) }
 {
     let Some(end) = ended_in(line) else {
         return Err(BundleError::Syntax(line.number));
@@ -77,6 +80,7 @@ fn behind(running: Running, end: Ended) -> Stage
     ensures stands { (number : ℕ) (ls : List lines.Line) (answer : Answer) →
         answer ≡ judging.sections_of running.heading number (judging.before running.size (judging.low_with running.low end running.size) (later_of running)) ls →
         Stands result number ls answer }
+    ensures tells { (number : ℕ) (ls all : List lines.Line) → heading_in all ≡ Some running.heading → Tells result number ls all }
 {
     let Running {
         heading,
@@ -105,6 +109,7 @@ pub(crate) fn at_within(
     ensures keeps { IfOk result (λ s. IsStage s (line.now.number + 1)) }
     ensures answer { (lines ls : List lines.Line) (answer : Answer) → IsLogging running reader line.now.number lines answer →
         lines ≡ line_of line.now ∷ ls → Judged result (line.now.number + 1) ls answer }
+    ensures tells { (ls all : List lines.Line) → heading_in all ≡ Some running.heading → IfOk result (λ s. Tells s (line.now.number + 1) ls all) }
 {
     let end = reader.ended();
     match reader.feed(alloc, line.text, line.ended) {

@@ -5,7 +5,8 @@ ghost use Rattle.text_core.specs.Lines.{Line};
 ghost use Rattle.cert_theory.specs.Gives.{Gives};
 ghost use Rattle.cert_file.specs.TextLines.{line_of};
 ghost use Rattle.cert_file.specs.Stages as stages;
-ghost use Rattle.cert_file.specs.Stages.{Answer, IsStage, Stands, Judged};
+ghost use Rattle.cert_file.specs.Stages.{Answer, IsStage, IsKnown, Stands, Judged};
+ghost use Rattle.cert_file.specs.Telling.{IsPlace, Tells, HasTold};
 
 use crate::ending::{at_end, at_found, at_outs, at_steps};
 use crate::heading::{at_conflicts, at_inputs, at_max, at_method, at_start, at_tables};
@@ -14,7 +15,8 @@ use crate::logs::{at_begun, at_within};
 use crate::sections::at_between;
 use crate::stage::Stage;
 use crate::titles::at_due;
-use cert_theory::{BundleError, Verdict};
+use crate::told::Told;
+use cert_theory::BundleError;
 use std::alloc::Global;
 
 /// Takes the next line.
@@ -24,6 +26,8 @@ pub(crate) fn take(alloc: Global, stage: Stage, line: &TextLine) -> Result<Stage
     ensures keeps { IfOk result (λ s. IsStage s (line.now.number + 1)) }
     ensures answer { (lines ls : List Line) (answer : Answer) → Stands stage line.now.number lines answer →
         lines ≡ line_of line.now ∷ ls → Judged result (line.now.number + 1) ls answer }
+    ensures tells { (lines ls all : List Line) → IsPlace line.now.number lines all → Tells stage line.now.number lines all →
+        lines ≡ line_of line.now ∷ ls → IfOk result (λ s. Tells s (line.now.number + 1) ls all) }
 {
     match stage {
         Stage::Start => at_start(line),
@@ -58,29 +62,35 @@ pub(crate) fn take(alloc: Global, stage: Stage, line: &TextLine) -> Result<Stage
             steps,
             outs,
         } => at_outs(heading, low, frame, steps, outs, line),
-        Stage::Found { size, low } => at_found(size, low, line),
-        Stage::End { verdict } => at_end(verdict, line),
+        Stage::Found {
+            heading,
+            low,
+            chain,
+        } => at_found(heading, low, chain, line),
+        Stage::End { told } => at_end(told, line),
         Stage::Done { .. } => Err(BundleError::Syntax(line.number)),
     }
 }
 
-/// The verdict, where nothing is due.
-fn verdict_in(stage: Stage) -> Option<Verdict>
-    ensures { result ≡ stages.verdict_in stage }
+/// What the text tells, where nothing is due.
+fn told_in(stage: Stage) -> Option<Told>
+    ensures { result ≡ stages.told_in stage }
 {
     match stage {
-        Stage::Done { verdict } => Some(verdict),
+        Stage::Done { told } => Some(told),
         _ => None,
     }
 }
 
 /// What the lines come to, where none is left.
-pub(crate) fn verdict_of(stage: Stage, number: u32) -> Result<Verdict, BundleError>
+pub(crate) fn told_of(stage: Stage, number: u32) -> Result<Told, BundleError>
     requires { IsStage stage number }
-    ensures { (answer : Answer) → Stands stage number [] answer → Gives (λ v. v) result answer }
+    ensures answer { (answer : Answer) → Stands stage number [] answer → Gives (λ t. t.verdict) result answer }
+    ensures tells { (all : List Line) → IsPlace number [] all → Tells stage number [] all → IfOk result (λ t. HasTold t all) }
+    ensures known { IfOk result (λ t. IsKnown t.heading) }
 {
-    let Some(verdict) = verdict_in(stage) else {
+    let Some(told) = told_in(stage) else {
         return Err(BundleError::Syntax(number));
     };
-    Ok(verdict)
+    Ok(told)
 }

@@ -6,12 +6,14 @@ ghost use Rattle.cert_theory.specs.Gives.{Gives};
 ghost use Rattle.cert_theory.specs.Bundle.{Bundle};
 ghost use Rattle.cert_theory.specs.Spelling.{IsBundle, HasVerdict};
 ghost use Rattle.cert_theory.specs.Judging.{bundle_of};
-ghost use Rattle.cert_file.specs.Stages.{Answer, IsStage, Stands, Judged};
+ghost use Rattle.cert_file.specs.Stages.{Answer, IsStage, IsKnown, Stands, Judged};
+ghost use Rattle.cert_file.specs.Telling.{IsPlace, Tells, HasTold, IsTold};
 ghost use Rattle.cert_file.specs.Reader.{seen, IsReader, StandsFor, HasRead, HasNoEnd, with_end};
 
 use crate::lines::TextLine;
-use crate::onward::{take, verdict_of};
+use crate::onward::{take, told_of};
 use crate::stage::Stage;
+use crate::told::Told;
 use cert_theory::{BundleError, Verdict};
 use std::alloc::Global;
 use text_core::next_line;
@@ -36,6 +38,8 @@ fn take_text(alloc: Global, stage: Stage, number: u32, text: &[u8]) -> Result<St
     ensures keeps { IfOk result (λ s. IsStage s (number + 1)) }
     ensures answer { (lines ls : List Line) (answer : Answer) → Stands stage number lines answer →
         lines ≡ record { text = text.now; ended = true } ∷ ls → Judged result (number + 1) ls answer }
+    ensures tells { (lines ls all : List Line) → IsPlace number lines all → Tells stage number lines all →
+        lines ≡ record { text = text.now; ended = true } ∷ ls → IfOk result (λ s. Tells s (number + 1) ls all) }
 {
     let line = TextLine {
         text,
@@ -46,13 +50,16 @@ fn take_text(alloc: Global, stage: Stage, number: u32, text: &[u8]) -> Result<St
 }
 
 /// Judges what no LF ends, where something stands there, and the end behind it.
-fn close(stage: Stage, number: u32, unfinished: &Vec<u8>) -> Result<Verdict, BundleError>
+fn close(stage: Stage, number: u32, unfinished: &Vec<u8>) -> Result<Told, BundleError>
     requires stage { IsStage stage number }
     requires number { number + length unfinished.now.items ≤ 2 ^ 31 }
-    ensures { (answer : Answer) → Stands stage number (last_line unfinished.now.items) answer → Gives (λ v. v) result answer }
+    ensures answer { (answer : Answer) → Stands stage number (last_line unfinished.now.items) answer → Gives (λ t. t.verdict) result answer }
+    ensures tells { (all : List Line) → IsPlace number (last_line unfinished.now.items) all →
+        Tells stage number (last_line unfinished.now.items) all → IfOk result (λ t. HasTold t all) }
+    ensures known { IfOk result (λ t. IsKnown t.heading) }
 {
     if unfinished.is_empty() {
-        return verdict_of(stage, number);
+        return told_of(stage, number);
     }
     let line = TextLine {
         text: unfinished,
@@ -60,7 +67,7 @@ fn close(stage: Stage, number: u32, unfinished: &Vec<u8>) -> Result<Verdict, Bun
         number,
     };
     let stage = take(*unfinished.allocator(), stage, &line)?;
-    verdict_of(stage, number + 1)
+    told_of(stage, number + 1)
 }
 
 impl BundleReader {
@@ -97,7 +104,7 @@ impl BundleReader {
     }
 
     /// Takes a text without an LF, and then the LF where one ends it.
-    fn feed_line(self, text: &[u8], ended: bool) -> Result<BundleReader, BundleError>
+    pub fn feed_line(self, text: &[u8], ended: bool) -> Result<BundleReader, BundleError>
         requires whole { IsReader (seen self) }
         requires room { self.fed + length (line_bytes (record { text = text.now; ended = ended })) < 2 ^ 31 }
         ensures whole { IfOk result (λ reader. IsReader (seen reader)) }
@@ -161,6 +168,25 @@ impl BundleReader {
         })
     }
 
+    /// Judges the text, which ends here, and hands out what it tells, where it is the text of a valid bundle;
+    /// else its first fault.
+    pub fn tell(self) -> Result<Told, BundleError>
+        requires { IsReader (seen self) }
+        // It is refused exactly where the definition has a fault, with the first from the top.
+        ensures exact { (text : List ℕ) → StandsFor (seen self) text → Gives (λ t. t.verdict) result (bundle_of (lines_of text)) }
+        // What is handed out is the text's own heading, chain and verdict.
+        ensures told { (text : List ℕ) (b : Bundle) → StandsFor (seen self) text → IsBundle text b → IfOk result (λ t. IsTold b t) }
+        ensures operators { IfOk result (λ t. 0 < t.heading.basis) }
+    {
+        let BundleReader {
+            stage,
+            number,
+            unfinished,
+            ..
+        } = self;
+        close(stage, number, &unfinished)
+    }
+
     /// Judges the text, which ends here: its verdict where it is the text of a valid bundle, else its first
     /// fault.
     pub fn finish(self) -> Result<Verdict, BundleError>
@@ -171,12 +197,7 @@ impl BundleReader {
         ensures verdict { (text : List ℕ) → StandsFor (seen self) text → IfOk result (λ v. HasVerdict text v) }
         ensures accepted { (text : List ℕ) (b : Bundle) → StandsFor (seen self) text → IsBundle text b → Gives (λ v. v) result (Ok b.verdict) }
     {
-        let BundleReader {
-            stage,
-            number,
-            unfinished,
-            ..
-        } = self;
-        close(stage, number, &unfinished)
+        let told = self.tell()?;
+        Ok(told.verdict)
     }
 }

@@ -1,11 +1,13 @@
 //! The lines between the logs.
-ghost use Rattle.std.specs.Prelude.{◌≡◌, ℕ, ◌+◌, ◌<◌, ◌≤◌, ◌^◌, List, ◌∷◌, length, drop, IfOk, OnOk};
+ghost use Rattle.std.specs.Prelude.{◌≡◌, ℕ, ◌+◌, ◌<◌, ◌≤◌, ◌^◌, List, ◌∷◌, length, drop, Some, IfOk, OnOk};
 ghost use Rattle.text_core.specs.Lines.{Line};
 ghost use Rattle.cert_theory.specs.Gives.{Gives};
 ghost use Rattle.cert_theory.specs.Judging as judging;
 ghost use Rattle.cert_theory.specs.Bundle.{parts_of};
 ghost use Rattle.cert_file.specs.TextLines.{line_of};
+ghost use Rattle.cert_file.specs.Asking.{heading_in};
 ghost use Rattle.cert_file.specs.Stages.{Answer, Judged, Stands, IsStage, IsKnown};
+ghost use Rattle.cert_file.specs.Telling.{IsPlace, Tells};
 
 use crate::ending::at_ending;
 use crate::formulas::parts_of;
@@ -37,6 +39,7 @@ pub(crate) fn due(running: Running) -> Stage
     requires at { running.at ≤ length running.parts.items }
     ensures keeps { (number : ℕ) → IsStage result number }
     ensures stands { (number : ℕ) (ls : List Line) (answer : Answer) → answer ≡ judging.sections_of running.heading number (judging.before running.size running.low (drop running.at running.parts.items)) ls → Stands result number ls answer }
+    ensures tells { (number : ℕ) (ls all : List Line) → heading_in all ≡ Some running.heading → Tells result number ls all }
 {
     if running.at < running.parts.len() {
         return Stage::Due { running };
@@ -67,6 +70,7 @@ pub(crate) fn at_between(
     requires number { line.now.number < 2 ^ 31 }
     ensures keeps { IfOk result (λ s. IsStage s (line.now.number + 1)) }
     ensures answer { (ls : List Line) (answer : Answer) → answer ≡ judging.sections_of heading line.now.number (record { size = size; low = low; place = judging.Between }) (line_of line.now ∷ ls) → Judged result (line.now.number + 1) ls answer }
+    ensures tells { (ls all : List Line) → IsPlace line.now.number (line_of line.now ∷ ls) all → heading_in all ≡ Some heading → IfOk result (λ s. Tells s (line.now.number + 1) ls all) }
 {
     if !begins(b"size ", line) {
         return at_ending(alloc, heading, size, low, line);

@@ -1,8 +1,9 @@
 //! How far the lines of a bundle have come: what is due next, and what is kept of the lines before. A stage
 //! stands for the answer of the whole text, whatever lines come next (`specs/Stages.antt`).
 use crate::part::PartReader;
-use cert_theory::{Heading, Verdict};
-use chain_core::{Basis, Frame, Out, Step};
+use crate::told::Told;
+use cert_theory::Heading;
+use chain_core::{Basis, Chain, Frame, Out, Step};
 use enc_theory::{Method, Part};
 use tt_core::Spec;
 
@@ -83,17 +84,18 @@ pub(crate) enum Stage {
         steps: Vec<Step>,
         outs: Vec<Out>,
     },
-    /// The verdict behind a chain of so many steps.
+    /// The verdict behind this chain.
     Found {
-        size: u32,
+        heading: Heading,
         low: Option<u32>,
+        chain: Chain,
     },
     /// The last line.
     End {
-        verdict: Verdict,
+        told: Told,
     },
     /// Nothing.
     Done {
-        verdict: Verdict,
+        told: Told,
     },
 }

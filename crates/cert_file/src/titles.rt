@@ -1,10 +1,12 @@
 //! The titles of parts.
-ghost use Rattle.std.specs.Prelude.{◌≡◌, ◌+◌, ◌<◌, ◌^◌, List, ◌∷◌, length, drop, codes, IfOk};
+ghost use Rattle.std.specs.Prelude.{◌≡◌, ◌+◌, ◌<◌, ◌^◌, List, ◌∷◌, length, drop, codes, Some, IfOk};
 ghost use Rattle.text_core.specs.Lines.{Line};
 ghost use Rattle.text_core.specs.Items.{items_of};
 ghost use Rattle.cert_theory.specs.Judging as judging;
 ghost use Rattle.cert_file.specs.TextLines.{line_of};
 ghost use Rattle.cert_file.specs.Stages.{Answer, Judged, IsStage, IsRunning, IsPart};
+ghost use Rattle.cert_file.specs.Asking.{heading_in};
+ghost use Rattle.cert_file.specs.Telling.{Tells};
 ghost use Rattle.cert_file.specs.Titled.{IsTitled};
 
 use crate::ending::not_found_in;
@@ -107,6 +109,7 @@ pub(crate) fn at_due(alloc: Global, running: Running, line: &TextLine) -> Result
     requires number { line.now.number < 2 ^ 31 }
     ensures keeps { IfOk result (λ s. IsStage s (line.now.number + 1)) }
     ensures answer { (ls : List Line) (answer : Answer) → answer ≡ judging.sections_of running.heading line.now.number (judging.before running.size running.low (drop running.at running.parts.items)) (line_of line.now ∷ ls) → Judged result (line.now.number + 1) ls answer }
+    ensures tells { (ls all : List Line) → heading_in all ≡ Some running.heading → IfOk result (λ s. Tells s (line.now.number + 1) ls all) }
 {
     let titled = match title_in(alloc, part_in(&running), line, may_follow(line)) {
         Ok(titled) => titled,

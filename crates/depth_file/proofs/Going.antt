@@ -25,11 +25,11 @@ use Rattle.depth_theory.specs.declared.data.DepthError.{DepthError}
 use Rattle.depth_theory.specs.declared.data.DepthError.TheVariants as errors
 use Rattle.depth_theory.specs.declared.data.DepthVerdict.{DepthVerdict}
 use Rattle.depth_theory.specs.DepthBundle.{levels_found}
-use Rattle.depth_theory.specs.DepthJudging.{Answer, or_syntax, fault_at, at_line, may_follow, verdict_at, end_of, Place, Due, Begun, Within, behind_line, flat_from}
+use Rattle.depth_theory.specs.DepthJudging.{Answer, or_syntax, fault_at, at_line, may_follow, verdict_at, end_of, Place, Due, Begun, Within, behind_line, behind_chain, flat_from}
 use Rattle.depth_theory.specs.DepthGives.{Fails, Gives}
 use Rattle.depth_theory.specs.Flatter.{fences_for, flatter}
 use Rattle.depth_theory.specs.FlatterLaws.{flatter_is}
-use Rattle.depth_file.specs.Stages.{IsFlat, IsRunning, IsNext, IsBegun, due_of, later_of, Stands, Judged, verdict_in}
+use Rattle.depth_file.specs.Stages.{IsFlat, IsRunning, IsNext, IsBegun, due_of, later_of, IsBehindFront, Stands, Judged, verdict_in}
 use Rattle.depth_file.specs.declared.stage.Stage.{Stage}
 use Rattle.depth_file.specs.declared.stage.Stage.TheVariants as stages
 use Rattle.depth_file.specs.declared.stage.Flat.{Flat}
@@ -230,13 +230,15 @@ abbrev pub closed_at : ℕ → Option DepthVerdict → Answer
 closed_at number None = Err (errors.Syntax number)
 closed_at number (Some verdict) = Ok verdict
 
-pub ended_as : (stage : Stage) (number : ℕ) (answer : Answer) → Stands stage number [] answer → answer ≡ closed_at number (verdict_in stage)
-unfolding flat_from end_of
-ended_as (stages.Due f) number answer stands = stands
-ended_as (stages.Begun f) number answer stands = stands.answer_is
-ended_as (stages.Within f reader) number answer stands = stands.answer_is
-ended_as (stages.End verdict) number answer stands = stands
-ended_as (stages.Done verdict) number answer stands = stands
+pub ended_as : (stage : Stage) (number : ℕ) (answer : Answer) → IsBehindFront stage → Stands stage number [] answer → answer ≡ closed_at number (verdict_in stage)
+unfolding behind_chain flat_from end_of
+ended_as (stages.Front reader) number answer behind stands = absurd behind
+ended_as (stages.Depth h size levels) number answer behind stands = stands
+ended_as (stages.Due f) number answer behind stands = stands
+ended_as (stages.Begun f) number answer behind stands = stands.answer_is
+ended_as (stages.Within f reader) number answer behind stands = stands.answer_is
+ended_as (stages.End verdict) number answer behind stands = stands
+ended_as (stages.Done verdict) number answer behind stands = stands
 
 pub ruleset fences = (common_steps, fence_next, fence_few)
 

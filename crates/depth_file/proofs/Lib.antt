@@ -1,6 +1,6 @@
 pub mod Fronts
-pub mod Drops
 pub mod FenceLists
 pub mod Going
-pub mod Leasts
+pub mod Behind
+pub mod Cutting
 pub mod Judges

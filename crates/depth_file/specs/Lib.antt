@@ -1,4 +1,6 @@
-pub mod Asking
-pub mod Chains
-pub mod Least
+pub mod Fronts
+pub mod JudgedLaws
+pub mod Reader
+pub mod Spent
+pub mod SpentLaws
 pub mod Stages

@@ -1,6 +1,5 @@
--- What a stage says of the lines behind a bundle that were read: which answer they have with the lines that come
--- next.
-use Rattle.std.specs.Prelude.{◌≡◌, ℕ, ◌+◌, ◌≤◌, ◌<◌, List, [], ◌∷◌, length, map, drop, Option, Some, None, Result, Ok, Err}
+-- What a stage says of the lines that were read: which answer they have with the lines that come next.
+use Rattle.std.specs.Prelude.{◌≡◌, ℕ, ◌+◌, ◌≤◌, ◌<◌, List, ◌∷◌, length, map, drop, Option, Some, None, Result, Ok, Err}
 use Rattle.text_core.specs.Lines.{Line}
 use Rattle.sat_theory.specs.Line as theory
 use Rattle.enc_theory.specs.declared.part.Part.TheVariants.{Levels}
@@ -8,11 +7,13 @@ use Rattle.enc_theory.specs.declared.data.Method.TheVariants.{Fence}
 use Rattle.cert_theory.specs.Bundle.{formula_of}
 use Rattle.cert_file.specs.declared.part.PartReader.{PartReader}
 use Rattle.cert_file.specs.Logged.{IsReading}
+use Rattle.cert_file.specs.Reader.{seen, IsReader}
 use Rattle.depth_theory.specs.declared.data.DepthVerdict.{DepthVerdict}
 use Rattle.depth_theory.specs.declared.data.DepthError.{DepthError}
 use Rattle.depth_theory.specs.Flatter.{flatter}
 use Rattle.depth_theory.specs.DepthGives.{Fails}
-use Rattle.depth_theory.specs.DepthJudging.{Answer, Due, Begun, Within, flat_from, end_of, nothing_behind}
+use Rattle.depth_theory.specs.DepthJudging.{Answer, Due, Begun, Within, behind_chain, flat_from, end_of, nothing_behind}
+use Rattle.depth_file.specs.Fronts.{IsFront}
 use Rattle.depth_file.specs.declared.stage.Flat.{Flat}
 use Rattle.depth_file.specs.declared.stage.Stage.{Stage}
 use Rattle.depth_file.specs.declared.stage.Stage.TheVariants as stages
@@ -31,11 +32,23 @@ pub record IsRunning (f : Flat) : Type 0 where
   pub within : f.at < length f.fences.items
 
 abbrev pub IsStage : Stage → Type 0
+IsStage (stages.Front reader) = IsReader (seen reader)
+IsStage (stages.Depth h size levels) = (h.method ≡ Fence) × (0 < h.basis) × (size ≤ 16)
 IsStage (stages.Due f) = IsFlat f
 IsStage (stages.Begun f) = IsRunning f
 IsStage (stages.Within f reader) = IsRunning f
 IsStage (stages.End verdict) = Unit {0}
 IsStage (stages.Done verdict) = Unit {0}
+
+-- how many bytes the reader of bundles was fed, where one is kept
+abbrev pub fed_of : Stage → ℕ
+fed_of (stages.Front reader) = reader.fed
+fed_of stage = 0
+
+-- it isn't among the lines of a bundle
+abbrev pub IsBehindFront : Stage → Type 0
+IsBehindFront (stages.Front reader) = ⊥
+IsBehindFront stage = Unit {0}
 
 -- the verdict, where nothing is due
 abbrev pub verdict_in : Stage → Option DepthVerdict
@@ -69,6 +82,8 @@ pub record IsLogging (f : Flat) (reader : PartReader) (number : ℕ) (lines : Li
 
 -- The answer, where these lines come next.
 abbrev pub Stands : Stage → ℕ → List Line → Answer → Type 0
+Stands (stages.Front reader) number lines answer = IsFront reader number lines answer
+Stands (stages.Depth h size levels) number lines answer = answer ≡ behind_chain h size levels number lines
 Stands (stages.Due f) number lines answer = answer ≡ flat_from f.heading f.size f.levels number f.low (Due (due_of f)) lines
 Stands (stages.Begun f) number lines answer = IsBegun f number lines answer
 Stands (stages.Within f reader) number lines answer = IsLogging f reader number lines answer

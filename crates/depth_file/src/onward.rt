@@ -1,22 +1,26 @@
 //! From stage to stage, a line at a time. The argument: a stage stands for the answer of all lines, whatever lines
 //! come next, so the first refusal is that of the lines; and at the end the stage is the answer.
 ghost use Rattle.std.specs.Prelude.{◌≡◌, ◌+◌, ◌^◌, ◌<◌, ◌≤◌, ℕ, List, [], ◌∷◌, length, drop, IfOk};
-ghost use Rattle.text_core.specs.Lines.{Line};
+ghost use Rattle.text_core.specs.Lines.{Line, line_bytes};
 ghost use Rattle.enc_theory.specs.declared.part.Part.TheVariants.{Levels};
+ghost use Rattle.enc_theory.specs.declared.data.Method.TheVariants.{Fence};
 ghost use Rattle.cert_theory.specs.Bundle as bundles;
 ghost use Rattle.cert_theory.specs.Judging.{low_with as low_with_of};
+ghost use Rattle.cert_file.specs.Reader.{HasNoEnd};
 ghost use Rattle.cert_file.specs.TextLines.{line_of};
 ghost use Rattle.depth_theory.specs.DepthBundle.{levels_found};
 ghost use Rattle.depth_theory.specs.DepthGives.{Gives};
 ghost use Rattle.depth_theory.specs.DepthJudging as judging;
 ghost use Rattle.depth_theory.specs.DepthJudging.{Answer};
 ghost use Rattle.depth_file.specs.Stages as stages;
-ghost use Rattle.depth_file.specs.Stages.{IsStage, IsFlat, IsRunning, IsNext, due_of, later_of, IsBegun, IsLogging, Stands, Judged};
+ghost use Rattle.depth_file.specs.Stages.{IsStage, IsFlat, IsRunning, IsNext, due_of, later_of, fed_of, IsBehindFront, IsBegun, IsLogging, Stands, Judged};
 
-use crate::lines::{fault_at, title_at, verdict_at};
+use crate::bundle::{at_front, behind_bundle};
+use crate::fences::flatter_parts;
+use crate::lines::{depth_at, fault_at, title_at, verdict_at};
 use crate::stage::{Flat, Stage};
 use cert_file::{PartReader, PartStep, TextLine, ended_in, is_line};
-use cert_theory::Ended;
+use cert_theory::{Ended, Heading};
 use cnf_core::Cnf;
 use depth_theory::{DepthError, DepthVerdict};
 use enc_fence::FenceEnc;
@@ -62,11 +66,42 @@ fn found(low: Option<u32>, levels: u32) -> DepthVerdict
     }
 }
 
+/// The line of the depth.
+#[tactic(auto, unfolding(depth_theory::specs::DepthJudging::behind_chain))]
+fn at_depth(
+    alloc: Global,
+    heading: Heading,
+    size: u32,
+    levels: u32,
+    line: &TextLine,
+) -> Result<Stage, DepthError>
+    requires fences { heading.method ≡ Fence }
+    requires operators { 0 < heading.basis }
+    requires size { size ≤ 16 }
+    ensures keeps { IfOk result IsStage }
+    ensures fed { IfOk result (λ s. fed_of s ≡ 0) }
+    ensures answer { (ls : List Line) (answer : Answer) → answer ≡ judging.behind_chain heading size levels line.now.number (line_of line.now ∷ ls) → Judged result (line.now.number + 1) ls answer }
+{
+    depth_at(line, levels)?;
+    let fences = flatter_parts(alloc, &heading.spec, size, levels)?;
+    Ok(Stage::Due {
+        flat: Flat {
+            heading,
+            size,
+            levels,
+            fences,
+            at: 0,
+            low: None,
+        },
+    })
+}
+
 /// The title of the next fence, or the verdict where none is left.
 #[tactic(auto, using(crate::proofs::Going::going), unfolding(depth_theory::specs::DepthJudging::flat_from))]
 fn at_due(alloc: Global, flat: Flat, line: &TextLine) -> Result<Stage, DepthError>
     requires { IsFlat flat }
     ensures keeps { IfOk result (λ s. IsStage s) }
+    ensures fed { IfOk result (λ s. fed_of s ≡ 0) }
     ensures answer { (lines ls : List Line) (answer : Answer) → answer ≡ judging.flat_from flat.heading flat.size flat.levels line.now.number flat.low (judging.Due (due_of flat)) lines →
         lines ≡ line_of line.now ∷ ls → Judged result (line.now.number + 1) ls answer }
 {
@@ -98,6 +133,7 @@ fn formula_of(alloc: Global, flat: &Flat) -> Result<Cnf, AllocError>
 fn at_begun(alloc: Global, flat: Flat, line: &TextLine) -> Result<Stage, DepthError>
     requires { IsRunning flat }
     ensures keeps { IfOk result (λ s. IsStage s) }
+    ensures fed { IfOk result (λ s. fed_of s ≡ 0) }
     ensures answer { (lines ls : List Line) (answer : Answer) → IsBegun flat line.now.number lines answer →
         lines ≡ line_of line.now ∷ ls → Judged result (line.now.number + 1) ls answer }
 {
@@ -124,6 +160,7 @@ fn low_with(low: Option<u32>, end: Ended, levels: u32) -> Option<u32>
 fn behind(flat: Flat, end: Ended) -> Stage
     requires { IsRunning flat }
     ensures keeps { IsStage result }
+    ensures fed { fed_of result ≡ 0 }
     ensures stands { (number : ℕ) (fence : List ℕ) (ls : List Line) (answer : Answer) → IsNext flat fence →
         answer ≡ judging.flat_from flat.heading flat.size flat.levels number (low_with_of flat.low end (length fence)) (judging.Due (later_of flat)) ls →
         Stands result number ls answer }
@@ -159,6 +196,7 @@ fn at_within(
 ) -> Result<Stage, DepthError>
     requires { IsRunning flat }
     ensures keeps { IfOk result (λ s. IsStage s) }
+    ensures fed { IfOk result (λ s. fed_of s ≡ 0) }
     ensures answer { (lines ls : List Line) (answer : Answer) → IsLogging flat reader line.now.number lines answer →
         lines ≡ line_of line.now ∷ ls → Judged result (line.now.number + 1) ls answer }
 {
@@ -174,6 +212,7 @@ fn at_within(
 #[tactic(auto, unfolding(depth_theory::specs::DepthJudging::end_of))]
 fn at_end(verdict: DepthVerdict, line: &TextLine) -> Result<Stage, DepthError>
     ensures keeps { IfOk result (λ s. IsStage s) }
+    ensures fed { IfOk result (λ s. fed_of s ≡ 0) }
     ensures answer { (ls : List Line) (answer : Answer) → answer ≡ judging.end_of line.now.number verdict (line_of line.now ∷ ls) → Judged result (line.now.number + 1) ls answer }
 {
     if !is_line(b"end", line) {
@@ -185,11 +224,19 @@ fn at_end(verdict: DepthVerdict, line: &TextLine) -> Result<Stage, DepthError>
 /// Takes the next line.
 pub(crate) fn take(alloc: Global, stage: Stage, line: &TextLine) -> Result<Stage, DepthError>
     requires stage { IsStage stage }
+    requires room { fed_of stage + length (line_bytes (line_of line.now)) < 2 ^ 31 }
     ensures keeps { IfOk result (λ s. IsStage s) }
-    ensures answer { (lines ls : List Line) (answer : Answer) → Stands stage line.now.number lines answer →
+    ensures fed { IfOk result (λ s. fed_of s ≤ fed_of stage + length (line_bytes (line_of line.now))) }
+    ensures answer { (lines ls : List Line) (answer : Answer) → HasNoEnd line.now.text.now → Stands stage line.now.number lines answer →
         lines ≡ line_of line.now ∷ ls → Judged result (line.now.number + 1) ls answer }
 {
     match stage {
+        Stage::Front { reader } => at_front(alloc, reader, line),
+        Stage::Depth {
+            heading,
+            size,
+            levels,
+        } => at_depth(alloc, heading, size, levels, line),
         Stage::Due { flat } => at_due(alloc, flat, line),
         Stage::Begun { flat } => at_begun(alloc, flat, line),
         Stage::Within { flat, reader } => at_within(alloc, flat, reader, line),
@@ -208,12 +255,29 @@ fn verdict_in(stage: Stage) -> Option<DepthVerdict>
     }
 }
 
+/// The stage where no line is left: a bundle without a line `end` ends with the text.
+#[tactic(auto, using(crate::proofs::Behind::closing))]
+fn closed(alloc: Global, stage: Stage) -> Result<Stage, DepthError>
+    requires { IsStage stage }
+    ensures behind { IfOk result (λ s. IsBehindFront s) }
+    ensures answer { (number : ℕ) (answer : Answer) → Stands stage number [] answer → Judged result number [] answer }
+{
+    match stage {
+        Stage::Front { reader } => behind_bundle(alloc, reader),
+        stage => Ok(stage),
+    }
+}
+
 /// What the lines come to, where none is left.
-#[tactic(auto, unfolding(depth_theory::specs::DepthJudging::flat_from, depth_theory::specs::DepthJudging::end_of))]
-pub(crate) fn verdict_of(stage: Stage, number: u32) -> Result<DepthVerdict, DepthError>
+pub(crate) fn verdict_of(
+    alloc: Global,
+    stage: Stage,
+    number: u32,
+) -> Result<DepthVerdict, DepthError>
     requires { IsStage stage }
     ensures { (answer : Answer) → Stands stage number [] answer → Gives (λ v. v) result answer }
 {
+    let stage = closed(alloc, stage)?;
     let Some(verdict) = verdict_in(stage) else {
         return Err(DepthError::Syntax(number));
     };

@@ -1,6 +1,6 @@
-//! How far the lines behind a bundle have come: what is due next, and what is kept of the lines before. A stage stands
+//! How far the lines of a depth bundle have come: what is due next, and what is kept of the lines before. A stage stands
 //! for the answer of all lines, whatever lines come next (`specs/Stages.antt`).
-use cert_file::PartReader;
+use cert_file::{BundleReader, PartReader};
 use cert_theory::Heading;
 use depth_theory::DepthVerdict;
 use enc_theory::Part;
@@ -19,17 +19,38 @@ pub(crate) struct Flat {
     pub(crate) low: Option<u32>,
 }
 
-/// What is due next behind a bundle and the line of the depth, where the lines were good so far.
+/// What is due next of a depth bundle whose lines were good so far.
 #[derive(Debug, Drop)]
 pub(crate) enum Stage {
+    /// A line of the bundle, which ends with the first line `end`.
+    Front {
+        reader: BundleReader,
+    },
+    /// The line of the depth, behind a bundle whose chain has so many steps on so many levels.
+    Depth {
+        heading: Heading,
+        size: u32,
+        levels: u32,
+    },
     /// The title of this fence, or the verdict where none is left.
-    Due { flat: Flat },
+    Due {
+        flat: Flat,
+    },
     /// How the log of this fence ends.
-    Begun { flat: Flat },
+    Begun {
+        flat: Flat,
+    },
     /// A line of the log of this fence.
-    Within { flat: Flat, reader: PartReader },
+    Within {
+        flat: Flat,
+        reader: PartReader,
+    },
     /// The last line.
-    End { verdict: DepthVerdict },
+    End {
+        verdict: DepthVerdict,
+    },
     /// Nothing.
-    Done { verdict: DepthVerdict },
+    Done {
+        verdict: DepthVerdict,
+    },
 }

@@ -20,5 +20,5 @@
 mod certificate;
 
 pub use certificate::{DepthCertificate, Found, certify_depth};
-pub use depth_file::{DepthError, check_depth};
+pub use depth_file::{DepthError, DepthReader, check_depth};
 pub use depth_theory::DepthVerdict;

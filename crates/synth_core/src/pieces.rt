@@ -1,6 +1,6 @@
 //! A certificate that is written while it is searched: the heading, each section as soon as it stands, and the
 //! ending. Nothing of a section is kept when its text is handed out.
-ghost use Rattle.std.specs.Prelude.{◌^◌, ◌<◌, List, ℕ, length, IfOk, IfErr};
+ghost use Rattle.std.specs.Prelude.{◌≡◌, ◌^◌, ◌<◌, List, ℕ, length, IfOk, IfErr};
 ghost use Rattle.text_core.specs.Lines.{lines_of};
 ghost use Rattle.settings.specs.Synth.{IsInRange};
 ghost use Rattle.settings.specs.declared.synth.SynthSettings.{SynthSettings};
@@ -40,6 +40,7 @@ pub fn begin(alloc: Global, bytes: &[u8], asked: &SynthSettings) -> Result<Begun
     requires length { length bytes.now < 2 ^ 31 }
     requires range { IsInRange asked.now }
     ensures begun { IfOk result (λ b. IsUnderWay bytes.now asked.now b.search b.text.items) }
+    ensures first { IfOk result (λ b. b.search.next ≡ 0) }
     ensures refusal { IfErr result (λ e. Fails e (tables_alone (lines_of bytes.now))) }
 {
     let spec = tables(alloc, bytes)?;

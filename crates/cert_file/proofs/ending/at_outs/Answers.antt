@@ -10,9 +10,10 @@ use Rattle.cert_theory.specs.Judging.{with_block, chain_judged, behind_chain}
 use Rattle.cert_theory.specs.Gives.{Fails}
 use Rattle.cert_theory.specs.GivesLaws.{fails_is}
 use Rattle.cert_file.specs.Stages.{outs_then}
-use Rattle.cert_file.proofs.Blocks.{out_fails, out_goes}
+use Rattle.cert_file.proofs.Blocks.{out_fails, out_goes, out_reads}
 use Rattle.cert_file.proofs.Chains.{end_fails, end_goes}
 use Rattle.cert_file.proofs.Exits.{judged_err}
+use Rattle.cert_file.proofs.Keeping.{block_goes, block_held}
 use Rattle.cert_file.proofs.ending.at_outs.Goals as goal
 
 pub returns-in-Err-clause-answer : goal.returns-in-Err-clause-answer
@@ -59,8 +60,34 @@ returns-clause-answer c = λ ls answer is.
     let lens : c.len.result ≡ length c.args.outs.items = omega arith in
     let full : length c.push.new.self.items ≡ c.args.frame.outputs = omega arith in
     let next : c.args.frame.first_line + 1 + c.args.frame.steps + c.args.frame.outputs ≡ c.args.line.now.number + 1 = omega arith in
+    let count = length-map c.args.steps.items step_of in
+    let own : length c.new-chain.result.steps ≡ length (steps_of c.args.steps.items) = ap (λ (chain : Chain). length chain.steps) c.new-chain.ensures in
+    let size : c.args.frame.steps ≡ length c.new-chain.result.steps = omega (arith, count, own) in
     is
     ∙ out_goes c.args.heading c.args.frame c.args.low (steps_of c.args.steps.items) c.args.outs.items c.len.result _ ls c.in-Ok.out lens c.requires.read.due c.in-Ok.ensures.exact
     ∙ ap (λ (os : List Out). with_block c.args.heading c.args.frame c.args.low (outs_then c.args.frame (steps_of c.args.steps.items) (outs_from c.args.frame os ls))) (sym c.in_ok-push.ensures.items)
     ∙ end_goes c.args.heading c.args.frame c.args.low (steps_of c.args.steps.items) c.push.new.self.items ls full (ap (chain_judged c.args.heading) (sym c.new-chain.ensures) ∙ c.in_ok-chain_judged.ensures)
     ∙ ap (λ n. behind_chain n c.args.frame.steps c.args.low ls) next
+    ∙ ap (λ (size : ℕ). behind_chain (c.args.line.now.number + 1) size c.args.low ls) size
+
+pub returns-then-len-frame-clause-tells : goal.returns-then-len-frame-clause-tells
+returns-then-len-frame-clause-tells c = λ ls all asked block.
+    let lens : c.len.result ≡ length c.args.outs.items = omega arith in (
+      asked,
+      block_goes c.args.frame all _ _
+          (out_reads c.args.frame (steps_of c.args.steps.items) c.args.outs.items c.len.result _ ls c.in-Ok.out lens c.requires.read.due c.in-Ok.ensures.exact
+          ∙ ap (λ (os : List Out). outs_then c.args.frame (steps_of c.args.steps.items) (outs_from c.args.frame os ls)) (sym c.in_ok-push.ensures.items)) block,
+    )
+
+pub returns-clause-tells : goal.returns-clause-tells
+returns-clause-tells c = λ ls all asked block.
+    let lens : c.len.result ≡ length c.args.outs.items = omega arith in
+    let full : length c.push.new.self.items ≡ c.args.frame.outputs = omega arith in
+    let count = length-map c.args.steps.items step_of in (
+      asked,
+      block_held c.args.heading c.args.frame all ls (steps_of c.args.steps.items) c.push.new.self.items (c.args.line.now.number + 1) c.new-chain.result c.requires.read.frame
+          (omega (arith, count)) full (omega arith) c.new-chain.ensures
+          (block_goes c.args.frame all _ _
+          (out_reads c.args.frame (steps_of c.args.steps.items) c.args.outs.items c.len.result _ ls c.in-Ok.out lens c.requires.read.due c.in-Ok.ensures.exact
+          ∙ ap (λ (os : List Out). outs_then c.args.frame (steps_of c.args.steps.items) (outs_from c.args.frame os ls)) (sym c.in_ok-push.ensures.items)) block),
+    )

@@ -57,3 +57,6 @@ returns-in-Err-clause-answer c = λ lines ls answer stands same.
     subst (λ (d : BundleError). Fails d answer) (sym c.fault_at.ensures)
     (fails_is (fault_at n e) _ answer (stands.answer_is ∙ ap (sections_of r.heading n (progress r.size r.low (Within stands.part (later_of r) end stands.log))) same)
     (part_fails r.heading n r.size r.low stands.part (later_of r) end stands.log _ ls e (c.in-Err.ensures (formula_of r.heading r.size stands.part) r.heading.conflicts stands.log stands.reading)))
+
+pub returns-in-Ok-Done-clause-tells : goal.returns-in-Ok-Done-clause-tells
+returns-in-Ok-Done-clause-tells c = λ ls all asked. c.behind.ensures.tells (c.args.line.now.number + 1) ls all asked

@@ -1,5 +1,5 @@
 -- The fences of the levels so far.
-use Rattle.std.proofs.Common.{◌≡◌, map, length}
+use Rattle.std.proofs.Common.{◌≡◌, map}
 use Rattle.enc_theory.specs.declared.part.Part.TheVariants.{Levels}
 use Rattle.fence_core.specs.Fence.{listed_fences}
 use Rattle.depth_theory.specs.Flatter.{by_levels}

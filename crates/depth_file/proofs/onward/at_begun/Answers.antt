@@ -1,5 +1,5 @@
 -- The log begins without a line.
-use Rattle.std.proofs.Common.{◌≡◌, [], sym, ap, ◌∙◌, subst, ◌+◌}
+use Rattle.std.proofs.Common.{[], sym, ap, ◌∙◌, subst, ◌+◌}
 use Rattle.sat_theory.specs.Formula.{Formula}
 use Rattle.cert_theory.specs.declared.data.Ended.{Ended}
 use Rattle.cert_file.specs.Logged.{IsReading}

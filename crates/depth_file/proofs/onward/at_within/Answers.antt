@@ -1,6 +1,5 @@
 -- A line of a log, or its end.
-use Rattle.std.proofs.Common.{◌≡◌, List, [], ◌∷◌, ◌++◌, length, Option, Some, None, Result, Ok, Err, sym, ap, ◌∙◌, subst, ◌+◌}
-use Rattle.sat_theory.specs.Line as theory
+use Rattle.std.proofs.Common.{◌≡◌, [], ◌∷◌, ◌++◌, length, Some, None, Ok, sym, ap, ◌∙◌, subst, ◌+◌}
 use Rattle.enc_theory.specs.declared.part.Part.TheVariants.{Levels}
 use Rattle.cert_theory.specs.declared.data.Ended.{Ended}
 use Rattle.cert_theory.specs.Bundle.{formula_of}

@@ -3,7 +3,8 @@ use Rattle.std.proofs.Common.{◌≡◌, [], ◌++◌, arith, rules}
 use Rattle.std.proofs.lemmas.Grind.{common_steps}
 use Rattle.text_core.specs.Lines.{lines_of}
 use Rattle.cert_file.specs.Reader.{seen}
-use Rattle.cert_file.proofs.Cutting.{before_more, before_refused, before_all, has_err, length_left, left_none}
+use Rattle.cert_file.specs.CuttingLaws.{length_left, left_none}
+use Rattle.cert_file.proofs.Cutting.{before_more, before_refused, before_all, has_err}
 use Rattle.cert_file.proofs.reader.BundleReader.feed.Goals as goal
 
 pub returns-in_err-reader-clause-read : goal.returns-in_err-reader-clause-read

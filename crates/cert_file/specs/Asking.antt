@@ -1,0 +1,37 @@
+-- What the lines of a bundle ask.
+use Rattle.std.specs.Prelude.{ℕ, List, [], ◌∷◌, Option, Some, None, Result, Ok, Err, option_and_then}
+use Rattle.std.specs.Option.{option_map}
+use Rattle.text_core.specs.Lines.{Line}
+use Rattle.tt_core.specs.Words.{Words}
+use Rattle.tt_core.specs.Tables as tables
+use Rattle.tt_core.specs.declared.error.SpecError.{SpecError}
+use Rattle.enc_theory.specs.declared.data.Method.{Method}
+use Rattle.cert_theory.specs.declared.data.Heading.{Heading}
+use Rattle.cert_theory.specs.Judging.{basis_in, method_in, conflicts_in, max_in}
+
+-- by the line of the greatest size, where all before it was read
+unfoldable pub with_max : Words → ℕ → Method → ℕ → List Line → Option Heading
+with_max w basis method conflicts [] = None
+with_max w basis method conflicts (l ∷ ls) = option_map (λ max. record { spec = w; basis = basis; method = method; conflicts = conflicts; max = max }) (max_in l)
+
+unfoldable pub with_conflicts : Words → ℕ → Method → List Line → Option Heading
+with_conflicts w basis method [] = None
+with_conflicts w basis method (l ∷ ls) = option_and_then (λ conflicts. with_max w basis method conflicts ls) (conflicts_in l)
+
+unfoldable pub with_method : Words → ℕ → List Line → Option Heading
+with_method w basis [] = None
+with_method w basis (l ∷ ls) = option_and_then (λ method. with_conflicts w basis method ls) (method_in l)
+
+unfoldable pub with_basis : Words → List Line → Option Heading
+with_basis w [] = None
+with_basis w (l ∷ ls) = option_and_then (λ basis. with_method w basis ls) (basis_in l)
+
+unfoldable pub heading_by : Result tables.Read SpecError → Option Heading
+heading_by (Ok read) = with_basis read.words read.rest
+heading_by (Err e) = None
+
+-- the heading of the lines of a bundle: behind the first stand the tables, and then the basis, the method, the
+-- conflicts and the greatest size
+unfoldable pub heading_in : List Line → Option Heading
+heading_in [] = None
+heading_in (l ∷ ls) = heading_by (tables.tables_of ls)

@@ -1,0 +1,14 @@
+//! What the text of a bundle tells.
+use cert_theory::{Heading, Verdict};
+use chain_core::Chain;
+
+/// What a bundle asks, its chain where it has one, and its verdict.
+#[derive(Debug, Drop)]
+pub struct Told {
+    /// The tables, the basis, the method, the conflicts and the greatest size.
+    pub heading: Heading,
+    /// The chain, where one was found.
+    pub chain: Option<Chain>,
+    /// What is proved.
+    pub verdict: Verdict,
+}
