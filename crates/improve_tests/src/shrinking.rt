@@ -43,6 +43,10 @@ const EXCLUSIVE: &[u8] =
 const EQUAL: &[u8] =
     b".model d\n.inputs a b\n.outputs y z\n.names a b y\n11 1\n.names a b z\n11 1\n.end\n";
 
+// y and z are one, and nine gates that read a stand between them, so that neither is a partner of the other
+const FAR: &[u8] =
+    b".model w\n.inputs a b c1 c2 c3 c4 c5 c6 c7 c8 c9\n.outputs y g1 g2 g3 g4 g5 g6 g7 g8 g9 z\n.names a b y\n11 1\n.names a c1 g1\n11 1\n.names a c2 g2\n11 1\n.names a c3 g3\n11 1\n.names a c4 g4\n11 1\n.names a c5 g5\n11 1\n.names a c6 g6\n11 1\n.names a c7 g7\n11 1\n.names a c8 g8\n11 1\n.names a c9 g9\n11 1\n.names b a z\n11 1\n.end\n";
+
 #[test]
 fn windows_shrink(rt: HostRuntime) -> Result<(), AllocError> {
     for (text, cap, rounds, wanted) in [
@@ -60,14 +64,21 @@ fn windows_shrink(rt: HostRuntime) -> Result<(), AllocError> {
             1,
             b".model x\n.inputs a b\n.outputs y\n.names a b y\n01 1\n10 1\n.end\ngates 3 -> 1\nstopped\n".as_slice(),
         ),
-        // two equal gates side by side are one window with a partner
+        // two gates that are alike are one
         (
             EQUAL,
             5,
             1000,
             b".model d\n.inputs a b\n.outputs y z\n.names a b y\n11 1\n.names y z\n1 1\n.end\ngates 2 -> 1\nsettled\n".as_slice(),
         ),
-        // and no window of one gate
+        // also where they are no window with a partner
+        (
+            FAR,
+            5,
+            1000,
+            b".model w\n.inputs a b c1 c2 c3 c4 c5 c6 c7 c8 c9\n.outputs y g1 g2 g3 g4 g5 g6 g7 g8 g9 z\n.names a b y\n11 1\n.names a c1 g1\n11 1\n.names a c2 g2\n11 1\n.names a c3 g3\n11 1\n.names a c4 g4\n11 1\n.names a c5 g5\n11 1\n.names a c6 g6\n11 1\n.names a c7 g7\n11 1\n.names a c8 g8\n11 1\n.names a c9 g9\n11 1\n.names y z\n1 1\n.end\ngates 11 -> 10\nsettled\n".as_slice(),
+        ),
+        // and not where each is tried alone
         (
             EQUAL,
             1,

@@ -1,9 +1,9 @@
 //! The form of a gate: two gates of one form have the same value, whatever the values of the places.
 ghost use Rattle.std.specs.Prelude.{◌≡◌};
-ghost use Rattle.op_basis.specs.Closed.{swapped};
 ghost use Rattle.merge_core.specs.Form.{code, form_of as form};
 
-use net_core::{Gate, Op, Sig};
+use net_core::{Gate, Sig};
+use op_basis::swapped;
 
 /// What a gate computes of which operands, in whatever order it has them: the word of its operator, and its operands as
 /// numbers, the lesser first.
@@ -25,19 +25,6 @@ fn code_of(sig: Sig) -> u64
     }
 }
 
-/// The operator with its operands exchanged.
-#[tactic(auto, unfolding(op_basis::specs::Closed::swapped))]
-fn exchanged(op: Op) -> Op
-    ensures { result ≡ swapped op }
-{
-    Op::with_values(
-        op.apply(false, false),
-        op.apply(true, false),
-        op.apply(false, true),
-        op.apply(true, true),
-    )
-}
-
 /// The form of a gate.
 #[tactic(auto, unfolding(crate::specs::Form::form_of))]
 pub fn form_of(gate: &Gate) -> Form
@@ -53,7 +40,7 @@ pub fn form_of(gate: &Gate) -> Form
         };
     }
     Form {
-        word: exchanged(gate.op).get(),
+        word: swapped(gate.op).get(),
         low: second,
         high: first,
     }

@@ -32,4 +32,5 @@ pub use basis::Basis;
 pub use error::BasisError;
 pub use op::Op;
 pub use text::{read_basis, write_basis};
+pub use values::swapped;
 pub use word::{read_operator, write_operator};

@@ -10,7 +10,7 @@ use crate::Op;
 
 /// The operator with its operands exchanged.
 #[tactic(auto, unfolding(crate::specs::Closed::swapped))]
-pub(crate) fn swapped(op: Op) -> Op
+pub fn swapped(op: Op) -> Op
     ensures { result ≡ swapped_of op }
 {
     Op::with_values(
