@@ -69,8 +69,7 @@ fn depth_bundles_come_in_pieces(rt: HostRuntime) -> Result<(), Fail> {
     for (bundle, behind, answer) in [
         (
             BUNDLE,
-            b"depth 2\nfence 2\nopen\n276 -1 0 3 19 274 0\ndone\nlevels-bounded 1 2\nend\n"
-                as &[u8],
+            b"depth 2\nfence 2\nopen\n276 -1 0 3 19 274 0\ndone\nlevels-bounded 1 2\nend\n" as &[u8],
             Ok(DepthVerdict::Bounded { low: 1, levels: 2 }),
         ),
         (

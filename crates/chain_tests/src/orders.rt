@@ -39,7 +39,10 @@ fn inputs_are_put_in_another_order(rt: HostRuntime) -> Result<(), Fail> {
         let spec = read_tables(rt.alloc(), tables)?.spec;
         let turned = turned_spec(rt.alloc(), &spec, order)?;
         let other = read_tables(rt.alloc(), wanted)?.spec;
-        assert!(rt; turned.on() == other.on() && turned.care() == other.care(), "{order:?}");
+        assert!(rt;
+            turned.on() == other.on() && turned.care() == other.care(),
+            "{order:?}"
+        );
         let (found, _) = read_chain(rt.alloc(), chain, 1, spec.n(), 1)?;
         assert!(rt; first_difference(&found, &turned).is_none(), "{order:?}");
         let back = inverse(rt.alloc(), order)?;
@@ -74,7 +77,9 @@ fn a_memory_has_what_was_noted(rt: HostRuntime) -> Result<(), Fail> {
     assert!(rt; key.get().len() == 3 && key.get()[0] == 2);
     memory.note(key, 0, Some(chain))?;
     let again = Key::of(rt.alloc(), &known)?;
-    let found = memory.chain(&again).map(|chain| first_difference(chain, &known).is_none());
+    let found = memory
+        .chain(&again)
+        .map(|chain| first_difference(chain, &known).is_none());
     assert!(rt; found == Some(true));
     assert!(rt; memory.chain(&Key::of(rt.alloc(), &other)?).is_none());
     Ok(())
