@@ -54,18 +54,18 @@ means_as w x a b steps u v same_words same_basis same_verdict means =
     (subst (λ (n : ℕ). depths.Means (specification x) (members n) steps u) same_basis
     (subst (λ (y : Words). depths.Means (specification y) (members a) steps u) same_words means))
 
-least_means : (asked : SynthSettings) (bytes text : List ℕ) (v : DepthVerdict) → IsLeast bytes asked text v → (w : Words) → AreTables bytes w → Means (specification w) (members asked.basis) (Least v)
-least_means asked bytes text v c w are =
+least_levels : (asked : SynthSettings) (bytes text : List ℕ) (v : DepthVerdict) → (c : IsLeast bytes asked text v) → (w : Words) → AreTables bytes w → depths.Means (specification w) (members asked.basis) (length c.is_text.is_depth.chain.steps) v
+least_levels asked bytes text v c w are =
     let is = c.is_text.is_depth in
     let h = c.bundle.bundle.heading in
-    let steps = length is.chain.steps in (
-      steps,
-      means_as h.spec w h.basis asked.basis steps c.bundle.verdict v
-          (tables_are h.spec w bytes is.valid.heading.tables are.are c.tables are.spelled)
-          (ap (λ (x : Heading). x.basis) c.heading_is)
-          c.verdict_is
-          (depth_means c.bundle is),
-    )
+    means_as h.spec w h.basis asked.basis (length is.chain.steps) c.bundle.verdict v
+    (tables_are h.spec w bytes is.valid.heading.tables are.are c.tables are.spelled)
+    (ap (λ (x : Heading). x.basis) c.heading_is)
+    c.verdict_is
+    (depth_means c.bundle is)
+
+least_means : (asked : SynthSettings) (bytes text : List ℕ) (v : DepthVerdict) → IsLeast bytes asked text v → (w : Words) → AreTables bytes w → Means (specification w) (members asked.basis) (Least v)
+least_means asked bytes text v c w are = (length c.is_text.is_depth.chain.steps, least_levels asked bytes text v c w are)
 
 found_means : (asked : SynthSettings) (bytes text : List ℕ) (f : Found) → IsCertificate bytes asked text f → (w : Words) → AreTables bytes w → Means (specification w) (members asked.basis) f
 found_means asked bytes text (Least v) c w are = least_means asked bytes text v c w are
@@ -181,6 +181,6 @@ least_depth_promised r keeps = record {
   least = λ asked input text w d run are has stands. let means = has.means w are in (means.0, means.1, stands.status_is);
   bounded = λ asked input text w low d run are has stands.
       let c = has.certificate in
-      (length c.is_text.is_depth.chain.steps, (least_means asked input text (Bounded low d) c w are).1, left_open asked input text low d c w are, stands.status_is);
+      (length c.is_text.is_depth.chain.steps, least_levels asked input text (Bounded low d) c w are, left_open asked input text low d c w are, stands.status_is);
   refused = λ asked input error run fault held. (keeps asked run.asks).refused input error run.told fault held;
 }
