@@ -56,7 +56,7 @@ same_verdict read u v is other = cc
 judged_as : (text : List ℕ) (b : Bundle) (verdict : Verdict) → IsBundle text b → b.verdict ≡ verdict → bundle_of (lines_of text) ≡ Ok verdict
 judged_as text b verdict is same = subst (λ (v : Verdict). bundle_of (lines_of text) ≡ Ok v) same (text_again text b is)
 
-its_verdict : (asked : SynthSettings) (bytes text : List ℕ) (verdict : Verdict) → IsCertificate bytes asked text verdict → bundle_of (lines_of text) ≡ Ok verdict
+pub its_verdict : (asked : SynthSettings) (bytes text : List ℕ) (verdict : Verdict) → IsCertificate bytes asked text verdict → bundle_of (lines_of text) ≡ Ok verdict
 its_verdict asked bytes text verdict c = judged_as text c.bundle verdict c.is_bundle c.verdict_is
 
 is_verdict : (text : List ℕ) (b : Bundle) (verdict : Verdict) → IsBundle text b → b.verdict ≡ verdict → IsVerdict text verdict
@@ -68,7 +68,7 @@ is_verdict text b verdict is same =
       means = λ d other. subst (λ (v : Verdict). Means (specification d.heading.spec) (members d.heading.basis) v) (same_as d other) (bundle_means d text other);
     }
 
-its_recheck : (asked : SynthSettings) (bytes text : List ℕ) (verdict : Verdict) → IsCertificate bytes asked text verdict → length text ≤ most_of_bundle → GivesVerdict text verdict
+pub its_recheck : (asked : SynthSettings) (bytes text : List ℕ) (verdict : Verdict) → IsCertificate bytes asked text verdict → length text ≤ most_of_bundle → GivesVerdict text verdict
 its_recheck asked bytes text verdict c within = record {
   within = within;
   read = its_verdict asked bytes text verdict c;

@@ -1,5 +1,5 @@
 -- What `synth --least-depth yes` tells of bytes, and what it promises.
-use Rattle.std.specs.Prelude.{◌≡◌, ℕ, ◌≤◌, ◌⊎◌, List, length, Some, Err}
+use Rattle.std.specs.Prelude.{◌≡◌, ℕ, ◌≤◌, ◌⊎◌, List, length, Some, Ok, Err}
 use Rattle.std.proofs.Common.{arith, sym, ◌∙◌, ap, subst, refl, inl, inr}
 use Rattle.std.proofs.Math.Logic.{⊎_elim}
 use Rattle.std.proofs.lemmas.Grind.{common_steps}
@@ -14,6 +14,14 @@ use Rattle.depth_theory.specs.declared.data.DepthVerdict.{DepthVerdict}
 use Rattle.depth_theory.specs.declared.data.DepthVerdict.TheVariants.{Levels, Bounded}
 use Rattle.depth_theory.specs.DepthMeaning as depths
 use Rattle.depth_theory.specs.DepthMeanings.{depth_means}
+use Rattle.depth_theory.specs.DepthAgain.{judged_again}
+use Rattle.depth_theory.specs.DepthBundle.{DepthBundle}
+use Rattle.depth_theory.specs.DepthJudging.{Answer, IsJudged}
+use Rattle.depth_theory.specs.DepthSpelling.{IsDepthText}
+use Rattle.depth_file.specs.Spent.{IsLeftOpen}
+use Rattle.depth_file.specs.SpentLaws.{log_is_spent}
+use Rattle.depth_file.specs.JudgedLaws.{text_judged}
+use Rattle.synth_core.specs.Asking.{heading_of}
 use Rattle.settings.specs.declared.synth.SynthSettings.{SynthSettings}
 use Rattle.synth_core.specs.Tables.{tables_alone}
 use Rattle.depth_run.specs.declared.certificate.Found.{Found}
@@ -31,9 +39,11 @@ use Rattle.frame_core.specs.KeepingLaws.{of_input}
 use Rattle.frame_core.specs.ReadOffLaws.{gets}
 use Rattle.chain_app.specs.Agree.{most_of_tables}
 use Rattle.chain_app.specs.SynthReport.{synth_refusal, AreTables, HasTablesFault}
-use Rattle.chain_app.specs.LeastDepthReport.{found_status, Certified, least_depth_reply, Means, IsCertified, least_depth_task}
+use Rattle.chain_app.specs.LeastDepthReport.{found_status, Certified, least_depth_reply, Means, IsJudgedSo, IsAcceptedSo, IsCertified, least_depth_task}
 use Rattle.chain_app.specs.LeastDepthPromise.{LeastDepthPromise}
-use Rattle.chain_app.proofs.Certified.{tables_are, its_meaning}
+use Rattle.chain_app.specs.RecheckReport.{most_of_bundle}
+use Rattle.chain_app.specs.RecheckDepthReport.{GivesLevels}
+use Rattle.chain_app.proofs.Certified.{tables_are, its_meaning, its_verdict, its_recheck}
 use Rattle.chain_app.proofs.Synthesising.{told_fault, answer_statuses, statuses_of, no_fault, one_error, not_refused, not_refused_by}
 
 -- ---- what a certificate comes to
@@ -44,29 +54,63 @@ means_as w x a b steps u v same_words same_basis same_verdict means =
     (subst (λ (n : ℕ). depths.Means (specification x) (members n) steps u) same_basis
     (subst (λ (y : Words). depths.Means (specification y) (members a) steps u) same_words means))
 
-least_means : (asked : SynthSettings) (bytes text : List ℕ) (v : DepthVerdict) → IsLeast bytes asked text v → (w : Words) → AreTables bytes w → Means (specification w) (members asked.basis) (Least v)
-least_means asked bytes text v c w are =
+least_levels : (asked : SynthSettings) (bytes text : List ℕ) (v : DepthVerdict) → (c : IsLeast bytes asked text v) → (w : Words) → AreTables bytes w → depths.Means (specification w) (members asked.basis) (length c.is_text.is_depth.chain.steps) v
+least_levels asked bytes text v c w are =
     let is = c.is_text.is_depth in
     let h = c.bundle.bundle.heading in
-    let steps = length is.chain.steps in (
-      steps,
-      means_as h.spec w h.basis asked.basis steps c.bundle.verdict v
-          (tables_are h.spec w bytes is.valid.heading.tables are.are c.tables are.spelled)
-          (ap (λ (x : Heading). x.basis) c.heading_is)
-          c.verdict_is
-          (depth_means c.bundle is),
-    )
+    means_as h.spec w h.basis asked.basis (length is.chain.steps) c.bundle.verdict v
+    (tables_are h.spec w bytes is.valid.heading.tables are.are c.tables are.spelled)
+    (ap (λ (x : Heading). x.basis) c.heading_is)
+    c.verdict_is
+    (depth_means c.bundle is)
+
+least_means : (asked : SynthSettings) (bytes text : List ℕ) (v : DepthVerdict) → IsLeast bytes asked text v → (w : Words) → AreTables bytes w → Means (specification w) (members asked.basis) (Least v)
+least_means asked bytes text v c w are = (length c.is_text.is_depth.chain.steps, least_levels asked bytes text v c w are)
 
 found_means : (asked : SynthSettings) (bytes text : List ℕ) (f : Found) → IsCertificate bytes asked text f → (w : Words) → AreTables bytes w → Means (specification w) (members asked.basis) f
 found_means asked bytes text (Least v) c w are = least_means asked bytes text v c w are
 found_means asked bytes text (Other v) c w are = its_meaning asked bytes text v c.certificate w are.are are.spelled
+
+-- Who judges the text again has the same verdict ..
+found_judged : (asked : SynthSettings) (bytes text : List ℕ) (f : Found) → IsCertificate bytes asked text f → IsJudgedSo text f
+found_judged asked bytes text (Least v) c = subst (λ (x : DepthVerdict). IsJudged (lines_of text) (Ok x)) c.verdict_is (text_judged text c.bundle c.is_text)
+found_judged asked bytes text (Other v) c = its_verdict asked bytes text v c.certificate
+
+one_verdict : (v w : DepthVerdict) (one two : Answer) → one ≡ Ok v → two ≡ Ok w → one ≡ two → v ≡ w
+one_verdict v w one two is other same = cc
+
+levels_given : (asked : SynthSettings) (bytes text : List ℕ) (v : DepthVerdict) → IsLeast bytes asked text v → length text ≤ most_of_bundle → GivesLevels text v
+levels_given asked bytes text v c within =
+    let judged = found_judged asked bytes text (Least v) c in
+    let only : (b : DepthBundle) → IsDepthText text b → b.verdict ≡ v = λ b is. one_verdict b.verdict v (Ok b.verdict) (Ok v) refl refl (sym (judged_again text b (Ok v) is judged)) in
+    record {
+      within = within;
+      has = record { bundle = c.bundle; is_text = c.is_text; verdict = c.verdict_is };
+      only = only;
+      means = λ b is. subst (λ (x : DepthVerdict). depths.Means (specification b.bundle.heading.spec) (members b.bundle.heading.basis) (length is.is_depth.chain.steps) x) (only b is) (depth_means b is.is_depth);
+    }
+
+-- .. and so has `recheck`
+found_accepted : (asked : SynthSettings) (bytes text : List ℕ) (f : Found) → IsCertificate bytes asked text f → length text ≤ most_of_bundle → IsAcceptedSo text f
+found_accepted asked bytes text (Least v) c within = levels_given asked bytes text v c within
+found_accepted asked bytes text (Other v) c within = its_recheck asked bytes text v c.certificate within
+
+-- the log of a fence of the lower number of levels is spent
+own_heading : (asked : SynthSettings) (bytes text : List ℕ) (v : DepthVerdict) → (c : IsLeast bytes asked text v) → (w : Words) → AreTables bytes w → c.bundle.bundle.heading ≡ heading_of w asked
+own_heading asked bytes text v c w are =
+    c.heading_is ∙ ap (λ (x : Words). heading_of x asked) (tables_are c.bundle.bundle.heading.spec w bytes c.is_text.is_depth.valid.heading.tables are.are c.tables are.spelled)
+
+left_open : (asked : SynthSettings) (bytes text : List ℕ) (low d : ℕ) → (c : IsLeast bytes asked text (Bounded low d)) → (w : Words) → AreTables bytes w → IsLeftOpen text (heading_of w asked) (length c.is_text.is_depth.chain.steps) low
+left_open asked bytes text low d c w are =
+    subst (λ (h : Heading). IsLeftOpen text h (length c.is_text.is_depth.chain.steps) low) (own_heading asked bytes text (Bounded low d) c w are)
+    (log_is_spent text c.bundle low d c.is_text c.verdict_is)
 
 -- ---- what the search answers
 
 pub tells : (asked : SynthSettings) (bytes text : List ℕ) (found : Found) (reply : Reply) → length bytes ≤ most_of_tables → IsCertificate bytes asked text found → reply ≡ least_depth_reply (record { text = text; found = found }) → Tells (least_depth_task asked) bytes reply
 tells asked bytes text found reply within certificate is = record {
   answer = record { text = text; found = found };
-  has = record { within = within; certificate = certificate; means = found_means asked bytes text found certificate };
+  has = record { within = within; certificate = certificate; means = found_means asked bytes text found certificate; judged = found_judged asked bytes text found certificate; rechecked = found_accepted asked bytes text found certificate };
   is = is;
 }
 
@@ -135,6 +179,8 @@ least_depth_promised r keeps = record {
   answer_only = λ asked input run is. answer_only r asked input (keeps asked run.asks) run.told is;
   never_refused = λ asked asks is. never_refused r asked (keeps asked asks) is;
   least = λ asked input text w d run are has stands. let means = has.means w are in (means.0, means.1, stands.status_is);
-  bounded = λ asked input text w low d run are has stands. let means = has.means w are in (means.0, means.1, stands.status_is);
+  bounded = λ asked input text w low d run are has stands.
+      let c = has.certificate in
+      (length c.is_text.is_depth.chain.steps, least_levels asked input text (Bounded low d) c w are, left_open asked input text low d c w are, stands.status_is);
   refused = λ asked input error run fault held. (keeps asked run.asks).refused input error run.told fault held;
 }

@@ -1,6 +1,6 @@
 -- What `recheck --depth yes` tells of bytes, and what it promises.
-use Rattle.std.specs.Prelude.{◌≡◌, ℕ, ◌<◌, ◌≤◌, ◌⊎◌, List, ◌∷◌, length, codes, Some, Ok, Err}
-use Rattle.std.proofs.Common.{arith, sym, ◌∙◌, ap, subst, refl, inl, inr}
+use Rattle.std.specs.Prelude.{◌≡◌, ℕ, ◌<◌, ◌≤◌, ◌⊎◌, List, [], ◌∷◌, ◌++◌, length, codes, Some, Ok, Err}
+use Rattle.std.proofs.Common.{arith, sym, ◌∙◌, ap, subst, refl, inl, inr, append_assoc, append-nil}
 use Rattle.std.proofs.Math.Logic.{⊎_elim}
 use Rattle.std.proofs.lemmas.Grind.{common_steps}
 use Rattle.text_core.specs.Lines.{Line, lines_of}
@@ -30,6 +30,12 @@ use Rattle.frame_core.specs.Promise.{OutputHeld, Stands, Replies, Faults, OfInpu
 use Rattle.frame_core.specs.TaskLaws.{at_once_task}
 use Rattle.frame_core.specs.KeepingLaws.{of_input}
 use Rattle.frame_core.specs.ReadOffLaws.{gets}
+use Rattle.depth_file.specs.SpentLaws.{log_is_spent}
+use Rattle.depth_file.specs.Reader.{seen, IsReader, StandsFor, IsRefused}
+use Rattle.depth_file.specs.declared.reader.DepthReader.{DepthReader}
+use Rattle.chain_app.specs.declared.recheck_depth.DepthReading.{DepthReading}
+use Rattle.chain_app.specs.declared.recheck_depth.DepthReading.TheVariants.{Good, Refused as RefusedAt}
+use Rattle.chain_app.specs.KeepingDepth.{Keeps, IsWhole, count_of}
 use Rattle.chain_app.specs.RecheckReport.{most_of_bundle, bundle_status, named_bundle}
 use Rattle.chain_app.specs.RecheckDepthReport.{depth_status, named_inside, named_depth, depth_reply, depth_refusal, GivesLevels, HasDepthFault, depth_task}
 use Rattle.chain_app.specs.RecheckDepthPromise.{TellsLevels, RecheckDepthPromise}
@@ -100,6 +106,35 @@ stops bytes e refusal within other judged is =
 
 pub ruleset telling = (common_steps, tells, stops)
 
+-- ---- what is kept of the bytes
+
+pub is_reader : (kept : DepthReading) (reader : DepthReader) → kept ≡ Good reader → IsWhole kept → IsReader (seen reader)
+is_reader kept reader same whole = subst (λ (k : DepthReading). IsWhole k) same whole
+
+pub reader_stands : (kept : DepthReading) (reader : DepthReader) (bytes : List ℕ) → kept ≡ Good reader → Keeps kept bytes → StandsFor (seen reader) bytes
+reader_stands kept reader bytes same keeps = subst (λ (k : DepthReading). Keeps k bytes) same keeps
+
+refused_still : (kept : DepthReading) (e : DepthError) (bytes : List ℕ) → kept ≡ RefusedAt e → Keeps kept bytes → IsRefused e bytes
+refused_still kept e bytes same keeps = subst (λ (k : DepthReading). Keeps k bytes) same keeps
+
+-- a fault that was kept is that of the bytes
+pub fault_stands : (kept : DepthReading) (e : DepthError) (bytes : List ℕ) → kept ≡ RefusedAt e → Keeps kept bytes → Judged (Gives (λ (v : DepthVerdict). v) (Err e)) (lines_of bytes)
+fault_stands kept e bytes same keeps =
+    subst (λ (text : List ℕ). Judged (Gives (λ (v : DepthVerdict). v) (Err e)) (lines_of text)) (append-nil bytes) (refused_still kept e bytes same keeps [])
+
+-- and of what goes on behind them
+pub drops : (kept : DepthReading) (e : DepthError) (bytes piece : List ℕ) → kept ≡ RefusedAt e → Keeps kept bytes → Keeps (RefusedAt e) (bytes ++ piece)
+drops kept e bytes piece same keeps = λ rest.
+    subst (λ (text : List ℕ). Judged (Gives (λ (v : DepthVerdict). v) (Err e)) (lines_of text)) (sym (append_assoc bytes piece rest)) (refused_still kept e bytes same keeps (piece ++ rest))
+
+-- a reader has counted what it was fed
+pub counts : (kept : DepthReading) (reader : DepthReader) → kept ≡ Good reader → count_of kept ≡ reader.fed
+counts kept reader same = ap count_of same
+
+pub ruleset keeping = (common_steps, is_reader, reader_stands, fault_stands)
+
+pub ruleset taking = (common_steps, is_reader, reader_stands, drops, counts)
+
 -- ---- `recheck --depth yes` is a command
 
 IsStatus : DepthError → Type 0
@@ -168,6 +203,7 @@ tells_levels r input verdict gives stands =
       asks = (b.bundle.heading.spec, b.bundle.heading.basis, depth_asks input b is);
       steps = length is.is_depth.chain.steps;
       means = λ tables basis asked. levels_answer input b verdict (length is.is_depth.chain.steps) tables basis is (gives.means b is) asked;
+      spent = λ low d bounded. log_is_spent input b low d is (gives.has.verdict ∙ bounded);
     }
 
 answers : (r : Run) (input : List ℕ) → CommandPromise depth_task r → r.source.bytes ≡ Some input → r.status ≡ statuses.Done → TellsLevels r input

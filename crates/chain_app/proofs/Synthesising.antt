@@ -20,7 +20,7 @@ use Rattle.frame_core.specs.declared.status.Status.TheVariants.{Done, Undecided,
 use Rattle.chain_app.specs.Agree.{most_of_tables}
 use Rattle.chain_app.specs.AgreeReport.{spec_status, named_spec}
 use Rattle.chain_app.specs.SynthReport.{verdict_status, Certified, synth_reply, synth_refusal, AreTables, IsCertified, HasTablesFault, BeginsCertificate, synth_task}
-use Rattle.frame_core.specs.Told.{Reply, Refusal, memory_refusal}
+use Rattle.frame_core.specs.Told.{Refusal, memory_refusal}
 use Rattle.port_io.specs.Bytes.{Appends}
 use Rattle.frame_core.specs.Task.{IsAnswerStatus, IsRefusalStatus, IsTask, Refuses, IsAnswerFront, IsBegunFront, MayStand}
 use Rattle.command_line.specs.declared.command.Command.TheVariants.{Synth}

@@ -1,6 +1,6 @@
 -- A certificate that goes out in pieces.
-use Rattle.std.specs.Prelude.{◌≡◌, ℕ, ◌≤◌, List, [], ◌++◌, length, Vec}
-use Rattle.std.proofs.Common.{sym, ◌∙◌, ap, subst, refl, arith, inl}
+use Rattle.std.specs.Prelude.{◌≡◌, ℕ, ◌≤◌, List, ◌++◌, length, Vec}
+use Rattle.std.proofs.Common.{sym, subst, refl, arith}
 use Rattle.std.specs.Global.{Global}
 use Rattle.std.proofs.lemmas.Grind.{common_steps}
 use Rattle.port_io.specs.Bytes.{Appends, AppendsFront}
@@ -12,7 +12,6 @@ use Rattle.cert_theory.specs.declared.data.Verdict.{Verdict}
 use Rattle.cert_theory.specs.Front.{IsBegun}
 use Rattle.size_loop.specs.State.{State}
 use Rattle.settings.specs.declared.synth.SynthSettings.{SynthSettings}
-use Rattle.synth_core.specs.Asking.{heading_of}
 use Rattle.synth_core.specs.Certifying.{IsCertificate}
 use Rattle.synth_core.specs.declared.pieces.Piece.{Piece}
 use Rattle.synth_core.specs.declared.pieces.Piece.TheVariants as pieces
@@ -21,14 +20,13 @@ use Rattle.frame_core.specs.declared.replies.Ended.{Ended}
 use Rattle.frame_core.specs.declared.replies.Ended.TheVariants as ended
 use Rattle.frame_core.specs.declared.status.Status.{Status}
 use Rattle.frame_core.specs.Outside.{Side}
-use Rattle.frame_core.specs.Told.{Reply}
 use Rattle.frame_core.specs.Task.{Tells}
 use Rattle.frame_core.specs.Run.{IsLeft}
 use Rattle.frame_core.specs.Performing.{Answers}
 use Rattle.frame_core.specs.PerformingLaws.{left_of, begun_left_of, answered, pieces_sent, pieces_cut, pieces_starved}
 use Rattle.chain_app.specs.Agree.{most_of_tables}
-use Rattle.chain_app.specs.SynthReport.{verdict_status, Certified, BeginsCertificate, synth_reply, synth_task}
-use Rattle.chain_app.specs.SynthWriting.{IsOut, IsWhole, GoesOut}
+use Rattle.chain_app.specs.SynthReport.{verdict_status, BeginsCertificate, synth_reply, synth_task}
+use Rattle.chain_app.specs.SynthWriting.{IsOut, GoesOut}
 use Rattle.chain_app.proofs.Certified.{certified}
 use Rattle.chain_app.proofs.Synthesising.{synth_is_task}
 

@@ -7,6 +7,8 @@ use Rattle.command_line.specs.CommandLine.{AsksFor}
 use Rattle.settings.specs.declared.synth.SynthSettings.{SynthSettings}
 use Rattle.depth_theory.specs.DepthMeaning.{IsLeastDepth, IsBoundedDepth}
 use Rattle.depth_theory.specs.declared.data.DepthVerdict.TheVariants.{Levels, Bounded}
+use Rattle.depth_file.specs.Spent.{IsLeftOpen}
+use Rattle.synth_core.specs.Asking.{heading_of}
 use Rattle.depth_run.specs.declared.certificate.Found.TheVariants.{Least}
 use Rattle.frame_core.specs.declared.status.Status.TheVariants.{Done, Undecided, Refused}
 use Rattle.chain_app.specs.SynthReport.{synth_refusal, AreTables, HasTablesFault}
@@ -31,7 +33,7 @@ pub record LeastDepthPromise (r : Run) : Type 0 where
   pub never_refused : (asked : SynthSettings) → AsksFor r.words (LeastDepth asked) → r.status ≡ Refused → ⊥
   -- A depth bundle whose last verdict tells one number of levels has the status 0: so many steps are the fewest, some
   -- chain of so many has these levels, and none has fewer. One that tells two has the status 4: none has fewer than
-  -- the lower.
+  -- the lower, and in the text the log of a fence of so many levels is spent.
   pub least : (asked : SynthSettings) (input text : List ℕ) (tables : Words) (d : ℕ)
       → Runs (LeastDepth asked) r input
       → AreTables input tables
@@ -43,7 +45,7 @@ pub record LeastDepthPromise (r : Run) : Type 0 where
       → AreTables input tables
       → IsCertified asked input (record { text = text; found = Least (Bounded low d) })
       → Stands r (least_depth_reply (record { text = text; found = Least (Bounded low d) }))
-      → (steps : ℕ) × IsBoundedDepth (specification tables) (members asked.basis) steps low d × (r.status ≡ Undecided)
+      → (steps : ℕ) × IsBoundedDepth (specification tables) (members asked.basis) steps low d × IsLeftOpen text (heading_of tables asked) steps low × (r.status ≡ Undecided)
   -- Other bytes are told their first fault.
   pub refused : (asked : SynthSettings) (input : List ℕ) (error : SpecError)
       → Runs (LeastDepth asked) r input

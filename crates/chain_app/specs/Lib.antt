@@ -10,6 +10,7 @@ pub mod GenReport
 pub mod ImprovePromise
 pub mod ImproveReport
 pub mod Keeping
+pub mod KeepingDepth
 pub mod KeepsPromises
 pub mod LeastDepthPromise
 pub mod LeastDepthReport

@@ -6,10 +6,12 @@ use Rattle.tt_core.specs.Words.{Words, specification}
 use Rattle.op_basis.specs.Basis.{members}
 use Rattle.cert_theory.specs.Question.{HasQuestion}
 use Rattle.depth_theory.specs.declared.data.DepthVerdict.{DepthVerdict}
+use Rattle.depth_theory.specs.declared.data.DepthVerdict.TheVariants.{Bounded}
 use Rattle.depth_theory.specs.declared.data.DepthError.{DepthError}
 use Rattle.depth_theory.specs.DepthBundle.{DepthBundle}
 use Rattle.depth_theory.specs.DepthSpelling.{IsDepthText}
 use Rattle.depth_theory.specs.DepthMeaning.{Means}
+use Rattle.depth_file.specs.Spent.{IsLeftOpen}
 use Rattle.frame_core.specs.declared.status.Status.TheVariants.{Done, Limit, Undecided, Refused}
 use Rattle.chain_app.specs.RecheckReport.{most_of_bundle}
 use Rattle.chain_app.specs.RecheckDepthReport.{depth_reply, depth_refusal, HasDepthFault, GivesLevels, depth_task}
@@ -19,7 +21,8 @@ use Rattle.frame_core.specs.Promise.{InputHeld, OutputHeld, Stands, TellsError, 
 
 -- The verdict that the bytes have stands on the output. Behind their first line they spell tables and a basis. For
 -- whatever tables and basis they spell there, so many steps are the fewest, some chain of so many has the levels that
--- the verdict tells, and none has fewer than these, or than the lower number where it tells two.
+-- the verdict tells, and none has fewer than these, or than the lower number where it tells two; in the bytes the log of
+-- a fence of so many levels is spent then.
 pub record TellsLevels (r : Run) (input : List ℕ) : Type 0 where
   pub verdict : DepthVerdict
   pub has : GivesLevels input verdict
@@ -29,6 +32,9 @@ pub record TellsLevels (r : Run) (input : List ℕ) : Type 0 where
   pub means : (tables : Words) (basis : ℕ)
       → HasQuestion input tables basis
       → Means (specification tables) (members basis) steps verdict
+  pub spent : (low d : ℕ)
+      → verdict ≡ Bounded low d
+      → IsLeftOpen input has.has.bundle.bundle.heading steps low
 
 pub record RecheckDepthPromise (r : Run) : Type 0 where
   -- A depth bundle gets the line of its verdict, and the status is 0.

@@ -1,18 +1,20 @@
 //! The command `recheck --depth yes`: what it tells of bytes.
-ghost use Rattle.std.specs.Prelude.{◌≡◌, ℕ, ◌≤◌, List, Err, IfOk, length};
+ghost use Rattle.std.specs.Prelude.{◌≡◌, ℕ, ◌+◌, ◌^◌, ◌<◌, ◌≤◌, List, ◌++◌, Err, IfOk, length};
 ghost use Rattle.text_core.specs.Lines.{lines_of};
 ghost use Rattle.depth_theory.specs.declared.data.DepthVerdict.{DepthVerdict};
 ghost use Rattle.depth_theory.specs.DepthGives.{Gives};
 ghost use Rattle.depth_theory.specs.DepthJudging.{Judged};
+ghost use Rattle.depth_file.specs.Reader.{seen, IsReader, StandsFor};
 ghost use Rattle.frame_core.specs.Views.{line_value, reply_value, refusal_value, Judges};
+ghost use Rattle.chain_app.specs.KeepingDepth.{Keeps, IsWhole, count_of};
 ghost use Rattle.chain_app.specs.RecheckReport.{most_of_bundle};
 ghost use Rattle.chain_app.specs.RecheckDepthReport.{levels_text, depth_status as depth_status_of, named_inside, named_depth, depth_reply, depth_refusal, depth_task};
 
 use crate::bundles::{bundle_status, name_bundle, name_step};
 use crate::recheck::MOST_BYTES;
 use cert_file::BundleError;
-use depth_run::{DepthError, DepthVerdict, check_depth};
-use frame_core::{Ended, ErrorLine, Field, Job, Refusal, Reply, Status, Stop, finish};
+use depth_run::{DepthError, DepthReader, DepthVerdict};
+use frame_core::{Ended, ErrorLine, Field, Refusal, Reply, Status, Stop, StreamJob, finish};
 use port_io::Sink;
 use std::alloc::{AllocError, Global};
 use text_core::push_number;
@@ -108,7 +110,16 @@ fn reply_of(alloc: Global, verdict: DepthVerdict) -> Result<Reply, AllocError>
     })
 }
 
-/// Why bytes have no verdict.
+/// What `recheck --depth yes` keeps of a certificate.
+#[derive(Drop)]
+pub(crate) enum DepthReading {
+    /// What was read of it.
+    Good(DepthReader),
+    /// The fault of a line. What stands behind it is read, and dropped.
+    Refused(DepthError),
+}
+
+/// Why a certificate has no verdict.
 #[tactic(auto, using(crate::proofs::RecheckingDepth::telling))]
 fn stop_of(error: DepthError) -> Stop
     ensures { (bytes : List ℕ) → length bytes ≤ most_of_bundle →
@@ -120,13 +131,13 @@ fn stop_of(error: DepthError) -> Stop
     }
 }
 
-/// What `recheck --depth yes` tells of bytes.
+/// What `recheck --depth yes` tells of a certificate that was read to its end.
 #[tactic(auto, using(crate::proofs::RecheckingDepth::telling))]
-fn tell(alloc: Global, bytes: &[u8]) -> Result<Reply, Stop>
-    requires { length bytes.now ≤ most_of_bundle }
-    ensures { Judges depth_task bytes.now result }
+fn tell(alloc: Global, reader: DepthReader) -> Result<Reply, Stop>
+    requires { IsReader (seen reader) }
+    ensures { (bytes : List ℕ) → StandsFor (seen reader) bytes → length bytes ≤ most_of_bundle → Judges depth_task bytes result }
 {
-    match check_depth(alloc, bytes) {
+    match reader.finish() {
         Ok(verdict) => match reply_of(alloc, verdict) {
             Ok(reply) => Ok(reply),
             Err(AllocError) => Err(Stop::NoMemory),
@@ -135,27 +146,81 @@ fn tell(alloc: Global, bytes: &[u8]) -> Result<Reply, Stop>
     }
 }
 
+/// What `recheck --depth yes` tells of what it kept.
+#[tactic(auto, using(crate::proofs::RecheckingDepth::keeping))]
+fn tell_kept(alloc: Global, kept: DepthReading) -> Result<Reply, Stop>
+    requires { IsWhole kept }
+    ensures { (bytes : List ℕ) → Keeps kept bytes → length bytes ≤ most_of_bundle → Judges depth_task bytes result }
+{
+    match kept {
+        DepthReading::Good(reader) => tell(alloc, reader),
+        DepthReading::Refused(error) => Err(stop_of(error)),
+    }
+}
+
+/// Reads the next piece of a certificate.
+#[tactic(auto, using(crate::proofs::RecheckingDepth::taking))]
+fn read_on(reader: DepthReader, piece: &[u8]) -> Result<DepthReading, AllocError>
+    requires whole { IsReader (seen reader) }
+    requires room { reader.fed + length piece.now < 2 ^ 31 }
+    ensures whole { IfOk result IsWhole }
+    ensures keeps { (bytes : List ℕ) → StandsFor (seen reader) bytes →
+        IfOk result (λ next. Keeps next (bytes ++ piece.now)) }
+    ensures count { IfOk result (λ next. count_of next ≤ reader.fed + length piece.now) }
+{
+    match reader.feed(piece) {
+        Ok(reader) => Ok(DepthReading::Good(reader)),
+        Err(DepthError::Memory) => Err(AllocError),
+        Err(error) => Ok(DepthReading::Refused(error)),
+    }
+}
+
 /// The verdict of a certificate of the fewest levels.
 #[derive(Drop)]
 pub(crate) struct RecheckDepth;
 
-impl Job for RecheckDepth {
+impl StreamJob for RecheckDepth {
     ghost task = { λ _. depth_task };
 
     ghost ready = { λ _. Unit {0} };
 
+    type Kept = DepthReading;
+
+    ghost holds = { λ _ kept bytes. Keeps kept bytes };
+
+    ghost whole = { λ _ kept. IsWhole kept };
+
+    ghost count = { λ _ kept. count_of kept };
+
     fn reads(&self) -> Option<usize> {
         Some(MOST_BYTES)
+    }
+
+    fn begin(&self, alloc: Global) -> DepthReading {
+        DepthReading::Good(DepthReader::new(alloc))
+    }
+
+    #[tactic(auto, using(crate::proofs::RecheckingDepth::taking))]
+    fn take(
+        &self,
+        _alloc: Global,
+        kept: DepthReading,
+        piece: &[u8],
+    ) -> Result<DepthReading, AllocError> {
+        match kept {
+            DepthReading::Good(reader) => read_on(reader, piece),
+            DepthReading::Refused(error) => Ok(DepthReading::Refused(error)),
+        }
     }
 
     #[tactic(auto, using(crate::proofs::Commands::answering))]
     fn answer<O: Sink, N: Sink>(
         &self,
         alloc: Global,
-        bytes: &[u8],
+        kept: DepthReading,
         out: &mut O,
         note: &mut N,
     ) -> Ended {
-        finish(tell(alloc, bytes), out, note)
+        finish(tell_kept(alloc, kept), out, note)
     }
 }

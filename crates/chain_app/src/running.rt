@@ -34,7 +34,7 @@ fn obey<S: Source, O: Sink, N: Sink>(
     match command {
         Command::Agree => perform(alloc, &Agree, source, out, note),
         Command::Recheck => perform_stream(alloc, &Recheck, source, out, note),
-        Command::RecheckDepth => perform(alloc, &RecheckDepth, source, out, note),
+        Command::RecheckDepth => perform_stream(alloc, &RecheckDepth, source, out, note),
         Command::Synth(settings) => perform(alloc, &Synth(settings), source, out, note),
         Command::LeastDepth(settings) => perform(alloc, &LeastDepth(settings), source, out, note),
         Command::Improve { format, settings } => {

@@ -10,7 +10,7 @@ pub returns-in-Recheck : goal.returns-in-Recheck
 returns-in-Recheck g c = obeyed c.args.command Recheck _ c.in-Recheck.is c.perform_stream.ensures.run
 
 pub returns-in-RecheckDepth : goal.returns-in-RecheckDepth
-returns-in-RecheckDepth g c = obeyed c.args.command RecheckDepth _ c.in-RecheckDepth.is c.perform-in-RecheckDepth.ensures.run
+returns-in-RecheckDepth g c = obeyed c.args.command RecheckDepth _ c.in-RecheckDepth.is c.perform_stream-in-RecheckDepth.ensures.run
 
 pub returns-in-Synth : goal.returns-in-Synth
 returns-in-Synth g c = obeyed c.args.command (Synth c.in-Synth.settings) _ c.in-Synth.is c.perform-in-Synth.ensures.run
