@@ -120,12 +120,16 @@ fn long_clauses_repeat_no_variable(rt: HostRuntime) -> Result<(), Fail> {
         (40, 41, false),
         (40, 40, true),
         (40, -1, true),
-        (40, 33, true),
-        (32, 32, true),
-        (33, -33, true),
-        (31, 31, true),
-        (32, 33, false),
-        (33, 34, false),
+        (1, -1, true),
+        // two variables of one mark
+        (1, 1025, false),
+        // as many as are searched one by one, and more
+        (255, 256, false),
+        (256, 257, false),
+        (256, -256, true),
+        (257, 257, true),
+        (300, -1, true),
+        (300, 1325, false),
     ] {
         let read = is_read_with(alloc, greatest, last)?;
         assert!(rt; read == Some(!repeated), "{greatest} {last}");
