@@ -129,7 +129,7 @@ fn long_clauses_repeat_no_variable(rt: HostRuntime) -> Result<(), Fail> {
         (256, -256, true),
         (257, 257, true),
         (300, -1, true),
-        (300, 1325, false),
+        (300, 1025, false),
     ] {
         let read = is_read_with(alloc, greatest, last)?;
         assert!(rt; read == Some(!repeated), "{greatest} {last}");
