@@ -1,10 +1,10 @@
 -- What a run's outcome says of the calls that were made: which failed, and that the input was read to its end.
-use Rattle.std.specs.Prelude.{◌≡◌, ◌≢◌, ℕ, ◌<◌, List, [], Option, Some, None}
-use Rattle.std.proofs.Common.{refl, ◌∙◌, ap, subst, arith}
+use Rattle.std.specs.Prelude.{◌≡◌, ◌≢◌, ℕ, ◌<◌, List, [], length, Option, Some, None}
+use Rattle.std.proofs.Common.{refl, sym, ◌∙◌, ap, subst, arith}
 use Rattle.frame_core.specs.declared.status.Status.TheVariants as statuses
 use Rattle.frame_core.specs.Outside.{Side, IsQuiet}
-use Rattle.frame_core.specs.Task.{Task}
-use Rattle.frame_core.specs.Run.{Outcome, ReadFault, TooLong, Memory, Answered, CutShort, Starved, ReportCut, NoAnswer, status_of, Run, IsRun, SourceRead, SourceLeft, SourceAfter, OutAfter}
+use Rattle.frame_core.specs.Task.{Task, IsBeyond}
+use Rattle.frame_core.specs.Run.{Outcome, ReadFault, TooLong, Memory, Answered, CutShort, Starved, ReportCut, NoAnswer, status_of, Run, IsRun, HasInput, SourceRead, SourceLeft, SourceAfter, OutAfter}
 
 -- ---- the source
 
@@ -24,19 +24,31 @@ unread task r o most input run reads told left =
     unread_by o task run.bytes r.source r.source' r.out r.out' input (subst (λ (m : Option ℕ). SourceAfter m r.source r.source' o) reads run.on_source) run.on_out told left
 
 -- what was judged was read to its end
-read_by : (o : Outcome) (source source' : Side) (input : List ℕ) → SourceRead source source' o → source.bytes ≡ Some input → (status_of o ≡ statuses.ReadFault → ⊥) → (status_of o ≡ statuses.Limit → ⊥) → (status_of o ≡ statuses.Memory → ⊥) → source'.bytes ≡ Some []
-read_by ReadFault source source' input read told a b c = absurd (a refl)
-read_by TooLong source source' input read told a b c = absurd (b refl)
-read_by Memory source source' input read told a b c = absurd (c refl)
-read_by (Answered reply) source source' input read told a b c = read.end input told
-read_by CutShort source source' input read told a b c = read.end input told
-read_by Starved source source' input read told a b c = read.end input told
-read_by (ReportCut reply) source source' input read told a b c = read.end input told
-read_by (NoAnswer refusal) source source' input read told a b c = read.end input told
+read_by : (o : Outcome) (most : ℕ) (source source' : Side) (input : List ℕ) → SourceRead source source' o → (o ≡ TooLong → most < length input) → source.bytes ≡ Some input → (status_of o ≡ statuses.Limit → most < length input → ⊥) → (status_of o ≡ statuses.ReadFault → ⊥) → (status_of o ≡ statuses.Memory → ⊥) → source'.bytes ≡ Some []
+read_by ReadFault most source source' input read long told a b c = absurd (b refl)
+read_by TooLong most source source' input read long told a b c = absurd (a refl (long refl))
+read_by Memory most source source' input read long told a b c = absurd (c refl)
+read_by (Answered reply) most source source' input read long told a b c = read.end input told
+read_by CutShort most source source' input read long told a b c = read.end input told
+read_by Starved most source source' input read long told a b c = read.end input told
+read_by (ReportCut reply) most source source' input read long told a b c = read.end input told
+read_by (NoAnswer refusal) most source source' input read long told a b c = read.end input told
 
-pub read_to_end : (task : Task) (r : Run) (o : Outcome) (most : ℕ) (input : List ℕ) → IsRun task r o → task.reads ≡ Some most → r.source.bytes ≡ Some input → r.status ≢ statuses.ReadFault → r.status ≢ statuses.Limit → r.status ≢ statuses.Memory → r.source'.bytes ≡ Some []
+-- and what is told to be too long is
+too_long_is : (task : Task) (r : Run) (o : Outcome) (most : ℕ) (input : List ℕ) → IsRun task r o → task.reads ≡ Some most → r.source.bytes ≡ Some input → o ≡ TooLong → most < length input
+too_long_is task r TooLong most input run reads told is =
+    subst (λ (m : Option ℕ). IsBeyond m input) reads (run.judged input (subst (λ (m : Option ℕ). HasInput m r.source.bytes input) (sym reads) told))
+too_long_is task r ReadFault most input run reads told is = absurd cc
+too_long_is task r Memory most input run reads told is = absurd cc
+too_long_is task r (Answered reply) most input run reads told is = absurd cc
+too_long_is task r CutShort most input run reads told is = absurd cc
+too_long_is task r Starved most input run reads told is = absurd cc
+too_long_is task r (ReportCut reply) most input run reads told is = absurd cc
+too_long_is task r (NoAnswer refusal) most input run reads told is = absurd cc
+
+pub read_to_end : (task : Task) (r : Run) (o : Outcome) (most : ℕ) (input : List ℕ) → IsRun task r o → task.reads ≡ Some most → r.source.bytes ≡ Some input → (r.status ≡ statuses.Limit → most < length input → ⊥) → r.status ≢ statuses.ReadFault → r.status ≢ statuses.Memory → r.source'.bytes ≡ Some []
 read_to_end task r o most input run reads told a b c =
-    read_by o r.source r.source' input (subst (λ (m : Option ℕ). SourceAfter m r.source r.source' o) reads run.on_source) told (λ is. a (run.status_is ∙ is)) (λ is. b (run.status_is ∙ is)) (λ is. c (run.status_is ∙ is))
+    read_by o most r.source r.source' input (subst (λ (m : Option ℕ). SourceAfter m r.source r.source' o) reads run.on_source) (λ is. too_long_is task r o most input run reads told is) told (λ is. a (run.status_is ∙ is)) (λ is. b (run.status_is ∙ is)) (λ is. c (run.status_is ∙ is))
 
 left_alone : (o : Outcome) (old new : Side) → SourceLeft old new o → new ≡ old
 left_alone ReadFault old new after = absurd after

@@ -96,6 +96,7 @@ report_cut task r reply run =
         between = run.on_note.between;
         front = subst (λ (x : Reply). ReportsFront r.note run.on_note.between x.report) tells.is run.on_note.report;
         line = run.on_note.line;
+        first = run.on_note.first;
         then = run.on_note.then;
       };
     }

@@ -1,5 +1,5 @@
 -- What every command promises, for every source and every sink.
-use Rattle.std.specs.Prelude.{◌≡◌, ◌≢◌, ℕ, ◌<◌, ◌≤◌, ◌⊎◌, List, [], true, false, Some, None}
+use Rattle.std.specs.Prelude.{◌≡◌, ◌≢◌, ℕ, ◌<◌, ◌≤◌, ◌⊎◌, List, [], length, true, false, Some, None}
 use Rattle.port_io.specs.Bytes.{Appends}
 use Rattle.port_io.specs.Faults.{Rose}
 use Rattle.frame_core.specs.declared.status.Status.TheVariants.{Done, Malformed, Limit, Undecided, ReadFault, WriteFault, Memory, Refused}
@@ -77,6 +77,7 @@ pub record ReportCut (task : Task) (r : Run) (input : List ℕ) : Type 0 where
   pub between : Side
   pub front : ReportsFront r.note between (task.reply answer).report
   pub line : Writes between r.note' (error_line write_fault)
+  pub first : r.note.faults ≤ between.faults
   pub then : between.faults ≤ r.note'.faults
 
 -- Memory ran out while the text of an answer went out in pieces: a front of it stands there, and the want
@@ -149,12 +150,12 @@ pub record CommandPromise (task : Task) (r : Run) : Type 0 where
       → r.status ≢ WriteFault
       → (r.status ≡ Memory → task.in_pieces ≡ false)
       → r.out' ≡ r.out
-  -- What was judged was read to its end, whatever is told of it.
+  -- What was judged was read to its end, whatever is told of it: all but input that is too long.
   pub read_to_end : (most : ℕ) (input : List ℕ)
       → task.reads ≡ Some most
       → r.source.bytes ≡ Some input
+      → (r.status ≡ Limit → most < length input → ⊥)
       → r.status ≢ ReadFault
-      → r.status ≢ Limit
       → r.status ≢ Memory
       → r.source'.bytes ≡ Some []
   -- Nothing goes out before that.
