@@ -44,6 +44,12 @@ IsDecided h (Shorter c low) = IsShorter h c × Fewer h low
 IsDecided h Least = HasNone h
 IsDecided h (Open b) = IsLeftOpen h b
 
+-- no size is left open
+abbrev pub IsClosed : Decided → Type 0
+IsClosed (Shorter c low) = Unit {0}
+IsClosed Least = Unit {0}
+IsClosed (Open b) = ⊥
+
 -- what is known of sizes alone; of one that is left open, nothing
 abbrev pub IsSized : Heading → Sized → Type 0
 IsSized h (sizes.Found c low) = IsShorter h c × Fewer h low

@@ -3,3 +3,4 @@ pub mod Decided
 pub mod DecidedLaws
 pub mod RememberedLaws
 pub mod OrderedLaws
+pub mod StepLaws

@@ -1,10 +1,11 @@
 //! Whether a specification has a chain of fewer steps than some number: for the windows of a net, of which
 //! most have none, by counting, and the others few steps.
 //!
-//! It stands on `bound_core` for what counting says, and on `size_loop` for the search of a size. The search begins
-//! at the size that counting leaves. A certificate is made only where a size stays open: then the whole search
-//! is made again, and its own verdict holds. What is found is remembered (`spec_memory`), for tables with their inputs
-//! in a normal order (`spec_order`), and not searched again.
+//! It stands on `bound_core` for what counting says, on `step_core` for whether one step is enough, where no more are
+//! asked for, and on `size_loop` for the search of a size. The search begins at the size that counting leaves. A
+//! certificate is made only where a size stays open: then the whole search is made again, and its own verdict holds. What
+//! is found is remembered (`spec_memory`), for tables with their inputs in a normal order (`spec_order`), and not
+//! searched again.
 //!
 //! ```text
 //! let heading = Heading { spec, basis, method, conflicts, max: 2 };

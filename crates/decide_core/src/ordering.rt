@@ -1,11 +1,11 @@
-//! Counting first, and then what is remembered and searched, with the inputs in a normal order: so windows that
-//! differ in the order of their inputs share what was found. A chain is turned back and judged. Where the search is
+//! Counting first, for at most one step then the steps that there are, and else what is remembered and searched, with the
+//! inputs in a normal order: so windows that differ in the order of their inputs share what was found. A chain is turned back and judged. Where the search is
 //! left open, the tables as they are asked for are searched with a certificate.
 ghost use Rattle.std.specs.Prelude.{◌≡◌, ◌<◌, ◌≤◌, length, IfSome, IfOk};
 ghost use Rattle.tt_core.specs.Words.{specification};
 ghost use Rattle.cert_theory.specs.Bundle.{IsHeading};
 ghost use Rattle.spec_order.specs.Order.{IsOrder, IsTurned};
-ghost use Rattle.decide_core.specs.Decided.{IsDecided, IsShorter};
+ghost use Rattle.decide_core.specs.Decided.{IsDecided, IsClosed, IsShorter};
 
 use crate::deciding::{Decided, Sized, no_steps, search_whole};
 use crate::remembering::{decide_sizes, serves};
@@ -15,6 +15,7 @@ use chain_core::Chain;
 use spec_memory::Memory;
 use spec_order::{inverse, normal_order, turned_chain, turned_spec};
 use std::alloc::{AllocError, Global};
+use step_core::one_step;
 
 /// The heading for tables whose inputs are in another order.
 #[tactic(auto, using(crate::specs::OrderedLaws::ordering))]
@@ -85,9 +86,22 @@ fn decide_turned(
     }
 }
 
-/// Decides whether a chain of at most so many steps as the heading says agrees with its tables, by counting, by a
-/// memory for the heading's basis, and by a search, from which the memory learns. A certificate comes only where a
-/// search has spent its budget.
+/// Decides by going over the steps that there are whether a chain of at most one step agrees. Nothing stays open.
+#[tactic(auto, using(crate::specs::StepLaws::stepping))]
+fn decide_step(alloc: Global, heading: &Heading) -> Result<Decided, AllocError>
+    requires one { heading.now.max ≡ 1 }
+    ensures decided { IfOk result (λ decided. IsDecided heading.now decided) }
+    ensures closed { IfOk result IsClosed }
+{
+    match one_step(alloc, &heading.spec, heading.basis)? {
+        Some(chain) => Ok(Decided::Shorter { chain, low: 0 }),
+        None => Ok(Decided::Least),
+    }
+}
+
+/// Decides whether a chain of at most so many steps as the heading says agrees with its tables, by counting, for at most
+/// one step by going over all of them, and else by a memory for the heading's basis, and by a search, from which the
+/// memory learns. A certificate comes only where a search has spent its budget.
 #[tactic(auto, using(crate::specs::OrderedLaws::ordering))]
 pub fn decide(alloc: Global, memory: &mut Memory, heading: &Heading) -> Result<Decided, AllocError>
     requires heading { IsHeading heading.now }
@@ -104,6 +118,9 @@ pub fn decide(alloc: Global, memory: &mut Memory, heading: &Heading) -> Result<D
     let counted = lower_bound(&heading.spec);
     if heading.max < counted {
         return Ok(Decided::Least);
+    }
+    if heading.max == 1 {
+        return decide_step(alloc, heading);
     }
     decide_turned(alloc, memory, heading)
 }

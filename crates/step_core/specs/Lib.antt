@@ -1,0 +1,5 @@
+pub mod Short
+pub mod Steps
+pub mod WordLaws
+pub mod ShortLaws
+pub mod SearchLaws

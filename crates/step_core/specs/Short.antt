@@ -1,0 +1,20 @@
+-- Chains of at most one step that agree with a specification.
+use Rattle.std.specs.Prelude.{◌≤◌, length, Option, Some, None}
+use Rattle.chain_theory.specs.Chain.{Chain}
+use Rattle.chain_theory.specs.Operator.{Basis}
+use Rattle.chain_theory.specs.Specification.{Specification}
+use Rattle.chain_theory.specs.Agreement.{IsOver, Agrees, NoneBelow}
+use Rattle.chain_core.specs.Steps.{IsSmallChain}
+
+-- a chain over the basis that agrees, of at most one step
+-- Example: NOT of one input over NAND alone is the step j = 1, k = 1, op = 14 with the out Place 2.
+pub record IsShort (s : Specification) (basis : Basis) (c : Chain) : Type 0 where
+  pub small : IsSmallChain c
+  pub few : length c.steps ≤ 1
+  pub over : IsOver basis c
+  pub agrees : Agrees c s
+
+-- such a chain, or that there is none, of all chains over the basis
+abbrev pub IsAnswer : Specification → Basis → Option Chain → Type 0
+IsAnswer s basis (Some c) = IsShort s basis c
+IsAnswer s basis None = NoneBelow s basis 2
