@@ -1,5 +1,5 @@
 -- What the loops keep: that no number yet passes, and the outs so far.
-use Rattle.std.proofs.Common.{◌≡◌, ℕ, ◌+◌, ◌-◌, ◌<◌, ◌≤◌, true, false, Bool, not, List, [], ◌∷◌, ◌++◌, refl, add-one, arith}
+use Rattle.std.proofs.Common.{◌≡◌, ℕ, ◌+◌, ◌-◌, ◌<◌, ◌≤◌, true, false, Bool, not, List, [], ◌∷◌, ◌++◌, length, refl, add-one, arith}
 use Rattle.std.proofs.lemmas.Grind.{common_steps}
 use Rattle.chain_theory.specs.Operator.{Basis}
 use Rattle.chain_theory.specs.Specification.{Specification}
@@ -7,7 +7,7 @@ use Rattle.chain_theory.specs.Chain.{Step}
 use Rattle.tt_core.specs.Words.{Words}
 use Rattle.bound_core.specs.Counts.{some_below}
 use Rattle.bound_core.specs.CountLaws.{passes_some}
-use Rattle.step_core.specs.Steps.{input_word, serves, pair_serves, IsServing, out_for, outs_among}
+use Rattle.step_core.specs.Steps.{input_word, misses, meets_all, serves, pair_serves, IsServing, out_for, outs_among}
 
 -- no number yet
 pub some_none : (test : ℕ → Bool) → some_below test 0 ≡ false
@@ -24,6 +24,12 @@ pub some_at : (test : ℕ → Bool) (k bound : ℕ) → test k ≡ true → k < 
 some_at test k bound here low = passes_some test bound k low here
 
 pub ruleset passing = (common_steps, some_none, some_more, some_at)
+
+-- ---- an output that is missed
+
+pub missed_at : (w : Words) (word i : ℕ) → misses w word i ≡ true → i < length w.on → false ≡ meets_all w word
+unfolding meets_all
+missed_at w word i missed low = let some : some_below (misses w word) (length w.on) ≡ true = passes_some (misses w word) (length w.on) i low missed in rw some refl
 
 -- ---- a pair
 

@@ -21,7 +21,8 @@ use Rattle.tt_core.specs.LiveLaws.{words_count, live_cells}
 use Rattle.tt_core.specs.LiveOutputLaws.{among_live, live_is_among}
 use Rattle.bound_core.specs.Counts.{some_below}
 use Rattle.bound_core.specs.CountLaws.{some_passes, passes_some, and_parts, true_false}
-use Rattle.chain_core.specs.Steps.{IsSmallChain}
+use Rattle.chain_core.specs.Steps.{steps_of, IsSmallChain}
+use Rattle.chain_core.specs.declared.step.Step as held
 use Rattle.chain_core.specs.StepLaws.{no_steps, more_in_front}
 use Rattle.step_core.specs.Short.{IsShort, IsAnswer}
 use Rattle.step_core.specs.Steps.{input_word, step_word, misses, meets_all, serves, pair_serves, second_serves, first_serves, IsServing, placed, out_for, outs_among}
@@ -149,6 +150,13 @@ placed_met s c h t (Some out) same e low live =
 -- a chain with these steps and these outs
 abbrev made : Specification → List Step → Chain
 made s steps = record { n = s.inputs; steps = steps; outs = outs_among s s.outputs }
+
+-- the chain that is handed out is made so
+abbrev chain_with : ℕ → List held.Step → List Out → Chain
+chain_with n steps outs = record { n = n; steps = steps_of steps; outs = outs }
+
+pub made_is : (s : Specification) (n : ℕ) (steps : List held.Step) (shown : List Step) (outs : List Out) → n ≡ s.inputs → steps_of steps ≡ shown → outs ≡ outs_among s s.outputs → chain_with n steps outs ≡ made s shown
+made_is s n steps shown outs inputs steps_are outs_are = rw (inputs, steps_are, outs_are) refl
 
 made_agrees : (s : Specification) (steps : List Step) → ((h t : ℕ) → 1 ≤ h → h ≤ s.outputs → t < 2 ^ s.inputs → is_live s h ≡ true → is_met (s.cell h t) (value (made s steps) t (s.inputs + 1)) ≡ true) → Agrees (made s steps) s
 unfolding is_live out_for

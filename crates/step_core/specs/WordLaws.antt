@@ -4,6 +4,7 @@ use Rattle.std.specs.Prelude.{bit_and, bit_xor, ◌==◌, slice_index, if◌then
 use Rattle.std.specs.Int.{bit_at}
 use Rattle.std.proofs.lemmas.Grind.{common_steps}
 use Rattle.std.proofs.lemmas.Bool.{cases_lt, cases_Bool, agree_below, agree_below_at}
+use Rattle.std.proofs.lemmas.Bool.Decides.{nat_tests}
 use Rattle.std.proofs.lemmas.Nat.Bits.{bit_at-zero, bit_at_and, bit_at_xor, bit_at_ones, bit_at-lt, same_from_bits}
 use Rattle.chain_theory.specs.Operator.{apply, digit}
 use Rattle.chain_theory.specs.Specification.{input}
@@ -131,7 +132,7 @@ missed_digit word on care t = digit_and (bit_xor word on) care t ∙ ap (λ (x :
 
 zero_is : (x : ℕ) → not (x == 0) ≡ false → x ≡ 0
 zero_is zero e = refl
-zero_is (suc x) e = absurd cc
+zero_is (suc x) e = grind (arith, common_steps, nat_tests)
 
 -- a word that isn't missed has each specified value
 pub not_missed : (w : Words) (word i t : ℕ) → misses w word i ≡ false → is_met (cell_of w (i + 1) t) (digit word t) ≡ true

@@ -1,8 +1,9 @@
 //! Words of 64 rows: those of inputs, of a step, and whether all outputs ask for the values of a word.
-ghost use Rattle.std.specs.Prelude.{◌≡◌, ◌<◌};
+ghost use Rattle.std.specs.Prelude.{◌≡◌, ◌<◌, length};
 ghost use Rattle.op_basis.specs.Basis.{members};
 ghost use Rattle.step_core.specs.Steps.{spread as spread_of, differ as differ_of, input_word as input_word_of};
-ghost use Rattle.step_core.specs.Steps.{step_word as step_word_of, meets_all as meets_all_of, serves as serves_of};
+ghost use Rattle.step_core.specs.Steps.{step_word as step_word_of, misses as misses_of};
+ghost use Rattle.step_core.specs.Steps.{meets_all as meets_all_of, serves as serves_of};
 
 use op_basis::{Basis, Op};
 use tt_core::Spec;
@@ -52,13 +53,24 @@ fn step_word(op: Op, a: u64, b: u64) -> u64
         ^ (spread(differ(differ(none, first), differ(second, both))) & (a & b))
 }
 
+/// Whether on some row an output, counted from 0, asks for another value than the word's.
+#[tactic(auto, unfolding(crate::specs::Steps::misses))]
+fn misses(spec: &Spec, word: u64, output: u32) -> bool
+    requires { output < length spec.now.on }
+    ensures { result ≡ misses_of spec.now word output }
+{
+    // brings what the type of tables says
+    let _inputs = spec.n();
+    (word ^ spec.on()[output as usize]) & spec.care()[output as usize] != 0
+}
+
 /// Whether a word has the values that all outputs ask for.
-#[tactic(auto, using(crate::specs::SearchLaws::passing), unfolding(crate::specs::Steps::meets_all, crate::specs::Steps::misses))]
+#[tactic(auto, using(crate::specs::SearchLaws::passing), unfolding(crate::specs::Steps::meets_all))]
 fn meets_all(spec: &Spec, word: u64) -> bool
     ensures { result ≡ meets_all_of spec.now word }
 {
-    for output in 0..spec.outputs() as usize {
-        if (word ^ spec.on()[output]) & spec.care()[output] != 0 {
+    for output in 0..spec.outputs() {
+        if misses(spec, word, output) {
             return false;
         }
     }
