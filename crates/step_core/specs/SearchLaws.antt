@@ -1,9 +1,8 @@
 -- What the loops keep: that no number yet passes, and the outs so far.
-use Rattle.std.proofs.Common.{◌≡◌, ℕ, ◌+◌, ◌-◌, ◌<◌, ◌≤◌, true, false, Bool, not, List, [], ◌∷◌, ◌++◌, length, refl, add-one, arith}
+use Rattle.std.proofs.Common.{◌≡◌, ℕ, ◌+◌, ◌-◌, ◌<◌, ◌≤◌, true, false, Bool, [], ◌∷◌, ◌++◌, length, refl, add-one, arith}
 use Rattle.std.proofs.lemmas.Grind.{common_steps}
 use Rattle.chain_theory.specs.Operator.{Basis}
 use Rattle.chain_theory.specs.Specification.{Specification}
-use Rattle.chain_theory.specs.Chain.{Step}
 use Rattle.tt_core.specs.Words.{Words}
 use Rattle.bound_core.specs.Counts.{some_below}
 use Rattle.bound_core.specs.CountLaws.{passes_some}

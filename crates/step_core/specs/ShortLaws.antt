@@ -1,5 +1,5 @@
 -- That a chain which is made agrees, and that no chain of at most one step does where none is made.
-use Rattle.std.proofs.Common.{◌≡◌, ◌⊎◌, ℕ, zero, suc, ◌+◌, ◌-◌, ◌<◌, ◌≤◌, ◌^◌, Bool, true, false, ◌&&◌, not, List, [], ◌∷◌, ◌++◌, length, Contains, All, Option, Some, None, refl, sym, ap, ap₂, ◌∙◌, subst, arith, inl, inr}
+use Rattle.std.proofs.Common.{◌≡◌, ℕ, zero, suc, ◌+◌, ◌-◌, ◌<◌, ◌≤◌, ◌^◌, Bool, true, false, not, List, [], ◌∷◌, length, All, Option, Some, None, refl, sym, ap, ap₂, ◌∙◌, subst, arith, inl, inr}
 use Rattle.std.specs.Prelude.{slice_index, slice_index_or, slice_get}
 use Rattle.std.proofs.lemmas.Grind.{common_steps}
 use Rattle.std.proofs.lemmas.Bool.{cases_lt, cases_Bool}
@@ -10,7 +10,7 @@ use Rattle.chain_theory.specs.Specification.{Specification, input}
 use Rattle.chain_theory.specs.Chain.{Step, Chain, IsStepAt, AreSteps, NamesPlace}
 use Rattle.chain_theory.specs.Value.{value, out_value}
 use Rattle.chain_theory.specs.ValueLaws.{value-input, value-step}
-use Rattle.chain_theory.specs.Agreement.{is_met, IsOver, Agrees, HasChain, NoneBelow}
+use Rattle.chain_theory.specs.Agreement.{is_met, Agrees, HasChain, NoneBelow}
 use Rattle.chain_theory.specs.declared.data.Out.{Out}
 use Rattle.chain_theory.specs.declared.data.Out.TheVariants as kinds
 use Rattle.tt_core.specs.Words.{Words, IsSpec, specification, cell_of}
@@ -24,7 +24,7 @@ use Rattle.bound_core.specs.CountLaws.{some_passes, passes_some, and_parts, true
 use Rattle.chain_core.specs.Steps.{steps_of, IsSmallChain}
 use Rattle.chain_core.specs.declared.step.Step as held
 use Rattle.chain_core.specs.StepLaws.{no_steps, more_in_front}
-use Rattle.step_core.specs.Short.{IsShort, IsAnswer}
+use Rattle.step_core.specs.Short.{IsShort}
 use Rattle.step_core.specs.Steps.{input_word, step_word, misses, meets_all, serves, pair_serves, second_serves, first_serves, IsServing, placed, out_for, outs_among}
 use Rattle.step_core.specs.WordLaws.{step_row, not_missed, never_missed}
 

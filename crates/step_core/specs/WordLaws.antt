@@ -3,7 +3,7 @@ use Rattle.std.proofs.Common.{◌≡◌, ◌∙◌, ℕ, zero, suc, ◌+◌, ◌
 use Rattle.std.specs.Prelude.{bit_and, bit_xor, ◌==◌, slice_index, if◌then◌else◌}
 use Rattle.std.specs.Int.{bit_at}
 use Rattle.std.proofs.lemmas.Grind.{common_steps}
-use Rattle.std.proofs.lemmas.Bool.{cases_lt, cases_Bool, agree_below, agree_below_at}
+use Rattle.std.proofs.lemmas.Bool.{cases_lt, agree_below_at}
 use Rattle.std.proofs.lemmas.Bool.Decides.{nat_tests}
 use Rattle.std.proofs.lemmas.Nat.Bits.{bit_at-zero, bit_at_and, bit_at_xor, bit_at_ones, bit_at-lt, same_from_bits}
 use Rattle.chain_theory.specs.Operator.{apply, digit}
@@ -12,7 +12,7 @@ use Rattle.chain_theory.specs.Agreement.{is_met}
 use Rattle.chain_theory.specs.declared.data.Cell.TheVariants.{Zero, One, Free}
 use Rattle.tt_core.specs.Words.{Words, IsSpec, cell_of}
 use Rattle.tt_core.specs.RowLaws.{row_below}
-use Rattle.bound_core.specs.CountLaws.{true_false, no_digit}
+use Rattle.bound_core.specs.CountLaws.{no_digit}
 use Rattle.step_core.specs.Steps.{spread, differ, input_word, step_word, misses}
 
 -- ---- one bit of the operations

@@ -1,5 +1,5 @@
 -- The chain that is made.
-use Rattle.std.proofs.Common.{◌≡◌, [], ap, ◌∙◌}
+use Rattle.std.proofs.Common.{[], ap, ◌∙◌}
 use Rattle.op_basis.specs.Basis.{members}
 use Rattle.tt_core.specs.Words.{specification}
 use Rattle.chain_core.specs.Steps.{steps_of}
