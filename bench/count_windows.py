@@ -3,8 +3,9 @@
 
 An independent program, which shares no line with the product. It reads a BLIF netlist of tables of at most two inputs, as
 `improve` writes them, goes over the visits of a round, and prints how many there are, how many windows count, how many
-of these counting decides, how many are met again (as they are, or with their inputs in another order), and how many are left
-for a search. Words are numbers of up to 4,096 bits."""
+of these counting decides, how many of two gates it leaves (which are decided by going over all steps), how many others are
+met again (as they are, or with their inputs in another order), and how many are left for a search. Words are numbers of up to
+4,096 bits."""
 import sys
 
 
@@ -83,7 +84,7 @@ class Counter:
         for place in sinks:
             self.named[place] += 1
         self.known, self.leaves_of = {}, {}
-        self.visits = self.windows = self.counted = self.again = self.searched = 0
+        self.visits = self.windows = self.counted = self.stepped = self.again = self.searched = 0
 
     def operands(self, place):
         return self.gates[place - self.sources - 1][1:]
@@ -152,6 +153,8 @@ class Counter:
         self.windows += 1
         if lower_bound(*spec) >= count:
             self.counted += 1
+        elif count == 2:
+            self.stepped += 1
         elif self.known.get(normal(*spec), 0) >= count:
             self.again += 1
         else:
@@ -197,7 +200,7 @@ def main():
     counter = Counter(*read(sys.stdin.read()))
     counter.round(cap)
     print(f'gates {len(counter.gates)} visits {counter.visits} windows {counter.windows} counted {counter.counted} '
-          f'again {counter.again} searched {counter.searched}')
+          f'stepped {counter.stepped} again {counter.again} searched {counter.searched}')
 
 
 if __name__ == '__main__':

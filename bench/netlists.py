@@ -143,8 +143,8 @@ print(used.ru_utime, used.ru_maxrss, sep='\\n', file=sys.stderr)
 
 def with_windows(program, gates):
     """A row for each netlist that is improved by its windows."""
-    print('| Netlist | Report | Undecided | Time | Peak memory | Visits | Windows | by counting | by memory | by search |')
-    print('|---|---|---|---|---|---|---|---|---|---|')
+    print('| Netlist | Report | Undecided | Time | Peak memory | Visits | Windows | by counting | by steps | by memory | by search |')
+    print('|---|---|---|---|---|---|---|---|---|---|---|')
     netlists = [('random, 5,000 gates', lambda: near(5000, 1))] if not gates else []
     netlists += [(f'logic, {count:,} gates', lambda count=count: Logic(count).text()) for count in gates or (10_000, 100_000)]
     for name, make in netlists:
@@ -152,7 +152,7 @@ def with_windows(program, gates):
         undecided = sum(1 for line in report if line.startswith('undecided '))
         counter = count_windows.Counter(*count_windows.read(out))
         counter.round(5)
-        answers = ' | '.join(f'{x:,}' for x in (counter.visits, counter.windows, counter.counted, counter.again, counter.searched))
+        answers = ' | '.join(f'{x:,}' for x in (counter.visits, counter.windows, counter.counted, counter.stepped, counter.again, counter.searched))
         print(f'| {name} | {report[0]}, {report[-1]} | {undecided} | {seconds:.1f} s | {peak} MB | {answers} |', flush=True)
 
 
