@@ -1,8 +1,10 @@
-//! Tests of `chain_theory` and `chain_core`: worked examples of what the definitions mean, and chain blocks read,
-//! refused and written.
+//! Tests of `chain_theory`, `chain_core` and `step_core`: worked examples of what the definitions mean, chain blocks
+//! read, refused and written, and chains of at most one step.
 #![tactic(auto)]
 
 #[cfg(test)]
 mod blocks;
 #[cfg(test)]
 mod plain;
+#[cfg(test)]
+mod steps;

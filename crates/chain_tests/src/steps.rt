@@ -1,0 +1,71 @@
+//! Tables, and the chains of at most one step that they have.
+use chain_core::write_chain;
+use op_basis::read_basis;
+use std::alloc::{AllocError, Global};
+use step_core::one_step;
+use tt_core::read_tables;
+
+/// Whether tables have this chain over a basis; an empty text stands for none.
+fn has(alloc: Global, basis: &[u8], tables: &[u8], wanted: &[u8]) -> Result<bool, AllocError> {
+    let mut told = Vec::new(alloc);
+    let Ok(basis) = read_basis(basis) else {
+        return Ok(false);
+    };
+    let Ok(tables) = read_tables(alloc, tables) else {
+        return Ok(false);
+    };
+    if let Some(chain) = one_step(alloc, &tables.spec, basis)? {
+        write_chain(&chain, &mut told)?;
+    }
+    Ok(told.as_slice() == wanted)
+}
+
+#[test]
+fn chains_of_one_step_are_found(rt: HostRuntime) -> Result<(), AllocError> {
+    for (basis, tables, wanted) in [
+        // no step: constants and inputs, and what don't-cares let be one
+        (
+            b"nand".as_slice(),
+            b"inputs 2\n0000\n1111\n0101\n0--1\n".as_slice(),
+            b"chain 0\nout 0\nout 1\nout x2\nout x1\n".as_slice(),
+        ),
+        // one step, and another output beside it
+        (
+            b"all",
+            b"inputs 2\n0110\n0011\n",
+            b"chain 1\nx3 x1 x2 0110\nout x3\nout x1\n",
+        ),
+        // a negation stands on one input
+        (
+            b"nand",
+            b"inputs 2\n1010\n",
+            b"chain 1\nx3 x2 x2 1110\nout x3\n",
+        ),
+        // operands in the other order, where the basis has no other
+        (
+            b"0010",
+            b"inputs 2\n0100\n",
+            b"chain 1\nx3 x2 x1 0010\nout x3\n",
+        ),
+        // outputs that may be one step
+        (
+            b"bench",
+            b"inputs 3\n0-0001-1\n0000-101\n",
+            b"chain 1\nx4 x1 x3 0001\nout x4\nout x4\n",
+        ),
+        // none over this basis, and two steps
+        (b"nand", b"inputs 2\n0110\n", b""),
+        (b"all", b"inputs 2\n0110\n0111\n", b""),
+        (b"all", b"inputs 3\n01101001\n", b""),
+        // the last input of six
+        (
+            b"all",
+            b"inputs 6\n0000000000000000000000000000000001010101010101010101010101010101\n",
+            b"chain 1\nx7 x1 x6 0001\nout x7\n",
+        ),
+    ] {
+        let found = has(rt.alloc(), basis, tables, wanted)?;
+        assert!(rt; found);
+    }
+    Ok(())
+}
