@@ -1,5 +1,5 @@
 -- What the walk over steps says of a heading that asks for at most one.
-use Rattle.std.proofs.Common.{◌≡◌, ℕ, Option, Some, None, subst, arith}
+use Rattle.std.proofs.Common.{◌≡◌, Option, Some, None, subst, arith}
 use Rattle.chain_theory.specs.Chain.{Chain}
 use Rattle.tt_core.specs.Words.{specification}
 use Rattle.op_basis.specs.Basis.{members}

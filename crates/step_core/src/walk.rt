@@ -1,10 +1,9 @@
 //! The walk over operators and pairs of inputs.
-ghost use Rattle.std.specs.Prelude.{◌≡◌, ◌≤◌, ◌<◌, ◌-◌, true, false, IfSome, IfNone};
+ghost use Rattle.std.specs.Prelude.{◌≡◌, ◌≤◌, ◌<◌, true, false, IfSome, IfNone};
 ghost use Rattle.op_basis.specs.Basis.{members};
 ghost use Rattle.chain_core.specs.Steps.{step_of};
 ghost use Rattle.bound_core.specs.Counts.{some_below};
-ghost use Rattle.step_core.specs.Steps.{input_word as input_word_of, serves as serves_of, pair_serves};
-ghost use Rattle.step_core.specs.Steps.{second_serves, first_serves, IsServing};
+ghost use Rattle.step_core.specs.Steps.{serves as serves_of, pair_serves, second_serves, first_serves, IsServing};
 
 use crate::words::{input_word, serves};
 use chain_core::Step;
