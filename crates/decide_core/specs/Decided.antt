@@ -50,8 +50,8 @@ IsClosed (Shorter c low) = Unit {0}
 IsClosed Least = Unit {0}
 IsClosed (Open b) = ⊥
 
--- what is known of sizes alone; of one that is left open, nothing
+-- what is known of sizes alone
 abbrev pub IsSized : Heading → Sized → Type 0
 IsSized h (sizes.Found c low) = IsShorter h c × Fewer h low
 IsSized h sizes.Nothing = HasNone h
-IsSized h sizes.Open = Unit {0}
+IsSized h (sizes.Open low) = Fewer h low

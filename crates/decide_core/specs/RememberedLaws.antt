@@ -15,7 +15,9 @@ use Rattle.spec_memory.specs.Facts.{spelled, IsFact}
 use Rattle.spec_memory.specs.FactLaws.{known_fact}
 use Rattle.decide_core.specs.declared.deciding.Sized.{Sized}
 use Rattle.decide_core.specs.declared.deciding.Sized.TheVariants as sizes
-use Rattle.decide_core.specs.Decided.{Fewer, HasNone, IsShorter, IsSized}
+use Rattle.decide_core.specs.declared.deciding.Decided.{Decided}
+use Rattle.decide_core.specs.declared.deciding.Decided.TheVariants.{Least}
+use Rattle.decide_core.specs.Decided.{Fewer, HasNone, IsShorter, IsDecided, IsSized}
 use Rattle.decide_core.specs.DecidedLaws.{deciding}
 
 -- ---- chains that are judged
@@ -46,6 +48,12 @@ noted h basis fewest key heading same spells none =
 
 pub found_low : (h : Heading) (s : Sized) (c : Chain) (low : ℕ) → IsSized h s → s ≡ sizes.Found c low → Fewer h low
 found_low h s c low is e = let found : IsSized h (sizes.Found c low) = subst (IsSized h) e is in found.1
+
+pub found_open : (h : Heading) (s : Sized) (low : ℕ) → IsSized h s → s ≡ sizes.Open low → Fewer h low
+found_open h s low is e = subst (IsSized h) e is
+
+pub whole_least : (h : Heading) (d : Decided) → IsDecided h d → d ≡ Least → HasNone h
+whole_least h d is e = subst (IsDecided h) e is
 
 pub found_none : (h : Heading) (s : Sized) → IsSized h s → s ≡ sizes.Nothing → HasNone h
 found_none h s is e = subst (IsSized h) e is

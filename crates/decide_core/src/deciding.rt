@@ -29,8 +29,8 @@ pub enum Sized {
     Found { chain: Chain, low: u32 },
     /// No chain of at most so many steps as the heading says does.
     Nothing,
-    /// A search has spent its budget.
-    Open,
+    /// A search has spent its budget; none of fewer than `low` steps does.
+    Open { low: u32 },
 }
 
 /// Whether a verdict leaves a size open.
@@ -90,7 +90,7 @@ pub fn search_from(alloc: Global, heading: &Heading, from: u32) -> Result<Sized,
             SizeOutcome::Found(chain) => return Ok(Sized::Found { chain, low: size }),
             SizeOutcome::Logged(section) => {
                 if section.is_open() {
-                    return Ok(Sized::Open);
+                    return Ok(Sized::Open { low: size });
                 }
             }
         }

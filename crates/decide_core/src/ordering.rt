@@ -1,14 +1,15 @@
-//! Counting first, for at most one step then the steps that there are, and else what is remembered and searched, with the
-//! inputs in a normal order: so windows that differ in the order of their inputs share what was found. A chain is turned back and judged. Where the search is
-//! left open, the tables as they are asked for are searched with a certificate.
+//! Counting first, for at most one step then the steps that there are, and else what is remembered and searched, with
+//! the inputs in a normal order: so windows that differ in the order of their inputs share what was found. A chain is
+//! turned back and judged. The first search has few conflicts; where it is left open, the tables as they are asked for
+//! are searched with a certificate and the whole budget.
 ghost use Rattle.std.specs.Prelude.{◌≡◌, ◌<◌, ◌≤◌, length, IfSome, IfOk};
 ghost use Rattle.tt_core.specs.Words.{specification};
 ghost use Rattle.cert_theory.specs.Bundle.{IsHeading};
 ghost use Rattle.spec_order.specs.Order.{IsOrder, IsTurned};
 ghost use Rattle.decide_core.specs.Decided.{IsDecided, IsClosed, IsShorter};
 
-use crate::deciding::{Decided, Sized, no_steps, search_whole};
-use crate::remembering::{decide_sizes, serves};
+use crate::deciding::{Decided, Sized, no_steps};
+use crate::remembering::{decide_sizes, decide_whole, serves};
 use bound_core::lower_bound;
 use bundle_core::Heading;
 use chain_core::Chain;
@@ -17,7 +18,23 @@ use spec_order::{inverse, normal_order, turned_chain, turned_spec};
 use std::alloc::{AllocError, Global};
 use step_core::one_step;
 
-/// The heading for tables whose inputs are in another order.
+/// So many conflicts at most has the first search of a size, which keeps nothing. What isn't decided by then is
+/// searched with a certificate, with the whole budget.
+const FIRST_CONFLICTS: u32 = 10_000;
+
+/// The budget of the first search.
+fn first_conflicts(conflicts: u32) -> u32
+    requires { 1 ≤ conflicts }
+    ensures some { 1 ≤ result }
+    ensures most { result ≤ conflicts }
+{
+    if conflicts > FIRST_CONFLICTS {
+        return FIRST_CONFLICTS;
+    }
+    conflicts
+}
+
+/// The heading for tables whose inputs are in another order, for the first search.
 #[tactic(auto, using(crate::specs::OrderedLaws::ordering))]
 fn turned_heading(alloc: Global, heading: &Heading, order: &[u32]) -> Result<Heading, AllocError>
     requires heading { IsHeading heading.now }
@@ -34,7 +51,7 @@ fn turned_heading(alloc: Global, heading: &Heading, order: &[u32]) -> Result<Hea
         spec,
         basis: heading.basis,
         method: heading.method,
-        conflicts: heading.conflicts,
+        conflicts: first_conflicts(heading.conflicts),
         max: heading.max,
     })
 }
@@ -78,10 +95,10 @@ fn decide_turned(
     let counted = lower_bound(&turned.spec);
     match decide_sizes(alloc, memory, &turned, counted)? {
         Sized::Nothing => Ok(Decided::Least),
-        Sized::Open => search_whole(alloc, heading),
+        Sized::Open { low: _ } => decide_whole(alloc, memory, heading),
         Sized::Found { chain, low: _ } => match turned_back(alloc, heading, &chain, &order)? {
             Some(chain) => Ok(Decided::Shorter { chain, low: 0 }),
-            None => search_whole(alloc, heading),
+            None => decide_whole(alloc, memory, heading),
         },
     }
 }

@@ -6,13 +6,13 @@ ghost use Rattle.op_basis.specs.Basis.{members};
 ghost use Rattle.chain_theory.specs.Agreement.{IsOver, Agrees, NoneBelow};
 ghost use Rattle.cert_theory.specs.Bundle.{IsHeading};
 ghost use Rattle.spec_memory.specs.Facts.{spelled};
-ghost use Rattle.decide_core.specs.Decided.{IsSized, IsShorter};
+ghost use Rattle.decide_core.specs.Decided.{IsDecided, IsSized, IsShorter};
 
-use crate::deciding::{Sized, search_from};
+use crate::deciding::{Decided, Sized, search_from, search_whole};
 use bundle_core::Heading;
 use chain_core::{Chain, first_difference, first_outside};
 use op_basis::Basis;
-use spec_memory::{Key, Memory};
+use spec_memory::{Found, Key, Memory};
 use std::alloc::{AllocError, Global};
 use tt_core::Spec;
 
@@ -104,6 +104,28 @@ fn first_size(memory: &Memory, key: &Key, heading: &Heading, counted: u32) -> u3
     known
 }
 
+/// What is noted where no chain was found.
+fn without_chain(fewest: u32, open: bool) -> Found
+    ensures { result.fewest ≡ fewest }
+{
+    Found {
+        fewest,
+        chain: None,
+        open,
+    }
+}
+
+/// What is noted where a chain was found.
+fn with_chain(fewest: u32, chain: Chain) -> Found
+    ensures { result.fewest ≡ fewest }
+{
+    Found {
+        fewest,
+        chain: Some(chain),
+        open: false,
+    }
+}
+
 /// Searches, and notes what was found.
 #[tactic(auto, using(crate::specs::RememberedLaws::remembering))]
 fn search_new(
@@ -123,14 +145,17 @@ fn search_new(
     ensures basis { memory.new ≡ memory.old }
 {
     match search_from(alloc, heading, from)? {
-        Sized::Open => Ok(Sized::Open),
+        Sized::Open { low } => {
+            memory.note(key, without_chain(low, true))?;
+            Ok(Sized::Open { low })
+        }
         Sized::Nothing => {
-            memory.note(key, heading.max + 1, None)?;
+            memory.note(key, without_chain(heading.max + 1, false))?;
             Ok(Sized::Nothing)
         }
         Sized::Found { chain, low } => {
-            let copy = copied(alloc, &chain)?;
-            memory.note(key, low, Some(copy))?;
+            let found = with_chain(low, copied(alloc, &chain)?);
+            memory.note(key, found)?;
             Ok(Sized::Found { chain, low })
         }
     }
@@ -156,8 +181,40 @@ pub fn decide_sizes(
     if heading.max < from {
         return Ok(Sized::Nothing);
     }
+    if memory.is_open(&key) {
+        return Ok(Sized::Open { low: from });
+    }
     match remembered(alloc, memory, &key, heading)? {
         Some(chain) => Ok(Sized::Found { chain, low: 0 }),
         None => search_new(alloc, memory, key, heading, from),
+    }
+}
+
+/// Searches the tables as they are asked for with a certificate, unless the memory knows that there is nothing, which
+/// it learns here too.
+#[tactic(auto, using(crate::specs::RememberedLaws::remembering))]
+pub fn decide_whole(
+    alloc: Global,
+    memory: &mut Memory,
+    heading: &Heading,
+) -> Result<Decided, AllocError>
+    requires heading { IsHeading heading.now }
+    requires basis { memory.old ≡ heading.now.basis }
+    requires output { 0 < length heading.now.spec.on }
+    ensures decided { IfOk result (λ decided. IsDecided heading.now decided) }
+    ensures basis { memory.new ≡ memory.old }
+{
+    let key = Key::of(alloc, &heading.spec)?;
+    let known = first_size(memory, &key, heading, 0);
+    if heading.max < known {
+        return Ok(Decided::Least);
+    }
+    match search_whole(alloc, heading)? {
+        Decided::Least => {
+            memory.note(key, without_chain(heading.max + 1, false))?;
+            Ok(Decided::Least)
+        }
+        Decided::Shorter { chain, low } => Ok(Decided::Shorter { chain, low }),
+        Decided::Open(bundle) => Ok(Decided::Open(bundle)),
     }
 }

@@ -6,7 +6,8 @@
 //!
 //! ```text
 //! let key = Key::of(alloc, &spec)?;
-//! memory.note(key, 3, None)?;  // where no chain of fewer than 3 steps agrees with the specification
+//! let found = Found { fewest: 3, chain: None, open: false };
+//! memory.note(key, found)?;    // where no chain of fewer than 3 steps agrees with the specification
 //! memory.fewest(&key);         // 3, and 0 of what it doesn't know
 //! ```
 #![tactic(auto)]
@@ -15,4 +16,4 @@ mod key;
 mod memory;
 
 pub use key::Key;
-pub use memory::Memory;
+pub use memory::{Found, Memory};

@@ -10,11 +10,13 @@ use std::alloc::{AllocError, Global};
 use std::collections::HashMap;
 use std::marker::Model;
 
-/// What was found of a specification.
+/// What was found of a specification: a number of steps of which no fewer do, a chain that may agree, and whether a
+/// search of so many steps was left open.
 #[derive(Debug, Drop)]
 pub struct Found {
     pub fewest: u32,
     pub chain: Option<Chain>,
+    pub open: bool,
 }
 
 /// What was found of specifications over a basis. From outside it is the basis: what it has found is no fact of
@@ -68,13 +70,21 @@ impl Memory {
         }
     }
 
-    /// Notes that no chain of fewer steps agrees with the specification of a key, and a chain that may.
+    /// Whether a search was left open that was noted with the key. It is no fact of chains.
+    pub fn is_open(&self, key: &Key) -> bool {
+        match self.found.get(key) {
+            Some(found) => found.open,
+            None => false,
+        }
+    }
+
+    /// Notes what was found of the specification of a key: no chain of fewer steps agrees.
     #[tactic(auto, using(crate::specs::FactLaws::remembering))]
-    pub fn note(&mut self, key: Key, fewest: u32, chain: Option<Chain>) -> Result<(), AllocError>
-        requires { IsFact (members self.old) key fewest }
+    pub fn note(&mut self, key: Key, found: Found) -> Result<(), AllocError>
+        requires { IsFact (members self.old) key found.fewest }
         ensures { self.new ≡ self.old }
     {
-        self.found.insert(key, Found { fewest, chain })?;
+        self.found.insert(key, found)?;
         Ok(())
     }
 }

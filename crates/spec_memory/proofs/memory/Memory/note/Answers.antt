@@ -1,13 +1,11 @@
 use Rattle.std.proofs.Common.{ℕ, sym, subst}
 use Rattle.op_basis.specs.Basis.{members}
-use Rattle.spec_memory.specs.declared.memory.Found.{Found}
 use Rattle.spec_memory.specs.Facts.{IsFact}
 use Rattle.spec_memory.specs.FactLaws.{noted_facts}
 use Rattle.spec_memory.proofs.memory.Memory.note.Goals as goal
 
 pub invariant_of-self-2 : goal.invariant_of-self-2
 invariant_of-self-2 c =
-    let found : Found = record { fewest = c.args.fewest; chain = c.args.chain } in
-    noted_facts c.self.inside.basis c.self.inside.found c.insert.new.self c.args.key found c.self.invariant
-    (subst (λ (b : ℕ). IsFact (members b) c.args.key c.args.fewest) (sym c.self.view_is) c.requires)
+    noted_facts c.self.inside.basis c.self.inside.found c.insert.new.self c.args.key c.args.found c.self.invariant
+    (subst (λ (b : ℕ). IsFact (members b) c.args.key c.args.found.fewest) (sym c.self.view_is) c.requires)
     c.in_ok-insert.ensures.updates.0
