@@ -1,7 +1,7 @@
 use Rattle.std.proofs.Common.{◌+◌, length, ap, arith}
 use Rattle.net_theory.specs.declared.data.Gate.{Gate}
 use Rattle.window_theory.specs.WindowLaws.{gate_at}
-use Rattle.window_bench.proofs.counting.count_all.Goals as goal
+use Rattle.benchmarks.proofs.counting.count_all.Goals as goal
 
 pub count_root-requires-clause-root : goal.count_root-requires-clause-root
 count_root-requires-clause-root c =

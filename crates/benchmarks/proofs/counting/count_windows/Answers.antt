@@ -1,5 +1,5 @@
 use Rattle.window_theory.specs.WindowLaws.{window_belongs}
-use Rattle.window_bench.proofs.counting.count_windows.Goals as goal
+use Rattle.benchmarks.proofs.counting.count_windows.Goals as goal
 
 pub spec_of-requires : goal.spec_of-requires
 spec_of-requires c =

@@ -1,6 +1,6 @@
 use Rattle.std.proofs.Common.{◌≡◌, length, vec_len, sym, ◌∙◌, arith}
-use Rattle.subst_bench.proofs.Nets.{push_gate, no_gates}
-use Rattle.subst_bench.proofs.gates.Goals as goal
+use Rattle.benchmarks.proofs.Nets.{push_gate, no_gates}
+use Rattle.benchmarks.proofs.substituting.gates.Goals as goal
 
 pub loop-index-init : goal.loop-index-init
 loop-index-init c = record { gates = no_gates c.args.sources c.new-gates.result.items c.new-gates.ensures.items; count = c.new-gates.ensures.len }

@@ -1,6 +1,6 @@
 use Rattle.std.proofs.Common.{◌≡◌, vec_len}
 use Rattle.net_theory.specs.Net.{AreGates}
-use Rattle.subst_bench.proofs.gates.Given as goal
+use Rattle.benchmarks.proofs.substituting.gates.Given as goal
 
 abbrev pub invariant-loop-index : goal.invariant-loop-index
 invariant-loop-index l = record {

@@ -1,18 +1,11 @@
 //! Measures what a change of a net costs: a chain of one step in the place of a gate (`splice`), dropping dead gates
 //! (`drop`), and the index of a net (`index`), each done 200 times on a net of 100,000 gates that a fixed generator makes.
-//!
-//! ```text
-//! time out/subst_bench splice 50000    # the place of the gate; what is printed is how many gates there are then
-//! ```
-#![tactic(auto)]
-
 ghost use Rattle.std.specs.Prelude.{◌≡◌, ◌+◌, ◌≤◌, ◌<◌, ◌^◌, vec_len, IfOk, All};
 ghost use Rattle.net_theory.specs.Net.{AreGates, IsSigBelow};
 
 use chain_core::read_chain;
 use net_core::{Gate, Net, Op, Sig, drop_dead};
 use std::alloc::{AllocError, Global};
-use std::{env, io};
 use subst_core::{WindowLists, splice};
 use window_core::{readers_of, window};
 
@@ -128,7 +121,7 @@ fn indexed(alloc: Global, net: &Net) -> Result<(), AllocError> {
 }
 
 /// Does what a word says 200 times, and tells how many gates there are then.
-fn run(alloc: Global, word: &str, root: u32) -> Result<usize, AllocError> {
+pub fn substitute(alloc: Global, word: &str, root: u32) -> Result<usize, AllocError> {
     let mut net = random_net(alloc)?;
     if word == "splice" {
         for _turn in 0..200u32 {
@@ -146,18 +139,4 @@ fn run(alloc: Global, word: &str, root: u32) -> Result<usize, AllocError> {
         }
     }
     Ok(net.gates().len())
-}
-
-fn main(rt: HostRuntime) -> io::Result<()> {
-    let alloc = rt.alloc();
-    let words: Vec<String> = env::args(&rt)?.skip(1).collect(alloc)?;
-    if words.len() != 2 {
-        return println!(rt; "usage: subst_bench splice|drop|index PLACE");
-    }
-    let root = match words[1].as_str().parse::<u32>() {
-        Ok(root) => root,
-        Err(_) => 50_000
-    };
-    let found = run(alloc, words[0].as_str(), root)?;
-    println!(rt; "{found}")
 }

@@ -1,8 +1,8 @@
 use Rattle.std.proofs.Common.{None, sym}
 use Rattle.window_theory.specs.WindowLaws.{window_belongs}
 use Rattle.subst_core.specs.ListsLaws.{same_belongs}
-use Rattle.subst_bench.proofs.There.{gate_there}
-use Rattle.subst_bench.proofs.spliced_net.Goals as goal
+use Rattle.benchmarks.proofs.There.{gate_there}
+use Rattle.benchmarks.proofs.substituting.spliced_net.Goals as goal
 
 pub window-requires-clause-root : goal.window-requires-clause-root
 window-requires-clause-root c =
