@@ -61,11 +61,11 @@ fn fewest_levels_are_found(rt: HostRuntime) -> Result<(), Fail> {
         ),
     ] {
         let seen = told(rt.alloc(), SYNTH, input.as_bytes())?;
-        assert_eq!(rt; seen.status, 0, "{input}");
+        assert!(rt; seen.status == 0, "{input}");
         assert!(rt; seen.out.written().ends_with(ending.as_bytes()), "{input}");
         assert!(rt; seen.note.written().is_empty(), "{input}");
         let again = told(rt.alloc(), RECHECK, seen.out.written())?;
-        assert_eq!(rt; again.status, 0, "{input}");
+        assert!(rt; again.status == 0, "{input}");
     }
     Ok(())
 }
