@@ -362,12 +362,20 @@ fn agreed(alloc: Global, round: u64) -> Result<Option<bool>, Fail> {
     let cnf = random_formula(alloc, round)?;
     let expected = is_satisfiable(alloc, &cnf)?;
     // twice 3 to the fourth decides all
-    let well = match solve(alloc, &cnf, 162)? {
-        Solved::Sat(assign) => expected && satisfied(&cnf, &assign),
-        Solved::Unsat(log) => !expected && judged(alloc, cnf, &log)? == Some(true),
-        Solved::Open(_) => false,
-    };
-    Ok(if well { Some(expected) } else { None })
+    match solve(alloc, &cnf, 162)? {
+        Solved::Sat(assign) => {
+            if expected && satisfied(&cnf, &assign) {
+                return Ok(Some(true));
+            }
+        }
+        Solved::Unsat(log) => {
+            if !expected && judged(alloc, cnf, &log)? == Some(true) {
+                return Ok(Some(false));
+            }
+        }
+        Solved::Open(_) => {}
+    }
+    Ok(None)
 }
 
 #[test]
