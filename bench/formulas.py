@@ -3,7 +3,7 @@
 
 usage: formulas.py PROGRAM [SIZE]
 
-PROGRAM is the built program formula_bench. The table is one output of six inputs, which is 1 where three
+PROGRAM is the built program `benchmarks`, asked for `formulas`. The table is one output of six inputs, which is 1 where three
 of them are, so that all inputs may be exchanged; SIZE steps (10 where none is named) over all operators.
 Prints a row for each method: how many formulas the size has, the variables of the one with most, the
 clauses and literals of all together, the least user time of three runs, and the most memory of a run."""
@@ -25,7 +25,7 @@ def run(program, method, size):
     with tempfile.TemporaryFile() as given, tempfile.TemporaryFile() as told:
         given.write(table())
         given.seek(0)
-        child = subprocess.Popen([program, method, str(size)], stdin=given, stdout=told)
+        child = subprocess.Popen([program, "formulas", method, str(size)], stdin=given, stdout=told)
         _, status, used = os.wait4(child.pid, 0)
         if status != 0:
             sys.exit(f"{method} {size}: status {status}")

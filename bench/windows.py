@@ -1,5 +1,5 @@
 #!/usr/bin/env python3
-"""windows.py PROGRAM: makes netlists of 100,000 gates, takes all their windows by PROGRAM (`window_bench`), and prints a
+"""windows.py PROGRAM: makes netlists of 100,000 gates, takes all their windows by PROGRAM (`benchmarks windows`), and prints a
 table: what the program says, the user time, and windows with their specifications a second.
 
 The netlists are a ladder of which each gate reads the one before it and an input, one of gates on any earlier signals,
@@ -45,7 +45,7 @@ def main():
     print('|---|---|---|---|')
     for name, text in (('ladder', ladder()), ('wide', wide(1, 0)), ('near', wide(2, 40))):
         before = resource.getrusage(resource.RUSAGE_CHILDREN).ru_utime
-        done = subprocess.run([program], input=text.encode(), stdout=subprocess.PIPE, check=True)
+        done = subprocess.run([program, 'windows'], input=text.encode(), stdout=subprocess.PIPE, check=True)
         spent = resource.getrusage(resource.RUSAGE_CHILDREN).ru_utime - before
         says = done.stdout.decode().strip()
         print(f'| {name} | {says} | {spent:.1f} s | {int(says.split()[0]) / spent:,.0f} |')

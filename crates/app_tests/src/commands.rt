@@ -1,5 +1,5 @@
 //! Runs of each command on memory, as tables: what comes in, the status, and what stands outside.
-use crate::running::{Seen, run_failing, told};
+use crate::running::{Seen, told};
 use std::alloc::{AllocError, Global};
 use std::test::Fail;
 
@@ -19,32 +19,6 @@ const REFUSED: &str =
 
 const CUT: &str =
     "chains 1\ninputs 1\n10\nbasis 0001\nmethod ssv\nconflicts 100000\nmax 1\nsize 0\nrefuted\ndone\nsize 1\nrefuted\n27 -5 0 4 25 26 22 20 0\n28 0 4 25 26 27 18 16 0\ndone\n";
-
-/// The numbers of the calls that are to fail, a digit each.
-fn failing(alloc: Global, digits: &str) -> Result<Vec<u64>, AllocError> {
-    let mut calls = Vec::new(alloc);
-    for digit in digits.as_bytes() {
-        calls.push(u64::from(*digit & 15))?;
-    }
-    Ok(calls)
-}
-
-/// Runs on memory. Calls on the source, on the output and on the notes may be made to fail.
-fn run_on(
-    alloc: Global,
-    line: &str,
-    input: &[u8],
-    fails: (&str, &str, &str),
-) -> Result<Seen, AllocError> {
-    run_failing(
-        alloc,
-        line,
-        input,
-        failing(alloc, fails.0)?,
-        failing(alloc, fails.1)?,
-        failing(alloc, fails.2)?,
-    )
-}
 
 #[test]
 fn agree_tells(rt: HostRuntime) -> Result<(), Fail> {
@@ -124,82 +98,11 @@ fn synth_tells(rt: HostRuntime) -> Result<(), Fail> {
     Ok(())
 }
 
-#[test]
-fn certificates_are_found_valid_again(rt: HostRuntime) -> Result<(), Fail> {
-    let alloc = rt.alloc();
-    for (line, input, status, verdict) in [
-        ("synth --method plain", "inputs 2\n0110\n", 0, "minimum 1\n"),
-        ("synth", "inputs 3\n00000001\n", 0, "minimum 2\n"),
-        (
-            "synth --method select",
-            "inputs 3\n00000001\n",
-            0,
-            "minimum 2\n",
-        ),
-        (
-            "synth --method fence",
-            "inputs 3\n00000001\n",
-            0,
-            "minimum 2\n",
-        ),
-        ("synth --max 1", "inputs 3\n00000001\n", 0, "none 1\n"),
-        // the full adder, with next to no work
-        (
-            "synth --method plain --conflicts 1 --max 2",
-            "inputs 3\n01101001\n00010111\n",
-            4,
-            "open 2\n",
-        ),
-    ] {
-        let made = told(alloc, line, input.as_bytes())?;
-        let judged = told(alloc, "recheck", made.out.written())?;
-        assert_eq!(rt; made.status, status, "{line}");
-        assert!(rt; judged.tells(0, verdict, ""), "{line}");
-    }
-    Ok(())
-}
-
-#[test]
-fn faults_are_told(rt: HostRuntime) -> Result<(), Fail> {
-    for (fails, status, out, note) in [
-        (("1", "", ""), 5, "", "error: ReadFault\n"),
-        (("2", "", ""), 5, "", "error: ReadFault\n"),
-        (("", "1", ""), 6, "", "error: WriteFault\n"),
-        (("", "", "1"), 0, "agrees\n", ""),
-        (("1", "", "1"), 5, "", ""),
-    ] {
-        let seen = run_on(rt.alloc(), "agree", XOR.as_bytes(), fails)?;
-        assert!(rt; seen.tells(status, out, note), "{fails:?}");
-    }
-    Ok(())
-}
-
 /// A netlist whose gate q is read by nothing, and that one without it.
 const TWO: &str =
     ".model x\n.inputs a b\n.outputs p\n.names a b p\n10 1\n.names a b q\n01 1\n.end\n";
 
 const ONE_LEFT: &str = ".model x\n.inputs a b\n.outputs p\n.names a b p\n10 1\n.end\n";
-
-#[test]
-fn reports_are_cut_where_the_notes_fail(rt: HostRuntime) -> Result<(), Fail> {
-    for (calls, status, note) in [
-        ("1", 6, "error: WriteFault\n"),
-        ("12", 6, ""),
-        ("13", 6, "error:"),
-        ("15", 6, "error: WriteFault"),
-        // the report is one call, and no call comes behind it
-        ("2", 0, "gates 2 -> 1\nsettled\n"),
-    ] {
-        let seen = run_on(
-            rt.alloc(),
-            "improve --cap 0",
-            TWO.as_bytes(),
-            ("", "", calls),
-        )?;
-        assert!(rt; seen.tells(status, ONE_LEFT, note), "{calls}");
-    }
-    Ok(())
-}
 
 /// AND of two inputs, and a constant 0.
 const AND: &str = ".model p\n.inputs a b\n.outputs y\n.names a b y\n11 1\n.end\n";
@@ -281,33 +184,18 @@ fn equiv_tells_its_log(rt: HostRuntime) -> Result<(), Fail> {
 fn gen_tells(rt: HostRuntime) -> Result<(), Fail> {
     let one =
         ".model gen\n.inputs a0 b0\n.outputs y0\n.names a0 b0 p0\n10 1\n.names a0 b0 q0\n01 1\n.names p0 q0 y0\n1- 1\n-1 1\n.end\n";
-    for (line, fails, status, out, note) in [
-        ("gen --blocks 1", ("1", "", ""), 0, one, ""),
-        (
-            "gen --blocks 1",
-            ("", "1", ""),
-            6,
-            "",
-            "error: WriteFault\n",
-        ),
-        ("gen --blocks 0", ("", "", ""), 1, "", "error: Usage\n"),
+    for (line, status, out, note) in [
+        ("gen --blocks 1", 0, one, ""),
+        ("gen --blocks 0", 1, "", "error: Usage\n"),
         (
             "gen --run improve --blocks 1",
-            ("1", "", ""),
             0,
             ".model gen\n.inputs a0 b0\n.outputs y0\n.names a0 b0 y0\n01 1\n10 1\n.end\n",
             "gates 3 -> 1\nsettled\n",
         ),
-        (
-            "gen --run improve --blocks 1",
-            ("", "", "1"),
-            6,
-            ".model gen\n.inputs a0 b0\n.outputs y0\n.names a0 b0 y0\n01 1\n10 1\n.end\n",
-            "error: WriteFault\n",
-        ),
     ] {
-        let seen = run_on(rt.alloc(), line, b"unread", fails)?;
-        assert!(rt; seen.tells(status, out, note), "{line} {fails:?}");
+        let seen = told(rt.alloc(), line, b"unread")?;
+        assert!(rt; seen.tells(status, out, note), "{line}");
     }
     Ok(())
 }
@@ -323,12 +211,14 @@ fn zeros(alloc: Global, length: usize) -> Result<String, AllocError> {
 
 #[test]
 fn inputs_have_a_greatest_length(rt: HostRuntime) -> Result<(), Fail> {
-    let greatest = zeros(rt.alloc(), 65_536)?;
-    let longer = zeros(rt.alloc(), 65_537)?;
-    let seen = told(rt.alloc(), "synth", greatest.as_bytes())?;
-    assert!(rt; seen.tells(2, "", "error: BadHeader 1\n"));
-    let seen = told(rt.alloc(), "synth", longer.as_bytes())?;
-    assert!(rt; seen.tells(3, "", "error: TooLong\n"));
+    for (length, status, note) in [
+        (65_536usize, 2, "error: BadHeader 1\n"),
+        (65_537, 3, "error: TooLong\n"),
+    ] {
+        let text = zeros(rt.alloc(), length)?;
+        let seen = told(rt.alloc(), "synth", text.as_bytes())?;
+        assert!(rt; seen.tells(status, "", note), "{length}");
+    }
     Ok(())
 }
 

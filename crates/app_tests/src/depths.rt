@@ -47,6 +47,14 @@ fn is_judged(
     Ok(seen.is(status, out.as_bytes(), note.as_bytes()))
 }
 
+/// Whether `synth` writes a certificate of the fewest levels with this ending, which is found valid.
+fn is_found(rt: &HostRuntime, input: &str, ending: &str) -> Result<bool, Fail> {
+    let seen = told(rt.alloc(), SYNTH, input.as_bytes())?;
+    let again = told(rt.alloc(), RECHECK, seen.out.written())?;
+    let well = seen.status == 0 && seen.note.written().is_empty() && again.status == 0;
+    Ok(well && seen.out.written().ends_with(ending.as_bytes()))
+}
+
 #[test]
 fn fewest_levels_are_found(rt: HostRuntime) -> Result<(), Fail> {
     for (input, ending) in [
@@ -60,25 +68,8 @@ fn fewest_levels_are_found(rt: HostRuntime) -> Result<(), Fail> {
             "minimum 0\nend\ndepth 0\nlevels 0\nend\n",
         ),
     ] {
-        let seen = told(rt.alloc(), SYNTH, input.as_bytes())?;
-        assert_eq!(rt; seen.status, 0, "{input}");
-        assert!(rt; seen.out.written().ends_with(ending.as_bytes()), "{input}");
-        assert!(rt; seen.note.written().is_empty(), "{input}");
-        let again = told(rt.alloc(), RECHECK, seen.out.written())?;
-        assert_eq!(rt; again.status, 0, "{input}");
-    }
-    Ok(())
-}
-
-#[test]
-fn spent_budgets_leave_levels_open(rt: HostRuntime) -> Result<(), Fail> {
-    for (ending, status, out, note) in [
-        ("levels-bounded 1 2\nend\n", 0, "levels-bounded 1 2\n", ""),
-        ("levels 2\nend\n", 8, "", "error: WrongLevels 30\n"),
-    ] {
-        let text = bundle(&rt, OPEN, "", "", ending)?;
-        let is_told = is_judged(&rt, &text, status, out, note)?;
-        assert!(rt; is_told, "{ending}");
+        let well = is_found(&rt, input, ending)?;
+        assert!(rt; well, "{input}");
     }
     Ok(())
 }
@@ -86,6 +77,25 @@ fn spent_budgets_leave_levels_open(rt: HostRuntime) -> Result<(), Fail> {
 #[test]
 fn depth_bundles_are_judged(rt: HostRuntime) -> Result<(), Fail> {
     for (front, depth, logs, ending, status, out, note) in [
+        // a budget that is spent leaves levels open
+        (
+            OPEN,
+            "",
+            "",
+            "levels-bounded 1 2\nend\n",
+            0,
+            "levels-bounded 1 2\n",
+            "",
+        ),
+        (
+            OPEN,
+            "",
+            "",
+            "levels 2\nend\n",
+            8,
+            "",
+            "error: WrongLevels 30\n",
+        ),
         (
             FRONT,
             "depth 2\n",

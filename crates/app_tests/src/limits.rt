@@ -39,6 +39,7 @@ fn is_refused_at(
 
 #[test]
 fn names_and_lines_have_a_greatest_length(rt: HostRuntime) -> Result<(), Fail> {
+    let (blif, bench) = ("improve --cap 0", "improve --cap 0 --format bench");
     let name = (
         b".model l\n.inputs a ".as_slice(),
         b"\n.outputs a\n.end\n".as_slice(),
@@ -47,49 +48,38 @@ fn names_and_lines_have_a_greatest_length(rt: HostRuntime) -> Result<(), Fail> {
         b".model l\n#".as_slice(),
         b"\n.inputs a\n.outputs a\n.end\n".as_slice(),
     );
-    for (parts, byte, length, refusal) in [
-        (name, b'n', 1_024, b"".as_slice()),
-        (name, b'n', 1_025, b"error: NameTooLong 2\n".as_slice()),
-        (comment, b'#', 1_048_575, b"".as_slice()),
-        (
-            comment,
-            b'#',
-            1_048_576,
-            b"error: LineTooLong 2\n".as_slice(),
-        ),
+    let bench_name = (b"INPUT(a)\nINPUT(".as_slice(), b")\nOUTPUT(a)\n".as_slice());
+    let bench_comment = (b"INPUT(a)\n#".as_slice(), b"\nOUTPUT(a)\n".as_slice());
+    let (long_name, long_line) = (
+        b"error: NameTooLong 2\n".as_slice(),
+        b"error: LineTooLong 2\n".as_slice(),
+    );
+    for (line, parts, byte, length, refusal) in [
+        (blif, name, b'n', 1_024, b"".as_slice()),
+        (blif, name, b'n', 1_025, long_name),
+        (blif, comment, b'#', 1_048_575, b"".as_slice()),
+        (blif, comment, b'#', 1_048_576, long_line),
+        (bench, bench_name, b'n', 1_024, b"".as_slice()),
+        (bench, bench_name, b'n', 1_025, long_name),
+        (bench, bench_comment, b'#', 1_048_575, b"".as_slice()),
+        (bench, bench_comment, b'#', 1_048_576, long_line),
     ] {
-        let well = is_refused_at(rt.alloc(), "improve --cap 0", parts, byte, length, refusal)?;
-        assert!(rt; well, "{length}");
+        let well = is_refused_at(rt.alloc(), line, parts, byte, length, refusal)?;
+        assert!(rt; well, "{line} {length}");
     }
     Ok(())
 }
 
-#[test]
-fn names_and_lines_of_bench_have_a_greatest_length(rt: HostRuntime) -> Result<(), Fail> {
-    let name = (b"INPUT(a)\nINPUT(".as_slice(), b")\nOUTPUT(a)\n".as_slice());
-    let comment = (b"INPUT(a)\n#".as_slice(), b"\nOUTPUT(a)\n".as_slice());
-    for (parts, byte, length, refusal) in [
-        (name, b'n', 1_024, b"".as_slice()),
-        (name, b'n', 1_025, b"error: NameTooLong 2\n".as_slice()),
-        (comment, b'#', 1_048_575, b"".as_slice()),
-        (
-            comment,
-            b'#',
-            1_048_576,
-            b"error: LineTooLong 2\n".as_slice(),
-        ),
-    ] {
-        let well = is_refused_at(
-            rt.alloc(),
-            "improve --format bench --cap 0",
-            parts,
-            byte,
-            length,
-            refusal,
-        )?;
-        assert!(rt; well, "{length}");
-    }
-    Ok(())
+/// Whether a run without faults ends with this status, and tells this on the notes.
+fn notes(
+    alloc: Global,
+    line: &str,
+    text: &[u8],
+    status: u8,
+    note: &[u8],
+) -> Result<bool, AllocError> {
+    let seen = told(alloc, line, text)?;
+    Ok(seen.status == status && seen.note.written() == note)
 }
 
 /// A table of so many inputs, all of them a, whose one cube asks nothing.
@@ -110,11 +100,8 @@ fn tables_have_a_greatest_width(rt: HostRuntime) -> Result<(), Fail> {
     ] {
         let table = wide(rt.alloc(), width)?;
         let text = joined(rt.alloc(), [table.as_slice(), b" 1\n", b".end\n"])?;
-        let seen = told(rt.alloc(), "improve --cap 0", &text)?;
-        assert!(rt;
-            seen.status == status && seen.note.written() == note,
-            "{width}"
-        );
+        let well = notes(rt.alloc(), "improve --cap 0", &text, status, note)?;
+        assert!(rt; well, "{width}");
     }
     Ok(())
 }
@@ -136,11 +123,14 @@ fn gates_of_bench_have_a_greatest_width(rt: HostRuntime) -> Result<(), Fail> {
         (257, 3, b"error: TooWide 3\n".as_slice()),
     ] {
         let text = wide_gate(rt.alloc(), operands)?;
-        let seen = told(rt.alloc(), "improve --format bench --cap 0", &text)?;
-        assert!(rt;
-            seen.status == status && seen.note.written() == note,
-            "{operands}"
-        );
+        let well = notes(
+            rt.alloc(),
+            "improve --format bench --cap 0",
+            &text,
+            status,
+            note,
+        )?;
+        assert!(rt; well, "{operands}");
     }
     Ok(())
 }
@@ -173,11 +163,8 @@ fn tables_have_a_greatest_number_of_rows(rt: HostRuntime) -> Result<(), Fail> {
         (4_097, 3, b"error: TooManyRows 4100\n".as_slice()),
     ] {
         let text = rows(rt.alloc(), count)?;
-        let seen = told(rt.alloc(), "improve --cap 0", &text)?;
-        assert!(rt;
-            seen.status == status && seen.note.written() == note,
-            "{count}"
-        );
+        let well = notes(rt.alloc(), "improve --cap 0", &text, status, note)?;
+        assert!(rt; well, "{count}");
     }
     Ok(())
 }
@@ -201,73 +188,53 @@ fn netlists_have_a_greatest_number_of_gates(rt: HostRuntime) -> Result<(), Fail>
         (100_001, 3, b"error: TooManyGates 100001\n".as_slice()),
     ] {
         let text = ladder(rt.alloc(), gates)?;
-        let seen = told(rt.alloc(), "improve --cap 0", &text)?;
-        assert!(rt;
-            seen.status == status && seen.note.written() == note,
-            "{gates}"
-        );
-    }
-    Ok(())
-}
-
-#[test]
-fn netlists_of_bench_that_depend_on_themselves_are_refused(rt: HostRuntime) -> Result<(), Fail> {
-    for (input, status, note) in [
-        (
-            "INPUT(a)\nOUTPUT(y)\ny = AND(y, a)\n",
-            2,
-            "error: Cycle y\n",
-        ),
-        (
-            "INPUT(a)\nINPUT(a)\nOUTPUT(a)\n",
-            2,
-            "error: DrivenTwice a\n",
-        ),
-        (
-            "INPUT(a)\nOUTPUT(q)\nq = DFF(q)\n",
-            0,
-            "gates 0 -> 0\nsettled\n",
-        ),
-        (
-            "INPUT(a)\nOUTPUT(q)\nq = DFF(a)\nq = NOT(a)\n",
-            2,
-            "error: DrivenTwice q\n",
-        ),
-    ] {
-        let seen = told(rt.alloc(), "improve --format bench", input.as_bytes())?;
-        assert!(rt;
-            seen.status == status && seen.note.written() == note.as_bytes(),
-            "{input}"
-        );
+        let well = notes(rt.alloc(), "improve --cap 0", &text, status, note)?;
+        assert!(rt; well, "{gates}");
     }
     Ok(())
 }
 
 #[test]
 fn netlists_that_depend_on_themselves_are_refused(rt: HostRuntime) -> Result<(), Fail> {
-    for (input, status, note) in [
+    let (blif, bench) = ("improve", "improve --format bench");
+    let settled = "gates 0 -> 0\nsettled\n";
+    for (line, input, status, note) in [
         (
+            blif,
             ".inputs a\n.outputs n\n.names a n n\n11 1\n",
             2,
             "error: Cycle n\n",
         ),
+        (blif, ".inputs a\n.outputs q\n.latch q q 0\n", 0, settled),
         (
-            ".inputs a\n.outputs q\n.latch q q 0\n",
-            0,
-            "gates 0 -> 0\nsettled\n",
-        ),
-        (
+            blif,
             ".inputs a\n.outputs q\n.latch a q 0\n.names a q\n1 1\n",
             2,
             "error: DrivenTwice q\n",
         ),
-        (".inputs a\\ b\n", 2, "error: Syntax 1\n"),
+        (blif, ".inputs a\\ b\n", 2, "error: Syntax 1\n"),
+        (
+            bench,
+            "INPUT(a)\nOUTPUT(y)\ny = AND(y, a)\n",
+            2,
+            "error: Cycle y\n",
+        ),
+        (
+            bench,
+            "INPUT(a)\nINPUT(a)\nOUTPUT(a)\n",
+            2,
+            "error: DrivenTwice a\n",
+        ),
+        (bench, "INPUT(a)\nOUTPUT(q)\nq = DFF(q)\n", 0, settled),
+        (
+            bench,
+            "INPUT(a)\nOUTPUT(q)\nq = DFF(a)\nq = NOT(a)\n",
+            2,
+            "error: DrivenTwice q\n",
+        ),
     ] {
-        let seen = told(rt.alloc(), "improve", input.as_bytes())?;
-        assert!(rt;
-            seen.status == status && seen.note.written() == note.as_bytes(),
-            "{input}"
-        );
+        let well = notes(rt.alloc(), line, input.as_bytes(), status, note.as_bytes())?;
+        assert!(rt; well, "{input}");
     }
     Ok(())
 }

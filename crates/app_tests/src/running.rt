@@ -51,23 +51,6 @@ pub(crate) fn words_of(alloc: Global, line: &str) -> Result<Vec<String>, AllocEr
     Ok(words)
 }
 
-/// Runs on memory, where these calls of the source, of the output and of the notes fail.
-pub(crate) fn run_failing(
-    alloc: Global,
-    line: &str,
-    input: &[u8],
-    reads: Vec<u64>,
-    writes: Vec<u64>,
-    notes: Vec<u64>,
-) -> Result<Seen, AllocError> {
-    let words = words_of(alloc, line)?;
-    let mut source = MemorySource::new(Vec::from_slice(alloc, input)?, reads);
-    let mut out = MemorySink::new(alloc, writes);
-    let mut note = MemorySink::new(alloc, notes);
-    let status = run(alloc, &words, &mut source, &mut out, &mut note).number();
-    Ok(Seen { status, out, note })
-}
-
 /// Runs on memory, where calls of the source, of the output and of the notes may fail.
 pub(crate) fn run_on(
     alloc: Global,
@@ -77,10 +60,16 @@ pub(crate) fn run_on(
     writes: Fails,
     notes: Fails,
 ) -> Result<Seen, AllocError> {
+    let words = words_of(alloc, line)?;
+    let input = Vec::from_slice(alloc, input)?;
     let reads = calls(alloc, reads)?;
     let writes = calls(alloc, writes)?;
     let notes = calls(alloc, notes)?;
-    run_failing(alloc, line, input, reads, writes, notes)
+    let mut source = MemorySource::new(input, reads);
+    let mut out = MemorySink::new(alloc, writes);
+    let mut note = MemorySink::new(alloc, notes);
+    let status = run(alloc, &words, &mut source, &mut out, &mut note).number();
+    Ok(Seen { status, out, note })
 }
 
 /// Runs where nothing fails.

@@ -1,1 +1,3 @@
 pub mod Numbers
+mod Nets
+mod There

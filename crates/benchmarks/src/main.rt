@@ -1,17 +1,28 @@
-//! The program `benchmarks`: a word names the benchmark, whose input stands on the standard input. What
+//! The program `benchmarks`: the first word names the benchmark, whose input stands on the standard input. What
 //! it prints says that the work was done; how long that took is measured from outside.
 #![tactic(auto)]
 
+mod building;
 mod check;
+mod counting;
 mod newness;
 mod solving;
+mod substituting;
 
+use blif_core::read_blif;
 use port_io::{InputPort, read_all};
 use std::alloc::{AllocError, Global};
 use std::{env, io};
+use text_core::number_up_to;
 
 /// The most bytes that a benchmark reads.
 const MOST_BYTES: usize = 1_000_000_000;
+
+/// The most bytes of a netlist.
+const MOST_OF_A_NETLIST: usize = 100_000_000;
+
+/// The most bytes of tables.
+const MOST_OF_TABLES: usize = 65_536;
 
 /// What `check` found, in words.
 fn report_check(alloc: Global, bytes: &[u8]) -> Result<String, AllocError> {
@@ -43,7 +54,54 @@ fn report_solve(alloc: Global, bytes: &[u8]) -> Result<String, AllocError> {
     }
 }
 
-/// What the benchmark of a name found, in words.
+/// What the windows of a netlist have, in words.
+fn report_windows(alloc: Global, bytes: &[u8]) -> Result<String, AllocError> {
+    if bytes.len() > MOST_OF_A_NETLIST {
+        return String::from_str(alloc, "too long");
+    }
+    let Ok(circuit) = read_blif(alloc, bytes) else {
+        return String::from_str(alloc, "no netlist");
+    };
+    let count = counting::count_all(alloc, &circuit.net)?;
+    format!(in alloc;
+        "{} windows: {} gates, {} inputs, {} outputs, {} care rows",
+        count.windows, count.gates, count.inputs, count.outputs, count.rows
+    )
+}
+
+/// How large the formulas of tables are by a method and for a number of steps, in words.
+fn report_formulas(
+    alloc: Global,
+    method: &str,
+    steps: &str,
+    bytes: &[u8],
+) -> Result<String, AllocError> {
+    let Some(r) = number_up_to(16, steps.as_bytes()) else {
+        return String::from_str(alloc, "no size");
+    };
+    if bytes.len() > MOST_OF_TABLES {
+        return String::from_str(alloc, "too long");
+    }
+    match building::build(alloc, method.as_bytes(), bytes, r) {
+        Some(size) => format!(in alloc;
+            "{} formulas, {} variables, {} clauses, {} literals",
+            size.formulas, size.vars, size.clauses, size.literals
+        ),
+        None => String::from_str(alloc, "no formula"),
+    }
+}
+
+/// How many gates there are after the changes that a word names, at a place, in words.
+fn report_changes(alloc: Global, word: &str, place: &str) -> Result<String, AllocError> {
+    let root = match place.parse::<u32>() {
+        Ok(root) => root,
+        Err(_) => 50_000,
+    };
+    let found = substituting::substitute(alloc, word, root)?;
+    format!(in alloc; "{found}")
+}
+
+/// What the benchmark of a name found in a text, in words.
 fn report(alloc: Global, name: &str, bytes: &[u8]) -> Result<String, AllocError> {
     if name == "check" {
         return report_check(alloc, bytes);
@@ -54,10 +112,30 @@ fn report(alloc: Global, name: &str, bytes: &[u8]) -> Result<String, AllocError>
     if name == "solve" {
         return report_solve(alloc, bytes);
     }
-    String::from_str(alloc, "there are check, new and solve")
+    if name == "windows" {
+        return report_windows(alloc, bytes);
+    }
+    String::from_str(
+        alloc,
+        "there are check, new, solve, windows, formulas METHOD SIZE and substitute WORD PLACE",
+    )
 }
 
-/// Runs the benchmark that the first word names.
+/// What the benchmark that the words name found, in words.
+fn report_words(alloc: Global, words: &[String], bytes: &[u8]) -> Result<String, AllocError> {
+    if words.len() == 1 {
+        return report(alloc, words[0].as_str(), bytes);
+    }
+    if words.len() == 3 && words[0].as_str() == "formulas" {
+        return report_formulas(alloc, words[1].as_str(), words[2].as_str(), bytes);
+    }
+    if words.len() == 3 && words[0].as_str() == "substitute" {
+        return report_changes(alloc, words[1].as_str(), words[2].as_str());
+    }
+    report(alloc, "", bytes)
+}
+
+/// Runs the benchmark that the words name.
 fn main(rt: HostRuntime) -> io::Result<()> {
     let alloc = rt.alloc();
     let words: Vec<String> = env::args(&rt)?.skip(1).collect(alloc)?;
@@ -65,9 +143,6 @@ fn main(rt: HostRuntime) -> io::Result<()> {
     let Ok(bytes) = read_all(alloc, &mut source, MOST_BYTES) else {
         return println!(rt; "no input");
     };
-    if words.len() != 1 {
-        return println!(rt; "usage: benchmarks check | new | solve");
-    }
-    let found = report(alloc, words[0].as_str(), &bytes)?;
+    let found = report_words(alloc, &words, &bytes)?;
     println!(rt; "{found}")
 }

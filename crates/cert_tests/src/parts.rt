@@ -85,8 +85,9 @@ fn logs_are_read(rt: HostRuntime) -> Result<(), Fail> {
         ),
     ] {
         let reader = reader(alloc, conflicts, end)?;
-        assert!(rt; reader.ended() == end);
-        assert_eq!(rt; second(alloc, reader, (first, line)), answer);
+        let ended = reader.ended() == end;
+        let told = second(alloc, reader, (first, line));
+        assert!(rt; ended && told == answer, "{told:?}");
     }
     Ok(())
 }

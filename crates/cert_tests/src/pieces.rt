@@ -48,52 +48,35 @@ fn is_the_same_in_pieces(alloc: Global, text: &[u8]) -> bool {
 #[test]
 fn certificates_come_in_pieces(rt: HostRuntime) -> Result<(), Fail> {
     let alloc = rt.alloc();
-    for (line, by) in [
-        (0usize, b"" as &[u8]),
-        (5, b"method ssv\n"),
-        (5, b"method select\n"),
-        (12, b"x3 x1 x2 1001\n"),
-        (4, b"basis 0001\n"),
-        (14, b"minimum 2\n"),
-        (11, b"chain 2\n"),
-        (15, b""),
-        (15, b"end\n\n"),
+    let (chain, log, titles) = (
+        XOR.as_slice(),
+        NOT_BY_AND.as_slice(),
+        NOT_BY_FENCES.as_slice(),
+    );
+    for (lines, line, by) in [
+        (chain, 0usize, b"" as &[u8]),
+        (chain, 5, b"method ssv\n"),
+        (chain, 5, b"method select\n"),
+        (chain, 12, b"x3 x1 x2 1001\n"),
+        (chain, 4, b"basis 0001\n"),
+        (chain, 14, b"minimum 2\n"),
+        (chain, 11, b"chain 2\n"),
+        (chain, 15, b""),
+        (chain, 15, b"end\n\n"),
+        (log, 0, b""),
+        (log, 13, b"24 -5 0 1 2 3 4 6 7 20 0\n"),
+        (log, 11, b"size 2\n"),
+        (log, 14, b""),
+        (log, 12, b"open\n"),
+        (log, 16, b"none 0\n"),
+        (log, 3, b""),
+        (titles, 0, b""),
+        (titles, 9, b"size 1\n"),
+        (titles, 13, b"fence 01\n"),
+        (titles, 18, b"fence 1\n"),
     ] {
-        let text = text_of(alloc, &XOR, (line, by), (0, b""))?;
-        assert!(rt; is_the_same_in_pieces(alloc, &text), "{line}");
-    }
-    Ok(())
-}
-
-#[test]
-fn logs_come_in_pieces(rt: HostRuntime) -> Result<(), Fail> {
-    let alloc = rt.alloc();
-    for (line, by) in [
-        (0usize, b"" as &[u8]),
-        (13, b"24 -5 0 1 2 3 4 6 7 20 0\n"),
-        (11, b"size 2\n"),
-        (14, b""),
-        (12, b"open\n"),
-        (16, b"none 0\n"),
-        (3, b""),
-    ] {
-        let text = text_of(alloc, &NOT_BY_AND, (line, by), (0, b""))?;
-        assert!(rt; is_the_same_in_pieces(alloc, &text), "{line}");
-    }
-    Ok(())
-}
-
-#[test]
-fn titles_come_in_pieces(rt: HostRuntime) -> Result<(), Fail> {
-    let alloc = rt.alloc();
-    for (line, by) in [
-        (0usize, b"" as &[u8]),
-        (9, b"size 1\n"),
-        (13, b"fence 01\n"),
-        (18, b"fence 1\n"),
-    ] {
-        let text = text_of(alloc, &NOT_BY_FENCES, (line, by), (0, b""))?;
-        assert!(rt; is_the_same_in_pieces(alloc, &text), "{line}");
+        let text = text_of(alloc, lines, (line, by), (0, b""))?;
+        assert!(rt; is_the_same_in_pieces(alloc, &text), "{line} {by:?}");
     }
     Ok(())
 }

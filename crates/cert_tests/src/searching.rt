@@ -29,6 +29,19 @@ fn searched(
     found.map_err(|_| Fail::from("want of memory"))
 }
 
+/// Whether a search within 100,000 clauses ends so, with so many sections.
+fn ends_in(
+    alloc: Global,
+    text: &[u8],
+    basis: u16,
+    method: Method,
+    verdict: Verdict,
+    sections: usize,
+) -> Result<bool, Fail> {
+    let bundle = searched(alloc, text, basis, method, 16, 100_000)?;
+    Ok(bundle.verdict == verdict && bundle.sections.len() == sections)
+}
+
 #[test]
 fn fewest_steps_are_found(rt: HostRuntime) -> Result<(), Fail> {
     for (text, basis, method, verdict, sections) in [
@@ -94,9 +107,8 @@ fn fewest_steps_are_found(rt: HostRuntime) -> Result<(), Fail> {
             2,
         ),
     ] {
-        let bundle = searched(rt.alloc(), text, basis, method, 16, 100_000)?;
-        assert_eq!(rt; bundle.verdict, verdict);
-        assert_eq!(rt; bundle.sections.len(), sections);
+        let well = ends_in(rt.alloc(), text, basis, method, verdict, sections)?;
+        assert!(rt; well, "{text:?} {basis}");
     }
     Ok(())
 }
@@ -131,7 +143,7 @@ fn limits_end_a_search(rt: HostRuntime) -> Result<(), Fail> {
         ),
     ] {
         let bundle = searched(rt.alloc(), text, basis, method, max, budget)?;
-        assert_eq!(rt; bundle.verdict, verdict);
+        assert!(rt; bundle.verdict == verdict, "{text:?}");
     }
     Ok(())
 }
@@ -146,11 +158,9 @@ fn search_goes_on_a_size_at_a_time(rt: HostRuntime) -> Result<(), Fail> {
     let Ok(Advance::Section { rest, section }) = search.advance(alloc) else {
         return Err(Fail::from("no answer"));
     };
-    assert_eq!(rt; section.size, 0);
     let Ok(Advance::Ended { chain, verdict }) = rest.advance(alloc) else {
         return Err(Fail::from("no answer"));
     };
-    assert!(rt; chain.is_some());
-    assert_eq!(rt; verdict, Verdict::Minimum(1));
+    assert!(rt; section.size == 0 && chain.is_some() && verdict == Verdict::Minimum(1));
     Ok(())
 }

@@ -81,33 +81,7 @@ fn certificates_end_in_their_verdict(rt: HostRuntime) -> Result<(), Fail> {
     ] {
         let found = certified(rt.alloc(), text, basis, method, 16, 100_000);
         let certificate = found.map_err(|_| Fail::from("refused"))?;
-        assert!(rt; certificate.text.ends_with(end));
-    }
-    Ok(())
-}
-
-#[test]
-fn limits_stand_in_the_verdict(rt: HostRuntime) -> Result<(), Fail> {
-    for (text, basis, max, conflicts, end) in [
-        (
-            b"inputs 2\n0110\n" as &[u8],
-            2,
-            3,
-            100_000,
-            b"\ndone\nnone 3\nend\n" as &[u8],
-        ),
-        // the full adder, with next to no work
-        (
-            b"inputs 3\n01101001\n00010111\n",
-            ALL,
-            2,
-            1,
-            b"\ndone\nopen 2\nend\n",
-        ),
-    ] {
-        let found = certified(rt.alloc(), text, basis, Method::Plain, max, conflicts);
-        let certificate = found.map_err(|_| Fail::from("refused"))?;
-        assert!(rt; certificate.text.ends_with(end));
+        assert!(rt; certificate.text.ends_with(end), "{text:?}");
     }
     Ok(())
 }
@@ -125,8 +99,8 @@ fn whole_certificate_is_written(rt: HostRuntime) -> Result<(), Fail> {
     let certificate = found.map_err(|_| Fail::from("refused"))?;
     let text =
         b"chains 1\ninputs 2\n0--1\nbasis all\nmethod ssv\nconflicts 100000\nmax 16\nchain 0\nout x1\nminimum 0\nend\n";
-    assert_eq!(rt; certificate.text.as_slice(), text.as_slice());
-    assert_eq!(rt; certificate.verdict, Verdict::Minimum(0));
+    let written = certificate.text.as_slice() == text.as_slice();
+    assert!(rt; written && certificate.verdict == Verdict::Minimum(0));
     Ok(())
 }
 
@@ -139,7 +113,7 @@ fn only_tables_are_read(rt: HostRuntime) -> Result<(), Fail> {
         (b"inputs 7\n0110\n", SpecError::TooManyInputs),
     ] {
         let found = certified(rt.alloc(), text, ALL, Method::Ssv, 16, 1).err();
-        assert_eq!(rt; found, Some(error));
+        assert!(rt; found == Some(error), "{text:?}");
     }
     Ok(())
 }

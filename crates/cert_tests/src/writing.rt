@@ -49,6 +49,6 @@ fn pieces_are_spelled(rt: HostRuntime) -> Result<(), Fail> {
     assert!(rt; write_ending(&None, Verdict::Bounded { low: 1, r: 2 }, &mut text).is_ok());
     let expected =
         b"chains 1\ninputs 2\n01-0\n1001\nbasis all\nmethod plain\nconflicts 100000\nmax 16\nsize 0\nrefuted\ndone\nfence 2 1\nopen\n5 2 0 1 2 0\ndone\nbounded 1 2\nend\n";
-    assert_eq!(rt; text.as_slice(), expected.as_slice());
+    assert!(rt; text.as_slice() == expected.as_slice());
     Ok(())
 }

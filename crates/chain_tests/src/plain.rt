@@ -38,17 +38,10 @@ fn a_full_adder_adds(rt: HostRuntime) {
     let steps = full_adder();
     for row in 0..8u32 {
         let sum = (row & 1) + ((row >> 1) & 1) + (row >> 2);
-        assert_eq!(rt;
-            place_value(3, &steps, row, 5),
-            sum & 1 == 1,
-            "sum on row {row}"
-        );
-        assert_eq!(rt;
-            place_value(3, &steps, row, 8),
-            sum > 1,
-            "carry on row {row}"
-        );
-        assert_eq!(rt; place_value(3, &steps, row, 1), row > 3, "x1 on row {row}");
+        let odd = place_value(3, &steps, row, 5) == (sum & 1 == 1);
+        let carry = place_value(3, &steps, row, 8) == (sum > 1);
+        let input = place_value(3, &steps, row, 1) == (row > 3);
+        assert!(rt; odd && carry && input, "{row}");
     }
 }
 
@@ -56,7 +49,7 @@ fn a_full_adder_adds(rt: HostRuntime) {
 fn a_full_adder_has_three_levels(rt: HostRuntime) {
     let steps = full_adder();
     for (place, level) in [(1, 0), (3, 0), (4, 1), (5, 2), (6, 1), (7, 2), (8, 3)] {
-        assert_eq!(rt; place_level(3, &steps, place), level, "x{place}");
+        assert!(rt; place_level(3, &steps, place) == level, "x{place}");
     }
 }
 
@@ -75,9 +68,8 @@ fn a_full_adder_agrees_with_its_tables(rt: HostRuntime) {
         ([Out::Zero, Out::One], b"00-0000-111-1111", true),
         ([Out::Zero, Out::One], b"0000000111111111", false),
     ] {
-        assert_eq!(rt;
-            agrees(3, &steps, &outs, &cells(tables)),
-            wanted,
+        assert!(rt;
+            agrees(3, &steps, &outs, &cells(tables)) == wanted,
             "{outs:?}"
         );
     }

@@ -37,7 +37,6 @@ fn clauses_are_simplified(rt: HostRuntime) {
         return;
     };
     assert!(rt; write_some(rt.alloc(), &mut list).is_ok());
-    assert_eq!(rt; list.vars(), 4);
     let [first, second] = list.clauses() else {
         assert!(rt; false);
         return;
@@ -46,9 +45,8 @@ fn clauses_are_simplified(rt: HostRuntime) {
         assert!(rt; false);
         return;
     };
-    assert_eq!(rt; four.get(), 4);
-    assert_eq!(rt; two.get(), -2);
-    assert!(rt; second.lits().is_empty());
+    let lits = four.get() == 4 && two.get() == -2;
+    assert!(rt; lits && second.lits().is_empty() && list.vars() == 4);
 }
 
 #[test]
@@ -70,7 +68,7 @@ fn bases_allow_cuts(rt: HostRuntime) {
             reapply,
         };
         match read_basis(basis) {
-            Ok(basis) => assert_eq!(rt; cuts(basis), wanted),
+            Ok(basis) => assert!(rt; cuts(basis) == wanted),
             Err(_) => assert!(rt; false),
         }
     }

@@ -72,8 +72,9 @@ fn fences_are_counted(rt: HostRuntime) {
         (9, 84, 212),
         (10, 165, 420),
     ] {
-        assert_eq!(rt; count(rt.alloc(), r, 1), one);
-        assert_eq!(rt; count(rt.alloc(), r, 3), three);
+        let first = count(rt.alloc(), r, 1);
+        let second = count(rt.alloc(), r, 3);
+        assert!(rt; first == one && second == three);
     }
 }
 
@@ -99,7 +100,7 @@ fn live_outputs_decide_the_parts(rt: HostRuntime) {
         (b"inputs 2\n0011\n", 1, 0),
     ] {
         match parts_of_size(rt.alloc(), tables, r) {
-            Some(count) => assert_eq!(rt; count, wanted),
+            Some(count) => assert!(rt; count == wanted),
             None => assert!(rt; false),
         }
     }

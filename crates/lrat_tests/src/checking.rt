@@ -35,9 +35,15 @@ fn answer(alloc: Global, indexed: bool, text: &[u8]) -> Result<Result<(), CheckE
     Ok(checker.feed(read_line(alloc, text)?))
 }
 
+/// Whether new checkers of the contradiction, with an index and without one, say so to a line.
+fn is_answer(alloc: Global, text: &[u8], expected: Result<(), CheckError>) -> Result<bool, Fail> {
+    let plain = answer(alloc, false, text)?;
+    let indexed = answer(alloc, true, text)?;
+    Ok(plain == expected && indexed == expected)
+}
+
 #[test]
 fn lines_hold(rt: HostRuntime) -> Result<(), Fail> {
-    let alloc = rt.alloc();
     for text in [
         b"5 2 0 1 2 0" as &[u8],
         b"5 2 0 2 1 0",
@@ -48,15 +54,14 @@ fn lines_hold(rt: HostRuntime) -> Result<(), Fail> {
         b"1 d 4 2 1 3 0",
         b"1 d 0",
     ] {
-        assert_eq!(rt; answer(alloc, false, text)?, Ok(()), "{text:?}");
-        assert_eq!(rt; answer(alloc, true, text)?, Ok(()), "{text:?}");
+        let holds = is_answer(rt.alloc(), text, Ok(()))?;
+        assert!(rt; holds, "{text:?}");
     }
     Ok(())
 }
 
 #[test]
 fn faults_are_told(rt: HostRuntime) -> Result<(), Fail> {
-    let alloc = rt.alloc();
     for (text, fault) in [
         (b"5 2 0 2 0" as &[u8], CheckError::NoConflict),
         (b"5 2 0 3 4 0", CheckError::NotUnit(3)),
@@ -83,8 +88,8 @@ fn faults_are_told(rt: HostRuntime) -> Result<(), Fail> {
         (b"5 2 0 1 9 0", CheckError::UnknownId(9)),
         (b"5 d 4 9 4 0", CheckError::UnknownDelete(9)),
     ] {
-        assert_eq!(rt; answer(alloc, false, text)?, Err(fault), "{text:?}");
-        assert_eq!(rt; answer(alloc, true, text)?, Err(fault), "{text:?}");
+        let told = is_answer(rt.alloc(), text, Err(fault))?;
+        assert!(rt; told, "{text:?}");
     }
     Ok(())
 }
@@ -129,22 +134,34 @@ const DELETION: [(&[u8], Result<(), CheckError>, bool); 5] = [
 
 #[test]
 fn logs_go_on(rt: HostRuntime) -> Result<(), Fail> {
-    let alloc = rt.alloc();
-    assert_eq!(rt; first_difference(alloc, false, &REFUTATION)?, None);
-    assert_eq!(rt; first_difference(alloc, true, &REFUTATION)?, None);
-    assert_eq!(rt; first_difference(alloc, false, &DELETION)?, None);
-    assert_eq!(rt; first_difference(alloc, true, &DELETION)?, None);
+    for (indexed, lines) in [
+        (false, REFUTATION.as_slice()),
+        (true, REFUTATION.as_slice()),
+        (false, DELETION.as_slice()),
+        (true, DELETION.as_slice()),
+    ] {
+        let row = first_difference(rt.alloc(), indexed, lines)?;
+        assert!(rt; row.is_none(), "{row:?}");
+    }
     Ok(())
+}
+
+/// Whether a new checker of some clauses is refuted, and the empty clause is new to it where it isn't.
+fn is_refuted(alloc: Global, indexed: bool, vars: u32, clauses: &[&[u8]]) -> Result<bool, Fail> {
+    let checker = checker(alloc, indexed, vars, clauses)?;
+    Ok(checker.refuted() && !checker.is_new(&[]))
 }
 
 #[test]
 fn formulas_have_the_empty_clause(rt: HostRuntime) -> Result<(), Fail> {
-    let alloc = rt.alloc();
-    for indexed in [false, true] {
-        let refuted = checker(alloc, indexed, 2, &[b"1 1 0 0", b"2 0 0"])?;
-        assert!(rt; refuted.refuted() && !refuted.is_new(&[]));
-        let open = checker(alloc, indexed, 0, &[])?;
-        assert!(rt; !open.refuted() && open.is_new(&[]));
+    for (indexed, clauses, refuted) in [
+        (false, [b"1 1 0 0" as &[u8], b"2 0 0"].as_slice(), true),
+        (true, [b"1 1 0 0" as &[u8], b"2 0 0"].as_slice(), true),
+        (false, [].as_slice(), false),
+        (true, [b"1 1 0 0" as &[u8]].as_slice(), false),
+    ] {
+        let told = is_refuted(rt.alloc(), indexed, 2, clauses)?;
+        assert!(rt; told == refuted, "{indexed} {refuted}");
     }
     Ok(())
 }
@@ -185,16 +202,33 @@ const NEW_AGAIN: [(&[u8], bool); 3] = [
     (b"1 3 2 -1 0 0", false),
 ];
 
+/// Feeds a line to a checker, and tells whether it was taken and clauses are then as new as the rows say.
+fn goes_on(
+    alloc: Global,
+    checker: &mut Checker,
+    line: &[u8],
+    rows: &[(&[u8], bool)],
+) -> Result<bool, Fail> {
+    let taken = checker.feed(read_line(alloc, line)?).is_ok();
+    Ok(taken && first_unlike(alloc, checker, rows).is_none())
+}
+
+/// Whether clauses are new, no longer new and new again, as the rows say.
+fn are_new(alloc: Global, indexed: bool) -> Result<bool, Fail> {
+    let mut checker = checker(alloc, indexed, 3, &[b"1 1 2 0 0", b"2 -1 3 0 0"])?;
+    if first_unlike(alloc, &checker, &NEW).is_some() {
+        return Ok(false);
+    }
+    let added = goes_on(alloc, &mut checker, b"3 2 3 0 1 2 0", &NO_LONGER_NEW)?;
+    let deleted = goes_on(alloc, &mut checker, b"3 d 1 3 0", &NEW_AGAIN)?;
+    Ok(added && deleted)
+}
+
 #[test]
 fn clauses_are_new(rt: HostRuntime) -> Result<(), Fail> {
-    let alloc = rt.alloc();
     for indexed in [false, true] {
-        let mut checker = checker(alloc, indexed, 3, &[b"1 1 2 0 0", b"2 -1 3 0 0"])?;
-        assert_eq!(rt; first_unlike(alloc, &checker, &NEW), None);
-        assert!(rt; checker.feed(read_line(alloc, b"3 2 3 0 1 2 0")?).is_ok());
-        assert_eq!(rt; first_unlike(alloc, &checker, &NO_LONGER_NEW), None);
-        assert!(rt; checker.feed(read_line(alloc, b"3 d 1 3 0")?).is_ok());
-        assert_eq!(rt; first_unlike(alloc, &checker, &NEW_AGAIN), None);
+        let well = are_new(rt.alloc(), indexed)?;
+        assert!(rt; well, "{indexed}");
     }
     Ok(())
 }

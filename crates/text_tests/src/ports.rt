@@ -128,11 +128,10 @@ fn reads_port(rt: HostRuntime) -> Result<(), Fail> {
         failing: 3,
     });
     let first = read_all(rt.alloc(), &mut port, 5);
-    assert_eq!(rt; first.err(), Some(ReadError::ReadFault));
-    assert_eq!(rt; port.faults(), 1);
+    let failed = first.err() == Some(ReadError::ReadFault);
+    assert!(rt; failed && port.faults() == 1);
     let second = read_all(rt.alloc(), &mut port, 5)?;
-    assert_eq!(rt; second.as_slice(), b"e".as_slice());
-    assert_eq!(rt; port.faults(), 1);
+    assert!(rt; second.as_slice() == b"e".as_slice() && port.faults() == 1);
     Ok(())
 }
 
@@ -176,16 +175,9 @@ fn writes_port(rt: HostRuntime) -> Result<(), Fail> {
         let mut port = OutputPort::new(&mut writer);
         let result = write_all(&mut port, b"abcde");
         let count = port.faults();
-        assert_eq!(rt;
-            result.err(),
-            (faults > 0).then_some(WriteFault::WriteFault)
-        );
-        assert_eq!(rt; count, faults);
-        assert_eq!(rt;
-            writer.bytes.as_slice(),
-            text.as_bytes(),
-            "{most} {failing}"
-        );
+        let told = result.err() == (faults > 0).then_some(WriteFault::WriteFault);
+        let written = writer.bytes.as_slice() == text.as_bytes();
+        assert!(rt; told && count == faults && written, "{most} {failing}");
     }
     Ok(())
 }

@@ -14,14 +14,14 @@ use window_core::{Window, spec_of, window};
 
 /// A window, and a chain that fits it.
 #[derive(Drop)]
-pub struct Pair {
+struct Pair {
     window: Window,
     chain: Chain,
 }
 
 /// The window of a root and a count with the chain of a block, if the chain fits and has no more steps than
 /// the window has gates.
-pub fn pair_of(
+fn pair_of(
     alloc: Global,
     net: &Net,
     root: u32,
@@ -84,11 +84,7 @@ fn agrees(alloc: Global, net: &Net, pair: &Pair) -> Result<bool, AllocError>
 }
 
 /// The nets that the chain leaves, with its dead gates and without, if it agrees.
-pub fn substituted_nets(
-    alloc: Global,
-    net: &Net,
-    pair: &Pair,
-) -> Result<Option<(Net, Net)>, AllocError>
+fn substituted_nets(alloc: Global, net: &Net, pair: &Pair) -> Result<Option<(Net, Net)>, AllocError>
     requires belongs { Belongs net.now pair.now.window }
     requires fits { Fits pair.now.window pair.now.chain }
     requires few { length pair.now.chain.steps ≤ length pair.now.window.gates }
@@ -169,44 +165,6 @@ fn an_out_may_be_an_input(rt: HostRuntime) -> Result<(), AllocError> {
 }
 
 #[test]
-fn an_out_may_be_constant(rt: HostRuntime) -> Result<(), AllocError> {
-    let net = three_gates(rt.alloc())?;
-    let new = spliced(rt.alloc(), net, 3, 1, b"chain 0\nout 1\n")?;
-    let gates = [gate(7, at(1), Sig::One), gate(6, at(1), at(2))];
-    let sinks = [at(3), at(4), Sig::One, at(2)];
-    assert!(rt; is_left(new, gates.as_slice(), sinks.as_slice()));
-    Ok(())
-}
-
-#[test]
-fn two_outs_may_be_one_step(rt: HostRuntime) -> Result<(), AllocError> {
-    // the second gate reads one place twice
-    let gates = [gate(1, at(1), at(2)), gate(1, at(3), at(3))];
-    let sinks = [at(3), at(4), at(4)];
-    let net = net_of(rt.alloc(), 2, gates.as_slice(), sinks.as_slice())?;
-    let block = b"chain 1\nx3 x1 x2 0001\nout x3\nout x3\n";
-    let new = spliced(rt.alloc(), net, 4, 2, block)?;
-    let sinks = [at(3), at(3), at(3)];
-    assert!(rt; is_left(new, [gate(1, at(1), at(2))].as_slice(), sinks.as_slice()));
-    Ok(())
-}
-
-#[test]
-fn a_gate_may_read_constants(rt: HostRuntime) -> Result<(), AllocError> {
-    let gates = [gate(1, at(1), Sig::One), gate(6, at(3), at(2))];
-    let net = net_of(rt.alloc(), 2, gates.as_slice(), [at(4), at(3)].as_slice())?;
-    let new = spliced(rt.alloc(), net, 3, 1, b"chain 0\nout x1\n")?;
-    assert!(rt;
-        is_left(
-            new,
-            [gate(6, at(1), at(2))].as_slice(),
-            [at(3), at(1)].as_slice()
-        )
-    );
-    Ok(())
-}
-
-#[test]
 fn a_window_may_have_no_input(rt: HostRuntime) -> Result<(), AllocError> {
     let sinks = [at(2), at(1), Sig::One, at(2)];
     let net = net_of(
@@ -262,6 +220,14 @@ fn substituted(
     substituted_nets(alloc, &net, &pair)
 }
 
+/// Whether the nets that a chain leaves, with dead gates and without, have these gates and this sink.
+fn are_left(nets: Option<(Net, Net)>, gates: &[Gate], live: &[Gate], sinks: &[Sig]) -> bool {
+    match nets {
+        Some((all, left)) => is_left(Some(all), gates, sinks) && is_left(Some(left), live, sinks),
+        None => false,
+    }
+}
+
 #[test]
 fn a_chain_that_agrees_takes_the_place(rt: HostRuntime) -> Result<(), AllocError> {
     let gates = [
@@ -271,26 +237,15 @@ fn a_chain_that_agrees_takes_the_place(rt: HostRuntime) -> Result<(), AllocError
     ];
     let net = net_of(rt.alloc(), 2, gates.as_slice(), [at(4), at(2)].as_slice())?;
     let new = substituted(rt.alloc(), net, 4, 2, b"chain 1\nx3 x1 x2 0001\nout x3\n")?;
-    let (all, left) = match new {
-        Some((all, left)) => (Some(all), Some(left)),
-        None => (None, None),
-    };
     let gates = [gate(1, at(1), at(2)), gate(6, at(1), at(2))];
-    assert!(rt; is_left(all, gates.as_slice(), [at(3), at(2)].as_slice()));
+    let live = [gate(1, at(1), at(2))];
     assert!(rt;
-        is_left(
-            left,
-            [gate(1, at(1), at(2))].as_slice(),
+        are_left(
+            new,
+            gates.as_slice(),
+            live.as_slice(),
             [at(3), at(2)].as_slice()
         )
     );
-    Ok(())
-}
-
-#[test]
-fn a_chain_that_differs_is_not_taken(rt: HostRuntime) -> Result<(), AllocError> {
-    let net = three_gates(rt.alloc())?;
-    let new = substituted(rt.alloc(), net, 3, 1, b"chain 1\nx3 x1 x2 0111\nout x3\n")?;
-    assert!(rt; new.is_none());
     Ok(())
 }

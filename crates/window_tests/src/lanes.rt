@@ -47,31 +47,15 @@ fn and(place: u32, a: u32, b: u32) -> (u32, Gate) {
 }
 
 #[test]
-fn constants_show_one_pattern(rt: HostRuntime) -> Result<(), AllocError> {
-    let none: [Sig; 0] = [];
-    assert!(rt; shows(rt.alloc(), &[], &[], &[Sig::One], 2)?);
-    assert!(rt; shows(rt.alloc(), &[], &[], &none, 1)?);
-    Ok(())
-}
-
-#[test]
-fn two_of_three_leaves_show_all_patterns(rt: HostRuntime) -> Result<(), AllocError> {
-    assert!(rt; shows(rt.alloc(), &[1, 2, 3], &[], &[at(1), at(3)], 15)?);
-    Ok(())
-}
-
-#[test]
-fn one_assignment_of_seven_leaves_gives_one(rt: HostRuntime) -> Result<(), AllocError> {
-    let leaves = [1, 2, 3, 4, 5, 6, 7];
-    let gates = [
-        and(8, 1, 2),
-        and(9, 8, 3),
-        and(10, 9, 4),
-        and(11, 10, 5),
-        and(12, 11, 6),
-        and(13, 12, 7),
-    ];
-    assert!(rt; shows(rt.alloc(), &leaves, &gates, &[at(13)], 3)?);
+fn leaves_and_constants_show_patterns(rt: HostRuntime) -> Result<(), AllocError> {
+    for (leaves, signals, mask) in [
+        ([].as_slice(), [Sig::One].as_slice(), 2),
+        ([].as_slice(), [].as_slice(), 1),
+        ([1, 2, 3].as_slice(), [at(1), at(3)].as_slice(), 15),
+    ] {
+        let shown = shows(rt.alloc(), leaves, &[], signals, mask)?;
+        assert!(rt; shown, "{mask}");
+    }
     Ok(())
 }
 

@@ -15,8 +15,6 @@ mod plain;
 #[cfg(test)]
 mod specifications;
 #[cfg(test)]
-mod substitutions;
-#[cfg(test)]
 mod surrounds;
 #[cfg(test)]
 mod windows;

@@ -220,7 +220,12 @@ fn is_observed(alloc: Global, sinks: &[Sig], on: u64, care: u64) -> Result<bool,
 #[test]
 fn a_gate_is_seen_where_the_gate_above_lets_it(rt: HostRuntime) -> Result<(), AllocError> {
     // the rows with the first source 1 are the third and the fourth; where the gate is a sink itself all are seen
-    assert!(rt; is_observed(rt.alloc(), [at(4)].as_slice(), 0b1000, 0b1100)?);
-    assert!(rt; is_observed(rt.alloc(), [at(4), at(3)].as_slice(), 0b1001, 0b1111)?);
+    for (sinks, on, care) in [
+        ([at(4)].as_slice(), 0b1000, 0b1100),
+        ([at(4), at(3)].as_slice(), 0b1001, 0b1111),
+    ] {
+        let well = is_observed(rt.alloc(), sinks, on, care)?;
+        assert!(rt; well, "{care}");
+    }
     Ok(())
 }

@@ -126,10 +126,15 @@ fn has_row(
 fn a_surround_has_no_more_than_twelve_leaves(rt: HostRuntime) -> Result<(), AllocError> {
     // AND without OR never happens. It shows where the row opens down to its first AND and that opens too: beside the
     // OR all sources are leaves then, one place more than there are sources
-    assert!(rt; has_row(rt.alloc(), 10, 10, 0b0100, 0b1101)?);
-    assert!(rt; has_row(rt.alloc(), 11, 11, 0b0100, 0b1101)?);
-    assert!(rt; has_row(rt.alloc(), 12, 12, 0b0110, 0b1111)?);
-    assert!(rt; has_row(rt.alloc(), 13, 12, 0b0110, 0b1111)?);
+    for (sources, count, on, care) in [
+        (10, 10, 0b0100, 0b1101),
+        (11, 11, 0b0100, 0b1101),
+        (12, 12, 0b0110, 0b1111),
+        (13, 12, 0b0110, 0b1111),
+    ] {
+        let well = has_row(rt.alloc(), sources, count, on, care)?;
+        assert!(rt; well, "{sources}");
+    }
     Ok(())
 }
 
@@ -143,21 +148,25 @@ fn constant_gates(alloc: Global) -> Result<Option<Net>, AllocError> {
     net_of(alloc, 1, gates.as_slice(), [at(4)].as_slice())
 }
 
+/// Whether the last of those gates has these words, for a window of so many.
+fn has_constant_words(alloc: Global, count: u32, words: u64) -> Result<bool, AllocError> {
+    match constant_gates(alloc)? {
+        Some(net) => has_words(alloc, &net, 4, count, &[words], &[words]),
+        None => Ok(false),
+    }
+}
+
 #[test]
-fn constants_alone_have_no_leaf(rt: HostRuntime) -> Result<(), AllocError> {
-    let Some(net) = constant_gates(rt.alloc())? else {
-        assert!(rt; false);
-        return Ok(());
-    };
-    assert!(rt; leaves(rt.alloc(), &net, &[2, 3])?.is_empty());
-    assert!(rt; has_words(rt.alloc(), &net, 4, 1, &[0b10], &[0b10])?);
-    assert!(rt; has_words(rt.alloc(), &net, 4, 2, &[0b1], &[0b1])?);
-    assert!(rt; has_words(rt.alloc(), &net, 4, 3, &[0b1], &[0b1])?);
+fn constants_alone_have_one_row(rt: HostRuntime) -> Result<(), AllocError> {
+    for (count, words) in [(1, 0b10), (2, 0b1), (3, 0b1)] {
+        let well = has_constant_words(rt.alloc(), count, words)?;
+        assert!(rt; well, "{count}");
+    }
     Ok(())
 }
 
 /// Eight gates over two sources, in a row, all of them sinks.
-pub fn eight_sinks(alloc: Global) -> Result<Option<Net>, AllocError> {
+fn eight_sinks(alloc: Global) -> Result<Option<Net>, AllocError> {
     let mut gates = Vec::new(alloc);
     gates.push(gate(1, at(1), at(2)))?;
     let mut sinks = Vec::new(alloc);
@@ -169,14 +178,19 @@ pub fn eight_sinks(alloc: Global) -> Result<Option<Net>, AllocError> {
     net_of(alloc, 2, &gates, &sinks)
 }
 
+/// Whether the window of all of them has eight outputs, and the specification of the plain program.
+fn are_outputs(alloc: Global) -> Result<bool, AllocError> {
+    let Some(net) = eight_sinks(alloc)? else {
+        return Ok(false);
+    };
+    let window = alone(alloc, &net, 10, 8)?;
+    let eight = window.is_some_and(|window| window.outputs().len() == 8);
+    Ok(eight && is_plain(alloc, &net, 10, 8)?)
+}
+
 #[test]
 fn eight_gates_may_be_outputs(rt: HostRuntime) -> Result<(), AllocError> {
-    let Some(net) = eight_sinks(rt.alloc())? else {
-        assert!(rt; false);
-        return Ok(());
-    };
-    let window = alone(rt.alloc(), &net, 10, 8)?;
-    assert!(rt; window.is_some_and(|window| window.outputs().len() == 8));
-    assert!(rt; is_plain(rt.alloc(), &net, 10, 8)?);
+    let well = are_outputs(rt.alloc())?;
+    assert!(rt; well);
     Ok(())
 }

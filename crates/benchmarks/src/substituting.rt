@@ -1,0 +1,142 @@
+//! Measures what a change of a net costs: a chain of one step in the place of a gate (`splice`), dropping dead gates
+//! (`drop`), and the index of a net (`index`), each done 200 times on a net of 100,000 gates that a fixed generator makes.
+ghost use Rattle.std.specs.Prelude.{◌≡◌, ◌+◌, ◌≤◌, ◌<◌, ◌^◌, vec_len, IfOk, All};
+ghost use Rattle.net_theory.specs.Net.{AreGates, IsSigBelow};
+
+use chain_core::read_chain;
+use net_core::{Gate, Net, Op, Sig, drop_dead};
+use std::alloc::{AllocError, Global};
+use subst_core::{WindowLists, splice};
+use window_core::{readers_of, window};
+
+/// The next number of the generator.
+fn next(seed: u32) -> u32 {
+    seed.wrapping_mul(1664525).wrapping_add(1013904223)
+}
+
+/// One of the last 2,000 places below an end.
+fn place_below(seed: u32, end: u32) -> Sig
+    requires { 2 ≤ end }
+    ensures { IsSigBelow end result }
+{
+    let span = if end - 1 < 2000 { end - 1 } else { 2000 };
+    Sig::Place(end - 1 - (seed >> 4) % span)
+}
+
+/// Gates XOR on places below them.
+fn gates(alloc: Global, sources: u32, count: u32) -> Result<Vec<Gate>, AllocError>
+    requires some { 1 ≤ sources }
+    requires few { sources + count < 2 ^ 31 }
+    ensures gates { IfOk result (λ gates. AreGates sources gates.items) }
+    ensures count { IfOk result (λ gates. vec_len gates ≡ count) }
+{
+    let mut gates = Vec::new(alloc);
+    let mut seed = 1u32;
+    for index in 0..count {
+        let first = next(seed);
+        let second = next(first);
+        seed = second;
+        let end = sources + 1 + index;
+        let gate = Gate {
+            op: Op::new(6),
+            a: place_below(first, end),
+            b: place_below(second, end),
+        };
+        gates.push(gate)?;
+    }
+    Ok(gates)
+}
+
+/// Sinks on the last places.
+fn sinks(alloc: Global, end: u32, count: u32) -> Result<Vec<Sig>, AllocError>
+    requires { count < end }
+    ensures { IfOk result (λ sinks. All (IsSigBelow end) sinks.items) }
+{
+    let mut sinks = Vec::new(alloc);
+    for index in 0..count {
+        sinks.push(Sig::Place(end - 1 - index))?;
+    }
+    Ok(sinks)
+}
+
+/// A net of 100,000 gates over 1,000 sources, with 1,000 sinks.
+fn random_net(alloc: Global) -> Result<Net, AllocError> {
+    let gates = gates(alloc, 1000, 100_000)?;
+    let sinks = sinks(alloc, 101_001, 1_000)?;
+    Ok(Net::new(1000, gates, sinks))
+}
+
+/// The net in which the chain of a block has taken the place of the window of a root and a count.
+fn spliced_net(
+    alloc: Global,
+    net: &Net,
+    root: u32,
+    count: u32,
+    block: &[u8],
+) -> Result<Option<Net>, AllocError> {
+    let sources = net.sources();
+    if root <= sources || root as usize > sources as usize + net.gates().len() {
+        return Ok(None);
+    }
+    if count == 0 || count > 8 || block.len() > 1000 {
+        return Ok(None);
+    }
+    let Some(window) = window(alloc, net, root, None, count)? else {
+        return Ok(None);
+    };
+    let inputs = window.inputs().len() as u32;
+    let outputs = window.outputs().len() as u32;
+    let Ok((chain, _used)) = read_chain(alloc, block, 1, inputs, outputs) else {
+        return Ok(None);
+    };
+    if chain.steps().len() > window.gates().len() {
+        return Ok(None);
+    }
+    let lists = WindowLists {
+        gates: window.gates(),
+        inputs: window.inputs(),
+        outputs: window.outputs(),
+    };
+    Ok(Some(splice(alloc, net, &lists, &chain)?))
+}
+
+/// The net in which XOR has taken the place of a gate, where it can.
+fn spliced(alloc: Global, net: Net, root: u32) -> Result<Net, AllocError> {
+    match spliced_net(
+        alloc,
+        &net,
+        root,
+        1,
+        b"chain 1\nx3 x1 x2 0110\nout x3\n".as_slice(),
+    )? {
+        Some(new) => Ok(new),
+        None => Ok(net),
+    }
+}
+
+/// Makes the index of a net, and drops it.
+fn indexed(alloc: Global, net: &Net) -> Result<(), AllocError> {
+    let _readers = readers_of(alloc, net)?;
+    Ok(())
+}
+
+/// Does what a word says 200 times, and tells how many gates there are then.
+pub fn substitute(alloc: Global, word: &str, root: u32) -> Result<usize, AllocError> {
+    let mut net = random_net(alloc)?;
+    if word == "splice" {
+        for _turn in 0..200u32 {
+            net = spliced(alloc, net, root)?;
+        }
+    }
+    if word == "drop" {
+        for _turn in 0..200u32 {
+            net = drop_dead(alloc, &net)?;
+        }
+    }
+    if word == "index" {
+        for _turn in 0..200u32 {
+            indexed(alloc, &net)?;
+        }
+    }
+    Ok(net.gates().len())
+}

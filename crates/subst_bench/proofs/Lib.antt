@@ -1,2 +1,0 @@
-mod Nets
-mod There

@@ -1,9 +1,0 @@
-use Rattle.std.proofs.Common.{◌≡◌, vec_len}
-use Rattle.net_theory.specs.Net.{AreGates}
-use Rattle.subst_bench.proofs.gates.Given as goal
-
-abbrev pub invariant-loop-index : goal.invariant-loop-index
-invariant-loop-index l = record {
-  gates : AreGates l.sources l.gates.items;
-  count : vec_len l.gates ≡ l.index;
-}
