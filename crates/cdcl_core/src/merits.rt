@@ -33,7 +33,7 @@ const FEW_LEVELS: u32 = 4;
 const RECENT: usize = 2000;
 
 /// So many conflicts are to come before the first clauses go: short searches gain nothing by it.
-const FIRST_DUE: usize = 6000;
+const FIRST_DUE: usize = 2000;
 
 /// So many and the next number are to come before the second time.
 const FIRST_WAIT: usize = 2000;
