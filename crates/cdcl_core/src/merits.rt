@@ -39,7 +39,7 @@ const FIRST_DUE: usize = 2000;
 const FIRST_WAIT: usize = 2000;
 
 /// And so many more each time.
-const LONGER_WAIT: usize = 300;
+const LONGER_WAIT: usize = 75;
 
 /// So many clauses before the one that was learnt last are looked at whether they contain it.
 const LAST_ONES: usize = 20;
