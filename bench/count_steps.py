@@ -20,7 +20,8 @@ GREATEST_SCORE = (1 << 64) - 1
 SHORTEST_RUN = 80
 DEPTH = 1000
 FIRST_ACTIVITY, GREATEST_ACTIVITY, SCALE, ACTIVITY_PART = 1 << 20, 1 << 60, 1 << 40, 1000
-FEW_LEVELS, RECENT, FIRST_DUE, FIRST_WAIT, LONGER_WAIT, LAST_ONES = 4, 2000, 6000, 2000, 300, 20
+FEW_LEVELS, RECENT, FIRST_DUE, FIRST_WAIT, LONGER_WAIT, LAST_ONES = 4, 2000, 2000, 2000, 75, 20
+RECKONED = 40_000
 
 
 class Heap:
@@ -200,13 +201,13 @@ class Analysis:
 
     def begin(self, conflict):
         self.marked, self.touched, self.hints = set(), [], [conflict]
-        self.mark_fallen(self.clauses.lits[conflict])
+        self.mark_fallen(self.clauses.arranged[conflict])
 
     def resolve(self, lit):
         """Puts the other literals of its reason in the place of a marked literal."""
         reason = self.trail.reason[abs(lit)]
         self.marked.remove(lit)
-        self.mark_fallen(self.clauses.lits[reason])
+        self.mark_fallen(self.clauses.arranged[reason])
         self.hints.append(reason)
 
     def reduce(self, start):
@@ -232,7 +233,7 @@ class Analysis:
             return self.follows[variable]
         reason = self.trail.reason[variable]
         follows = depth > 0 and reason > 0 and all(
-            other == -lit or self.judge(other, depth - 1) or other in self.marked for other in self.clauses.lits[reason]
+            other == -lit or self.judge(other, depth - 1) or other in self.marked for other in self.clauses.arranged[reason]
         )
         self.follows[variable] = follows
         if follows:
@@ -420,7 +421,7 @@ class Solver:
         """Lets the variables of the reasons of fallen literals score a part of the step."""
         for lit in fallen:
             if reason := self.trail.reason[abs(lit)]:
-                self.choice.bump(self.clauses.lits[reason], self.choice.step // REASON_PART)
+                self.choice.bump(self.clauses.arranged[reason], self.choice.step // REASON_PART)
 
     def jump(self, conflict):
         """Learns a clause, and goes back to where it is unit."""
@@ -439,9 +440,10 @@ class Solver:
         self.forget(self.merits.containing(lits, self.clauses.lits))
 
     def forget(self, ids):
-        """Deletes the clauses that are no reasons, as long as half of all that were learnt stay."""
+        """Deletes the clauses that are no reasons, as long as half of all that were learnt stay, or half of those
+        that are reckoned with."""
         for id in ids:
-            learnt = len(self.clauses.lits) - 1 - self.merits.given
+            learnt = max(len(self.clauses.lits) - 1 - self.merits.given, self.reckoned)
             lits, trail = self.clauses.lits[id], self.trail
             if 2 * (self.counts["deleted"] + 1) <= learnt and not any(
                 trail.fell[-lit] and trail.reason[abs(lit)] == id for lit in lits
@@ -464,6 +466,7 @@ class Solver:
 
     def solve(self, most=10_000_000):
         """What the search comes to; "Open" where a decision is due behind so many conflicts."""
+        self.reckoned = min(most, RECKONED)
         if [] in self.clauses.lits:
             return "Refuted"
         if conflict := self.begin():

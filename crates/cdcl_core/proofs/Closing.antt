@@ -19,10 +19,12 @@ refuted_thin f s t refuted gone accounted = record {
 
 pub spent_thin : (f : Formula) (budget : ℕ) (s t : Search) → HasSpent f budget s → MoreGone (line_values s.lines.items) (line_values t.lines.items) → IsAccounted f t → (Contains f.clauses [] → ⊥) → IsSpent f (line_values t.lines.items) budget
 spent_thin f budget s t spent gone accounted none =
-    log_spent f t.clauses (line_values t.lines.items) t.deleted budget accounted.log
+    log_spent f t.clauses (line_values t.lines.items) t.deleted t.least budget accounted.log
     (subst (λ (ls : List Line). AreNew f ls) (sym gone.is) (new_gone f (line_values s.lines.items) gone.own gone.ids spent.logged.new))
     none
     (subst (λ (ls : List Line). budget ≤ additions ls) (sym gone.is) (let same : additions (with_gone (line_values s.lines.items) gone.own gone.ids) ≡ additions (line_values s.lines.items) = additions_gone (line_values s.lines.items) gone.own gone.ids in let enough : budget ≤ additions (line_values s.lines.items) = spent.enough in omega arith))
 
-pub kept_thin : (f : Formula) (t : Search) → IsAccounted f t → IsKept f (line_values t.lines.items)
-kept_thin f t accounted = log_kept f t.clauses (line_values t.lines.items) t.deleted accounted.log
+pub kept_thin : (f : Formula) (budget : ℕ) (s t : Search) → HasSpent f budget s → MoreGone (line_values s.lines.items) (line_values t.lines.items) → t.least ≡ s.least → IsAccounted f t → IsKept f (line_values t.lines.items)
+kept_thin f budget s t spent gone same accounted =
+    log_kept f t.clauses (line_values t.lines.items) t.deleted t.least accounted.log
+    (subst (λ (ls : List Line). t.least ≤ additions ls) (sym gone.is) (let as_many : additions (with_gone (line_values s.lines.items) gone.own gone.ids) ≡ additions (line_values s.lines.items) = additions_gone (line_values s.lines.items) gone.own gone.ids in let enough : budget ≤ additions (line_values s.lines.items) = spent.enough in let low : s.least ≤ budget = spent.least in omega (arith, as_many, enough, low, same)))

@@ -1,5 +1,5 @@
 -- The log when clauses go.
-use Rattle.std.proofs.Common.{◌≡◌, ◌≢◌, ℕ, zero, suc, ◌+◌, ◌-◌, ◌*◌, ◌<◌, ◌≤◌, ◌==◌, ◌||◌, ℤ, Bool, true, false, if◌then◌else◌, List, [], ◌∷◌, ◌++◌, length, slice_index_or, slice_get, Contains, All, Any, Option, Some, None, IsSome, is_some, count_by, subst, sym, ap, ◌∙◌, arith, inl, inr, refl}
+use Rattle.std.proofs.Common.{◌⊎◌, ◌≡◌, ◌≢◌, ℕ, zero, suc, ◌+◌, ◌-◌, ◌*◌, ◌<◌, ◌≤◌, ◌==◌, ◌||◌, ℤ, Bool, true, false, if◌then◌else◌, List, [], ◌∷◌, ◌++◌, length, slice_index_or, slice_get, Contains, All, Any, Option, Some, None, IsSome, is_some, count_by, subst, sym, ap, ◌∙◌, arith, inl, inr, refl}
 use Rattle.std.proofs.Math.Logic.{⊎_elim}
 use Rattle.std.proofs.lemmas.Bool.{cases_lt, ne_eqb, eq-eqb}
 use Rattle.std.proofs.lemmas.List.{length-set, length_push, get_or_append_left, get_or_push}
@@ -85,8 +85,8 @@ next_nothing : (st : State) (own : ℕ) → next st (Delete own []) ≡ st
 next_nothing st own = refl
 
 -- A line may delete nothing.
-log_nothing : (f : Formula) (a : Stored) (lines : List Line) (deleted : ℕ) → IsLog f a lines deleted → 0 < length a.clauses → length a.clauses ≤ 4000000000 → IsLog f a (lines ++ Delete (length a.clauses) [] ∷ []) deleted
-log_nothing f a lines deleted log some few = record {
+log_nothing : (f : Formula) (a : Stored) (lines : List Line) (deleted least : ℕ) → IsLog f a lines deleted least → 0 < length a.clauses → length a.clauses ≤ 4000000000 → IsLog f a (lines ++ Delete (length a.clauses) [] ∷ []) deleted least
+log_nothing f a lines deleted least log some few = record {
   vars = log.vars;
   holds = EachLine-push IsStep (start f) lines line log.holds (record {
     is_line = record { own_id = (some, omega (arith, few)); deleted_ids = All-nil IsId };
@@ -98,15 +98,18 @@ log_nothing f a lines deleted log some few = record {
   spares = All-push (SparesFormula f) lines line log.spares (All-nil (λ k. length f.clauses < k));
   ids = ids_delete (length f.clauses + 1) lines (length a.clauses) 0 [] log.ids;
   gone = subst (λ (xs : List ℕ). count_by (λ id. is_some (live_in a id)) xs + deleted ≡ length xs) (sym (added_ids-delete lines (length a.clauses) [])) log.gone;
-  half = (let half : 2 * deleted ≤ additions lines = log.half in let same : additions (lines ++ line ∷ []) ≡ additions lines = additions_delete lines (length a.clauses) [] in omega arith);
+  half = ⊎_elim
+      (λ (low : 2 * deleted ≤ least). inl low)
+      (λ (half : 2 * deleted ≤ additions lines). inr (let same : additions (lines ++ line ∷ []) ≡ additions lines = additions_delete lines (length a.clauses) [] in omega (arith, half, same)))
+      log.half;
 }
   where
     line : Line
     line = Delete (length a.clauses) []
 
 -- The last line deletes one more.
-log_extended : (f : Formula) (a b : Stored) (lines : List Line) (own : ℕ) (ids : List ℕ) (id : ℕ) (clause : List ℤ) (deleted : ℕ) → IsLog f a (lines ++ Delete own ids ∷ []) deleted → IsStored a → live_in a id ≡ Some clause → length f.clauses < id → IsDeleted id a b → 2 * (deleted + 1) + length f.clauses ≤ length a.clauses → IsLog f b (lines ++ Delete own (ids ++ id ∷ []) ∷ []) (deleted + 1)
-log_extended f a b lines own ids id clause deleted log stored is learnt gone room = record {
+log_extended : (f : Formula) (a b : Stored) (lines : List Line) (own : ℕ) (ids : List ℕ) (id : ℕ) (clause : List ℤ) (deleted least : ℕ) → IsLog f a (lines ++ Delete own ids ∷ []) deleted least → IsStored a → live_in a id ≡ Some clause → length f.clauses < id → IsDeleted id a b → (2 * (deleted + 1) ≤ least) ⊎ (2 * (deleted + 1) + length f.clauses ≤ length a.clauses) → IsLog f b (lines ++ Delete own (ids ++ id ∷ []) ∷ []) (deleted + 1) least
+log_extended f a b lines own ids id clause deleted least log stored is learnt gone room = record {
   vars = gone.vars ∙ log.vars;
   holds = EachLine-push IsStep (start f) lines line front step;
   state = after-push (start f) lines line ∙ state_now;
@@ -115,7 +118,10 @@ log_extended f a b lines own ids id clause deleted log stored is learnt gone roo
   spares = All-push (SparesFormula f) lines line (front_all (SparesFormula f) lines (Delete own ids) log.spares) (All-push (λ k. length f.clauses < k) ids id (last_all (SparesFormula f) lines (Delete own ids) log.spares) learnt);
   ids = ids_delete (length f.clauses + 1) lines own 0 (ids ++ id ∷ []) (ids_front (length f.clauses + 1) lines own ids log.ids);
   gone = (let before : count_by p (added_ids lines) + deleted ≡ additions lines = subst (λ (xs : List ℕ). count_by p xs + deleted ≡ length xs) (added_ids-delete lines own ids) log.gone in subst (λ (xs : List ℕ). count_by q xs + (deleted + 1) ≡ length xs) (sym (added_ids-delete lines own (ids ++ id ∷ []))) (omega (arith, before, fewer)));
-  half = (let count : length a.clauses ≡ length f.clauses + additions (lines ++ Delete own ids ∷ []) = log.count in let old : additions (lines ++ Delete own ids ∷ []) ≡ additions lines = additions_delete lines own ids in let now : additions (lines ++ line ∷ []) ≡ additions lines = additions_delete lines own (ids ++ id ∷ []) in omega (arith, count, old, now, room));
+  half = ⊎_elim
+      (λ (low : 2 * (deleted + 1) ≤ least). inl low)
+      (λ (half : 2 * (deleted + 1) + length f.clauses ≤ length a.clauses). inr (let count : length a.clauses ≡ length f.clauses + additions (lines ++ Delete own ids ∷ []) = log.count in let old : additions (lines ++ Delete own ids ∷ []) ≡ additions lines = additions_delete lines own ids in let now : additions (lines ++ line ∷ []) ≡ additions lines = additions_delete lines own (ids ++ id ∷ []) in omega (arith, count, old, now, half)))
+      room;
 }
   where
     line : Line
@@ -194,15 +200,15 @@ log_extended f a b lines own ids id clause deleted log stored is learnt gone roo
         others
 
 -- One more clause goes.
-pub log_lost : (f : Formula) (a b : Stored) (lines : List Line) (ids : List ℕ) (id : ℕ) (clause : List ℤ) (deleted : ℕ) → IsLog f a (with_gone lines (length a.clauses) ids) deleted → IsStored a → live_in a id ≡ Some clause → length f.clauses < id → IsDeleted id a b → 2 * (deleted + 1) + length f.clauses ≤ length a.clauses → IsLog f b (with_gone lines (length b.clauses) (ids ++ id ∷ [])) (deleted + 1)
-log_lost f a b lines [] id clause deleted log stored is learnt gone room =
+pub log_lost : (f : Formula) (a b : Stored) (lines : List Line) (ids : List ℕ) (id : ℕ) (clause : List ℤ) (deleted least : ℕ) → IsLog f a (with_gone lines (length a.clauses) ids) deleted least → IsStored a → live_in a id ≡ Some clause → length f.clauses < id → IsDeleted id a b → (2 * (deleted + 1) ≤ least) ⊎ (2 * (deleted + 1) + length f.clauses ≤ length a.clauses) → IsLog f b (with_gone lines (length b.clauses) (ids ++ id ∷ [])) (deleted + 1) least
+log_lost f a b lines [] id clause deleted least log stored is learnt gone room =
     let long : length b.clauses ≡ length a.clauses = ap length gone.clauses ∙ length-set a.clauses (id - 1) None in
     let inside : (0 < id) × (id ≤ length a.clauses) = live_inside a id clause is in
     let some : 0 < length a.clauses = (let low : 0 < id = inside.0 in let high : id ≤ length a.clauses = inside.1 in omega arith) in
-    subst (λ (n : ℕ). IsLog f b (lines ++ Delete n (id ∷ []) ∷ []) (deleted + 1)) (sym long) (log_extended f a b lines (length a.clauses) [] id clause deleted (log_nothing f a lines deleted log some stored.few) stored is learnt gone room)
-log_lost f a b lines (x ∷ xs) id clause deleted log stored is learnt gone room =
+    subst (λ (n : ℕ). IsLog f b (lines ++ Delete n (id ∷ []) ∷ []) (deleted + 1) least) (sym long) (log_extended f a b lines (length a.clauses) [] id clause deleted least (log_nothing f a lines deleted least log some stored.few) stored is learnt gone room)
+log_lost f a b lines (x ∷ xs) id clause deleted least log stored is learnt gone room =
     let long : length b.clauses ≡ length a.clauses = ap length gone.clauses ∙ length-set a.clauses (id - 1) None in
-    subst (λ (n : ℕ). IsLog f b (lines ++ Delete n ((x ∷ xs) ++ id ∷ []) ∷ []) (deleted + 1)) (sym long) (log_extended f a b lines (length a.clauses) (x ∷ xs) id clause deleted log stored is learnt gone room)
+    subst (λ (n : ℕ). IsLog f b (lines ++ Delete n ((x ∷ xs) ++ id ∷ []) ∷ []) (deleted + 1) least) (sym long) (log_extended f a b lines (length a.clauses) (x ∷ xs) id clause deleted least log stored is learnt gone room)
 
 -- What a line of deletions leaves as it was.
 pub additions_gone : (lines : List Line) (own : ℕ) (ids : List ℕ) → additions (with_gone lines own ids) ≡ additions lines
@@ -224,22 +230,22 @@ reaches_gone f lines own [] has = has
 reaches_gone f lines own (x ∷ xs) has = ⊎_elim (λ (there : Contains f.clauses []). inl there) (λ (added : Any AddsEmpty lines). inr (any_front lines (Delete own (x ∷ xs)) added)) has
 
 -- what is live, and what is gone
-live_are : (f : Formula) (s : Stored) (lines : List Line) (deleted : ℕ) → IsLog f s lines deleted → live_additions (after (start f) lines) lines + deleted ≡ additions lines
-live_are f s lines deleted log = subst (λ (st : State). live_additions st lines + deleted ≡ additions lines) (sym log.state) log.gone
+live_are : (f : Formula) (s : Stored) (lines : List Line) (deleted least : ℕ) → IsLog f s lines deleted least → live_additions (after (start f) lines) lines + deleted ≡ additions lines
+live_are f s lines deleted least log = subst (λ (st : State). live_additions st lines + deleted ≡ additions lines) (sym log.state) log.gone
 
--- At least half of what was added is live.
-pub log_kept : (f : Formula) (s : Stored) (lines : List Line) (deleted : ℕ) → IsLog f s lines deleted → IsKept f lines
-log_kept f s lines deleted log =
-    let all : live_additions (after (start f) lines) lines + deleted ≡ additions lines = live_are f s lines deleted log in
-    let half : 2 * deleted ≤ additions lines = log.half in
-    omega arith
+-- Where it has come to so many additions, at least half of them are live.
+pub log_kept : (f : Formula) (s : Stored) (lines : List Line) (deleted least : ℕ) → IsLog f s lines deleted least → least ≤ additions lines → IsKept f lines
+log_kept f s lines deleted least log enough =
+    let all : live_additions (after (start f) lines) lines + deleted ≡ additions lines = live_are f s lines deleted least log in
+    let half : 2 * deleted ≤ additions lines = ⊎_elim (λ (low : 2 * deleted ≤ least). omega (arith, low, enough)) (λ (half : 2 * deleted ≤ additions lines). half) log.half in
+    omega (arith, all, half)
 
 -- A log of which enough is gone is thinned.
-pub log_thinned : (f : Formula) (s : Stored) (lines : List Line) (deleted : ℕ) → IsLog f s lines deleted → (length f.clauses + 4 * (deleted + s.vars + 2000) < length s.clauses → ⊥) → IsThinned f lines
-log_thinned f s lines deleted log thin = record {
+pub log_thinned : (f : Formula) (s : Stored) (lines : List Line) (deleted least : ℕ) → IsLog f s lines deleted least → (length f.clauses + 4 * (deleted + s.vars + 2000) < length s.clauses → ⊥) → IsThinned f lines
+log_thinned f s lines deleted least log thin = record {
   spares = log.spares;
   few =
-      (let all : live_additions (after (start f) lines) lines + deleted ≡ additions lines = live_are f s lines deleted log in
+      (let all : live_additions (after (start f) lines) lines + deleted ≡ additions lines = live_are f s lines deleted least log in
       let count : length s.clauses ≡ length f.clauses + additions lines = log.count in
       let vars : s.vars ≡ f.vars = log.vars in
       let low : length s.clauses ≤ length f.clauses + 4 * (deleted + s.vars + 2000) = not_less (length f.clauses + 4 * (deleted + s.vars + 2000)) (length s.clauses) thin in
@@ -250,8 +256,8 @@ log_thinned f s lines deleted log thin = record {
     not_less m n not = ⊎_elim (λ (less : m < n). absurd (not less)) (λ (more : n ≤ m). more) (cases_lt m n)
 
 -- Where no addition is live, all are gone.
-pub log_all_gone : (f : Formula) (s : Stored) (lines : List Line) (deleted : ℕ) → IsLog f s lines deleted → ((id : ℕ) (clause : List ℤ) → length f.clauses < id → live_in s id ≡ Some clause → ⊥) → length s.clauses ≡ length f.clauses + deleted
-log_all_gone f s lines deleted log none =
+pub log_all_gone : (f : Formula) (s : Stored) (lines : List Line) (deleted least : ℕ) → IsLog f s lines deleted least → ((id : ℕ) (clause : List ℤ) → length f.clauses < id → live_in s id ≡ Some clause → ⊥) → length s.clauses ≡ length f.clauses + deleted
+log_all_gone f s lines deleted least log none =
     let dead : All (λ id. is_some (live_in s id) ≡ false) (added_ids lines) = λ k d low. none_now (live_in s (slice_index_or (added_ids lines) k d)) (λ c live. none (slice_index_or (added_ids lines) k d) c (let at : slice_index_or (added_ids lines) k d ≡ length f.clauses + 1 + k = log.ids k d low in omega (arith, at)) live) in
     let zero_ : count_by (λ id. is_some (live_in s id)) (added_ids lines) ≡ 0 = count_none (λ id. is_some (live_in s id)) (added_ids lines) dead in
     let gone : count_by (λ id. is_some (live_in s id)) (added_ids lines) + deleted ≡ additions lines = log.gone in

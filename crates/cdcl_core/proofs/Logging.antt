@@ -1,5 +1,5 @@
 -- How the log grows.
-use Rattle.std.proofs.Common.{◌≡◌, ℕ, ◌+◌, ◌-◌, ◌*◌, ◌^◌, ◌<◌, ◌≤◌, ◌==◌, ℤ, false, List, [], ◌∷◌, ◌++◌, length, slice_index_or, All, Option, Some, is_some, count_by, subst, sym, ap, ◌∙◌, arith, inr, refl}
+use Rattle.std.proofs.Common.{◌≡◌, ℕ, ◌+◌, ◌-◌, ◌*◌, ◌^◌, ◌<◌, ◌≤◌, ◌==◌, ℤ, false, List, [], ◌∷◌, ◌++◌, length, slice_index_or, All, Option, Some, is_some, count_by, subst, sym, ap, ◌∙◌, arith, inl, inr, refl}
 use Rattle.std.proofs.Math.Logic.{⊎_elim}
 use Rattle.std.proofs.lemmas.Bool.{cases_eq, ne_eqb}
 use Rattle.std.proofs.lemmas.List.{length_push, length-map, map_push, get_or_push, get_or_append_left}
@@ -44,8 +44,8 @@ addition_step f s id lits hints vars stored is_clause within small is hold =
     }
 
 -- One more clause.
-pub log_added : (f : Formula) (s : Stored) (lines : List Line) (id : ℕ) (lits : List ℤ) (hints : List ℕ) (deleted : ℕ) → IsLog f s lines deleted → IsStored s → IsClause lits → IsWithin s.vars lits → s.vars < 1000000000 → id ≡ length s.clauses + 1 → HintsHold (live_in s) (among lits) hints → IsLog f (added s lits) (lines ++ Add id lits hints ∷ []) deleted
-log_added f s lines id lits hints deleted log stored is_clause within small is hold = record {
+pub log_added : (f : Formula) (s : Stored) (lines : List Line) (id : ℕ) (lits : List ℤ) (hints : List ℕ) (deleted least : ℕ) → IsLog f s lines deleted least → IsStored s → IsClause lits → IsWithin s.vars lits → s.vars < 1000000000 → id ≡ length s.clauses + 1 → HintsHold (live_in s) (among lits) hints → IsLog f (added s lits) (lines ++ Add id lits hints ∷ []) deleted least
+log_added f s lines id lits hints deleted least log stored is_clause within small is hold = record {
   vars = log.vars;
   holds = EachLine-push IsStep (start f) lines (Add id lits hints) log.holds (subst (λ (st : State). IsStep st (Add id lits hints)) (sym log.state) (addition_step f s id lits hints log.vars stored is_clause within small is hold));
   state = after-push (start f) lines (Add id lits hints) ∙ ap (λ (st : State). next st (Add id lits hints)) log.state ∙ next_state;
@@ -54,7 +54,10 @@ log_added f s lines id lits hints deleted log stored is_clause within small is h
   spares = All-push (SparesFormula f) lines (Add id lits hints) log.spares tt;
   ids = ids_now;
   gone = (let one : additions now ≡ additions lines + 1 = one_more in let before : count_by (λ k. is_some (live_in s k)) (added_ids lines) + deleted ≡ additions lines = log.gone in let after_it : count_by (λ k. is_some (live_in more k)) (added_ids now) ≡ count_by (λ k. is_some (live_in s k)) (added_ids lines) + 1 = live_more in omega arith);
-  half = (let one : additions now ≡ additions lines + 1 = one_more in let before : 2 * deleted ≤ additions lines = log.half in omega arith);
+  half = ⊎_elim
+      (λ (low : 2 * deleted ≤ least). inl low)
+      (λ (before : 2 * deleted ≤ additions lines). inr (let one : additions now ≡ additions lines + 1 = one_more in omega (arith, before, one)))
+      log.half;
 }
   where
     more : Stored
@@ -92,8 +95,8 @@ log_added f s lines id lits hints deleted log stored is_clause within small is h
     next_state = rw (is, live_in-add s lits, length_push s.clauses (Some lits)) refl
 
 -- that is new and not empty
-pub new_added : (f : Formula) (s : Stored) (lines : List Line) (id : ℕ) (lits : List ℤ) (hints : List ℕ) (deleted : ℕ) → IsLog f s lines deleted → AreNew f lines → IsNew (live_in s) lits → 0 < length lits → AreNew f (lines ++ Add id lits hints ∷ [])
-new_added f s lines id lits hints deleted log are new some = record {
+pub new_added : (f : Formula) (s : Stored) (lines : List Line) (id : ℕ) (lits : List ℤ) (hints : List ℕ) (deleted least : ℕ) → IsLog f s lines deleted least → AreNew f lines → IsNew (live_in s) lits → 0 < length lits → AreNew f (lines ++ Add id lits hints ∷ [])
+new_added f s lines id lits hints deleted least log are new some = record {
   fresh = EachLine-push IsFresh (start f) lines (Add id lits hints) are.fresh (subst (λ (st : State). IsFresh st (Add id lits hints)) (sym log.state) new);
   some = All-push AddsSome lines (Add id lits hints) are.some some;
 }
@@ -103,16 +106,16 @@ no_literals : IsClause []
 no_literals = record { literals = λ k d (low : k < 0). absurd (omega arith); differ = λ i j d less (low : j < 0). absurd (omega arith) }
 
 -- It may end the log.
-pub log_refuted : (f : Formula) (s : Stored) (lines : List Line) (id : ℕ) (hints : List ℕ) (deleted : ℕ) → IsLog f s lines deleted → IsStored s → s.vars < 1000000000 → id ≡ length s.clauses + 1 → HintsHold (live_in s) (among []) hints → IsLog f (added s []) (lines ++ Add id [] hints ∷ []) deleted
-log_refuted f s lines id hints deleted log stored small is hold = log_added f s lines id [] hints deleted log stored no_literals (λ k d (low : k < 0). absurd (omega arith)) small is hold
+pub log_refuted : (f : Formula) (s : Stored) (lines : List Line) (id : ℕ) (hints : List ℕ) (deleted least : ℕ) → IsLog f s lines deleted least → IsStored s → s.vars < 1000000000 → id ≡ length s.clauses + 1 → HintsHold (live_in s) (among []) hints → IsLog f (added s []) (lines ++ Add id [] hints ∷ []) deleted least
+log_refuted f s lines id hints deleted least log stored small is hold = log_added f s lines id [] hints deleted least log stored no_literals (λ k d (low : k < 0). absurd (omega arith)) small is hold
 
 pub log_reaches : (f : Formula) (lines : List Line) (id : ℕ) (hints : List ℕ) → HasEmpty f (lines ++ Add id [] hints ∷ [])
 log_reaches f lines id hints = inr (Any-push AddsEmpty lines (Add id [] hints) refl)
 
 -- The log begins empty.
-pub log_begun : (f : Formula) → IsLog f (all_added (none_stored f.vars) f.clauses) [] 0
+pub log_begun : (f : Formula) (least : ℕ) → IsLog f (all_added (none_stored f.vars) f.clauses) [] 0 least
 unfolding after EachLine added_ids
-log_begun f = record {
+log_begun f least = record {
   vars = all_added-vars (none_stored f.vars) f.clauses;
   holds = tt;
   state = rw (live_in-start f.vars f.clauses, all_added-clauses (none_stored f.vars) f.clauses, length-map f.clauses (λ (c : List ℤ). Some c)) refl;
@@ -121,7 +124,7 @@ log_begun f = record {
   spares = All-nil (SparesFormula f);
   ids = λ k d (low : k < 0). absurd (omega arith);
   gone = refl;
-  half = (let none : additions [] ≡ 0 = refl in omega arith);
+  half = inl (omega arith);
 }
 
 pub new_begun : (f : Formula) → AreNew f []
@@ -129,8 +132,8 @@ unfolding EachLine
 new_begun f = record { fresh = tt; some = All-nil AddsSome }
 
 -- the same clauses, whatever they watch
-pub log_same : (f : Formula) (a b : Stored) (lines : List Line) (deleted : ℕ) → b.clauses ≡ a.clauses → b.vars ≡ a.vars → IsLog f a lines deleted → IsLog f b lines deleted
-log_same f a b lines deleted clauses vars log = record {
+pub log_same : (f : Formula) (a b : Stored) (lines : List Line) (deleted least : ℕ) → b.clauses ≡ a.clauses → b.vars ≡ a.vars → IsLog f a lines deleted least → IsLog f b lines deleted least
+log_same f a b lines deleted least clauses vars log = record {
   vars = vars ∙ log.vars;
   holds = log.holds;
   state = log.state ∙ ap (λ (xs : List (Option (List ℤ))). (let st : State = record { live = live_at xs; vars = f.vars; greatest = length xs } in st)) (sym clauses);

@@ -15,7 +15,7 @@ use Rattle.clause_db.specs.Deleting.{IsDeleted}
 use Rattle.clause_db.specs.DeletingLaws.{still_live, kept_live, still_watches}
 use Rattle.cdcl_core.specs.declared.search.Search.{Search}
 use Rattle.cdcl_core.specs.Searching.{IsSearching, IsVisited}
-use Rattle.cdcl_core.specs.Forgetting.{IsPending, IsNoReason, IsImplied, NoneImplied, HasLost, HasForgotten}
+use Rattle.cdcl_core.specs.Forgetting.{IsPending, IsNoReason, IsImplied, NoneImplied, HasHalf, HasLost, HasForgotten}
 use Rattle.cdcl_core.proofs.Gone.{log_lost}
 
 -- A clause of which no literal is true by it is no reason.
@@ -83,14 +83,14 @@ visited_lost s b id n some visited gone = record {
 }
 
 -- The log has one id more to delete.
-pub pending_lost : (f : Formula) (s : Search) (b : Stored) (ids : List ℕ) (id : ℕ) (clause : List ℤ) → IsPending f s ids → IsStored s.clauses → live_in s.clauses id ≡ Some clause → s.given < id → IsDeleted id s.clauses b → 2 * (s.deleted + 1) + s.given ≤ length s.clauses.clauses → IsPending f (record s { clauses = b; deleted = s.deleted + 1 }) (ids ++ id ∷ [])
+pub pending_lost : (f : Formula) (s : Search) (b : Stored) (ids : List ℕ) (id : ℕ) (clause : List ℤ) → IsPending f s ids → IsStored s.clauses → live_in s.clauses id ≡ Some clause → s.given < id → IsDeleted id s.clauses b → HasHalf s → IsPending f (record s { clauses = b; deleted = s.deleted + 1 }) (ids ++ id ∷ [])
 pending_lost f s b ids id clause pending stored is learnt gone room = record {
-  log = log_lost f s.clauses b (line_values s.lines.items) ids id clause s.deleted pending.log stored is (omega (arith, pending.given, learnt)) gone (omega (arith, pending.given, room));
+  log = log_lost f s.clauses b (line_values s.lines.items) ids id clause s.deleted s.least pending.log stored is (omega (arith, pending.given, learnt)) gone (⊎_elim (λ (low : 2 * (s.deleted + 1) ≤ s.least). inl low) (λ (half : 2 * (s.deleted + 1) + s.given ≤ length s.clauses.clauses). inr (omega (arith, pending.given, half))) room);
   given = pending.given;
 }
 
 pub forgotten_self : (s : Search) → HasForgotten s s
-forgotten_self s = record { trail = refl; starts = refl; head = refl; given = refl; clauses = refl; fewer = λ id clause is. is }
+forgotten_self s = record { trail = refl; starts = refl; head = refl; given = refl; least = refl; clauses = refl; fewer = λ id clause is. is }
 
 -- one more clause is forgotten
 pub forgotten_lost : (a b c : Search) (id : ℕ) → 0 < id → HasForgotten a b → HasLost id b c → HasForgotten a c
@@ -99,6 +99,7 @@ forgotten_lost a b c id some forgotten lost = record {
   starts = ap (λ (s : Search). s.starts) lost.rest ∙ forgotten.starts;
   head = ap (λ (s : Search). s.head) lost.rest ∙ forgotten.head;
   given = ap (λ (s : Search). s.given) lost.rest ∙ forgotten.given;
+  least = ap (λ (s : Search). s.least) lost.rest ∙ forgotten.least;
   clauses = ap length lost.deleted.clauses ∙ length-set b.clauses.clauses (id - 1) None ∙ forgotten.clauses;
   fewer = λ k clause is. forgotten.fewer k clause (still_live id b.clauses c.clauses k clause lost.deleted some is).0;
 }

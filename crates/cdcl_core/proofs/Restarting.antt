@@ -73,7 +73,7 @@ visited_counted s r visited = record {
 -- The log of a restart is that before it.
 pub logged_restarted : (f : Formula) (b c : Search) → IsLogged f b → HasRestarted b c → IsLogged f c
 logged_restarted f b c logged restarted = record {
-  log = rw (restarted.clauses, restarted.lines, restarted.deleted) logged.log;
+  log = rw (restarted.clauses, restarted.lines, restarted.deleted, restarted.least) logged.log;
   new = rw restarted.lines logged.new;
   given = restarted.given ∙ logged.given;
 }
@@ -85,6 +85,7 @@ jumped_restarted a b c jumped restarted =
     record {
       vars = restarted.vars ∙ jumped.vars;
       given = restarted.given ∙ jumped.given;
+      least = restarted.least ∙ jumped.least;
       clauses = clauses ∙ jumped.clauses;
       starts = (let h : length b.starts.items < length a.starts.items = jumped.starts in let g : length c.starts.items ≤ length b.starts.items = restarted.starts in omega (arith, h, g));
     }

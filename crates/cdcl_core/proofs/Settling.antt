@@ -49,7 +49,7 @@ settled_visited s searching visited all = guarded_settled s.clauses s.trail s.st
 -- the log after the first propagation
 pub logged_begun : (f : Formula) (a b : Search) → IsLogged f a → HasBegun a b → IsLogged f b
 logged_begun f a b logged begun = record {
-  log = rw (begun.clauses, begun.lines, begun.deleted) logged.log;
+  log = rw (begun.clauses, begun.lines, begun.deleted, begun.least) logged.log;
   new = rw begun.lines logged.new;
   given = begun.given ∙ logged.given;
 }
@@ -76,6 +76,7 @@ settled_propagated a b c settled propagated =
     record {
       vars = propagated.rest.grown.vars ∙ settled.vars;
       given = propagated.given ∙ settled.given;
+      least = propagated.least ∙ settled.least;
       more = (let h : length a.clauses.clauses ≤ length b.clauses.clauses = settled.more in omega (arith, h, clauses));
       starts = (let h : length b.clauses.clauses + length b.starts.items ≤ length a.clauses.clauses + length a.starts.items = settled.starts in omega (arith, h, clauses, starts));
       longer = λ same. (let h : length b.clauses.clauses ≡ length a.clauses.clauses → length a.trail.lits ≤ length b.trail.lits = settled.longer in let low : length a.trail.lits ≤ length b.trail.lits = h (omega (arith, same, clauses)) in let g : length b.trail.lits ≤ length c.trail.lits = propagated.rest.grown.longer in omega (arith, low, g));
@@ -83,18 +84,19 @@ settled_propagated a b c settled propagated =
 
 pub logged_propagated : (f : Formula) (b c : Search) → IsLogged f b → HasPropagated b c → IsLogged f c
 logged_propagated f b c logged propagated = record {
-  log = rw (propagated.lines, propagated.deleted) (log_same f b.clauses c.clauses (line_values b.lines.items) b.deleted propagated.rest.clauses propagated.rest.vars logged.log);
+  log = rw (propagated.lines, propagated.deleted, propagated.least) (log_same f b.clauses c.clauses (line_values b.lines.items) b.deleted b.least propagated.rest.clauses propagated.rest.vars logged.log);
   new = rw propagated.lines logged.new;
   given = propagated.given ∙ logged.given;
 }
 
 pub settled_self : (s : Search) → HasSettled s s
-settled_self s = record { vars = refl; given = refl; more = omega arith; starts = omega arith; longer = λ same. omega arith }
+settled_self s = record { vars = refl; given = refl; least = refl; more = omega arith; starts = omega arith; longer = λ same. omega arith }
 
 pub settled_grown : (a b : Search) (t : Trailed) → HasSettled a b → IsGrown (live_in b.clauses) b.trail t → HasSettled a (record b { trail = t })
 settled_grown a b t settled grown = record {
   vars = grown.vars ∙ settled.vars;
   given = settled.given;
+  least = settled.least;
   more = settled.more;
   starts = settled.starts;
   longer = λ same. (let h : length a.trail.lits ≤ length b.trail.lits = settled.longer same in let g : length b.trail.lits ≤ length t.lits = grown.longer in omega arith);
@@ -109,6 +111,7 @@ settled_jumped a b c settled jumped =
     record {
       vars = jumped.vars ∙ settled.vars;
       given = jumped.given ∙ settled.given;
+      least = jumped.least ∙ settled.least;
       more = omega arith;
       starts = omega arith;
       longer = λ same. absurd (omega arith);
@@ -123,6 +126,7 @@ settled_forgotten a b c settled forgotten =
     record {
       vars = ap (λ (t : Trailed). t.vars) forgotten.trail ∙ settled.vars;
       given = forgotten.given ∙ settled.given;
+      least = forgotten.least ∙ settled.least;
       more = (let h : length a.clauses.clauses ≤ length b.clauses.clauses = settled.more in omega (arith, h, clauses));
       starts = (let h : length b.clauses.clauses + length b.starts.items ≤ length a.clauses.clauses + length a.starts.items = settled.starts in omega (arith, h, clauses, starts));
       longer = λ same. (let h : length b.clauses.clauses ≡ length a.clauses.clauses → length a.trail.lits ≤ length b.trail.lits = settled.longer in let low : length a.trail.lits ≤ length b.trail.lits = h (omega (arith, same, clauses)) in omega (arith, low, lits));
@@ -132,6 +136,7 @@ pub jumped_forgotten : (a b c : Search) → HasJumped a b → HasForgotten b c �
 jumped_forgotten a b c jumped forgotten = record {
   vars = ap (λ (t : Trailed). t.vars) forgotten.trail ∙ jumped.vars;
   given = forgotten.given ∙ jumped.given;
+  least = forgotten.least ∙ jumped.least;
   clauses = forgotten.clauses ∙ jumped.clauses;
   starts = (let h : length b.starts.items < length a.starts.items = jumped.starts in let same : length c.starts.items ≡ length b.starts.items = ap (λ ls. length ls.items) forgotten.starts in omega (arith, h, same));
 }
@@ -169,7 +174,7 @@ falls b0 v la lb lc ta tb tc more longer lines lits under short =
 -- the log of a decision is that before it
 pub logged_decided : (f : Formula) (b c : Search) → IsLogged f b → HasDecided b c → IsLogged f c
 logged_decided f b c logged decided = record {
-  log = rw (decided.clauses, decided.lines, decided.deleted) logged.log;
+  log = rw (decided.clauses, decided.lines, decided.deleted, decided.least) logged.log;
   new = rw decided.lines logged.new;
   given = decided.given ∙ logged.given;
 }
@@ -180,10 +185,11 @@ measure_falls limit vars a b c settled under decided short =
     falls limit vars (length a.clauses.clauses) (length b.clauses.clauses) (length c.clauses.clauses) (length a.trail.lits) (length b.trail.lits) (length c.trail.lits) settled.more settled.longer (ap (λ (s : Stored). length s.clauses) decided.clauses) decided.lits under short
 
 -- The ids behind the formula's are as many as the additions.
-pub spent_now : (f : Formula) (budget : ℕ) (s : Search) → IsLogged f s → s.given + budget ≤ length s.clauses.clauses → HasSpent f budget s
-spent_now f budget s logged enough = record {
+pub spent_now : (f : Formula) (budget : ℕ) (s : Search) → IsLogged f s → s.given + budget ≤ length s.clauses.clauses → s.least ≤ budget → HasSpent f budget s
+spent_now f budget s logged enough low = record {
   logged = logged;
   enough = (let count : length s.clauses.clauses ≡ length f.clauses + additions (line_values s.lines.items) = logged.log.count in let given : s.given ≡ length f.clauses = logged.given in omega arith);
+  least = low;
 }
 
 -- there are no more levels than literals on the trail

@@ -53,8 +53,8 @@ get_there (x ∷ xs) zero d low = refl
 get_there (x ∷ xs) (suc k) d low = get_there xs k d (let h : suc k < suc (length xs) = low in omega arith)
 
 -- With a value for each variable and all clauses settled, the values satisfy the formula.
-pub values_satisfy : (f : Formula) (s : Stored) (t : Trailed) (lines : List Line) (deleted : ℕ) (bits : List Bool) → IsFormula f → IsLog f s lines deleted → t.vars ≡ f.vars → HaveValues t (1 + t.vars) → AllSettled (live_in s) (fell t) → Follows t bits → Satisfies (bits_of bits) f
-values_satisfy f s t lines deleted bits formula log vars values settled follows = λ k d low.
+pub values_satisfy : (f : Formula) (s : Stored) (t : Trailed) (lines : List Line) (deleted least : ℕ) (bits : List Bool) → IsFormula f → IsLog f s lines deleted least → t.vars ≡ f.vars → HaveValues t (1 + t.vars) → AllSettled (live_in s) (fell t) → Follows t bits → Satisfies (bits_of bits) f
+values_satisfy f s t lines deleted least bits formula log vars values settled follows = λ k d low.
     let clause : List ℤ = slice_index_or f.clauses k d in
     let live : live_in s (suc k) ≡ Some clause = log.formula (suc k) clause (named k d low) in
     let within : IsWithin t.vars clause = subst (λ (n : ℕ). IsWithin n clause) (sym vars) (formula.variables k d low) in
@@ -71,8 +71,8 @@ not_both (Add id lits hints) some empty = (let e : length lits ≡ 0 = ap length
 not_both (Delete id ids) some empty = empty
 
 -- A log of so many additions has spent the budget.
-pub log_spent : (f : Formula) (s : Stored) (lines : List Line) (deleted budget : ℕ) → IsLog f s lines deleted → AreNew f lines → (Contains f.clauses [] → ⊥) → budget ≤ additions lines → IsSpent f lines budget
-log_spent f s lines deleted budget log new none enough = record {
+pub log_spent : (f : Formula) (s : Stored) (lines : List Line) (deleted least budget : ℕ) → IsLog f s lines deleted least → AreNew f lines → (Contains f.clauses [] → ⊥) → budget ≤ additions lines → IsSpent f lines budget
+log_spent f s lines deleted least budget log new none enough = record {
   holds = log.holds;
   open_yet = λ has. ⊎_elim (λ (there : Contains f.clauses []). none there) (λ (added : Any AddsEmpty lines). not_both added.1 (All-contains AddsSome lines added.1 new.some (added.0, added.2, added.3)) added.4) has;
   enough = enough;

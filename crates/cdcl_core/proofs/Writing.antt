@@ -22,8 +22,9 @@ pub accounted_written : (f : Formula) (s t : Search) (ids : List ℕ) → IsPend
 accounted_written f s t ids pending lines same =
     let clauses : t.clauses ≡ s.clauses = ap (λ (x : Search). x.clauses) same in
     let deleted : t.deleted ≡ s.deleted = ap (λ (x : Search). x.deleted) same in
+    let least : t.least ≡ s.least = ap (λ (x : Search). x.least) same in
     record {
-      log = subst (λ (x : Stored). IsLog f x (line_values t.lines.items) t.deleted) (sym clauses) (subst (λ (n : ℕ). IsLog f s.clauses (line_values t.lines.items) n) (sym deleted) (subst (λ (ls : List Line). IsLog f s.clauses ls s.deleted) (sym lines) pending.log));
+      log = subst (λ (x : Stored). IsLog f x (line_values t.lines.items) t.deleted t.least) (sym clauses) (subst (λ (n : ℕ). IsLog f s.clauses (line_values t.lines.items) n t.least) (sym deleted) (subst (λ (n : ℕ). IsLog f s.clauses (line_values t.lines.items) s.deleted n) (sym least) (subst (λ (ls : List Line). IsLog f s.clauses ls s.deleted s.least) (sym lines) pending.log)));
       given = ap (λ (x : Search). x.given) same ∙ pending.given;
     }
 
@@ -44,7 +45,7 @@ pub visited_written : (s t : Search) → IsVisited s → t ≡ record s { lines 
 visited_written s t visited same = subst (λ (x : Search). IsVisited x) (sym same) (record { guarded = visited.guarded; low = visited.low; begun = visited.begun })
 
 pub forgotten_written : (a s t : Search) → HasForgotten a s → t ≡ record s { lines = t.lines } → HasForgotten a t
-forgotten_written a s t forgotten same = subst (λ (x : Search). HasForgotten a x) (sym same) (record { trail = forgotten.trail; starts = forgotten.starts; head = forgotten.head; given = forgotten.given; clauses = forgotten.clauses; fewer = forgotten.fewer })
+forgotten_written a s t forgotten same = subst (λ (x : Search). HasForgotten a x) (sym same) (record { trail = forgotten.trail; starts = forgotten.starts; head = forgotten.head; given = forgotten.given; least = forgotten.least; clauses = forgotten.clauses; fewer = forgotten.fewer })
 
 -- what was noted of clauses before they are forgotten
 pub forgotten_noted : (a b c : Search) → b ≡ record a { merits = b.merits } → HasForgotten b c → HasForgotten a c
@@ -53,6 +54,7 @@ forgotten_noted a b c same forgotten = record {
   starts = forgotten.starts ∙ ap (λ (s : Search). s.starts) same;
   head = forgotten.head ∙ ap (λ (s : Search). s.head) same;
   given = forgotten.given ∙ ap (λ (s : Search). s.given) same;
+  least = forgotten.least ∙ ap (λ (s : Search). s.least) same;
   clauses = forgotten.clauses ∙ ap (λ (s : Search). length s.clauses.clauses) same;
   fewer = λ id clause is. subst (λ (x : Stored). live_in x id ≡ Some clause) (ap (λ (s : Search). s.clauses) same) (forgotten.fewer id clause is);
 }
@@ -70,10 +72,10 @@ logged_after f a b same logged = subst (λ (x : Search). IsLogged f x) (sym same
 pub thinned_written : (f : Formula) (s t : Search) → (IsThick s → ⊥) → t ≡ record s { lines = t.lines } → IsAccounted f t → IsThinned f (line_values t.lines.items)
 thinned_written f s t thin same accounted =
     let still : IsThick t → ⊥ = subst (λ (x : Search). IsThick x → ⊥) (sym same) thin in
-    log_thinned f t.clauses (line_values t.lines.items) t.deleted accounted.log (λ less. still (omega (arith, less, accounted.given)))
+    log_thinned f t.clauses (line_values t.lines.items) t.deleted t.least accounted.log (λ less. still (omega (arith, less, accounted.given)))
 
 -- Where all learnt clauses are gone, the log isn't thick.
 pub thin_at_end : (f : Formula) (s : Search) (ids : List ℕ) → IsPending f s ids → ((id : ℕ) (clause : List ℤ) → s.given < id → live_in s.clauses id ≡ Some clause → ⊥) → IsThick s → ⊥
 thin_at_end f s ids pending none thick =
-    let all : length s.clauses.clauses ≡ length f.clauses + s.deleted = log_all_gone f s.clauses (with_gone (line_values s.lines.items) (length s.clauses.clauses) ids) s.deleted pending.log (λ id clause low live. none id clause (omega (arith, low, pending.given)) live) in
+    let all : length s.clauses.clauses ≡ length f.clauses + s.deleted = log_all_gone f s.clauses (with_gone (line_values s.lines.items) (length s.clauses.clauses) ids) s.deleted s.least pending.log (λ id clause low live. none id clause (omega (arith, low, pending.given)) live) in
     omega (arith, all, thick, pending.given)

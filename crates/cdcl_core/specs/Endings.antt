@@ -24,10 +24,11 @@ pub record HasRefuted (f : Formula) (s : Search) : Type 0 where
   pub accounted : IsAccounted f s
   pub reaches : HasEmpty f (line_values s.lines.items)
 
--- the log holds, and adds so many clauses
+-- the log holds, and adds so many clauses, no fewer than what was reckoned with
 pub record HasSpent (f : Formula) (budget : ℕ) (s : Search) : Type 0 where
   pub logged : IsLogged f s
   pub enough : budget ≤ additions (line_values s.lines.items)
+  pub least : s.least ≤ budget
 
 abbrev pub Ends : Formula → ℕ → Search → Ending → Type 0
 Ends f budget s Valued = IsValued f s

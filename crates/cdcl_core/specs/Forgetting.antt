@@ -1,5 +1,5 @@
 -- What a search forgets.
-use Rattle.std.specs.Prelude.{◌≡◌, ℕ, ◌+◌, ◌*◌, ◌<◌, ◌≤◌, ℤ, List, [], ◌∷◌, ◌++◌, length, slice_index_or, Some, IsSome}
+use Rattle.std.specs.Prelude.{◌≡◌, ◌⊎◌, ℕ, ◌+◌, ◌*◌, ◌<◌, ◌≤◌, ℤ, List, [], ◌∷◌, ◌++◌, length, slice_index_or, Some, IsSome}
 use Rattle.sat_theory.specs.Formula.{Formula, opposite}
 use Rattle.sat_theory.specs.Line as theory
 use Rattle.lrat_text.specs.Values.{line_values}
@@ -16,7 +16,7 @@ with_gone lines own (id ∷ ids) = lines ++ theory.Delete own (id ∷ ids) ∷ [
 
 -- The log is one of the clauses as they are, with a line more that deletes what is gone since.
 pub record IsPending (f : Formula) (s : Search) (gone : List ℕ) : Type 0 where
-  pub log : IsLog f s.clauses (with_gone (line_values s.lines.items) (length s.clauses.clauses) gone) s.deleted
+  pub log : IsLog f s.clauses (with_gone (line_values s.lines.items) (length s.clauses.clauses) gone) s.deleted s.least
   pub given : s.given ≡ length f.clauses
 
 -- a literal is true, and the clause of an id made it so
@@ -31,11 +31,11 @@ NoneImplied t lits n id = (k : ℕ) (d : ℤ) → k < n → k < length lits → 
 pub record IsNoReason (s : Search) (id : ℕ) : Type 0 where
   pub none : (p : ℕ) (d : ℤ) → p < length s.trail.lits → HasReason (live_in s.clauses) s.trail p → reason_of s.trail (slice_index_or s.trail.lits p d) ≡ id → ⊥
 
--- with one more deletion half of the additions stay
+-- With one more deletion half of the additions stay, or half of those that the log has at least where it ends open.
 abbrev pub HasHalf : Search → Type 0
-HasHalf s = 2 * (s.deleted + 1) + s.given ≤ length s.clauses.clauses
+HasHalf s = (2 * (s.deleted + 1) ≤ s.least) ⊎ (2 * (s.deleted + 1) + s.given ≤ length s.clauses.clauses)
 
--- The clause of an id is live and was learnt, it is no reason, and half of the additions stay without it.
+-- The clause of an id is live and was learnt, it is no reason, and half stay without it.
 pub record MayGo (s : Search) (id : ℕ) : Type 0 where
   pub learnt : s.given < id
   pub half : HasHalf s
@@ -57,6 +57,7 @@ pub record HasForgotten (old new : Search) : Type 0 where
   pub starts : new.starts ≡ old.starts
   pub head : new.head ≡ old.head
   pub given : new.given ≡ old.given
+  pub least : new.least ≡ old.least
   pub clauses : length new.clauses.clauses ≡ length old.clauses.clauses
   pub fewer : (id : ℕ) (clause : List ℤ) → live_in new.clauses id ≡ Some clause → live_in old.clauses id ≡ Some clause
 

@@ -1,5 +1,5 @@
 -- What holds all through a search.
-use Rattle.std.specs.Prelude.{◌≡◌, ℕ, ◌+◌, ◌*◌, ◌<◌, ◌≤◌, ℤ, List, length, slice_index_or, All, count_by, Some, is_some}
+use Rattle.std.specs.Prelude.{◌≡◌, ◌⊎◌, ℕ, ◌+◌, ◌*◌, ◌<◌, ◌≤◌, ℤ, List, length, slice_index_or, All, count_by, Some, is_some}
 use Rattle.sat_theory.specs.Formula.{Formula}
 use Rattle.sat_theory.specs.Line as theory
 use Rattle.sat_theory.specs.State.{by_id, start}
@@ -24,8 +24,9 @@ pub record IsSearching (s : Search) : Type 0 where
 
 -- The lines are a log over the formula that has come to these clauses: each line holds, all clauses of the formula are
 -- live, and deletions name additions alone. Ids are given one after another, so the ids behind the formula's are those of
--- the additions. So many of these are gone, half of them at most.
-pub record IsLog (f : Formula) (clauses : Stored) (lines : List theory.Line) (deleted : ℕ) : Type 0 where
+-- the additions. So many of these are gone, half of them at most; or half of those that the log has at least where it ends
+-- open, though there are fewer yet.
+pub record IsLog (f : Formula) (clauses : Stored) (lines : List theory.Line) (deleted least : ℕ) : Type 0 where
   pub vars : clauses.vars ≡ f.vars
   pub holds : EachLine IsStep (start f) lines
   pub state : after (start f) lines ≡ record { live = live_in clauses; vars = f.vars; greatest = length clauses.clauses }
@@ -34,7 +35,7 @@ pub record IsLog (f : Formula) (clauses : Stored) (lines : List theory.Line) (de
   pub spares : All (SparesFormula f) lines
   pub ids : (k d : ℕ) → k < additions lines → slice_index_or (added_ids lines) k d ≡ length f.clauses + 1 + k
   pub gone : count_by (λ id. is_some (live_in clauses id)) (added_ids lines) + deleted ≡ additions lines
-  pub half : 2 * deleted ≤ additions lines
+  pub half : (2 * deleted ≤ least) ⊎ (2 * deleted ≤ additions lines)
 
 -- each addition is of a new clause with a literal
 pub record AreNew (f : Formula) (lines : List theory.Line) : Type 0 where
@@ -43,12 +44,12 @@ pub record AreNew (f : Formula) (lines : List theory.Line) : Type 0 where
 
 -- the search's lines and clauses are such a log
 pub record IsAccounted (f : Formula) (s : Search) : Type 0 where
-  pub log : IsLog f s.clauses (line_values s.lines.items) s.deleted
+  pub log : IsLog f s.clauses (line_values s.lines.items) s.deleted s.least
   pub given : s.given ≡ length f.clauses
 
 -- and it hasn't come to the empty clause
 pub record IsLogged (f : Formula) (s : Search) : Type 0 where
-  pub log : IsLog f s.clauses (line_values s.lines.items) s.deleted
+  pub log : IsLog f s.clauses (line_values s.lines.items) s.deleted s.least
   pub new : AreNew f (line_values s.lines.items)
   pub given : s.given ≡ length f.clauses
 
@@ -62,6 +63,7 @@ pub record IsVisited (s : Search) : Type 0 where
 pub record HasBegun (old new : Search) : Type 0 where
   pub vars : new.trail.vars ≡ old.trail.vars
   pub given : new.given ≡ old.given
+  pub least : new.least ≡ old.least
   pub lines : new.lines ≡ old.lines
   pub deleted : new.deleted ≡ old.deleted
   pub clauses : new.clauses ≡ old.clauses
@@ -71,6 +73,7 @@ pub record HasBegun (old new : Search) : Type 0 where
 pub record HasPropagated (old new : Search) : Type 0 where
   pub rest : IsRest old.clauses new.clauses old.trail new.trail
   pub given : new.given ≡ old.given
+  pub least : new.least ≡ old.least
   pub lines : new.lines ≡ old.lines
   pub deleted : new.deleted ≡ old.deleted
   pub starts : new.starts ≡ old.starts
@@ -79,6 +82,7 @@ pub record HasPropagated (old new : Search) : Type 0 where
 pub record HasJumped (old new : Search) : Type 0 where
   pub vars : new.trail.vars ≡ old.trail.vars
   pub given : new.given ≡ old.given
+  pub least : new.least ≡ old.least
   pub clauses : length new.clauses.clauses ≡ length old.clauses.clauses + 1
   pub starts : length new.starts.items < length old.starts.items
 
@@ -86,6 +90,7 @@ pub record HasJumped (old new : Search) : Type 0 where
 pub record HasRestarted (old new : Search) : Type 0 where
   pub vars : new.trail.vars ≡ old.trail.vars
   pub given : new.given ≡ old.given
+  pub least : new.least ≡ old.least
   pub lines : new.lines ≡ old.lines
   pub deleted : new.deleted ≡ old.deleted
   pub clauses : new.clauses ≡ old.clauses
@@ -95,6 +100,7 @@ pub record HasRestarted (old new : Search) : Type 0 where
 pub record HasSettled (old new : Search) : Type 0 where
   pub vars : new.trail.vars ≡ old.trail.vars
   pub given : new.given ≡ old.given
+  pub least : new.least ≡ old.least
   pub more : length old.clauses.clauses ≤ length new.clauses.clauses
   pub starts : length new.clauses.clauses + length new.starts.items ≤ length old.clauses.clauses + length old.starts.items
   pub longer : length new.clauses.clauses ≡ length old.clauses.clauses → length old.trail.lits ≤ length new.trail.lits
@@ -103,6 +109,7 @@ pub record HasSettled (old new : Search) : Type 0 where
 pub record HasDecided (old new : Search) : Type 0 where
   pub vars : new.trail.vars ≡ old.trail.vars
   pub given : new.given ≡ old.given
+  pub least : new.least ≡ old.least
   pub lines : new.lines ≡ old.lines
   pub deleted : new.deleted ≡ old.deleted
   pub clauses : new.clauses ≡ old.clauses

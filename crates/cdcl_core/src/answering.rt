@@ -25,6 +25,9 @@ pub enum Solved {
     Open(Log),
 }
 
+/// A search reckons with so many additions, where the budget isn't less: half of them may go at any time.
+const RECKONED: u32 = 40_000;
+
 /// Decides a formula, unless it takes more than `budget` learnt clauses, from 1 to 10,000,000: the answer
 /// is Open at the first decision that is due after so many.
 pub fn solve(alloc: Global, cnf: &Cnf, budget: u32) -> Result<Solved, AllocError>
@@ -46,7 +49,7 @@ pub fn solve(alloc: Global, cnf: &Cnf, budget: u32) -> Result<Solved, AllocError
             lines: Vec::new(alloc),
         }));
     }
-    let mut search = Search::new(alloc, cnf)?;
+    let mut search = Search::new(alloc, cnf, budget.min(RECKONED))?;
     match search.run(budget)? {
         Ending::Valued => Ok(Solved::Sat(search.trail.assignment(alloc)?)),
         Ending::Refuted => Ok(Solved::Unsat(log_of(search)?)),
@@ -59,7 +62,7 @@ fn log_of(search: Search) -> Result<Log, AllocError>
     requires stored { IsStored search.clauses }
     ensures refutes { (f : Formula) → HasRefuted f search → IfOk result (λ log. Refutes f (line_values log.lines.items)) }
     ensures spent { (f : Formula) (budget : ℕ) → HasSpent f budget search → (Contains f.clauses [] → ⊥) → IfOk result (λ log. IsSpent f (line_values log.lines.items) budget) }
-    ensures kept { (f : Formula) → IsAccounted f search → IfOk result (λ log. IsKept f (line_values log.lines.items)) }
+    ensures kept { (f : Formula) (budget : ℕ) → HasSpent f budget search → IfOk result (λ log. IsKept f (line_values log.lines.items)) }
     ensures thinned { (f : Formula) → IsAccounted f search → IfOk result (λ log. IsThinned f (line_values log.lines.items)) }
 {
     let mut search = search;

@@ -1,7 +1,7 @@
 //! How a search forgets learnt clauses: they go from the clauses, and the log says so. A clause that is the reason of a
 //! true literal stays, so that all that is learnt later can be shown; and never more than half of what was learnt is
-//! gone, so that a log that comes to no end is short for its formula (`half` of `IsLog`). Which clauses go is chosen in
-//! `merits`. When a search has ended, no reason is needed any more, and what a log has too much of goes in the order
+//! gone, or of what has to be learnt before a log may end open, so that such a log keeps half of its additions (`half` of
+//! `IsLog`). Which clauses go is chosen in `merits`. When a search has ended, no reason is needed any more, and what a log has too much of goes in the order
 //! of ids.
 ghost use Rattle.std.specs.Prelude.{◌≡◌, ◌<◌, ◌↔◌, length, IsTrue, IsFalse, IsSome, OnOk};
 ghost use Rattle.sat_theory.specs.Formula.{Formula, IsWithin};
@@ -46,11 +46,13 @@ impl Search {
         has_implied(&self.trail, self.clauses.lits(id), id)
     }
 
-    /// Whether one more learnt clause may go, so that half of them stay.
+    /// Whether one more learnt clause may go, so that half of them stay, or of those that an open log has at least.
     fn has_half(&self) -> bool
         ensures { IsTrue result ↔ HasHalf self.now }
     {
-        u64::from(self.clauses.last()) >= u64::from(self.given) + 2 * (u64::from(self.deleted) + 1)
+        let both = 2 * (u64::from(self.deleted) + 1);
+        both <= u64::from(self.least)
+            || u64::from(self.clauses.last()) >= u64::from(self.given) + both
     }
 
     /// Whether a clause may go.
@@ -186,6 +188,7 @@ impl Search {
     fn thin_out(&mut self, gone: &mut Vec<u32>) -> Result<(), AllocError>
         requires stored { IsStored self.old.clauses }
         ensures lines { OnOk result (self.new.lines ≡ self.old.lines) }
+        ensures least { OnOk result (self.new.least ≡ self.old.least) }
         ensures pending { (f : Formula) → IsPending f self.old gone.old.items → OnOk result (IsPending f self.new gone.new.items) }
         ensures thin { (f : Formula) → IsPending f self.old gone.old.items → OnOk result (IsThick self.new → ⊥) }
     {
@@ -207,6 +210,7 @@ impl Search {
     pub(crate) fn thin(&mut self) -> Result<(), AllocError>
         requires stored { IsStored self.old.clauses }
         ensures gone { OnOk result (MoreGone (line_values self.old.lines.items) (line_values self.new.lines.items)) }
+        ensures least { OnOk result (self.new.least ≡ self.old.least) }
         ensures accounted { (f : Formula) → IsAccounted f self.old → OnOk result (IsAccounted f self.new) }
         ensures thinned { (f : Formula) → IsAccounted f self.old → OnOk result (IsThinned f (line_values self.new.lines.items)) }
     {

@@ -33,13 +33,13 @@ const FEW_LEVELS: u32 = 4;
 const RECENT: usize = 2000;
 
 /// So many conflicts are to come before the first clauses go: short searches gain nothing by it.
-const FIRST_DUE: usize = 6000;
+const FIRST_DUE: usize = 2000;
 
 /// So many and the next number are to come before the second time.
 const FIRST_WAIT: usize = 2000;
 
 /// And so many more each time.
-const LONGER_WAIT: usize = 300;
+const LONGER_WAIT: usize = 75;
 
 /// So many clauses before the one that was learnt last are looked at whether they contain it.
 const LAST_ONES: usize = 20;

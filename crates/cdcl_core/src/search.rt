@@ -40,6 +40,8 @@ pub(crate) struct Search {
     pub(crate) merits: Merits,
     /// how many learnt clauses are gone
     pub(crate) deleted: u32,
+    /// so many additions the log has at least where it ends open
+    pub(crate) least: u32,
 }
 
 /// How a search ends.
@@ -56,14 +58,15 @@ impl Search {
     ghost use Rattle.cdcl_core.specs.Searching.{IsSearching, IsVisited, IsLogged, HasBegun, HasPropagated, HasJumped, HasRestarted, HasSettled, HasDecided};
     ghost use Rattle.cdcl_core.specs.Endings.{Ends, HasRefuted};
 
-    /// A search over a formula, before its first step.
-    pub(crate) fn new(alloc: Global, cnf: &Cnf) -> Result<Search, AllocError>
+    /// A search over a formula, before its first step. Where its log ends open, it is to have `least` additions or more.
+    pub(crate) fn new(alloc: Global, cnf: &Cnf, least: u32) -> Result<Search, AllocError>
         ensures searching { IfOk result IsSearching }
         ensures logged { IfOk result (IsLogged cnf.now) }
         ensures clauses { IfOk result (λ s. length s.clauses.clauses ≡ length cnf.now.clauses) }
         ensures given { IfOk result (λ s. s.given ≡ length s.clauses.clauses) }
         ensures starts { IfOk result (λ s. s.starts.items ≡ []) }
         ensures head { IfOk result (λ s. s.head ≡ 0) }
+        ensures least { IfOk result (λ s. s.least ≡ least) }
     {
         Ok(Search {
             clauses: ClauseDb::new(alloc, cnf)?,
@@ -77,6 +80,7 @@ impl Search {
             restarts: Restarts::new(),
             merits: Merits::new(alloc, cnf.clauses().len() as u32, cnf.vars())?,
             deleted: 0,
+            least,
         })
     }
 
@@ -228,6 +232,7 @@ impl Search {
         requires settled { AllSettled (live_in self.old.clauses) (fell_of self.old.trail) }
         requires visited { IsVisited self.old }
         requires all { self.old.head ≡ length self.old.trail.lits }
+        requires least { self.old.least ≤ budget }
         ensures searching { IfOk result (λ ending. IfNone ending (IsSearching self.new)) }
         ensures visited { IfOk result (λ ending. IfNone ending (IsVisited self.new)) }
         ensures decided { IfOk result (λ ending. IfNone ending (HasDecided self.old self.new)) }
@@ -272,6 +277,7 @@ impl Search {
     pub(crate) fn run(&mut self, budget: u32) -> Result<Ending, AllocError>
         requires searching { IsSearching self.old }
         requires budget { budget ≤ most_budget }
+        requires least { self.old.least ≤ budget }
         requires few { length self.old.clauses.clauses < 2000000000 }
         requires given { self.old.given ≡ length self.old.clauses.clauses }
         requires starts { self.old.starts.items ≡ [] }
@@ -291,6 +297,7 @@ impl Search {
         requires searching { IsSearching self.old }
         requires visited { IsVisited self.old }
         requires budget { budget ≤ most_budget }
+        requires least { self.old.least ≤ budget }
         requires few { length self.old.clauses.clauses < 2000000000 }
         requires given { self.old.given ≡ length self.old.clauses.clauses }
         requires starts { self.old.starts.items ≡ [] }

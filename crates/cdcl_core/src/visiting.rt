@@ -42,10 +42,7 @@ fn besides(lits: &[Lit], lit: Lit) -> Lit
     ensures watched { (result ≡ (pair_of lits.now).first) ⊎ (result ≡ (pair_of lits.now).second) }
     ensures only { (l : ℤ) → (l ≡ (pair_of lits.now).first) ⊎ (l ≡ (pair_of lits.now).second) → (l ≡ lit) ⊎ (l ≡ result) }
 {
-    if lits[0] == lit {
-        return lits[1];
-    }
-    lits[0]
+    lits[usize::from(lits[0] == lit)]
 }
 
 /// The first literal from a place on that hasn't fallen, with its place.

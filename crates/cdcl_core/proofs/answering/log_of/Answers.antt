@@ -8,7 +8,7 @@ pub returns-clause-spent : goal.returns-clause-spent
 returns-clause-spent c = λ f budget spent none. spent_thin f budget c.args.search c.thin.new.self spent c.in_ok-thin.ensures.gone (c.in_ok-thin.ensures.accounted f (record { log = spent.logged.log; given = spent.logged.given })) none
 
 pub returns-clause-kept : goal.returns-clause-kept
-returns-clause-kept c = λ f accounted. kept_thin f c.thin.new.self (c.in_ok-thin.ensures.accounted f accounted)
+returns-clause-kept c = λ f budget spent. kept_thin f budget c.args.search c.thin.new.self spent c.in_ok-thin.ensures.gone c.in_ok-thin.ensures.least (c.in_ok-thin.ensures.accounted f (record { log = spent.logged.log; given = spent.logged.given }))
 
 pub returns-clause-thinned : goal.returns-clause-thinned
 returns-clause-thinned c = λ f accounted. c.in_ok-thin.ensures.thinned f accounted

@@ -22,7 +22,7 @@ pub returns-in_ok-assignment-in-Valued-clause-sat : goal.returns-in_ok-assignmen
 returns-in_ok-assignment-in-Valued-clause-sat c =
     let s = c.run.new.self in
     let valued : IsValued c.args.cnf.now s = subst (λ (e : Ending). Ends c.args.cnf.now c.args.budget s e) c.in-Valued.is (c.in_ok-run.ensures.ends c.args.cnf.now c.in_ok-search.ensures.logged) in
-    values_satisfy c.args.cnf.now s.clauses s.trail (line_values s.lines.items) s.deleted c.in_ok-assignment-in-Valued.field-0 c.has_empty.ensures.whole.formula valued.logged.log valued.vars valued.values valued.settled c.in_ok-assignment-in-Valued.ensures
+    values_satisfy c.args.cnf.now s.clauses s.trail (line_values s.lines.items) s.deleted s.least c.in_ok-assignment-in-Valued.field-0 c.has_empty.ensures.whole.formula valued.logged.log valued.vars valued.values valued.settled c.in_ok-assignment-in-Valued.ensures
 
 pub returns-in_ok-log_of-in-Refuted-clause-unsat : goal.returns-in_ok-log_of-in-Refuted-clause-unsat
 returns-in_ok-log_of-in-Refuted-clause-unsat c =
@@ -45,7 +45,7 @@ returns-in_ok-log_of-in-Spent-clause-open c =
 pub returns-in_ok-log_of-in-Spent-clause-kept : goal.returns-in_ok-log_of-in-Spent-clause-kept
 returns-in_ok-log_of-in-Spent-clause-kept c =
     let spent : HasSpent c.args.cnf.now c.args.budget c.run.new.self = subst (λ (e : Ending). Ends c.args.cnf.now c.args.budget c.run.new.self e) c.in-Spent.is (c.in_ok-run.ensures.ends c.args.cnf.now c.in_ok-search.ensures.logged) in
-    c.in_ok-log_of-in-Spent.ensures.kept c.args.cnf.now (record { log = spent.logged.log; given = spent.logged.given })
+    c.in_ok-log_of-in-Spent.ensures.kept c.args.cnf.now c.args.budget spent
 
 pub returns-in_ok-log_of-in-Spent-clause-thrifty : goal.returns-in_ok-log_of-in-Spent-clause-thrifty
 returns-in_ok-log_of-in-Spent-clause-thrifty c = record { kept = λ open_yet. returns-in_ok-log_of-in-Spent-clause-kept c }

@@ -65,9 +65,9 @@ returns-clause-logged c = λ f logged.
     let closed = closed_last (live_in s.clauses) s.trail s.starts.items c.args.start c.requires.searching.layered c.requires.level in
     record {
       log = rw (clauses_are, lines_are)
-          (log_added f s.clauses _ c.in_ok-id.id l.lits.items l.hints.items s.deleted logged.log c.requires.searching.stored c.in_ok-learnt.ensures.learnt.clause within small c.in_ok-id.ensures.id c.in_ok-learnt.ensures.learnt.hold);
+          (log_added f s.clauses _ c.in_ok-id.id l.lits.items l.hints.items s.deleted s.least logged.log c.requires.searching.stored c.in_ok-learnt.ensures.learnt.clause within small c.in_ok-id.ensures.id c.in_ok-learnt.ensures.learnt.hold);
       new = rw lines_are
-          (new_added f s.clauses _ c.in_ok-id.id l.lits.items l.hints.items s.deleted logged.log logged.new (unit_is_new (live_in s.clauses) (fell s.trail) c.args.start l.lits.items (asserting l.lits.items) closed c.in_ok-learnt.ensures.learnt.unit) c.in_ok-learnt.ensures.learnt.some);
+          (new_added f s.clauses _ c.in_ok-id.id l.lits.items l.hints.items s.deleted s.least logged.log logged.new (unit_is_new (live_in s.clauses) (fell s.trail) c.args.start l.lits.items (asserting l.lits.items) closed c.in_ok-learnt.ensures.learnt.unit) c.in_ok-learnt.ensures.learnt.some);
       given = logged.given;
     }
 

@@ -12,7 +12,7 @@ returns-clause-refuted c = λ f logged.
     let lines_are = lines_pushed s.lines.items c.push.new.self.items _ c.in_ok-push.ensures.items ∙ ap (λ (xs : List ℤ). line_values s.lines.items ++ theory.Add c.in_ok-id.id xs c.in_ok-hints.hints.items ∷ []) c.new.ensures.items in
     record {
       accounted = record {
-        log = rw (c.in_ok-id.ensures.ok, lines_are) (log_refuted f s.clauses (line_values s.lines.items) c.in_ok-id.id c.in_ok-hints.hints.items s.deleted logged.log c.requires.searching.stored small c.in_ok-id.ensures.id c.in_ok-hints.ensures.hints);
+        log = rw (c.in_ok-id.ensures.ok, lines_are) (log_refuted f s.clauses (line_values s.lines.items) c.in_ok-id.id c.in_ok-hints.hints.items s.deleted s.least logged.log c.requires.searching.stored small c.in_ok-id.ensures.id c.in_ok-hints.ensures.hints);
         given = logged.given;
       };
       reaches = rw lines_are (log_reaches f (line_values s.lines.items) c.in_ok-id.id c.in_ok-hints.hints.items);

@@ -19,6 +19,7 @@ loop-index-preserved c =
       stored = c.in_ok-let_go.ensures.stored;
       lines = ap (λ (x : Search). x.lines) lost.rest ∙ c.loop-index.invariant.lines;
       given = given ∙ c.loop-index.invariant.given;
+      least = ap (λ (x : Search). x.least) lost.rest ∙ c.loop-index.invariant.least;
       long = ap length lost.deleted.clauses ∙ length-set s.clauses.clauses (n + 1 - 1) None ∙ c.loop-index.invariant.long;
       pending = λ f pending. c.in_ok-let_go.ensures.pending f (c.loop-index.invariant.pending f pending);
       dead = λ k clause low high live.
