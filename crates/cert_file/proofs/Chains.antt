@@ -15,9 +15,6 @@ use Rattle.cert_theory.specs.GivesLaws.{fails_bind, fails_is}
 use Rattle.cert_file.specs.Stages.{outs_then, steps_then}
 use Rattle.cert_file.proofs.Blocks.{body_is}
 
-pub chain_fails : (h : Heading) (number size : ℕ) (low : Option ℕ) (l : Line) (ls : List Line) (e : BundleError) → Fails e (steps_at h number size l) → Fails e (chain_at h number size low l ls)
-chain_fails h number size low l ls e fails = fails_bind e (steps_at h number size l) (λ steps. with_block h (frame_of h number steps) low (body_from (frame_of h number steps) ls)) fails
-
 pub chain_goes : (h : Heading) (number size : ℕ) (low : Option ℕ) (l : Line) (ls : List Line) (steps : ℕ) → steps_at h number size l ≡ Ok steps → chain_at h number size low l ls ≡ with_block h (frame_of h number steps) low (steps_then (frame_of h number steps) (steps_from (frame_of h number steps) [] ls))
 chain_goes h number size low l ls steps read =
     ap (λ (r : Result ℕ BundleError). r >>= λ steps. with_block h (frame_of h number steps) low (body_from (frame_of h number steps) ls)) read

@@ -1,20 +1,19 @@
 -- A reader and the text that it stands for, with one piece more.
-use Rattle.std.proofs.Common.{◌≡◌, ℕ, suc, ◌+◌, ◌≤◌, ◌<◌, true, false, List, [], ◌∷◌, ◌++◌, length, Result, Ok, Err, refl, sym, ap, subst, ◌∙◌, arith, append_assoc, append-nil, length-append}
+use Rattle.std.proofs.Common.{◌≡◌, ℕ, ◌+◌, true, List, [], ◌∷◌, ◌++◌, length, Result, Ok, Err, refl, sym, ap, subst, ◌∙◌, arith, append_assoc, append-nil, length-append}
 use Rattle.std.specs.Result.{IsErrAnd}
 use Rattle.std.specs.List.{flat_map}
 use Rattle.std.proofs.lemmas.Grind.{common_steps}
 use Rattle.text_core.specs.Lines.{Line, lines_from, lines_of, last_line, line_bytes}
-use Rattle.text_core.specs.Words.{is_free}
-use Rattle.text_core.specs.ReadBack.{lines_spell, free_both}
+use Rattle.text_core.specs.ReadBack.{lines_spell}
 use Rattle.cert_theory.specs.declared.data.BundleError.{BundleError}
 use Rattle.cert_theory.specs.declared.data.Verdict.{Verdict}
 use Rattle.cert_theory.specs.Gives.{Gives, Fails}
 use Rattle.cert_theory.specs.Judging.{bundle_of}
-use Rattle.cert_file.specs.Stages.{Answer, IsStage, Stands, Judged}
+use Rattle.cert_file.specs.Stages.{Answer, Stands, Judged}
 use Rattle.cert_file.specs.Telling.{IsPlace, Tells}
 use Rattle.cert_file.specs.CuttingLaws.{lines_on, line_on, line_free, bytes_are, cut_none, cut_part, cut_line, cut_place}
 use Rattle.cert_file.specs.declared.reader.BundleReader.{BundleReader}
-use Rattle.cert_file.specs.Reader.{Reader, seen, HasNoEnd, with_end, IsCut, StandsFor, IsRefused, HasRead}
+use Rattle.cert_file.specs.Reader.{Reader, seen, HasNoEnd, with_end, StandsFor, IsRefused, HasRead}
 use Rattle.cert_file.specs.declared.stage.Stage.{Stage}
 use Rattle.cert_file.specs.declared.stage.Stage.TheVariants.{Start}
 
@@ -95,9 +94,6 @@ pub record IsBefore (r : Reader) (left all : List ℕ) : Type 0 where
   pub text : List ℕ
   pub stands : StandsFor r text
   pub is : text ++ left ≡ all
-
-pub before_none : (r : Reader) (text piece : List ℕ) → StandsFor r text → IsBefore r piece (text ++ piece)
-before_none r text piece stands = record { text = text; stands = stands; is = refl }
 
 pub before_all : (r : Reader) (left all : List ℕ) → lines_of left ≡ [] → IsBefore r left all → StandsFor r all
 before_all r left all none before =

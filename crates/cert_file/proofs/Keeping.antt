@@ -1,6 +1,5 @@
 -- What a stage keeps of the text, one line on.
-use Rattle.std.proofs.Common.{◌≡◌, ℕ, ◌+◌, List, [], ◌∷◌, ◌++◌, length, Option, Some, None, Result, Ok, refl, sym, ap, ◌∙◌, subst, arith, append-nil}
-use Rattle.std.specs.Prelude.{IfOk}
+use Rattle.std.proofs.Common.{◌≡◌, ℕ, ◌+◌, List, [], ◌∷◌, length, Result, Ok, sym, ap, ◌∙◌, subst, arith}
 use Rattle.text_core.specs.Lines.{Line}
 use Rattle.chain_theory.specs.Chain.{Chain, Step}
 use Rattle.chain_theory.specs.declared.data.Out.{Out}
@@ -9,12 +8,8 @@ use Rattle.chain_core.specs.BlockLaws.{outs_done}
 use Rattle.chain_core.specs.declared.frame.Frame.{Frame}
 use Rattle.chain_core.specs.declared.error.ChainError.{ChainError}
 use Rattle.cert_theory.specs.declared.data.Heading.{Heading}
-use Rattle.cert_theory.specs.declared.data.Verdict.{Verdict}
-use Rattle.cert_file.specs.Stages.{IsKnown, IsFrame, IsStage, told_in, steps_then, outs_then}
-use Rattle.cert_file.specs.Telling.{IsPlace, IsBlock, IsHeld, HasEnded, HasTold, Tells, chain_read}
-use Rattle.cert_file.specs.declared.told.Told.{Told}
-use Rattle.cert_file.specs.declared.stage.Stage.{Stage}
-use Rattle.cert_file.specs.declared.stage.Stage.TheVariants.{Start, Inputs, Tables, Methods, Conflicts, Sizes, Between, Due, Begun, Within, Steps, Outs, Found, End, Done}
+use Rattle.cert_file.specs.Stages.{IsFrame, steps_then, outs_then}
+use Rattle.cert_file.specs.Telling.{IsPlace, IsBlock, IsHeld, chain_read}
 use Rattle.cert_file.proofs.Blocks.{body_is}
 
 -- ---- the block
@@ -47,70 +42,3 @@ block_held h f all ls steps os number c frame count all_outs place is block =
       outputs = all_outs ∙ frame.outputs;
       number_is = omega (arith, place, first, count, all_outs);
     })
-
--- ---- behind it
-
-pub held_more : (h : Heading) (c : Chain) (behind number : ℕ) (all : List Line) → IsHeld h c behind number all → IsHeld h c (behind + 1) (number + 1) all
-held_more h c behind number all is = record {
-  front = is.front;
-  lines = is.lines;
-  all_is = is.all_is;
-  read_is = is.read_is;
-  inputs = is.inputs;
-  outputs = is.outputs;
-  number_is = let place = is.number_is in omega (arith, place);
-}
-
-pub ended_more : (h : Heading) (o : Option Chain) (v : Verdict) (behind number : ℕ) (all : List Line) → HasEnded h o v behind number all → HasEnded h o v (behind + 1) (number + 1) all
-ended_more h None v behind number all is = is
-ended_more h (Some c) v behind number all is = (held_more h c behind number all is.0, is.1)
-
--- ---- the end
-
-all_count : (number : ℕ) (all : List Line) → IsPlace number [] all → number ≡ length all + 1
-all_count number all place =
-    let whole = ap (λ (ls : List Line). length ls) (place.all_is ∙ append-nil place.front) in
-    omega (arith, whole, place.number_is)
-
-told_same : (t d : Told) → Some t ≡ Some d → d ≡ t
-told_same t d e = cc
-
-told_at : (t : Told) (number : ℕ) (all : List Line) → IsPlace number [] all → Tells (Done t) number [] all → HasTold t all
-told_at t number all place tells = record {
-  asks = tells.0;
-  ended = subst (λ (n : ℕ). HasEnded t.heading t.chain t.verdict 2 n all) (all_count number all place) tells.1;
-}
-
-pub told_ends : (stage : Stage) (number : ℕ) (all : List Line) (t : Told) → Some t ≡ told_in stage → IsPlace number [] all → Tells stage number [] all → HasTold t all
-told_ends Start number all t is place tells = absurd cc
-told_ends Inputs number all t is place tells = absurd cc
-told_ends (Tables n on care) number all t is place tells = absurd cc
-told_ends (Methods spec basis) number all t is place tells = absurd cc
-told_ends (Conflicts spec basis method) number all t is place tells = absurd cc
-told_ends (Sizes spec basis method conflicts) number all t is place tells = absurd cc
-told_ends (Between h size low) number all t is place tells = absurd cc
-told_ends (Due r) number all t is place tells = absurd cc
-told_ends (Begun r) number all t is place tells = absurd cc
-told_ends (Within r reader) number all t is place tells = absurd cc
-told_ends (Steps h low f steps) number all t is place tells = absurd cc
-told_ends (Outs h low f steps os) number all t is place tells = absurd cc
-told_ends (Found h low c) number all t is place tells = absurd cc
-told_ends (End told) number all t is place tells = absurd cc
-told_ends (Done told) number all t is place tells = subst (λ (x : Told). HasTold x all) (told_same t told is) (told_at told number all place tells)
-
-pub told_known : (stage : Stage) (number : ℕ) (t : Told) → Some t ≡ told_in stage → IsStage stage number → IsKnown t.heading
-told_known Start number t is known = absurd cc
-told_known Inputs number t is known = absurd cc
-told_known (Tables n on care) number t is known = absurd cc
-told_known (Methods spec basis) number t is known = absurd cc
-told_known (Conflicts spec basis method) number t is known = absurd cc
-told_known (Sizes spec basis method conflicts) number t is known = absurd cc
-told_known (Between h size low) number t is known = absurd cc
-told_known (Due r) number t is known = absurd cc
-told_known (Begun r) number t is known = absurd cc
-told_known (Within r reader) number t is known = absurd cc
-told_known (Steps h low f steps) number t is known = absurd cc
-told_known (Outs h low f steps os) number t is known = absurd cc
-told_known (Found h low c) number t is known = absurd cc
-told_known (End told) number t is known = absurd cc
-told_known (Done told) number t is known = subst (λ (x : Told). IsKnown x.heading) (told_same t told is) known

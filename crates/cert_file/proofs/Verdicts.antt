@@ -1,5 +1,5 @@
 -- What is judged as the definition says, has the verdicts of valid bundles.
-use Rattle.std.proofs.Common.{◌≡◌, ◌<◌, List, ℕ, Result, Ok, Err, subst}
+use Rattle.std.proofs.Common.{◌<◌, List, ℕ, Result, Ok, Err, subst}
 use Rattle.std.specs.Prelude.{IfOk}
 use Rattle.text_core.specs.Lines.{lines_of}
 use Rattle.cert_theory.specs.declared.data.Verdict.{Verdict}

@@ -6,7 +6,7 @@ use Rattle.text_core.specs.Words.{is_free}
 use Rattle.cert_theory.specs.declared.data.BundleError.{BundleError}
 use Rattle.cert_theory.specs.Gives.{Fails}
 use Rattle.cert_theory.specs.Judging.{bundle_of}
-use Rattle.cert_file.specs.Stages.{Answer, IsStage, Stands}
+use Rattle.cert_file.specs.Stages.{IsStage, Stands}
 use Rattle.cert_file.specs.Telling.{Tells}
 use Rattle.cert_file.specs.declared.stage.Stage.{Stage}
 use Rattle.cert_file.specs.declared.reader.BundleReader.{BundleReader}

@@ -1,6 +1,6 @@
 -- What a stage keeps to hand it out: what the text asks, and its chain, each where it was read. `all` are all lines of
 -- the text.
-use Rattle.std.specs.Prelude.{◌≡◌, ℕ, ◌+◌, List, [], ◌∷◌, ◌++◌, length, Option, Some, None, Result, Ok, Err}
+use Rattle.std.specs.Prelude.{◌≡◌, ℕ, ◌+◌, List, ◌++◌, length, Option, Some, None, Result, Ok, Err}
 use Rattle.text_core.specs.Lines.{Line}
 use Rattle.chain_theory.specs.Chain.{Chain}
 use Rattle.tt_core.specs.Tables.{tables_of, rows_of}

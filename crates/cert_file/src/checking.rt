@@ -1,5 +1,5 @@
 //! Whole texts, judged as one piece.
-ghost use Rattle.std.specs.Prelude.{◌≡◌, ℕ, ◌^◌, ◌<◌, length, IfOk, Ok};
+ghost use Rattle.std.specs.Prelude.{ℕ, ◌^◌, ◌<◌, length, IfOk, Ok};
 ghost use Rattle.text_core.specs.Lines.{lines_of};
 ghost use Rattle.cert_theory.specs.Gives.{Gives};
 ghost use Rattle.tt_core.specs.Words.{Words, specification};

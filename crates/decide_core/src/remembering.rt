@@ -4,6 +4,7 @@ ghost use Rattle.std.specs.Prelude.{◌≡◌, ◌≤◌, ◌<◌, true, length,
 ghost use Rattle.tt_core.specs.Words.{specification};
 ghost use Rattle.op_basis.specs.Basis.{members};
 ghost use Rattle.chain_theory.specs.Agreement.{IsOver, Agrees, NoneBelow};
+ghost use Rattle.cert_theory.specs.declared.data.Heading.{Heading as HeadingValue};
 ghost use Rattle.cert_theory.specs.Bundle.{IsHeading};
 ghost use Rattle.spec_memory.specs.Facts.{spelled};
 ghost use Rattle.decide_core.specs.Decided.{IsDecided, IsSized, IsShorter};
@@ -90,12 +91,8 @@ fn remembered(
 
 /// A number of steps of which no fewer do, by counting or by memory.
 #[tactic(auto, using(crate::specs::RememberedLaws::remembering))]
-fn first_size(memory: &Memory, key: &Key, heading: &Heading, counted: u32) -> u32
-    requires heading { IsHeading heading.now }
-    requires basis { memory.now ≡ heading.now.basis }
-    requires key { key.now ≡ spelled heading.now.spec }
-    requires fewer { NoneBelow (specification heading.now.spec) (members heading.now.basis) counted }
-    ensures { NoneBelow (specification heading.now.spec) (members heading.now.basis) result }
+fn first_size(memory: &Memory, key: &Key, counted: u32) -> u32
+    ensures { (heading : HeadingValue) → IsHeading heading → memory.now ≡ heading.basis → key.now ≡ spelled heading.spec → NoneBelow (specification heading.spec) (members heading.basis) counted → NoneBelow (specification heading.spec) (members heading.basis) result }
 {
     let known = memory.fewest(key);
     if known <= counted {
@@ -177,7 +174,7 @@ pub fn decide_sizes(
     ensures basis { memory.new ≡ memory.old }
 {
     let key = Key::of(alloc, &heading.spec)?;
-    let from = first_size(memory, &key, heading, counted);
+    let from = first_size(memory, &key, counted);
     if heading.max < from {
         return Ok(Sized::Nothing);
     }

@@ -1,15 +1,14 @@
 -- The logs of fences by levels.
-use Rattle.std.proofs.Common.{◌≡◌, ◌⊎◌, ℕ, zero, suc, ◌+◌, ◌-◌, ◌<◌, ◌≤◌, ◌==◌, ◌^◌, Bool, true, false, cond, List, [], ◌∷◌, ◌++◌, length, map, Contains, All, Option, Some, None, refl, sym, ap, ◌∙◌, subst, arith, inl, inr, append-nil}
+use Rattle.std.proofs.Common.{◌≡◌, ◌⊎◌, ℕ, zero, suc, ◌+◌, ◌-◌, ◌<◌, ◌≤◌, ◌==◌, Bool, true, false, cond, List, [], ◌∷◌, ◌++◌, length, map, Contains, All, Option, Some, None, refl, sym, ap, ◌∙◌, subst, arith, append-nil}
 use Rattle.std.specs.Prelude.{nat_lt}
-use Rattle.std.specs.List.{filter, find, flat_map, range_with_len, AllByRecursion}
+use Rattle.std.specs.List.{filter, find}
 use Rattle.std.specs.Option.{option_map}
 use Rattle.std.proofs.Math.Logic.{⊎_elim}
-use Rattle.std.proofs.lemmas.Bool.{eqb-true, cases_lt}
 use Rattle.std.proofs.lemmas.Bool.Decides.{nat_tests}
-use Rattle.std.proofs.lemmas.Grind.{common_steps, flat_map-append}
+use Rattle.std.proofs.lemmas.Grind.{common_steps}
 use Rattle.std.proofs.lemmas.List.{map-append}
 use Rattle.std.proofs.lemmas.List.Elements.{All-push, All-append, All-filter, filter-append}
-use Rattle.clause_core.specs.Holds.{contains_head, contains_tail, contains_cases, flat_map_get, range_inside}
+use Rattle.clause_core.specs.Holds.{contains_head, contains_tail, contains_cases}
 use Rattle.chain_theory.specs.Chain.{Chain}
 use Rattle.chain_theory.specs.Levels.{HasLevels, depth}
 use Rattle.chain_theory.specs.LevelLaws.{depth-least}
@@ -17,7 +16,7 @@ use Rattle.tt_core.specs.Words.{Words}
 use Rattle.enc_theory.specs.Fence.{fence_formula}
 use Rattle.enc_theory.specs.Parts.{parts_for, fence_in, FitsPart}
 use Rattle.enc_theory.specs.declared.part.Part.{Part}
-use Rattle.enc_theory.specs.declared.part.Part.TheVariants.{Whole, Levels}
+use Rattle.enc_theory.specs.declared.part.Part.TheVariants.{Levels}
 use Rattle.enc_theory.specs.declared.data.Method.{Method}
 use Rattle.enc_theory.specs.declared.data.Method.TheVariants.{Fence}
 use Rattle.cert_theory.specs.Coding.{coding_of}
@@ -26,7 +25,7 @@ use Rattle.cert_theory.specs.declared.data.Ended.{Ended}
 use Rattle.cert_theory.specs.declared.data.Ended.TheVariants as ends
 use Rattle.cert_theory.specs.declared.data.Verdict.{Verdict}
 use Rattle.cert_theory.specs.declared.data.Verdict.TheVariants as verdicts
-use Rattle.cert_theory.specs.Bundle.{PartLog, Section, Bundle, IsHeading, IsPartLog, part_of, is_open_end, first_open, found, not_found, IsFound, IsEnding, IsValid}
+use Rattle.cert_theory.specs.Bundle.{PartLog, Section, Bundle, IsPartLog, part_of, is_open_end, first_open, found, not_found, IsFound, IsEnding, IsValid}
 use Rattle.size_loop.specs.declared.trying.PartOutcome.{PartOutcome}
 use Rattle.size_loop.specs.declared.trying.PartOutcome.TheVariants as outcomes
 use Rattle.size_loop.specs.Outcomes.{IsTried}
@@ -35,9 +34,9 @@ use Rattle.size_loop.specs.Thrift.{IsThriftyLog, AreThrifty}
 use Rattle.depth_theory.specs.declared.data.DepthVerdict.{DepthVerdict}
 use Rattle.depth_theory.specs.Flatter.{fences_for, has_levels, of_levels, by_levels, flatter}
 use Rattle.depth_theory.specs.FlatterLaws.{flatter_is, level_is, by_levels_more}
-use Rattle.depth_theory.specs.DepthBundle.{DepthBundle, part_levels, open_levels, levels_found, IsDepth}
+use Rattle.depth_theory.specs.DepthBundle.{part_levels, open_levels, levels_found}
 use Rattle.depth_theory.specs.DepthMeanings.{open_fence}
-use Rattle.depth_core.specs.Flattened.{is_flatter, IsTriedLow, AreLogs, IsFlat, AreSearched, IsLeast, minimum_of, IsOther}
+use Rattle.depth_core.specs.Flattened.{is_flatter, IsTriedLow, AreLogs, IsFlat, AreSearched, IsLeast, minimum_of}
 
 -- ---- the encoding
 
@@ -309,7 +308,7 @@ searched_least h sections c d size logs v by_fences is flat follows =
       parts_thrifty = subst (λ (n : ℕ). All (IsThriftyLog h n) logs) count flat.logged.thrifty;
     }
 
-pub ruleset bundling = (common_steps, searched_found, searched_least)
+pub ruleset bundling = (common_steps, open_below, searched_found, searched_least)
 
 -- ---- the search
 

@@ -1,6 +1,6 @@
 //! The fences of so many levels, one after the other in their order: the first with a chain ends it; where none has
 //! one, the logs are those of all of them.
-ghost use Rattle.std.specs.Prelude.{◌≡◌, ◌≤◌, ◌<◌, ◌==◌, ℕ, IfOk, Contains, nat_lt};
+ghost use Rattle.std.specs.Prelude.{◌≡◌, ◌≤◌, ◌<◌, ◌==◌, IfOk, Contains};
 ghost use Rattle.std.specs.List.{filter};
 ghost use Rattle.enc_theory.specs.declared.data.Method.TheVariants.{Fence};
 ghost use Rattle.cert_theory.specs.Bundle.{PartLog, IsHeading};

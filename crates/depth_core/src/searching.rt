@@ -1,12 +1,10 @@
 //! The search: a chain of the fewest steps first, and then the fences that are flatter than it, by levels.
-ghost use Rattle.std.specs.Prelude.{◌≡◌, ◌≤◌, ◌<◌, ◌+◌, ◌++◌, length, map, All, true, false, IfOk, OnOk};
-ghost use Rattle.enc_theory.specs.declared.part.Part.TheVariants.{Levels};
+ghost use Rattle.std.specs.Prelude.{◌≡◌, ℕ, ◌≤◌, ◌<◌, ◌+◌, ◌++◌, Some, IfOk, OnOk};
 ghost use Rattle.settings.specs.Synth.{IsInRange};
 ghost use Rattle.chain_theory.specs.Levels.{depth};
 ghost use Rattle.enc_theory.specs.declared.data.Method.TheVariants.{Fence};
-ghost use Rattle.cert_theory.specs.Bundle.{IsHeading, IsFound, IsValid, part_of};
+ghost use Rattle.cert_theory.specs.Bundle.{IsHeading, IsFound, IsValid};
 ghost use Rattle.size_loop.specs.Thrift.{AreThrifty};
-ghost use Rattle.depth_theory.specs.Flatter.{flatter};
 ghost use Rattle.depth_theory.specs.DepthBundle.{open_levels as open_levels_of, levels_found};
 ghost use Rattle.depth_core.specs.Flattened.{IsFlat, IsDeep, AreSearched, minimum_of};
 
@@ -83,9 +81,8 @@ fn flatten(alloc: Global, heading: &Heading, size: u32, chain: Chain) -> Result<
 }
 
 /// The verdict that follows from the logs of the fences that are flatter than a chain of so many levels.
-
-fn verdict_of(spec: &Spec, size: u32, parts: &[PartLog], levels: u32) -> DepthVerdict
-    requires parts { map part_of parts.now ≡ map Levels (flatter spec.now size levels) }
+fn verdict_of(parts: &[PartLog], levels: u32) -> DepthVerdict
+    requires below { (low : ℕ) → open_levels_of parts.now ≡ Some low → low < levels }
     ensures { result ≡ levels_found (open_levels_of parts.now) levels }
 {
     match open_levels(parts) {
@@ -125,7 +122,7 @@ fn least(
         parts,
         levels,
     } = flatten(alloc, &heading, size, chain)?;
-    let verdict = verdict_of(&heading.spec, size, &parts, levels);
+    let verdict = verdict_of(&parts, levels);
     let bundle = Bundle {
         heading,
         sections,

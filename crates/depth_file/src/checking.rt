@@ -1,5 +1,5 @@
 //! Whole texts, judged as one piece.
-ghost use Rattle.std.specs.Prelude.{◌≡◌, ◌^◌, ◌<◌, length, Ok, IfOk};
+ghost use Rattle.std.specs.Prelude.{◌^◌, ◌<◌, length, Ok, IfOk};
 ghost use Rattle.text_core.specs.Lines.{lines_of};
 ghost use Rattle.op_basis.specs.Basis.{members};
 ghost use Rattle.tt_core.specs.Words.{specification};

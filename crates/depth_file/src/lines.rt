@@ -1,5 +1,5 @@
 //! Single lines behind a bundle.
-ghost use Rattle.std.specs.Prelude.{◌≡◌, IfOk};
+ghost use Rattle.std.specs.Prelude.{◌≡◌};
 ghost use Rattle.text_core.specs.Items.{items_of};
 ghost use Rattle.cert_theory.specs.PartLines as parts;
 ghost use Rattle.cert_file.specs.TextLines.{line_of};

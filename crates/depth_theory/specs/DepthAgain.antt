@@ -1,30 +1,27 @@
 -- Depth bundles that were written are read again.
-use Rattle.std.proofs.Common.{◌≡◌, ◌⊎◌, ℕ, zero, suc, ◌+◌, ◌^◌, ◌<◌, ◌≤◌, ◌==◌, Bool, true, false, cond, List, [], ◌∷◌, ◌++◌, length, map, Contains, Option, Some, None, Result, Ok, Err, refl, sym, ap, ◌∙◌, subst, arith, append_assoc, append-nil}
-use Rattle.std.specs.Prelude.{codes, decimal, sum}
+use Rattle.std.proofs.Common.{◌≡◌, ℕ, ◌+◌, ◌<◌, ◌≤◌, ◌==◌, Bool, true, false, cond, List, [], ◌∷◌, ◌++◌, length, map, Contains, Option, Some, None, Result, Ok, Err, refl, sym, ap, ◌∙◌, subst, arith, append_assoc, append-nil}
+use Rattle.std.specs.Prelude.{codes, decimal}
 use Rattle.std.specs.List.{flat_map, AllByRecursion}
 use Rattle.std.specs.Option.{option_map}
 use Rattle.std.proofs.lemmas.Bool.Decides.{nat_tests}
-use Rattle.std.proofs.lemmas.Grind.{flat_map-append}
-use Rattle.std.proofs.lemmas.List.Elements.{recursion_from_All, All-contains}
-use Rattle.text_core.specs.Lines.{Line, lines_of, lines_from, line_bytes}
+use Rattle.std.proofs.lemmas.List.Elements.{recursion_from_All}
+use Rattle.text_core.specs.Lines.{Line, lines_of, lines_from}
 use Rattle.text_core.specs.Words.{after as behind_word, is_free}
 use Rattle.text_core.specs.ReadBack.{number_back, free_both, free_decimal}
 use Rattle.chain_theory.specs.Chain.{Chain}
 use Rattle.chain_theory.specs.Levels.{depth}
 use Rattle.chain_theory.specs.LevelLaws.{depth-least}
 use Rattle.chain_laws.specs.Least.{levels_at_most_steps}
-use Rattle.sat_theory.specs.Formula.{Formula, IsFormula}
+use Rattle.sat_theory.specs.Formula.{IsFormula}
 use Rattle.sat_theory.specs.Line as theory
 use Rattle.sat_theory.specs.State.{State, start, next}
 use Rattle.sat_theory.specs.Log.{IsStep, EachLine, after}
 use Rattle.sat_theory.specs.LogLaws.{after-push}
 use Rattle.lrat_check.specs.Live.{AreClauses}
 use Rattle.tt_core.specs.Words.{Words}
-use Rattle.tt_core.specs.Live.{live_words}
 use Rattle.chain_core.specs.Block.{number_in}
 use Rattle.chain_core.specs.Spelling.{line}
 use Rattle.clause_core.specs.Holds.{contains_head, contains_tail, contains_map}
-use Rattle.enc_theory.specs.Fence.{fence_formula}
 use Rattle.enc_theory.specs.Parts.{fence_in, parts_for}
 use Rattle.enc_theory.specs.declared.part.Part.{Part}
 use Rattle.enc_theory.specs.declared.part.Part.TheVariants.{Levels}
@@ -37,16 +34,14 @@ use Rattle.cert_theory.specs.declared.data.Ended.{Ended}
 use Rattle.cert_theory.specs.declared.data.Ended.TheVariants as ends
 use Rattle.cert_theory.specs.declared.data.Verdict.{Verdict}
 use Rattle.cert_theory.specs.declared.data.Verdict.TheVariants as bundle_verdicts
-use Rattle.cert_theory.specs.declared.data.BundleError.{BundleError}
 use Rattle.cert_theory.specs.declared.data.PartError.{PartError}
-use Rattle.cert_theory.specs.Bundle.{PartLog, Bundle, IsPartLog, EndsAs, part_of, formula_of, IsValid, HasOutput}
-use Rattle.cert_theory.specs.Spelling.{ended_text, done_text, log_line, title_text, title_lines, part_lines, end_text, bundle_lines, bundle_text, text_of}
+use Rattle.cert_theory.specs.Bundle.{PartLog, IsPartLog, EndsAs, part_of, formula_of}
+use Rattle.cert_theory.specs.Spelling.{ended_text, done_text, log_line, title_text, title_lines, part_lines, end_text, bundle_lines}
 use Rattle.cert_theory.specs.Gives.{◌>>=◌}
-use Rattle.cert_theory.specs.PartLines.{is_line, state_after, title_in, ended_in, part_in}
-use Rattle.cert_theory.specs.Judging.{begins, number_behind, is_title, low_with, bundle_of}
+use Rattle.cert_theory.specs.PartLines.{state_after}
+use Rattle.cert_theory.specs.Judging.{is_title, low_with}
 use Rattle.cert_laws.specs.CodingLaws.{HasShortTitle, fence_is_coding}
 use Rattle.cert_laws.specs.ClauseStates.{start_clauses, next_clauses}
-use Rattle.cert_laws.specs.LineSpellings.{is_line_back}
 use Rattle.cert_laws.specs.LinesAgain.{ended_again, number_again, two_items}
 use Rattle.cert_laws.specs.SectionsAgain.{WasFresh, part_ends, part_goes}
 use Rattle.cert_laws.specs.SectionLists.{log_holds, log_fresh, title_again}
@@ -56,7 +51,7 @@ use Rattle.cert_laws.specs.BundlesAgain.{whole_part, whole_bundle}
 use Rattle.depth_theory.specs.declared.data.DepthVerdict.{DepthVerdict}
 use Rattle.depth_theory.specs.declared.data.DepthVerdict.TheVariants as verdicts
 use Rattle.depth_theory.specs.declared.data.DepthError.{DepthError}
-use Rattle.depth_theory.specs.declared.data.DepthError.TheVariants.{Bundle as InBundle, NotRefuted, WrongDepth, WrongLevels}
+use Rattle.depth_theory.specs.declared.data.DepthError.TheVariants.{NotRefuted, WrongDepth, WrongLevels}
 use Rattle.depth_theory.specs.Flatter.{fences_for, flatter}
 use Rattle.depth_theory.specs.FlatterLaws.{flatter_is}
 use Rattle.depth_theory.specs.DepthBundle.{DepthBundle, open_levels, levels_found, IsDepth}

@@ -1,6 +1,6 @@
 -- The verdict of a depth bundle is true: a chain of fewer levels would satisfy the formula of a listed fence of at
 -- most its levels, and each of these is refuted.
-use Rattle.std.proofs.Common.{◌≡◌, ◌⊎◌, ℕ, zero, suc, ◌+◌, ◌<◌, ◌≤◌, Bool, true, false, cond, List, [], ◌∷◌, length, map, Contains, Option, Some, None, refl, sym, ap, ◌∙◌, subst, arith, inl, inr}
+use Rattle.std.proofs.Common.{◌≡◌, ◌⊎◌, ℕ, ◌<◌, ◌≤◌, Bool, true, false, cond, List, [], ◌∷◌, length, map, Contains, Option, Some, None, refl, sym, ap, ◌∙◌, subst, arith, inl, inr}
 use Rattle.std.specs.List.{find, AllByRecursion}
 use Rattle.std.specs.Option.{option_map}
 use Rattle.std.proofs.Math.Logic.{⊎_elim}
@@ -21,7 +21,7 @@ use Rattle.fence_core.specs.Listing.{fences_are_listed}
 use Rattle.enc_theory.specs.Fence.{fence_formula}
 use Rattle.enc_theory.specs.Parts.{fence_in}
 use Rattle.enc_theory.specs.declared.part.Part.{Part}
-use Rattle.enc_theory.specs.declared.part.Part.TheVariants.{Whole, Levels}
+use Rattle.enc_theory.specs.declared.part.Part.TheVariants.{Levels}
 use Rattle.enc_theory.specs.declared.data.Method.{Method}
 use Rattle.enc_theory.specs.declared.data.Method.TheVariants.{Fence}
 use Rattle.enc_laws.specs.Fence.{HasFence, fence_complete_at, fence_is_formula}
@@ -29,14 +29,12 @@ use Rattle.cert_theory.specs.declared.data.Heading.{Heading}
 use Rattle.cert_theory.specs.declared.data.Ended.{Ended}
 use Rattle.cert_theory.specs.declared.data.Ended.TheVariants as ends
 use Rattle.cert_theory.specs.declared.data.Verdict.{Verdict}
-use Rattle.cert_theory.specs.declared.data.Verdict.TheVariants.{Minimum}
 use Rattle.cert_theory.specs.Coding.{coding_of}
-use Rattle.cert_theory.specs.Bundle.{PartLog, Bundle, formula_of, EndsAs, IsPartLog, part_of, is_open_end, first_open, IsFound, IsEnding, IsValid}
+use Rattle.cert_theory.specs.Bundle.{PartLog, formula_of, EndsAs, IsPartLog, part_of, is_open_end, first_open, IsFound, IsEnding}
 use Rattle.cert_theory.specs.Meaning as meaning
 use Rattle.cert_laws.specs.Meanings.{verdict_true}
 use Rattle.depth_theory.specs.declared.data.DepthVerdict.{DepthVerdict}
-use Rattle.depth_theory.specs.declared.data.DepthVerdict.TheVariants as verdicts
-use Rattle.depth_theory.specs.Flatter.{fences_for, by_levels, flatter}
+use Rattle.depth_theory.specs.Flatter.{fences_for, flatter}
 use Rattle.depth_theory.specs.FlatterLaws.{AreRising, flatter_has, flatter_is, flatter_rise}
 use Rattle.depth_theory.specs.DepthBundle.{DepthBundle, part_levels, open_levels, levels_found, IsDepth}
 use Rattle.depth_theory.specs.DepthMeaning.{HasDepthOf, NoneFlatter, Means}

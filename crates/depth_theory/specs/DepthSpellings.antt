@@ -1,13 +1,13 @@
 -- Depth bundles, as they are read.
-use Rattle.std.proofs.Common.{◌≡◌, ◌⊎◌, ℕ, ◌+◌, ◌≤◌, ◌==◌, ◌&&◌, Bool, true, false, cond, List, [], ◌∷◌, ◌++◌, length, map, Option, Some, None, Result, Ok, Err, refl, sym, ap, ◌∙◌, subst, arith, inl, inr, append_assoc, append-nil}
+use Rattle.std.proofs.Common.{◌≡◌, ℕ, ◌+◌, ◌==◌, Bool, true, false, cond, List, [], ◌∷◌, ◌++◌, length, map, Option, Some, None, Result, Ok, Err, refl, sym, ap, ◌∙◌, subst, arith, append_assoc, append-nil}
 use Rattle.std.specs.Prelude.{codes, decimal, option_and_then}
-use Rattle.std.specs.List.{find, flat_map, join_with_byte, AllByRecursion}
+use Rattle.std.specs.List.{flat_map, join_with_byte, AllByRecursion}
 use Rattle.std.specs.Option.{option_map}
 use Rattle.std.proofs.Math.Logic.{⊎_elim}
 use Rattle.std.proofs.lemmas.Bool.{eqb-true}
 use Rattle.std.proofs.lemmas.Option.{option_and_then_some}
 use Rattle.std.proofs.lemmas.List.Elements.{All-from_recursion}
-use Rattle.text_core.specs.Lines.{Line, lines_of, line_bytes}
+use Rattle.text_core.specs.Lines.{Line, lines_of}
 use Rattle.text_core.specs.Items.{items_of}
 use Rattle.text_core.specs.ReadBack.{number_spells, items_spell, lines_spell}
 use Rattle.chain_theory.specs.Chain.{Chain}
@@ -26,7 +26,7 @@ use Rattle.cert_theory.specs.declared.data.Verdict.{Verdict}
 use Rattle.cert_theory.specs.declared.data.Verdict.TheVariants as bundle_verdicts
 use Rattle.cert_theory.specs.declared.data.BundleError.{BundleError}
 use Rattle.cert_theory.specs.declared.data.PartError.{PartError}
-use Rattle.cert_theory.specs.Bundle.{PartLog, Bundle, IsPartLog, EndsAs, part_of, formula_of, is_open_end, first_open, found, IsFound, IsEnding, IsValid, HasOutput}
+use Rattle.cert_theory.specs.Bundle.{PartLog, Bundle, IsPartLog, EndsAs, part_of, formula_of, first_open, IsEnding, IsValid, HasOutput}
 use Rattle.cert_theory.specs.Spelling.{ended_text, done_text, log_line, title_text, title_lines, part_lines, end_text, bundle_lines, text_of}
 use Rattle.cert_theory.specs.Gives.{◌>>=◌}
 use Rattle.cert_theory.specs.PartLines.{is_line, title_in, ended_in, part_in}
@@ -40,10 +40,10 @@ use Rattle.cert_laws.specs.BundleSpellings.{ReadBundle, lines_read}
 use Rattle.depth_theory.specs.declared.data.DepthVerdict.{DepthVerdict}
 use Rattle.depth_theory.specs.declared.data.DepthVerdict.TheVariants as verdicts
 use Rattle.depth_theory.specs.declared.data.DepthError.{DepthError}
-use Rattle.depth_theory.specs.declared.data.DepthError.TheVariants.{Bundle as InBundle, Syntax, NotRefuted, WrongDepth, WrongLevels}
+use Rattle.depth_theory.specs.declared.data.DepthError.TheVariants.{Bundle as InBundle, NotRefuted, WrongDepth, WrongLevels}
 use Rattle.depth_theory.specs.Flatter.{flatter}
-use Rattle.depth_theory.specs.DepthBundle.{DepthBundle, part_levels, open_levels, levels_found, IsDepth}
-use Rattle.depth_theory.specs.DepthSpelling.{levels_of, depth_line, levels_line, flat_lines, depth_lines, IsDepthText, HasDepth}
+use Rattle.depth_theory.specs.DepthBundle.{DepthBundle, open_levels, levels_found, IsDepth}
+use Rattle.depth_theory.specs.DepthSpelling.{levels_of, depth_line, levels_line, flat_lines, HasDepth}
 use Rattle.depth_theory.specs.DepthJudging.{Answer, or_syntax, at_line, both, bounded_in, levels_in, is_same, follows, nothing_behind, end_of, verdict_at, may_follow, Place, Due, Begun, Within, behind_line, flat_from, depth_at, behind_chain, least_of, behind_least, behind_bundle, front_of, behind_of, IsJudged}
 use Rattle.depth_theory.specs.FrontLines.{front_and_behind}
 

@@ -7,8 +7,7 @@ use Rattle.std.proofs.lemmas.Bool.Decides.{nat_tests}
 use Rattle.std.proofs.lemmas.Grind.{flat_map-append}
 use Rattle.std.proofs.lemmas.List.Elements.{Contains-append_cases}
 use Rattle.clause_core.specs.Holds.{contains_head, contains_tail, contains_cases, filter_get, range_contains, range_inside, flat_map_get, flat_map_make}
-use Rattle.tt_core.specs.Words.{Words}
-use Rattle.depth_theory.specs.Flatter.{fences_for, has_levels, of_levels, by_levels, flatter}
+use Rattle.depth_theory.specs.Flatter.{has_levels, of_levels, by_levels}
 
 -- ---- which
 

@@ -1,8 +1,8 @@
 -- The lines of a bundle end with its first line `end`.
-use Rattle.std.proofs.Common.{◌≡◌, ℕ, zero, suc, ◌+◌, ◌==◌, Bool, true, false, cond, List, [], ◌∷◌, ◌++◌, length, map, Option, Some, None, Ok, refl, sym, ap, ◌∙◌, append_assoc, append-nil}
+use Rattle.std.proofs.Common.{◌≡◌, ℕ, ◌+◌, ◌==◌, Bool, true, false, cond, List, [], ◌∷◌, ◌++◌, length, map, Option, Some, None, Ok, refl, sym, ap, ◌∙◌, append_assoc}
 use Rattle.std.specs.Prelude.{codes, decimal}
 use Rattle.std.specs.Str.{bytes_eq}
-use Rattle.std.specs.List.{range_with_len, AllByRecursion, flat_map, join_with_byte}
+use Rattle.std.specs.List.{range_with_len, AllByRecursion, flat_map}
 use Rattle.std.proofs.lemmas.List.Elements.{recursion_from_All}
 use Rattle.std.proofs.lemmas.Slice.Eq.{bytes_eq-Decides}
 use Rattle.text_core.specs.Lines.{Line}
@@ -21,7 +21,7 @@ use Rattle.lrat_text.specs.Spelling.{line_body}
 use Rattle.lrat_text.specs.WholeLines.{line_back}
 use Rattle.tt_core.specs.Words.{Words, cell_of}
 use Rattle.tt_core.specs.Spelling.{character, header_line}
-use Rattle.chain_core.specs.Spelling.{line, step_text, step_lines, out_text, out_line, count_text, chain_lines}
+use Rattle.chain_core.specs.Spelling.{line, step_text, step_lines, out_text, out_line, count_text}
 use Rattle.enc_theory.specs.declared.part.Part.{Part}
 use Rattle.enc_theory.specs.declared.part.Part.TheVariants.{Whole, Levels}
 use Rattle.cert_theory.specs.declared.data.Heading.{Heading}
@@ -30,7 +30,7 @@ use Rattle.cert_theory.specs.declared.data.Ended.TheVariants as ends
 use Rattle.cert_theory.specs.declared.data.Verdict.{Verdict}
 use Rattle.cert_theory.specs.declared.data.Verdict.TheVariants as verdicts
 use Rattle.cert_theory.specs.Bundle.{PartLog, Section, Bundle, IsPartLog, IsSection, AreSections, IsValid, formula_of}
-use Rattle.cert_theory.specs.Spelling.{table_text, table_line, tables_lines, basis_line, method_line, conflicts_line, max_line, first_text, heading_lines, size_line, ended_text, done_text, log_line, verdict_line, end_text, title_text, title_lines, part_lines, section_lines, block_lines, ending_lines, bundle_lines}
+use Rattle.cert_theory.specs.Spelling.{table_text, table_line, tables_lines, basis_line, method_line, conflicts_line, max_line, first_text, heading_lines, size_line, ended_text, done_text, log_line, verdict_line, end_text, title_text, title_lines, part_lines, section_lines, block_lines, bundle_lines}
 use Rattle.cert_theory.specs.PartLines.{is_line}
 use Rattle.cert_laws.specs.LineSpellings.{is_line_back}
 use Rattle.cert_laws.specs.SectionLists.{log_holds}

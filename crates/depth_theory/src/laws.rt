@@ -1,5 +1,5 @@
 //! The theorems about depth bundles. Each is the contract of a function that does nothing.
-ghost use Rattle.std.specs.Prelude.{◌≡◌, ℕ, ◌<◌, ◌≤◌, List, length, Contains, Ok};
+ghost use Rattle.std.specs.Prelude.{◌≡◌, ℕ, ◌<◌, List, length, Contains, Ok};
 ghost use Rattle.text_core.specs.Lines.{lines_of};
 ghost use Rattle.tt_core.specs.Words.{Words, specification};
 ghost use Rattle.op_basis.specs.Basis.{members};

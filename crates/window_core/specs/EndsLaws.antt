@@ -9,7 +9,7 @@ use Rattle.net_theory.specs.Net.{Net}
 use Rattle.net_theory.specs.Reach.{ReadsPlace}
 use Rattle.window_theory.specs.Places.{among, IsRising, AreJust}
 use Rattle.window_theory.specs.PlaceLaws.{among_cases, among_first, among_later}
-use Rattle.window_theory.specs.Paths.{IsGate, Reads}
+use Rattle.window_theory.specs.Paths.{Reads}
 use Rattle.window_theory.specs.Window.{IsInput}
 use Rattle.window_core.specs.Gates.{IsGateOf}
 use Rattle.window_core.specs.Rising.{put, put_outside}
@@ -98,6 +98,3 @@ found_end n gates left inputs none was =
       only = was.only;
       all = λ p is. ⊎_elim (λ on. on) (λ read. absurd (let e : false ≡ true = ap (λ (xs : List ℕ). among xs read.reader) (sym (no_length left none)) ∙ read.inside in cc)) (was.all p is);
     }
-
-pub found_gate : (n : Net) (gates left : List ℕ) (x : ℕ) (rest inputs : List ℕ) → left ≡ x ∷ rest → ((p : ℕ) → among gates p ≡ true → IsGate n p) → AreFound n gates left inputs → IsGate n x
-found_gate n gates left x rest inputs parts all was = all x (was.within x (ap (λ (xs : List ℕ). among xs x) parts ∙ among_first x rest))

@@ -131,9 +131,6 @@ sought_more n root partner taken bound left x rest g best first next parts of by
 pub sought_end : (n : Net) (root : ℕ) (partner : Option ℕ) (taken : List ℕ) (bound : ℕ) (left : List ℕ) (best : ℕ) → left ≡ [] → IsSought n root partner taken bound left best → IsSought n root partner taken bound [] best
 sought_end n root partner taken bound left best none was = subst (λ (xs : List ℕ). IsSought n root partner taken bound xs best) none was
 
-pub sought_gate : (n : Net) (root : ℕ) (partner : Option ℕ) (taken : List ℕ) (bound : ℕ) (left : List ℕ) (x : ℕ) (rest : List ℕ) (best : ℕ) → left ≡ x ∷ rest → ((p : ℕ) → among taken p ≡ true → IsGate n p) → IsSought n root partner taken bound left best → IsGate n x
-sought_gate n root partner taken bound left x rest best parts gates was = gates x (was.within x (ap (λ (xs : List ℕ). among xs x) parts ∙ among_first x rest))
-
 -- ---- candidates stand below the bound
 
 nothing_read : (n : Net) (p : ℕ) → IsReadBy n [] p → ⊥

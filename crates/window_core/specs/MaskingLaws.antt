@@ -156,9 +156,6 @@ signals_among c ps signals covered is k d low = subst (λ (ss : List Sig). k < l
 
 -- ---- gates with their places
 
-pub placed_start : (n : Net) (ps : List ℕ) (gates : List (ℕ × Gate)) → gates ≡ [] → ArePlaced n ps ps gates
-placed_start n ps gates none = subst (ArePlaced n ps ps) (sym none) (record { parts = refl; own = λ i x at. absurd cc })
-
 one_behind : (gates : List (ℕ × Gate)) (x : ℕ × Gate) (rest : List ℕ) → gate_places (gates ++ x ∷ []) ++ rest ≡ gate_places gates ++ (x.0 ∷ rest)
 one_behind [] x rest = refl
 one_behind (g ∷ gates) x rest = ap (λ (ps : List ℕ). g.0 ∷ ps) (one_behind gates x rest)
@@ -169,10 +166,6 @@ placed_more n ps left p rest g gates new parts of is was =
       parts = one_behind gates (p, g) rest ∙ ap (λ (xs : List ℕ). gate_places gates ++ xs) (sym parts) ∙ was.parts;
       own = λ i x at. ⊎_elim (λ there. was.own i x there) (λ r. subst (λ (y : ℕ × Gate). IsGateOf n y.0 y.1) r.1 of) (at_last gates (p, g) i x at);
     })
-
-pub placed_left : (n : Net) (ps left : List ℕ) (p : ℕ) (rest : List ℕ) (gates : List (ℕ × Gate)) → left ≡ p ∷ rest → ArePlaced n ps left gates → among ps p ≡ true
-placed_left n ps left p rest gates parts was =
-    ap (λ (xs : List ℕ). among xs p) (sym was.parts) ∙ among_right (gate_places gates) left p (ap (λ (xs : List ℕ). among xs p) parts ∙ get_among (p ∷ rest) 0 p refl)
 
 pub nothing_behind : (xs : List ℕ) → xs ++ [] ≡ xs
 nothing_behind [] = refl
@@ -244,17 +237,6 @@ word_values c w inputs gates i p words leaves own few at t low =
 
 -- ---- all outputs
 
-pub masked_start : (c : Cone) (mask : ℕ) (outputs on care : List ℕ) → on ≡ [] → care ≡ [] → AreMasked c mask outputs outputs on care
-masked_start c mask outputs on care none also =
-    subst (λ (xs : List ℕ). AreMasked c mask outputs outputs xs care) (sym none) (subst (AreMasked c mask outputs outputs []) (sym also) (record {
-      done = [];
-      parts = refl;
-      size = refl;
-      care_size = refl;
-      each = λ i p w at_p at_w. absurd cc;
-      masks = λ i m at. absurd cc;
-    }))
-
 more_parts : (xs : List ℕ) (x : ℕ) (rest : List ℕ) → (xs ++ x ∷ []) ++ rest ≡ xs ++ (x ∷ rest)
 more_parts [] x rest = refl
 more_parts (y ∷ ys) x rest = ap (λ (zs : List ℕ). y ∷ zs) (more_parts ys x rest)
@@ -279,10 +261,6 @@ masked_more c mask outputs left x rest on care next more word parts values is al
           (at_last was.done x i p at_p);
       masks = λ i m at. ⊎_elim (λ there. was.masks i m there) (λ r. sym r.1) (at_last care mask i m at);
     }))
-
-pub masked_left : (c : Cone) (mask : ℕ) (outputs left : List ℕ) (x : ℕ) (rest on care : List ℕ) → left ≡ x ∷ rest → AreMasked c mask outputs left on care → among outputs x ≡ true
-masked_left c mask outputs left x rest on care parts was =
-    ap (λ (xs : List ℕ). among xs x) (sym was.parts) ∙ among_right was.done left x (ap (λ (xs : List ℕ). among xs x) parts ∙ get_among (x ∷ rest) 0 x refl)
 
 no_length : (xs : List ℕ) → length xs ≡ 0 → xs ≡ []
 no_length [] e = refl

@@ -1,7 +1,6 @@
 -- How the index of a net is filled.
 use Rattle.std.specs.Prelude.{◌≡◌, ℕ, zero, suc, ◌+◌, ◌≤◌, ◌<◌, true, false, min, if◌then◌else◌, List, [], ◌∷◌, ◌++◌, length, take, slice_get, slice_index_or, Some, ◌⊎◌, refl}
 use Rattle.std.proofs.Common.{arith, sym, ◌∙◌, ap, subst, inl, inr, ⊎_elim}
-use Rattle.std.specs.List.{All}
 use Rattle.std.proofs.lemmas.Bool.{cond-true, cond-false, eqb-true, eq-eqb, cases_Bool, cases_eq, both_ways}
 use Rattle.std.proofs.lemmas.List.{length-append}
 use Rattle.std.proofs.lemmas.Option.{slice_get_within, slice_get-get_or}
@@ -13,13 +12,10 @@ use Rattle.net_theory.specs.Reach.{is_place, ReadsPlace}
 use Rattle.window_theory.specs.Paths.{IsGate, Reads}
 use Rattle.window_theory.specs.SurroundLaws.{gate_one}
 use Rattle.window_core.specs.declared.readers.Earlier.{Earlier}
-use Rattle.window_core.specs.Readers.{named_by, named_by_gate, named_by_sinks, sum_gates, uses_of, place_of, IsEarlier, IsEarlierOf, AreEarlier}
+use Rattle.window_core.specs.Readers.{named_by, named_by_gate, named_by_sinks, sum_gates, uses_of, place_of, IsEarlier, IsEarlierOf}
 use Rattle.window_core.specs.Noting.{IsBefore, AreBefore, AreGrown, IsCounting, IsNoted, HasNoted, AreNoted}
 
 -- ---- counting
-
-pub counting_start : (all : ℕ → ℕ) (old : List ℕ) → IsCounting all all old old
-counting_start all old = record { size = refl; each = λ p low. refl }
 
 pub counting_step : (all left rest more : ℕ → ℕ) (old now next : List ℕ) → ((p : ℕ) → left p ≡ more p + rest p) → AreGrown more now next → IsCounting all left old now → IsCounting all rest old next
 counting_step all left rest more old now next parts grown was =
@@ -81,19 +77,6 @@ before_rest end gs g rest parts all =
     record { first = λ i x e. all.first (suc i) x (at i x e); second = λ i x e. all.second (suc i) x (at i x e) }
 
 -- ---- last readers
-
-nobody : (n : Net) (x p : ℕ) → Reads n x p → x < n.sources + 1 + 0 → ⊥
-nobody n x p r low = omega (arith, low, r.reader.place)
-
-pub noted_start : (n : Net) (last : List ℕ) → length last ≡ end_of n → ((p : ℕ) → p < length last → slice_index_or last p 0 ≡ 0) → HasNoted n 0 last
-noted_start n last size none =
-    record {
-      size = size;
-      each = λ p low. record {
-        found = inl (none p (omega (arith, low, size)));
-        most = λ x r below. absurd (nobody n x p r below);
-      };
-    }
 
 reads_test : (p : ℕ) (g : Gate) → ReadsPlace g p → (is_place p g.a ≡ true) ⊎ (is_place p g.b ≡ true)
 reads_test p g reads = ⊎_elim (λ a. inl (ap (is_place p) a ∙ eq-eqb p p refl)) (λ b. inr (ap (is_place p) b ∙ eq-eqb p p refl)) reads
@@ -179,9 +162,6 @@ list_more n i g place last mid next list new e at place_is low_a low_b first sec
           (at_last list e j y (ap (λ (xs : List Earlier). slice_get xs j) (sym is) ∙ at_y));
     }
 
-pub list_end : (n : Net) (count : ℕ) (last : List ℕ) (list : List Earlier) → count ≡ length n.gates → AreNoted n count last list → AreEarlier n list
-list_end n count last list all was = record { size = was.size ∙ all; each = was.each }
-
 pub sig_before : (end place : ℕ) (s : Sig) → place ≤ end → IsSigBelow place s → IsBefore end s
 sig_before end place sigs.Zero low below = tt
 sig_before end place sigs.One low below = tt
@@ -193,9 +173,6 @@ gates_before n end net is =
       first = λ i g at. sig_before end (n.sources + 1 + i) g.a (omega (arith, is, slice_get_within n.gates i g at)) (net.gates.each i g at).first;
       second = λ i g at. sig_before end (n.sources + 1 + i) g.b (omega (arith, is, slice_get_within n.gates i g at)) (net.gates.each i g at).second;
     }
-
-pub sinks_before : (end place : ℕ) (ss : List Sig) → place ≤ end → All (IsSigBelow place) ss → All (IsBefore end) ss
-sinks_before end place ss low all = λ k d below. sig_before end place (slice_index_or ss k d) low (all k d below)
 
 -- ---- the table of uses
 
@@ -227,9 +204,3 @@ list_code n gates i g place sources last mid next list new e net same low is sou
     let at : slice_get n.gates i ≡ Some g = ap (λ (xs : List Gate). slice_get xs i) (sym same) ∙ slice_get-get_or gates i g low ∙ ap Some (sym is) in
     let before : AreBefore (length last) n.gates = gates_before n (length last) net was.noted.size in
     list_more n i g place last mid next list new e at (omega (arith, place_is, sources_is)) (before.first i g at) (before.second i g at) first second noted_a noted_b grown was
-
-pub gate_before : (n : Net) (gates : List Gate) (i end : ℕ) (g : Gate) → IsNet n → gates ≡ n.gates → i < length gates → g ≡ slice_index_or gates i g → end ≡ end_of n → IsBefore end g.a × IsBefore end g.b
-gate_before n gates i end g net same low is end_is =
-    let at : slice_get n.gates i ≡ Some g = ap (λ (xs : List Gate). slice_get xs i) (sym same) ∙ slice_get-get_or gates i g low ∙ ap Some (sym is) in
-    let before : AreBefore end n.gates = gates_before n end net end_is in
-    (before.first i g at, before.second i g at)

@@ -113,9 +113,6 @@ inside_first n x rest p g rising of =
     let one = sum_one (named_by_gate p) x (n.sources + 1) n.gates of.index g of.at of.place in
     omega (arith, parts, one)
 
-pub counted_start : (n : Net) (gates : List ℕ) (p : ℕ) → IsRising gates → AreCounted n gates gates p 0
-counted_start n gates p rising = record { within = λ q e. e; rising = rising; sum = omega arith; few = omega arith }
-
 pub counted_more : (n : Net) (gates left : List ℕ) (x : ℕ) (rest : List ℕ) (p : ℕ) (g : Gate) (uses more : ℕ) → left ≡ x ∷ rest → IsGateOf n x g → more ≡ named_by_gate p g → more ≤ 2 → AreCounted n gates left p uses → AreCounted n gates rest p (uses + more)
 unfolding IsRising
 counted_more n gates left x rest p g uses more parts of is few was =
@@ -135,9 +132,6 @@ no_length (x ∷ xs) e = absurd (omega (arith, e))
 pub counted_end : (n : Net) (gates left : List ℕ) (p uses : ℕ) → length left ≡ 0 → AreCounted n gates left p uses → uses ≡ inside_of n gates p
 counted_end n gates left p uses none was =
     omega (arith, was.sum, ap (λ (xs : List ℕ). inside_of n xs p) (no_length left none), inside_none n p)
-
-pub counted_gate : (n : Net) (gates left : List ℕ) (x : ℕ) (rest : List ℕ) (p uses : ℕ) → left ≡ x ∷ rest → ((q : ℕ) → among gates q ≡ true → IsGate n q) → AreCounted n gates left p uses → IsGate n x
-counted_gate n gates left x rest p uses parts all was = all x (was.within x (ap (λ (xs : List ℕ). among xs x) parts ∙ among_first x rest))
 
 -- ---- seen outside
 

@@ -77,24 +77,6 @@ onward_stays n bound place reader found was low within other =
       most = λ x r below. was.most x r (omega (arith, below, within));
     }
 
-found_reads : (n : Net) (bound place reader found : ℕ) → IsGate n found → IsEarlier n bound place reader → reader ≡ found → Reads n found place
-found_reads n bound place reader found gate was same =
-    ⊎_elim
-    (λ (none : reader ≡ 0). absurd (omega (arith, none, same, (gate_high n found gate).0)))
-    (λ r. subst (λ (y : ℕ). Reads n y place) same r.0)
-    was.found
-
-pub onward_first : (n : Net) (bound place reader found first : ℕ) (g : Gate) (e : Earlier) → IsEarlierOf n found g e → place_of g.a ≡ place → IsEarlier n found place e.first
-onward_first n bound place reader found first g e of is = subst (λ (p : ℕ). IsEarlier n found p e.first) is of.first
-
-pub onward_second : (n : Net) (bound place reader found : ℕ) (g : Gate) (e : Earlier) → IsNet n → IsGateOf n found g → IsGate n found → IsEarlierOf n found g e → IsEarlier n bound place reader → reader ≡ found → place_of g.a ≢ place → IsEarlier n found place e.second
-onward_second n bound place reader found g e net is gate of was same other =
-    let r : Reads n found place = found_reads n bound place reader found gate was same in
-    ⊎_elim
-    (λ a. absurd (other (named g.a place a)))
-    (λ b. subst (λ (p : ℕ). IsEarlier n found p e.second) (named g.b place b) of.second)
-    (reads_of n found place g is r)
-
 -- ---- the walk
 
 pub walk_start : (n : Net) (root : ℕ) (g : Gate) (e : Earlier) (partners : List ℕ) → IsGateOf n root g → IsEarlierOf n root g e → partners ≡ [] → IsWalk n root e.first e.second partners

@@ -1,6 +1,7 @@
 //! A shorter chain takes a window's place.
 ghost use Rattle.std.specs.Prelude.{◌<◌, length, IfOk};
 ghost use Rattle.chain_theory.specs.Agreement.{IsOver};
+ghost use Rattle.chain_theory.specs.Operator.{Basis};
 ghost use Rattle.op_basis.specs.Basis.{members};
 ghost use Rattle.window_theory.specs.Window.{Belongs};
 ghost use Rattle.subst_core.specs.Substitution.{Meets};
@@ -12,7 +13,6 @@ use chain_core::Chain;
 use improve_settings::ImproveSettings;
 use net_core::Net;
 use observe_core::replace_observed;
-use op_basis::Basis;
 use std::alloc::{AllocError, Global};
 use subst_core::{WindowLists, replace};
 use window_core::Window;
@@ -20,18 +20,11 @@ use window_core::Window;
 /// The net in which a chain of fewer steps that does what the window has to compute has taken its place, without dead
 /// gates.
 #[tactic(auto, using(crate::specs::ReplacingLaws::replacing))]
-fn with_own(
-    alloc: Global,
-    net: &Net,
-    window: &Window,
-    chain: &Chain,
-    basis: Basis,
-) -> Result<Net, AllocError>
+fn with_own(alloc: Global, net: &Net, window: &Window, chain: &Chain) -> Result<Net, AllocError>
     requires belongs { Belongs net.now window.now }
     requires meets { Meets net.now window.now chain.now }
     requires fewer { length chain.now.steps < length window.now.gates }
-    requires over { IsOver (members basis) chain.now }
-    ensures leads { IfOk result (λ new. Leads (members basis) net.now new) }
+    ensures leads { (basis : Basis) → IsOver basis chain.now → IfOk result (λ new. Leads basis net.now new) }
     ensures less { IfOk result (λ new. length new.gates < length net.now.gates) }
 {
     // brings what the type of a net says of its size
@@ -47,18 +40,11 @@ fn with_own(
 
 /// The same by a chain that does what those who see the window ask of it.
 #[tactic(auto, using(crate::specs::ReplacingLaws::replacing))]
-fn with_seen(
-    alloc: Global,
-    net: &Net,
-    window: &Window,
-    chain: &Chain,
-    basis: Basis,
-) -> Result<Net, AllocError>
+fn with_seen(alloc: Global, net: &Net, window: &Window, chain: &Chain) -> Result<Net, AllocError>
     requires belongs { Belongs net.now window.now }
     requires meets { MeetsSeen net.now window.now chain.now }
     requires fewer { length chain.now.steps < length window.now.gates }
-    requires over { IsOver (members basis) chain.now }
-    ensures leads { IfOk result (λ new. Leads (members basis) net.now new) }
+    ensures leads { (basis : Basis) → IsOver basis chain.now → IfOk result (λ new. Leads basis net.now new) }
     ensures less { IfOk result (λ new. length new.gates < length net.now.gates) }
 {
     // brings what the type of a net says of its size
@@ -84,7 +70,7 @@ pub fn with_chain(
     ensures less { IfOk result (λ new. length new.gates < length net.now.gates) }
 {
     if settings.observe {
-        return with_seen(alloc, net, window, chain, settings.basis);
+        return with_seen(alloc, net, window, chain);
     }
-    with_own(alloc, net, window, chain, settings.basis)
+    with_own(alloc, net, window, chain)
 }

@@ -3,6 +3,7 @@ ghost use Rattle.std.specs.Prelude.{◌≡◌, ◌≤◌, IfOk, OnOk};
 ghost use Rattle.improve_settings.specs.Improve.{IsInRange};
 ghost use Rattle.window_theory.specs.Paths.{IsGate};
 ghost use Rattle.window_theory.specs.Window.{IsWindow, Belongs};
+ghost use Rattle.sweep_core.specs.declared.visit.Visit.{Visit as VisitValue};
 ghost use Rattle.sweep_core.specs.Settled.{IsListed};
 ghost use Rattle.window_core.specs.Readers.{AreReaders};
 ghost use Rattle.window_trial.specs.Trying.{IsDecidedFor, IsOutcome};
@@ -88,15 +89,12 @@ fn try_window(
     window: &Window,
     settings: ImproveSettings,
     memory: &mut Memory,
-    visit: Visit,
 ) -> Result<Outcome, AllocError>
     requires readers { AreReaders net.now readers.now }
-    requires window { IsWindow net.now visit.root visit.partner visit.count window.now }
     requires belongs { Belongs net.now window.now }
     requires range { IsInRange settings }
-    requires listed { IsListed net.now settings.cap visit }
     requires basis { memory.old ≡ settings.basis }
-    ensures outcome { IfOk result (λ outcome. IsOutcome settings net.now visit outcome) }
+    ensures outcome { (visit : VisitValue) → IsWindow net.now visit.root visit.partner visit.count window.now → IsListed net.now settings.cap visit → IfOk result (λ outcome. IsOutcome settings net.now visit outcome) }
     ensures basis { memory.new ≡ memory.old }
 {
     // brings what the type of a net says
@@ -136,7 +134,7 @@ fn try_visit(
     }
     match window_by(alloc, net, readers, visit.root, visit.partner, visit.count)? {
         None => Ok(Outcome::Passed),
-        Some(window) => try_window(alloc, net, readers, &window, settings, memory, visit),
+        Some(window) => try_window(alloc, net, readers, &window, settings, memory),
     }
 }
 

@@ -8,7 +8,7 @@ use Rattle.cert_theory.specs.declared.data.Verdict.{Verdict}
 use Rattle.cert_theory.specs.declared.data.BundleError.{BundleError}
 use Rattle.cert_theory.specs.Bundle.{Bundle}
 use Rattle.cert_theory.specs.Meaning.{Means}
-use Rattle.cert_theory.specs.Spelling.{IsBundle, HasVerdict}
+use Rattle.cert_theory.specs.Spelling.{IsBundle}
 use Rattle.cert_theory.specs.Judging.{bundle_of}
 use Rattle.cert_theory.specs.Gives.{Gives}
 use Rattle.cert_laws.specs.BundleSpellings.{verdict_spelled}

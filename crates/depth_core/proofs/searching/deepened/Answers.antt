@@ -1,10 +1,8 @@
 -- The bundle, taken apart.
-use Rattle.std.proofs.Common.{◌≡◌, Option, Some, None, sym, ◌∙◌, subst, ap}
-use Rattle.chain_theory.specs.Chain.{Chain}
-use Rattle.cert_theory.specs.declared.data.Verdict.{Verdict}
+use Rattle.std.proofs.Common.{◌≡◌, Some, sym, subst}
 use Rattle.cert_theory.specs.Bundle.{Bundle, IsValid}
 use Rattle.size_loop.specs.Thrift.{AreThrifty}
-use Rattle.depth_core.specs.Flattened.{minimum_of, AreSearched}
+use Rattle.depth_core.specs.Flattened.{minimum_of}
 use Rattle.depth_core.proofs.LevelLogs.{is_searched, no_chain}
 use Rattle.depth_core.proofs.searching.deepened.Goals as goal
 

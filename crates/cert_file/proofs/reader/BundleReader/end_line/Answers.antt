@@ -1,5 +1,5 @@
 -- The line joins what was fed of it.
-use Rattle.std.proofs.Common.{◌≡◌, List, [], ◌++◌, refl, rules}
+use Rattle.std.proofs.Common.{◌≡◌, [], ◌++◌, refl, rules}
 use Rattle.std.proofs.lemmas.Grind.{common_steps}
 use Rattle.cert_file.specs.Reader.{with_end}
 use Rattle.cert_file.specs.CuttingLaws.{nothing_before, none_of}
