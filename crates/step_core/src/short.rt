@@ -1,5 +1,6 @@
 //! A chain of at most one step, or that there is none.
 ghost use Rattle.std.specs.Prelude.{◌≡◌, length, IfOk};
+ghost use Rattle.chain_theory.specs.Operator.{Basis as Operators};
 ghost use Rattle.op_basis.specs.Basis.{members};
 ghost use Rattle.tt_core.specs.Words.{specification};
 ghost use Rattle.tt_core.specs.Live.{live_words};
@@ -16,9 +17,9 @@ use tt_core::{Spec, live_part};
 
 /// The chain without steps, where no output is live.
 #[tactic(auto, using(crate::specs::ShortLaws::answering))]
-fn without_step(alloc: Global, spec: &Spec, basis: Basis) -> Result<Chain, AllocError>
+fn without_step(alloc: Global, spec: &Spec) -> Result<Chain, AllocError>
     requires { length (live_words spec.now).on ≡ 0 }
-    ensures { IfOk result (λ chain. IsShort (specification spec.now) (members basis) chain) }
+    ensures { (basis : Operators) → IfOk result (λ chain. IsShort (specification spec.now) basis chain) }
 {
     let outs = outs_for(alloc, spec)?;
     Ok(Chain::new(spec.n(), Vec::new(alloc), outs))
@@ -47,7 +48,7 @@ pub fn one_step(alloc: Global, spec: &Spec, basis: Basis) -> Result<Option<Chain
     let _inputs = spec.n();
     let _same_inputs = live.n();
     if live.outputs() == 0 {
-        return Ok(Some(without_step(alloc, spec, basis)?));
+        return Ok(Some(without_step(alloc, spec)?));
     }
     match serving_step(&live, basis) {
         Some(step) => Ok(Some(with_step(alloc, spec, basis, step)?)),
