@@ -21,7 +21,8 @@ use Rattle.clause_db.specs.Stored.{Stored, live_at, live_in}
 use Rattle.clause_db.specs.StoredLaws.{live_added, live_inside}
 use Rattle.clause_db.specs.Blocking.{row_of, with_row, with_blocker, rows_moved, besides}
 use Rattle.clause_db.proofs.Beside.{row-other, row_back}
-use Rattle.clause_db.specs.Arranging.{Arranged, block_at, watching_of, arranged_more, ArePermuted, AreArranged, IsNoneOf}
+use Rattle.clause_db.specs.Arranging.{Arranged, block_at, watching_of, arranged_more, exchanged_at, ArePermuted, AreArranged, IsNoneOf}
+use Rattle.clause_db.specs.Deleting.{arranged_left}
 
 -- an id that was put into a list, and taken off when the next one failed
 pub both_back : (w a b : Arranged) (l m : ℤ) (id : ℕ) → a ≡ record w { lists = with_id w.lists l id; rows = with_blocker w.rows l m }
@@ -35,9 +36,9 @@ both_back w a b l m id pushed taken =
     again : {xs : List (List ℕ)} {ys : List (List ℤ)} → xs ≡ w.lists → ys ≡ w.rows → (let x : Arranged = record { blocks = w.blocks; lists = xs; rows = ys } in x) ≡ w
     again e f = rw (e, f) refl
 
--- two literals of an id changed places
-abbrev pub exchanged_at : Arranged → ℕ → ℕ → ℕ → Arranged
-exchanged_at w id low high = record { blocks = slice_set w.blocks (id - 1) (swap (block_at w.blocks id) low high); lists = w.lists; rows = w.rows }
+-- Two literals of a clause may change places before it leaves a list.
+pub exchanged_first : (a b c : Arranged) (from : ℤ) (id index low high : ℕ) → b ≡ exchanged_at a id low high → c ≡ record b { lists = slice_set b.lists (code_of from) (swap_remove (listed_in b.lists from) index 0); rows = with_row b.rows from (swap_remove (row_of b.rows from) index (pos 1)) } → c ≡ exchanged_at (arranged_left a from index) id low high
+exchanged_first a b c from id index low high exchanged taken = taken ∙ ap (λ (x : Arranged). arranged_left x from index) exchanged
 
 -- the watched pair of an id
 pub pair_block : (a : Arranged) (id : ℕ) → pair_at (watching_of a) id ≡ pair_of (block_at a.blocks id)

@@ -1,7 +1,7 @@
 -- The entries of all lists have the ranges of their ids.
 use Rattle.std.proofs.Common.{◌≡◌, ℕ, ◌+◌, ◌-◌, ◌<◌, ◌≤◌, ℤ, List, [], ◌∷◌, ◌++◌, length, take, slice_index_or, slice_set, replicate, All, sym, ap, ◌∙◌, subst, arith}
-use Rattle.std.specs.List.{swap_remove}
-use Rattle.std.proofs.lemmas.List.{length-map, length-append, length-take, get_or-map}
+use Rattle.std.specs.List.{swap_remove, swap}
+use Rattle.std.proofs.lemmas.List.{length-map, length-append, length-take, length-set, get_or-map}
 use Rattle.std.proofs.lemmas.List.Elements.{All-nil, All-replicate, All-get_or, All-set, All-take, All-weaker}
 use Rattle.cdcl_theory.specs.Codes.{code_of}
 use Rattle.clause_db.specs.declared.lists.Watch.{Watch}
@@ -9,7 +9,8 @@ use Rattle.clause_db.specs.BlockRanges.{Blocked, no_range, KeepsRanges}
 use Rattle.clause_db.specs.Lists.{Listed, nothing_listed, no_watch, blocked_by, ids_of, lists_of, IsDirect, AreDirect}
 use Rattle.clause_db.specs.Watching.{listed_in}
 use Rattle.clause_db.specs.WatchingLaws.{watch_id}
-use Rattle.clause_db.specs.Arranging.{Arranged, block_at}
+use Rattle.clause_db.specs.Arranging.{Arranged, block_at, exchanged_at}
+use Rattle.clause_db.specs.declared.blocks.Range.{Range}
 use Rattle.clause_db.proofs.Listed.{shown_lists, shown_list, ids_inside, lists_room}
 
 pub direct_none : (b : Blocked) (n : ℕ) → AreDirect b (replicate n nothing_listed)
@@ -106,3 +107,32 @@ direct_back old new back lits before all more back_is kept same was are k d low 
 
     given : w.id ≤ length back.lists
     given = rw (back_is, length-take) (omega (arith, low_id, count_new))
+
+-- Two literals of a clause change places.
+places_read : (blocks arranged : List (List ℤ)) (w : Watch) (id high : ℕ) → blocks ≡ arranged → w.id ≡ id → high < length (block_at arranged id) → high < length (block_at blocks w.id)
+places_read blocks arranged w id high same id_is places = subst (λ (ls : List (List ℤ)). high < length (block_at ls w.id)) (sym same) (subst (λ (n : ℕ). high < length (block_at arranged n)) (sym id_is) places)
+
+pub range_places : (b : Blocked) (arranged : List (List ℤ)) (w : Watch) (id high : ℕ) → b.lists ≡ arranged → w.id ≡ id → IsDirect b w → high < length (block_at arranged id) → (n : ℕ) × (n < length b.lists) × (slice_index_or b.ranges n no_range ≡ w.range) × (high < length (slice_index_or b.lists n []))
+range_places b arranged w id high same id_is is places = (w.id - 1, (let some : 0 < w.id = is.some in let given : w.id ≤ length b.lists = is.given in omega (arith, some, given)), is.is, places_read b.lists arranged w id high same id_is places)
+
+-- what an exchange by the range of an entry gives
+abbrev pub IsExchange : Blocked → Blocked → Watch → ℕ → ℕ → Type 0
+IsExchange b new w low high = (n : ℕ) → n < length b.lists → slice_index_or b.ranges n no_range ≡ w.range → high < length (slice_index_or b.lists n []) → new.lists ≡ slice_set b.lists n (swap (slice_index_or b.lists n []) low high)
+
+exchanged_lists : (b new : Blocked) (arranged : List (List ℤ)) (w : Watch) (id low high : ℕ) → b.lists ≡ arranged → w.id ≡ id → IsDirect b w → high < length (block_at arranged id) → IsExchange b new w low high → new.lists ≡ slice_set b.lists (w.id - 1) (swap (block_at b.lists w.id) low high)
+exchanged_lists b new arranged w id low high same id_is is places exchanged = exchanged (w.id - 1) (let some : 0 < w.id = is.some in let given : w.id ≤ length b.lists = is.given in omega (arith, some, given)) is.is (places_read b.lists arranged w id high same id_is places)
+
+pub exchanged_shown : (b new : Blocked) (all : List Listed) (a : Arranged) (w : Watch) (id low high : ℕ) → shown_lists b.lists all ≡ a → w.id ≡ id → IsDirect b w → high < length (block_at a.blocks id) → IsExchange b new w low high → shown_lists new.lists all ≡ exchanged_at a id low high
+exchanged_shown b new all a w id low high view id_is is places exchanged =
+    ap (λ (ls : List (List ℤ)). shown_lists ls all) (exchanged_lists b new a.blocks w id low high (ap (λ (x : Arranged). x.blocks) view) id_is is places exchanged)
+    ∙ ap (λ (n : ℕ). exchanged_at (shown_lists b.lists all) n low high) id_is
+    ∙ ap (λ (x : Arranged). exchanged_at x id low high) view
+
+pub direct_exchanged : (b new : Blocked) (all : List Listed) (arranged : List (List ℤ)) (w : Watch) (id low high : ℕ) → b.lists ≡ arranged → w.id ≡ id → IsDirect b w → high < length (block_at arranged id) → IsExchange b new w low high → new.ranges ≡ b.ranges → AreDirect b all → AreDirect new all
+direct_exchanged b new all arranged w id low high same id_is is places exchanged ranges are = All-weaker (All (IsDirect b)) (All (IsDirect new)) (λ e. All-weaker (IsDirect b) (IsDirect new) one e) all are
+  where
+    long : length new.lists ≡ length b.lists
+    long = ap length (exchanged_lists b new arranged w id low high same id_is is places exchanged) ∙ length-set b.lists (w.id - 1) (swap (block_at b.lists w.id) low high)
+
+    one : (v : Watch) → IsDirect b v → IsDirect new v
+    one v its = record { some = its.some; given = (let given : v.id ≤ length b.lists = its.given in omega (arith, given, long)); is = ap (λ (rs : List Range). slice_index_or rs (v.id - 1) no_range) ranges ∙ its.is }

@@ -3,7 +3,7 @@ use Rattle.std.proofs.Common.{◌≡◌, ℕ, suc, ◌+◌, ◌-◌, ◌<◌, �
 use Rattle.std.specs.List.{slice_range, swap}
 use Rattle.std.proofs.Math.Logic.{⊎_elim}
 use Rattle.std.proofs.lemmas.Bool.{cases_eq, cases_lt}
-use Rattle.std.proofs.lemmas.List.{length-drop, length-take-le, length-map, length-set, map-append, take-map, get_or-take, get_or_append_left, get_or-drop, get_or-map, get_or-set_same, get_or-set_other, same_lists}
+use Rattle.std.proofs.lemmas.List.{length-drop, length-take-le, length-map, length-set, map-append, take-map, get_or-take, get_or_append_left, get_or-drop, get_or-map, get_or-set_same, get_or-set_other, same_lists, get_or_default}
 use Rattle.std.proofs.lemmas.List.Elements.{All-push}
 use Rattle.std.proofs.lemmas.List.Edits.{length-swap, swapped_from_swap, Swapped}
 use Rattle.std.proofs.lemmas.List.Quantifiers.{all_pairs_push}
@@ -90,13 +90,19 @@ swapped_in row ranges index low high r are inside is order places =
         (λ (differ : k ≡ index → ⊥). apart k (slice_index_or ranges k r) within differ refl ∙ sym (get_or-set_other (lists_in row ranges) index k list d differ ∙ get_or-map (list_in row) ranges k r d within))
         (cases_eq k index)
 
-pub lists_swapped : (lists : List (List ℤ)) (row new : List ℤ) (ranges : List Range) (index low high : ℕ) (r : Range) → lists_in row ranges ≡ lists → AreRanges row ranges → r ≡ slice_index_or ranges index r → index < length lists → low < high → high < length (slice_index_or lists index []) → new ≡ swap row (r.start + low) (r.start + high) → lists_in new ranges ≡ slice_set lists index (swap (slice_index_or lists index []) low high)
+lists_swapped : (lists : List (List ℤ)) (row new : List ℤ) (ranges : List Range) (index low high : ℕ) (r : Range) → lists_in row ranges ≡ lists → AreRanges row ranges → r ≡ slice_index_or ranges index r → index < length lists → low < high → high < length (slice_index_or lists index []) → new ≡ swap row (r.start + low) (r.start + high) → lists_in new ranges ≡ slice_set lists index (swap (slice_index_or lists index []) low high)
 lists_swapped lists row new ranges index low high r view are is within order places new_is =
     let inside : index < length ranges = (let long : length lists ≡ length ranges = sym (ap length view) ∙ length-map ranges (list_in row) in omega (arith, within, long)) in
     let list : slice_index_or lists index [] ≡ list_in row r = ap (λ (ls : List (List ℤ)). slice_index_or ls index []) (sym view) ∙ get_or-map (list_in row) ranges index r [] inside ∙ ap (list_in row) (sym is) in
     let fine : (r.start ≤ r.end) × (r.end ≤ length row) = subst (λ (s : Range). (s.start ≤ s.end) × (s.end ≤ length row)) (sym is) (are.inside index r inside) in
     let long : length (slice_index_or lists index []) ≡ r.end - r.start = ap length list ∙ range_long row r.start r.end fine.0 fine.1 in
     ap (λ (xs : List ℤ). lists_in xs ranges) new_is ∙ swapped_in row ranges index low high r are inside is order (omega (arith, places, long)) ∙ ap (λ (ls : List (List ℤ)). slice_set ls index (swap (list_in row r) low high)) view ∙ ap (λ (xs : List ℤ). slice_set lists index (swap xs low high)) (sym list)
+
+-- the same by a range that the list has
+pub lists_exchanged : (lists : List (List ℤ)) (row new : List ℤ) (ranges : List Range) (index low high : ℕ) (r : Range) → lists_in row ranges ≡ lists → AreRanges row ranges → slice_index_or ranges index no_range ≡ r → index < length lists → low < high → high < length (slice_index_or lists index []) → new ≡ swap row (r.start + low) (r.start + high) → lists_in new ranges ≡ slice_set lists index (swap (slice_index_or lists index []) low high)
+lists_exchanged lists row new ranges index low high r view are at within order places new_is =
+    let inside : index < length ranges = (let long : length lists ≡ length ranges = sym (ap length view) ∙ length-map ranges (list_in row) in omega (arith, within, long)) in
+    lists_swapped lists row new ranges index low high r view are (sym at ∙ get_or_default ranges index no_range r inside) within order places new_is
 
 -- The lists of some ranges are the same in two rows that agree on each of them.
 lists_same : (row new : List ℤ) (ranges : List Range) → ((k : ℕ) (d : Range) → k < length ranges → list_in new (slice_index_or ranges k d) ≡ list_in row (slice_index_or ranges k d)) → lists_in new ranges ≡ lists_in row ranges

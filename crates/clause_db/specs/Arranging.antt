@@ -1,5 +1,6 @@
 -- The literals of each clause in an order of their own, so that the two that it watches stand first.
-use Rattle.std.specs.Prelude.{◌≡◌, ℕ, ◌-◌, ◌⊎◌, ℤ, List, [], ◌∷◌, ◌++◌, map, slice_index_or, Option, Some}
+use Rattle.std.specs.Prelude.{◌≡◌, ℕ, ◌-◌, ◌⊎◌, ℤ, List, [], ◌∷◌, ◌++◌, map, slice_index_or, slice_set, Option, Some}
+use Rattle.std.specs.List.{swap}
 use Rattle.std.specs.List.Sorted.{IsPermutation}
 use Rattle.clause_db.specs.declared.watches.Pair.{Pair}
 use Rattle.clause_db.specs.Watching.{Watching, pair_of, with_ids}
@@ -25,6 +26,10 @@ watching_of a = record { pairs = map pair_of a.blocks; lists = a.lists }
 -- a clause was added, in its own order
 abbrev pub arranged_more : Arranged → List ℤ → ℕ → Arranged
 arranged_more a lits id = record { blocks = a.blocks ++ lits ∷ []; lists = with_ids a.lists lits id; rows = with_blockers a.rows lits }
+
+-- two literals of an id changed places
+abbrev pub exchanged_at : Arranged → ℕ → ℕ → ℕ → Arranged
+exchanged_at a id low high = record { blocks = slice_set a.blocks (id - 1) (swap (block_at a.blocks id) low high); lists = a.lists; rows = a.rows }
 
 -- a literal that isn't watched
 abbrev pub IsNoneOf : Pair → ℤ → Type 0

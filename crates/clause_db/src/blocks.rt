@@ -97,15 +97,14 @@ impl Blocks {
         &self.row[range.start as usize..range.end as usize]
     }
 
-    /// Lets two literals of a list change places.
-    pub(crate) fn exchange(&mut self, index: usize, low: usize, high: usize)
-        requires inside { index < length self.old.lists }
+    /// Lets two literals of the list of a range change places.
+    pub(crate) fn exchange(&mut self, range: Range, low: usize, high: usize)
+        requires there { (index : ℕ) × (index < length self.old.lists) × (slice_index_or self.old.ranges index no_range ≡ range) × (high < length (slice_index_or self.old.lists index [])) }
         requires order { low < high }
-        requires places { high < length (slice_index_or self.old.lists index []) }
-        ensures lists { self.new.lists ≡ slice_set self.old.lists index (swap (slice_index_or self.old.lists index []) low high) }
+        ensures lists { (index : ℕ) → index < length self.old.lists → slice_index_or self.old.ranges index no_range ≡ range → high < length (slice_index_or self.old.lists index []) → self.new.lists ≡ slice_set self.old.lists index (swap (slice_index_or self.old.lists index []) low high) }
         ensures ranges { self.new.ranges ≡ self.old.ranges }
     {
-        let start = self.ranges[index].start as usize;
+        let start = range.start as usize;
         self.row.swap(start + low, start + high);
     }
 }

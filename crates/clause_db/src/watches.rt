@@ -7,7 +7,7 @@ ghost use Rattle.std.specs.List.{swap_remove, swap};
 ghost use Rattle.cdcl_theory.specs.Codes.{code_of};
 ghost use Rattle.clause_db.specs.Watching.{listed_in, pair_of, with_id, with_ids, watching_moved};
 ghost use Rattle.clause_db.specs.Blocking.{row_of, with_row, with_blocker, with_blockers, rows_moved, besides};
-ghost use Rattle.clause_db.specs.Arranging.{block_at, watching_of, arranged_more, ArePermuted, IsNoneOf};
+ghost use Rattle.clause_db.specs.Arranging.{block_at, watching_of, arranged_more, exchanged_at, ArePermuted, IsNoneOf};
 ghost use Rattle.clause_db.specs.Deleting.{arranged_left};
 ghost use Rattle.clause_db.specs.Lists.{ids_of, blockers_of};
 
@@ -203,14 +203,13 @@ impl Watches {
         ensures order { OnOk result (ArePermuted self.old.blocks self.new.blocks) }
         ensures err { OnErr result (self.new ≡ self.old) }
     {
-        let id = self.list(from)[index].id;
         let block = self.entry_block(from, index);
         let low = place_of_watch(block, from);
         let other = block[1 - low];
         let high = place_of(block, to, place);
         self.hand_on(from, index, to, other)?;
+        self.exchange(from, index, low, high);
         self.take_out(from, index);
-        self.exchange(id, low, high);
         Ok(())
     }
 
@@ -234,15 +233,16 @@ impl Watches {
         self.lists[lit.code()].take_out(index);
     }
 
-    /// Lets two literals of a clause change places.
-    fn exchange(&mut self, id: u32, low: usize, high: usize)
-        requires some { 0 < id }
-        requires given { id ≤ length self.old.blocks }
+    /// Lets two literals of the clause at an index in a literal's list change places.
+    fn exchange(&mut self, lit: Lit, index: usize, low: usize, high: usize)
+        requires room { code_of lit < length self.old.lists }
+        requires inside { index < length (listed_in self.old.lists lit) }
         requires order { low < high }
-        requires inside { high < length (block_at self.old.blocks id) }
-        ensures { self.new ≡ record self.old { blocks = slice_set self.old.blocks (id - 1) (swap (block_at self.old.blocks id) low high) } }
+        requires places { high < length (block_at self.old.blocks (slice_index_or (listed_in self.old.lists lit) index 0)) }
+        ensures { self.new ≡ exchanged_at self.old (slice_index_or (listed_in self.old.lists lit) index 0) low high }
     {
-        self.blocks.exchange(id as usize - 1, low, high);
+        let watch = self.lists[lit.code()].at(index);
+        self.blocks.exchange(watch.range, low, high);
     }
 }
 
@@ -271,10 +271,7 @@ fn place_of_watch(lits: &[Lit], lit: Lit) -> usize
     ensures front { result < 2 }
     ensures found { (result ≡ 0) × ((pair_of lits.now).first ≡ lit) ⊎ (result ≡ 1) × ((pair_of lits.now).first ≢ lit) }
 {
-    if lits[0] == lit {
-        return 0;
-    }
-    1
+    usize::from(lits[0] != lit)
 }
 
 /// The place of a literal in a list that has it. It is looked for at `hint` first.
