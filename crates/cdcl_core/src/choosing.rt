@@ -121,7 +121,7 @@ impl Choice {
             if !clauses.live(id) {
                 continue;
             }
-            self.add(clauses.lits(id), part);
+            self.add(clauses.arranged(id), part);
         }
     }
 

@@ -1,15 +1,16 @@
 -- Marking the fallen literals of a clause, and gathering those that are marked.
-use Rattle.std.proofs.Common.{◌≡◌, ℕ, ◌+◌, ◌<◌, ◌⊎◌, ℤ, Bool, true, List, [], ◌∷◌, ◌++◌, length, take, slice_index_or, All, Contains, subst, sym, ap, ◌∙◌, arith, inl, inr, refl}
+use Rattle.std.proofs.Common.{◌≡◌, ◌↔◌, ℕ, ◌+◌, ◌<◌, ◌⊎◌, ℤ, Bool, true, Option, Some, IsSome, List, [], ◌∷◌, ◌++◌, length, take, slice_index_or, All, Contains, subst, sym, ap, ◌∙◌, arith, inl, inr, refl}
 use Rattle.std.proofs.Math.Logic.{⊎_elim}
 use Rattle.std.proofs.lemmas.Bool.{both_ways, false_from_ne_true}
 use Rattle.std.proofs.lemmas.Grind.{common_steps}
 use Rattle.std.proofs.lemmas.List.{take_more}
-use Rattle.std.proofs.lemmas.List.Elements.{All-append, All-contains, All-push, All-weaker, All-cons, All-nil, Contains-push, Contains-append_left, Contains-append_right}
+use Rattle.std.proofs.lemmas.List.Elements.{All-append, All-contains, All-contains_itself, All-push, All-weaker, All-cons, All-nil, Contains-push, Contains-append_left, Contains-append_right}
 use Rattle.sat_theory.specs.Holding.{with_literal}
 use Rattle.cdcl_theory.specs.Codes.{code_of, marked_in, without_literal}
 use Rattle.cdcl_theory.specs.CodeLaws.{cases_literal, code_of-room, with_literal-cases, with_literal-old, with_literal-new, without_literal-other, without_literal-same}
 use Rattle.trail_core.specs.Values.{IsOver}
-use Rattle.conflict_core.specs.Walking.{AreMarked, AreTaken, AreOthers, IsListed, IsClear}
+use Rattle.clause_db.specs.DeletingLaws.{some_live}
+use Rattle.conflict_core.specs.Walking.{AreMarked, IsMarkedBy, AreTaken, AreOthers, IsListed, IsClear}
 
 first_there : (l : ℤ) → Contains (l ∷ []) l
 first_there l = (0, (let one : 0 < 1 = omega arith in one), refl)
@@ -102,6 +103,23 @@ clear_taken vars old off new touched others first listed now same taken long = r
   room = long ∙ same ∙ listed.room;
 }
 
+-- a clause whose literals stand in another order
+pub marked_in_order : (places : ℤ → ℕ) (lits clause : List ℤ) (old new : List Bool) → ((l : ℤ) → Contains lits l ↔ Contains clause l) → AreMarked places lits old new → AreMarked places clause old new
+marked_in_order places lits clause old new same before = record {
+  stay = before.stay;
+  there = All-weaker (Contains clause) (λ m. 0 < places m → marked_in new m ≡ true) (λ m inside. All-contains (λ m. 0 < places m → marked_in new m ≡ true) lits m before.there ((same m).1 inside)) clause (All-contains_itself clause);
+  only = λ m is. ⊎_elim (λ (was : marked_in old m ≡ true). inl was) (λ (now : Contains lits m × (0 < places m)). inr ((same m).0 now.0, now.1)) (before.only m is);
+}
+
+pub marked_by : (live : ℕ → Option (List ℤ)) (places : ℤ → ℕ) (id : ℕ) (lits : List ℤ) (old new : List Bool) → IsSome (live id) → ((clause : List ℤ) → live id ≡ Some clause → (l : ℤ) → Contains lits l ↔ Contains clause l) → AreMarked places lits old new → IsMarkedBy live places id old new
+marked_by live places id lits old new some same before = record {
+  clause = (some_live (live id) some).0;
+  is_live = (some_live (live id) some).1;
+  marked = marked_in_order places lits (some_live (live id) some).0 old new (same (some_live (live id) some).0 (some_live (live id) some).1) before;
+}
+
 pub ruleset marking_one = (common_steps, marked_not_fallen, marked_already, marked_now, listed_push)
 
 pub ruleset marking_all = (common_steps, marked_none, marked_more)
+
+pub ruleset marking_clause = (common_steps, marked_by)

@@ -12,6 +12,12 @@ pub record AreMarked (places : ℤ → ℕ) (lits : List ℤ) (old new : List Bo
   pub there : All (λ m. 0 < places m → marked_in new m ≡ true) lits
   pub only : (m : ℤ) → marked_in new m ≡ true → (marked_in old m ≡ true) ⊎ (Contains lits m × (0 < places m))
 
+-- the fallen literals of the clause of an id were marked, and no others
+pub record IsMarkedBy (live : ℕ → Option (List ℤ)) (places : ℤ → ℕ) (id : ℕ) (old new : List Bool) : Type 0 where
+  pub clause : List ℤ
+  pub is_live : live id ≡ Some clause
+  pub marked : AreMarked places clause old new
+
 -- no literal that fell at an index from low to high is marked
 abbrev pub NoneMarked : Trailed → List Bool → ℕ → ℕ → Type 0
 NoneMarked t marks low high = (p : ℕ) (d : ℤ) → low ≤ p → p < high → marked_in marks (opposite (slice_index_or t.lits p d)) ≡ true → ⊥

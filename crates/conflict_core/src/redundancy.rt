@@ -93,7 +93,7 @@ impl Redundancy {
             self.note(lit, Verdict::Stands)?;
             return Ok(false);
         }
-        for other in clauses.lits(id) {
+        for other in clauses.arranged(id) {
             if *other == implied {
                 continue;
             }

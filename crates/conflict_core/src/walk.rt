@@ -3,13 +3,13 @@
 //! their clause follows by the ids that were gone over. No step breaks that, wherever it is made, and so the order of
 //! the steps, which literals are tried and when the walk ends are for other facts to say. The literals that were
 //! touched are listed besides, so that the marks are taken off in time linear in the walk.
-ghost use Rattle.std.specs.Prelude.{◌≡◌, ℤ, ◌+◌, ◌<◌, ◌≤◌, ◌∷◌, [], false, length, slice_index_or, Contains, AllPairs, IfOk, OnOk, IfSome, IfNone};
+ghost use Rattle.std.specs.Prelude.{◌≡◌, ℤ, ◌+◌, ◌<◌, ◌≤◌, ◌∷◌, [], false, length, slice_index_or, Contains, AllPairs, IsSome, IfOk, OnOk, IfSome, IfNone};
 ghost use Rattle.sat_theory.specs.Formula.{variable as variable_of, opposite as opposite_of, IsClause, IsWithin};
 ghost use Rattle.cdcl_theory.specs.Falling.{IsFalsified};
 ghost use Rattle.cdcl_theory.specs.Trails.{Trailed, IsTrail, IsLayered, HasReason, fell as fell_of};
 ghost use Rattle.clause_db.specs.Stored.{live_in};
 ghost use Rattle.trail_core.specs.Values.{IsOver};
-ghost use Rattle.conflict_core.specs.Walking.{AreMarked, IsListed, IsMarkedClause, NoneMarked, IsLastMarked, IsReplaced, StayBelow, OnlyBelow, AreFewer, HasRoom, IsClear, AreOthers};
+ghost use Rattle.conflict_core.specs.Walking.{AreMarked, IsMarkedBy, IsListed, IsMarkedClause, NoneMarked, IsLastMarked, IsReplaced, StayBelow, OnlyBelow, AreFewer, HasRoom, IsClear, AreOthers};
 ghost use Rattle.conflict_core.specs.Learning.{IsWalkOf, HaveReasons};
 
 use crate::marks::Marks;
@@ -76,6 +76,22 @@ impl Walk {
         Ok(())
     }
 
+    /// Marks the literals of a live clause that have fallen. They are read in the order in which propagation reads
+    /// them, so from where it has just been.
+    #[tactic(auto, using(crate::proofs::Gathering::marking_clause))]
+    fn mark_clause(&mut self, trail: &Trail, clauses: &ClauseDb, id: u32) -> Result<(), AllocError>
+        requires vars { clauses.now.vars ≡ trail.now.vars }
+        requires live { IsSome (live_in clauses.now id) }
+        requires listed { IsListed trail.now.vars self.old.marks self.old.touched.items }
+        ensures marked { OnOk result (IsMarkedBy (live_in clauses.now) (fell_of trail.now) id self.old.marks self.new.marks) }
+        ensures listed { OnOk result (IsListed trail.now.vars self.new.marks self.new.touched.items) }
+        ensures hints { self.new.hints ≡ self.old.hints }
+        ensures room { length self.new.marks ≡ length self.old.marks }
+    {
+        self.mark_fallen(trail, clauses.arranged(id))?;
+        Ok(())
+    }
+
     /// Marks the literals of a falsified clause, from which the walk begins.
     pub(crate) fn begin(
         &mut self,
@@ -93,7 +109,7 @@ impl Walk {
     {
         self.touched.clear();
         self.hints.clear();
-        self.mark_fallen(trail, clauses.lits(conflict))?;
+        self.mark_clause(trail, clauses, conflict)?;
         self.hints.push(conflict)?;
         Ok(())
     }
@@ -116,7 +132,7 @@ impl Walk {
         let lit = trail.at(place);
         let id = trail.reason(lit);
         self.marks.unset(lit.opposite());
-        self.mark_fallen(trail, clauses.lits(id))?;
+        self.mark_clause(trail, clauses, id)?;
         self.hints.push(id)?;
         Ok(())
     }

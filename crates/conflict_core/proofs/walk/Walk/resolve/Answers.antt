@@ -4,18 +4,18 @@ use Rattle.conflict_core.proofs.Gathering.{listed_unset}
 use Rattle.conflict_core.proofs.Walks.{walk_resolved, marks_replaced}
 use Rattle.conflict_core.proofs.walk.Walk.resolve.Goals as goal
 
-pub mark_fallen-requires-clause-listed : goal.mark_fallen-requires-clause-listed
-mark_fallen-requires-clause-listed c = listed_unset c.args.trail.now.vars c.args.self.now.marks c.unset.new.self c.args.self.now.touched.items c.opposite.result c.requires.walk.listed c.unset.ensures.set c.unset.ensures.room
+pub mark_clause-requires-clause-listed : goal.mark_clause-requires-clause-listed
+mark_clause-requires-clause-listed c = listed_unset c.args.trail.now.vars c.args.self.now.marks c.unset.new.self c.args.self.now.touched.items c.opposite.result c.requires.walk.listed c.unset.ensures.set c.unset.ensures.room
 
 pub returns-clause-walk : goal.returns-clause-walk
 returns-clause-walk c =
     let off = rw c.opposite.ensures.value at c.unset.ensures.set in
-    walk_resolved (live_in c.args.clauses.now) c.args.trail.now c.args.place c.reason-id.result c.at-lit.result c.lits.result.now c.args.self.now.marks c.unset.new.self c.mark_fallen.new.self.marks c.args.self.now.touched.items c.mark_fallen.new.self.touched.items c.args.self.now.hints.items c.push.new.self.items
-    c.at-lit.ensures.whole c.requires.inside (sym (c.at-lit.ensures.value c.at-lit.result)) c.requires.reason c.reason-id.ensures.value c.lits.ensures.value c.requires.walk off c.in_ok-mark_fallen.ensures.marked c.in_ok-mark_fallen.ensures.listed
-    (c.in_ok-push.ensures.items ∙ ap (λ h. h.items ++ c.reason-id.result ∷ []) c.in_ok-mark_fallen.ensures.hints)
+    walk_resolved (live_in c.args.clauses.now) c.args.trail.now c.args.place c.reason-id.result c.at-lit.result c.in_ok-mark_clause.ensures.marked.clause c.args.self.now.marks c.unset.new.self c.mark_clause.new.self.marks c.args.self.now.touched.items c.mark_clause.new.self.touched.items c.args.self.now.hints.items c.push.new.self.items
+    c.at-lit.ensures.whole c.requires.inside (sym (c.at-lit.ensures.value c.at-lit.result)) c.requires.reason c.reason-id.ensures.value c.in_ok-mark_clause.ensures.marked.is_live c.requires.walk off c.in_ok-mark_clause.ensures.marked.marked c.in_ok-mark_clause.ensures.listed
+    (c.in_ok-push.ensures.items ∙ ap (λ h. h.items ++ c.reason-id.result ∷ []) c.in_ok-mark_clause.ensures.hints)
 
 pub returns-clause-replaced : goal.returns-clause-replaced
 returns-clause-replaced c =
     let off = rw c.opposite.ensures.value at c.unset.ensures.set in
-    marks_replaced (live_in c.args.clauses.now) c.args.trail.now c.args.place c.reason-id.result c.at-lit.result c.lits.result.now c.args.self.now.marks c.unset.new.self c.mark_fallen.new.self.marks
-    c.at-lit.ensures.whole c.requires.inside (sym (c.at-lit.ensures.value c.at-lit.result)) c.requires.reason c.reason-id.ensures.value c.lits.ensures.value off c.in_ok-mark_fallen.ensures.marked
+    marks_replaced (live_in c.args.clauses.now) c.args.trail.now c.args.place c.reason-id.result c.at-lit.result c.in_ok-mark_clause.ensures.marked.clause c.args.self.now.marks c.unset.new.self c.mark_clause.new.self.marks
+    c.at-lit.ensures.whole c.requires.inside (sym (c.at-lit.ensures.value c.at-lit.result)) c.requires.reason c.reason-id.ensures.value c.in_ok-mark_clause.ensures.marked.is_live off c.in_ok-mark_clause.ensures.marked.marked
