@@ -1,8 +1,8 @@
 //! How a search forgets learnt clauses: they go from the clauses, and the log says so. A clause that is the reason of a
 //! true literal stays, so that all that is learnt later can be shown; and never more than half of what was learnt is
 //! gone, or of what has to be learnt before a log may end open, so that such a log keeps half of its additions (`half` of
-//! `IsLog`). Which clauses go is chosen in `merits`. When a search has ended, no reason is needed any more, and what a log has too much of goes in the order
-//! of ids.
+//! `IsLog`). Which clauses go is chosen in `merits`. When a search has ended, no reason is needed any more, and what a log
+//! has too much of goes in the order of ids.
 ghost use Rattle.std.specs.Prelude.{◌≡◌, ◌<◌, ◌↔◌, length, IsTrue, IsFalse, IsSome, OnOk};
 ghost use Rattle.sat_theory.specs.Formula.{Formula, IsWithin};
 ghost use Rattle.sat_theory.specs.Log.{IsThinned};

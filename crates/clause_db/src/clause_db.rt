@@ -1,7 +1,8 @@
 //! Clauses with their ids and what they watch. Three things are held besides what contracts see: the literals of a
-//! clause in a second order, the watched ones in front; a literal beside each entry of a list; and windows in a row of
-//! literals. The invariant ties all three to the value of contracts, on which every call says its effect as an equation
-//! (`added`, `rewatched`), so that what the solver needs of watches are laws over these.
+//! clause in a second order, the watched ones in front; beside each id in a list a literal of its clause, and the range
+//! where all of them stand; and windows in a row of literals. The invariant ties the literals to the value of contracts,
+//! and that of `Watches` the ranges to the ids. On that value every call says its effect as an equation (`added`,
+//! `rewatched`), so that what the solver needs of watches are laws over these.
 ghost use Rattle.std.specs.Prelude.{◌≡◌, ◌≢◌, ℕ, ◌+◌, ◌<◌, ◌≤◌, ◌⊎◌, ◌↔◌, ◌∷◌, [], length, slice_index_or, Contains, All, AllPairs, Some, List, ℤ, IsTrue, IsSome, IfOk, OnOk, OnErr};
 ghost use Rattle.sat_theory.specs.Formula.{variable as variable_of, IsClause, IsWithin};
 ghost use Rattle.sat_theory.specs.State.{by_id, without};

@@ -1,7 +1,7 @@
 //! Which clauses watch a literal. What a clause watches are the first two of its literals in an order of their own, so
 //! no pair is kept, and an entry of a list says where they stand, which the invariant ties to the table of ranges.
-//! Moving a watch is a push to one list, a taking out of another, and a change of two places. The push
-//! comes first, since it alone can want memory.
+//! Moving a watch is a push to one list, a change of two places, and a taking out of another list. The push comes
+//! first, since it alone can want memory; the change is made by the range in the entry, before that is taken out.
 ghost use Rattle.std.specs.Prelude.{◌≡◌, ◌≢◌, ◌⊎◌, ℤ, ◌+◌, ◌-◌, ◌*◌, ◌<◌, ◌≤◌, [], length, take, All, Contains, pos, slice_index_or, slice_set, replicate, IfOk, OnOk, OnErr};
 ghost use Rattle.std.specs.List.{swap_remove, swap};
 ghost use Rattle.cdcl_theory.specs.Codes.{code_of};
