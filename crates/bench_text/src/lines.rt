@@ -1,7 +1,7 @@
 //! Lines, one function for each kind: what a line does to the document so far is the right side of its
 //! definition, and nothing is listed by a line that is refused.
 
-ghost use Rattle.std.specs.Prelude.{◌≡◌, ◌<◌, ◌≤◌, length};
+ghost use Rattle.std.specs.Prelude.{◌≡◌, ℕ, ◌<◌, ◌≤◌, List, length};
 ghost use Rattle.blif_text.specs.Reading.{Gives};
 ghost use Rattle.bench_text.specs.Items.{items_of};
 ghost use Rattle.bench_text.specs.Statements.{is_counted as is_counted_of, table_of as table_of_names, latch_of as latch_of_names};
@@ -98,10 +98,9 @@ fn take_gate(
     listed: &mut Listed,
     output: &[u8],
     key: GateKey,
-    word: &[u8],
     text: &[u8],
 ) -> Result<(), NetError>
-    ensures { Gives (λ _. listed.new) result (driven line listed.old output.now word.now (items_of text.now) (Gate key)) }
+    ensures { (word : List ℕ) → Gives (λ _. listed.new) result (driven line listed.old output.now word (items_of text.now) (Gate key)) }
 {
     let inputs = names_of(alloc, line, text)?;
     let table = table_of(alloc, line, key, output, inputs)?;
@@ -142,10 +141,9 @@ fn take_latch(
     line: u32,
     listed: &mut Listed,
     output: &[u8],
-    word: &[u8],
     text: &[u8],
 ) -> Result<(), NetError>
-    ensures { Gives (λ _. listed.new) result (driven line listed.old output.now word.now (items_of text.now) Dff) }
+    ensures { (word : List ℕ) → Gives (λ _. listed.new) result (driven line listed.old output.now word (items_of text.now) Dff) }
 {
     let inputs = names_of(alloc, line, text)?;
     let LatchLine { input, latch } = latch_of(alloc, line, output, inputs)?;
@@ -168,8 +166,8 @@ fn drive(
     ensures { Gives (λ _. listed.new) result (driven line listed.old output.now word.now (items_of text.now) (keyword_of_word word.now)) }
 {
     match keyword_of(word) {
-        Keyword::Gate(key) => take_gate(alloc, line, listed, output, key, word, text),
-        Keyword::Dff => take_latch(alloc, line, listed, output, word, text),
+        Keyword::Gate(key) => take_gate(alloc, line, listed, output, key, text),
+        Keyword::Dff => take_latch(alloc, line, listed, output, text),
         Keyword::Lut => Err(NetError::NotSupported(line, Name::of(alloc, word)?)),
         Keyword::Constant => {
             if next_item(text).is_some() {

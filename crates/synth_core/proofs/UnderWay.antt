@@ -2,7 +2,7 @@
 use Rattle.std.proofs.Common.{◌≡◌, ℕ, ◌≤◌, ◌<◌, List, [], ◌∷◌, ◌++◌, length, Option, None, refl, sym, ap, subst, ◌∙◌, append_assoc}
 use Rattle.std.specs.List.{flat_map}
 use Rattle.std.proofs.lemmas.Grind.{common_steps, flat_map-append}
-use Rattle.text_core.specs.Lines.{Line, lines_of, line_bytes}
+use Rattle.text_core.specs.Lines.{lines_of, line_bytes}
 use Rattle.tt_core.specs.Words.{specification}
 use Rattle.tt_core.specs.Spelling.{SpellsTables}
 use Rattle.chain_theory.specs.Chain.{Chain}
