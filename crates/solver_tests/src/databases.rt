@@ -31,8 +31,10 @@ fn clauses_have_ids(rt: HostRuntime) -> Result<(), Fail> {
     cnf.push(Clause::new(vec![in alloc; Lit::new(1), Lit::new(-2)]?))?;
     cnf.push(Clause::new(Vec::new(alloc)))?;
     let mut clauses = ClauseDb::new(alloc, &cnf)?;
+    assert!(rt; clauses.vars() == 3);
+    assert!(rt; clauses.last() == 2);
     let id = clauses.add(&[Lit::new(3)])?;
-    let counted = clauses.vars() == 3 && clauses.last() == 3 && id == 3;
+    let counted = clauses.last() == 3 && id == 3;
     let live = clauses.live(0) || clauses.live(4) || clauses.live(4294967295);
     assert!(rt; counted && !live);
     let held = holds(&clauses, 1, &[1, -2]) && holds(&clauses, 2, &[]) && holds(&clauses, 3, &[3]);
