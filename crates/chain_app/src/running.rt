@@ -1,5 +1,5 @@
 //! The top call.
-ghost use Rattle.std.specs.Prelude.{◌≡◌, ℕ, List};
+ghost use Rattle.std.specs.Prelude.{ℕ, List};
 ghost use Rattle.command_line.specs.CommandLine.{spelled, IsAskable};
 ghost use Rattle.frame_core.specs.Run.{Outcome, IsRun, run_of, before_after};
 ghost use Rattle.chain_app.specs.Tasks.{task_of};

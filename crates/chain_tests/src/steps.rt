@@ -8,6 +8,9 @@ use tt_core::read_tables;
 /// Whether tables have this chain over a basis; an empty text stands for none.
 fn has(alloc: Global, basis: &[u8], tables: &[u8], wanted: &[u8]) -> Result<bool, AllocError> {
     let mut told = Vec::new(alloc);
+    if tables.len() > 100_000 {
+        return Ok(false);
+    }
     let Ok(basis) = read_basis(basis) else {
         return Ok(false);
     };

@@ -124,6 +124,8 @@ pub fn decide(alloc: Global, memory: &mut Memory, heading: &Heading) -> Result<D
     requires heading { IsHeading heading.now }
     requires basis { memory.old ≡ heading.now.basis }
     ensures decided { IfOk result (λ decided. IsDecided heading.now decided) }
+    // Where at most one step is asked for, nothing stays open.
+    ensures closed { heading.now.max ≡ 1 → IfOk result IsClosed }
     ensures basis { memory.new ≡ memory.old }
 {
     if heading.spec.outputs() == 0 {

@@ -187,8 +187,8 @@ pub fn decide_sizes(
     }
 }
 
-/// Searches the tables as they are asked for with a certificate, unless the memory knows that there is nothing, which
-/// it learns here too.
+/// Searches the tables as they are asked for with a certificate, unless the memory knows what comes of it, which it
+/// learns here too.
 #[tactic(auto, using(crate::specs::RememberedLaws::remembering))]
 pub fn decide_whole(
     alloc: Global,
@@ -202,16 +202,23 @@ pub fn decide_whole(
     ensures basis { memory.new ≡ memory.old }
 {
     let key = Key::of(alloc, &heading.spec)?;
-    let known = first_size(memory, &key, heading, 0);
+    let known = memory.fewest(&key);
     if heading.max < known {
         return Ok(Decided::Least);
+    }
+    if let Some(chain) = remembered(alloc, memory, &key, heading)? {
+        return Ok(Decided::Shorter { chain, low: 0 });
     }
     match search_whole(alloc, heading)? {
         Decided::Least => {
             memory.note(key, without_chain(heading.max + 1, false))?;
             Ok(Decided::Least)
         }
-        Decided::Shorter { chain, low } => Ok(Decided::Shorter { chain, low }),
+        Decided::Shorter { chain, low: _ } => {
+            let found = with_chain(0, copied(alloc, &chain)?);
+            memory.note(key, found)?;
+            Ok(Decided::Shorter { chain, low: 0 })
+        }
         Decided::Open(bundle) => Ok(Decided::Open(bundle)),
     }
 }

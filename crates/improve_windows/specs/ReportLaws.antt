@@ -1,5 +1,5 @@
 -- What is appended piece by piece, and one window more in the report.
-use Rattle.std.specs.Prelude.{◌≡◌, ℕ, suc, ◌<◌, List, [], ◌∷◌, ◌++◌, length, slice_index_or, All}
+use Rattle.std.specs.Prelude.{◌≡◌, ℕ, suc, List, ◌∷◌, ◌++◌, All}
 use Rattle.std.specs.List.{flat_map}
 use Rattle.std.proofs.Common.{arith, subst}
 use Rattle.std.proofs.lemmas.Grind.{common_steps}
@@ -10,12 +10,6 @@ use Rattle.sweep_core.specs.Undecided.{Undecided}
 pub record CanBeWritten (u : Undecided) : Type 0 where
   pub valid : IsValid u.search
   pub output : HasOutput u.search
-
-pub can_valid : (u : Undecided) → CanBeWritten u → IsValid u.search
-can_valid u can = can.valid
-
-pub can_output : (u : Undecided) → CanBeWritten u → HasOutput u.search
-can_output u can = can.output
 
 -- ---- texts that grow
 

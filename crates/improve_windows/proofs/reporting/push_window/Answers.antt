@@ -1,5 +1,5 @@
 -- The pieces of a window's line, one behind the other, and its certificate.
-use Rattle.std.specs.Prelude.{◌≡◌, ◌++◌, codes, decimal}
+use Rattle.std.specs.Prelude.{◌≡◌, ◌++◌, decimal}
 use Rattle.std.proofs.Common.{subst}
 use Rattle.cert_theory.specs.Spelling.{bundle_text}
 use Rattle.sweep_core.specs.Undecided.{Undecided}
