@@ -10,8 +10,8 @@ use std::alloc::{AllocError, Global};
 use std::collections::HashMap;
 use std::marker::Model;
 
-/// What was found of a specification: a number of steps of which no fewer do, a chain that may agree, and whether a
-/// search of so many steps was left open.
+/// What was found of a specification: a number of steps of which no fewer do, a chain that may agree, and whether the
+/// search of that number was left open.
 #[derive(Debug, Drop)]
 pub struct Found {
     pub fewest: u32,
