@@ -44,6 +44,12 @@ fn chains_of_one_step_are_found(rt: HostRuntime) -> Result<(), AllocError> {
             b"inputs 2\n1010\n",
             b"chain 1\nx3 x2 x2 1110\nout x3\n",
         ),
+        // also where two inputs would serve
+        (
+            b"all",
+            b"inputs 2\n1010\n",
+            b"chain 1\nx3 x2 x2 1000\nout x3\n",
+        ),
         // operands in the other order, where the basis has no other
         (
             b"0010",

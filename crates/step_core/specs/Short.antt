@@ -6,13 +6,14 @@ use Rattle.chain_theory.specs.Specification.{Specification}
 use Rattle.chain_theory.specs.Agreement.{IsOver, Agrees, NoneBelow}
 use Rattle.chain_core.specs.Steps.{IsSmallChain}
 
--- a chain over the basis that agrees, of at most one step
+-- a chain over the basis that agrees, of at most one step, where none of fewer steps does
 -- Example: NOT of one input over NAND alone is the step j = 1, k = 1, op = 14 with the out Place 2.
 pub record IsShort (s : Specification) (basis : Basis) (c : Chain) : Type 0 where
   pub small : IsSmallChain c
   pub few : length c.steps ≤ 1
   pub over : IsOver basis c
   pub agrees : Agrees c s
+  pub least : NoneBelow s basis (length c.steps)
 
 -- such a chain, or that there is none, of all chains over the basis
 abbrev pub IsAnswer : Specification → Basis → Option Chain → Type 0

@@ -189,6 +189,7 @@ short_without w basis c spec none e =
       few = omega arith;
       over = λ k d low. absurd (omega (arith, low));
       agrees = made_agrees s [] (λ h t some low row live. absurd (true_false (sym live ∙ none_live w h none some low)));
+      least = λ q low has. absurd (omega (arith, low));
     }
   where
     small_without : (w : Words) → IsSpec w → length (live_words w).on ≡ 0 → IsSmallChain (made (specification w) [])
@@ -224,24 +225,6 @@ live_met w basis st spec serving h t some low live row =
 one_all : (basis : Basis) (st : Step) → basis st.op ≡ true → All (λ (s : Step). basis s.op ≡ true) (st ∷ [])
 one_all basis st is = All-push (λ (s : Step). basis s.op ≡ true) [] st (λ k d low. absurd (omega (arith, low))) is
 
-pub short_with : (w : Words) (basis : Basis) (st : Step) (c : Chain) → IsSpec w → IsServing (live_words w) basis st → c ≡ made (specification w) (st ∷ []) → IsShort (specification w) basis c
-unfolding out_for serves
-short_with w basis st c spec serving e =
-    let s : Specification = specification w in
-    let are : AreSteps w.n (st ∷ []) = more_in_front w.n st [] serving.at (no_steps (w.n + 1)) in
-    let member = and_parts (basis st.op) (meets_all (live_words w) (word_of w.n st)) serving.served in
-    subst (IsShort s basis) (sym e) record {
-      small = record {
-        chain = record { steps = are; outs = outs_name s (w.n + 1) (length w.on) (λ h some low. placed_names s h (trivial_of s h) refl) };
-        inputs = spec.inputs;
-        steps = omega arith;
-        outs = omega (arith, outs_count s (length w.on), spec.outputs);
-      };
-      few = omega arith;
-      over = one_all basis st member.0;
-      agrees = made_agrees s (st ∷ []) (λ h t some low row live. ap (is_met (cell_of w h t)) (step_value_is (made s (st ∷ [])) st w.n t refl are refl) ∙ live_met w basis st spec serving h t some low live row);
-    }
-
 -- ---- none
 
 -- the live output at an index
@@ -261,6 +244,36 @@ none_without w c some names agrees =
     let h : ℕ = slice_index (live_outputs s) 0 in
     let at = live_at w 0 some in
     live_alone s c h (out_of c h) agrees.inputs at.2 (out_names s c c.n h names agrees.outputs at.0 at.1) (λ t low. agrees.cells h t at.0 at.1 low)
+
+-- With a live output no chain without steps agrees.
+none_less : (w : Words) (basis : Basis) (q : ℕ) (steps : List Step) → 0 < length (live_words w).on → q < 1 → (has : HasChain (specification w) basis q) → has.chain.steps ≡ steps → ⊥
+none_less w basis q [] some low has e =
+    let c : Chain = has.chain in
+    let last : c.n + length c.steps ≡ c.n = omega (arith, ap (λ (ss : List Step). length ss) e) in
+    none_without w c some (subst (λ (p : ℕ). All (NamesPlace p) c.outs) last has.is_chain.outs) has.agrees
+none_less w basis q (st ∷ steps) some low has e = omega (arith, low, has.size, ap (λ (ss : List Step). length ss) e)
+
+none_below_one : (w : Words) (basis : Basis) → 0 < length (live_words w).on → NoneBelow (specification w) basis 1
+none_below_one w basis some q low has = none_less w basis q has.chain.steps some low has refl
+
+pub short_with : (w : Words) (basis : Basis) (st : Step) (c : Chain) → IsSpec w → 0 < length (live_words w).on → IsServing (live_words w) basis st → c ≡ made (specification w) (st ∷ []) → IsShort (specification w) basis c
+unfolding out_for serves
+short_with w basis st c spec some serving e =
+    let s : Specification = specification w in
+    let are : AreSteps w.n (st ∷ []) = more_in_front w.n st [] serving.at (no_steps (w.n + 1)) in
+    let member = and_parts (basis st.op) (meets_all (live_words w) (word_of w.n st)) serving.served in
+    subst (IsShort s basis) (sym e) record {
+      small = record {
+        chain = record { steps = are; outs = outs_name s (w.n + 1) (length w.on) (λ h some low. placed_names s h (trivial_of s h) refl) };
+        inputs = spec.inputs;
+        steps = omega arith;
+        outs = omega (arith, outs_count s (length w.on), spec.outputs);
+      };
+      few = omega arith;
+      over = one_all basis st member.0;
+      agrees = made_agrees s (st ∷ []) (λ h t above low row live. ap (is_met (cell_of w h t)) (step_value_is (made s (st ∷ [])) st w.n t refl are refl) ∙ live_met w basis st spec serving h t above low live row);
+      least = none_below_one w basis some;
+    }
 
 -- the step of a chain that agrees has the values of each live output
 step_meets : (w : Words) (c : Chain) (st : Step) → AreSteps c.n c.steps → c.steps ≡ st ∷ [] → All (NamesPlace (c.n + 1)) c.outs → Agrees c (specification w) → (i t : ℕ) → i < length (live_words w).on → t < 2 ^ w.n → is_met (cell_of (live_words w) (i + 1) t) (apply st.op (input w.n t st.j) (input w.n t st.k)) ≡ true

@@ -1,5 +1,5 @@
 //! A chain of at most one step, or that there is none.
-ghost use Rattle.std.specs.Prelude.{◌≡◌, length, IfOk};
+ghost use Rattle.std.specs.Prelude.{◌≡◌, ◌<◌, length, IfOk};
 ghost use Rattle.chain_theory.specs.Operator.{Basis as Operators};
 ghost use Rattle.op_basis.specs.Basis.{members};
 ghost use Rattle.tt_core.specs.Words.{specification};
@@ -28,7 +28,8 @@ fn without_step(alloc: Global, spec: &Spec) -> Result<Chain, AllocError>
 /// The chain of one step that serves the live outputs.
 #[tactic(auto, using(crate::specs::ShortLaws::answering))]
 fn with_step(alloc: Global, spec: &Spec, basis: Basis, step: Step) -> Result<Chain, AllocError>
-    requires { IsServing (live_words spec.now) (members basis) (step_of step) }
+    requires some { 0 < length (live_words spec.now).on }
+    requires serving { IsServing (live_words spec.now) (members basis) (step_of step) }
     ensures { IfOk result (λ chain. IsShort (specification spec.now) (members basis) chain) }
 {
     let outs = outs_for(alloc, spec)?;
@@ -37,8 +38,9 @@ fn with_step(alloc: Global, spec: &Spec, basis: Basis, step: Step) -> Result<Cha
     Ok(Chain::new(spec.n(), steps, outs))
 }
 
-/// A chain of at most one step over the basis that agrees with the specification, or None where there is none, of all
-/// chains over the basis of the definition: also with equal operands, and with operands in any order.
+/// A chain of at most one step over the basis that agrees with the specification, without a step where that does, or None
+/// where there is none, of all chains over the basis of the definition: also with equal operands, and with operands in any
+/// order.
 #[tactic(auto, using(crate::specs::ShortLaws::answering))]
 pub fn one_step(alloc: Global, spec: &Spec, basis: Basis) -> Result<Option<Chain>, AllocError>
     ensures { IfOk result (λ found. IsAnswer (specification spec.now) (members basis) found) }

@@ -10,9 +10,9 @@ use Rattle.step_core.proofs.short.with_step.Goals as goal
 pub new-requires : goal.new-requires
 new-requires c =
     let items : c.push.new.self.items ≡ c.args.step ∷ [] = c.in_ok-push.ensures.items ∙ ap (λ (xs : List Step). xs ++ c.args.step ∷ []) c.new-steps.ensures.items in
-    (short_with c.args.spec.now (members c.args.basis) (step_of c.args.step) _ c.n.ensures.whole c.requires (made_is (specification c.args.spec.now) c.n.result c.push.new.self.items (step_of c.args.step ∷ []) c.in_ok-outs.outs.items c.n.ensures.value (ap steps_of items) c.in_ok-outs.ensures)).small
+    (short_with c.args.spec.now (members c.args.basis) (step_of c.args.step) _ c.n.ensures.whole c.requires.some c.requires.serving (made_is (specification c.args.spec.now) c.n.result c.push.new.self.items (step_of c.args.step ∷ []) c.in_ok-outs.outs.items c.n.ensures.value (ap steps_of items) c.in_ok-outs.ensures)).small
 
 pub returns : goal.returns
 returns c =
     let items : c.push.new.self.items ≡ c.args.step ∷ [] = c.in_ok-push.ensures.items ∙ ap (λ (xs : List Step). xs ++ c.args.step ∷ []) c.new-steps.ensures.items in
-    short_with c.args.spec.now (members c.args.basis) (step_of c.args.step) c.new.result c.n.ensures.whole c.requires (c.new.ensures ∙ made_is (specification c.args.spec.now) c.n.result c.push.new.self.items (step_of c.args.step ∷ []) c.in_ok-outs.outs.items c.n.ensures.value (ap steps_of items) c.in_ok-outs.ensures)
+    short_with c.args.spec.now (members c.args.basis) (step_of c.args.step) c.new.result c.n.ensures.whole c.requires.some c.requires.serving (c.new.ensures ∙ made_is (specification c.args.spec.now) c.n.result c.push.new.self.items (step_of c.args.step ∷ []) c.in_ok-outs.outs.items c.n.ensures.value (ap steps_of items) c.in_ok-outs.ensures)
