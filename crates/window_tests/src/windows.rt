@@ -75,25 +75,14 @@ fn two_ands(alloc: Global) -> Result<Option<Net>, AllocError> {
     net_of(alloc, 2, gates.as_slice(), [at(3), at(4)].as_slice())
 }
 
-/// Whether a net, if it is one, has these partners at a root.
-fn has_partners(
-    alloc: Global,
-    net: &Option<Net>,
-    root: u32,
-    partners: &[u32],
-) -> Result<bool, AllocError> {
-    match net {
-        Some(net) => Ok(partners_at(alloc, net, root)?.as_slice() == partners),
-        None => Ok(false),
-    }
-}
-
 #[test]
 fn gates_side_by_side_are_partners(rt: HostRuntime) -> Result<(), AllocError> {
     let Some(net) = two_ands(rt.alloc())? else {
         assert!(rt; false);
         return Ok(());
     };
+    assert!(rt; partners_at(rt.alloc(), &net, 4)?.as_slice() == [3u32].as_slice());
+    assert!(rt; partners_at(rt.alloc(), &net, 3)?.is_empty());
     let window = together(rt.alloc(), &net, 4, 0, 2)?;
     assert!(rt; has_parts(window, &[3, 4], &[1, 2], &[3, 4]));
     Ok(())
@@ -105,15 +94,13 @@ fn no_more_than_eight_are_partners(rt: HostRuntime) -> Result<(), AllocError> {
     let ands = gate(1, at(1), at(2));
     let twice = gate(1, at(1), at(1));
     let gates = [ands, ands, ands, twice, ands, ands, ands, ands, ands, ands];
-    let net = net_of(rt.alloc(), 2, gates.as_slice(), [at(12)].as_slice())?;
-    for (root, partners) in [
-        (12, [11u32, 10, 9, 8, 7, 6, 5, 4].as_slice()),
-        (6, [5u32, 4, 3].as_slice()),
-        (3, [].as_slice()),
-    ] {
-        let well = has_partners(rt.alloc(), &net, root, partners)?;
-        assert!(rt; well, "{root}");
-    }
+    let Some(net) = net_of(rt.alloc(), 2, gates.as_slice(), [at(12)].as_slice())? else {
+        assert!(rt; false);
+        return Ok(());
+    };
+    let eight = [11u32, 10, 9, 8, 7, 6, 5, 4];
+    assert!(rt; partners_at(rt.alloc(), &net, 12)?.as_slice() == eight.as_slice());
+    assert!(rt; partners_at(rt.alloc(), &net, 6)?.as_slice() == [5u32, 4, 3].as_slice());
     Ok(())
 }
 
@@ -146,14 +133,9 @@ fn rows_that_never_happen_are_free(rt: HostRuntime) -> Result<(), AllocError> {
         assert!(rt; false);
         return Ok(());
     };
-    for (root, count, on, care) in [
-        (5, 1, 0b0010, 0b1011),
-        (5, 3, 0b0110, 0b1111),
-        (3, 1, 0b1000, 0b1111),
-    ] {
-        let well = has_words(rt.alloc(), &net, root, count, &[on], &[care])?;
-        assert!(rt; well, "{root} {count}");
-    }
+    assert!(rt; has_words(rt.alloc(), &net, 5, 1, &[0b0010], &[0b1011])?);
+    assert!(rt; has_words(rt.alloc(), &net, 5, 3, &[0b0110], &[0b1111])?);
+    assert!(rt; has_words(rt.alloc(), &net, 3, 1, &[0b1000], &[0b1111])?);
     Ok(())
 }
 
@@ -175,6 +157,7 @@ fn six_inputs_are_enough(rt: HostRuntime) -> Result<(), AllocError> {
     let six = alone(rt.alloc(), &net, 13, 5)?;
     assert!(rt; has_parts(six, &[9, 10, 11, 12, 13], &[3, 4, 5, 6, 7, 8], &[13]));
     assert!(rt; alone(rt.alloc(), &net, 13, 6)?.is_none());
+    assert!(rt; alone(rt.alloc(), &net, 9, 3)?.is_none());
     Ok(())
 }
 
