@@ -1,7 +1,7 @@
 //! Command lines, and what they ask for.
 
 use crate::running::words_of;
-use command_line::{Command, Deed, Format, ImproveSettings, SynthSettings, read_words};
+use command_line::{Command, Deed, Format, ImproveSettings, SynthSettings, WordsError, read_words};
 use op_basis::Basis;
 use settings::Method;
 use std::alloc::{AllocError, Global};
@@ -10,11 +10,6 @@ use std::test::Fail;
 /// What a line asks for; None where it asks for nothing.
 fn asked(alloc: Global, line: &str) -> Result<Option<Command>, AllocError> {
     Ok(read_words(&words_of(alloc, line)?).ok())
-}
-
-/// Whether a line asks for this.
-fn asks(alloc: Global, line: &str, expected: Option<Command>) -> Result<bool, AllocError> {
-    Ok(asked(alloc, line)? == expected)
 }
 
 #[test]
@@ -48,47 +43,31 @@ fn lines_ask_for_commands(rt: HostRuntime) -> Result<(), Fail> {
             },
         ),
     ] {
-        let well = asks(rt.alloc(), line, Some(command))?;
-        assert!(rt; well, "{line}");
+        assert_eq!(rt; asked(rt.alloc(), line)?, Some(command), "{line}");
     }
     Ok(())
 }
 
 #[test]
-fn synth_is_asked_with_settings(rt: HostRuntime) -> Result<(), Fail> {
-    for (line, basis, method, max, conflicts, least) in [
-        ("synth", 65_535, Method::Ssv, 16, 100_000, false),
+fn what_is_not_named_has_its_default(rt: HostRuntime) -> Result<(), Fail> {
+    for (line, basis, method, max, conflicts) in [
+        ("synth", 65_535, Method::Ssv, 16, 100_000),
         (
             "synth --max 3 --basis nand",
             16_384,
             Method::Ssv,
             3,
             100_000,
-            false,
         ),
-        (
-            "synth --method plain",
-            65_535,
-            Method::Plain,
-            16,
-            100_000,
-            false,
-        ),
-        (
-            "synth --method select --least-depth no",
-            65_535,
-            Method::Select,
-            16,
-            100_000,
-            false,
-        ),
+        ("synth --method plain", 65_535, Method::Plain, 16, 100_000),
+        ("synth --method select", 65_535, Method::Select, 16, 100_000),
+        ("synth --method fence", 65_535, Method::Fence, 16, 100_000),
         (
             "synth --conflicts 10000000 --max 0 --method ssv",
             65_535,
             Method::Ssv,
             0,
             10_000_000,
-            false,
         ),
         (
             "synth --basis 0110,1001 --conflicts 1",
@@ -96,111 +75,137 @@ fn synth_is_asked_with_settings(rt: HostRuntime) -> Result<(), Fail> {
             Method::Ssv,
             16,
             1,
-            false,
-        ),
-        (
-            "synth --method fence --least-depth no",
-            65_535,
-            Method::Fence,
-            16,
-            100_000,
-            false,
-        ),
-        (
-            "synth --least-depth yes --method fence",
-            65_535,
-            Method::Fence,
-            16,
-            100_000,
-            true,
-        ),
-        (
-            "synth --method fence --max 3 --least-depth yes",
-            65_535,
-            Method::Fence,
-            3,
-            100_000,
-            true,
         ),
     ] {
-        let settings = SynthSettings {
+        let command = Command::Synth(SynthSettings {
             basis: Basis::new(basis),
             method,
             max,
             conflicts,
-        };
-        let command = if least {
-            Command::LeastDepth(settings)
-        } else {
-            Command::Synth(settings)
-        };
-        let well = asks(rt.alloc(), line, Some(command))?;
-        assert!(rt; well, "{line}");
+        });
+        assert_eq!(rt; asked(rt.alloc(), line)?, Some(command), "{line}");
     }
     Ok(())
 }
 
 #[test]
 fn improve_is_asked_with_settings(rt: HostRuntime) -> Result<(), Fail> {
-    let usual = ImproveSettings::usual();
-    let (blif, bench) = (Format::Blif, Format::Bench);
-    for (line, format, basis, settings) in [
-        ("improve", blif, 65_535, usual),
+    for (line, basis, method, cap, rounds, conflicts) in [
+        ("improve", 65_535, Method::Ssv, 5, 1000, 100_000),
         (
             "improve --format blif --cap 0",
-            blif,
             65_535,
-            ImproveSettings { cap: 0, ..usual },
+            Method::Ssv,
+            0,
+            1000,
+            100_000,
         ),
         (
             "improve --rounds 1 --cap 8 --basis nand --conflicts 7 --method fence",
-            blif,
             16_384,
-            ImproveSettings {
-                method: Method::Fence,
-                cap: 8,
-                rounds: 1,
-                conflicts: 7,
-                ..usual
-            },
+            Method::Fence,
+            8,
+            1,
+            7,
         ),
         (
-            "improve --rounds 100000 --conflicts 10000000 --observe no",
-            blif,
+            "improve --rounds 100000 --conflicts 10000000",
             65_535,
-            ImproveSettings {
-                rounds: 100_000,
-                conflicts: 10_000_000,
-                ..usual
-            },
-        ),
-        (
-            "improve --cap 5 --observe yes --rounds 1000",
-            blif,
-            65_535,
-            ImproveSettings {
-                observe: true,
-                ..usual
-            },
-        ),
-        ("improve --format bench", bench, 17_346, usual),
-        ("improve --basis bench --format bench", bench, 17_346, usual),
-        ("improve --format bench --basis nand", bench, 16_384, usual),
-        (
-            "improve --format bench --basis 0110,1001",
-            bench,
-            576,
-            usual,
+            Method::Ssv,
+            5,
+            100_000,
+            10_000_000,
         ),
     ] {
-        let basis = Basis::new(basis);
-        let settings = ImproveSettings { basis, ..settings };
-        let well = asks(
-            rt.alloc(),
-            line,
+        let settings = ImproveSettings {
+            basis: Basis::new(basis),
+            method,
+            cap,
+            rounds,
+            conflicts,
+            observe: false,
+        };
+        let format = Format::Blif;
+        assert_eq!(rt;
+            asked(rt.alloc(), line)?,
             Some(Command::Improve { format, settings }),
-        )?;
-        assert!(rt; well, "{line}");
+            "{line}"
+        );
+    }
+    Ok(())
+}
+
+#[test]
+fn rows_that_nobody_sees_are_left_out_where_that_is_named(rt: HostRuntime) -> Result<(), Fail> {
+    for (line, observe) in [
+        ("improve --observe no", false),
+        ("improve --observe yes", true),
+        ("improve --cap 5 --observe yes --rounds 1000", true),
+    ] {
+        let settings = ImproveSettings {
+            observe,
+            ..ImproveSettings::usual()
+        };
+        let format = Format::Blif;
+        assert_eq!(rt;
+            asked(rt.alloc(), line)?,
+            Some(Command::Improve { format, settings }),
+            "{line}"
+        );
+    }
+    Ok(())
+}
+
+#[test]
+fn bench_has_bases_of_its_gates(rt: HostRuntime) -> Result<(), Fail> {
+    for (line, basis) in [
+        ("improve --format bench", 17_346),
+        ("improve --basis bench --format bench", 17_346),
+        ("improve --format bench --basis nand", 16_384),
+        ("improve --format bench --basis 0110,1001", 576),
+    ] {
+        let settings = ImproveSettings {
+            basis: Basis::new(basis),
+            ..ImproveSettings::usual()
+        };
+        let format = Format::Bench;
+        assert_eq!(rt;
+            asked(rt.alloc(), line)?,
+            Some(Command::Improve { format, settings }),
+            "{line}"
+        );
+    }
+    Ok(())
+}
+
+#[test]
+fn fewest_levels_are_sought_by_fences(rt: HostRuntime) -> Result<(), Fail> {
+    let by_fences = SynthSettings {
+        method: Method::Fence,
+        ..SynthSettings::usual()
+    };
+    for (line, command) in [
+        (
+            "synth --least-depth yes --method fence",
+            Command::LeastDepth(by_fences),
+        ),
+        (
+            "synth --method fence --max 3 --least-depth yes",
+            Command::LeastDepth(SynthSettings {
+                max: 3,
+                ..by_fences
+            }),
+        ),
+        (
+            "synth --method fence --least-depth no",
+            Command::Synth(by_fences),
+        ),
+        (
+            "synth --least-depth no",
+            Command::Synth(SynthSettings::usual()),
+        ),
+    ] {
+        assert_eq!(rt; asked(rt.alloc(), line)?, Some(command), "{line}");
     }
     Ok(())
 }
@@ -260,8 +265,14 @@ fn other_words_ask_for_none(rt: HostRuntime) -> Result<(), Fail> {
         "improve --format bench --basis u2",
         "improve --basis 0001,0010 --format bench",
     ] {
-        let well = asks(rt.alloc(), line, None)?;
-        assert!(rt; well, "{line}");
+        assert_eq!(rt; asked(rt.alloc(), line)?, None, "{line}");
     }
+    Ok(())
+}
+
+#[test]
+fn no_words_are_no_command(rt: HostRuntime) -> Result<(), Fail> {
+    let none: Vec<String> = Vec::new(rt.alloc());
+    assert_eq!(rt; read_words(&none), Err(WordsError::Usage));
     Ok(())
 }
