@@ -270,7 +270,7 @@ fn clauses_learnt(alloc: Global, holes: u32) -> Result<Option<u64>, Fail> {
 fn pigeons_take_so_many_steps(rt: HostRuntime) -> Result<(), Fail> {
     // as many clauses as an independent program learns that takes the same steps: they tell of what scores, of
     // signs and of when restarts come, which no contract says
-    for (holes, added) in [(4, 33), (6, 451)] {
+    for (holes, added) in [(4, 33), (6, 457)] {
         let learnt = clauses_learnt(rt.alloc(), holes)?;
         assert!(rt; learnt == Some(added), "{learnt:?}");
     }
