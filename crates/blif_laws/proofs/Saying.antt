@@ -106,9 +106,6 @@ directs n s word ws going dot begun =
     ∙ cond-true (begins_dot word) _ _ dot
     ∙ ap (λ b. directed n (closed s) (not b) word ws (keyword_of word)) begun
 
-tables_whole : (d : Document) (s : Said) → Has d s → (closed s).tables ++ [] ≡ d.tables
-tables_whole d s has = append-nil (closed s).tables ∙ ap (λ (e : Document). e.tables) has.document
-
 -- ---- the model
 
 abbrev pub model_line : Name → WordLine

@@ -94,9 +94,6 @@ trimmed_end text e =
     ∙ trimmed-other e.front e.last (or_from (e.last == 32) (e.last == 9) (other_byte 32 e.last refl e.good) (other_byte 9 e.last refl e.good))
     ∙ sym e.is
 
-ended_line : List ℕ → Line
-ended_line text = record { text = text; ended = true }
-
 content_same : (w : Name) (ws : List Name) → All IsName (w ∷ ws) → content_of (record { text = line_of w ws; ended = true }) ≡ line_of w ws
 content_same w ws all =
     let e = line_end w ws all in

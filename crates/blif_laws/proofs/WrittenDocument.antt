@@ -62,10 +62,6 @@ pub tables_are : (c : Circuit) → (written c).tables ≡ all_tables c
 unfolding written
 tables_are c = ap (λ (ts : List Table). (gate_part c ++ ts) ++ output_part c) (constants_are c)
 
-pub lines_are : (c : Circuit) → (written c).latches ≡ all_lines c
-unfolding written
-lines_are c = refl
-
 -- ---- what is known of them
 
 pub states_count : (c : Circuit) → IsProper c → length c.latches ≡ length (next_states c)

@@ -1,28 +1,19 @@
 -- How the heap holds the variables without a value, all through a search.
-use Rattle.std.proofs.Common.{◌≡◌, ◌≢◌, ℕ, ◌+◌, ◌-◌, ◌<◌, ◌≤◌, ◌⊎◌, ℤ, Bool, true, false, cond, List, Option, length, slice_index_or, slice_set, count_by, subst, sym, ap, ◌∙◌, arith, inl, inr, refl}
+use Rattle.std.proofs.Common.{◌≡◌, ◌≢◌, ℕ, ◌+◌, ◌-◌, ◌<◌, ◌≤◌, ◌⊎◌, ℤ, Bool, false, List, Option, length, slice_index_or, slice_set, subst, sym, ap, ◌∙◌, arith, refl}
 use Rattle.std.proofs.Math.Logic.{⊎_elim}
-use Rattle.std.proofs.lemmas.Bool.{cases_lt, cases_eq}
+use Rattle.std.proofs.lemmas.Bool.{cases_lt}
 use Rattle.std.proofs.lemmas.Grind.{common_steps}
-use Rattle.std.proofs.lemmas.List.{length-set, get_or-set_other, get_or-set_same, get_or_past}
-use Rattle.std.proofs.lemmas.List.Sums.{sum_by-set}
+use Rattle.std.proofs.lemmas.List.{length-set, get_or-set_other}
 use Rattle.sat_theory.specs.Formula.{variable, opposite}
 use Rattle.cdcl_theory.specs.CodeLaws.{same_variable, opposite-opposite, variable-opposite}
 use Rattle.cdcl_theory.specs.Falling.{IsFallen, SameFallen}
 use Rattle.cdcl_theory.specs.Trails.{Trailed, fell, IsTrail, IsBack, IsGrown, pushed}
-use Rattle.trail_core.specs.Values.{IsOver, IsFree, HaveValues}
-use Rattle.var_heap.specs.Held.{Held, IsHeld, IsFull}
+use Rattle.trail_core.specs.Values.{IsOver, IsFree}
+use Rattle.var_heap.specs.Held.{Held, IsHeld}
 use Rattle.cdcl_core.specs.declared.choosing.Choice.{Choice}
 use Rattle.cdcl_core.specs.Choosing.{IsChoosing}
 use Rattle.cdcl_core.proofs.Growing.{same_pushed}
 use Rattle.cdcl_core.proofs.Jumps.{pushed_on}
-
--- an entry that is true is one of the list's
-pub room_held : (marks : List Bool) (v : ℕ) → slice_index_or marks v false ≡ true → v < length marks
-room_held marks v held =
-    ⊎_elim
-    (λ (inside : v < length marks). inside)
-    (λ (out : length marks ≤ v). absurd (let none : slice_index_or marks v false ≡ false = get_or_past marks v false out in cc))
-    (cases_lt v (length marks))
 
 -- both literals of a variable are free, or neither is
 free_same : (t : Trailed) (l m : ℤ) → variable l ≡ variable m → IsFree t l → IsFree t m
@@ -33,9 +24,6 @@ free_same t l m same free =
     let here : IsFree t (opposite m) = subst (IsFree t) e free in
     (ap (fell t) (sym (opposite-opposite m)) ∙ here.1, here.0))
     (same_variable l m same)
-
-over_same : (vars : ℕ) (l : ℤ) (v : ℕ) → variable l ≡ v → IsOver vars l → (0 < v) × (v ≤ vars)
-over_same vars l v e over = subst (λ (n : ℕ). (0 < n) × (n ≤ vars)) e over
 
 -- what is free when more literals are true was free before
 free_before : (t new : Trailed) (l : ℤ) → IsTrail t → SameFallen (length t.lits) (fell t) (fell new) → IsFree new l → IsFree t l
@@ -70,23 +58,6 @@ marked_heap h v b = record { vars = h.vars; scores = h.scores; marks = slice_set
 held_still : (h : Held) (v w : ℕ) (b : Bool) → w ≢ v → IsHeld h w → IsHeld (marked_heap h v b) w
 held_still h v w b apart held = get_or-set_other h.marks v w b false apart ∙ held
 
--- a variable is put in
-held_put : (h : Held) (v w : ℕ) → v < length h.marks → (w ≡ v) ⊎ IsHeld h w → IsHeld (marked_heap h v true) w
-held_put h v w room held =
-    ⊎_elim
-    (λ (same : w ≡ v). rw same (get_or-set_same h.marks v true false room))
-    (λ (apart : w ≡ v → ⊥). ⊎_elim (λ (same : w ≡ v). absurd (apart same)) (λ (old : IsHeld h w). held_still h v w true apart old) held)
-    (cases_eq w v)
-
--- A variable with a value is taken out,
-pub choosing_out : (t : Trailed) (c d : Choice) (x : ℤ) (v : ℕ) → IsChoosing t c → variable x ≡ v → (IsFree t x → ⊥) → d.heap ≡ marked_heap c.heap v false → length d.signs.items ≡ length c.signs.items → IsChoosing t d
-choosing_out t c d x v choosing var taken heap signs = record {
-  vars = ap (λ (h : Held). h.vars) heap ∙ choosing.vars;
-  room = λ w some low. rw (heap, length-set) (choosing.room w some low);
-  signs = signs ∙ choosing.signs;
-  held = λ l over free. rw heap (held_still c.heap v (variable l) false (λ same. taken (free_same t l x (same ∙ sym var) free)) (choosing.held l over free));
-}
-
 -- or one that gets a value.
 pub choosing_decided : (t : Trailed) (c d : Choice) (x : ℤ) (v r : ℕ) → IsTrail t → IsChoosing t c → variable x ≡ v → IsOver t.vars x → IsFree t x → d.heap ≡ marked_heap c.heap v false → length d.signs.items ≡ length c.signs.items → IsChoosing (pushed t x r) d
 choosing_decided t c d x v r trail choosing var over free_x heap signs = record {
@@ -102,34 +73,9 @@ choosing_decided t c d x v r trail choosing var over free_x heap signs = record 
     not_x : (l : ℤ) → variable l ≡ variable x → IsFree (pushed t x r) l → ⊥
     not_x l same free = (let here : IsFree (pushed t x r) x = free_same (pushed t x r) l x same free in let none : fell (pushed t x r) (opposite x) ≡ 0 = here.1 in omega (arith, none, on.0))
 
--- A variable is put in, with its sign.
-pub choosing_in : (t : Trailed) (c d : Choice) (v : ℕ) → IsChoosing t c → 0 < v → v ≤ t.vars → d.heap ≡ marked_heap c.heap v true → length d.signs.items ≡ length c.signs.items → IsChoosing t d
-choosing_in t c d v choosing some small heap signs = record {
-  vars = ap (λ (h : Held). h.vars) heap ∙ choosing.vars;
-  room = λ w some_w low. rw (heap, length-set) (choosing.room w some_w low);
-  signs = signs ∙ choosing.signs;
-  held = λ l over free. rw heap (held_put c.heap v (variable l) (choosing.room v some small) (inr (choosing.held l over free)));
-}
-
 -- the variables of the literals from an index on, and before another, are held
 pub record AreReleased (t : Trailed) (from end : ℕ) (c : Choice) : Type 0 where
   pub held : (p : ℕ) (d : ℤ) → from ≤ p → p < end → p < length t.lits → IsHeld c.heap (variable (slice_index_or t.lits p d))
-
-pub released_none : (t : Trailed) (from : ℕ) (c : Choice) → AreReleased t from from c
-released_none t from c = record { held = λ p d low high within. absurd (omega (arith, low, high)) }
-
-pub released_more : (t : Trailed) (from at : ℕ) (c d : Choice) (x : ℤ) → IsTrail t → IsChoosing t c → at < length t.lits → x ≡ slice_index_or t.lits at x → d.heap ≡ marked_heap c.heap (variable x) true → AreReleased t from at c → AreReleased t from (at + 1) d
-released_more t from at c d x trail choosing inside is heap released = record {
-  held = λ p e low high within.
-      let here : ((variable (slice_index_or t.lits p e) ≡ variable x) ⊎ IsHeld c.heap (variable (slice_index_or t.lits p e))) = ⊎_elim
-      (λ (last : p ≡ at). inl (ap variable (at_index t.lits at p e x last inside (sym is))))
-      (λ (early : p ≡ at → ⊥). inr (released.held p e low (omega (arith, high, early)) within))
-      (cases_eq p at) in
-      rw heap (held_put c.heap (variable x) (variable (slice_index_or t.lits p e)) (choosing.room (variable x) (over.0) (over.1)) here);
-}
-  where
-    over : (0 < variable x) × (variable x ≤ t.vars)
-    over = subst (λ (m : ℤ). (0 < variable m) × (variable m ≤ t.vars)) (sym is) (trail.variables at x inside)
 
     at_index : (lits : List ℤ) (i k : ℕ) (d l : ℤ) → k ≡ i → i < length lits → slice_index_or lits i l ≡ l → slice_index_or lits k d ≡ l
     at_index lits i k d l e within at_i = grind (arith, common_steps)
@@ -173,30 +119,3 @@ choosing_scores c d vars marks signs t choosing = record {
   signs = signs ∙ choosing.signs;
   held = λ l over free. rw marks (choosing.held l over free);
 }
-
--- at first all are held
-pub choosing_full : (vars : ℕ) (c : Choice) → IsFull vars c.heap → length c.signs.items ≡ vars + 1 → (t : Trailed) → t.vars ≡ vars → IsChoosing t c
-choosing_full vars c full signs t same = record {
-  vars = full.vars_are ∙ sym same;
-  room = λ v some low. room_held c.heap.marks v ((full.held v).1 (some, omega (arith, low, same, full.vars_are)));
-  signs = signs ∙ ap (λ (n : ℕ). n + 1) (sym same);
-  held = λ l over free. (let small : variable l ≤ t.vars = over.1 in (full.held (variable l)).1 (over.0, omega (arith, small, same, full.vars_are)));
-}
-
--- fewer are held when one is taken out
-pub fewer_held : (h : Held) (v : ℕ) → IsHeld h v → count_by (λ b. b) (slice_set h.marks v false) < count_by (λ b. b) h.marks
-fewer_held h v held =
-    let moved : count_by (λ b. b) (slice_set h.marks v false) + cond {A = ℕ} (slice_index_or h.marks v false) 1 0 ≡ count_by (λ b. b) h.marks + cond {A = ℕ} false 1 0 = sum_by-set (λ (b : Bool). cond {A = ℕ} b 1 0) h.marks v false false (room_held h.marks v held) in
-    let one : cond {A = ℕ} (slice_index_or h.marks v false) 1 0 ≡ 1 = rw held refl in
-    omega (arith, moved, one)
-
--- Where none is held, all have values.
-pub all_valued : (t : Trailed) (c : Choice) → IsChoosing t c → ((v : ℕ) → IsHeld c.heap v → ⊥) → HaveValues t (1 + t.vars)
-all_valued t c choosing none l some low =
-    ⊎_elim
-    (λ (down : 0 < fell t l). inl down)
-    (λ (up : fell t l ≤ 0). ⊎_elim
-    (λ (down : 0 < fell t (opposite l)). inr down)
-    (λ (up_too : fell t (opposite l) ≤ 0). absurd (none (variable l) (choosing.held l (some, omega (arith, low)) (omega (arith, up), omega (arith, up_too)))))
-    (cases_lt 0 (fell t (opposite l))))
-    (cases_lt 0 (fell t l))

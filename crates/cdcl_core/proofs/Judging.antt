@@ -1,14 +1,12 @@
 -- What a clause says under the values of a trail.
-use Rattle.std.proofs.Common.{◌≡◌, ℕ, ◌+◌, ◌<◌, ◌≤◌, ◌⊎◌, ℤ, Bool, true, false, List, length, slice_index_or, Contains, All, Option, Some, None, IsSome, ◌↔◌, subst, sym, ap, ◌∙◌, arith, inl, inr, refl}
+use Rattle.std.proofs.Common.{◌≡◌, ℕ, ◌+◌, ◌<◌, ◌≤◌, ◌⊎◌, ℤ, List, length, slice_index_or, Contains, All, Option, Some, None, subst, sym, ap, ◌∙◌, arith, inl, inr, refl}
 use Rattle.std.proofs.Math.Logic.{⊎_elim}
 use Rattle.std.proofs.lemmas.Bool.{cases_eq}
 use Rattle.std.proofs.lemmas.Grind.{common_steps}
 use Rattle.std.proofs.lemmas.List.Elements.{All-contains}
 use Rattle.sat_theory.specs.Formula.{variable, opposite, IsClause}
-use Rattle.cdcl_theory.specs.Falling.{Implies, IsSettled, AllSettled, IsFalsified}
+use Rattle.cdcl_theory.specs.Falling.{Implies, IsSettled}
 use Rattle.cdcl_theory.specs.Trails.{Trailed, fell, IsTrail}
-use Rattle.clause_db.specs.Stored.{Stored, live_in}
-use Rattle.clause_db.specs.StoredLaws.{live_inside}
 use Rattle.cdcl_core.specs.Verdicts.{IsLeft}
 
 -- the literal at one of the first i indices has no value, and all others there have fallen
@@ -102,27 +100,4 @@ left_implies live t id lits l trail is left = record {
   is_live = is;
   there = left.there;
   others = λ k d low. ⊎_elim (λ (e : slice_index_or lits k d ≡ l). inl e) (λ (down : 0 < fell t (slice_index_or lits k d)). inr (down, trail.places.within (slice_index_or lits k d))) (left.others k d low);
-}
-
-pub falsified_is : (live : ℕ → Option (List ℤ)) (places : ℤ → ℕ) (id : ℕ) (lits : List ℤ) → live id ≡ Some lits → All (λ m. 0 < places m) lits → IsFalsified live places id
-falsified_is live places id lits is all = record { clause = lits; is_live = is; fallen = all }
-
--- one more id whose clause is settled, or isn't live
-pub settled_more : (live : ℕ → Option (List ℤ)) (places : ℤ → ℕ) (i : ℕ) → ((id : ℕ) (clause : List ℤ) → id ≤ i → live id ≡ Some clause → IsSettled places clause) → ((clause : List ℤ) → live (i + 1) ≡ Some clause → IsSettled places clause) → (id : ℕ) (clause : List ℤ) → id ≤ i + 1 → live id ≡ Some clause → IsSettled places clause
-settled_more live places i before new id clause low is =
-    ⊎_elim
-    (λ (e : id ≡ i + 1). new clause (subst (λ (k : ℕ). live k ≡ Some clause) e is))
-    (λ (apart : id ≡ i + 1 → ⊥). before id clause (omega arith) is)
-    (cases_eq id (i + 1))
-
-pub settled_dead : (live : ℕ → Option (List ℤ)) (places : ℤ → ℕ) (id : ℕ) (b : Bool) → ((b ≡ true) ↔ IsSome (live id)) → b ≡ false → (clause : List ℤ) → live id ≡ Some clause → IsSettled places clause
-settled_dead live places id b says dead clause is = absurd (let some : IsSome (live id) = rw is refl in let alive : b ≡ true = says.1 some in cc)
-
-pub settled_that : (live : ℕ → Option (List ℤ)) (places : ℤ → ℕ) (id : ℕ) (lits : List ℤ) → live id ≡ Some lits → IsSettled places lits → (clause : List ℤ) → live id ≡ Some clause → IsSettled places clause
-settled_that live places id lits at settled clause is = let same : lits ≡ clause = cc in subst (IsSettled places) same settled
-
--- with all ids gone through, all live clauses are settled
-pub settled_all : (s : Stored) (places : ℤ → ℕ) (n : ℕ) → length s.clauses ≤ n → ((id : ℕ) (clause : List ℤ) → id ≤ n → live_in s id ≡ Some clause → IsSettled places clause) → AllSettled (live_in s) places
-settled_all s places n all each = record {
-  each = λ id clause is. each id clause (let low : (0 < id) × (id ≤ length s.clauses) = live_inside s id clause is in let under : id ≤ length s.clauses = low.1 in omega arith) is;
 }

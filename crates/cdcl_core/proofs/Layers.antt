@@ -114,9 +114,6 @@ dropped_low starts fewer start place end rising last dropped =
 pub closed_last : (live : ℕ → Option (List ℤ)) (t : Trailed) (starts : List ℕ) (start : ℕ) → IsLayered live t starts → IsLastStart starts start → IsClosed live (fell t) start
 closed_last live t starts start layered level = subst (IsClosed live (fell t)) (level.last 0) (layered.closed (length starts - 1) 0 (let some : 0 < length starts = level.some in omega arith))
 
-pub inside_last : (live : ℕ → Option (List ℤ)) (t : Trailed) (starts : List ℕ) (start : ℕ) → IsLayered live t starts → IsLastStart starts start → start < length t.lits
-inside_last live t starts start layered level = subst (λ (s : ℕ). s < length t.lits) (level.last 0) (layered.inside (length starts - 1) 0 (let some : 0 < length starts = level.some in omega arith))
-
 pub reasons_last : (live : ℕ → Option (List ℤ)) (t : Trailed) (starts : List ℕ) (start : ℕ) → IsLayered live t starts → IsLastStart starts start → HaveReasons live t (start + 1)
 reasons_last live t starts start layered level p after within =
     ⊎_elim

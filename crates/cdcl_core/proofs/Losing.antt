@@ -89,9 +89,6 @@ pending_lost f s b ids id clause pending stored is learnt gone room = record {
   given = pending.given;
 }
 
-pub forgotten_self : (s : Search) → HasForgotten s s
-forgotten_self s = record { trail = refl; starts = refl; head = refl; given = refl; least = refl; clauses = refl; fewer = λ id clause is. is }
-
 -- one more clause is forgotten
 pub forgotten_lost : (a b c : Search) (id : ℕ) → 0 < id → HasForgotten a b → HasLost id b c → HasForgotten a c
 forgotten_lost a b c id some forgotten lost = record {

@@ -1,20 +1,18 @@
 -- Propagations and jumps, one after another.
-use Rattle.std.proofs.Common.{◌≡◌, ℕ, ◌+◌, ◌-◌, ◌*◌, ◌<◌, ◌≤◌, ℤ, List, length, slice_index_or, All, Option, subst, sym, ap, ◌∙◌, arith, refl}
+use Rattle.std.proofs.Common.{◌≡◌, ℕ, ◌+◌, ◌-◌, ◌*◌, ◌<◌, ◌≤◌, ℤ, List, length, slice_index_or, All, Option, subst, sym, ap, ◌∙◌, arith}
 use Rattle.std.proofs.Math.Logic.{⊎_elim}
 use Rattle.std.proofs.Math.Nat.{mul-le-mul_right}
 use Rattle.std.proofs.lemmas.Bool.{cases_eq}
 use Rattle.cdcl_theory.specs.Trails.{Trailed, fell, IsTrail, IsGrown, IsLayered}
 use Rattle.clause_db.specs.Stored.{Stored, live_at, live_in, IsStored}
 use Rattle.sat_theory.specs.Formula.{Formula}
-use Rattle.sat_theory.specs.Log.{additions}
 use Rattle.sat_theory.specs.Pigeonholes.{different_below}
 use Rattle.lrat_text.specs.Values.{line_values}
 use Rattle.cdcl_core.specs.Visiting.{IsRest}
 use Rattle.cdcl_core.proofs.Logging.{log_same}
 use Rattle.conflict_core.specs.Learning.{IsReady}
 use Rattle.cdcl_core.specs.declared.search.Search.{Search}
-use Rattle.cdcl_core.specs.Searching.{IsSearching, IsVisited, IsLogged, HasBegun, HasPropagated, HasSettled, HasJumped, HasDecided}
-use Rattle.cdcl_core.specs.Endings.{HasSpent}
+use Rattle.cdcl_core.specs.Searching.{IsSearching, IsVisited, IsLogged, HasPropagated, HasSettled, HasJumped, HasDecided}
 use Rattle.cdcl_core.specs.Guarding.{IsGuarded}
 use Rattle.cdcl_core.specs.Forgetting.{HasForgotten}
 use Rattle.cdcl_core.proofs.Guards.{guarded_settled}
@@ -45,14 +43,6 @@ searching_rest s b t head searching rest stored trail = record {
 -- where all is visited, all is settled
 pub settled_visited : (s : Search) → IsSearching s → IsVisited s → s.head ≡ length s.trail.lits → AllSettled (live_in s.clauses) (fell s.trail)
 settled_visited s searching visited all = guarded_settled s.clauses s.trail s.starts.items searching.stored searching.layered.whole (subst (λ (n : ℕ). IsGuarded s.clauses (fell s.trail) s.starts.items n) all visited.guarded)
-
--- the log after the first propagation
-pub logged_begun : (f : Formula) (a b : Search) → IsLogged f a → HasBegun a b → IsLogged f b
-logged_begun f a b logged begun = record {
-  log = rw (begun.clauses, begun.lines, begun.deleted, begun.least) logged.log;
-  new = rw begun.lines logged.new;
-  given = begun.given ∙ logged.given;
-}
 
 -- what is visited when watched literals have made more true
 pub visited_some : (s : Search) (b : Stored) (t : Trailed) → IsVisited s → IsRest s.clauses b s.trail t → ((starts : List ℕ) → All (λ x. x ≤ s.head) starts → IsGuarded s.clauses (fell s.trail) starts s.head → IsGuarded b (fell t) starts s.head) → IsVisited (record s { clauses = b; trail = t })
@@ -87,19 +77,6 @@ logged_propagated f b c logged propagated = record {
   log = rw (propagated.lines, propagated.deleted, propagated.least) (log_same f b.clauses c.clauses (line_values b.lines.items) b.deleted b.least propagated.rest.clauses propagated.rest.vars logged.log);
   new = rw propagated.lines logged.new;
   given = propagated.given ∙ logged.given;
-}
-
-pub settled_self : (s : Search) → HasSettled s s
-settled_self s = record { vars = refl; given = refl; least = refl; more = omega arith; starts = omega arith; longer = λ same. omega arith }
-
-pub settled_grown : (a b : Search) (t : Trailed) → HasSettled a b → IsGrown (live_in b.clauses) b.trail t → HasSettled a (record b { trail = t })
-settled_grown a b t settled grown = record {
-  vars = grown.vars ∙ settled.vars;
-  given = settled.given;
-  least = settled.least;
-  more = settled.more;
-  starts = settled.starts;
-  longer = λ same. (let h : length a.trail.lits ≤ length b.trail.lits = settled.longer same in let g : length b.trail.lits ≤ length t.lits = grown.longer in omega arith);
 }
 
 pub settled_jumped : (a b c : Search) → HasSettled a b → HasJumped b c → HasSettled a c
@@ -183,14 +160,6 @@ logged_decided f b c logged decided = record {
 pub measure_falls : (limit vars : ℕ) (a b c : Search) → HasSettled a b → length b.clauses.clauses < limit → HasDecided b c → length b.trail.lits ≤ vars + 1 → (limit - length c.clauses.clauses) * (vars + 2) + (vars + 2 - length c.trail.lits) < (limit - length a.clauses.clauses) * (vars + 2) + (vars + 2 - length a.trail.lits)
 measure_falls limit vars a b c settled under decided short =
     falls limit vars (length a.clauses.clauses) (length b.clauses.clauses) (length c.clauses.clauses) (length a.trail.lits) (length b.trail.lits) (length c.trail.lits) settled.more settled.longer (ap (λ (s : Stored). length s.clauses) decided.clauses) decided.lits under short
-
--- The ids behind the formula's are as many as the additions.
-pub spent_now : (f : Formula) (budget : ℕ) (s : Search) → IsLogged f s → s.given + budget ≤ length s.clauses.clauses → s.least ≤ budget → HasSpent f budget s
-spent_now f budget s logged enough low = record {
-  logged = logged;
-  enough = (let count : length s.clauses.clauses ≡ length f.clauses + additions (line_values s.lines.items) = logged.log.count in let given : s.given ≡ length f.clauses = logged.given in omega arith);
-  least = low;
-}
 
 -- there are no more levels than literals on the trail
 pub starts_short : (live : ℕ → Option (List ℤ)) (t : Trailed) (starts : List ℕ) → IsLayered live t starts → length starts ≤ t.vars + 1

@@ -1,5 +1,5 @@
 -- The steps of a visit.
-use Rattle.std.proofs.Common.{◌≡◌, ℕ, ◌+◌, ◌-◌, ◌<◌, ◌≤◌, ◌⊎◌, ◌↔◌, ℤ, pos, List, length, slice_index_or, Contains, All, Option, Some, IsSome, subst, sym, ap, ◌∙◌, arith, inl, inr, refl}
+use Rattle.std.proofs.Common.{◌≡◌, ℕ, ◌+◌, ◌-◌, ◌<◌, ◌≤◌, ◌⊎◌, ◌↔◌, ℤ, pos, List, length, slice_index_or, Contains, All, Option, Some, subst, sym, ap, ◌∙◌, arith, inl, inr, refl}
 use Rattle.std.proofs.Math.Logic.{⊎_elim}
 use Rattle.std.proofs.lemmas.Bool.{cases_eq, cases_lt}
 use Rattle.std.proofs.lemmas.Grind.{common_steps}
@@ -30,9 +30,6 @@ entry_watches s l index id stored inside is = rw is (stored.only l (id_at s l in
 
 pub watches_long : (s : Stored) (id : ℕ) (l : ℤ) → Watches s id l → IsLong s id
 watches_long s id l watches = record { clause = watches.clause; is_live = watches.is_live; long = watches.long }
-
-pub watches_live : (s : Stored) (id : ℕ) (l : ℤ) → Watches s id l → IsSome (live_in s id)
-watches_live s id l watches = let is : live_in s id ≡ Some watches.clause = watches.is_live in rw is refl
 
 -- a true literal among the watched
 pub true_at : (s : Stored) (places : ℤ → ℕ) (id : ℕ) (l : ℤ) → IsStored s → Watches s id l → 0 < places (opposite l) → HasTrueAt s places id

@@ -14,9 +14,6 @@ use Rattle.cdcl_core.proofs.Gone.{new_gone, log_thinned, log_all_gone}
 pub pending_none : (f : Formula) (s : Search) (ids : List ℕ) → ids ≡ [] → IsAccounted f s → IsPending f s ids
 pending_none f s ids none accounted = rw none (record { log = accounted.log; given = accounted.given })
 
-pub pending_logged : (f : Formula) (s : Search) (ids : List ℕ) → ids ≡ [] → IsLogged f s → IsPending f s ids
-pending_logged f s ids none logged = rw none (record { log = logged.log; given = logged.given })
-
 -- With the line the log is that of the clauses.
 pub accounted_written : (f : Formula) (s t : Search) (ids : List ℕ) → IsPending f s ids → line_values t.lines.items ≡ with_gone (line_values s.lines.items) (length s.clauses.clauses) ids → t ≡ record s { lines = t.lines } → IsAccounted f t
 accounted_written f s t ids pending lines same =

@@ -29,12 +29,6 @@ same_less m n f g less same = record {
 pub same_self : (n : ℕ) (f : ℤ → ℕ) → SameFallen n f f
 same_self n f = record { there = λ p l low is. is; back = λ p l low is. is }
 
-pub free_kept : (n p : ℕ) (f g : ℤ → ℕ) (u : ℤ) → SameFallen n f g → p ≤ n → HasNoValue f p u → HasNoValue g p u
-free_kept n p f g u same low free = record {
-  not_false = λ is. free.not_false (same.back p u low is);
-  not_true = λ is. free.not_true (same.back p (opposite u) low is);
-}
-
 pub free_back : (n p : ℕ) (f g : ℤ → ℕ) (u : ℤ) → SameFallen n f g → p ≤ n → HasNoValue g p u → HasNoValue f p u
 free_back n p f g u same low free = record {
   not_false = λ is. free.not_false (same.there p u low is);

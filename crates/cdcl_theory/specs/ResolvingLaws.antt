@@ -1,17 +1,13 @@
 -- One step back over a reason, and the hints of what is left.
-use Rattle.std.specs.Prelude.{◌≡◌, ℕ, ◌+◌, ◌<◌, ◌≤◌, ◌⊎◌, ℤ, Bool, true, false, List, [], ◌∷◌, ◌++◌, reverse, length, slice_index_or, Contains, All, Option, Some}
-use Rattle.std.proofs.Common.{sym, ap, ◌∙◌, subst, arith, inl, inr}
+use Rattle.std.specs.Prelude.{◌≡◌, ℕ, ◌<◌, ◌⊎◌, ℤ, Bool, true, false, List, [], ◌∷◌, reverse, Contains, All, Option, Some}
+use Rattle.std.proofs.Common.{sym, subst, arith, inl, inr}
 use Rattle.std.proofs.Math.Logic.{⊎_elim}
 use Rattle.std.proofs.lemmas.Bool.{cases_Bool}
-use Rattle.std.proofs.lemmas.List.{reverse-append}
 use Rattle.std.proofs.lemmas.List.Elements.{All-contains, All-weaker, All-cons, All-nil}
 use Rattle.sat_theory.specs.Formula.{opposite}
 use Rattle.sat_theory.specs.Holding.{HintsHold, IsUnitOutside, with_literal, among}
 use Rattle.sat_theory.specs.Soundness.{Contains-from_among, among-from_Contains}
 use Rattle.cdcl_theory.specs.CodeLaws.{with_literal-cases, with_literal-old, with_literal-new}
-use Rattle.cdcl_theory.specs.Falling.{IsFallen, Implies}
-use Rattle.cdcl_theory.specs.Trails.{ArePlaces}
-use Rattle.cdcl_theory.specs.TrailLaws.{true_not_fallen, place_at, fallen_at}
 use Rattle.cdcl_theory.specs.Resolving.{IsDerived, IsResolvent}
 
 last_hint : (live : ℕ → Option (List ℤ)) (set : ℤ → Bool) (id : ℕ) (clause : List ℤ) → live id ≡ Some clause → All (λ l. set l ≡ true) clause → HintsHold live set (id ∷ [])
@@ -45,32 +41,6 @@ derived_step live fell kept less hints id clause t derived is there up down othe
     out : (set : ℤ → Bool) → ((l : ℤ) → set l ≡ true → 0 < fell l) → (set t ≡ true) ⊎ (set t ≡ false) → set t ≡ false
     out set fallen (inl is_in) = absurd (let h : 0 < fell t = fallen t is_in in omega arith)
     out set fallen (inr is_out) = is_out
-
--- The step of the walk: the literal that fell at p + 1 goes, and the others of its reason come.
-pub resolved : (live : ℕ → Option (List ℤ)) (lits : List ℤ) (fell : ℤ → ℕ) (p id : ℕ) (t d : ℤ) (kept less : ℤ → Bool) (ids : List ℕ) → ArePlaces lits fell → p < length lits → slice_index_or lits p d ≡ t → IsResolvent live fell (p + 1) kept ids → (implies : Implies live fell p t id) → ((m : ℤ) → kept m ≡ true → (m ≡ opposite t) ⊎ (less m ≡ true)) → All (λ m. (m ≡ t) ⊎ (less m ≡ true)) implies.clause → ((m : ℤ) → less m ≡ true → ((kept m ≡ true) × (m ≡ opposite t → ⊥)) ⊎ (Contains implies.clause m × (m ≡ t → ⊥))) → IsResolvent live fell p less (ids ++ id ∷ [])
-resolved live lits fell p id t d kept less ids are within at before implies moved others only =
-    let down : fell (opposite t) ≡ p + 1 = place_at lits fell p d t are within at in
-    let up : fell t ≡ 0 = true_not_fallen lits fell p d t are within at in
-    record {
-      below = λ m is. ⊎_elim
-          (λ (old : (kept m ≡ true) × (m ≡ opposite t → ⊥)).
-          let was : IsFallen fell (p + 1) m = before.below m old.0 in
-          let some : 0 < fell m = was.0 in
-          let high : fell m ≤ p + 1 = was.1 in
-          let not_last : fell m ≡ p + 1 → ⊥ = λ e. old.1 (fallen_at lits fell p d m are e ∙ ap opposite at) in
-          (some, omega arith))
-          (λ (new : Contains implies.clause m × (m ≡ t → ⊥)).
-          ⊎_elim (λ (same : m ≡ t). absurd (new.1 same)) (λ (low : IsFallen fell p m). low) (All-contains (λ x. (x ≡ t) ⊎ IsFallen fell p x) implies.clause m implies.others new.0))
-          (only m is);
-      derived = subst (λ (hs : List ℕ). IsDerived live fell less hs) (sym (reverse-append ids (id ∷ []))) (derived_step live fell kept less (reverse ids) id implies.clause t before.derived implies.is_live implies.there up (omega arith) others moved);
-    }
-
--- where nothing fell at p + 1, or it isn't kept, the same clause is one of the first p
-pub resolvent_lower : (live : ℕ → Option (List ℤ)) (fell : ℤ → ℕ) (p : ℕ) (kept : ℤ → Bool) (ids : List ℕ) → IsResolvent live fell (p + 1) kept ids → ((m : ℤ) → kept m ≡ true → fell m ≡ p + 1 → ⊥) → IsResolvent live fell p kept ids
-resolvent_lower live fell p kept ids before none = record {
-  below = λ m is. (let was : IsFallen fell (p + 1) m = before.below m is in let some : 0 < fell m = was.0 in let high : fell m ≤ p + 1 = was.1 in let not_last : fell m ≡ p + 1 → ⊥ = none m is in (some, omega arith));
-  derived = before.derived;
-}
 
 -- The hints hold from the literals of a list that are those kept.
 pub resolvent_holds : (live : ℕ → Option (List ℤ)) (fell : ℤ → ℕ) (p : ℕ) (kept : ℤ → Bool) (ids : List ℕ) (lits : List ℤ) → IsResolvent live fell p kept ids → ((m : ℤ) → kept m ≡ true → Contains lits m) → All (λ m. 0 < fell m) lits → HintsHold live (among lits) (reverse ids)

@@ -10,7 +10,7 @@ use Rattle.sat_theory.specs.Formula.{variable, opposite}
 use Rattle.cdcl_theory.specs.Codes.{code_of, place_in, with_place}
 use Rattle.cdcl_theory.specs.CodeLaws.{code_of-room, opposite-opposite, opposite-differs, variable-opposite, cases_literal, with_place-same, with_place-other, place_in-set, place_in-none}
 use Rattle.cdcl_theory.specs.Falling.{SameFallen}
-use Rattle.cdcl_theory.specs.FallingLaws.{same_trans, same_less, same_self}
+use Rattle.cdcl_theory.specs.FallingLaws.{same_trans, same_less}
 use Rattle.cdcl_theory.specs.Trails.{Trailed, fell, ArePlaces, IsTrail, pushed, IsBack}
 
 -- the literal at index p has its place
@@ -237,9 +237,6 @@ back_pop t lits l trail split =
       lits = λ p d low. sym (ap (λ (xs : List ℤ). slice_index_or xs p d) split ∙ get_or_append_left lits (l ∷ []) d p low);
       same = rw (place_in-set t.table (opposite l) 0 room) (same_pop (length lits) (fell t) l last);
     }
-
-pub back_self : (t : Trailed) → IsBack (length t.lits) t t
-back_self t = record { vars = refl; reasons = refl; short = refl; lits = λ p d low. refl; same = same_self (length t.lits) (fell t) }
 
 pub back_trans : (m n : ℕ) (a b c : Trailed) → n ≤ m → IsBack m a b → IsBack n b c → IsBack n a c
 back_trans m n a b c low first second = record {

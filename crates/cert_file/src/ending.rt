@@ -119,7 +119,7 @@ pub(crate) fn at_steps(
         Err(error) => return Err(refusal(error)),
     };
     let mut steps = steps;
-    add_step(&mut steps, frame.n, step)?;
+    add_step(&mut steps, step)?;
     if steps.len() < frame.steps as usize {
         return Ok(Stage::Steps {
             heading,

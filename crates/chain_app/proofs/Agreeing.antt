@@ -10,8 +10,8 @@ use Rattle.chain_app.specs.declared.agree.AgreeError.{AgreeError}
 use Rattle.chain_app.specs.declared.agree.AgreeError.TheVariants as errors
 use Rattle.chain_app.specs.Agree.{Question, IsQuestion, HasFault, question_of, IsCause, Fails, most_of_tables, HasAnswer}
 use Rattle.chain_app.specs.AgreeReport.{answer_status, error_status, agree_reply, named_spec, named_chain, named_error, agree_refusal, agree_task}
-use Rattle.frame_core.specs.Told.{Reply, Refusal, memory_refusal}
-use Rattle.frame_core.specs.Task.{IsAnswerStatus, IsRefusalStatus, IsTask, Tells, Refuses}
+use Rattle.frame_core.specs.Told.{Reply, memory_refusal}
+use Rattle.frame_core.specs.Task.{IsAnswerStatus, IsRefusalStatus, IsTask, Tells}
 use Rattle.frame_core.specs.TaskLaws.{at_once_task}
 
 -- What the readers answer within the limit is the cause of their error.
@@ -30,9 +30,6 @@ fault_of bytes errors.Memory within cause other = absurd (other refl)
 
 pub tells : (bytes : List ℕ) (answer : Answer) (reply : Reply) → HasAnswer bytes answer → reply ≡ agree_reply answer → Tells agree_task bytes reply
 tells bytes answer reply has is = record { answer = answer; has = has; is = is }
-
-pub refuses : (bytes : List ℕ) (error : AgreeError) (refusal : Refusal) → HasFault bytes error → refusal ≡ agree_refusal error → Refuses agree_task bytes refusal
-refuses bytes error refusal fault is = record { fault = error; meets = fault; is = is }
 
 pub ruleset telling = (common_steps, tells)
 

@@ -1,7 +1,7 @@
 //! Chain blocks, line after line. Each loop keeps the equation that the definition, over what was read
 //! and what is left, gives what it gives of the whole, so that its fault is the first one.
 
-ghost use Rattle.std.specs.Prelude.{◌≡◌, ◌+◌, ◌^◌, ◌<◌, ◌≤◌, [], ◌∷◌, ◌++◌, length, drop, All, OnOk, OnErr, IfOk};
+ghost use Rattle.std.specs.Prelude.{◌≡◌, ℕ, ◌+◌, ◌^◌, ◌<◌, ◌≤◌, [], ◌∷◌, ◌++◌, length, drop, All, OnOk, OnErr, IfOk};
 ghost use Rattle.text_core.specs.Lines.{lines_of};
 ghost use Rattle.text_core.specs.Rest.{IsRest};
 ghost use Rattle.chain_theory.specs.Chain.{AreSteps, IsStepAt, NamesPlace};
@@ -21,11 +21,10 @@ use text_core::next_line;
 /// Adds a step that stands at the next place to the steps before it. An error is want of memory, and
 /// then nothing is added.
 #[tactic(auto, using(crate::specs::BlockLaws::more_steps))]
-pub fn add_step(steps: &mut Vec<Step>, n: u32, step: Step) -> Result<(), AllocError>
-    requires steps { AreSteps n (steps_of steps.old.items) }
-    requires step { IsStepAt (n + 1 + length steps.old.items) (step_of step) }
+pub fn add_step(steps: &mut Vec<Step>, step: Step) -> Result<(), AllocError>
     ensures added { OnOk result (steps.new.items ≡ steps.old.items ++ step ∷ []) }
-    ensures steps { OnOk result (AreSteps n (steps_of steps.new.items)) }
+    ensures steps { (n : ℕ) → AreSteps n (steps_of steps.old.items) → IsStepAt (n + 1 + length steps.old.items) (step_of step) →
+        OnOk result (AreSteps n (steps_of steps.new.items)) }
     ensures unchanged { OnErr result (steps.new.items ≡ steps.old.items) }
 {
     steps.push(step)?;
@@ -54,7 +53,7 @@ fn steps_from<'a>(
             return Err(ChainError::BadStep(frame.first_line + 1 + steps.len() as u32));
         };
         let step = step_at(frame, steps.len() as u32, text, ended)?;
-        add_step(&mut steps, frame.n, step)?;
+        add_step(&mut steps, step)?;
         left = rest;
     }
     Ok((steps, left))

@@ -11,13 +11,6 @@ pub two_values : (f g : Bool → Bool) → f false ≡ g false → f true ≡ g 
 two_values f g at_0 at_1 true = at_1
 two_values f g at_0 at_1 false = at_0
 
--- functions of two bits with the same four values are the same
-pub four_values : (f g : Bool → Bool → Bool) → f false false ≡ g false false → f false true ≡ g false true → f true false ≡ g true false → f true true ≡ g true true → (a b : Bool) → f a b ≡ g a b
-four_values f g at_00 at_01 at_10 at_11 false false = at_00
-four_values f g at_00 at_01 at_10 at_11 false true = at_01
-four_values f g at_00 at_01 at_10 at_11 true false = at_10
-four_values f g at_00 at_01 at_10 at_11 true true = at_11
-
 -- the value of an operator that is a function of two bits
 pub value_by : (op : ℕ) (f : Bool → Bool → Bool) → op ≡ operator_of f → (x y : Bool) → apply op x y ≡ f x y
 value_by op f e x y = ap (λ (o : ℕ). apply o x y) e ∙ operator_values f x y

@@ -34,10 +34,6 @@ any_outs n t steps xs ys Zero = refl
 any_outs n t steps xs ys One = refl
 any_outs n t steps xs ys (Place p) = refl
 
--- Without outputs there is nothing to miss.
-pub agrees-none : (n : ℕ) (steps : List PlainStep) (outs : List Out) (cells : List Cell) → length outs ≡ 0 → AgreesFlat n steps outs cells
-agrees-none n steps outs cells none = record { inputs = refl; outputs = refl; cells = λ h t from to low. absurd (omega arith) }
-
 -- the cells of the first output
 first_cell : (n t : ℕ) (own behind : List Cell) → length own ≡ 2 ^ n → t < 2 ^ n → get_or (own ++ behind) ((1 - 1) * 2 ^ n + t) Free ≡ get_or own t Free
 first_cell n t own behind count low =

@@ -100,11 +100,6 @@ pub record Forgotten (lits : List ℤ) (at : ℕ) (first now : List (Option Bool
   pub each : (v : ℕ) → (get_or now v None ≡ None) ⊎ ((get_or now v None ≡ get_or first v None) × ((k : ℕ) (d : ℤ) → k < at → variable (get_or lits k d) ≢ v))
   pub size : length now ≡ length first
 
-any_default : {X : Type 0} (xs : List X) (k : ℕ) (d e : X) → k < length xs → get_or xs k d ≡ get_or xs k e
-any_default {X} [] k d e low = absurd (omega arith)
-any_default {X} (x ∷ xs) zero d e low = refl
-any_default {X} (x ∷ xs) (suc k) d e low = any_default xs k d e (omega arith)
-
 -- behind the list nothing is known
 behind : {X : Type 0} (xs : List X) (k : ℕ) (d : X) → length xs ≤ k → get_or xs k d ≡ d
 behind {X} [] k d low = refl
@@ -132,33 +127,6 @@ unknown lits at seen is (suc v) none all =
     ] refl)
     (λ (high : length seen ≤ suc v). behind seen (suc v) None high)
     (cases_lt (suc v) (length seen))
-
-pub forgotten_none : (lits : List ℤ) (first : List (Option Bool)) → Forgotten lits 0 first first
-forgotten_none lits first = record { each = λ v. inr (refl, λ k d low e. absurd (omega arith)); size = refl }
-
-pub forgotten_more : (lits : List ℤ) (at : ℕ) (first now : List (Option Bool)) (d : ℤ) → Forgotten lits at first now → at < length lits → variable (get_or lits at d) < length first → Forgotten lits (at + 1) first (set now (variable (get_or lits at d)) None)
-forgotten_more lits at first now d is low within =
-    let own : ℕ = variable (get_or lits at d) in
-    let within_now : own < length now = omega (arith, is.size, within) in
-    record {
-      each = λ v. ⊎_elim
-          (λ (same : v ≡ own). inl (subst (λ (k : ℕ). get_or (set now own None) k None ≡ None) (sym same) (get_or-set_same now own None None within_now)))
-          (λ (other : v ≢ own).
-          let kept : get_or (set now own None) v None ≡ get_or now v None = get_or-set_other now own v None None other in
-          ⊎_elim
-          (λ (gone : get_or now v None ≡ None). inl (kept ∙ gone))
-          (λ (stays : (get_or now v None ≡ get_or first v None) × ((k : ℕ) (e : ℤ) → k < at → variable (get_or lits k e) ≢ v)). inr (
-            kept ∙ stays.0,
-            λ k e below is_v.
-                ⊎_elim
-                (λ (last : k ≡ at). other (sym is_v ∙ ap variable (ap (λ (i : ℕ). get_or lits i e) last ∙ any_default lits at e d low)))
-                (λ (before : k ≢ at). stays.1 k e (omega arith) is_v)
-                (same_or_other k at),
-          ))
-          (is.each v))
-          (same_or_other v own);
-      size = length-set now own None ∙ is.size;
-    }
 
 pub forgotten_all : (lits : List ℤ) (at : ℕ) (first now : List (Option Bool)) → IsSeen first lits → Forgotten lits at first now → length lits ≤ at → IsBlank now
 forgotten_all lits at first now seen is all = record {

@@ -1,20 +1,17 @@
 -- The entries of all lists have the ranges of their ids.
-use Rattle.std.proofs.Common.{◌≡◌, ℕ, ◌+◌, ◌-◌, ◌<◌, ◌≤◌, ℤ, List, [], ◌∷◌, ◌++◌, length, take, slice_index_or, slice_set, replicate, All, sym, ap, ◌∙◌, subst, arith}
+use Rattle.std.proofs.Common.{◌≡◌, ℕ, ◌+◌, ◌-◌, ◌<◌, ◌≤◌, ℤ, List, [], ◌∷◌, ◌++◌, length, take, slice_index_or, slice_set, All, sym, ap, ◌∙◌, subst, arith}
 use Rattle.std.specs.List.{swap_remove, swap}
 use Rattle.std.proofs.lemmas.List.{length-map, length-append, length-take, length-set, get_or-map}
-use Rattle.std.proofs.lemmas.List.Elements.{All-nil, All-replicate, All-get_or, All-set, All-take, All-weaker}
+use Rattle.std.proofs.lemmas.List.Elements.{All-get_or, All-set, All-take, All-weaker}
 use Rattle.cdcl_theory.specs.Codes.{code_of}
 use Rattle.clause_db.specs.declared.lists.Watch.{Watch}
 use Rattle.clause_db.specs.BlockRanges.{Blocked, no_range, KeepsRanges}
-use Rattle.clause_db.specs.Lists.{Listed, nothing_listed, no_watch, blocked_by, ids_of, lists_of, IsDirect, AreDirect}
+use Rattle.clause_db.specs.Lists.{Listed, no_watch, blocked_by, ids_of, lists_of, IsDirect, AreDirect}
 use Rattle.clause_db.specs.Watching.{listed_in}
 use Rattle.clause_db.specs.WatchingLaws.{watch_id}
 use Rattle.clause_db.specs.Arranging.{Arranged, block_at, exchanged_at}
 use Rattle.clause_db.specs.declared.blocks.Range.{Range}
 use Rattle.clause_db.proofs.Listed.{shown_lists, shown_list, ids_inside, lists_room}
-
-pub direct_none : (b : Blocked) (n : ℕ) → AreDirect b (replicate n nothing_listed)
-direct_none b n = All-replicate (All (IsDirect b)) n nothing_listed (All-nil (IsDirect b))
 
 shown_room : (blocks : List (List ℤ)) (all : List Listed) (w : Arranged) (l : ℤ) (k : ℕ) → shown_lists blocks all ≡ w → k ≡ code_of l → code_of l < length w.lists → k < length all
 shown_room blocks all w l k view at room =
@@ -59,16 +56,6 @@ direct_blocked b w m is = record { some = is.some; given = is.given; is = is.is 
 
 pub direct_put : (b : Blocked) (e : Listed) (i : ℕ) (m : ℤ) → i < length e → All (IsDirect b) e → All (IsDirect b) (slice_set e i (blocked_by (slice_index_or e i no_watch) m))
 direct_put b e i m low are = All-set (IsDirect b) e i (blocked_by (slice_index_or e i no_watch) m) (direct_blocked b (slice_index_or e i no_watch) m (All-get_or (IsDirect b) e i no_watch low are)) are
-
--- One more list stands behind the others,
-pub direct_more : (old new : Blocked) (lits : List ℤ) (all : List Listed) → new.lists ≡ old.lists ++ lits ∷ [] → KeepsRanges old new (length old.lists) → AreDirect old all → AreDirect new all
-direct_more old new lits all more kept are = All-weaker (All (IsDirect old)) (All (IsDirect new)) (λ e. All-weaker (IsDirect old) (IsDirect new) one e) all are
-  where
-    one : (w : Watch) → IsDirect old w → IsDirect new w
-    one w is =
-        let some : 0 < w.id = is.some in
-        let given : w.id ≤ length old.lists = is.given in
-        record { some = some; given = rw (more, length-append) (omega (arith, given)); is = kept (w.id - 1) (omega (arith, some, given)) ∙ is.is }
 
 -- or is taken off again, while the ids are those of before.
 pub direct_back : (old new back : Blocked) (lits : List ℤ) (before all : List Listed) → new.lists ≡ old.lists ++ lits ∷ [] → back.lists ≡ take (length new.lists - 1) new.lists → KeepsRanges new back (length new.lists - 1) → lists_of all ≡ lists_of before → AreDirect old before → AreDirect new all → AreDirect back all

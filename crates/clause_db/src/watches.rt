@@ -3,7 +3,7 @@
 //! Moving a watch is a push to one list, a change of two places, and a taking out of another list. The push comes
 //! first, since it alone can want memory; the change is made by the range in the entry, before that is taken out.
 ghost use Rattle.std.specs.Prelude.{◌≡◌, ◌≢◌, ◌⊎◌, ℤ, ◌+◌, ◌-◌, ◌*◌, ◌<◌, ◌≤◌, [], length, take, All, Contains, pos, slice_index_or, slice_set, replicate, IfOk, OnOk, OnErr};
-ghost use Rattle.std.specs.List.{swap_remove, swap};
+ghost use Rattle.std.specs.List.{swap_remove};
 ghost use Rattle.cdcl_theory.specs.Codes.{code_of};
 ghost use Rattle.clause_db.specs.Watching.{listed_in, pair_of, with_id, with_ids, watching_moved};
 ghost use Rattle.clause_db.specs.Blocking.{row_of, with_row, with_blocker, with_blockers, rows_moved, besides};

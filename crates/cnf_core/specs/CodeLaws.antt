@@ -14,11 +14,6 @@ code_of-same (pos a) (negsuc b) e = let h : 2 * a ≡ 2 * suc b + 1 = e in absur
 code_of-same (negsuc a) (pos b) e = let h : 2 * suc a + 1 ≡ 2 * b = e in absurd (omega arith)
 code_of-same (negsuc a) (negsuc b) e = let h : 2 * suc a + 1 ≡ 2 * suc b + 1 = e in let same : a ≡ b = omega arith in ap (λ (n : ℕ). negsuc n) same
 
--- the entries of the variables 1 to n fit a table of 2 n + 2
-pub code_of-room : (l : ℤ) (n : ℕ) → variable l ≤ n → code_of l < 2 * n + 2
-code_of-room (pos a) n within = let h : a ≤ n = within in let goal : 2 * a < 2 * n + 2 = omega arith in goal
-code_of-room (negsuc a) n within = let h : suc a ≤ n = within in let goal : 2 * suc a + 1 < 2 * n + 2 = omega arith in goal
-
 -- an even place is that of a positive literal
 literal_of-even : (n : ℕ) → n % 2 ≡ 0 → literal_of n ≡ pos (n / 2)
 literal_of-even n even = rw even refl

@@ -3,7 +3,6 @@ use Rattle.std.proofs.Common.{◌≡◌, ◌≢◌, ℕ, ◌<◌, ◌≤◌, ◌
 use Rattle.std.specs.List.{swap}
 use Rattle.std.proofs.Math.Logic.{⊎_elim}
 use Rattle.std.proofs.lemmas.Bool.{cases_eq, cases_lt}
-use Rattle.std.proofs.lemmas.Grind.{common_steps}
 use Rattle.std.proofs.lemmas.List.{length-set, get_or-set_same, get_or-set_other}
 use Rattle.std.proofs.lemmas.List.Edits.{length-swap, swap_is}
 use Rattle.std.proofs.lemmas.List.Elements.{All-contains}
@@ -18,9 +17,6 @@ record Stood (xs : List ℤ) (i k : ℕ) : Type 0 where
   pub inside : index < length xs
   pub same : (d : ℤ) → slice_index_or (swap xs 0 i) k d ≡ slice_index_or xs index d
   pub which : ((k ≡ i) × (index ≡ 0)) ⊎ (((k ≡ i → ⊥) × (k ≡ 0) × (index ≡ i)) ⊎ ((k ≡ i → ⊥) × (k ≡ 0 → ⊥) × (index ≡ k)))
-
-at_default : (xs : List ℤ) (k : ℕ) (d e : ℤ) → k < length xs → slice_index_or xs k d ≡ slice_index_or xs k e
-at_default xs k d e low = grind (arith, common_steps)
 
 stood : (xs : List ℤ) (i k : ℕ) → i < length xs → k < length xs → Stood xs i k
 stood xs i k low within =

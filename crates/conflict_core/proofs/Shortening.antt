@@ -1,5 +1,5 @@
 -- A marked literal goes by a clause of two, of which the other literal is marked.
-use Rattle.std.proofs.Common.{◌≡◌, ℕ, ◌<◌, ◌≤◌, ◌⊎◌, ◌↔◌, ℤ, pos, Bool, true, List, [], ◌∷◌, ◌++◌, length, reverse, slice_index_or, Contains, All, Option, Some, IsSome, subst, sym, ap, ◌∙◌, arith, inl, inr, refl}
+use Rattle.std.proofs.Common.{◌≡◌, ℕ, ◌<◌, ◌≤◌, ◌⊎◌, ◌↔◌, ℤ, pos, Bool, true, List, [], ◌∷◌, ◌++◌, length, reverse, slice_index_or, Contains, All, Option, Some, subst, sym, ap, ◌∙◌, arith, inl, inr}
 use Rattle.std.proofs.Math.Logic.{⊎_elim}
 use Rattle.std.proofs.lemmas.Bool.{both_ways, cases_eq, cases_lt}
 use Rattle.std.proofs.lemmas.List.{get_or_default, reverse-append}
@@ -20,9 +20,6 @@ use Rattle.conflict_core.proofs.Gathering.{listed_unset}
 -- what stands at an index of a literal's list watches it
 pub entry_watches : (s : Stored) (l : ℤ) (index id : ℕ) → IsStored s → index < length (list_of s.watches l) → id ≡ slice_index_or (list_of s.watches l) index 0 → Watches s id l
 entry_watches s l index id stored inside is = rw is (stored.only l (slice_index_or (list_of s.watches l) index 0) (Contains-get_or (list_of s.watches l) index 0 inside))
-
-pub watches_live : (s : Stored) (id : ℕ) (l : ℤ) → Watches s id l → IsSome (live_in s id)
-watches_live s id l watches = let is : live_in s id ≡ Some watches.clause = watches.is_live in rw is refl
 
 -- literals of a clause that have the same variable are the same
 same_of : (clause : List ℤ) (a b : ℤ) → IsClause clause → Contains clause a → Contains clause b → variable a ≡ variable b → a ≡ b

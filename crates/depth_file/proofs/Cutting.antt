@@ -90,9 +90,6 @@ pub record IsBefore (r : Reader) (left all : List ℕ) : Type 0 where
   pub stands : StandsFor r text
   pub is : text ++ left ≡ all
 
-pub before_none : (r : Reader) (text piece : List ℕ) → StandsFor r text → IsBefore r piece (text ++ piece)
-before_none r text piece stands = record { text = text; stands = stands; is = refl }
-
 pub before_all : (r : Reader) (left all : List ℕ) → lines_of left ≡ [] → IsBefore r left all → StandsFor r all
 before_all r left all none before =
     let empty : left ≡ [] = sym (lines_spell left) ∙ ap (flat_map line_bytes) none in

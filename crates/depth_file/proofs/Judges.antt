@@ -19,9 +19,6 @@ use Rattle.depth_theory.specs.DepthAgain.{judged_again}
 turned : (a : Answer) (lines : List Line) → Judged (λ (x : Answer). x ≡ a) lines → IsJudged lines a
 turned a lines judged = record { refused = λ e is. sym (judged.refused e is); behind = λ b valid output same. sym (judged.behind b valid output same) }
 
-same_verdict : (v w : DepthVerdict) (one two : Answer) → one ≡ Ok v → one ≡ two → two ≡ Ok w → v ≡ w
-same_verdict v w one two first middle last = cc
-
 pub verdict_told : (bytes : List ℕ) (r : Answer) → Judged (Gives (λ (v : DepthVerdict). v) r) (lines_of bytes) → IfOk r (λ v. HasDepth bytes v)
 verdict_told bytes (Ok v) judged = judged_spelled bytes v (turned (Ok v) (lines_of bytes) judged)
 verdict_told bytes (Err e) judged = tt

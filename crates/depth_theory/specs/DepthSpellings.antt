@@ -305,9 +305,6 @@ least_is Plain v chain c e = absurd cc
 least_is Ssv v chain c e = absurd cc
 least_is Select v chain c e = absurd cc
 
-minimum_is : (a b : ℕ) → bundle_verdicts.Minimum a ≡ bundle_verdicts.Minimum b → a ≡ b
-minimum_is a b e = cc
-
 counted_by : (h : Heading) (count : ℕ) (low : Option ℕ) (c : Chain) (v : Verdict) (r : ℕ) → IsEnding h count low (Some c) v → v ≡ bundle_verdicts.Minimum r → v ≡ bundle_verdicts.Minimum (length c.steps)
 counted_by h count None c v r ending is = ending.1 ∙ ap (λ (n : ℕ). bundle_verdicts.Minimum n) (sym ending.0.size_is)
 counted_by h count (Some low) c v r ending is = absurd (let e : bundle_verdicts.Bounded low count ≡ bundle_verdicts.Minimum r = sym ending.1 ∙ is in cc)

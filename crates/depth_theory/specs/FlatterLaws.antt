@@ -63,10 +63,6 @@ range_more a (suc n) =
     ap (range_with_len a) next
     ∙ ap (λ (xs : List ℕ). a ∷ xs) (range_more (a + 1) n ∙ ap (λ (k : ℕ). range_with_len (a + 1) n ++ k ∷ []) same)
 
-pub by_levels_none : (fences : List (List ℕ)) → by_levels fences 0 ≡ []
-unfolding by_levels
-by_levels_none fences = refl
-
 pub by_levels_more : (fences : List (List ℕ)) (k : ℕ) → by_levels fences (k + 1) ≡ by_levels fences k ++ of_levels fences k
 unfolding by_levels
 by_levels_more fences k =

@@ -1,5 +1,5 @@
 -- How large powers and products become within the program's limits.
-use Rattle.std.proofs.Common.{ℕ, ◌+◌, ◌-◌, ◌*◌, ◌^◌, ◌<◌, ◌≤◌, arith, pow_mono}
+use Rattle.std.proofs.Common.{ℕ, ◌-◌, ◌*◌, ◌^◌, ◌≤◌, arith, pow_mono}
 use Rattle.std.proofs.Math.Nat.{mul-le-mul_left, mul-le-mul_right}
 use Rattle.std.proofs.lemmas.Grind.{common_steps}
 
@@ -17,17 +17,4 @@ steps_rows a b ha hb = omega (arith, product a b 16 64 ha hb)
 pub outputs_steps : (a b : ℕ) → a ≤ 8 → b ≤ 16 → a * b ≤ 128
 outputs_steps a b ha hb = omega (arith, product a b 8 16 ha hb)
 
--- a number within a block of the blocks before
-pub block_below : (a b c t : ℕ) → a < b → t < c → a * c + t < b * c
-block_below a b c t ha ht = let next : (a + 1) * c ≤ b * c = mul-le-mul_right c (omega arith) in omega (arith, next)
-
-pub block_within : (a b c t : ℕ) → a < b → t ≤ c → a * c + t ≤ b * c
-block_within a b c t ha ht = let next : (a + 1) * c ≤ b * c = mul-le-mul_right c (omega arith) in omega (arith, next)
-
 pub ruleset products = (common_steps, steps_rows, outputs_steps, rows_few)
-
-pub x_within : (n r i t : ℕ) → n + 1 ≤ i → i < n + 1 + r → t < 2 ^ n → (i - (n + 1)) * 2 ^ n + t < r * 2 ^ n
-x_within n r i t from below row = block_below (i - (n + 1)) r (2 ^ n) t (omega arith) row
-
-pub g_within : (n r m h i : ℕ) → n + 1 ≤ i → i < n + 1 + r → 1 ≤ h → h ≤ m → (h - 1) * r + (i - n) ≤ m * r
-g_within n r m h i from below one most = block_within (h - 1) m r (i - n) (omega arith) (omega arith)

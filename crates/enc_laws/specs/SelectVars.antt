@@ -99,11 +99,6 @@ row_low z i t is row =
     let turned : 2 ^ z.n * z.r ≡ z.r * 2 ^ z.n = mul_comm (2 ^ z.n) z.r in
     omega arith
 
-pub value_from : (z : Sizes) (side : Side) (i t : ℕ) → value_first z First ≤ value_var z side i t
-unfolding value_var value_first
-value_from z First i t = omega arith
-value_from z Second i t = omega arith
-
 pub value_behind : (z : Sizes) (side : Side) (i t : ℕ) → s_first z ≤ value_var z side i t
 unfolding value_var value_first
 value_behind z First i t = omega arith

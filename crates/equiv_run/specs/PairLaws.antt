@@ -24,7 +24,7 @@ use Rattle.equiv_run.specs.declared.answer.Compared.{Compared}
 use Rattle.equiv_run.specs.Split.{split_of}
 use Rattle.equiv_run.specs.Texts.{differ_text}
 use Rattle.equiv_run.specs.Pairs.{Lists, AreTwo, ShareInterface, sink_in, DocumentsDiffer, IsTold, IsAnswer, HasFirstFault, HasSecondFault, HasPairFault, IsRefusedPair}
-use Rattle.equiv_run.specs.Told.{IsCircuitTold, IsOther, IsFirstRefused, IsSecondRefused}
+use Rattle.equiv_run.specs.Told.{IsCircuitTold, IsOther}
 use Rattle.equiv_run.specs.NameBits.{has_assignment, values_are}
 
 -- ---- interfaces
@@ -132,23 +132,6 @@ answer_of budget bytes place c k text standing parted of_c of_k told = record {
 }
 
 -- ---- what is refused
-
-pub first_refused : (bytes : List ℕ) (place : ℕ) (e : CompareError) → split_of bytes ≡ Some place → IsFirstRefused (take place bytes) e → IsRefusedPair bytes e
-first_refused bytes place (First e) parted fault = record { place = place; parted = parted; fault = fault }
-first_refused bytes place Memory parted fault = tt
-first_refused bytes place NoSecond parted fault = absurd fault
-first_refused bytes place (Second e) parted fault = absurd fault
-first_refused bytes place DifferentInterface parted fault = absurd fault
-
-netlist_of : (bytes : List ℕ) (c : Circuit) → IsCircuitOfText blif_format bytes c → IsNetlist blif_format bytes
-netlist_of bytes c of = record { listed = of.listed; said = of.said; well = of.well }
-
-pub second_refused : (bytes : List ℕ) (place : ℕ) (c : Circuit) (e : CompareError) → split_of bytes ≡ Some place → IsCircuitOfText blif_format (take place bytes) c → IsSecondRefused (drop place bytes) e → IsRefusedPair bytes e
-second_refused bytes place c (Second e) parted of_c fault = record { place = place; parted = parted; first = netlist_of (take place bytes) c of_c; fault = fault }
-second_refused bytes place c Memory parted of_c fault = tt
-second_refused bytes place c NoSecond parted of_c fault = absurd fault
-second_refused bytes place c (First e) parted of_c fault = absurd fault
-second_refused bytes place c DifferentInterface parted of_c fault = absurd fault
 
 pub other_refused : (bytes : List ℕ) (place : ℕ) (c k : Circuit) (e : CompareError) → split_of bytes ≡ Some place → IsCircuitOfText blif_format (take place bytes) c → IsCircuitOfText blif_format (drop place bytes) k → IsOther c k e → IsRefusedPair bytes e
 other_refused bytes place c k DifferentInterface parted of_c of_k other = record {

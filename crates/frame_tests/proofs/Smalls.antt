@@ -1,39 +1,23 @@
 -- The small commands are what their tasks say.
-use Rattle.std.specs.Prelude.{◌≡◌, ℕ, ◌≤◌, ◌<◌, List, length, Some}
-use Rattle.std.proofs.Common.{arith, refl, sym, subst, inl}
-use Rattle.std.proofs.Math.Logic.{⊎_elim}
+use Rattle.std.specs.Prelude.{◌≡◌, ℕ, ◌≤◌, List, length}
+use Rattle.std.proofs.Common.{refl, sym, subst, inl}
 use Rattle.std.proofs.lemmas.Grind.{common_steps}
 use Rattle.frame_core.specs.declared.status.Status.{Status}
 use Rattle.frame_core.specs.declared.replies.Ended.{Ended}
 use Rattle.frame_core.specs.declared.replies.Ended.TheVariants as ended
 use Rattle.frame_core.specs.Outside.{Side}
 use Rattle.frame_core.specs.Told.{Reply}
-use Rattle.frame_core.specs.Task.{Tells, IsTask, IsFront, IsAnswerFront, IsBegunFront, MayStand, begins_none}
-use Rattle.frame_core.specs.TaskLaws.{from_nothing_task, in_pieces_task}
+use Rattle.frame_core.specs.Task.{Tells, IsTask}
+use Rattle.frame_core.specs.TaskLaws.{from_nothing_task}
 use Rattle.frame_core.specs.Performing.{Answers}
 use Rattle.frame_core.specs.PerformingLaws.{left_of, answered, pieces_sent, pieces_cut, pieces_starved}
-use Rattle.frame_tests.specs.Small.{greeting, greeting_task, lines_text, lines_reply, AreBytes, lines_task, WritesLines}
+use Rattle.frame_tests.specs.Small.{greeting, greeting_task, lines_reply, lines_task, WritesLines}
 
 pub greeting_is_task : IsTask greeting_task
 greeting_is_task = from_nothing_task (Unit {0}) (λ (u : Unit {0}). Unit {0}) greeting (λ u. inl refl)
 
 pub greets : (bytes : List ℕ) (reply : Reply) → reply ≡ greeting tt → Tells greeting_task bytes reply
 greets bytes reply is = record { answer = tt; has = tt; is = is }
-
-pub lines_is_task : IsTask lines_task
-lines_is_task =
-    in_pieces_task (Some 3) (List ℕ) AreBytes lines_reply ⊥ (λ (bytes : List ℕ) (fault : ⊥). ⊥) (λ (fault : ⊥). absurd fault) begins_none
-    (λ answer. inl refl)
-    (λ bytes fault meets. absurd fault)
-    (λ bytes answer fault has meets. meets)
-    (λ bytes a b x y. absurd x)
-    (λ bytes answer has long. too_many bytes has.within long)
-    (λ bytes fault meets long. meets)
-    (λ bytes text fault begins meets. begins)
-    (λ bytes text begins long. begins)
-  where
-    too_many : (bytes : List ℕ) → length bytes ≤ 3 → 3 < length bytes → ⊥
-    too_many bytes within long = omega arith
 
 lines_tell : (bytes : List ℕ) → length bytes ≤ 3 → Tells lines_task bytes (lines_reply bytes)
 lines_tell bytes within = record { answer = bytes; has = record { are = refl; within = within }; is = refl }
@@ -51,12 +35,5 @@ lines_answered bytes ended.Starved out note within writes same =
     pieces_starved lines_task bytes out note refl (left_of lines_task bytes (lines_reply bytes) out.0 out.1 (lines_tell bytes within) writes.0) writes.1 same
 lines_answered bytes ended.ReportCut out note within writes same = absurd writes
 lines_answered bytes (ended.NoAnswer refusal) out note within writes same = absurd writes
-
-pub lines_left : (bytes front : List ℕ) → MayStand lines_task bytes front → IsFront front (lines_text bytes)
-lines_left bytes front stands =
-    ⊎_elim
-    (λ (left : IsAnswerFront lines_task bytes front). subst (λ (xs : List ℕ). IsFront front (lines_text xs)) left.has.are left.is_front)
-    (λ (begun : IsBegunFront lines_task bytes front). absurd begun.begins)
-    stands
 
 pub ruleset telling = (common_steps, greeting_is_task, greets, answered)

@@ -16,19 +16,12 @@ use Rattle.lane_sim.specs.LaneLaws.{operand_bit, operand_ends, words_are_lanes}
 use Rattle.lane_sim.specs.PatternLaws.{pattern_low, same_pattern}
 use Rattle.lane_sim.specs.Rows.{IsOperandOf}
 use Rattle.lane_sim.specs.Seen.{pattern_at, four_of, AreSeen, AreSeenFour, AreRows, AreOperands}
-use Rattle.lane_sim.specs.SeenLaws.{above_zero, no_digit, digit_or, digit_or_left, digit_or_right, mask_only, mask_all, both_true}
+use Rattle.lane_sim.specs.SeenLaws.{digit_or, digit_or_left, digit_or_right, mask_only, mask_all, both_true}
 use Rattle.lane_sim.specs.ShownLaws.{step_is}
 use Rattle.lane_sim.specs.WordLaws.{digit_and}
 use Rattle.lane_sim.specs.Words.{Words, AreWords, ArePatterns, ArePatternsOf, pattern_under, width_of}
 
 -- ---- word after word
-
-pub chosen_none : (n : ℕ) (at : ℕ → ℕ → ℕ) (when : ℕ → ℕ → Bool) (rows : ℕ) → AreChosenBelow n at when rows 0 0
-chosen_none n at when rows = record {
-  low = above_zero (2 ^ n);
-  only = λ t e. absurd (no_digit t e);
-  all = λ j b low_j low within on. absurd (omega arith);
-}
 
 and_both : (a b : Bool) → a ≡ true → b ≡ true → (a && b) ≡ true
 and_both a b ea eb = rw (ea, eb) refl

@@ -1,5 +1,5 @@
 -- From operands' rows to the patterns of signals.
-use Rattle.std.proofs.Common.{◌≡◌, ◌∙◌, ℕ, zero, suc, ◌+◌, ◌-◌, ◌*◌, ◌%◌, ◌^◌, ◌≤◌, ◌<◌, Bool, true, false, List, [], ◌∷◌, ◌++◌, length, map, take, set, get_or, Some, refl, ap, sym, subst, arith, pow_mono, pow-add, ⊎_elim, length-take-le, get_or-take, get_or-set_same, get_or-set_other, length-append, mul-le-mul_right}
+use Rattle.std.proofs.Common.{◌≡◌, ◌∙◌, ℕ, zero, suc, ◌+◌, ◌-◌, ◌*◌, ◌%◌, ◌^◌, ◌≤◌, ◌<◌, Bool, true, false, List, [], ◌∷◌, ◌++◌, length, map, take, get_or, Some, refl, ap, sym, subst, arith, pow_mono, pow-add, ⊎_elim, length-take-le, get_or-take, length-append, mul-le-mul_right}
 use Rattle.std.specs.Prelude.{slice_get, if◌then◌else◌}
 use Rattle.std.proofs.lemmas.Bool.{cases_lt, cases_Bool, cond-true, cond-false}
 use Rattle.std.proofs.lemmas.List.{length-map}
@@ -132,22 +132,6 @@ pub no_operand : (c : Cone) (p : ℕ) → IsSigAmong (places c) (sigs.Place p) �
 no_operand c p known none_x none_y = nowhere c.leaves c.gates p known.0 none_x none_y known.1
 
 -- ---- operands of all signals
-
-pub operands_none : (ps : List ℕ) (width : ℕ) (signals : List Sig) (os : List Operand) → AreOperands ps width signals 0 os
-operands_none ps width signals os = record { each = λ i s low e. absurd (omega (arith, low)) }
-
-pub operands_more : (ps : List ℕ) (width : ℕ) (signals : List Sig) (i : ℕ) (os : List Operand) (s : Sig) (o : Operand) → AreOperands ps width signals i os → i < length os → slice_get signals i ≡ Some s → IsOperandOf ps width s o → AreOperands ps width signals (i + 1) (set os i o)
-operands_more ps width signals i os s o are room here is = record {
-  each = λ k x low at.
-      ⊎_elim
-      (λ (before : k < i). subst (IsOperandOf ps width x) (sym (get_or-set_other os i k o operands.Zero (λ e. omega (arith, e, before)))) (are.each k x before at))
-      (λ (past : i ≤ k).
-      let same : k ≡ i = omega arith in
-      let signal : s ≡ x = some_same s x (sym here ∙ ap (slice_get signals) (sym same) ∙ at) in
-      let put : get_or (set os i o) k operands.Zero ≡ o = ap (λ (n : ℕ). get_or (set os i o) n operands.Zero) same ∙ get_or-set_same os i o operands.Zero room in
-      subst (λ (y : Sig). IsOperandOf ps width y (get_or (set os i o) k operands.Zero)) signal (subst (IsOperandOf ps width s) (sym put) is))
-      (cases_lt k i);
-}
 
 -- the operand of each signal that is used
 used_at : (ps : List ℕ) (width : ℕ) (signals : List Sig) (os : List Operand) (i : ℕ) (o : Operand) (s : Sig) → AreOperands ps width signals (length signals) os → length signals ≤ length os → slice_get (take (length signals) os) i ≡ Some o → slice_get signals i ≡ Some s → IsOperandOf ps width s o

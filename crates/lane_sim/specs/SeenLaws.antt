@@ -80,13 +80,6 @@ digit_or_right a b t e = ap (λ (x : ℕ). x == 1) (bit_at_or a b t) ∙ or_righ
 
 -- ---- one word
 
-pub seen_none : (n : ℕ) (at : ℕ → ℕ) (mask : ℕ) → mask ≡ 0 → AreSeen n at mask 0
-seen_none n at mask none = record {
-  low = above_zero (2 ^ n);
-  only = λ t e. absurd (no_digit t e);
-  all = λ b low e. absurd (no_digit b (ap (λ (m : ℕ). digit m b) (sym none) ∙ e));
-}
-
 pub seen_end : (at : ℕ → ℕ) (mask : ℕ) → mask ≢ 0 → mask < 2 ^ 64 → ((b : ℕ) → at b ≡ 0) → AreSeen 0 at mask 1
 seen_end at mask some low zero_at =
     let one = some_bit 64 mask low some in

@@ -10,7 +10,7 @@ use Rattle.lane_sim.specs.Cone.{Cone, places}
 use Rattle.lane_sim.specs.Combining.{operand_word}
 use Rattle.lane_sim.specs.PatternLaws.{at_nothing, at_one_more, used_end}
 use Rattle.lane_sim.specs.Seen.{pattern_at, AreSeen, AllEnd, AreOperands}
-use Rattle.lane_sim.specs.SeenLaws.{seen_end, seen_split, above_zero}
+use Rattle.lane_sim.specs.SeenLaws.{seen_end, seen_split}
 use Rattle.lane_sim.specs.Words.{Words, AreWords, width_of}
 
 pub step_is : (n : ℕ) → n ≤ 6 → 1 * 2 ^ n % 4294967296 ≡ 2 ^ n
@@ -34,10 +34,6 @@ seen_first lanes os o rest j mask word high low parts few word_is fits is_high i
     subst (λ (k : ℕ). AreSeen (length os) (pattern_at lanes os j) mask (bit_or (high * 2 ^ k % 18446744073709551616) low)) (sym (step_is (length rest) (omega (arith, few, count))))
     (subst (λ (n : ℕ). AreSeen n (pattern_at lanes os j) mask (bit_or (high * 2 ^ 2 ^ length rest % 18446744073709551616) low)) (sym count)
     (seen_split (length rest) (pattern_at lanes rest j) (pattern_at lanes os j) mask word high low (omega (arith, few, count)) fits split is_high is_low))
-
--- what `ones` asks
-pub step_some : (n : ℕ) → n ≤ 6 → 1 ≤ 1 * 2 ^ n % 4294967296
-step_some n few = omega (arith, step_is n few, above_zero n)
 
 pub step_few : (n : ℕ) → n ≤ 6 → 1 * 2 ^ n % 4294967296 ≤ 64
 step_few n few = omega (arith, step_is n few, most n few) where

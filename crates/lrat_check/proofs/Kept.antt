@@ -40,10 +40,6 @@ kept_removed vars old new marks ids is removed = record {
     stayed k c at =
         ⊎_elim (λ (gone : None ≡ Some c). absurd (cc)) (λ (other : live_at old k ≡ Some c). other) (chosen (is_listed ids k) None (live_at old k) (Some c) (sym (ap (λ (g : ℕ → Option (List ℤ)). g k) removed) ∙ at))
 
--- taking out none, and one more
-without_nil : (live : ℕ → Option (List ℤ)) → live ≡ without live []
-without_nil live = refl
-
 or_last : (live : ℕ → Option (List ℤ)) (ids : List ℕ) (id k : ℕ) → without (without live ids) (id ∷ []) k ≡ without live (ids ++ id ∷ []) k
 or_last live ids id k = both (is_listed ids k) (k == id) ∙ ap (λ (b : Bool). cond b None (live k)) (sym (list_any-append (λ (j : ℕ). k == j) ids (id ∷ [])))
   where

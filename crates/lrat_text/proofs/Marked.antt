@@ -1,5 +1,5 @@
 -- Marks of variables that are set one after the other.
-use Rattle.std.proofs.Common.{◌≡◌, ℕ, ◌+◌, ◌%◌, ◌<◌, ◌≤◌, ◌⊎◌, ◌==◌, ◌||◌, ◌++◌, ◌∷◌, [], ℤ, Bool, true, false, List, length, replicate, slice_index_or, slice_set, refl, sym, ap, ◌∙◌, subst, arith, inl, inr}
+use Rattle.std.proofs.Common.{◌≡◌, ℕ, ◌+◌, ◌%◌, ◌<◌, ◌⊎◌, ◌==◌, ◌||◌, ◌++◌, ◌∷◌, [], ℤ, Bool, true, false, List, length, slice_index_or, slice_set, refl, sym, ◌∙◌, subst, arith, inl, inr}
 use Rattle.std.proofs.Math.Logic.{⊎_elim}
 use Rattle.std.proofs.lemmas.Bool.{cases_Bool, cases_eq, or_cases, eqb-true}
 use Rattle.std.proofs.lemmas.Grind.{common_steps}
@@ -28,9 +28,6 @@ not_both b is_true is_false = cc
 -- No marks for no literals.
 abbrev mark_in : List Bool → ℕ → Bool
 mark_in marks k = slice_index_or marks k false
-
-pub none_marked : AreMarked (replicate 1024 false) []
-none_marked = record { each = λ v there. absurd (let e : false ≡ true = there in cc); room = refl }
 
 -- Where a variable's mark isn't set it is new,
 pub unmarked : (marks : List Bool) (lits : List ℤ) (l : ℤ) → AreMarked marks lits → slice_index_or marks (variable l % 1024) false ≡ false → is_repeated lits l ≡ false

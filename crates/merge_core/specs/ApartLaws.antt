@@ -86,9 +86,6 @@ not_true false e = refl
 after_known : (before after : List Form) (f : Form) (is_new : Bool) → after ≡ inserted before f → is_new ≡ not (list_any (form_eq f) before) → is_new ≡ false → after ≡ before
 after_known before after f is_new e added old = e ∙ cond-true (list_any (form_eq f) before) before (before ++ f ∷ []) (not_false (list_any (form_eq f) before) (sym old ∙ added))
 
-pub forms_known : (before after : List Form) (gates : List Gate) (f : Form) (is_new : Bool) → AreForms before gates → after ≡ inserted before f → is_new ≡ not (list_any (form_eq f) before) → is_new ≡ false → AreForms after gates
-forms_known before after gates f is_new are e added old = subst (λ (fs : List Form). AreForms fs gates) (sym (after_known before after f is_new e added old)) are
-
 stored_put : (after : List Form) (gates all : List Gate) (g : Gate) (index : ℕ) (f k : Form) → (all ≡ gates) ⊎ (all ≡ gates ++ g ∷ []) → after ≡ map form_of all → f ≡ form_of g → slice_get after index ≡ Some k → form_eq f k ≡ true → IsPut g gates all index
 stored_put after gates all g index f k grown are form at same =
     let there = at_map form_of all index k (sym (ap (λ (fs : List Form). slice_get fs index) are) ∙ at) in

@@ -212,9 +212,6 @@ merged_next n place left rest g k m net split are is passed =
     (subst (λ (q : ℕ). IsMerged n q k) (sym here) is)
     (subst (λ (q : ℕ). IsPassed n.sources q g k m) (sym here) passed))
 
-pub left_none : (n : Net) (place : ℕ) (left : List Gate) → length left ≡ 0 → AreLeft n place left → place ≡ end_of n
-left_none n place left none are = omega (arith, none, are.all)
-
 -- ---- places in a table
 
 pub places_put : (places : List Sig) (place : ℕ) (s : Sig) → place < length places → places_of (slice_set places place s) ≡ put_sig (places_of places) place s

@@ -10,8 +10,8 @@ use Rattle.chain_theory.specs.ValueLaws.{extended-same, extended-other}
 use Rattle.net_theory.specs.declared.data.Sig.{Sig}
 use Rattle.net_theory.specs.declared.data.Sig.TheVariants.{Zero, One, Place}
 use Rattle.net_theory.specs.declared.data.Gate.{Gate}
-use Rattle.net_theory.specs.Net.{Net, IsGateAt}
-use Rattle.net_theory.specs.ValueLaws.{at_front, at_end}
+use Rattle.net_theory.specs.Net.{Net}
+use Rattle.net_theory.specs.ValueLaws.{at_front}
 use Rattle.net_theory.specs.Reach.{live, is_place, is_sink, with_mark, gate_marked, marked}
 use Rattle.net_theory.specs.Moving.{nothing_kept, sources_stay, moved, put_sig, Kept, with_kept, kept_after, marked_count}
 use Rattle.net_theory.specs.Dead.{dropped, kept_gates}
@@ -108,9 +108,6 @@ marked-off marks place q gs rest g e at off =
 pub front_at : (place : ℕ) (gs rest : List Gate) (g : Gate) → gs ≡ rest ++ g ∷ [] → AreAt place gs → AreAt place rest
 front_at place gs rest g e are =
     record { each = λ i h at. are.each i h (ap (λ (xs : List Gate). slice_get xs i) e ∙ at_front rest (g ∷ []) i h at) }
-
-pub last_at : (place : ℕ) (gs rest : List Gate) (g : Gate) → gs ≡ rest ++ g ∷ [] → AreAt place gs → IsGateAt (place + length rest) g
-last_at place gs rest g e are = are.each (length rest) g (ap (λ (xs : List Gate). slice_get xs (length rest)) e ∙ at_end rest g)
 
 -- ---- places
 

@@ -1,5 +1,5 @@
 -- Bits of places that are written one by one.
-use Rattle.std.proofs.Common.{◌≡◌, ◌≢◌, ℕ, suc, ◌+◌, ◌-◌, ◌≤◌, ◌<◌, Bool, false, List, [], ◌∷◌, length, set, get_or, add-zero, refl, ◌∙◌, ap, sym, subst, arith, ⊎_elim, ◌==◌}
+use Rattle.std.proofs.Common.{◌≡◌, ◌≢◌, ℕ, suc, ◌+◌, ◌-◌, ◌<◌, Bool, false, List, [], ◌∷◌, length, set, get_or, add-zero, refl, ◌∙◌, ap, sym, subst, arith, ⊎_elim, ◌==◌}
 use Rattle.std.specs.List.{slice_get}
 use Rattle.std.proofs.lemmas.Bool.{cases_eq, cond-false, ne_eqb}
 use Rattle.std.proofs.lemmas.List.{get_or-set_same, get_or-set_other}
@@ -25,14 +25,6 @@ bit_of-set_at bits place v p low =
 -- one write sets the bit of one place
 pub bit_of-set : (bits : List Bool) (place : ℕ) (v : Bool) → place < length bits → bit_of (set bits place v) ≡ extended (bit_of bits) (place + 1) v
 bit_of-set bits place v low = λ i p. bit_of-set_at bits place v p low i
-
--- bits that are the same one by one are the same by place
-pub same_bits : (xs ys : List Bool) (n p : ℕ) → ((k : ℕ) → k < n → get_or ys k false ≡ get_or xs k false) → p ≤ n → bit_of ys p ≡ bit_of xs p
-same_bits xs ys n p same low =
-    ⊎_elim
-    (λ none. subst (λ (q : ℕ). bit_of ys q ≡ bit_of xs q) (sym none) refl)
-    (λ some. bit_some ys p some ∙ same (p - 1) (omega (arith, some)) ∙ sym (bit_some xs p some))
-    (cases_eq p 0)
 
 -- the gate that stands first
 pub first_at : (place : ℕ) (gs rest : List Gate) (g : Gate) → gs ≡ g ∷ rest → AreAt place gs → IsGateAt place g

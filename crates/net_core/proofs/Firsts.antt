@@ -101,10 +101,6 @@ names_are taken outputs n firsts end sources gates names free are size last same
     ∙ ap (λ k. names_after (first_name firsts outputs) (naming [] (free_names taken 1 k)) (n.sources + 1) n.gates) count
     ∙ names_after-same (first_name firsts outputs) (output_on outputs n.sinks) (naming [] (free_names taken 1 (enough taken n))) (n.sources + 1) n.gates places
 
--- the parts of names that are given together
-pub parts_names : (n m : Naming) → n ≡ m → n.names ≡ m.names
-parts_names n m e = ap (λ (x : Naming). x.names) e
-
 pub parts_free : (names free : List Name) (m : Naming) → naming names free ≡ m → free ≡ m.free
 parts_free names free m e = ap (λ (x : Naming). x.free) e
 

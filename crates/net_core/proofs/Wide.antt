@@ -1,5 +1,5 @@
 -- Wide tables, cube by cube.
-use Rattle.std.proofs.Common.{◌≡◌, ℕ, ◌+◌, ◌-◌, ◌<◌, List, [], ◌∷◌, length, set, get_or, ap, ◌∙◌, subst, refl, arith, zero, suc, if◌then◌else◌, true, false, not, ◌&&◌}
+use Rattle.std.proofs.Common.{◌≡◌, ℕ, ◌+◌, ◌-◌, ◌<◌, List, [], ◌∷◌, length, set, get_or, ap, ◌∙◌, refl, arith, zero, suc, if◌then◌else◌, true, false, not, ◌&&◌}
 use Rattle.std.proofs.lemmas.Grind.{common_steps}
 use Rattle.std.proofs.lemmas.List.Sums.{sum_by-cons}
 use Rattle.net_theory.specs.declared.data.Gate.{Gate}
@@ -9,12 +9,8 @@ use Rattle.net_theory.specs.Cost.{literal_count, literal_sum, is_not, cubes_cost
 use Rattle.net_theory.specs.declared.data.Sig.{Sig}
 use Rattle.net_theory.specs.Expansion.{is_none, is_plain, last_complemented, complemented, constant_sig, finished_by, or_built, terms_from, parity_built, cover_built, wide_built}
 use Rattle.net_theory.specs.ExpansionLaws.{cover_terms}
-use Rattle.net_theory.specs.WideLaws.{AreTerms, literals_count}
+use Rattle.net_theory.specs.WideLaws.{literals_count}
 use Rattle.net_core.proofs.Fronts.{front_itself, front_push, front_more}
-
--- the first cube is of the width and asks for something, and the others are terms
-pub first_term : (width : ℕ) (cubes rest : List (List ℕ)) (c : List ℕ) → cubes ≡ c ∷ rest → AreTerms width cubes → (length c ≡ width) × (0 < literal_count c) × AreTerms width rest
-first_term width cubes rest c e are = subst (AreTerms width) e are
 
 pub sum_first : (cubes rest : List (List ℕ)) (c : List ℕ) → cubes ≡ c ∷ rest → literal_sum cubes ≡ literal_count c + literal_sum rest
 sum_first cubes rest c e = ap literal_sum e ∙ sum_by-cons literal_count c rest
@@ -25,10 +21,6 @@ pub last_complemented-none : (gs : List Gate) → length gs ≡ 0 → gs ≡ las
 unfolding last_complemented
 last_complemented-none [] e = refl
 last_complemented-none (g ∷ gs) e = absurd (omega arith)
-
-last_complemented-cons : (g h : Gate) (gs : List Gate) → last_complemented (g ∷ h ∷ gs) ≡ g ∷ last_complemented (h ∷ gs)
-unfolding last_complemented
-last_complemented-cons g h gs = refl
 
 -- the last gate is written
 pub last_complemented-set : (gs : List Gate) (i : ℕ) (x : Gate) → i + 1 ≡ length gs → x ≡ get_or gs i x → set gs i (complemented x) ≡ last_complemented gs

@@ -11,7 +11,7 @@ use Rattle.net_core.specs.declared.joining.Connective.TheVariants.{And, Or, Xor}
 use Rattle.net_core.specs.declared.whole.Whole.{Whole}
 use Rattle.net_core.specs.declared.whole.Body.{Body}
 use Rattle.net_core.specs.declared.whole.Body.TheVariants.{Cubes, Joined}
-use Rattle.net_core.specs.Wholes.{joined_cover, whole_cover, cover_of, JoinsSome, IsBody}
+use Rattle.net_core.specs.Wholes.{joined_cover, whole_cover, cover_of, IsBody}
 
 joined_is : (c : Connective) (width : ℕ) (on : Bool) → IsCover (joined_cover c width on)
 joined_is And width on = and_cover_is width on
@@ -43,10 +43,6 @@ whole_cost-wide w (a ∷ b ∷ d ∷ inputs) wide many = joined_cost w.connectiv
 pub body_is : (b : Body) → IsBody b → IsCover (cover_of b)
 body_is (Cubes c) is = is
 body_is (Joined w) some = whole_is w
-
-pub body_good : (b : Body) → JoinsSome b → IsCover (cover_of b) → IsBody b
-body_good (Cubes c) some is = is
-body_good (Joined w) some is = some
 
 singles_length : (n : ℕ) → length (single_ones n) ≡ n
 singles_length zero = refl

@@ -45,16 +45,6 @@ places_low marks sources k place [] p low = refl
 places_low marks sources k place (g ∷ gs) p low =
     places_low marks sources (next_kept marks sources k place g) (place + 1) gs p (omega arith) ∙ next_other marks sources k place g p (omega arith)
 
--- and so does one that isn't marked
-pub places_off : (marks : ℕ → Bool) (sources : ℕ) (k : Kept) (place : ℕ) (gs : List Gate) (p : ℕ) → marks p ≡ false → (kept_after marks sources k place gs).places p ≡ k.places p
-unfolding kept_after
-places_off marks sources k place [] p off = refl
-places_off marks sources k place (g ∷ gs) p off =
-    places_off marks sources (next_kept marks sources k place g) (place + 1) gs p off
-    ∙ cond_both (marks place) (with_kept sources k place g) k (λ (x : Kept). x.places p ≡ k.places p)
-    (λ on. put_other k.places place (Place (sources + 1 + length k.gates)) p (λ (same : p ≡ place). both_ways (marks p) off (subst (λ (q : ℕ). marks q ≡ true) (sym same) on)))
-    (λ no. refl)
-
 -- gates that are there stay where they are
 pub gates_stay : (marks : ℕ → Bool) (sources : ℕ) (k : Kept) (place : ℕ) (gs : List Gate) (j : ℕ) (h : Gate) → slice_get k.gates j ≡ Some h → slice_get (kept_after marks sources k place gs).gates j ≡ Some h
 unfolding kept_after

@@ -1,5 +1,5 @@
 -- What is marked is what is reached from the roots.
-use Rattle.std.specs.Prelude.{◌≡◌, ℕ, zero, suc, ◌+◌, ◌≤◌, Bool, true, List, [], ◌∷◌, length, slice_get, Some, ◌⊎◌, refl}
+use Rattle.std.specs.Prelude.{◌≡◌, ℕ, zero, suc, ◌+◌, ◌≤◌, Bool, true, List, [], ◌∷◌, slice_get, Some, ◌⊎◌, refl}
 use Rattle.std.specs.List.{list_any}
 use Rattle.std.proofs.Common.{arith, sym, ◌∙◌, ap, subst, inl, inr, ⊎_elim, add-zero}
 use Rattle.std.proofs.lemmas.Bool.{cond_both, cond-true, eqb-true, eq-eqb, or_cases, or_left, or_right, cases_eq}
@@ -101,14 +101,6 @@ tail_gates place g gs are i h at =
 
 pub head_gate : (place : ℕ) (g : Gate) (gs : List Gate) → ((i : ℕ) (h : Gate) → slice_get (g ∷ gs) i ≡ Some h → IsGateAt (place + i) h) → IsGateAt place g
 head_gate place g gs are = subst (λ (q : ℕ). IsGateAt q g) (add-zero place) (are 0 g refl)
-
--- gates mark nothing from their end on
-marked_high : (marks : ℕ → Bool) (place : ℕ) (gs : List Gate) (p : ℕ) → ((i : ℕ) (h : Gate) → slice_get gs i ≡ Some h → IsGateAt (place + i) h) → place + length gs ≤ p → marked marks place gs p ≡ marks p
-unfolding marked
-marked_high marks place [] p are high = refl
-marked_high marks place (g ∷ gs) p are high =
-    gate_low (marked marks (place + 1) gs) place g p (head_gate place g gs are) (omega arith)
-    ∙ marked_high marks (place + 1) gs p (tail_gates place g gs are) (omega arith)
 
 -- Where a gate's place is marked, what it reads is.
 marked_closed : (marks : ℕ → Bool) (place : ℕ) (gs : List Gate) (i p : ℕ) (g : Gate) → ((j : ℕ) (h : Gate) → slice_get gs j ≡ Some h → IsGateAt (place + j) h) → slice_get gs i ≡ Some g → ReadsPlace g p → marked marks place gs (place + i) ≡ true → marked marks place gs p ≡ true

@@ -1,5 +1,5 @@
 -- How the words that tell what was put are made.
-use Rattle.std.proofs.Common.{◌≡◌, ◌∙◌, ℕ, zero, suc, ◌+◌, ◌-◌, ◌*◌, ◌%◌, ◌^◌, ◌≤◌, ◌<◌, Bool, true, false, List, [], ◌∷◌, ◌++◌, length, set, get_or, Some, refl, ap, sym, subst, arith, inl, inr, ◌⊎◌, ⊎_elim, length-set, get_or-set_same, get_or-set_other, length-append, replicate, take, mul-le-mul_right, mul-le-mul_left}
+use Rattle.std.proofs.Common.{◌≡◌, ◌∙◌, ℕ, zero, suc, ◌+◌, ◌-◌, ◌*◌, ◌%◌, ◌^◌, ◌≤◌, ◌<◌, Bool, true, false, List, [], ◌∷◌, ◌++◌, length, set, get_or, Some, refl, ap, sym, subst, arith, inl, inr, ◌⊎◌, ⊎_elim, length-set, get_or-set_same, get_or-set_other, length-append, replicate, take, mul-le-mul_left}
 use Rattle.std.specs.Prelude.{slice_get, slice_index_or, bit_or, bit_xor, if◌then◌else◌}
 use Rattle.std.proofs.lemmas.Bool.{cases_lt, both_ways, cond-true, cond-false}
 use Rattle.std.proofs.lemmas.Option.{slice_get_within, slice_get-get_or}
@@ -59,9 +59,6 @@ grown_off old x y t e = (
 
 -- ---- one row
 
-pub row_start : (first second : List ℕ) (start : ℕ) (old : List ℕ) → IsAdded first second start 0 old old
-row_start first second start old = record { size = refl; later = λ j low. refl; only = λ j t low on. absurd (omega (arith, low)); none = λ j t low off. absurd (omega (arith, low)) }
-
 pub row_more : (first second : List ℕ) (start j : ℕ) (old now new : List ℕ) → j < length now → new ≡ set now j (bit_or (get_or now j 0) (bit_xor (get_or first (start + j) 0) (get_or second (start + j) 0))) → IsAdded first second start j old now → IsAdded first second start (j + 1) old new
 row_more first second start j old now new room is was =
     let x : ℕ = get_or first (start + j) 0 in
@@ -89,64 +86,6 @@ row_more first second start j old now new room is was =
     })
 
 -- ---- all rows
-
-pub rows_start : (first second : List ℕ) (start : ℕ) (tail watchers old : List ℕ) → AreAdded first second start tail watchers 0 old old
-rows_start first second start tail watchers old = record { size = refl; only = λ j t low on. inl on; none = λ j t low off. (off, λ k p none_below at watcher. absurd (omega (arith, none_below))) }
-
-some_same : {A : Type 0} (x y : A) → Some x ≡ Some y → x ≡ y
-some_same x y e = cc
-
--- a gate of the tail that is no watcher
-pub rows_off : (first second : List ℕ) (start : ℕ) (tail watchers old now : List ℕ) (i p : ℕ) → slice_get tail i ≡ Some p → among watchers p ≡ false → AreAdded first second start tail watchers i old now → AreAdded first second start tail watchers (i + 1) old now
-rows_off first second start tail watchers old now i p here out was =
-    record {
-      size = was.size;
-      only = was.only;
-      none = λ j t low off.
-          let r = was.none j t low off in (
-            r.0,
-            λ k q below at watcher. ⊎_elim
-                (λ (before : k < i). r.1 k q before at watcher)
-                (λ (past : i ≤ k).
-                let same : i ≡ k = omega (arith, past, below) in
-                let own : p ≡ q = some_same p q (sym here ∙ ap (slice_get tail) same ∙ at) in
-                absurd (both_ways (among watchers q) (ap (among watchers) (sym own) ∙ out) watcher))
-                (cases_lt k i),
-          );
-    }
-
-pub rows_on : (first second : List ℕ) (start : ℕ) (tail watchers old now new : List ℕ) (i p row : ℕ) → slice_get tail i ≡ Some p → among watchers p ≡ true → row ≡ (start + i) * length old → IsAdded first second row (length now) now new → AreAdded first second start tail watchers i old now → AreAdded first second start tail watchers (i + 1) old new
-rows_on first second start tail watchers old now new i p row here inside row_is more was =
-    let low_now : (j : ℕ) → j < length old → j < length now = λ j low. omega (arith, low, was.size) in
-    record {
-      size = more.size ∙ was.size;
-      only = λ j t low on. ⊎_elim
-          (λ before. was.only j t low before)
-          (λ differ. inr (record { index = i; place = p; at = here; watcher = inside; differ = λ same. differ (subst (λ (r : ℕ). bit_in first (r + j) t ≡ bit_in second (r + j) t) (sym row_is) same) }))
-          (more.only j t (low_now j low) on);
-      none = λ j t low off.
-          let m = more.none j t (low_now j low) off in
-          let r = was.none j t low m.0 in (
-            r.0,
-            λ k q below at watcher. ⊎_elim
-                (λ (before : k < i). r.1 k q before at watcher)
-                (λ (past : i ≤ k).
-                let same : i ≡ k = omega (arith, past, below) in
-                subst (λ (x : ℕ). bit_in first ((start + x) * length old + j) t ≡ bit_in second ((start + x) * length old + j) t) same
-                (subst (λ (x : ℕ). bit_in first (x + j) t ≡ bit_in second (x + j) t) row_is m.1))
-                (cases_lt k i),
-          );
-    }
-
--- a row of the tail ends before all rows do
-pub row_room : (start i count width size : ℕ) → i < count → (start + count) * width ≤ size → (start + i) * width + width ≤ size
-row_room start i count width size low room =
-    let more : (start + i + 1) * width ≤ (start + count) * width = mul-le-mul_right width (omega (arith, low)) in
-    let one : (start + i + 1) * width ≡ (start + i) * width + width = mul-add (start + i) width in
-    omega (arith, more, one, room)
-  where
-    mul-add : (k w : ℕ) → (k + 1) * w ≡ k * w + w
-    mul-add k w = omega arith
 
 -- and no number of a row is too great
 pub row_fits : (start i count width size : ℕ) → 1 ≤ width → i < count → (start + count) * width ≤ size → size < 2 ^ 63 → start + i < 2 ^ 64

@@ -4,16 +4,12 @@ use Rattle.std.proofs.Common.{arith, sym, ◌∙◌, ap, subst, inl, inr, ⊎_el
 use Rattle.std.proofs.lemmas.Bool.{cases_Bool, cases_lt}
 use Rattle.net_theory.specs.declared.data.Sig.TheVariants as sigs
 use Rattle.net_theory.specs.declared.data.Sig.{Sig}
-use Rattle.net_theory.specs.declared.data.Gate.{Gate}
 use Rattle.net_theory.specs.Net.{Net, end_of}
 use Rattle.window_theory.specs.Places.{among}
 use Rattle.window_theory.specs.PlaceLaws.{among_cases, among_first, among_later}
 use Rattle.window_theory.specs.Paths.{Reads}
 use Rattle.window_theory.specs.WindowLaws.{gate_high}
-use Rattle.window_core.specs.Gates.{IsGateOf}
-use Rattle.window_core.specs.GrowingLaws.{reads_of}
-use Rattle.window_core.specs.Readers.{place_of, IsEarlier, IsEarlierOf}
-use Rattle.window_core.specs.declared.readers.Earlier.{Earlier}
+use Rattle.window_core.specs.Readers.{place_of, IsEarlier}
 use Rattle.observe_theory.specs.Tail.{IsFollower}
 use Rattle.observe_core.specs.Following.{IsLeastReader, IsWalking, IsLesser, IsNextFollower, IsSought}
 
@@ -21,14 +17,6 @@ use Rattle.observe_core.specs.Following.{IsLeastReader, IsWalking, IsLesser, IsN
 
 named : (s : Sig) (p : ℕ) → s ≡ sigs.Place p → place_of s ≡ p
 named s p e = ap place_of e
-
-pub first_before : (n : Net) (gate place : ℕ) (g : Gate) (e : Earlier) → ((h : Gate) → IsGateOf n gate h → IsEarlierOf n gate h e) → IsGateOf n gate g → place_of g.a ≡ place → IsEarlier n gate place e.first
-first_before n gate place g e all of same = subst (λ (p : ℕ). IsEarlier n gate p e.first) same (all g of).first
-
-pub second_before : (n : Net) (gate place : ℕ) (g : Gate) (e : Earlier) → ((h : Gate) → IsGateOf n gate h → IsEarlierOf n gate h e) → IsGateOf n gate g → Reads n gate place → (place_of g.a ≡ place → ⊥) → IsEarlier n gate place e.second
-second_before n gate place g e all of reads other =
-    let same : place_of g.b ≡ place = ⊎_elim (λ a. absurd (other (named g.a place a))) (λ b. named g.b place b) (reads_of n gate place g of reads) in
-    subst (λ (p : ℕ). IsEarlier n gate p e.second) same (all g of).second
 
 -- ---- the least reader
 

@@ -1,20 +1,19 @@
 -- Places are kept one after the other.
-use Rattle.std.specs.Prelude.{◌≡◌, ℕ, ◌<◌, true, false, List, [], ◌∷◌, ◌++◌, length, ◌⊎◌, refl}
+use Rattle.std.specs.Prelude.{◌≡◌, ℕ, ◌<◌, true, false, List, [], ◌∷◌, ◌++◌, ◌⊎◌}
 use Rattle.std.proofs.Common.{arith, sym, ◌∙◌, ap, subst, inl, inr, ⊎_elim}
-use Rattle.std.proofs.lemmas.Bool.{both_ways, eqb-true, eq-eqb}
+use Rattle.std.proofs.lemmas.Bool.{eqb-true}
 use Rattle.net_theory.specs.declared.data.Sig.{Sig}
 use Rattle.net_theory.specs.declared.data.Sig.TheVariants as sigs
 use Rattle.net_theory.specs.declared.data.Gate.{Gate}
 use Rattle.net_theory.specs.Net.{Net}
-use Rattle.net_theory.specs.Reach.{ReadsPlace, is_place}
-use Rattle.window_theory.specs.Paths.{Reads}
+use Rattle.net_theory.specs.Reach.{is_place}
 use Rattle.window_theory.specs.Window.{IsReadBy}
 use Rattle.window_core.specs.Gates.{IsGateOf}
-use Rattle.window_core.specs.GrowingLaws.{of_reads, reads_of}
-use Rattle.window_theory.specs.Places.{among, IsRising, AreJust}
+use Rattle.window_core.specs.GrowingLaws.{of_reads}
+use Rattle.window_theory.specs.Places.{among, IsRising}
 use Rattle.window_theory.specs.PlaceLaws.{among_cases, among_first, among_later}
 use Rattle.window_core.specs.WalkingLaws.{among_end, end_among, front_among, rising_end}
-use Rattle.observe_core.specs.Kept.{IsBoth, AreKept, HasSome, IsReadLeft, IsSomeLeft}
+use Rattle.observe_core.specs.Kept.{AreKept, IsReadLeft}
 
 pub kept_start : (P : ℕ → Type 0) (places kept : List ℕ) → IsRising places → kept ≡ [] → AreKept P places places kept
 unfolding IsRising
@@ -70,18 +69,6 @@ kept_off P places left x rest kept parts none was =
           (was.all p there own);
     }
 
-pub kept_end : (P : ℕ → Type 0) (places left kept : List ℕ) → length left ≡ 0 → AreKept P places left kept → AreJust (IsBoth P places) kept
-kept_end P places left kept none was =
-    record {
-      rising = was.rising;
-      only = was.only;
-      all = λ p both. ⊎_elim (λ there. there) (λ here. absurd (let e : false ≡ true = ap (λ (xs : List ℕ). among xs p) (sym (empty left none)) ∙ here in cc)) (was.all p both.0 both.1);
-    }
-  where
-    empty : (xs : List ℕ) → length xs ≡ 0 → xs ≡ []
-    empty [] e = refl
-    empty (x ∷ xs) e = absurd (omega (arith, e))
-
 -- ---- walks that look for one
 
 place_is : (p : ℕ) (s : Sig) → is_place p s ≡ true → s ≡ sigs.Place p
@@ -89,55 +76,6 @@ place_is p sigs.Zero e = absurd (let f : false ≡ true = e in cc)
 place_is p sigs.One e = absurd (let f : false ≡ true = e in cc)
 place_is p (sigs.Place q) e = ap sigs.Place (eqb-true q p e)
 
-is_named : (p : ℕ) (s : Sig) → s ≡ sigs.Place p → is_place p s ≡ true
-is_named p s e = ap (is_place p) e ∙ eq-eqb p p refl
-
-reads_none : (p : ℕ) (g : Gate) → is_place p g.a ≡ false → is_place p g.b ≡ false → ReadsPlace g p → ⊥
-reads_none p g a b reads = ⊎_elim (λ x. both_ways (is_place p g.a) a (is_named p g.a x)) (λ x. both_ways (is_place p g.b) b (is_named p g.b x)) reads
-
-is_empty : (xs : List ℕ) → length xs ≡ 0 → xs ≡ []
-is_empty [] e = refl
-is_empty (x ∷ xs) e = absurd (omega (arith, e))
-
 pub read_here : (n : Net) (gates left : List ℕ) (x : ℕ) (rest : List ℕ) (place : ℕ) (g : Gate) → left ≡ x ∷ rest → IsGateOf n x g → (is_place place g.a ≡ true) ⊎ (is_place place g.b ≡ true) → IsReadLeft n gates left place → IsReadBy n gates place
 read_here n gates left x rest place g parts of names was =
     record { reader = x; inside = was.within x (ap (λ (xs : List ℕ). among xs x) parts ∙ among_first x rest); reads = of_reads n x place g of (⊎_elim (λ a. inl (place_is place g.a a)) (λ b. inr (place_is place g.b b)) names) }
-
-pub read_on : (n : Net) (gates left : List ℕ) (x : ℕ) (rest : List ℕ) (place : ℕ) (g : Gate) → left ≡ x ∷ rest → IsGateOf n x g → is_place place g.a ≡ false → is_place place g.b ≡ false → IsReadLeft n gates left place → IsReadLeft n gates rest place
-read_on n gates left x rest place g parts of a b was =
-    record {
-      within = λ p e. was.within p (ap (λ (xs : List ℕ). among xs p) parts ∙ among_later x p rest e);
-      all = λ is.
-          let by = was.all is in
-          ⊎_elim
-          (λ (same : by.reader ≡ x). absurd (reads_none place g a b (reads_of n x place g of (subst (λ (y : ℕ). Reads n y place) same by.reads))))
-          (λ later. record { reader = by.reader; inside = later; reads = by.reads })
-          (among_cases x by.reader rest (ap (λ (xs : List ℕ). among xs by.reader) (sym parts) ∙ by.inside));
-    }
-
-pub read_end : (n : Net) (gates left : List ℕ) (place : ℕ) → length left ≡ 0 → IsReadLeft n gates left place → IsReadBy n gates place → ⊥
-read_end n gates left place none was is =
-    let by = was.all is in
-    let e : false ≡ true = ap (λ (xs : List ℕ). among xs by.reader) (sym (is_empty left none)) ∙ by.inside in
-    cc
-
-pub some_here : (gates places left : List ℕ) (x : ℕ) (rest : List ℕ) → left ≡ x ∷ rest → among gates x ≡ true → IsSomeLeft gates places left → HasSome gates places
-some_here gates places left x rest parts on was = record { place = x; inside = on; there = was.within x (ap (λ (xs : List ℕ). among xs x) parts ∙ among_first x rest) }
-
-pub some_on : (gates places left : List ℕ) (x : ℕ) (rest : List ℕ) → left ≡ x ∷ rest → among gates x ≡ false → IsSomeLeft gates places left → IsSomeLeft gates places rest
-some_on gates places left x rest parts off was =
-    record {
-      within = λ p e. was.within p (ap (λ (xs : List ℕ). among xs p) parts ∙ among_later x p rest e);
-      all = λ is.
-          let by = was.all is in
-          ⊎_elim
-          (λ (same : by.place ≡ x). absurd (both_ways (among gates x) off (ap (among gates) (sym same) ∙ by.inside)))
-          (λ later. record { place = by.place; inside = by.inside; there = later })
-          (among_cases x by.place rest (ap (λ (xs : List ℕ). among xs by.place) (sym parts) ∙ by.there));
-    }
-
-pub some_end : (gates places left : List ℕ) → length left ≡ 0 → IsSomeLeft gates places left → HasSome gates places → ⊥
-some_end gates places left none was is =
-    let by = was.all is in
-    let e : false ≡ true = ap (λ (xs : List ℕ). among xs by.place) (sym (is_empty left none)) ∙ by.there in
-    cc

@@ -155,9 +155,6 @@ tail_above n w t c net is tail cone =
       tail_beside = λ p on. not_output n w p is (tail_outside n w.gates t.gates p tail.gates on);
     }
 
-pub watchers_inside : (n : Net) (w : Window) (t : Tail) (p : ℕ) → IsTail n w t → among t.watchers p ≡ true → among t.gates p ≡ true
-watchers_inside n w t p tail on = (tail.watchers.only p on).inside
-
 -- ---- rows
 
 -- bits that give the leaves one row agree on them

@@ -108,17 +108,6 @@ put_more n outputs bits tail left p rest old now new h parts own new_is was =
       };
     }
 
--- a gate that is put is one of the tail
-pub put_inside : (n : Net) (outputs : List ℕ) (bits : ℕ) (tail left : List ℕ) (p : ℕ) (rest : List ℕ) (old now : List (ℕ × Gate)) → left ≡ p ∷ rest → HasPut n outputs bits tail left old now → among tail p ≡ true
-put_inside n outputs bits tail left p rest old now parts was =
-    ap (λ (xs : List ℕ). among xs p) (sym was.parts) ∙ in_back was.done left p (ap (λ (xs : List ℕ). among xs p) parts ∙ among_first p rest)
-
-pub put_end : (n : Net) (outputs : List ℕ) (bits : ℕ) (tail left : List ℕ) (old new : List (ℕ × Gate)) → length left ≡ 0 → HasPut n outputs bits tail left old new → HasPut n outputs bits tail [] old new
-put_end n outputs bits tail left old new none was = subst (λ (xs : List ℕ). HasPut n outputs bits tail xs old new) (empty left none) was where
-  empty : (xs : List ℕ) → length xs ≡ 0 → xs ≡ []
-  empty [] e = refl
-  empty (x ∷ xs) e = absurd (omega (arith, e))
-
 -- all gates of the tail are put
 pub put_all : (n : Net) (outputs : List ℕ) (bits : ℕ) (tail : List ℕ) (old new : List (ℕ × Gate)) (h : HasPut n outputs bits tail [] old new) → ArePutGates n outputs bits tail h.put
 put_all n outputs bits tail old new h = subst (λ (ps : List ℕ). ArePutGates n outputs bits ps h.put) (sym (nothing_behind h.done) ∙ h.parts) h.put_are

@@ -1,35 +1,21 @@
 -- A chain that agrees with an observed specification, in the window's place.
-use Rattle.std.specs.Prelude.{◌≡◌, ℕ, ◌+◌, ◌<◌, ◌^◌, List, length, None}
-use Rattle.std.proofs.Common.{arith, sym, ap}
+use Rattle.std.specs.Prelude.{◌≡◌, ℕ, List, None}
 use Rattle.chain_theory.specs.Chain.{Chain}
 use Rattle.net_theory.specs.Net.{Net, IsNet}
 use Rattle.window_theory.specs.Window.{Window, Belongs}
-use Rattle.window_theory.specs.Splice.{Fits, IsSpliced}
+use Rattle.window_theory.specs.Splice.{IsSpliced}
 use Rattle.subst_core.specs.Lists.{HaveSameLists}
-use Rattle.subst_core.specs.ListsLaws.{same_belongs, same_fits, same_spliced}
+use Rattle.subst_core.specs.ListsLaws.{same_spliced}
 use Rattle.subst_core.specs.Substitution.{IsSubstituted}
 use Rattle.subst_core.specs.SubstitutionLaws.{kept_substituted}
-use Rattle.observe_theory.specs.ObservedLaws.{observed_fits, sinks_kept}
+use Rattle.observe_theory.specs.ObservedLaws.{sinks_kept}
 use Rattle.observe_core.specs.Observing.{MeetsSeen}
 
 abbrev pub listed : List ℕ → List ℕ → List ℕ → Window
 listed gates inputs outputs = record { root = 0; partner = None; gates = gates; inputs = inputs; outputs = outputs }
 
--- a window by its lists has them
-to_lists : (w : Window) (gates inputs outputs : List ℕ) → gates ≡ w.gates → inputs ≡ w.inputs → outputs ≡ w.outputs → HaveSameLists w (listed gates inputs outputs)
-to_lists w gates inputs outputs a b c = record { gates = sym a; inputs = sym b; outputs = sym c }
-
 from_lists : (w : Window) (gates inputs outputs : List ℕ) → gates ≡ w.gates → inputs ≡ w.inputs → outputs ≡ w.outputs → HaveSameLists (listed gates inputs outputs) w
 from_lists w gates inputs outputs a b c = record { gates = a; inputs = b; outputs = c }
-
-pub lists_belong : (n : Net) (w : Window) (gates inputs outputs : List ℕ) → gates ≡ w.gates → inputs ≡ w.inputs → outputs ≡ w.outputs → Belongs n w → Belongs n (listed gates inputs outputs)
-lists_belong n w gates inputs outputs a b c is = same_belongs n w (listed gates inputs outputs) (to_lists w gates inputs outputs a b c) is
-
-pub lists_fit : (n : Net) (w : Window) (chain : Chain) (gates inputs outputs : List ℕ) → gates ≡ w.gates → inputs ≡ w.inputs → outputs ≡ w.outputs → MeetsSeen n w chain → Fits (listed gates inputs outputs) chain
-lists_fit n w chain gates inputs outputs a b c meets = same_fits w (listed gates inputs outputs) chain (to_lists w gates inputs outputs a b c) (observed_fits n w meets.specification chain meets.chain meets.is meets.agrees)
-
-pub lists_room : (n : Net) (w : Window) (chain : Chain) (gates : List ℕ) → gates ≡ w.gates → n.sources + length n.gates + length chain.steps < 2 ^ 31 + length w.gates → n.sources + length n.gates + length chain.steps < 2 ^ 31 + length gates
-lists_room n w chain gates same room = omega (arith, ap (length {A = ℕ}) same, room)
 
 pub spliced_substituted : (n m : Net) (w : Window) (chain : Chain) (gates inputs outputs : List ℕ) → gates ≡ w.gates → inputs ≡ w.inputs → outputs ≡ w.outputs → IsNet n → Belongs n w → MeetsSeen n w chain → IsSpliced n (listed gates inputs outputs) chain m → IsSubstituted n w chain m
 spliced_substituted n m w chain gates inputs outputs a b c net is meets spliced =

@@ -29,8 +29,5 @@ in_parts (x ∷ xs) ys p on =
 pub is_off : (xs : List ℕ) (p : ℕ) → (among xs p ≡ true → ⊥) → among xs p ≡ false
 is_off xs p none = ⊎_elim (λ on. absurd (none on)) (λ off. off) (cases_Bool (among xs p))
 
-pub out_front : (xs ys : List ℕ) (p : ℕ) → among (xs ++ ys) p ≡ false → among xs p ≡ false
-out_front xs ys p off = is_off xs p (λ on. both_ways (among (xs ++ ys) p) off (in_front xs ys p on))
-
 pub out_back : (xs ys : List ℕ) (p : ℕ) → among (xs ++ ys) p ≡ false → among ys p ≡ false
 out_back xs ys p off = is_off ys p (λ on. both_ways (among (xs ++ ys) p) off (in_back xs ys p on))

@@ -28,12 +28,6 @@ unfolding after EachLine
 EachLine-last P s [] l each = each.0
 EachLine-last P s (m ∷ ls) l each = EachLine-last P (next s m) ls l each.1
 
--- a weaker fact
-pub EachLine-weaker : (P Q : State → Line → Type 0) (s : State) (ls : List Line) → ((t : State) (l : Line) → P t l → Q t l) → EachLine P s ls → EachLine Q s ls
-unfolding EachLine
-EachLine-weaker P Q s [] weaker each = tt
-EachLine-weaker P Q s (m ∷ ls) weaker each = (weaker s m each.0, EachLine-weaker P Q (next s m) ls weaker each.1)
-
 -- the ids of the additions
 pub added_ids-add : (ls : List Line) (id : ℕ) (lits : List ℤ) (hints : List ℕ) → added_ids (ls ++ Add id lits hints ∷ []) ≡ added_ids ls ++ id ∷ []
 unfolding added_ids

@@ -83,9 +83,6 @@ turned_next old new count bit size low is same p within =
     (cases_lt p count))
     (cases_eq p count)
 
-pub turned_all : (old : List Bool) (count p : ℕ) → p < count → turned old count p ≡ not (set_of old p)
-turned_all old count p low = cond-true (ltb p count) (not (set_of old p)) (set_of old p) (lt-ltb p count low)
-
 -- neither the one nor the other
 pub not_or : (a b : Bool) → not (a || b) ≡ (not b && not a)
 not_or true true = refl

@@ -33,9 +33,6 @@ back_more n a b c first some second =
     let short : length c.lits ≡ length b.lits - 1 = second.short in
     rw short (back_trans n (length b.lits - 1) a b c (omega arith) first second)
 
-pub back_all : (n : ℕ) (a b : Trailed) → length b.lits ≡ n → IsBack (length b.lits) a b → IsBack n a b
-back_all n a b e back = subst (λ (m : ℕ). IsBack m a b) e back
-
 -- the next variable has a value too
 pub values_more : (t : Trailed) (i : ℕ) → HaveValues t (1 + i) → (IsFree t (negsuc i) → ⊥) → HaveValues t (1 + (i + 1))
 values_more t i have taken l some low =

@@ -106,21 +106,6 @@ first_greatest h score len is (suc bound) p under some low =
     (λ (one : p ≤ 1). let e : p ≡ 1 = omega arith in rw e (omega arith))
     (cases_lt 1 p)
 
--- Behind the others, or in the place of the first, a variable is out of order at its place alone.
-pub ordered_put : (h score : ℕ → ℕ) (len v : ℕ) → IsOrdered h score len → IsOrderedAbove (with_entry h (len + 1) v) score (len + 1) (len + 1)
-ordered_put h score len v is = record {
-  others = λ q p low (some, left, right) apart.
-      rw (with_entry-other h (len + 1) v p apart, with_entry-other h (len + 1) v q (λ e. omega (arith, e, left, low))) (is.order q p (omega (arith, low, apart)) (some, left, right));
-  over = λ g p low (some_g, left_g, right_g) (some, left, right). absurd (omega (arith, low, left, some));
-}
-
-pub ordered_taken : (h score : ℕ → ℕ) (len v : ℕ) → IsOrdered h score len → IsOrderedBelow (with_entry h 1 v) score (len - 1) 1
-ordered_taken h score len v is = record {
-  others = λ q p low (some, left, right) apart.
-      rw (with_entry-other h 1 v p (λ e. omega (arith, e, left, some)), with_entry-other h 1 v q apart) (is.order q p (omega (arith, low)) (some, left, right));
-  over = λ g p low (some_g, left_g, right_g) under. absurd (omega (arith, left_g, some_g));
-}
-
 -- A score that rises puts its variable out of order with the one above alone.
 pub ordered_risen : (h s score : ℕ → ℕ) (len bound v y : ℕ) → IsArranged h s len bound → IsOrdered h score len → 0 < s v → score v ≤ y → IsOrderedAbove h (with_entry score v y) len (s v)
 ordered_risen h s score len bound v y are is held rise = record {
@@ -167,11 +152,4 @@ greater_left h score len q some low less = record {
   inside = low;
   under = (some, omega arith, omega arith);
   greater = λ p _ (_, left, right). ⊎_elim (λ (e : p ≡ 2 * q). rw e (omega arith)) (λ (apart : p ≡ 2 * q → ⊥). let e : p ≡ 2 * q + 1 = omega (arith, left, right, apart) in rw e less) (cases_eq p (2 * q));
-}
-
-pub only_left : (h score : ℕ → ℕ) (len q : ℕ) → 0 < q → 2 * q ≡ len → IsGreaterChild h score len q (2 * q)
-only_left h score len q some last = record {
-  inside = omega (arith, last);
-  under = (some, omega arith, omega arith);
-  greater = λ p low (_, left, right). (let e : p ≡ 2 * q = omega (arith, low, left, last) in rw e (omega arith));
 }

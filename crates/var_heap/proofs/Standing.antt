@@ -1,5 +1,5 @@
 -- Rows whose places are written.
-use Rattle.std.specs.Prelude.{◌≡◌, ◌≢◌, ℕ, ◌+◌, ◌<◌, ◌≤◌, ◌==◌, List, length, count_by, slice_index_or, slice_set, refl}
+use Rattle.std.specs.Prelude.{◌≡◌, ◌≢◌, ℕ, ◌+◌, ◌<◌, ◌≤◌, ◌==◌, List, length, count_by, slice_index_or, slice_set}
 use Rattle.std.proofs.Common.{sym, ap, ◌∙◌, subst, arith}
 use Rattle.std.proofs.Math.Logic.{⊎_elim}
 use Rattle.std.proofs.lemmas.Bool.{cases_lt}
@@ -134,9 +134,6 @@ swapped_row old new a b x y row swapped = record {
 -- the score of the variable at a place
 pub score_at : (r : Row) (scores : List ℕ) (p x : ℕ) → IsRow r → 0 < p → p ≤ r.len → x ≡ slice_index_or r.heap.items p x → slice_index_or scores x 0 ≡ entry scores (entry r.heap.items p)
 score_at r scores p x row some low is = sym (ap (entry scores) (read_standing r p x row some low is) ∙ entry_read scores x)
-
-pub moved_self : (r : Row) → IsMoved r r
-moved_self r = record { len = refl; marks = refl; room = refl }
 
 pub moved_trans : (a b c : Row) → IsMoved a b → IsMoved b c → IsMoved a c
 moved_trans a b c first second = record { len = second.len ∙ first.len; marks = second.marks ∙ first.marks; room = second.room ∙ first.room }

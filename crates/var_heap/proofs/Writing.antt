@@ -1,12 +1,11 @@
 -- Entries that are written.
-use Rattle.std.specs.Prelude.{◌≡◌, ℕ, zero, suc, ◌+◌, ◌<◌, ◌==◌, true, false, nat_lt, List, [], ◌∷◌, length, count_by, slice_index_or, slice_set, refl}
+use Rattle.std.specs.Prelude.{◌≡◌, ℕ, zero, suc, ◌+◌, ◌<◌, ◌==◌, false, nat_lt, List, [], ◌∷◌, length, count_by, slice_index_or, slice_set, refl}
 use Rattle.std.proofs.Common.{sym, ap, ◌∙◌, arith, cond}
 use Rattle.std.proofs.Math.Logic.{⊎_elim}
 use Rattle.std.proofs.Math.Seq.{map-set_same}
 use Rattle.std.proofs.lemmas.Bool.{cases_eq, eq-eqb, ne_eqb, lt-ltb}
 use Rattle.std.proofs.lemmas.List.{map-set, get_or-set_same, get_or-set_other}
 use Rattle.std.proofs.lemmas.List.Sums.{sum_by-set}
-use Rattle.std.proofs.lemmas.Grind.{common_steps}
 use Rattle.var_heap.specs.Entries.{entry, with_entry, marks_of}
 
 pub with_entry-same : (f : ℕ → ℕ) (i y k : ℕ) → k ≡ i → with_entry f i y k ≡ y
@@ -60,11 +59,6 @@ zeros_more xs i room was =
     let moved : count_by (λ x. x == 0) (slice_set xs i 0) + cond {A = ℕ} (slice_index_or xs i 0 == 0) 1 0 ≡ count_by (λ x. x == 0) xs + cond {A = ℕ} (0 == 0) 1 0 = sum_by-set (λ (x : ℕ). cond (x == 0) 1 0) xs i 0 0 room in
     let before : cond {A = ℕ} (slice_index_or xs i 0 == 0) 1 0 ≡ 0 = rw (ne_eqb (slice_index_or xs i 0) 0 (λ e. omega arith)) refl in
     omega arith
-
--- what a place says of the mark
-pub mark_some : (xs : List ℕ) (i : ℕ) → 0 < entry xs i → i < length xs → slice_index_or (marks_of xs) i false ≡ true
-unfolding entry
-mark_some xs i some within = grind (arith, common_steps)
 
 pub mark_read : (xs : List ℕ) (i : ℕ) → slice_index_or (marks_of xs) i false ≡ nat_lt 0 (entry xs i)
 unfolding entry

@@ -1,5 +1,5 @@
 -- How the greatest candidate is found.
-use Rattle.std.specs.Prelude.{◌≡◌, ℕ, ◌≤◌, ◌<◌, true, false, List, [], ◌∷◌, length, slice_get, Option, Some, None, ◌⊎◌, refl}
+use Rattle.std.specs.Prelude.{◌≡◌, ℕ, ◌≤◌, ◌<◌, true, false, List, [], ◌∷◌, length, slice_get, Option, Some, ◌⊎◌, refl}
 use Rattle.std.proofs.Common.{arith, sym, ◌∙◌, ap, subst, inl, inr, ⊎_elim}
 use Rattle.std.proofs.lemmas.Bool.{cases_Bool}
 use Rattle.net_theory.specs.declared.data.Sig.{Sig}
@@ -14,7 +14,7 @@ use Rattle.window_theory.specs.Window.{Window, IsReadBy, IsCandidate, IsGreatest
 use Rattle.window_theory.specs.WindowLaws.{gate_high, gate_at, below_last, taken_rising, taken_gate}
 use Rattle.window_theory.specs.SurroundLaws.{gate_one}
 use Rattle.window_theory.specs.GrowthLaws.{window_size}
-use Rattle.window_core.specs.Gates.{IsGateOf, IsGreater, IsGreaterIn, IsGreaterSig, IsWanted, IsSought, bound_of}
+use Rattle.window_core.specs.Gates.{IsGateOf, IsGreaterSig, IsWanted, IsSought, bound_of}
 
 -- ---- gates
 
@@ -58,42 +58,6 @@ next_sig bound best (sigs.Place p) result is =
 
 -- ---- the search
 
-pub sought_start : (n : Net) (root : ℕ) (partner : Option ℕ) (taken : List ℕ) (bound first best : ℕ) → IsGreater bound n.sources root first → IsGreaterIn bound first partner best → IsSought n root partner taken bound taken best
-sought_start n root None taken bound first best is same =
-    record {
-      within = λ q e. e;
-      from = omega (arith, is.from, same);
-      found = ⊎_elim
-          (λ (own : first ≡ n.sources). inl (omega (arith, own, same)))
-          (λ r. inr (inl (omega (arith, r.0, same)), omega (arith, r.0, r.1, same)))
-          is.found;
-      most = λ q why above low.
-          ⊎_elim
-          (λ (own : q ≡ root). let below : root < bound = omega (arith, own, low) in inl (omega (arith, is.most below, own, same)))
-          (λ read. inr read)
-          why;
-    }
-sought_start n root (Some h) taken bound first best is next =
-    record {
-      within = λ q e. e;
-      from = omega (arith, is.from, next.from);
-      found = ⊎_elim
-          (λ (same : best ≡ first). ⊎_elim
-          (λ (own : first ≡ n.sources). inl (omega (arith, own, same)))
-          (λ r. inr (inl (inl (omega (arith, r.0, same))), omega (arith, r.0, r.1, same)))
-          is.found)
-          (λ r. inr (inl (inr r.0), omega (arith, r.0, r.1)))
-          next.found;
-      most = λ q why above low.
-          ⊎_elim
-          (λ one. ⊎_elim
-          (λ (own : q ≡ root). let below : root < bound = omega (arith, own, low) in inl (omega (arith, is.most below, next.from, own)))
-          (λ (own : q ≡ h). let below : h < bound = omega (arith, own, low) in inl (omega (arith, next.most below, own)))
-          one)
-          (λ read. inr read)
-          why;
-    }
-
 pub sought_more : (n : Net) (root : ℕ) (partner : Option ℕ) (taken : List ℕ) (bound : ℕ) (left : List ℕ) (x : ℕ) (rest : List ℕ) (g : Gate) (best first next : ℕ) → left ≡ x ∷ rest → IsGateOf n x g → IsGreaterSig bound best g.a first → IsGreaterSig bound first g.b next → IsSought n root partner taken bound left best → IsSought n root partner taken bound rest next
 sought_more n root partner taken bound left x rest g best first next parts of by_a by_b was =
     let a : IsNext bound best g.a first = next_sig bound best g.a first by_a in
@@ -127,9 +91,6 @@ sought_more n root partner taken bound left x rest g best first next parts of by
           (among_cases x read.reader rest (ap (λ (xs : List ℕ). among xs read.reader) (sym parts) ∙ read.inside)))
           (was.most q why above low);
     }
-
-pub sought_end : (n : Net) (root : ℕ) (partner : Option ℕ) (taken : List ℕ) (bound : ℕ) (left : List ℕ) (best : ℕ) → left ≡ [] → IsSought n root partner taken bound left best → IsSought n root partner taken bound [] best
-sought_end n root partner taken bound left best none was = subst (λ (xs : List ℕ). IsSought n root partner taken bound xs best) none was
 
 -- ---- candidates stand below the bound
 

@@ -1,6 +1,6 @@
 -- The partners of a root are falling, so that the first one below a place is the greatest.
-use Rattle.std.specs.Prelude.{◌≡◌, ℕ, ◌≤◌, ◌<◌, Bool, true, false, nat_lt, if◌then◌else◌, List, [], ◌∷◌, Option, None, Some}
-use Rattle.std.proofs.Common.{arith, sym, ◌∙◌, subst, ⊎_elim}
+use Rattle.std.specs.Prelude.{◌≡◌, ℕ, ◌≤◌, ◌<◌, true, false, nat_lt, if◌then◌else◌, List, [], ◌∷◌, Option, None, Some}
+use Rattle.std.proofs.Common.{arith, sym, subst, ⊎_elim}
 use Rattle.std.proofs.lemmas.Bool.{cond-true, cond-false, both_ways, cases_lt}
 use Rattle.std.proofs.lemmas.Grind.{common_steps}
 use Rattle.net_theory.specs.Net.{Net}
@@ -64,9 +64,6 @@ next_by n root below partners (Some p) are first = record {
 
 pub next_is : (n : Net) (root below : ℕ) (partners : List ℕ) (o : Option ℕ) → ArePartners n root partners → o ≡ first_below partners below → IsNextPartner n root below o
 next_is n root below partners o are e = subst (λ (x : Option ℕ). IsNextPartner n root below x) (sym e) (next_by n root below partners (first_below partners below) are (first_is partners below are.falling))
-
-among_contains : (h : ℕ) (places : List ℕ) (b : Bool) → b ≡ among places h → b ≡ true → among places h ≡ true
-among_contains h places b e on = sym e ∙ on
 
 pub partner_there : (n : Net) (root h : ℕ) (partners : List ℕ) → ArePartners n root partners → among partners h ≡ true → IsPartner n root h
 partner_there n root h partners are on = one_of n root h partners are on

@@ -1,8 +1,8 @@
 use Rattle.std.proofs.Common.{◌≡◌, ◌<◌, ◌∙◌, ℕ, ℤ, List, length, slice_index_or, ap, refl, sym, subst}
 use Rattle.clause_db.specs.Watching.{listed_in}
-use Rattle.clause_db.specs.Arranging.{Arranged, block_at, exchanged_at}
+use Rattle.clause_db.specs.Arranging.{Arranged, exchanged_at}
 use Rattle.clause_db.specs.Deleting.{arranged_left}
-use Rattle.clause_db.proofs.Arranging.{exchanged_first, low_high, pushed_list, all_moved}
+use Rattle.clause_db.proofs.Arranging.{exchanged_first, pushed_list, all_moved}
 use Rattle.clause_db.proofs.watches.Watches.move_to.Goals as goal
 
 pub exchange-requires-clause-inside : goal.exchange-requires-clause-inside
