@@ -1,5 +1,5 @@
 -- Entries of tables that are written.
-use Rattle.std.specs.Prelude.{◌≡◌, ℕ, zero, suc, ◌<◌, ◌≤◌, ◌⊎◌, ℤ, pos, negsuc, Bool, true, false, List, length, slice_index_or, slice_set, replicate, refl}
+use Rattle.std.specs.Prelude.{◌≡◌, ℕ, zero, suc, ◌+◌, ◌*◌, ◌<◌, ◌≤◌, ◌⊎◌, ℤ, pos, negsuc, Bool, true, false, List, length, slice_index_or, slice_set, replicate, refl}
 use Rattle.std.specs.Ordering.{int_eq}
 use Rattle.std.proofs.Common.{ap, arith, inl, inr}
 use Rattle.std.proofs.Math.Logic.{⊎_elim}
@@ -10,7 +10,12 @@ use Rattle.sat_theory.specs.Formula.{variable, opposite}
 use Rattle.sat_theory.specs.Holding.{with_literal}
 use Rattle.cnf_core.specs.Codes.{code_of}
 use Rattle.cdcl_theory.specs.Codes.{place_in, with_place, marked_in, without_literal}
-pub use Rattle.cnf_core.specs.CodeLaws.{code_of-same, code_of-room}
+pub use Rattle.cnf_core.specs.CodeLaws.{code_of-same}
+
+-- the entries of the variables 1 to n fit a table of 2 n + 2
+pub code_of-room : (l : ℤ) (n : ℕ) → variable l ≤ n → code_of l < 2 * n + 2
+code_of-room (pos a) n within = let h : a ≤ n = within in let goal : 2 * a < 2 * n + 2 = omega arith in goal
+code_of-room (negsuc a) n within = let h : suc a ≤ n = within in let goal : 2 * suc a + 1 < 2 * n + 2 = omega arith in goal
 
 pub opposite-opposite : (l : ℤ) → opposite (opposite l) ≡ l
 opposite-opposite (pos zero) = refl

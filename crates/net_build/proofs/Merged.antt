@@ -7,7 +7,15 @@ use Rattle.net_theory.specs.Document.{Name, is_same, Table}
 use Rattle.net_theory.specs.WellFormed.{IsTable}
 use Rattle.net_theory.specs.Cost.{unary_cover, merged, merged_table}
 use Rattle.net_theory.specs.MergedLaws.{merged_is}
+use Rattle.net_core.specs.declared.whole.Body.{Body}
+use Rattle.net_core.specs.declared.whole.Body.TheVariants.{Cubes, Joined}
+use Rattle.net_core.specs.Wholes.{cover_of, IsBody, JoinsSome}
 use Rattle.net_build.specs.Parts.{merged_by}
+
+-- a body is whole where it joins something and its cover is one
+pub body_good : (b : Body) → JoinsSome b → IsCover (cover_of b) → IsBody b
+body_good (Cubes c) some is = is
+body_good (Joined w) some is = some
 
 pub merged-other : (t : Table) (ns : List Name) → length ns ≢ 2 → merged t ns ≡ t
 merged-other t [] h = refl

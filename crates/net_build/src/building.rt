@@ -41,7 +41,7 @@ fn add_body(
 }
 
 /// Puts the gates of a table behind a net.
-#[tactic(auto, using(crate::proofs::Growths::tables, net_core::specs::BodyLaws::body_good), unfolding(net_theory::specs::NetOf::with_table))]
+#[tactic(auto, using(crate::proofs::Growths::tables, crate::proofs::Merged::body_good), unfolding(net_theory::specs::NetOf::with_table))]
 fn add_table(
     alloc: Global,
     net: &mut Net,

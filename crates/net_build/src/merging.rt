@@ -39,7 +39,7 @@ fn unary_cover(alloc: Global, at_zero: bool, at_one: bool) -> Result<Cover, Allo
 }
 
 /// The cover by which a table is read whose two inputs have one name.
-#[tactic(auto, using(crate::proofs::Merged::merges, net_core::specs::BodyLaws::body_good), unfolding(net_theory::specs::Cost::merged_table))]
+#[tactic(auto, using(crate::proofs::Merged::merges, crate::proofs::Merged::body_good), unfolding(net_theory::specs::Cost::merged_table))]
 pub fn merged_cover(alloc: Global, table: &Table) -> Result<Option<Cover>, AllocError>
     requires { IsTable table.now }
     ensures { IfOk result (λ cover. merged_by table.now cover ≡ merged_table table.now) }
@@ -66,7 +66,7 @@ pub fn first_alone(names: &[Name]) -> &[Name]
 }
 
 /// The number of gates that a table becomes.
-#[tactic(auto, using(crate::proofs::Merged::costs, net_core::specs::BodyLaws::body_good), unfolding(net_theory::specs::Cost::table_cost))]
+#[tactic(auto, using(crate::proofs::Merged::costs, crate::proofs::Merged::body_good), unfolding(net_theory::specs::Cost::table_cost))]
 fn table_cost(alloc: Global, table: &Table) -> Result<u32, AllocError>
     requires { IsTable table.now }
     ensures { IfOk result (λ cost. cost ≡ table_cost_of table.now) }
