@@ -128,7 +128,7 @@ fn binary_word(body: &Body) -> u8
 }
 
 /// Adds a table of at most two inputs as a gate; one without inputs is made of a source.
-#[tactic(auto, using(net_core::specs::BodyLaws::body_good), unfolding(crate::specs::Gates::line_of))]
+#[tactic(auto, unfolding(crate::specs::Gates::line_of))]
 pub fn push_table(text: &mut Vec<u8>, source: &[u8], table: &Table) -> Result<(), AllocError>
     requires { IsSmallTable table.now }
     ensures { OnOk result (text.new.items ≡ text.old.items ++ table_text source.now table.now) }

@@ -2,7 +2,6 @@
 use Rattle.std.proofs.Common.{◌≡◌, ◌≢◌, ℕ, ◌+◌, ◌-◌, ◌<◌, ◌≤◌, ◌⊎◌, ℤ, Bool, false, List, Option, length, slice_index_or, slice_set, subst, sym, ap, ◌∙◌, arith, refl}
 use Rattle.std.proofs.Math.Logic.{⊎_elim}
 use Rattle.std.proofs.lemmas.Bool.{cases_lt}
-use Rattle.std.proofs.lemmas.Grind.{common_steps}
 use Rattle.std.proofs.lemmas.List.{length-set, get_or-set_other}
 use Rattle.sat_theory.specs.Formula.{variable, opposite}
 use Rattle.cdcl_theory.specs.CodeLaws.{same_variable, opposite-opposite, variable-opposite}
@@ -76,9 +75,6 @@ choosing_decided t c d x v r trail choosing var over free_x heap signs = record 
 -- the variables of the literals from an index on, and before another, are held
 pub record AreReleased (t : Trailed) (from end : ℕ) (c : Choice) : Type 0 where
   pub held : (p : ℕ) (d : ℤ) → from ≤ p → p < end → p < length t.lits → IsHeld c.heap (variable (slice_index_or t.lits p d))
-
-    at_index : (lits : List ℤ) (i k : ℕ) (d l : ℤ) → k ≡ i → i < length lits → slice_index_or lits i l ≡ l → slice_index_or lits k d ≡ l
-    at_index lits i k d l e within at_i = grind (arith, common_steps)
 
 -- When all from an index on are released, the trail may go back to there.
 pub choosing_back : (t back : Trailed) (from end : ℕ) (c : Choice) → IsTrail t → length t.lits ≤ end → IsChoosing t c → AreReleased t from end c → IsBack from t back → IsChoosing back c
