@@ -1,16 +1,15 @@
--- The entries of all lists have the ranges of their ids.
+-- The entries of all lists have the starts of their ids.
 use Rattle.std.proofs.Common.{◌≡◌, ℕ, ◌+◌, ◌-◌, ◌<◌, ◌≤◌, ℤ, List, [], ◌∷◌, ◌++◌, length, take, slice_index_or, slice_set, All, sym, ap, ◌∙◌, subst, arith}
 use Rattle.std.specs.List.{swap_remove, swap}
 use Rattle.std.proofs.lemmas.List.{length-map, length-append, length-take, length-set, get_or-map}
 use Rattle.std.proofs.lemmas.List.Elements.{All-get_or, All-set, All-take, All-weaker}
 use Rattle.cdcl_theory.specs.Codes.{code_of}
 use Rattle.clause_db.specs.declared.lists.Watch.{Watch}
-use Rattle.clause_db.specs.BlockRanges.{Blocked, no_range, KeepsRanges}
+use Rattle.clause_db.specs.BlockRanges.{Blocked, KeepsStarts}
 use Rattle.clause_db.specs.Lists.{Listed, no_watch, blocked_by, ids_of, lists_of, IsDirect, AreDirect}
 use Rattle.clause_db.specs.Watching.{listed_in}
 use Rattle.clause_db.specs.WatchingLaws.{watch_id}
 use Rattle.clause_db.specs.Arranging.{Arranged, block_at, exchanged_at}
-use Rattle.clause_db.specs.declared.blocks.Range.{Range}
 use Rattle.clause_db.proofs.Listed.{shown_lists, shown_list, ids_inside, lists_room}
 
 shown_room : (blocks : List (List ℤ)) (all : List Listed) (w : Arranged) (l : ℤ) (k : ℕ) → shown_lists blocks all ≡ w → k ≡ code_of l → code_of l < length w.lists → k < length all
@@ -26,7 +25,7 @@ direct_read b blocks all w l k e view at room is are = subst (All (IsDirect b)) 
 pub entry_inside : (blocks : List (List ℤ)) (all : List Listed) (w : Arranged) (l : ℤ) (k : ℕ) (e : Listed) (index : ℕ) → shown_lists blocks all ≡ w → k ≡ code_of l → code_of l < length w.lists → e ≡ slice_index_or all k e → index < length (listed_in w.lists l) → index < length e
 entry_inside blocks all w l k e index view at room is inside = ids_inside e (listed_in w.lists l) index (shown_list blocks all w l k e view at room is) inside
 
--- which has its range,
+-- which has its start,
 pub entry_direct : (b : Blocked) (blocks : List (List ℤ)) (all : List Listed) (w : Arranged) (l : ℤ) (k : ℕ) (e : Listed) (index : ℕ) (watch : Watch) → shown_lists blocks all ≡ w → k ≡ code_of l → code_of l < length w.lists → e ≡ slice_index_or all k e → index < length (listed_in w.lists l) → slice_index_or e index no_watch ≡ watch → AreDirect b all → IsDirect b watch
 entry_direct b blocks all w l k e index watch view at room is inside here are =
     subst (IsDirect b) here (All-get_or (IsDirect b) e index no_watch (entry_inside blocks all w l k e index view at room is inside) (direct_read b blocks all w l k e view at room is are))
@@ -35,11 +34,11 @@ entry_direct b blocks all w l k e index watch view at room is inside here are =
 pub entry_id : (blocks : List (List ℤ)) (all : List Listed) (w : Arranged) (l : ℤ) (k : ℕ) (e : Listed) (index : ℕ) (watch : Watch) → shown_lists blocks all ≡ w → k ≡ code_of l → code_of l < length w.lists → e ≡ slice_index_or all k e → index < length (listed_in w.lists l) → slice_index_or e index no_watch ≡ watch → watch.id ≡ slice_index_or (listed_in w.lists l) index 0
 entry_id blocks all w l k e index watch view at room is inside here = ap (λ (x : Watch). x.id) (sym here) ∙ watch_id e (listed_in w.lists l) index no_watch (shown_list blocks all w l k e view at room is) inside
 
-pub range_there : (b : Blocked) (w : Watch) → IsDirect b w → (n : ℕ) × (n < length b.lists) × (slice_index_or b.ranges n no_range ≡ w.range)
-range_there b w is = (w.id - 1, (let some : 0 < w.id = is.some in let given : w.id ≤ length b.lists = is.given in omega (arith, some, given)), is.is)
+pub start_there : (b : Blocked) (w : Watch) → IsDirect b w → (n : ℕ) × (n < length b.lists) × (slice_index_or b.starts n 0 ≡ w.start)
+start_there b w is = (w.id - 1, (let some : 0 < w.id = is.some in let given : w.id ≤ length b.lists = is.given in omega (arith, some, given)), is.is)
 
--- What is read by the range is the list of the id.
-pub read_direct : (b : Blocked) (blocks : List (List ℤ)) (arranged : List (List ℤ)) (w : Watch) (id : ℕ) (result : List ℤ) → blocks ≡ arranged → w.id ≡ id → IsDirect b w → ((n : ℕ) → n < length b.lists → slice_index_or b.ranges n no_range ≡ w.range → result ≡ slice_index_or blocks n []) → result ≡ block_at arranged id
+-- What is read by the start is the list of the id.
+pub read_direct : (b : Blocked) (blocks : List (List ℤ)) (arranged : List (List ℤ)) (w : Watch) (id : ℕ) (result : List ℤ) → blocks ≡ arranged → w.id ≡ id → IsDirect b w → ((n : ℕ) → n < length b.lists → slice_index_or b.starts n 0 ≡ w.start → result ≡ slice_index_or blocks n []) → result ≡ block_at arranged id
 read_direct b blocks arranged w id result same id_is is read =
     let low : w.id - 1 < length b.lists = (let some : 0 < w.id = is.some in let given : w.id ≤ length b.lists = is.given in omega (arith, some, given)) in
     read (w.id - 1) low is.is ∙ ap (λ (n : ℕ). slice_index_or blocks (n - 1) []) id_is ∙ ap (λ (ls : List (List ℤ)). slice_index_or ls (id - 1) []) same
@@ -58,7 +57,7 @@ pub direct_put : (b : Blocked) (e : Listed) (i : ℕ) (m : ℤ) → i < length e
 direct_put b e i m low are = All-set (IsDirect b) e i (blocked_by (slice_index_or e i no_watch) m) (direct_blocked b (slice_index_or e i no_watch) m (All-get_or (IsDirect b) e i no_watch low are)) are
 
 -- or is taken off again, while the ids are those of before.
-pub direct_back : (old new back : Blocked) (lits : List ℤ) (before all : List Listed) → new.lists ≡ old.lists ++ lits ∷ [] → back.lists ≡ take (length new.lists - 1) new.lists → KeepsRanges new back (length new.lists - 1) → lists_of all ≡ lists_of before → AreDirect old before → AreDirect new all → AreDirect back all
+pub direct_back : (old new back : Blocked) (lits : List ℤ) (before all : List Listed) → new.lists ≡ old.lists ++ lits ∷ [] → back.lists ≡ take (length new.lists - 1) new.lists → KeepsStarts new back (length new.lists - 1) → lists_of all ≡ lists_of before → AreDirect old before → AreDirect new all → AreDirect back all
 unfolding lists_of
 direct_back old new back lits before all more back_is kept same was are k d low i e inside = record { some = is.some; given = given; is = kept (w.id - 1) (let some : 0 < w.id = is.some in omega (arith, low_id, count_new, some)) ∙ is.is }
   where
@@ -99,12 +98,12 @@ direct_back old new back lits before all more back_is kept same was are k d low 
 places_read : (blocks arranged : List (List ℤ)) (w : Watch) (id high : ℕ) → blocks ≡ arranged → w.id ≡ id → high < length (block_at arranged id) → high < length (block_at blocks w.id)
 places_read blocks arranged w id high same id_is places = subst (λ (ls : List (List ℤ)). high < length (block_at ls w.id)) (sym same) (subst (λ (n : ℕ). high < length (block_at arranged n)) (sym id_is) places)
 
-pub range_places : (b : Blocked) (arranged : List (List ℤ)) (w : Watch) (id high : ℕ) → b.lists ≡ arranged → w.id ≡ id → IsDirect b w → high < length (block_at arranged id) → (n : ℕ) × (n < length b.lists) × (slice_index_or b.ranges n no_range ≡ w.range) × (high < length (slice_index_or b.lists n []))
-range_places b arranged w id high same id_is is places = (w.id - 1, (let some : 0 < w.id = is.some in let given : w.id ≤ length b.lists = is.given in omega (arith, some, given)), is.is, places_read b.lists arranged w id high same id_is places)
+pub start_places : (b : Blocked) (arranged : List (List ℤ)) (w : Watch) (id high : ℕ) → b.lists ≡ arranged → w.id ≡ id → IsDirect b w → high < length (block_at arranged id) → (n : ℕ) × (n < length b.lists) × (slice_index_or b.starts n 0 ≡ w.start) × (high < length (slice_index_or b.lists n []))
+start_places b arranged w id high same id_is is places = (w.id - 1, (let some : 0 < w.id = is.some in let given : w.id ≤ length b.lists = is.given in omega (arith, some, given)), is.is, places_read b.lists arranged w id high same id_is places)
 
--- what an exchange by the range of an entry gives
+-- what an exchange by the start of an entry gives
 abbrev pub IsExchange : Blocked → Blocked → Watch → ℕ → ℕ → Type 0
-IsExchange b new w low high = (n : ℕ) → n < length b.lists → slice_index_or b.ranges n no_range ≡ w.range → high < length (slice_index_or b.lists n []) → new.lists ≡ slice_set b.lists n (swap (slice_index_or b.lists n []) low high)
+IsExchange b new w low high = (n : ℕ) → n < length b.lists → slice_index_or b.starts n 0 ≡ w.start → high < length (slice_index_or b.lists n []) → new.lists ≡ slice_set b.lists n (swap (slice_index_or b.lists n []) low high)
 
 exchanged_lists : (b new : Blocked) (arranged : List (List ℤ)) (w : Watch) (id low high : ℕ) → b.lists ≡ arranged → w.id ≡ id → IsDirect b w → high < length (block_at arranged id) → IsExchange b new w low high → new.lists ≡ slice_set b.lists (w.id - 1) (swap (block_at b.lists w.id) low high)
 exchanged_lists b new arranged w id low high same id_is is places exchanged = exchanged (w.id - 1) (let some : 0 < w.id = is.some in let given : w.id ≤ length b.lists = is.given in omega (arith, some, given)) is.is (places_read b.lists arranged w id high same id_is places)
@@ -115,11 +114,11 @@ exchanged_shown b new all a w id low high view id_is is places exchanged =
     ∙ ap (λ (n : ℕ). exchanged_at (shown_lists b.lists all) n low high) id_is
     ∙ ap (λ (x : Arranged). exchanged_at x id low high) view
 
-pub direct_exchanged : (b new : Blocked) (all : List Listed) (arranged : List (List ℤ)) (w : Watch) (id low high : ℕ) → b.lists ≡ arranged → w.id ≡ id → IsDirect b w → high < length (block_at arranged id) → IsExchange b new w low high → new.ranges ≡ b.ranges → AreDirect b all → AreDirect new all
-direct_exchanged b new all arranged w id low high same id_is is places exchanged ranges are = All-weaker (All (IsDirect b)) (All (IsDirect new)) (λ e. All-weaker (IsDirect b) (IsDirect new) one e) all are
+pub direct_exchanged : (b new : Blocked) (all : List Listed) (arranged : List (List ℤ)) (w : Watch) (id low high : ℕ) → b.lists ≡ arranged → w.id ≡ id → IsDirect b w → high < length (block_at arranged id) → IsExchange b new w low high → new.starts ≡ b.starts → AreDirect b all → AreDirect new all
+direct_exchanged b new all arranged w id low high same id_is is places exchanged starts are = All-weaker (All (IsDirect b)) (All (IsDirect new)) (λ e. All-weaker (IsDirect b) (IsDirect new) one e) all are
   where
     long : length new.lists ≡ length b.lists
     long = ap length (exchanged_lists b new arranged w id low high same id_is is places exchanged) ∙ length-set b.lists (w.id - 1) (swap (block_at b.lists w.id) low high)
 
     one : (v : Watch) → IsDirect b v → IsDirect new v
-    one v its = record { some = its.some; given = (let given : v.id ≤ length b.lists = its.given in omega (arith, given, long)); is = ap (λ (rs : List Range). slice_index_or rs (v.id - 1) no_range) ranges ∙ its.is }
+    one v its = record { some = its.some; given = (let given : v.id ≤ length b.lists = its.given in omega (arith, given, long)); is = ap (λ (ss : List ℕ). slice_index_or ss (v.id - 1) 0) starts ∙ its.is }

@@ -24,7 +24,7 @@ map_swap f xs i d e low =
 pub swap_default : (entries : Listed) (i : ℕ) (d : Watch) → i < length entries → swap_remove entries i d ≡ swap_remove entries i no_watch
 swap_default entries i d low = ap (λ (w : Watch). take (length entries - 1) (slice_set entries i w)) (get_or_default entries (length entries - 1) d no_watch (omega (arith, low)))
 
-pub set_read : (entries : Listed) (i : ℕ) (w : Watch) (b : ℤ) → i < length entries → w ≡ slice_index_or entries i w → slice_set entries i (record { id = w.id; blocker = b; range = w.range }) ≡ slice_set entries i (blocked_by (slice_index_or entries i no_watch) b)
+pub set_read : (entries : Listed) (i : ℕ) (w : Watch) (b : ℤ) → i < length entries → w ≡ slice_index_or entries i w → slice_set entries i (record { id = w.id; blocker = b; start = w.start }) ≡ slice_set entries i (blocked_by (slice_index_or entries i no_watch) b)
 set_read entries i w b low is = ap (λ (x : Watch). slice_set entries i (blocked_by x b)) (is ∙ get_or_default entries i w no_watch low)
 
 -- An entry is pushed, taken off, taken out, and written.

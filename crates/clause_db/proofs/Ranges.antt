@@ -1,28 +1,27 @@
--- Lists in one row of literals.
+-- Lists in one row of literals, by the ranges where they stand.
 use Rattle.std.proofs.Common.{◌≡◌, ℕ, suc, ◌+◌, ◌-◌, ◌<◌, ◌≤◌, ℤ, List, [], ◌∷◌, ◌++◌, length, slice_index_or, slice_set, refl, ap, ◌∙◌, sym, subst, arith, take, drop, length-append}
 use Rattle.std.specs.List.{slice_range, swap}
 use Rattle.std.proofs.Math.Logic.{⊎_elim}
 use Rattle.std.proofs.lemmas.Bool.{cases_eq, cases_lt}
-use Rattle.std.proofs.lemmas.List.{length-drop, length-take-le, length-map, length-set, map-append, take-map, get_or-take, get_or_append_left, get_or-drop, get_or-map, get_or-set_same, get_or-set_other, same_lists, get_or_default}
-use Rattle.std.proofs.lemmas.List.Elements.{All-push}
+use Rattle.std.proofs.lemmas.List.{length-drop, length-take-le, length-map, length-set, map-append, take-map, get_or-take, get_or-drop, get_or-map, get_or-set_same, get_or-set_other, same_lists}
+use Rattle.std.proofs.lemmas.List.Elements.{All-push, All-take}
 use Rattle.std.proofs.lemmas.List.Edits.{length-swap, swapped_from_swap, Swapped}
 use Rattle.std.proofs.lemmas.List.Quantifiers.{all_pairs_push}
-use Rattle.clause_db.specs.declared.blocks.Range.{Range}
-use Rattle.clause_db.specs.BlockRanges.{Blocked, no_range, KeepsRanges, list_in, lists_in, AreRanges}
+use Rattle.clause_db.specs.BlockRanges.{Range, list_in, lists_in, AreRanges}
 use Rattle.clause_db.proofs.Rows.{range_front, range_behind}
 
-range_long : (row : List ℤ) (a b : ℕ) → a ≤ b → b ≤ length row → length (slice_range row a b) ≡ b - a
+pub range_long : (row : List ℤ) (a b : ℕ) → a ≤ b → b ≤ length row → length (slice_range row a b) ≡ b - a
 range_long row a b order inside = length-take-le (b - a) (drop a row) (rw length-drop (omega arith))
 
-range_at : (row : List ℤ) (a b k : ℕ) (d : ℤ) → k < b - a → slice_index_or (slice_range row a b) k d ≡ slice_index_or row (a + k) d
-range_at row a b k d low = get_or-take (b - a) (drop a row) k d low ∙ get_or-drop a row k d
+range_read : (row : List ℤ) (a b k : ℕ) (d : ℤ) → k < b - a → slice_index_or (slice_range row a b) k d ≡ slice_index_or row (a + k) d
+range_read row a b k d low = get_or-take (b - a) (drop a row) k d low ∙ get_or-drop a row k d
 
 -- Two rows that agree on a range have the same list there.
 range_same : (row new : List ℤ) (a b : ℕ) → a ≤ b → b ≤ length row → b ≤ length new → ((k : ℕ) (d : ℤ) → a ≤ k → k < b → slice_index_or new k d ≡ slice_index_or row k d) → slice_range new a b ≡ slice_range row a b
 range_same row new a b order inside inside_new same =
     let long : length (slice_range row a b) ≡ b - a = range_long row a b order inside in
     let long_new : length (slice_range new a b) ≡ b - a = range_long new a b order inside_new in
-    same_lists (slice_range new a b) (slice_range row a b) (long_new ∙ sym long) (λ k d low. let within : k < b - a = omega (arith, low, long_new) in range_at new a b k d within ∙ same (a + k) d (omega arith) (omega (arith, within)) ∙ sym (range_at row a b k d within))
+    same_lists (slice_range new a b) (slice_range row a b) (long_new ∙ sym long) (λ k d low. let within : k < b - a = omega (arith, low, long_new) in range_read new a b k d within ∙ same (a + k) d (omega arith) (omega (arith, within)) ∙ sym (range_read row a b k d within))
 
 -- Two literals of a range change places.
 range_swapped : (row : List ℤ) (a b low high : ℕ) → a ≤ b → b ≤ length row → low < b - a → high < b - a → slice_range (swap row (a + low) (a + high)) a b ≡ swap (slice_range row a b) low high
@@ -42,11 +41,11 @@ range_swapped row a b low high order inside is_low is_high =
     at_place k d within =
         let in_row : Swapped (λ i. slice_index_or row i d) (λ i. slice_index_or new i d) (a + low) (a + high) = swapped_from_swap row new (a + low) (a + high) d (omega (arith, inside, is_low)) (omega (arith, inside, is_high)) refl in
         let in_list : Swapped (λ i. slice_index_or (slice_range row a b) i d) (λ i. slice_index_or (swap (slice_range row a b) low high) i d) low high = swapped_from_swap (slice_range row a b) (swap (slice_range row a b) low high) low high d (omega (arith, long, is_low)) (omega (arith, long, is_high)) refl in
-        range_at new a b k d within ∙ ⊎_elim
-        (λ (e : k ≡ low). ap (λ (n : ℕ). slice_index_or new (a + n) d) e ∙ in_row.0 ∙ sym (range_at row a b high d is_high) ∙ sym in_list.0 ∙ ap (λ (n : ℕ). slice_index_or (swap (slice_range row a b) low high) n d) (sym e))
+        range_read new a b k d within ∙ ⊎_elim
+        (λ (e : k ≡ low). ap (λ (n : ℕ). slice_index_or new (a + n) d) e ∙ in_row.0 ∙ sym (range_read row a b high d is_high) ∙ sym in_list.0 ∙ ap (λ (n : ℕ). slice_index_or (swap (slice_range row a b) low high) n d) (sym e))
         (λ (not_low : k ≡ low → ⊥). ⊎_elim
-        (λ (e : k ≡ high). ap (λ (n : ℕ). slice_index_or new (a + n) d) e ∙ in_row.1 ∙ sym (range_at row a b low d is_low) ∙ sym in_list.1 ∙ ap (λ (n : ℕ). slice_index_or (swap (slice_range row a b) low high) n d) (sym e))
-        (λ (not_high : k ≡ high → ⊥). in_row.2 (a + k) (λ e. not_low (omega arith)) (λ e. not_high (omega arith)) ∙ sym (range_at row a b k d within) ∙ sym (in_list.2 k not_low not_high))
+        (λ (e : k ≡ high). ap (λ (n : ℕ). slice_index_or new (a + n) d) e ∙ in_row.1 ∙ sym (range_read row a b low d is_low) ∙ sym in_list.1 ∙ ap (λ (n : ℕ). slice_index_or (swap (slice_range row a b) low high) n d) (sym e))
+        (λ (not_high : k ≡ high → ⊥). in_row.2 (a + k) (λ e. not_low (omega arith)) (λ e. not_high (omega arith)) ∙ sym (range_read row a b k d within) ∙ sym (in_list.2 k not_low not_high))
         (cases_eq k high))
         (cases_eq k low)
 
@@ -76,10 +75,10 @@ swapped_in row ranges index low high r are inside is order places =
         let end : r.end ≤ length row = fine.1 in
         ⊎_elim
         (λ (before : k < index).
-        let behind : s.end ≤ r.start = subst (λ (t : Range). t.end ≤ r.start) (sym at) (subst (λ (t : Range). (slice_index_or ranges k r).end ≤ t.start) (sym is) (are.behind k index r before inside)) in
+        let behind : s.end < r.start = subst (λ (t : Range). t.end < r.start) (sym at) (subst (λ (t : Range). (slice_index_or ranges k r).end < t.start) (sym is) (are.behind k index r before inside)) in
         range_apart row s.start s.end (r.start + low) (r.start + high) its.0 its.1 (omega (arith, order, places, end)) (omega (arith, places, end)) (λ n from to e. omega (arith, to, e, behind)) (λ n from to e. omega (arith, to, e, behind)))
         (λ (after : index ≤ k).
-        let behind : r.end ≤ s.start = subst (λ (t : Range). r.end ≤ t.start) (sym at) (subst (λ (t : Range). t.end ≤ (slice_index_or ranges k r).start) (sym is) (are.behind index k r (omega (arith, after, differ)) within)) in
+        let behind : r.end < s.start = subst (λ (t : Range). r.end < t.start) (sym at) (subst (λ (t : Range). t.end < (slice_index_or ranges k r).start) (sym is) (are.behind index k r (omega (arith, after, differ)) within)) in
         range_apart row s.start s.end (r.start + low) (r.start + high) its.0 its.1 (omega (arith, order, places, end)) (omega (arith, places, end)) (λ n from to e. omega (arith, from, e, behind, order, places)) (λ n from to e. omega (arith, from, e, behind, places)))
         (cases_lt k index)
 
@@ -90,19 +89,13 @@ swapped_in row ranges index low high r are inside is order places =
         (λ (differ : k ≡ index → ⊥). apart k (slice_index_or ranges k r) within differ refl ∙ sym (get_or-set_other (lists_in row ranges) index k list d differ ∙ get_or-map (list_in row) ranges k r d within))
         (cases_eq k index)
 
-lists_swapped : (lists : List (List ℤ)) (row new : List ℤ) (ranges : List Range) (index low high : ℕ) (r : Range) → lists_in row ranges ≡ lists → AreRanges row ranges → r ≡ slice_index_or ranges index r → index < length lists → low < high → high < length (slice_index_or lists index []) → new ≡ swap row (r.start + low) (r.start + high) → lists_in new ranges ≡ slice_set lists index (swap (slice_index_or lists index []) low high)
+pub lists_swapped : (lists : List (List ℤ)) (row new : List ℤ) (ranges : List Range) (index low high : ℕ) (r : Range) → lists_in row ranges ≡ lists → AreRanges row ranges → r ≡ slice_index_or ranges index r → index < length lists → low < high → high < length (slice_index_or lists index []) → new ≡ swap row (r.start + low) (r.start + high) → lists_in new ranges ≡ slice_set lists index (swap (slice_index_or lists index []) low high)
 lists_swapped lists row new ranges index low high r view are is within order places new_is =
     let inside : index < length ranges = (let long : length lists ≡ length ranges = sym (ap length view) ∙ length-map ranges (list_in row) in omega (arith, within, long)) in
     let list : slice_index_or lists index [] ≡ list_in row r = ap (λ (ls : List (List ℤ)). slice_index_or ls index []) (sym view) ∙ get_or-map (list_in row) ranges index r [] inside ∙ ap (list_in row) (sym is) in
     let fine : (r.start ≤ r.end) × (r.end ≤ length row) = subst (λ (s : Range). (s.start ≤ s.end) × (s.end ≤ length row)) (sym is) (are.inside index r inside) in
     let long : length (slice_index_or lists index []) ≡ r.end - r.start = ap length list ∙ range_long row r.start r.end fine.0 fine.1 in
     ap (λ (xs : List ℤ). lists_in xs ranges) new_is ∙ swapped_in row ranges index low high r are inside is order (omega (arith, places, long)) ∙ ap (λ (ls : List (List ℤ)). slice_set ls index (swap (list_in row r) low high)) view ∙ ap (λ (xs : List ℤ). slice_set lists index (swap xs low high)) (sym list)
-
--- the same by a range that the list has
-pub lists_exchanged : (lists : List (List ℤ)) (row new : List ℤ) (ranges : List Range) (index low high : ℕ) (r : Range) → lists_in row ranges ≡ lists → AreRanges row ranges → slice_index_or ranges index no_range ≡ r → index < length lists → low < high → high < length (slice_index_or lists index []) → new ≡ swap row (r.start + low) (r.start + high) → lists_in new ranges ≡ slice_set lists index (swap (slice_index_or lists index []) low high)
-lists_exchanged lists row new ranges index low high r view are at within order places new_is =
-    let inside : index < length ranges = (let long : length lists ≡ length ranges = sym (ap length view) ∙ length-map ranges (list_in row) in omega (arith, within, long)) in
-    lists_swapped lists row new ranges index low high r view are (sym at ∙ get_or_default ranges index no_range r inside) within order places new_is
 
 -- The lists of some ranges are the same in two rows that agree on each of them.
 lists_same : (row new : List ℤ) (ranges : List Range) → ((k : ℕ) (d : Range) → k < length ranges → list_in new (slice_index_or ranges k d) ≡ list_in row (slice_index_or ranges k d)) → lists_in new ranges ≡ lists_in row ranges
@@ -111,93 +104,81 @@ lists_same row new (r ∷ rs) same =
     let tail : lists_in new rs ≡ lists_in row rs = lists_same row new rs (λ k d low. same (suc k) d (omega arith)) in
     ap (λ (xs : List ℤ). xs ∷ lists_in new rs) (same 0 r (omega arith)) ∙ ap (λ (ls : List (List ℤ)). list_in row r ∷ ls) tail
 
--- what blocks show
-abbrev pub shown : List ℤ → List Range → Blocked
-shown row ranges = record { lists = lists_in row ranges; ranges = ranges }
-
 -- More literals are written behind the row.
-pub lists_written : (row new lits : List ℤ) (ranges same : List Range) → new ≡ row ++ lits → same ≡ ranges → AreRanges row ranges → lists_in new same ≡ lists_in row ranges
-lists_written row new lits ranges same is kept are = rw (kept, is) (lists_same row (row ++ lits) ranges (λ k d low. let fine = are.inside k d low in range_front row lits (slice_index_or ranges k d).start (slice_index_or ranges k d).end fine.0 fine.1))
+pub lists_written : (row new more : List ℤ) (ranges : List Range) → new ≡ row ++ more → AreRanges row ranges → lists_in new ranges ≡ lists_in row ranges
+lists_written row new more ranges is are = rw is (lists_same row (row ++ more) ranges (λ k d low. let fine = are.inside k d low in range_front row more (slice_index_or ranges k d).start (slice_index_or ranges k d).end fine.0 fine.1))
 
-pub shown_written : (b : Blocked) (row new lits : List ℤ) (ranges same : List Range) → new ≡ row ++ lits → same ≡ ranges → AreRanges row ranges → shown row ranges ≡ b → shown new same ≡ b
-shown_written b row new lits ranges same is kept are view = rw (lists_written row new lits ranges same is kept are, kept) view
+pub ranges_written : (row new more : List ℤ) (ranges : List Range) → new ≡ row ++ more → AreRanges row ranges → AreRanges new ranges
+ranges_written row new more ranges is are = record {
+  headed = are.headed;
+  inside = λ k d low. (let fine = are.inside k d low in (fine.0, (let end : (slice_index_or ranges k d).end ≤ length row = fine.1 in rw (is, length-append) (omega (arith, end)))));
+  behind = are.behind;
+}
 
--- One more range stands behind the others, or the last one is taken off.
-pub kept_more : (b new : Blocked) (row now : List ℤ) (ranges more : List Range) (r : Range) → shown row ranges ≡ b → shown now more ≡ new → more ≡ ranges ++ r ∷ [] → KeepsRanges b new (length b.lists)
-kept_more b new row now ranges more r view view_new is index low =
-    let inside : index < length ranges = rw length-map at (subst (λ (x : Blocked). index < length x.lists) (sym view) low) in
-    ap (λ (x : Blocked). slice_index_or x.ranges index no_range) (sym view_new) ∙ ap (λ (rs : List Range). slice_index_or rs index no_range) is ∙ get_or_append_left ranges (r ∷ []) no_range index inside ∙ ap (λ (x : Blocked). slice_index_or x.ranges index no_range) view
-
-pub kept_front : (b new : Blocked) (row now : List ℤ) (ranges front : List Range) (n : ℕ) → shown row ranges ≡ b → shown now front ≡ new → front ≡ take n ranges → n + 1 ≡ length ranges → KeepsRanges b new (length b.lists - 1)
-kept_front b new row now ranges front n view view_new is all index low =
-    let long : length b.lists ≡ length ranges = ap (λ (x : Blocked). length x.lists) (sym view) ∙ length-map ranges (list_in row) in
-    ap (λ (x : Blocked). slice_index_or x.ranges index no_range) (sym view_new) ∙ ap (λ (rs : List Range). slice_index_or rs index no_range) is ∙ get_or-take n ranges index no_range (omega (arith, low, long, all)) ∙ ap (λ (x : Blocked). slice_index_or x.ranges index no_range) view
-
-pub ranges_written : (row new lits : List ℤ) (ranges same : List Range) → new ≡ row ++ lits → same ≡ ranges → AreRanges row ranges → AreRanges new same
-ranges_written row new lits ranges same is kept are =
-    rw (kept) (record {
-      inside = λ k d low. (let fine = are.inside k d low in (fine.0, (let end : (slice_index_or ranges k d).end ≤ length row = fine.1 in rw (is, length-append) (omega (arith, end)))));
-      behind = are.behind;
-    })
-
--- And the range of what was written is put behind the others.
-pub ranges_added : (row new lits : List ℤ) (ranges more : List Range) (r : Range) → new ≡ row ++ lits → more ≡ ranges ++ r ∷ [] → r.start ≡ length row → r.end ≡ length row + length lits → AreRanges row ranges → AreRanges new more
-ranges_added row new lits ranges more r is kept at end are =
-    let written : AreRanges new ranges = ranges_written row new lits ranges ranges is refl are in
-    let long : length new ≡ length row + length lits = ap length is ∙ length-append row lits in
-    rw kept (record {
+-- And the range of what was written behind a first place is put behind the others.
+pub ranges_added : (row new lits : List ℤ) (head : ℤ) (ranges : List Range) (r : Range) → new ≡ (row ++ head ∷ []) ++ lits → r.start ≡ length row + 1 → r.end ≡ length row + 1 + length lits → AreRanges row ranges
+    → AreRanges new (ranges ++ r ∷ [])
+ranges_added row new lits head ranges r is at end are =
+    let written : AreRanges new ranges = ranges_written (row ++ head ∷ []) new lits ranges is (ranges_written row (row ++ head ∷ []) (head ∷ []) ranges refl are) in
+    let long : length new ≡ length row + 1 + length lits = ap length is ∙ length-append (row ++ head ∷ []) lits ∙ ap (λ (n : ℕ). n + length lits) (length-append row (head ∷ [])) in
+    record {
+      headed = All-push (λ (s : Range). 0 < s.start) ranges r written.headed (omega (arith, at));
       inside = All-push (λ (s : Range). (s.start ≤ s.end) × (s.end ≤ length new)) ranges r written.inside (omega (arith, at, end), omega (arith, end, long));
-      behind = all_pairs_push (λ (s t : Range). s.end ≤ t.start) ranges r are.behind (λ k d low. (let fine : (slice_index_or ranges k d).end ≤ length row = (are.inside k d low).1 in omega (arith, fine, at)));
-    })
+      behind = all_pairs_push (λ (s t : Range). s.end < t.start) ranges r are.behind (λ k d low. (let fine : (slice_index_or ranges k d).end ≤ length row = (are.inside k d low).1 in omega (arith, fine, at)));
+    }
 
-pub lists_added : (lists : List (List ℤ)) (row new lits : List ℤ) (ranges more : List Range) (r : Range) → lists_in row ranges ≡ lists → new ≡ row ++ lits → more ≡ ranges ++ r ∷ [] → r.start ≡ length row → r.end ≡ length row + length lits → AreRanges row ranges → lists_in new more ≡ lists ++ lits ∷ []
-lists_added lists row new lits ranges more r view is kept at end are =
-    let list : list_in new r ≡ lits = ap (λ (xs : List ℤ). list_in xs r) is ∙ range_behind row lits r.start r.end at end in
-    ap (lists_in new) kept ∙ map-append (list_in new) ranges (r ∷ []) ∙ ap (λ (xs : List ℤ). lists_in new ranges ++ xs ∷ []) list ∙ ap (λ (ls : List (List ℤ)). ls ++ lits ∷ []) (lists_written row new lits ranges ranges is refl are ∙ view)
+pub lists_added : (row new lits : List ℤ) (head : ℤ) (ranges : List Range) (r : Range) → new ≡ (row ++ head ∷ []) ++ lits → r.start ≡ length row + 1 → r.end ≡ length row + 1 + length lits → AreRanges row ranges
+    → lists_in new (ranges ++ r ∷ []) ≡ lists_in row ranges ++ lits ∷ []
+lists_added row new lits head ranges r is at end are =
+    let front : length (row ++ head ∷ []) ≡ length row + 1 = length-append row (head ∷ []) in
+    let list : list_in new r ≡ lits = ap (λ (xs : List ℤ). list_in xs r) is ∙ range_behind (row ++ head ∷ []) lits r.start r.end (omega (arith, at, front)) (omega (arith, end, front)) in
+    let before : lists_in new ranges ≡ lists_in row ranges =
+    lists_written (row ++ head ∷ []) new lits ranges is (ranges_written row (row ++ head ∷ []) (head ∷ []) ranges refl are) ∙ lists_written row (row ++ head ∷ []) (head ∷ []) ranges refl are in
+    map-append (list_in new) ranges (r ∷ []) ∙ ap (λ (xs : List ℤ). lists_in new ranges ++ xs ∷ []) list ∙ ap (λ (ls : List (List ℤ)). ls ++ lits ∷ []) before
 
--- The last range is taken off, and with it what stands in the row from its start on.
-ends_before : (row : List ℤ) (ranges : List Range) (n k : ℕ) (d r : Range) → AreRanges row ranges → n + 1 ≡ length ranges → r ≡ slice_index_or ranges n d → k < n → ((slice_index_or ranges k d).start ≤ (slice_index_or ranges k d).end) × ((slice_index_or ranges k d).end ≤ r.start) × (r.start ≤ length row)
+-- The last range is taken off, and with it what stands in the row from the place before its start on.
+pub ends_before : (row : List ℤ) (ranges : List Range) (n k : ℕ) (d r : Range) → AreRanges row ranges → n + 1 ≡ length ranges → r ≡ slice_index_or ranges n d → k < n
+    → ((slice_index_or ranges k d).start ≤ (slice_index_or ranges k d).end) × ((slice_index_or ranges k d).end ≤ r.start - 1) × (length (take (r.start - 1) row) ≡ r.start - 1)
 ends_before row ranges n k d r are all is low =
     let last : (r.start ≤ r.end) × (r.end ≤ length row) = subst (λ (s : Range). (s.start ≤ s.end) × (s.end ≤ length row)) (sym is) (are.inside n d (omega (arith, all))) in
     let start : r.start ≤ r.end = last.0 in
-    let end : r.end ≤ length row = last.1 in (
+    let end : r.end ≤ length row = last.1 in
+    let behind : (slice_index_or ranges k d).end < r.start = subst (λ (s : Range). (slice_index_or ranges k d).end < s.start) (sym is) (are.behind k n d low (omega (arith, all))) in (
       (are.inside k d (omega (arith, low, all))).0,
-      subst (λ (s : Range). (slice_index_or ranges k d).end ≤ s.start) (sym is) (are.behind k n d low (omega (arith, all))),
-      omega (arith, start, end),
+      omega (arith, behind),
+      length-take-le (r.start - 1) row (omega (arith, start, end)),
     )
 
 front_long : (ranges : List Range) (n : ℕ) → n + 1 ≡ length ranges → length (take n ranges) ≡ n
 front_long ranges n all = length-take-le n ranges (omega (arith, all))
 
-pub ranges_cut : (row new : List ℤ) (ranges front : List Range) (n : ℕ) (r : Range) → AreRanges row ranges → n + 1 ≡ length ranges → ((d : Range) → r ≡ slice_index_or ranges n d) → front ≡ take n ranges → new ≡ take r.start row → AreRanges new front
-ranges_cut row new ranges front n r are all is front_is new_is = rw (front_is, new_is) (record { inside = inside; behind = behind })
+pub ranges_cut : (row : List ℤ) (ranges : List Range) (n : ℕ) (r : Range) → AreRanges row ranges → n + 1 ≡ length ranges → ((d : Range) → r ≡ slice_index_or ranges n d) → AreRanges (take (r.start - 1) row) (take n ranges)
+ranges_cut row ranges n r are all is = record { headed = All-take (λ (s : Range). 0 < s.start) n ranges are.headed; inside = inside; behind = behind }
   where
-    inside : (k : ℕ) (d : Range) → k < length (take n ranges) → ((slice_index_or (take n ranges) k d).start ≤ (slice_index_or (take n ranges) k d).end) × ((slice_index_or (take n ranges) k d).end ≤ length (take r.start row))
+    inside : (k : ℕ) (d : Range) → k < length (take n ranges) → ((slice_index_or (take n ranges) k d).start ≤ (slice_index_or (take n ranges) k d).end) × ((slice_index_or (take n ranges) k d).end ≤ length (take (r.start - 1) row))
     inside k d at =
         let low : k < n = omega (arith, at, front_long ranges n all) in
         let fine = ends_before row ranges n k d r are all (is d) low in
-        let end : (slice_index_or ranges k d).end ≤ r.start = fine.1 in
-        let long : length (take r.start row) ≡ r.start = length-take-le r.start row fine.2 in
-        subst (λ (s : Range). (s.start ≤ s.end) × (s.end ≤ length (take r.start row))) (sym (get_or-take n ranges k d low)) (fine.0, omega (arith, end, long))
+        let end : (slice_index_or ranges k d).end ≤ r.start - 1 = fine.1 in
+        let long : length (take (r.start - 1) row) ≡ r.start - 1 = fine.2 in
+        subst (λ (s : Range). (s.start ≤ s.end) × (s.end ≤ length (take (r.start - 1) row))) (sym (get_or-take n ranges k d low)) (fine.0, omega (arith, end, long))
 
-    behind : (i j : ℕ) (d : Range) → i < j → j < length (take n ranges) → (slice_index_or (take n ranges) i d).end ≤ (slice_index_or (take n ranges) j d).start
+    behind : (i j : ℕ) (d : Range) → i < j → j < length (take n ranges) → (slice_index_or (take n ranges) i d).end < (slice_index_or (take n ranges) j d).start
     behind i j d order at =
         let low : j < n = omega (arith, at, front_long ranges n all) in
         let before : slice_index_or (take n ranges) i d ≡ slice_index_or ranges i d = get_or-take n ranges i d (omega (arith, order, low)) in
         rw (before, get_or-take n ranges j d low) (are.behind i j d order (omega (arith, low, all)))
 
-pub lists_cut : (lists : List (List ℤ)) (row new : List ℤ) (ranges front : List Range) (n : ℕ) (r : Range) → lists_in row ranges ≡ lists → AreRanges row ranges → n + 1 ≡ length ranges → ((d : Range) → r ≡ slice_index_or ranges n d) → front ≡ take n ranges → new ≡ take r.start row → lists_in new front ≡ take (length lists - 1) lists
-lists_cut lists row new ranges front n r view are all is front_is new_is =
-    let long : length lists ≡ length ranges = sym (ap length view) ∙ length-map ranges (list_in row) in
-    let count : n ≡ length lists - 1 = omega (arith, long, all) in
-    rw (front_is, new_is) (lists_same row (take r.start row) (take n ranges) kept) ∙ sym (take-map (list_in row) n ranges) ∙ ap (take n) view ∙ ap (λ (m : ℕ). take m lists) count
+pub lists_cut : (row : List ℤ) (ranges : List Range) (n : ℕ) (r : Range) → AreRanges row ranges → n + 1 ≡ length ranges → ((d : Range) → r ≡ slice_index_or ranges n d)
+    → lists_in (take (r.start - 1) row) (take n ranges) ≡ take n (lists_in row ranges)
+lists_cut row ranges n r are all is = lists_same row (take (r.start - 1) row) (take n ranges) kept ∙ sym (take-map (list_in row) n ranges)
   where
-    kept : (k : ℕ) (d : Range) → k < length (take n ranges) → list_in (take r.start row) (slice_index_or (take n ranges) k d) ≡ list_in row (slice_index_or (take n ranges) k d)
+    kept : (k : ℕ) (d : Range) → k < length (take n ranges) → list_in (take (r.start - 1) row) (slice_index_or (take n ranges) k d) ≡ list_in row (slice_index_or (take n ranges) k d)
     kept k d at =
         let low : k < n = omega (arith, at, front_long ranges n all) in
         let fine = ends_before row ranges n k d r are all (is d) low in
-        let end : (slice_index_or ranges k d).end ≤ r.start = fine.1 in
-        let room : r.start ≤ length row = fine.2 in
-        let long : length (take r.start row) ≡ r.start = length-take-le r.start row fine.2 in
-        subst (λ (s : Range). list_in (take r.start row) s ≡ list_in row s) (sym (get_or-take n ranges k d low))
-        (range_same row (take r.start row) (slice_index_or ranges k d).start (slice_index_or ranges k d).end fine.0 (omega (arith, end, room)) (omega (arith, end, long)) (λ m z from to. get_or-take r.start row m z (omega (arith, to, end))))
+        let end : (slice_index_or ranges k d).end ≤ r.start - 1 = fine.1 in
+        let long : length (take (r.start - 1) row) ≡ r.start - 1 = fine.2 in
+        let inside : (slice_index_or ranges k d).end ≤ length row = (are.inside k d (omega (arith, low, all))).1 in
+        subst (λ (s : Range). list_in (take (r.start - 1) row) s ≡ list_in row s) (sym (get_or-take n ranges k d low))
+        (range_same row (take (r.start - 1) row) (slice_index_or ranges k d).start (slice_index_or ranges k d).end fine.0 inside (omega (arith, end, long)) (λ m z from to. get_or-take (r.start - 1) row m z (omega (arith, to, end))))

@@ -1,7 +1,7 @@
 //! Clauses with their ids and what they watch. Three things are held besides what contracts see: the literals of a
-//! clause in a second order, the watched ones in front; beside each id in a list a literal of its clause, and the range
-//! where all of them stand; and windows in a row of literals. The invariant ties the literals to the value of contracts,
-//! and that of `Watches` the ranges to the ids. On that value every call says its effect as an equation (`added`,
+//! clause in a second order, the watched ones in front; beside each id in a list a literal of its clause, and the place
+//! where all of them begin; and windows in a row of literals. The invariant ties the literals to the value of contracts,
+//! and that of `Watches` the places to the ids. On that value every call says its effect as an equation (`added`,
 //! `rewatched`), so that what the solver needs of watches are laws over these.
 ghost use Rattle.std.specs.Prelude.{◌≡◌, ◌≢◌, ℕ, ◌+◌, ◌<◌, ◌≤◌, ◌⊎◌, ◌↔◌, ◌∷◌, [], length, slice_index_or, Contains, All, AllPairs, Some, List, ℤ, IsTrue, IsSome, IfOk, OnOk, OnErr};
 ghost use Rattle.sat_theory.specs.Formula.{variable as variable_of, IsClause, IsWithin};
@@ -46,7 +46,7 @@ impl Model for ClauseDb {
 #[tactic(auto, using(crate::proofs::Databases::databases))]
 impl ClauseDb {
     /// The clauses of a formula, under the ids that they have there. Each watches its first two literals. More
-    /// than 4,294,967,295 literals in all count as want of memory.
+    /// than 2,147,483,647 literals and clauses in all count as want of memory.
     pub fn new(alloc: Global, cnf: &Cnf) -> Result<ClauseDb, AllocError>
         ensures all { IfOk result (λ c. c ≡ all_added (none_stored cnf.now.vars) cnf.now.clauses) }
         ensures clauses { IfOk result (λ c. live_in c ≡ by_id cnf.now.clauses) }
@@ -71,7 +71,7 @@ impl ClauseDb {
     }
 
     /// Adds a clause over the variables of the formula, and gives its id, the one behind all before. It
-    /// watches its first two literals. More than 4,294,967,295 literals in all count as want of memory.
+    /// watches its first two literals. More than 2,147,483,647 literals and clauses in all count as want of memory.
     pub fn add(&mut self, lits: &[Lit]) -> Result<u32, AllocError>
         requires clause { IsClause lits.now }
         requires variables { IsWithin self.old.vars lits.now }

@@ -1,11 +1,10 @@
 //! The list of a literal: for each clause that watches it the id, and beside that a literal of the clause and where its
-//! literals stand. All of it stands in one struct, so that nothing has to be as long as anything else, and a visit reads
-//! no table of ranges.
+//! literals begin. All of it stands in one struct, so that nothing has to be as long as anything else, and a visit reads
+//! no table of starts.
 ghost use Rattle.std.specs.Prelude.{◌≡◌, ◌-◌, ◌<◌, ◌∷◌, [], ◌++◌, length, take, slice_index_or, slice_set, OnOk, OnErr};
 ghost use Rattle.std.specs.List.{swap_remove};
 ghost use Rattle.clause_db.specs.Lists.{no_watch, blocked_by};
 
-use crate::blocks::Range;
 use cnf_core::Lit;
 use std::alloc::{AllocError, Global};
 use std::marker::Model;
@@ -17,8 +16,8 @@ pub struct Watch {
     pub id: u32,
     /// One of its literals: while that is true, the clause is.
     pub blocker: Lit,
-    /// where all of them stand
-    pub(crate) range: Range,
+    /// where all of them begin
+    pub(crate) start: u32,
 }
 
 /// The clauses that watch a literal. Contracts see the entries.

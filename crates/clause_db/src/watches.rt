@@ -1,7 +1,7 @@
 //! Which clauses watch a literal. What a clause watches are the first two of its literals in an order of their own, so
-//! no pair is kept, and an entry of a list says where they stand, which the invariant ties to the table of ranges.
+//! no pair is kept, and an entry of a list says where they begin, which the invariant ties to the table of starts.
 //! Moving a watch is a push to one list, a change of two places, and a taking out of another list. The push comes
-//! first, since it alone can want memory; the change is made by the range in the entry, before that is taken out.
+//! first, since it alone can want memory; the change is made by the start in the entry, before that is taken out.
 ghost use Rattle.std.specs.Prelude.{◌≡◌, ◌≢◌, ◌⊎◌, ℤ, ◌+◌, ◌-◌, ◌*◌, ◌<◌, ◌≤◌, [], length, take, All, Contains, pos, slice_index_or, slice_set, replicate, IfOk, OnOk, OnErr};
 ghost use Rattle.std.specs.List.{swap_remove};
 ghost use Rattle.cdcl_theory.specs.Codes.{code_of};
@@ -95,7 +95,7 @@ impl Watches {
         ensures { result.now ≡ block_at self.now.blocks (slice_index_or (listed_in self.now.lists lit) index 0) }
     {
         let watch = self.lists[lit.code()].at(index);
-        self.blocks.read(watch.range)
+        self.blocks.read(watch.start)
     }
 
     /// Puts the entry at an index in a literal's list at the end of another one's, with another literal beside its id.
@@ -118,8 +118,8 @@ impl Watches {
         ensures ok { OnOk result (self.new ≡ record self.old { lists = with_id self.old.lists lit id; rows = with_blocker self.old.rows lit blocker }) }
         ensures err { OnErr result (self.new ≡ self.old) }
     {
-        let range = self.blocks.range(id as usize - 1);
-        self.lists[lit.code()].push(Watch { id, blocker, range })?;
+        let start = self.blocks.start(id as usize - 1);
+        self.lists[lit.code()].push(Watch { id, blocker, start })?;
         Ok(())
     }
 
@@ -242,7 +242,7 @@ impl Watches {
         ensures { self.new ≡ exchanged_at self.old (slice_index_or (listed_in self.old.lists lit) index 0) low high }
     {
         let watch = self.lists[lit.code()].at(index);
-        self.blocks.exchange(watch.range, low, high);
+        self.blocks.exchange(watch.start, low, high);
     }
 }
 
