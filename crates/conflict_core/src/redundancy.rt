@@ -67,7 +67,7 @@ impl Redundancy {
         Ok(())
     }
 
-    /// Whether a fallen literal follows from the marked ones, as far as is seen.
+    /// Judges a fallen literal without a verdict: whether it follows from the marked ones, as far as is seen.
     fn judge(
         &mut self,
         trail: &Trail,
@@ -82,11 +82,6 @@ impl Redundancy {
         requires room { length self.old.verdicts.items ≡ trail.now.vars + 1 }
         ensures { length self.new.verdicts.items ≡ length self.old.verdicts.items }
     {
-        match self.verdicts[lit.variable() as usize] {
-            Verdict::Follows => return Ok(true),
-            Verdict::Stands => return Ok(false),
-            Verdict::Open => {}
-        }
         let implied = lit.opposite();
         let id = trail.reason(implied);
         if depth == 0 || !clauses.live(id) {
@@ -97,7 +92,12 @@ impl Redundancy {
             if *other == implied {
                 continue;
             }
-            if !self.judge(trail, clauses, marks, *other, depth - 1)? && !marks.has(*other) {
+            let follows = match self.verdicts[other.variable() as usize] {
+                Verdict::Follows => true,
+                Verdict::Stands => false,
+                Verdict::Open => self.judge(trail, clauses, marks, *other, depth - 1)?,
+            };
+            if !follows && !marks.has(*other) {
                 self.note(lit, Verdict::Stands)?;
                 return Ok(false);
             }
@@ -127,7 +127,9 @@ impl Redundancy {
             if !marks.has(*lit) || trail.fell(*lit) as usize > start {
                 continue;
             }
-            self.judge(trail, clauses, marks, *lit, DEPTH)?;
+            if let Verdict::Open = self.verdicts[lit.variable() as usize] {
+                self.judge(trail, clauses, marks, *lit, DEPTH)?;
+            }
         }
         Ok(())
     }
