@@ -166,13 +166,8 @@ listed_live s l index stored inside =
     rw live refl
 
 -- A clause that was found in a list can be moved from there.
-pub found_movable : (s : Stored) (from to : ℤ) (id index : ℕ) (ids : List ℕ) → ids ≡ list_of s.watches from → index < length ids → slice_index_or ids index 0 ≡ id → ((clause : List ℤ) → live_in s id ≡ Some clause → Contains clause to) → (Watches s id to → ⊥) → IsMovable s id from to index
-found_movable s from to id index ids is inside at there other = record {
-  inside = subst (λ (xs : List ℕ). index < length xs) is inside;
-  at_index = subst (λ (xs : List ℕ). slice_index_or xs index 0 ≡ id) is at;
-  there = there;
-  other = other;
-}
+pub found_movable : (s : Stored) (from to : ℤ) (id index : ℕ) → index < length (list_of s.watches from) → slice_index_or (list_of s.watches from) index 0 ≡ id → ((clause : List ℤ) → live_in s id ≡ Some clause → Contains clause to) → (Watches s id to → ⊥) → IsMovable s id from to index
+found_movable s from to id index inside at there other = record { inside = inside; at_index = at; there = there; other = other }
 
 pub found_moved : (s new : Stored) (from to : ℤ) (id index : ℕ) → IsMovable s id from to index → new ≡ rewatched s (slice_index_or (list_of s.watches from) index 0) from to index → (k : ℕ) × IsMovable s id from to k × (new ≡ rewatched s id from to k)
 found_moved s new from to id index movable is = (index, movable, is ∙ ap (λ (n : ℕ). rewatched s n from to index) movable.at_index)

@@ -1,47 +1,55 @@
--- The entries of all lists have the starts of their ids.
-use Rattle.std.proofs.Common.{◌≡◌, ℕ, ◌+◌, ◌-◌, ◌<◌, ◌≤◌, ℤ, List, [], ◌∷◌, ◌++◌, length, take, slice_index_or, slice_set, All, sym, ap, ◌∙◌, subst, arith}
+-- The entries of all lists have the starts of their clauses, and by these their ids.
+use Rattle.std.proofs.Common.{◌≡◌, ℕ, ◌+◌, ◌-◌, ◌<◌, ◌≤◌, ℤ, List, [], ◌∷◌, ◌++◌, length, take, slice_index_or, slice_set, All, refl, sym, ap, ◌∙◌, subst, arith}
 use Rattle.std.specs.List.{swap_remove, swap}
-use Rattle.std.proofs.lemmas.List.{length-map, length-append, length-take, length-set, get_or-map}
-use Rattle.std.proofs.lemmas.List.Elements.{All-get_or, All-set, All-take, All-weaker}
+use Rattle.std.proofs.lemmas.List.{length-map, length-append, length-set, get_or-map}
+use Rattle.std.proofs.lemmas.List.Elements.{All-get_or, All-head, All-tail, All-set, All-take, All-weaker}
+use Rattle.std.proofs.lemmas.Grind.{common_steps}
 use Rattle.cdcl_theory.specs.Codes.{code_of}
 use Rattle.clause_db.specs.declared.lists.Watch.{Watch}
-use Rattle.clause_db.specs.BlockRanges.{Blocked, KeepsStarts}
-use Rattle.clause_db.specs.Lists.{Listed, no_watch, blocked_by, ids_of, lists_of, IsDirect, AreDirect}
+use Rattle.clause_db.specs.BlockRanges.{Blocked, id_in, IsStart, KeepsIds}
+use Rattle.clause_db.specs.Lists.{Listed, no_watch, blocked_by, ids_of, lists_of, rows_of, IsDirect, AreDirect}
 use Rattle.clause_db.specs.Watching.{listed_in}
-use Rattle.clause_db.specs.WatchingLaws.{watch_id}
 use Rattle.clause_db.specs.Arranging.{Arranged, block_at, exchanged_at}
-use Rattle.clause_db.proofs.Listed.{shown_lists, shown_list, ids_inside, lists_room}
+use Rattle.clause_db.proofs.Listed.{shown_lists, shown_list, watch_id, ids_inside, lists_room}
 
-shown_room : (blocks : List (List ℤ)) (all : List Listed) (w : Arranged) (l : ℤ) (k : ℕ) → shown_lists blocks all ≡ w → k ≡ code_of l → code_of l < length w.lists → k < length all
-shown_room blocks all w l k view at room =
-    let long : length w.lists ≡ length all = ap (λ (x : Arranged). length x.lists) (sym view) ∙ lists_room all in
+shown_room : (b : Blocked) (all : List Listed) (w : Arranged) (l : ℤ) (k : ℕ) → shown_lists b all ≡ w → k ≡ code_of l → code_of l < length w.lists → k < length all
+shown_room b all w l k view at room =
+    let long : length w.lists ≡ length all = ap (λ (x : Arranged). length x.lists) (sym view) ∙ lists_room b.starts all in
     omega (arith, long, room, at)
 
 -- the entries of one list
-pub direct_read : (b : Blocked) (blocks : List (List ℤ)) (all : List Listed) (w : Arranged) (l : ℤ) (k : ℕ) (e : Listed) → shown_lists blocks all ≡ w → k ≡ code_of l → code_of l < length w.lists → e ≡ slice_index_or all k e → AreDirect b all → All (IsDirect b) e
-direct_read b blocks all w l k e view at room is are = subst (All (IsDirect b)) (sym is) (All-get_or (All (IsDirect b)) all k e (shown_room blocks all w l k view at room) are)
+pub direct_read : (b : Blocked) (all : List Listed) (w : Arranged) (l : ℤ) (k : ℕ) (e : Listed) → shown_lists b all ≡ w → k ≡ code_of l → code_of l < length w.lists → e ≡ slice_index_or all k e → AreDirect b all → All (IsDirect b) e
+direct_read b all w l k e view at room is are = subst (All (IsDirect b)) (sym is) (All-get_or (All (IsDirect b)) all k e (shown_room b all w l k view at room) are)
 
 -- An index of a list is one of its entries,
-pub entry_inside : (blocks : List (List ℤ)) (all : List Listed) (w : Arranged) (l : ℤ) (k : ℕ) (e : Listed) (index : ℕ) → shown_lists blocks all ≡ w → k ≡ code_of l → code_of l < length w.lists → e ≡ slice_index_or all k e → index < length (listed_in w.lists l) → index < length e
-entry_inside blocks all w l k e index view at room is inside = ids_inside e (listed_in w.lists l) index (shown_list blocks all w l k e view at room is) inside
+pub entry_inside : (b : Blocked) (all : List Listed) (w : Arranged) (l : ℤ) (k : ℕ) (e : Listed) (index : ℕ) → shown_lists b all ≡ w → k ≡ code_of l → code_of l < length w.lists → e ≡ slice_index_or all k e → index < length (listed_in w.lists l) → index < length e
+entry_inside b all w l k e index view at room is inside = ids_inside b.starts e (listed_in w.lists l) index (shown_list b all w l k e view at room is) inside
 
--- which has its start,
-pub entry_direct : (b : Blocked) (blocks : List (List ℤ)) (all : List Listed) (w : Arranged) (l : ℤ) (k : ℕ) (e : Listed) (index : ℕ) (watch : Watch) → shown_lists blocks all ≡ w → k ≡ code_of l → code_of l < length w.lists → e ≡ slice_index_or all k e → index < length (listed_in w.lists l) → slice_index_or e index no_watch ≡ watch → AreDirect b all → IsDirect b watch
-entry_direct b blocks all w l k e index watch view at room is inside here are =
-    subst (IsDirect b) here (All-get_or (IsDirect b) e index no_watch (entry_inside blocks all w l k e index view at room is inside) (direct_read b blocks all w l k e view at room is are))
+-- which has the start of a clause,
+pub entry_direct : (b : Blocked) (all : List Listed) (w : Arranged) (l : ℤ) (k : ℕ) (e : Listed) (index : ℕ) (watch : Watch) → shown_lists b all ≡ w → k ≡ code_of l → code_of l < length w.lists → e ≡ slice_index_or all k e → index < length (listed_in w.lists l) → slice_index_or e index no_watch ≡ watch → AreDirect b all → IsDirect b watch
+entry_direct b all w l k e index watch view at room is inside here are =
+    subst (IsDirect b) here (All-get_or (IsDirect b) e index no_watch (entry_inside b all w l k e index view at room is inside) (direct_read b all w l k e view at room is are))
 
--- and whose id is the one in the list of ids.
-pub entry_id : (blocks : List (List ℤ)) (all : List Listed) (w : Arranged) (l : ℤ) (k : ℕ) (e : Listed) (index : ℕ) (watch : Watch) → shown_lists blocks all ≡ w → k ≡ code_of l → code_of l < length w.lists → e ≡ slice_index_or all k e → index < length (listed_in w.lists l) → slice_index_or e index no_watch ≡ watch → watch.id ≡ slice_index_or (listed_in w.lists l) index 0
-entry_id blocks all w l k e index watch view at room is inside here = ap (λ (x : Watch). x.id) (sym here) ∙ watch_id e (listed_in w.lists l) index no_watch (shown_list blocks all w l k e view at room is) inside
-
-pub start_there : (b : Blocked) (w : Watch) → IsDirect b w → (n : ℕ) × (n < length b.lists) × (slice_index_or b.starts n 0 ≡ w.start)
-start_there b w is = (w.id - 1, (let some : 0 < w.id = is.some in let given : w.id ≤ length b.lists = is.given in omega (arith, some, given)), is.is)
+-- whose id is the one in the list of ids.
+pub entry_id : (b : Blocked) (all : List Listed) (w : Arranged) (l : ℤ) (k : ℕ) (e : Listed) (index : ℕ) (watch : Watch) → shown_lists b all ≡ w → k ≡ code_of l → code_of l < length w.lists → e ≡ slice_index_or all k e → index < length (listed_in w.lists l) → slice_index_or e index no_watch ≡ watch → id_in b.starts watch.start ≡ slice_index_or (listed_in w.lists l) index 0
+entry_id b all w l k e index watch view at room is inside here = ap (λ (x : Watch). id_in b.starts x.start) (sym here) ∙ watch_id b.starts e (listed_in w.lists l) index no_watch (shown_list b all w l k e view at room is) inside
 
 -- What is read by the start is the list of the id.
-pub read_direct : (b : Blocked) (blocks : List (List ℤ)) (arranged : List (List ℤ)) (w : Watch) (id : ℕ) (result : List ℤ) → blocks ≡ arranged → w.id ≡ id → IsDirect b w → ((n : ℕ) → n < length b.lists → slice_index_or b.starts n 0 ≡ w.start → result ≡ slice_index_or blocks n []) → result ≡ block_at arranged id
-read_direct b blocks arranged w id result same id_is is read =
-    let low : w.id - 1 < length b.lists = (let some : 0 < w.id = is.some in let given : w.id ≤ length b.lists = is.given in omega (arith, some, given)) in
-    read (w.id - 1) low is.is ∙ ap (λ (n : ℕ). slice_index_or blocks (n - 1) []) id_is ∙ ap (λ (ls : List (List ℤ)). slice_index_or ls (id - 1) []) same
+pub read_direct : (b : Blocked) (arranged : List (List ℤ)) (s id : ℕ) (result : List ℤ) → b.lists ≡ arranged → id_in b.starts s ≡ id → result ≡ block_at b.lists (id_in b.starts s) → result ≡ block_at arranged id
+read_direct b arranged s id result same id_is read = read ∙ ap (block_at b.lists) id_is ∙ ap (λ (ls : List (List ℤ)). block_at ls id) same
+
+-- The start of an id is that of a clause, and has the id.
+pub start_id : (id n : ℕ) → 0 < id → n ≡ id - 1 + 1 → n ≡ id
+start_id id n some is = omega (arith, some, is)
+
+pub start_direct : (b : Blocked) (arranged : List (List ℤ)) (id s : ℕ) → b.lists ≡ arranged → 0 < id → id ≤ length arranged → slice_index_or b.starts (id - 1) 0 ≡ s → id_in b.starts s ≡ id - 1 + 1 → IsStart b s
+start_direct b arranged id s same some given there is =
+    let its : id_in b.starts s ≡ id = start_id id (id_in b.starts s) some is in
+    record {
+      some = omega (arith, some, its);
+      given = omega (arith, given, its, ap length same);
+      is = ap (λ (n : ℕ). slice_index_or b.starts (n - 1) 0) its ∙ there;
+    }
 
 -- One list is written.
 pub direct_set : (b : Blocked) (all : List Listed) (k : ℕ) (new : Listed) → AreDirect b all → All (IsDirect b) new → AreDirect b (slice_set all k new)
@@ -50,16 +58,59 @@ direct_set b all k new are is = All-set (All (IsDirect b)) all k new is are
 pub direct_swap : (b : Blocked) (e : Listed) (i : ℕ) → i < length e → All (IsDirect b) e → All (IsDirect b) (swap_remove e i no_watch)
 direct_swap b e i low are = All-take (IsDirect b) (length e - 1) (slice_set e i (slice_index_or e (length e - 1) no_watch)) (All-set (IsDirect b) e i (slice_index_or e (length e - 1) no_watch) (All-get_or (IsDirect b) e (length e - 1) no_watch (omega (arith, low)) are) are)
 
-pub direct_blocked : (b : Blocked) (w : Watch) (m : ℤ) → IsDirect b w → IsDirect b (blocked_by w m)
-direct_blocked b w m is = record { some = is.some; given = is.given; is = is.is }
-
 pub direct_put : (b : Blocked) (e : Listed) (i : ℕ) (m : ℤ) → i < length e → All (IsDirect b) e → All (IsDirect b) (slice_set e i (blocked_by (slice_index_or e i no_watch) m))
-direct_put b e i m low are = All-set (IsDirect b) e i (blocked_by (slice_index_or e i no_watch) m) (direct_blocked b (slice_index_or e i no_watch) m (All-get_or (IsDirect b) e i no_watch low are)) are
+direct_put b e i m low are = All-set (IsDirect b) e i (blocked_by (slice_index_or e i no_watch) m) (All-get_or (IsDirect b) e i no_watch low are) are
 
--- or is taken off again, while the ids are those of before.
-pub direct_back : (old new back : Blocked) (lits : List ℤ) (before all : List Listed) → new.lists ≡ old.lists ++ lits ∷ [] → back.lists ≡ take (length new.lists - 1) new.lists → KeepsStarts new back (length new.lists - 1) → lists_of all ≡ lists_of before → AreDirect old before → AreDirect new all → AreDirect back all
+-- The clauses of the first n ids keep their starts and ids, and all entries are of these: so the entries stay what they
+-- are, and the ids too.
+abbrev IsKept : Blocked → ℕ → Watch → Type 0
+IsKept b n w = IsDirect b w × (id_in b.starts w.start ≤ n)
+
+abbrev pub AreKept : Blocked → ℕ → List Listed → Type 0
+AreKept b n all = All (All (IsKept b n)) all
+
+pub kept_direct : (b new : Blocked) (all : List Listed) (n : ℕ) → KeepsIds b new n → AreKept b n all → AreDirect new all
+kept_direct b new all n kept are = All-weaker (All (IsKept b n)) (All (IsDirect new)) (λ e. All-weaker (IsKept b n) (IsDirect new) (λ w both. (kept w.start both.0 both.1).0) e) all are
+
+kept_ids : (b new : Blocked) (e : Listed) (n : ℕ) → KeepsIds b new n → All (IsKept b n) e → ids_of new.starts e ≡ ids_of b.starts e
+kept_ids b new [] n kept are = refl
+kept_ids b new (w ∷ ws) n kept are =
+    let first : IsKept b n w = All-head (IsKept b n) w ws are in
+    let head : id_in new.starts w.start ≡ id_in b.starts w.start = (kept w.start first.0 first.1).1 in
+    let tail : ids_of new.starts ws ≡ ids_of b.starts ws = kept_ids b new ws n kept (All-tail (IsKept b n) w ws are) in
+    ap (λ (m : ℕ). m ∷ ids_of new.starts ws) head ∙ ap (λ (xs : List ℕ). id_in b.starts w.start ∷ xs) tail
+
+pub kept_lists : (b new : Blocked) (all : List Listed) (n : ℕ) → KeepsIds b new n → AreKept b n all → lists_of new.starts all ≡ lists_of b.starts all
 unfolding lists_of
-direct_back old new back lits before all more back_is kept same was are k d low i e inside = record { some = is.some; given = given; is = kept (w.id - 1) (let some : 0 < w.id = is.some in omega (arith, low_id, count_new, some)) ∙ is.is }
+kept_lists b new [] n kept are = refl
+kept_lists b new (e ∷ es) n kept are =
+    let head : ids_of new.starts e ≡ ids_of b.starts e = kept_ids b new e n kept (All-head (All (IsKept b n)) e es are) in
+    let tail : lists_of new.starts es ≡ lists_of b.starts es = kept_lists b new es n kept (All-tail (All (IsKept b n)) e es are) in
+    ap (λ (xs : List ℕ). xs ∷ lists_of new.starts es) head ∙ ap (λ (ls : List (List ℕ)). ids_of b.starts e ∷ ls) tail
+
+-- So it is while a clause is put behind the others,
+all_kept : (b : Blocked) (all : List Listed) → AreDirect b all → AreKept b (length b.lists) all
+all_kept b all are = All-weaker (All (IsDirect b)) (All (IsKept b (length b.lists))) (λ e. All-weaker (IsDirect b) (IsKept b (length b.lists)) (λ w is. (is, is.given)) e) all are
+
+pub direct_more : (b new : Blocked) (all : List Listed) → KeepsIds b new (length b.lists) → AreDirect b all → AreDirect new all
+direct_more b new all kept are = kept_direct b new all (length b.lists) kept (all_kept b all are)
+
+pub more_lists : (b new : Blocked) (all : List Listed) → KeepsIds b new (length b.lists) → AreDirect b all → lists_of new.starts all ≡ lists_of b.starts all
+more_lists b new all kept are = kept_lists b new all (length b.lists) kept (all_kept b all are)
+
+abbrev shown_of : List (List ℤ) → List (List ℕ) → List (List ℤ) → Arranged
+shown_of blocks lists rows = record { blocks = blocks; lists = lists; rows = rows }
+
+pub shown_more : (b new : Blocked) (all : List Listed) (a : Arranged) (lits : List ℤ) → KeepsIds b new (length b.lists) → AreDirect b all → new.lists ≡ b.lists ++ lits ∷ [] → shown_lists b all ≡ a → shown_lists new all ≡ record { blocks = a.blocks ++ lits ∷ []; lists = a.lists; rows = a.rows }
+shown_more b new all a lits kept are more view =
+    ap (λ (ls : List (List ℕ)). shown_of new.lists ls (rows_of all)) (more_lists b new all kept are)
+    ∙ ap (λ (ls : List (List ℤ)). shown_of ls (lists_of b.starts all) (rows_of all)) more
+    ∙ ap (λ (x : Arranged). shown_of (x.blocks ++ lits ∷ []) x.lists x.rows) view
+
+-- and taken off again, while the ids are those of before.
+back_kept : (old new : Blocked) (lits : List ℤ) (before all : List Listed) → new.lists ≡ old.lists ++ lits ∷ [] → lists_of new.starts all ≡ lists_of old.starts before → AreDirect old before → AreDirect new all → AreKept new (length new.lists - 1) all
+unfolding lists_of
+back_kept old new lits before all more same was are k d low i e inside = (is, omega (arith, low_id, count_new))
   where
     list : Listed
     list = slice_index_or all k d
@@ -71,54 +122,62 @@ direct_back old new back lits before all more back_is kept same was are k d low 
     is = are k d low i e inside
 
     long : length all ≡ length before
-    long = sym (length-map all (λ (x : Listed). ids_of x)) ∙ ap length same ∙ length-map before (λ (x : Listed). ids_of x)
+    long = sym (length-map all (λ (x : Listed). ids_of new.starts x)) ∙ ap length same ∙ length-map before (λ (x : Listed). ids_of old.starts x)
 
     old_list : Listed
     old_list = slice_index_or before k d
 
-    ids : ids_of list ≡ ids_of old_list
-    ids = sym (get_or-map (λ (x : Listed). ids_of x) all k d [] low) ∙ ap (λ (xs : List (List ℕ)). slice_index_or xs k []) same ∙ get_or-map (λ (x : Listed). ids_of x) before k d [] (omega (arith, low, long))
+    ids : ids_of new.starts list ≡ ids_of old.starts old_list
+    ids = sym (get_or-map (λ (x : Listed). ids_of new.starts x) all k d [] low) ∙ ap (λ (xs : List (List ℕ)). slice_index_or xs k []) same ∙ get_or-map (λ (x : Listed). ids_of old.starts x) before k d [] (omega (arith, low, long))
 
     within : i < length old_list
-    within = (let count : length list ≡ length old_list = sym (length-map list (λ (x : Watch). x.id)) ∙ ap length ids ∙ length-map old_list (λ (x : Watch). x.id) in omega (arith, inside, count))
+    within = (let count : length list ≡ length old_list = sym (length-map list (λ (x : Watch). id_in new.starts x.start)) ∙ ap length ids ∙ length-map old_list (λ (x : Watch). id_in old.starts x.start) in omega (arith, inside, count))
 
-    id : w.id ≡ (slice_index_or old_list i e).id
-    id = sym (get_or-map (λ (x : Watch). x.id) list i e 0 inside) ∙ ap (λ (xs : List ℕ). slice_index_or xs i 0) ids ∙ get_or-map (λ (x : Watch). x.id) old_list i e 0 within
+    id : id_in new.starts w.start ≡ id_in old.starts (slice_index_or old_list i e).start
+    id = sym (get_or-map (λ (x : Watch). id_in new.starts x.start) list i e 0 inside) ∙ ap (λ (xs : List ℕ). slice_index_or xs i 0) ids ∙ get_or-map (λ (x : Watch). id_in old.starts x.start) old_list i e 0 within
 
-    low_id : w.id ≤ length old.lists
-    low_id = (let was_low : (slice_index_or old_list i e).id ≤ length old.lists = (was k d (omega (arith, low, long)) i e within).given in omega (arith, was_low, id))
+    low_id : id_in new.starts w.start ≤ length old.lists
+    low_id = (let was_low : id_in old.starts (slice_index_or old_list i e).start ≤ length old.lists = (was k d (omega (arith, low, long)) i e within).given in omega (arith, was_low, id))
 
     count_new : length new.lists ≡ length old.lists + 1
     count_new = ap length more ∙ length-append old.lists (lits ∷ [])
 
-    given : w.id ≤ length back.lists
-    given = rw (back_is, length-take) (omega (arith, low_id, count_new))
+pub direct_back : (old new back : Blocked) (lits : List ℤ) (before all : List Listed) → new.lists ≡ old.lists ++ lits ∷ [] → KeepsIds new back (length new.lists - 1) → lists_of new.starts all ≡ lists_of old.starts before → AreDirect old before → AreDirect new all → AreDirect back all
+direct_back old new back lits before all more kept same was are = kept_direct new back all (length new.lists - 1) kept (back_kept old new lits before all more same was are)
+
+pub shown_back : (old new back : Blocked) (lits : List ℤ) (before all : List Listed) (a now : Arranged) → new.lists ≡ old.lists ++ lits ∷ [] → back.lists ≡ take (length new.lists - 1) new.lists → KeepsIds new back (length new.lists - 1) → lists_of new.starts all ≡ lists_of old.starts before → AreDirect old before → AreDirect new all → shown_lists old before ≡ now → shown_lists new all ≡ a → a.rows ≡ now.rows → shown_lists back all ≡ now
+shown_back old new back lits before all a now more back_is kept same was are view view_new rows =
+    ap (λ (ls : List (List ℕ)). shown_of back.lists ls (rows_of all)) (kept_lists new back all (length new.lists - 1) kept (back_kept old new lits before all more same was are) ∙ same ∙ ap (λ (x : Arranged). x.lists) view)
+    ∙ ap (λ (ls : List (List ℤ)). shown_of ls now.lists (rows_of all)) (back_is ∙ ap (λ (ls : List (List ℤ)). take (length ls - 1) ls) more ∙ front ∙ ap (λ (x : Arranged). x.blocks) view)
+    ∙ ap (shown_of now.blocks now.lists) (ap (λ (x : Arranged). x.rows) view_new ∙ rows)
+  where
+    front : take (length (old.lists ++ lits ∷ []) - 1) (old.lists ++ lits ∷ []) ≡ old.lists
+    front = grind (arith, common_steps)
 
 -- Two literals of a clause change places.
-places_read : (blocks arranged : List (List ℤ)) (w : Watch) (id high : ℕ) → blocks ≡ arranged → w.id ≡ id → high < length (block_at arranged id) → high < length (block_at blocks w.id)
-places_read blocks arranged w id high same id_is places = subst (λ (ls : List (List ℤ)). high < length (block_at ls w.id)) (sym same) (subst (λ (n : ℕ). high < length (block_at arranged n)) (sym id_is) places)
+pub places_direct : (b : Blocked) (arranged : List (List ℤ)) (s id high : ℕ) → b.lists ≡ arranged → id_in b.starts s ≡ id → high < length (block_at arranged id) → high < length (block_at b.lists (id_in b.starts s))
+places_direct b arranged s id high same id_is places = subst (λ (ls : List (List ℤ)). high < length (block_at ls (id_in b.starts s))) (sym same) (subst (λ (n : ℕ). high < length (block_at arranged n)) (sym id_is) places)
 
-pub start_places : (b : Blocked) (arranged : List (List ℤ)) (w : Watch) (id high : ℕ) → b.lists ≡ arranged → w.id ≡ id → IsDirect b w → high < length (block_at arranged id) → (n : ℕ) × (n < length b.lists) × (slice_index_or b.starts n 0 ≡ w.start) × (high < length (slice_index_or b.lists n []))
-start_places b arranged w id high same id_is is places = (w.id - 1, (let some : 0 < w.id = is.some in let given : w.id ≤ length b.lists = is.given in omega (arith, some, given)), is.is, places_read b.lists arranged w id high same id_is places)
+-- what an exchange by a start gives
+abbrev pub IsExchange : Blocked → Blocked → ℕ → ℕ → ℕ → Type 0
+IsExchange b new s low high = new.lists ≡ slice_set b.lists (id_in b.starts s - 1) (swap (block_at b.lists (id_in b.starts s)) low high)
 
--- what an exchange by the start of an entry gives
-abbrev pub IsExchange : Blocked → Blocked → Watch → ℕ → ℕ → Type 0
-IsExchange b new w low high = (n : ℕ) → n < length b.lists → slice_index_or b.starts n 0 ≡ w.start → high < length (slice_index_or b.lists n []) → new.lists ≡ slice_set b.lists n (swap (slice_index_or b.lists n []) low high)
-
-exchanged_lists : (b new : Blocked) (arranged : List (List ℤ)) (w : Watch) (id low high : ℕ) → b.lists ≡ arranged → w.id ≡ id → IsDirect b w → high < length (block_at arranged id) → IsExchange b new w low high → new.lists ≡ slice_set b.lists (w.id - 1) (swap (block_at b.lists w.id) low high)
-exchanged_lists b new arranged w id low high same id_is is places exchanged = exchanged (w.id - 1) (let some : 0 < w.id = is.some in let given : w.id ≤ length b.lists = is.given in omega (arith, some, given)) is.is (places_read b.lists arranged w id high same id_is places)
-
-pub exchanged_shown : (b new : Blocked) (all : List Listed) (a : Arranged) (w : Watch) (id low high : ℕ) → shown_lists b.lists all ≡ a → w.id ≡ id → IsDirect b w → high < length (block_at a.blocks id) → IsExchange b new w low high → shown_lists new.lists all ≡ exchanged_at a id low high
-exchanged_shown b new all a w id low high view id_is is places exchanged =
-    ap (λ (ls : List (List ℤ)). shown_lists ls all) (exchanged_lists b new a.blocks w id low high (ap (λ (x : Arranged). x.blocks) view) id_is is places exchanged)
-    ∙ ap (λ (n : ℕ). exchanged_at (shown_lists b.lists all) n low high) id_is
+pub exchanged_shown : (b new : Blocked) (all : List Listed) (a : Arranged) (s id low high : ℕ) → shown_lists b all ≡ a → id_in b.starts s ≡ id → IsExchange b new s low high → new.starts ≡ b.starts → shown_lists new all ≡ exchanged_at a id low high
+exchanged_shown b new all a s id low high view id_is exchanged starts =
+    ap (λ (ss : List ℕ). shown_of new.lists (lists_of ss all) (rows_of all)) starts
+    ∙ ap (λ (ls : List (List ℤ)). shown_of ls (lists_of b.starts all) (rows_of all)) exchanged
+    ∙ ap (λ (n : ℕ). exchanged_at (shown_lists b all) n low high) id_is
     ∙ ap (λ (x : Arranged). exchanged_at x id low high) view
 
-pub direct_exchanged : (b new : Blocked) (all : List Listed) (arranged : List (List ℤ)) (w : Watch) (id low high : ℕ) → b.lists ≡ arranged → w.id ≡ id → IsDirect b w → high < length (block_at arranged id) → IsExchange b new w low high → new.starts ≡ b.starts → AreDirect b all → AreDirect new all
-direct_exchanged b new all arranged w id low high same id_is is places exchanged starts are = All-weaker (All (IsDirect b)) (All (IsDirect new)) (λ e. All-weaker (IsDirect b) (IsDirect new) one e) all are
+pub direct_exchanged : (b new : Blocked) (all : List Listed) (s low high : ℕ) → IsExchange b new s low high → new.starts ≡ b.starts → AreDirect b all → AreDirect new all
+direct_exchanged b new all s low high exchanged starts are = All-weaker (All (IsDirect b)) (All (IsDirect new)) (λ e. All-weaker (IsDirect b) (IsDirect new) (λ w its. one w.start its) e) all are
   where
     long : length new.lists ≡ length b.lists
-    long = ap length (exchanged_lists b new arranged w id low high same id_is is places exchanged) ∙ length-set b.lists (w.id - 1) (swap (block_at b.lists w.id) low high)
+    long = ap length exchanged ∙ length-set b.lists (id_in b.starts s - 1) (swap (block_at b.lists (id_in b.starts s)) low high)
 
-    one : (v : Watch) → IsDirect b v → IsDirect new v
-    one v its = record { some = its.some; given = (let given : v.id ≤ length b.lists = its.given in omega (arith, given, long)); is = ap (λ (ss : List ℕ). slice_index_or ss (v.id - 1) 0) starts ∙ its.is }
+    one : (t : ℕ) → IsStart b t → IsStart new t
+    one t its = record {
+      some = rw starts its.some;
+      given = rw (starts, long) its.given;
+      is = rw starts its.is;
+    }

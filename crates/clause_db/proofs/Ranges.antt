@@ -75,10 +75,10 @@ swapped_in row ranges index low high r are inside is order places =
         let end : r.end ≤ length row = fine.1 in
         ⊎_elim
         (λ (before : k < index).
-        let behind : s.end < r.start = subst (λ (t : Range). t.end < r.start) (sym at) (subst (λ (t : Range). (slice_index_or ranges k r).end < t.start) (sym is) (are.behind k index r before inside)) in
+        let behind : s.end + 1 < r.start = subst (λ (t : Range). t.end + 1 < r.start) (sym at) (subst (λ (t : Range). (slice_index_or ranges k r).end + 1 < t.start) (sym is) (are.behind k index r before inside)) in
         range_apart row s.start s.end (r.start + low) (r.start + high) its.0 its.1 (omega (arith, order, places, end)) (omega (arith, places, end)) (λ n from to e. omega (arith, to, e, behind)) (λ n from to e. omega (arith, to, e, behind)))
         (λ (after : index ≤ k).
-        let behind : r.end < s.start = subst (λ (t : Range). r.end < t.start) (sym at) (subst (λ (t : Range). t.end < (slice_index_or ranges k r).start) (sym is) (are.behind index k r (omega (arith, after, differ)) within)) in
+        let behind : r.end + 1 < s.start = subst (λ (t : Range). r.end + 1 < t.start) (sym at) (subst (λ (t : Range). t.end + 1 < (slice_index_or ranges k r).start) (sym is) (are.behind index k r (omega (arith, after, differ)) within)) in
         range_apart row s.start s.end (r.start + low) (r.start + high) its.0 its.1 (omega (arith, order, places, end)) (omega (arith, places, end)) (λ n from to e. omega (arith, from, e, behind, order, places)) (λ n from to e. omega (arith, from, e, behind, places)))
         (cases_lt k index)
 
@@ -115,70 +115,74 @@ ranges_written row new more ranges is are = record {
   behind = are.behind;
 }
 
--- And the range of what was written behind a first place is put behind the others.
-pub ranges_added : (row new lits : List ℤ) (head : ℤ) (ranges : List Range) (r : Range) → new ≡ (row ++ head ∷ []) ++ lits → r.start ≡ length row + 1 → r.end ≡ length row + 1 + length lits → AreRanges row ranges
+-- And the range of what was written behind two first places is put behind the others.
+heads_long : (row : List ℤ) (id head : ℤ) → length (row ++ id ∷ head ∷ []) ≡ length row + 2
+heads_long row id head = length-append row (id ∷ head ∷ [])
+
+pub ranges_added : (row new lits : List ℤ) (id head : ℤ) (ranges : List Range) (r : Range) → new ≡ (row ++ id ∷ head ∷ []) ++ lits → r.start ≡ length row + 2 → r.end ≡ length row + 2 + length lits → AreRanges row ranges
     → AreRanges new (ranges ++ r ∷ [])
-ranges_added row new lits head ranges r is at end are =
-    let written : AreRanges new ranges = ranges_written (row ++ head ∷ []) new lits ranges is (ranges_written row (row ++ head ∷ []) (head ∷ []) ranges refl are) in
-    let long : length new ≡ length row + 1 + length lits = ap length is ∙ length-append (row ++ head ∷ []) lits ∙ ap (λ (n : ℕ). n + length lits) (length-append row (head ∷ [])) in
+ranges_added row new lits id head ranges r is at end are =
+    let heads : List ℤ = id ∷ head ∷ [] in
+    let written : AreRanges new ranges = ranges_written (row ++ heads) new lits ranges is (ranges_written row (row ++ heads) heads ranges refl are) in
+    let long : length new ≡ length row + 2 + length lits = ap length is ∙ length-append (row ++ heads) lits ∙ ap (λ (n : ℕ). n + length lits) (heads_long row id head) in
     record {
-      headed = All-push (λ (s : Range). 0 < s.start) ranges r written.headed (omega (arith, at));
+      headed = All-push (λ (s : Range). 1 < s.start) ranges r written.headed (omega (arith, at));
       inside = All-push (λ (s : Range). (s.start ≤ s.end) × (s.end ≤ length new)) ranges r written.inside (omega (arith, at, end), omega (arith, end, long));
-      behind = all_pairs_push (λ (s t : Range). s.end < t.start) ranges r are.behind (λ k d low. (let fine : (slice_index_or ranges k d).end ≤ length row = (are.inside k d low).1 in omega (arith, fine, at)));
+      behind = all_pairs_push (λ (s t : Range). s.end + 1 < t.start) ranges r are.behind (λ k d low. (let fine : (slice_index_or ranges k d).end ≤ length row = (are.inside k d low).1 in omega (arith, fine, at)));
     }
 
-pub lists_added : (row new lits : List ℤ) (head : ℤ) (ranges : List Range) (r : Range) → new ≡ (row ++ head ∷ []) ++ lits → r.start ≡ length row + 1 → r.end ≡ length row + 1 + length lits → AreRanges row ranges
+pub lists_added : (row new lits : List ℤ) (id head : ℤ) (ranges : List Range) (r : Range) → new ≡ (row ++ id ∷ head ∷ []) ++ lits → r.start ≡ length row + 2 → r.end ≡ length row + 2 + length lits → AreRanges row ranges
     → lists_in new (ranges ++ r ∷ []) ≡ lists_in row ranges ++ lits ∷ []
-lists_added row new lits head ranges r is at end are =
-    let front : length (row ++ head ∷ []) ≡ length row + 1 = length-append row (head ∷ []) in
-    let list : list_in new r ≡ lits = ap (λ (xs : List ℤ). list_in xs r) is ∙ range_behind (row ++ head ∷ []) lits r.start r.end (omega (arith, at, front)) (omega (arith, end, front)) in
-    let before : lists_in new ranges ≡ lists_in row ranges =
-    lists_written (row ++ head ∷ []) new lits ranges is (ranges_written row (row ++ head ∷ []) (head ∷ []) ranges refl are) ∙ lists_written row (row ++ head ∷ []) (head ∷ []) ranges refl are in
+lists_added row new lits id head ranges r is at end are =
+    let heads : List ℤ = id ∷ head ∷ [] in
+    let front : length (row ++ heads) ≡ length row + 2 = heads_long row id head in
+    let list : list_in new r ≡ lits = ap (λ (xs : List ℤ). list_in xs r) is ∙ range_behind (row ++ heads) lits r.start r.end (omega (arith, at, front)) (omega (arith, end, front)) in
+    let before : lists_in new ranges ≡ lists_in row ranges = lists_written (row ++ heads) new lits ranges is (ranges_written row (row ++ heads) heads ranges refl are) ∙ lists_written row (row ++ heads) heads ranges refl are in
     map-append (list_in new) ranges (r ∷ []) ∙ ap (λ (xs : List ℤ). lists_in new ranges ++ xs ∷ []) list ∙ ap (λ (ls : List (List ℤ)). ls ++ lits ∷ []) before
 
--- The last range is taken off, and with it what stands in the row from the place before its start on.
+-- The last range is taken off, and with it what stands in the row from the second place before its start on.
 pub ends_before : (row : List ℤ) (ranges : List Range) (n k : ℕ) (d r : Range) → AreRanges row ranges → n + 1 ≡ length ranges → r ≡ slice_index_or ranges n d → k < n
-    → ((slice_index_or ranges k d).start ≤ (slice_index_or ranges k d).end) × ((slice_index_or ranges k d).end ≤ r.start - 1) × (length (take (r.start - 1) row) ≡ r.start - 1)
+    → ((slice_index_or ranges k d).start ≤ (slice_index_or ranges k d).end) × ((slice_index_or ranges k d).end ≤ r.start - 2) × (length (take (r.start - 2) row) ≡ r.start - 2)
 ends_before row ranges n k d r are all is low =
     let last : (r.start ≤ r.end) × (r.end ≤ length row) = subst (λ (s : Range). (s.start ≤ s.end) × (s.end ≤ length row)) (sym is) (are.inside n d (omega (arith, all))) in
     let start : r.start ≤ r.end = last.0 in
     let end : r.end ≤ length row = last.1 in
-    let behind : (slice_index_or ranges k d).end < r.start = subst (λ (s : Range). (slice_index_or ranges k d).end < s.start) (sym is) (are.behind k n d low (omega (arith, all))) in (
+    let behind : (slice_index_or ranges k d).end + 1 < r.start = subst (λ (s : Range). (slice_index_or ranges k d).end + 1 < s.start) (sym is) (are.behind k n d low (omega (arith, all))) in (
       (are.inside k d (omega (arith, low, all))).0,
       omega (arith, behind),
-      length-take-le (r.start - 1) row (omega (arith, start, end)),
+      length-take-le (r.start - 2) row (omega (arith, start, end)),
     )
 
 front_long : (ranges : List Range) (n : ℕ) → n + 1 ≡ length ranges → length (take n ranges) ≡ n
 front_long ranges n all = length-take-le n ranges (omega (arith, all))
 
-pub ranges_cut : (row : List ℤ) (ranges : List Range) (n : ℕ) (r : Range) → AreRanges row ranges → n + 1 ≡ length ranges → ((d : Range) → r ≡ slice_index_or ranges n d) → AreRanges (take (r.start - 1) row) (take n ranges)
-ranges_cut row ranges n r are all is = record { headed = All-take (λ (s : Range). 0 < s.start) n ranges are.headed; inside = inside; behind = behind }
+pub ranges_cut : (row : List ℤ) (ranges : List Range) (n : ℕ) (r : Range) → AreRanges row ranges → n + 1 ≡ length ranges → ((d : Range) → r ≡ slice_index_or ranges n d) → AreRanges (take (r.start - 2) row) (take n ranges)
+ranges_cut row ranges n r are all is = record { headed = All-take (λ (s : Range). 1 < s.start) n ranges are.headed; inside = inside; behind = behind }
   where
-    inside : (k : ℕ) (d : Range) → k < length (take n ranges) → ((slice_index_or (take n ranges) k d).start ≤ (slice_index_or (take n ranges) k d).end) × ((slice_index_or (take n ranges) k d).end ≤ length (take (r.start - 1) row))
+    inside : (k : ℕ) (d : Range) → k < length (take n ranges) → ((slice_index_or (take n ranges) k d).start ≤ (slice_index_or (take n ranges) k d).end) × ((slice_index_or (take n ranges) k d).end ≤ length (take (r.start - 2) row))
     inside k d at =
         let low : k < n = omega (arith, at, front_long ranges n all) in
         let fine = ends_before row ranges n k d r are all (is d) low in
-        let end : (slice_index_or ranges k d).end ≤ r.start - 1 = fine.1 in
-        let long : length (take (r.start - 1) row) ≡ r.start - 1 = fine.2 in
-        subst (λ (s : Range). (s.start ≤ s.end) × (s.end ≤ length (take (r.start - 1) row))) (sym (get_or-take n ranges k d low)) (fine.0, omega (arith, end, long))
+        let end : (slice_index_or ranges k d).end ≤ r.start - 2 = fine.1 in
+        let long : length (take (r.start - 2) row) ≡ r.start - 2 = fine.2 in
+        subst (λ (s : Range). (s.start ≤ s.end) × (s.end ≤ length (take (r.start - 2) row))) (sym (get_or-take n ranges k d low)) (fine.0, omega (arith, end, long))
 
-    behind : (i j : ℕ) (d : Range) → i < j → j < length (take n ranges) → (slice_index_or (take n ranges) i d).end < (slice_index_or (take n ranges) j d).start
+    behind : (i j : ℕ) (d : Range) → i < j → j < length (take n ranges) → (slice_index_or (take n ranges) i d).end + 1 < (slice_index_or (take n ranges) j d).start
     behind i j d order at =
         let low : j < n = omega (arith, at, front_long ranges n all) in
         let before : slice_index_or (take n ranges) i d ≡ slice_index_or ranges i d = get_or-take n ranges i d (omega (arith, order, low)) in
         rw (before, get_or-take n ranges j d low) (are.behind i j d order (omega (arith, low, all)))
 
 pub lists_cut : (row : List ℤ) (ranges : List Range) (n : ℕ) (r : Range) → AreRanges row ranges → n + 1 ≡ length ranges → ((d : Range) → r ≡ slice_index_or ranges n d)
-    → lists_in (take (r.start - 1) row) (take n ranges) ≡ take n (lists_in row ranges)
-lists_cut row ranges n r are all is = lists_same row (take (r.start - 1) row) (take n ranges) kept ∙ sym (take-map (list_in row) n ranges)
+    → lists_in (take (r.start - 2) row) (take n ranges) ≡ take n (lists_in row ranges)
+lists_cut row ranges n r are all is = lists_same row (take (r.start - 2) row) (take n ranges) kept ∙ sym (take-map (list_in row) n ranges)
   where
-    kept : (k : ℕ) (d : Range) → k < length (take n ranges) → list_in (take (r.start - 1) row) (slice_index_or (take n ranges) k d) ≡ list_in row (slice_index_or (take n ranges) k d)
+    kept : (k : ℕ) (d : Range) → k < length (take n ranges) → list_in (take (r.start - 2) row) (slice_index_or (take n ranges) k d) ≡ list_in row (slice_index_or (take n ranges) k d)
     kept k d at =
         let low : k < n = omega (arith, at, front_long ranges n all) in
         let fine = ends_before row ranges n k d r are all (is d) low in
-        let end : (slice_index_or ranges k d).end ≤ r.start - 1 = fine.1 in
-        let long : length (take (r.start - 1) row) ≡ r.start - 1 = fine.2 in
+        let end : (slice_index_or ranges k d).end ≤ r.start - 2 = fine.1 in
+        let long : length (take (r.start - 2) row) ≡ r.start - 2 = fine.2 in
         let inside : (slice_index_or ranges k d).end ≤ length row = (are.inside k d (omega (arith, low, all))).1 in
-        subst (λ (s : Range). list_in (take (r.start - 1) row) s ≡ list_in row s) (sym (get_or-take n ranges k d low))
-        (range_same row (take (r.start - 1) row) (slice_index_or ranges k d).start (slice_index_or ranges k d).end fine.0 inside (omega (arith, end, long)) (λ m z from to. get_or-take (r.start - 1) row m z (omega (arith, to, end))))
+        subst (λ (s : Range). list_in (take (r.start - 2) row) s ≡ list_in row s) (sym (get_or-take n ranges k d low))
+        (range_same row (take (r.start - 2) row) (slice_index_or ranges k d).start (slice_index_or ranges k d).end fine.0 inside (omega (arith, end, long)) (λ m z from to. get_or-take (r.start - 2) row m z (omega (arith, to, end))))

@@ -1,8 +1,8 @@
--- How the lists of ids lie, and the rows of literals beside them: an id and the literal beside it together, with the start
--- of the clause's literals.
-use Rattle.std.specs.Prelude.{◌≡◌, ℕ, ◌-◌, ◌<◌, ◌≤◌, ℤ, pos, List, [], map, length, slice_index_or, All}
+-- How the lists of ids lie, and the rows of literals beside them: an entry has a literal and the start of its clause's
+-- literals, which has the id.
+use Rattle.std.specs.Prelude.{ℕ, ℤ, pos, List, [], map, All}
 use Rattle.clause_db.specs.declared.lists.Watch.{Watch}
-use Rattle.clause_db.specs.BlockRanges.{Blocked}
+use Rattle.clause_db.specs.BlockRanges.{Blocked, id_in, IsStart}
 
 -- the entries of a literal's list
 abbrev pub Listed : Type 0
@@ -13,32 +13,30 @@ nothing_listed = []
 
 -- an entry that stands for what is missing
 abbrev pub no_watch : Watch
-no_watch = record { id = 0; blocker = pos 1; start = 0 }
+no_watch = record { blocker = pos 1; start = 0 }
 
 -- an entry with another literal beside its id
 abbrev pub blocked_by : Watch → ℤ → Watch
-blocked_by w l = record { id = w.id; blocker = l; start = w.start }
+blocked_by w l = record { blocker = l; start = w.start }
 
--- the ids alone, and the literals alone
-abbrev pub ids_of : Listed → List ℕ
-ids_of entries = map (λ (w : Watch). w.id) entries
+-- the ids alone, by where the lists begin, and the literals alone
+abbrev pub ids_of : List ℕ → Listed → List ℕ
+ids_of starts entries = map (λ (w : Watch). id_in starts w.start) entries
 
 abbrev pub blockers_of : Listed → List ℤ
 blockers_of entries = map (λ (w : Watch). w.blocker) entries
 
 -- the lists alone
-unfoldable pub lists_of : List Listed → List (List ℕ)
-lists_of all = map (λ (e : Listed). ids_of e) all
+unfoldable pub lists_of : List ℕ → List Listed → List (List ℕ)
+lists_of starts all = map (λ (e : Listed). ids_of starts e) all
 
 -- the rows alone
 unfoldable pub rows_of : List Listed → List (List ℤ)
 rows_of all = map (λ (e : Listed). blockers_of e) all
 
--- An entry has the start of its id.
-pub record IsDirect (b : Blocked) (w : Watch) : Type 0 where
-  pub some : 0 < w.id
-  pub given : w.id ≤ length b.lists
-  pub is : slice_index_or b.starts (w.id - 1) 0 ≡ w.start
+-- The start of an entry is that of a list.
+abbrev pub IsDirect : Blocked → Watch → Type 0
+IsDirect b w = IsStart b w.start
 
 abbrev pub AreDirect : Blocked → List Listed → Type 0
 AreDirect b all = All (All (IsDirect b)) all

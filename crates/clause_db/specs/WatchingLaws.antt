@@ -1,15 +1,13 @@
 -- How the lists of literals change.
 use Rattle.std.specs.Prelude.{◌≡◌, ◌≢◌, ℕ, ◌+◌, ◌-◌, ◌<◌, ◌≤◌, ◌⊎◌, ℤ, pos, List, [], ◌∷◌, ◌++◌, length, take, slice_index_or, slice_set, replicate, Contains, AllPairs, refl}
 use Rattle.std.specs.List.{swap_remove}
-use Rattle.std.proofs.Common.{sym, subst, ap, ◌∙◌, arith, inl, inr}
+use Rattle.std.proofs.Common.{sym, ap, ◌∙◌, arith, inl, inr}
 use Rattle.std.proofs.Math.Logic.{⊎_elim}
 use Rattle.std.proofs.lemmas.Bool.{cases_eq, cases_lt, lt-ltb, le-ltb}
 use Rattle.std.proofs.lemmas.Grind.{common_steps}
-use Rattle.std.proofs.lemmas.List.{get_or-map, length-map, get_or-set_same, get_or-set_other, length-set, set-set, set-get_or, set_past, length-take-le, get_or-take, get_or_push, get_or_append_left}
+use Rattle.std.proofs.lemmas.List.{get_or-set_same, get_or-set_other, length-set, set-set, set-get_or, set_past, length-take-le, get_or-take, get_or_push, get_or_append_left}
 use Rattle.cdcl_theory.specs.Codes.{code_of}
 use Rattle.cdcl_theory.specs.CodeLaws.{code_of-same, cases_literal}
-use Rattle.clause_db.specs.declared.lists.Watch.{Watch}
-use Rattle.clause_db.specs.Lists.{ids_of}
 use Rattle.clause_db.specs.Watching.{Watching, listed_in, list_of, pair_at, pair_of, with_id, with_ids, watching_more, watching_moved, replaced}
 
 -- the list that was written, and the others
@@ -24,12 +22,6 @@ listed-other lists l m xs apart = get_or-set_other lists (code_of l) (code_of m)
 pub listed_whole : (lists : List (List ℕ)) (l : ℤ) → slice_set lists (code_of l) (listed_in lists l) ≡ lists
 unfolding listed_in
 listed_whole lists l = set-get_or lists (code_of l) []
-
--- the id of an entry
-pub watch_id : (entries : List Watch) (ids : List ℕ) (index : ℕ) (d : Watch) → ids_of entries ≡ ids → index < length ids → (slice_index_or entries index d).id ≡ slice_index_or ids index 0
-watch_id entries ids index d is inside =
-    let low : index < length entries = rw length-map at (subst (λ (xs : List ℕ). index < length xs) (sym is) inside) in
-    sym (get_or-map (λ (w : Watch). w.id) entries index d 0 low) ∙ ap (λ (xs : List ℕ). slice_index_or xs index 0) is
 
 -- an id that was put at the end of a list, and taken off again
 pub listed_back : (lists : List (List ℕ)) (l : ℤ) (id : ℕ) → slice_set (with_id lists l id) (code_of l) (take (length (listed_in (with_id lists l id) l) - 1) (listed_in (with_id lists l id) l)) ≡ lists

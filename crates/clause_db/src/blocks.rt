@@ -1,10 +1,13 @@
-//! Lists of literals in one row, one behind another, and before the literals of each list its length: a list is found
-//! by the place where it begins alone. The length stands there as a literal, of a variable that is one more. That the
-//! ranges lie in the row and behind each other, with that place between, is the invariant. So a change of places in one
-//! list leaves the lengths and all other lists as they were.
-ghost use Rattle.std.specs.Prelude.{◌≡◌, ℕ, [], ◌∷◌, ◌++◌, ◌<◌, ◌-◌, length, take, slice_index_or, slice_set, OnOk, OnErr};
+//! Lists of literals in one row, one behind another. Before the literals of each list stand its id, which is one more
+//! than its index, and its length, both as literals whose variable is one more than the number. So a list is read by
+//! the place where it begins, with no look into a table, and so is its id. That the ranges lie in the row and behind
+//! each other, with two places between, and that the ids are right, is the invariant. So a change of places in one list
+//! leaves the ids, the lengths and all other lists as they were.
+ghost use Rattle.std.specs.Prelude.{◌≡◌, ℕ, [], ◌∷◌, ◌++◌, ◌<◌, ◌+◌, ◌-◌, ◌^◌, length, take, slice_index_or, slice_set, OnOk, OnErr};
 ghost use Rattle.std.specs.List.{swap};
-ghost use Rattle.clause_db.specs.BlockRanges.{KeepsStarts};
+ghost use Rattle.sat_theory.specs.Formula.{variable as variable_of};
+ghost use Rattle.clause_db.specs.Arranging.{block_at};
+ghost use Rattle.clause_db.specs.BlockRanges.{id_in, IsStart, KeepsIds};
 
 use cnf_core::Lit;
 use std::alloc::{AllocError, Global};
@@ -19,13 +22,13 @@ pub(crate) struct Blocks {
 }
 
 impl Model for Blocks {
-    ghost use Rattle.clause_db.specs.BlockRanges.{Blocked, ranges_of, lists_in, AreRanges};
+    ghost use Rattle.clause_db.specs.BlockRanges.{Blocked, ranges_of, lists_in, AreLaid};
 
     ghost Value = { Blocked };
 
     ghost view = { λ b. record { lists = lists_in b.row.items (ranges_of b.row.items b.starts.items); starts = b.starts.items } };
 
-    ghost invariant = { λ b. AreRanges b.row.items (ranges_of b.row.items b.starts.items) };
+    ghost invariant = { λ b. AreLaid b.row.items b.starts.items };
 }
 
 impl Blocks {
@@ -38,17 +41,20 @@ impl Blocks {
         }
     }
 
-    /// Puts a list behind the others. A row of more than 2,147,483,647 places is an error too.
+    /// Puts a list behind the others. A row of more than 2,147,483,647 places is an error too; each list takes two
+    /// besides its literals.
     pub(crate) fn push(&mut self, lits: &[Lit]) -> Result<(), AllocError>
         ensures ok { OnOk result (self.new.lists ≡ self.old.lists ++ lits.now ∷ []) }
-        ensures kept { OnOk result (KeepsStarts self.old self.new (length self.old.lists)) }
+        ensures kept { OnOk result (KeepsIds self.old self.new (length self.old.lists)) }
         ensures err { OnErr result (self.new ≡ self.old) }
     {
-        let start = self.row.len() + 1;
+        let start = self.row.len() + 2;
         if start + lits.len() > i32::MAX as usize {
             return Err(AllocError);
         }
-        self.row.push(Lit::of(lits.len() as u32 + 1, true))?;
+        let id = self.starts.len() + 1;
+        self.row.push(written(id))?;
+        self.row.push(written(lits.len()))?;
         self.row.extend_from_slice(lits)?;
         self.starts.push(start as u32)?;
         Ok(())
@@ -57,10 +63,10 @@ impl Blocks {
     /// Takes the last list off.
     pub(crate) fn pop(&mut self)
         ensures lists { self.new.lists ≡ take (length self.old.lists - 1) self.old.lists }
-        ensures kept { KeepsStarts self.old self.new (length self.old.lists - 1) }
+        ensures kept { KeepsIds self.old self.new (length self.old.lists - 1) }
     {
         if let Some(start) = self.starts.pop() {
-            self.row.truncate(start as usize - 1);
+            self.row.truncate(start as usize - 2);
         }
     }
 
@@ -75,15 +81,24 @@ impl Blocks {
     /// Where the list at an index begins.
     pub(crate) fn start(&self, index: usize) -> u32
         requires { index < length self.now.lists }
-        ensures { slice_index_or self.now.starts index 0 ≡ result }
+        ensures there { slice_index_or self.now.starts index 0 ≡ result }
+        ensures id { id_in self.now.starts result ≡ index + 1 }
     {
         self.starts[index]
     }
 
+    /// The id of the list that begins at a place.
+    pub(crate) fn id(&self, start: u32) -> u32
+        requires { IsStart self.now start }
+        ensures { id_in self.now.starts start ≡ result }
+    {
+        self.row[start as usize - 2].variable() - 1
+    }
+
     /// The list that begins at a place.
     pub(crate) fn read(&self, start: u32) -> &[Lit]
-        requires { (index : ℕ) × (index < length self.now.lists) × (slice_index_or self.now.starts index 0 ≡ start) }
-        ensures { (index : ℕ) → index < length self.now.lists → slice_index_or self.now.starts index 0 ≡ start → result.now ≡ slice_index_or self.now.lists index [] }
+        requires { IsStart self.now start }
+        ensures { result.now ≡ block_at self.now.lists (id_in self.now.starts start) }
     {
         let start = start as usize;
         let count = self.row[start - 1].variable() as usize - 1;
@@ -92,12 +107,21 @@ impl Blocks {
 
     /// Lets two literals of the list that begins at a place change places.
     pub(crate) fn exchange(&mut self, start: u32, low: usize, high: usize)
-        requires there { (index : ℕ) × (index < length self.old.lists) × (slice_index_or self.old.starts index 0 ≡ start) × (high < length (slice_index_or self.old.lists index [])) }
+        requires there { IsStart self.old start }
         requires order { low < high }
-        ensures lists { (index : ℕ) → index < length self.old.lists → slice_index_or self.old.starts index 0 ≡ start → high < length (slice_index_or self.old.lists index []) → self.new.lists ≡ slice_set self.old.lists index (swap (slice_index_or self.old.lists index []) low high) }
+        requires places { high < length (block_at self.old.lists (id_in self.old.starts start)) }
+        ensures lists { self.new.lists ≡ slice_set self.old.lists (id_in self.old.starts start - 1) (swap (block_at self.old.lists (id_in self.old.starts start)) low high) }
         ensures starts { self.new.starts ≡ self.old.starts }
     {
         let start = start as usize;
         self.row.swap(start + low, start + high);
     }
+}
+
+/// A number as it stands in the row.
+fn written(number: usize) -> Lit
+    requires { number < 2 ^ 31 - 1 }
+    ensures { variable_of result ≡ number + 1 }
+{
+    Lit::of(number as u32 + 1, true)
 }

@@ -1,6 +1,6 @@
 //! Clauses with their ids and what they watch. Three things are held besides what contracts see: the literals of a
-//! clause in a second order, the watched ones in front; beside each id in a list a literal of its clause, and the place
-//! where all of them begin; and windows in a row of literals. The invariant ties the literals to the value of contracts,
+//! clause in a second order, the watched ones in front; in each list, where its ids are shown, a literal of the clause
+//! and the place where all of them begin; and windows in a row of literals. The invariant ties the literals to the value of contracts,
 //! and that of `Watches` the places to the ids. On that value every call says its effect as an equation (`added`,
 //! `rewatched`), so that what the solver needs of watches are laws over these.
 ghost use Rattle.std.specs.Prelude.{◌≡◌, ◌≢◌, ℕ, ◌+◌, ◌<◌, ◌≤◌, ◌⊎◌, ◌↔◌, ◌∷◌, [], length, slice_index_or, Contains, All, AllPairs, Some, List, ℤ, IsTrue, IsSome, IfOk, OnOk, OnErr};
@@ -10,7 +10,6 @@ ghost use Rattle.clause_db.specs.Watching.{list_of, pair_at, pair_of};
 ghost use Rattle.clause_db.specs.Stored.{live_in, Watches as WatchesOf, IsLong, IsStored, none_stored, added, all_added, rewatched};
 ghost use Rattle.clause_db.specs.Moving.{IsMovable};
 ghost use Rattle.clause_db.specs.Blocking.{IsOf, AreBeside};
-ghost use Rattle.clause_db.specs.Lists.{ids_of};
 ghost use Rattle.clause_db.specs.Deleting.{IsDeleted};
 
 use crate::lists::Watch;
@@ -45,8 +44,9 @@ impl Model for ClauseDb {
 
 #[tactic(auto, using(crate::proofs::Databases::databases))]
 impl ClauseDb {
-    /// The clauses of a formula, under the ids that they have there. Each watches its first two literals. More
-    /// than 2,147,483,647 literals and clauses in all count as want of memory.
+    /// The clauses of a formula, under the ids that they have there. Each watches its first two literals. The
+    /// literals of all clauses, and two places more for each clause, are at most 2,147,483,647; more count as want
+    /// of memory.
     pub fn new(alloc: Global, cnf: &Cnf) -> Result<ClauseDb, AllocError>
         ensures all { IfOk result (λ c. c ≡ all_added (none_stored cnf.now.vars) cnf.now.clauses) }
         ensures clauses { IfOk result (λ c. live_in c ≡ by_id cnf.now.clauses) }
@@ -71,7 +71,8 @@ impl ClauseDb {
     }
 
     /// Adds a clause over the variables of the formula, and gives its id, the one behind all before. It
-    /// watches its first two literals. More than 2,147,483,647 literals and clauses in all count as want of memory.
+    /// watches its first two literals. The literals of all clauses, also of those that went, and two places more for
+    /// each clause, are at most 2,147,483,647; more count as want of memory.
     pub fn add(&mut self, lits: &[Lit]) -> Result<u32, AllocError>
         requires clause { IsClause lits.now }
         requires variables { IsWithin self.old.vars lits.now }
@@ -164,19 +165,28 @@ impl ClauseDb {
         (pair.first, pair.second)
     }
 
-    /// The clauses that watch a literal of the formula's variables, each once: the id of each, and beside it one of
-    /// its literals.
+    /// The clauses that watch a literal of the formula's variables, each once, with one literal of each. Their ids are
+    /// read by `id_at`.
     pub fn watching(&self, lit: Lit) -> &[Watch]
         requires { variable_of lit ≤ self.now.vars }
-        ensures value { ids_of result.now ≡ list_of self.now.watches lit }
-        ensures exact { (id : ℕ) → Contains (ids_of result.now) id ↔ WatchesOf self.now id lit }
-        ensures once { AllPairs (λ a b. a ≢ b) (ids_of result.now) }
+        ensures exact { (id : ℕ) → Contains (list_of self.now.watches lit) id ↔ WatchesOf self.now id lit }
+        ensures once { AllPairs (λ a b. a ≢ b) (list_of self.now.watches lit) }
         ensures long { length result.now ≡ length (list_of self.now.watches lit) }
         ensures beside { AreBeside self.now lit result.now }
         ensures over { All (λ w. variable_of w.blocker ≤ self.now.vars) result.now }
         ensures whole { IsStored self.now }
     {
         self.watches.list(lit)
+    }
+
+    /// The id at an index in the list of a literal of the formula's variables.
+    pub fn id_at(&self, lit: Lit, index: usize) -> u32
+        requires over { variable_of lit ≤ self.now.vars }
+        requires inside { index < length (list_of self.now.watches lit) }
+        ensures value { slice_index_or (list_of self.now.watches lit) index 0 ≡ result }
+        ensures whole { IsStored self.now }
+    {
+        self.watches.id_at(lit, index)
     }
 
     /// Lets a literal of the clause at an index in a literal's list be the one that stands beside its id. Nothing
@@ -224,8 +234,8 @@ impl ClauseDb {
             return;
         }
         let (first, second) = self.watched(id);
-        let index = find(self.watching(first), id);
-        let place = find(self.watching(second), id);
+        let index = self.find(first, id);
+        let place = self.find(second, id);
         self.watches.leave(first, index, second, place);
         self.store.delete(id);
     }
@@ -240,23 +250,24 @@ impl ClauseDb {
         ensures err { OnErr result (self.new ≡ self.old) }
         ensures whole { IsStored self.new }
     {
-        // brings what the type says of the lists
-        let _last = self.last();
-        let index = find(self.watching(from), id);
+        let index = self.find(from, id);
         self.rewatch_at(from, index, to, 0)?;
         Ok(())
     }
-}
 
-/// The index of an id in a list that has it.
-fn find(watches: &[Watch], id: u32) -> usize
-    requires { Contains (ids_of watches.now) id }
-    ensures inside { result < length (ids_of watches.now) }
-    ensures there { slice_index_or (ids_of watches.now) result 0 ≡ id }
-{
-    let mut index = 0;
-    while index + 1 < watches.len() && watches[index].id != id {
-        index += 1;
+    /// The index of a clause in the list of a literal that it watches.
+    fn find(&self, lit: Lit, id: u32) -> usize
+        requires { WatchesOf self.now id lit }
+        ensures inside { result < length (list_of self.now.watches lit) }
+        ensures there { slice_index_or (list_of self.now.watches lit) result 0 ≡ id }
+    {
+        // brings what the type says of the lists
+        let _last = self.last();
+        let count = self.watching(lit).len();
+        let mut index = 0;
+        while index + 1 < count && self.id_at(lit, index) != id {
+            index += 1;
+        }
+        index
     }
-    index
 }

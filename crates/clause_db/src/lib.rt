@@ -4,7 +4,7 @@
 //!
 //! Contracts see a list with an entry for each id that was given, the clause where it is live; `add`
 //! appends one entry, `delete` empties one, and `lits` and `live` read. Each clause of two literals and more watches two of them:
-//! `watched` tells which, `watching` gives the clauses that watch a literal, and `rewatch` lets a clause
+//! `watched` tells which, `watching` and `id_at` give the clauses that watch a literal, and `rewatch` lets a clause
 //! watch another one (Moskewicz and others, "Chaff", 2001).
 //!
 //! The literals of each clause stand twice: `lits` gives them as they were added, and `arranged` with the

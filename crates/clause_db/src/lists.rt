@@ -1,6 +1,5 @@
-//! The list of a literal: for each clause that watches it the id, and beside that a literal of the clause and where its
-//! literals begin. All of it stands in one struct, so that nothing has to be as long as anything else, and a visit reads
-//! no table of starts.
+//! The list of a literal: for each clause that watches it a literal of the clause, and where its literals begin. Both
+//! stand in one struct, so that nothing has to be as long as anything else, and a visit reads no table of starts.
 ghost use Rattle.std.specs.Prelude.{◌≡◌, ◌-◌, ◌<◌, ◌∷◌, [], ◌++◌, length, take, slice_index_or, slice_set, OnOk, OnErr};
 ghost use Rattle.std.specs.List.{swap_remove};
 ghost use Rattle.clause_db.specs.Lists.{no_watch, blocked_by};
@@ -12,8 +11,6 @@ use std::marker::Model;
 /// A clause in the list of a literal that it watches.
 #[derive(Clone, Copy, Debug)]
 pub struct Watch {
-    /// The id of the clause.
-    pub id: u32,
     /// One of its literals: while that is true, the clause is.
     pub blocker: Lit,
     /// where all of them begin
@@ -81,7 +78,7 @@ impl WatchList {
         self.entries.swap_remove(index);
     }
 
-    /// Puts a literal beside the id at an index.
+    /// Puts another literal into the entry at an index.
     pub(crate) fn set(&mut self, index: usize, blocker: Lit)
         requires { index < length self.old }
         ensures { self.new ≡ slice_set self.old index (blocked_by (slice_index_or self.old index no_watch) blocker) }

@@ -9,7 +9,7 @@ ghost use Rattle.clause_db.specs.Watching.{listed_in, pair_of, with_id, with_ids
 ghost use Rattle.clause_db.specs.Blocking.{row_of, with_row, with_blocker, with_blockers, rows_moved, besides};
 ghost use Rattle.clause_db.specs.Arranging.{block_at, watching_of, arranged_more, exchanged_at, ArePermuted, IsNoneOf};
 ghost use Rattle.clause_db.specs.Deleting.{arranged_left};
-ghost use Rattle.clause_db.specs.Lists.{ids_of, blockers_of};
+ghost use Rattle.clause_db.specs.Lists.{blockers_of};
 
 use crate::blocks::Blocks;
 use crate::lists::{Watch, WatchList};
@@ -39,7 +39,7 @@ impl Model for Watches {
 
     ghost use Rattle.clause_db.specs.Lists.{lists_of, rows_of, AreDirect};
 
-    ghost view = { λ w. record { blocks = w.blocks.lists; lists = lists_of w.lists.items; rows = rows_of w.lists.items } };
+    ghost view = { λ w. record { blocks = w.blocks.lists; lists = lists_of w.blocks.starts w.lists.items; rows = rows_of w.lists.items } };
 
     ghost invariant = { λ w. AreDirect w.blocks w.lists.items };
 }
@@ -79,13 +79,23 @@ impl Watches {
         first_two(self.block(id))
     }
 
-    /// The list of a literal, with the literals beside its ids.
+    /// The entries of a literal's list: how many they are, and the literals beside the ids.
     pub(crate) fn list(&self, lit: Lit) -> &[Watch]
         requires { code_of lit < length self.now.lists }
-        ensures ids { ids_of result.now ≡ listed_in self.now.lists lit }
+        ensures long { length result.now ≡ length (listed_in self.now.lists lit) }
         ensures blockers { blockers_of result.now ≡ row_of self.now.rows lit }
     {
         self.lists[lit.code()].entries()
+    }
+
+    /// The id at an index in a literal's list.
+    pub(crate) fn id_at(&self, lit: Lit, index: usize) -> u32
+        requires room { code_of lit < length self.now.lists }
+        requires inside { index < length (listed_in self.now.lists lit) }
+        ensures { slice_index_or (listed_in self.now.lists lit) index 0 ≡ result }
+    {
+        let watch = self.lists[lit.code()].at(index);
+        self.blocks.id(watch.start)
     }
 
     /// The literals of the clause at an index in a literal's list.
@@ -119,7 +129,7 @@ impl Watches {
         ensures err { OnErr result (self.new ≡ self.old) }
     {
         let start = self.blocks.start(id as usize - 1);
-        self.lists[lit.code()].push(Watch { id, blocker, start })?;
+        self.lists[lit.code()].push(Watch { blocker, start })?;
         Ok(())
     }
 

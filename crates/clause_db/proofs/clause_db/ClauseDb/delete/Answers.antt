@@ -1,4 +1,3 @@
-use Rattle.std.proofs.Common.{◌≡◌, ◌<◌, ℕ, List, length, slice_index_or, subst}
 use Rattle.clause_db.specs.StoredLaws.{live_inside}
 use Rattle.clause_db.specs.DeletingLaws.{live_deleted}
 use Rattle.clause_db.proofs.Leaving.{gone_alone, gone_left}
@@ -16,20 +15,14 @@ returns-then-lits-lt2-clause-deleted c = rw c.delete.ensures (gone_alone c.self.
 pub returns-then-lits-lt2-clause-whole : goal.returns-then-lits-lt2-clause-whole
 returns-then-lits-lt2-clause-whole c = (invariant_of-self c).0
 
-pub find-index-requires : goal.find-index-requires
-find-index-requires c = (c.watching.ensures.exact c.args.id).1 c.watched-first.ensures.first
-
-pub find-place-requires : goal.find-place-requires
-find-place-requires c = (c.watching-2.ensures.exact c.args.id).1 c.watched-first.ensures.second
-
 pub invariant_of-self-2 : goal.invariant_of-self-2
 invariant_of-self-2 c =
     let one = c.watched-first.result.0 in
     let other = c.watched-first.result.1 in
     rw (c.delete-2.ensures, c.leave.ensures) (gone_left c.self.inside.store c.self.inside.watches c.args.self.now c.args.id c.lits.result.now one other c.find-index.result c.find-place.result c.self.view_is c.self.invariant c.lits.ensures.value
     c.watched-first.ensures.first c.watched-first.ensures.second c.watched-first.ensures.differ c.watched-first.ensures.only
-    (subst (λ (xs : List ℕ). c.find-index.result < length xs) c.watching.ensures.value c.find-index.ensures.inside) (subst (λ (xs : List ℕ). slice_index_or xs c.find-index.result 0 ≡ c.args.id) c.watching.ensures.value c.find-index.ensures.there)
-    (subst (λ (xs : List ℕ). c.find-place.result < length xs) c.watching-2.ensures.value c.find-place.ensures.inside) (subst (λ (xs : List ℕ). slice_index_or xs c.find-place.result 0 ≡ c.args.id) c.watching-2.ensures.value c.find-place.ensures.there)).0
+    c.find-index.ensures.inside c.find-index.ensures.there
+    c.find-place.ensures.inside c.find-place.ensures.there).0
 
 pub returns-clause-deleted : goal.returns-clause-deleted
 returns-clause-deleted c =
@@ -37,8 +30,8 @@ returns-clause-deleted c =
     let other = c.watched-first.result.1 in
     rw (c.delete-2.ensures, c.leave.ensures) (gone_left c.self.inside.store c.self.inside.watches c.args.self.now c.args.id c.lits.result.now one other c.find-index.result c.find-place.result c.self.view_is c.self.invariant c.lits.ensures.value
     c.watched-first.ensures.first c.watched-first.ensures.second c.watched-first.ensures.differ c.watched-first.ensures.only
-    (subst (λ (xs : List ℕ). c.find-index.result < length xs) c.watching.ensures.value c.find-index.ensures.inside) (subst (λ (xs : List ℕ). slice_index_or xs c.find-index.result 0 ≡ c.args.id) c.watching.ensures.value c.find-index.ensures.there)
-    (subst (λ (xs : List ℕ). c.find-place.result < length xs) c.watching-2.ensures.value c.find-place.ensures.inside) (subst (λ (xs : List ℕ). slice_index_or xs c.find-place.result 0 ≡ c.args.id) c.watching-2.ensures.value c.find-place.ensures.there)).1
+    c.find-index.ensures.inside c.find-index.ensures.there
+    c.find-place.ensures.inside c.find-place.ensures.there).1
 
 pub returns-clause-live : goal.returns-clause-live
 returns-clause-live c = live_deleted c.args.id c.args.self.now _ (returns-clause-deleted c) (live_inside c.args.self.now c.args.id c.lits.result.now c.lits.ensures.value).0

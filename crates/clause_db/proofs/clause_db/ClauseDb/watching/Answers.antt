@@ -1,12 +1,13 @@
-use Rattle.std.proofs.Common.{ℕ, List, Contains, sym, subst}
+use Rattle.std.proofs.Common.{Contains, sym, subst}
+use Rattle.clause_db.specs.Watching.{list_of}
 use Rattle.clause_db.specs.Stored.{Stored, Watches}
 use Rattle.clause_db.proofs.Databases.{blockers_over, entries_over, entries_beside}
 use Rattle.clause_db.proofs.clause_db.ClauseDb.watching.Goals as goal
 
 pub returns-clause-exact : goal.returns-clause-exact
 returns-clause-exact c = λ id. (
-  (λ there. subst (λ (s : Stored). Watches s id c.args.lit) c.self.view_is (c.self.invariant.0.only c.args.lit id (subst (λ (xs : List ℕ). Contains xs id) c.list.ensures.ids there))),
-  (λ watches. subst (λ (xs : List ℕ). Contains xs id) (sym c.list.ensures.ids) (c.self.invariant.0.listed c.args.lit id (subst (λ (s : Stored). Watches s id c.args.lit) (sym c.self.view_is) watches))),
+  (λ there. subst (λ (s : Stored). Watches s id c.args.lit) c.self.view_is (c.self.invariant.0.only c.args.lit id (subst (λ (s : Stored). Contains (list_of s.watches c.args.lit) id) (sym c.self.view_is) there))),
+  (λ watches. subst (λ (s : Stored). Contains (list_of s.watches c.args.lit) id) c.self.view_is (c.self.invariant.0.listed c.args.lit id (subst (λ (s : Stored). Watches s id c.args.lit) (sym c.self.view_is) watches))),
 )
 
 pub returns-clause-beside : goal.returns-clause-beside

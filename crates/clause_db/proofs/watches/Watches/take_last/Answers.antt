@@ -8,7 +8,7 @@ use Rattle.clause_db.proofs.watches.Watches.take_last.Goals as goal
 pub invariant_of-self : goal.invariant_of-self
 invariant_of-self c =
     let e : Listed = c.index_mut.result.now in
-    direct_set c.self.inside.blocks c.self.inside.lists.items c.code.result c.take_last.new.self c.self.invariant (subst (All (IsDirect c.self.inside.blocks)) (sym c.take_last.ensures) (All-take (IsDirect c.self.inside.blocks) (length e - 1) e (direct_read c.self.inside.blocks c.self.inside.blocks.lists c.self.inside.lists.items c.args.self.now c.args.lit c.code.result c.index_mut.result.now c.self.view_is c.code.ensures.value c.requires c.index_mut.ensures.value c.self.invariant)))
+    direct_set c.self.inside.blocks c.self.inside.lists.items c.code.result c.take_last.new.self c.self.invariant (subst (All (IsDirect c.self.inside.blocks)) (sym c.take_last.ensures) (All-take (IsDirect c.self.inside.blocks) (length e - 1) e (direct_read c.self.inside.blocks c.self.inside.lists.items c.args.self.now c.args.lit c.code.result c.index_mut.result.now c.self.view_is c.code.ensures.value c.requires c.index_mut.ensures.value c.self.invariant)))
 
 pub returns : goal.returns
-returns c = changed (λ (xs : List ℕ). take (length xs - 1) xs) (λ (ys : List ℤ). take (length ys - 1) ys) c.self.inside.blocks.lists c.self.inside.lists.items c.args.self.now c.args.lit c.code.result c.index_mut.result.now c.take_last.new.self c.self.view_is c.code.ensures.value c.requires c.index_mut.ensures.value (ap ids_of c.take_last.ensures ∙ ids_front c.index_mut.result.now) (ap blockers_of c.take_last.ensures ∙ blockers_front c.index_mut.result.now)
+returns c = changed (λ (xs : List ℕ). take (length xs - 1) xs) (λ (ys : List ℤ). take (length ys - 1) ys) c.self.inside.blocks c.self.inside.lists.items c.args.self.now c.args.lit c.code.result c.index_mut.result.now c.take_last.new.self c.self.view_is c.code.ensures.value c.requires c.index_mut.ensures.value (ap (ids_of c.self.inside.blocks.starts) c.take_last.ensures ∙ ids_front c.self.inside.blocks.starts c.index_mut.result.now) (ap blockers_of c.take_last.ensures ∙ blockers_front c.index_mut.result.now)
