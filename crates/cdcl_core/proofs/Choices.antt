@@ -57,7 +57,7 @@ marked_heap h v b = record { vars = h.vars; scores = h.scores; marks = slice_set
 held_still : (h : Held) (v w : ℕ) (b : Bool) → w ≢ v → IsHeld h w → IsHeld (marked_heap h v b) w
 held_still h v w b apart held = get_or-set_other h.marks v w b false apart ∙ held
 
--- or one that gets a value.
+-- And a variable may leave the heap where it gets a value.
 pub choosing_decided : (t : Trailed) (c d : Choice) (x : ℤ) (v r : ℕ) → IsTrail t → IsChoosing t c → variable x ≡ v → IsOver t.vars x → IsFree t x → d.heap ≡ marked_heap c.heap v false → length d.signs.items ≡ length c.signs.items → IsChoosing (pushed t x r) d
 choosing_decided t c d x v r trail choosing var over free_x heap signs = record {
   vars = ap (λ (h : Held). h.vars) heap ∙ choosing.vars;

@@ -80,7 +80,6 @@ fn visit(
     ensures stored { IsStored clauses.new }
     ensures visit { IfOk result (IsFate clauses.old clauses.new trail.old trail.new fallen index) }
 {
-    let id = clauses.watching(fallen)[index].id;
     let lits = clauses.arranged_at(fallen, index);
     let other = besides(lits, fallen);
     if trail.fell(other.opposite()) > 0 {
@@ -91,6 +90,7 @@ fn visit(
         clauses.rewatch_at(fallen, index, found.lit, found.place)?;
         return Ok(Fate::Moved);
     }
+    let id = clauses.id_at(fallen, index);
     if trail.fell(other) > 0 {
         return Ok(Fate::Falsified(id));
     }

@@ -3,7 +3,7 @@
 //! the place where it begins, with no look into a table, and so is its id. That the ranges lie in the row and behind
 //! each other, with two places between, and that the ids are right, is the invariant. So a change of places in one list
 //! leaves the ids, the lengths and all other lists as they were.
-ghost use Rattle.std.specs.Prelude.{◌≡◌, ℕ, [], ◌∷◌, ◌++◌, ◌<◌, ◌+◌, ◌-◌, ◌^◌, length, take, slice_index_or, slice_set, OnOk, OnErr};
+ghost use Rattle.std.specs.Prelude.{◌≡◌, [], ◌∷◌, ◌++◌, ◌<◌, ◌+◌, ◌-◌, ◌^◌, length, take, slice_index_or, slice_set, OnOk, OnErr};
 ghost use Rattle.std.specs.List.{swap};
 ghost use Rattle.sat_theory.specs.Formula.{variable as variable_of};
 ghost use Rattle.clause_db.specs.Arranging.{block_at};

@@ -62,8 +62,8 @@ impl Redundancy {
         requires { variable_of lit < length self.old.verdicts.items }
         ensures { length self.new.verdicts.items ≡ length self.old.verdicts.items }
     {
-        self.verdicts[lit.variable() as usize] = verdict;
         self.judged.push(lit)?;
+        self.verdicts[lit.variable() as usize] = verdict;
         Ok(())
     }
 

@@ -265,7 +265,7 @@ impl Walk {
                 continue;
             }
             self.marks.unset(lit);
-            self.hints.push(watches[index].id)?;
+            self.hints.push(clauses.id_at(first, index))?;
         }
         Ok(())
     }

@@ -2,7 +2,7 @@
 ghost use Rattle.std.specs.Prelude.{◌≤◌, IfSome};
 ghost use Rattle.sat_theory.specs.Formula.{variable as variable_of};
 
-use clause_db::{ClauseDb, Watch};
+use clause_db::ClauseDb;
 use cnf_core::{Clause, Cnf, Lit};
 use std::alloc::{AllocError, Global};
 use std::test::Fail;
@@ -56,26 +56,22 @@ fn over(clauses: &ClauseDb, number: i32) -> Option<Lit>
     Some(lit)
 }
 
-/// Whether entries have these ids, with these literals beside them.
-fn entries_are(watches: &[Watch], ids: &[u32], beside: &[i32]) -> bool {
-    if watches.len() != ids.len() || ids.len() != beside.len() {
-        return false;
-    }
-    for index in 0..watches.len() {
-        let watch = watches[index];
-        if watch.id != ids[index] || watch.blocker.get() != beside[index] {
-            return false;
-        }
-    }
-    true
-}
-
 /// Whether the clauses of these ids watch a literal, with these literals beside them.
 fn watching(clauses: &ClauseDb, number: i32, ids: &[u32], beside: &[i32]) -> bool {
     let Some(lit) = over(clauses, number) else {
         return false;
     };
-    entries_are(clauses.watching(lit), ids, beside)
+    let watches = clauses.watching(lit);
+    if watches.len() != ids.len() || ids.len() != beside.len() {
+        return false;
+    }
+    for index in 0..watches.len() {
+        let id = clauses.id_at(lit, index);
+        if id != ids[index] || watches[index].blocker.get() != beside[index] {
+            return false;
+        }
+    }
+    true
 }
 
 /// The clauses 1, 2, 3 and 1, 3 and 1, 2.

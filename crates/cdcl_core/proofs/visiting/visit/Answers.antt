@@ -1,8 +1,6 @@
 use Rattle.std.proofs.Common.{◌∙◌, ℕ, ℤ, List, refl, ap, sym, subst, arith}
 use Rattle.cdcl_theory.specs.Falling.{IsFalsified}
 use Rattle.cdcl_theory.specs.Trails.{Trailed, fell, pushed}
-use Rattle.clause_db.specs.Watching.{list_of}
-use Rattle.clause_db.specs.WatchingLaws.{watch_id}
 use Rattle.clause_db.specs.Stored.{Stored, live_in}
 use Rattle.cdcl_core.specs.Visiting.{id_at}
 use Rattle.cdcl_core.proofs.Visits.{IsFront, IsOther, front_at, front_one, other_watches, blocks, movable_to, all_but, found_false, kept_pushed, kept_blocked}
@@ -86,7 +84,7 @@ returns-then-fell-gt0-2-clause-visit c =
     let is_other : IsOther lits c.args.fallen other = record { watched = c.besides-other.ensures.watched; only = c.besides-other.ensures.only } in
     let t : Trailed = c.args.trail.now in
     let off = c.fell-2.ensures.value in
-    record { same = refl; same_trail = refl; falsified = subst (λ (k : ℕ). IsFalsified (live_in s) (fell t) k) (sym (watch_id c.watching.result.now (list_of s.watches c.args.fallen) c.args.index _ c.watching.ensures.value c.requires.inside)) (found_false s t id c.args.fallen other lits front is_other c.requires.fallen c.in_default.ensures.none (omega (arith, off, c.if-fell-gt0-2.true))) }
+    record { same = refl; same_trail = refl; falsified = subst (λ (k : ℕ). IsFalsified (live_in s) (fell t) k) c.id_at-id.ensures.value (found_false s t id c.args.fallen other lits front is_other c.requires.fallen c.in_default.ensures.none (omega (arith, off, c.if-fell-gt0-2.true))) }
 
 pub returns-clause-visit : goal.returns-clause-visit
 returns-clause-visit c =
@@ -101,4 +99,4 @@ returns-clause-visit c =
     let down = c.fell.ensures.value in
     let up = c.fell-2.ensures.value in
     kept_pushed s t c.push.new.self c.args.fallen other c.args.index id front.watches.clause c.requires.stored c.requires.whole c.requires.vars refl front.watches.is_live (other_watches s id c.args.fallen other lits front is_other)
-    (omega (arith, up, c.if-fell-gt0-2.false), omega (arith, down, off, c.if-fell-gt0.false)) (all_but s t id c.args.fallen other lits front.watches.clause front is_other c.requires.fallen c.in_default.ensures.none front.watches.is_live) (c.in_ok-push.ensures.ok ∙ ap (λ (k : ℕ). pushed t other k) (watch_id c.watching.result.now (list_of s.watches c.args.fallen) c.args.index _ c.watching.ensures.value c.requires.inside))
+    (omega (arith, up, c.if-fell-gt0-2.false), omega (arith, down, off, c.if-fell-gt0.false)) (all_but s t id c.args.fallen other lits front.watches.clause front is_other c.requires.fallen c.in_default.ensures.none front.watches.is_live) (c.in_ok-push.ensures.ok ∙ ap (λ (k : ℕ). pushed t other k) (sym c.id_at-id.ensures.value))
