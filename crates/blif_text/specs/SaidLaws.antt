@@ -1,13 +1,13 @@
 -- What a text says is made of names, tables and latches, and is no longer than the text.
-use Rattle.std.proofs.Common.{◌≡◌, ℕ, suc, ◌+◌, ◌*◌, ◌≤◌, Bool, true, false, List, [], ◌∷◌, ◌++◌, length, map, Option, Some, None, refl, ap, ◌∙◌, sym, subst, inl, inr, arith, length-append, append-nil}
-use Rattle.std.specs.Prelude.{nat_lt, Result, Ok, Err, IfOk, All, option_to_list, sum_by}
-use Rattle.std.specs.List.{flat_map, filter_map, cons_option}
+use Rattle.std.proofs.Common.{◌≡◌, ℕ, suc, ◌+◌, ◌*◌, ◌≤◌, Bool, true, false, List, [], ◌∷◌, ◌++◌, length, map, Option, Some, None, refl, ap, ◌∙◌, sym, subst, arith, length-append, append-nil}
+use Rattle.std.specs.Prelude.{nat_lt, ◌||◌, Result, Ok, Err, IfOk, All, option_to_list, sum_by}
+use Rattle.std.specs.List.{list_any, flat_map, filter_map, cons_option}
 use Rattle.std.specs.Option.{option_map}
-use Rattle.std.proofs.lemmas.Bool.{cases_Bool}
+use Rattle.std.proofs.lemmas.Bool.{ltb-false}
 use Rattle.std.proofs.lemmas.List.{map-append}
 use Rattle.std.proofs.lemmas.List.Elements.{All-nil, All-cons, All-append, All-push, filter_map-append}
 use Rattle.std.proofs.lemmas.List.Sums.{sum_by-cons, sum_by-append}
-use Rattle.std.proofs.lemmas.Grind.{common_steps, flat_map-append}
+use Rattle.std.proofs.lemmas.Grind.{flat_map-append}
 use Rattle.net_theory.specs.declared.data.Trigger.{Trigger}
 use Rattle.net_theory.specs.Cost.{literal_sum}
 use Rattle.net_theory.specs.Document.{Name, IsName, is_name, Table, Latch, LatchLine, table_output, table_inputs, latch_of, latch_input, latch_output}
@@ -16,6 +16,7 @@ use Rattle.net_theory.specs.Naming.{control_of, second_of}
 use Rattle.net_core.specs.declared.error.NetError.{NetError}
 use Rattle.net_document.specs.Listed.{times}
 use Rattle.net_document.specs.TimesLaws.{times-append}
+use Rattle.net_text.specs.Limits.{is_long_word}
 use Rattle.blif_text.specs.Reading.{◌>>=◌}
 use Rattle.blif_text.specs.Words.{has_long}
 use Rattle.blif_text.specs.Statements.{Control, Said, nothing, closed, with_table, with_latch, control_at}
@@ -63,9 +64,13 @@ pub record AreShort (ws : List (List ℕ)) : Type 0 where
 pub short_cons : (w : List ℕ) (ws : List (List ℕ)) → AreShort (w ∷ ws) → (length w ≤ 1024) × AreShort ws
 short_cons w ws h = (h.each 0 [] (omega arith), record { each = λ k d low. h.each (suc k) d (omega arith) })
 
+either_false : (a b : Bool) → (a || b) ≡ false → (a ≡ false) × (b ≡ false)
+either_false true b e = absurd cc
+either_false false b e = (refl, e)
+
 long_cases : (w : List ℕ) (ws : List (List ℕ)) → has_long (w ∷ ws) ≡ false → (length w ≤ 1024) × (has_long ws ≡ false)
 unfolding has_long
-long_cases w ws e = elim (cases_Bool (nat_lt 1024 (length w))) as (λ _. (length w ≤ 1024) × (has_long ws ≡ false)) [ inl long ↦ absurd (grind (arith, common_steps, e, long)) | inr fits ↦ (grind (arith, common_steps, fits), grind (arith, common_steps, e, fits)) ]
+long_cases w ws e = let c = either_false (nat_lt 1024 (length w)) (list_any is_long_word ws) e in (ltb-false 1024 (length w) c.0, c.1)
 
 pub short_words : (ws : List (List ℕ)) → has_long ws ≡ false → AreShort ws
 short_words [] e = record { each = All-nil (λ (w : List ℕ). length w ≤ 1024) }

@@ -2,7 +2,7 @@
 use Rattle.std.proofs.Common.{◌≡◌, ℕ, suc, ◌+◌, ◌-◌, ◌*◌, ◌≤◌, ◌<◌, Bool, true, false, List, [], ◌∷◌, ◌++◌, length, Option, Some, None, refl, ap, sym, subst, arith, length-append}
 use Rattle.std.specs.Prelude.{◌==◌, ◌&&◌, ◌||◌, not, if◌then◌else◌, nat_lt, nat_le, Result, Ok, Err, IfOk, All, option_to_list, codes}
 use Rattle.std.specs.List.{list_all}
-use Rattle.std.proofs.lemmas.Bool.{cond_both, eqb-true}
+use Rattle.std.proofs.lemmas.Bool.{cond_both, eqb-true, ltb-false, leb-false}
 use Rattle.std.proofs.lemmas.List.Elements.{All-nil, All-cons, All-head, All-tail, All-push}
 use Rattle.std.proofs.lemmas.List.Sums.{sum_by-cons, sum_by-append, count_by-le-length}
 use Rattle.std.proofs.lemmas.Grind.{common_steps}
@@ -91,7 +91,7 @@ table_fine line (w ∷ ws) short =
     (λ narrow. cond_both (are_names (w ∷ ws)) (Ok (empty_table (front_of w ws) (last_of w ws))) (Err (Syntax line)) (λ (r : Result Table NetError). IfOk r IsNew)
     (λ names.
     let all = names_all (w ∷ ws) names short in
-    let few : length ws ≤ 256 = grind (arith, common_steps, narrow) in
+    let few : length ws ≤ 256 = ltb-false 256 (length ws) narrow in
     empty_new (front_of w ws) (last_of w ws) (front_names w ws all) (last_name w ws all) (omega (arith, few, front_count w ws)))
     (λ none. tt))
 
@@ -139,7 +139,7 @@ rowed t row = record { inputs = t.inputs; output = t.output; cover = record { wi
 rowed_more : (t : Table) (words : List (List ℕ)) (row : Row) → IsCubeTable t → FitsRow t.cover.width words row → nat_le 4096 (length t.cover.cubes) ≡ false → IsMore t words (rowed t row)
 unfolding table_size
 rowed_more t words row is fits room =
-    let few : length t.cover.cubes < 4096 = grind (arith, common_steps, room) in
+    let few : length t.cover.cubes < 4096 = leb-false 4096 (length t.cover.cubes) room in
     record {
       table = record {
         table = record {
@@ -175,12 +175,15 @@ row_fine line t words is = with_row_fine line t words (row_in t.cover.width word
 abbrev IsTail : Tail → Type 0
 IsTail tail = IsControl tail.control × IsInit tail.init
 
+digit_low : (b : ℕ) → (nat_le 48 b && nat_le b 51) ≡ true → b - 48 ≤ 3
+digit_low b is = grind (arith, common_steps, is)
+
 init_fits : (word : List ℕ) (init : ℕ) → init_in word ≡ Some init → init ≤ 3
 unfolding init_in
 init_fits [] init e = absurd cc
 init_fits (b ∷ []) init e =
     cond_both (nat_le 48 b && nat_le b 51) (Some (b - 48)) None (λ (r : Option ℕ). r ≡ Some init → init ≤ 3)
-    (λ is f. let low : b - 48 ≤ 3 = grind (arith, common_steps, is) in let same : b - 48 ≡ init = cc in omega (arith, low, same))
+    (λ is f. let low : b - 48 ≤ 3 = digit_low b is in let same : b - 48 ≡ init = cc in omega (arith, low, same))
     (λ other f. absurd cc)
     e
 init_fits (b ∷ c ∷ bs) init e = absurd cc

@@ -162,12 +162,13 @@ fn note_control(
 ) -> Result<(), AllocError>
     ensures { OnOk result (controls.new.items ≡ controls.old.items ++ control_at line control.now) }
 {
-    if let Some((_, name)) = control {
-        controls.push(Control {
-            line,
-            name: name.copied()?,
-        })?;
-    }
+    let Some((_, name)) = control else {
+        return Ok(());
+    };
+    controls.push(Control {
+        line,
+        name: name.copied()?,
+    })?;
     Ok(())
 }
 

@@ -17,20 +17,32 @@ use Rattle.window_core.specs.Noting.{IsBefore, AreBefore, AreGrown, IsCounting, 
 
 -- ---- counting
 
+-- of numbers that stand for all from 255 on
+min_more : (x more rest : ℕ) → min (min (x + more) 255 + rest) 255 ≡ min (x + (more + rest)) 255
+min_more x more rest = omega arith
+
+min_small : (x : ℕ) → x < 256 → min (x + 0) 255 ≡ x
+min_small x low = omega arith
+
 pub counting_step : (all left rest more : ℕ → ℕ) (old now next : List ℕ) → ((p : ℕ) → left p ≡ more p + rest p) → AreGrown more now next → IsCounting all left old now → IsCounting all rest old next
 counting_step all left rest more old now next parts grown was =
     record {
       size = grown.size ∙ was.size;
       each = λ p low.
-          let here : slice_index_or next p 0 ≡ min (slice_index_or now p 0 + more p) 255 = grown.each p (omega (arith, low, was.size)) in
-          omega (arith, here, parts p, was.each p low);
+          ap (λ (k : ℕ). min (k + rest p) 255) (grown.each p (subst (λ (end : ℕ). p < end) (sym was.size) low))
+          ∙ min_more (slice_index_or now p 0) (more p) (rest p)
+          ∙ ap (λ (k : ℕ). min (slice_index_or now p 0 + k) 255) (sym (parts p))
+          ∙ was.each p low;
     }
 
 pub counting_end : (all left : ℕ → ℕ) (old now : List ℕ) → ((p : ℕ) → left p ≡ 0) → ((p : ℕ) → slice_index_or now p 0 < 256) → IsCounting all left old now → AreGrown all old now
 counting_end all left old now none small was =
     record {
       size = was.size;
-      each = λ p low. omega (arith, none p, small p, was.each p low);
+      each = λ p low.
+          sym (min_small (slice_index_or now p 0) (small p))
+          ∙ ap (λ (k : ℕ). min (slice_index_or now p 0 + k) 255) (sym (none p))
+          ∙ was.each p low;
     }
 
 -- ---- by gates and sinks
@@ -59,13 +71,16 @@ pub sinks_first : (p : ℕ) (ss : List Sig) (s : Sig) (rest : List Sig) → ss �
 unfolding named_by_sinks
 sinks_first p ss s rest parts = ap (named_by_sinks p) parts
 
+add_apart : (a b c : ℕ) → a + b + c ≡ a + (b + c)
+add_apart a b c = omega arith
+
 pub gates_step : (all : ℕ → ℕ) (gs : List Gate) (g : Gate) (rest : List Gate) (old now mid next : List ℕ) → gs ≡ g ∷ rest → AreGrown (λ p. named_by p g.a) now mid → AreGrown (λ p. named_by p g.b) mid next
     → IsCounting all (λ p. sum_gates (λ q x. named_by_gate p x) 0 gs) old now → IsCounting all (λ p. sum_gates (λ q x. named_by_gate p x) 0 rest) old next
 gates_step all gs g rest old now mid next parts first second was =
     let left : ℕ → ℕ = λ p. sum_gates (λ q x. named_by_gate p x) 0 rest in
     counting_step all (λ p. named_by p g.b + left p) left (λ p. named_by p g.b) old mid next (λ p. refl) second
     (counting_step all (λ p. sum_gates (λ q x. named_by_gate p x) 0 gs) (λ p. named_by p g.b + left p) (λ p. named_by p g.a) old now mid
-    (λ p. omega (arith, sum_first (named_by_gate p) gs g rest parts)) first was)
+    (λ p. sum_first (named_by_gate p) gs g rest parts ∙ add_apart (named_by p g.a) (named_by p g.b) (left p)) first was)
 
 pub before_first : (end : ℕ) (gs : List Gate) (g : Gate) (rest : List Gate) → gs ≡ g ∷ rest → AreBefore end gs → IsBefore end g.a × IsBefore end g.b
 before_first end gs g rest parts all =
@@ -86,6 +101,19 @@ place_is p sigs.Zero e = absurd cc
 place_is p sigs.One e = absurd cc
 place_is p (sigs.Place q) e = ap sigs.Place (eqb-true q p e)
 
+-- the place behind the first i gates, and the next one
+next_above : (sources i : ℕ) → sources + 1 + i < sources + 1 + (i + 1)
+next_above sources i = omega arith
+
+next_most : (sources i x : ℕ) → x < sources + 1 + (i + 1) → x ≤ sources + 1 + i
+next_most sources i x low = omega arith
+
+next_more : (sources i x : ℕ) → x < sources + 1 + i → x < sources + 1 + (i + 1)
+next_more sources i x low = omega arith
+
+next_other : (sources i x : ℕ) → x < sources + 1 + (i + 1) → (x ≡ sources + 1 + i → ⊥) → x < sources + 1 + i
+next_other sources i x low other = omega arith
+
 -- what is noted of a place: the gate if it reads the place, else who was last before
 after_both : (n : Net) (i : ℕ) (g : Gate) (p was mid now : ℕ) → slice_get n.gates i ≡ Some g → IsEarlier n (n.sources + 1 + i) p was → mid ≡ (if is_place p g.a then n.sources + 1 + i else was) → now ≡ (if is_place p g.b then n.sources + 1 + i else mid) → IsEarlier n (n.sources + 1 + (i + 1)) p now
 after_both n i g p was mid now at before first second =
@@ -93,8 +121,8 @@ after_both n i g p was mid now at before first second =
     let own : IsGate n place = record { index = i; gate = g; at = at; place = refl } in
     let it_is : ReadsPlace g p → now ≡ place → IsEarlier n (n.sources + 1 + (i + 1)) p now = λ reads e.
     subst (IsEarlier n (n.sources + 1 + (i + 1)) p) (sym e) (record {
-      found = inr (record { reader = own; reads = reads }, omega arith);
-      most = λ x r low. omega (arith, low);
+      found = inr (record { reader = own; reads = reads }, next_above n.sources i);
+      most = λ x r low. next_most n.sources i x low;
     }) in
     ⊎_elim
     (λ (b_is : is_place p g.b ≡ true). it_is (inr (place_is p g.b b_is)) (second ∙ cond-true (is_place p g.b) place mid b_is))
@@ -103,14 +131,14 @@ after_both n i g p was mid now at before first second =
     (λ (a_off : is_place p g.a ≡ false).
     let same : now ≡ was = second ∙ cond-false (is_place p g.b) place mid b_off ∙ first ∙ cond-false (is_place p g.a) place was a_off in
     subst (IsEarlier n (n.sources + 1 + (i + 1)) p) (sym same) (record {
-      found = ⊎_elim (λ none. inl none) (λ r. inr (r.0, omega (arith, r.1))) before.found;
+      found = ⊎_elim (λ none. inl none) (λ r. inr (r.0, next_more n.sources i was r.1)) before.found;
       most = λ x r low.
           ⊎_elim
           (λ (here : x ≡ place).
           let r_own : Reads n place p = subst (λ (y : ℕ). Reads n y p) here r in
           let reads : ReadsPlace g p = subst (λ (y : Gate). ReadsPlace y p) (gate_one n place r_own.reader own) r_own.reads in
           absurd (⊎_elim (λ a. both_ways (is_place p g.a) a_off a) (λ b. both_ways (is_place p g.b) b_off b) (reads_test p g reads)))
-          (λ other. before.most x r (omega (arith, low, other)))
+          (λ other. before.most x r (next_other n.sources i x low other))
           (cases_eq x place);
     }))
     (cases_Bool (is_place p g.a)))
@@ -122,9 +150,13 @@ noted_more n i g place last mid next at place_is first second was =
       size = second.size ∙ first.size ∙ was.size;
       each = λ p low.
           after_both n i g p (slice_index_or last p 0) (slice_index_or mid p 0) (slice_index_or next p 0) at (was.each p low)
-          (subst (λ (q : ℕ). slice_index_or mid p 0 ≡ (if is_place p g.a then q else slice_index_or last p 0)) place_is (first.each p (omega (arith, low, was.size))))
-          (subst (λ (q : ℕ). slice_index_or next p 0 ≡ (if is_place p g.b then q else slice_index_or mid p 0)) place_is (second.each p (omega (arith, low, was.size, first.size))));
+          (subst (λ (q : ℕ). slice_index_or mid p 0 ≡ (if is_place p g.a then q else slice_index_or last p 0)) place_is (first.each p (subst (λ (end : ℕ). p < end) (sym was.size) low)))
+          (subst (λ (q : ℕ). slice_index_or next p 0 ≡ (if is_place p g.b then q else slice_index_or mid p 0)) place_is (second.each p (subst (λ (end : ℕ). p < end) (sym (first.size ∙ was.size)) low)));
     }
+
+-- a net has the place 0
+end_some : (n : Net) → 0 < end_of n
+end_some n = omega arith
 
 -- a place that a signal names, or 0 for a constant, is one of the table's
 pub named_low : (end : ℕ) (s : Sig) → 0 < end → IsBefore end s → place_of s < end
@@ -144,34 +176,40 @@ some_same x y e = cc
 pub list_more : (n : Net) (i : ℕ) (g : Gate) (place : ℕ) (last mid next : List ℕ) (list new : List Earlier) (e : Earlier) → slice_get n.gates i ≡ Some g → place ≡ n.sources + 1 + i → IsBefore (length last) g.a → IsBefore (length last) g.b
     → e.first ≡ slice_index_or last (place_of g.a) 0 → e.second ≡ slice_index_or last (place_of g.b) 0 → IsNoted g.a place last mid → IsNoted g.b place mid next → new ≡ list ++ e ∷ [] → AreNoted n i last list → AreNoted n (i + 1) next new
 list_more n i g place last mid next list new e at place_is low_a low_b first second noted_a noted_b is was =
-    let some : 0 < length last = omega (arith, was.noted.size) in
+    let some : 0 < length last = subst (λ (end : ℕ). 0 < end) (sym was.noted.size) (end_some n) in
     let own : IsEarlierOf n (n.sources + 1 + i) g e = record {
-      first = subst (IsEarlier n (n.sources + 1 + i) (place_of g.a)) (sym first) (was.noted.each (place_of g.a) (omega (arith, named_low (length last) g.a some low_a, was.noted.size)));
-      second = subst (IsEarlier n (n.sources + 1 + i) (place_of g.b)) (sym second) (was.noted.each (place_of g.b) (omega (arith, named_low (length last) g.b some low_b, was.noted.size)));
+      first = subst (IsEarlier n (n.sources + 1 + i) (place_of g.a)) (sym first) (was.noted.each (place_of g.a) (subst (λ (end : ℕ). place_of g.a < end) was.noted.size (named_low (length last) g.a some low_a)));
+      second = subst (IsEarlier n (n.sources + 1 + i) (place_of g.b)) (sym second) (was.noted.each (place_of g.b) (subst (λ (end : ℕ). place_of g.b < end) was.noted.size (named_low (length last) g.b some low_b)));
     } in
     record {
       noted = noted_more n i g place last mid next at place_is noted_a noted_b was.noted;
-      size = ap (length {A = Earlier}) is ∙ length-append list (e ∷ []) ∙ omega (arith, was.size);
+      size = ap (length {A = Earlier}) is ∙ length-append list (e ∷ []) ∙ ap (λ (k : ℕ). k + 1) was.size;
       each = λ j x y at_x at_y.
           ⊎_elim
           (λ there. was.each j x y at_x there)
           (λ r.
-          let same : j ≡ i = omega (arith, r.0, was.size) in
+          let same : j ≡ i = r.0 ∙ was.size in
           let gate : g ≡ x = some_same g x (sym at ∙ ap (slice_get n.gates) (sym same) ∙ at_x) in
           subst (λ (k : ℕ). IsEarlierOf n (n.sources + 1 + k) x y) (sym same) (subst (IsEarlierOf n (n.sources + 1 + i) x) r.1 (subst (λ (z : Gate). IsEarlierOf n (n.sources + 1 + i) z e) gate own)))
           (at_last list e j y (ap (λ (xs : List Earlier). slice_get xs j) (sym is) ∙ at_y));
     }
 
+low_end : (p place end : ℕ) → p < place → place ≤ end → p < end
+low_end p place end below low = omega arith
+
+gate_end : (sources i count end : ℕ) → i < count → end ≡ sources + 1 + count → sources + 1 + i ≤ end
+gate_end sources i count end low is = omega arith
+
 pub sig_before : (end place : ℕ) (s : Sig) → place ≤ end → IsSigBelow place s → IsBefore end s
 sig_before end place sigs.Zero low below = tt
 sig_before end place sigs.One low below = tt
-sig_before end place (sigs.Place p) low below = omega (arith, low, below.1)
+sig_before end place (sigs.Place p) low below = low_end p place end below.1 low
 
 pub gates_before : (n : Net) (end : ℕ) → IsNet n → end ≡ end_of n → AreBefore end n.gates
 gates_before n end net is =
     record {
-      first = λ i g at. sig_before end (n.sources + 1 + i) g.a (omega (arith, is, slice_get_within n.gates i g at)) (net.gates.each i g at).first;
-      second = λ i g at. sig_before end (n.sources + 1 + i) g.b (omega (arith, is, slice_get_within n.gates i g at)) (net.gates.each i g at).second;
+      first = λ i g at. sig_before end (n.sources + 1 + i) g.a (gate_end n.sources i (length n.gates) end (slice_get_within n.gates i g at) is) (net.gates.each i g at).first;
+      second = λ i g at. sig_before end (n.sources + 1 + i) g.b (gate_end n.sources i (length n.gates) end (slice_get_within n.gates i g at) is) (net.gates.each i g at).second;
     }
 
 -- ---- the table of uses
@@ -182,12 +220,15 @@ take_front [] ys (suc n) e = absurd (omega (arith, e))
 take_front (x ∷ xs) ys zero e = absurd (omega (arith, e))
 take_front (x ∷ xs) ys (suc n) e = ap (λ (zs : List _). x ∷ zs) (take_front xs ys n (omega (arith, e)))
 
+add-zero-left : (k : ℕ) → 0 + k ≡ k
+add-zero-left k = omega arith
+
 pub uses_code : (more : ℕ → ℕ) (old new rest : List ℕ) (n end : ℕ) → length old ≡ n → n ≡ end → ((p : ℕ) → p < n → slice_index_or old p 0 ≡ 0) → AreGrown more old new → (p : ℕ) → p < end → slice_index_or (take n (new ++ rest)) p 0 ≡ min (more p) 255
 uses_code more old new rest n end size all zeros grown p low =
     ap (λ (xs : List ℕ). slice_index_or xs p 0) (take_front new rest n (grown.size ∙ size))
-    ∙ grown.each p (omega (arith, low, size, all))
-    ∙ ap (λ (k : ℕ). min (k + more p) 255) (zeros p (omega (arith, low, all)))
-    ∙ ap (λ (k : ℕ). min k 255) (omega arith)
+    ∙ grown.each p (subst (λ (k : ℕ). p < k) (sym (size ∙ all)) low)
+    ∙ ap (λ (k : ℕ). min (k + more p) 255) (zeros p (subst (λ (k : ℕ). p < k) (sym all) low))
+    ∙ ap (λ (k : ℕ). min k 255) (add-zero-left (more p))
 
 -- all uses are those by gates and those by sinks
 pub grown_both : (n : Net) (old mid new : List ℕ) → AreGrown (λ p. sum_gates (λ q g. named_by_gate p g) 0 n.gates) old mid → AreGrown (λ p. named_by_sinks p n.sinks) mid new → AreGrown (uses_of n) old new
@@ -195,7 +236,10 @@ grown_both n old mid new first second =
     record {
       size = second.size ∙ first.size;
       each = λ p low.
-          omega (arith, second.each p (omega (arith, low, first.size)), first.each p low, sum_anywhere (named_by_gate p) 0 (n.sources + 1) n.gates);
+          second.each p (subst (λ (end : ℕ). p < end) (sym first.size) low)
+          ∙ ap (λ (k : ℕ). min (k + named_by_sinks p n.sinks) 255) (first.each p low)
+          ∙ min_more (slice_index_or old p 0) (sum_gates (λ q g. named_by_gate p g) 0 n.gates) (named_by_sinks p n.sinks)
+          ∙ ap (λ (k : ℕ). min (slice_index_or old p 0 + (k + named_by_sinks p n.sinks)) 255) (sum_anywhere (named_by_gate p) 0 (n.sources + 1) n.gates);
     }
 
 pub list_code : (n : Net) (gates : List Gate) (i : ℕ) (g : Gate) (place sources : ℕ) (last mid next : List ℕ) (list new : List Earlier) (e : Earlier) → IsNet n → gates ≡ n.gates → i < length gates → g ≡ slice_index_or gates i g → sources ≡ n.sources → place ≡ sources + 1 + i
@@ -203,4 +247,21 @@ pub list_code : (n : Net) (gates : List Gate) (i : ℕ) (g : Gate) (place source
 list_code n gates i g place sources last mid next list new e net same low is sources_is place_is first second noted_a noted_b grown was =
     let at : slice_get n.gates i ≡ Some g = ap (λ (xs : List Gate). slice_get xs i) (sym same) ∙ slice_get-get_or gates i g low ∙ ap Some (sym is) in
     let before : AreBefore (length last) n.gates = gates_before n (length last) net was.noted.size in
-    list_more n i g place last mid next list new e at (omega (arith, place_is, sources_is)) (before.first i g at) (before.second i g at) first second noted_a noted_b grown was
+    list_more n i g place last mid next list new e at (place_is ∙ ap (λ (k : ℕ). k + 1 + i) sources_is) (before.first i g at) (before.second i g at) first second noted_a noted_b grown was
+
+-- what is known of the gate at a place of the list, and of the lists behind the last gate
+pub operands_before : (n : Net) (gates : List Gate) (i : ℕ) (g : Gate) (last : List ℕ) → IsNet n → gates ≡ n.gates → i < length gates → g ≡ slice_index_or gates i g → length last ≡ end_of n → IsBefore (length last) g.a × IsBefore (length last) g.b
+operands_before n gates i g last net same low is size =
+    let at : slice_get n.gates i ≡ Some g = ap (λ (xs : List Gate). slice_get xs i) (sym same) ∙ slice_get-get_or gates i g low ∙ ap Some (sym is) in
+    let before : AreBefore (length last) n.gates = gates_before n (length last) net size in
+    (before.first i g at, before.second i g at)
+
+pub some_places : (n : Net) (last : List ℕ) → length last ≡ end_of n → 0 < length last
+some_places n last size = subst (λ (end : ℕ). 0 < end) (sym size) (end_some n)
+
+same_number : (i count : ℕ) → count ≤ i → i ≤ count → i ≡ count
+same_number i count high low = omega arith
+
+pub noted_all : (n : Net) (gates : List Gate) (i : ℕ) (last : List ℕ) (list : List Earlier) → gates ≡ n.gates → length gates ≤ i → i ≤ length gates → AreNoted n i last list → AreNoted n (length n.gates) last list
+noted_all n gates i last list same high low was =
+    subst (λ (k : ℕ). AreNoted n k last list) (same_number i (length gates) high low ∙ ap (length {A = Gate}) same) was
