@@ -28,10 +28,7 @@ fn first_conflicts(conflicts: u32) -> u32
     ensures some { 1 ≤ result }
     ensures most { result ≤ conflicts }
 {
-    if conflicts > FIRST_CONFLICTS {
-        return FIRST_CONFLICTS;
-    }
-    conflicts
+    conflicts.min(FIRST_CONFLICTS)
 }
 
 /// The heading for tables whose inputs are in another order, for the first search.

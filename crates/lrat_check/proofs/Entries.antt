@@ -45,3 +45,13 @@ live-remove old new id each = λ i k. at k i
 -- what is found in the one is found in the other
 pub indexed_view : {S : Type 0} (m : HashMap ℕ (List ℤ) S) (index : Lists) → IsIndexed (get nat_eq m) index → IsIndexed (live_at (map.from_entries m.entries)) index
 indexed_view m index indexed = record { each = λ id clause is. indexed.each id clause (sym (live_get m id) ∙ is) }
+
+-- In an empty map nothing is found, so each index has it all.
+pub empty_view : {S : Type 0} (m : HashMap ℕ (List ℤ) S) → m.entries ≡ [] → map.from_entries {R = nat_cmp} m.entries ≡ map.empty
+empty_view m none = rw none refl
+
+pub empty_indexed : {S : Type 0} (m : HashMap ℕ (List ℤ) S) (index : Lists) → m.entries ≡ [] → IsIndexed (get nat_eq m) index
+empty_indexed m index none = record { each = λ id clause is. absurd (nowhere id clause is) }
+  where
+    nowhere : (id : ℕ) (clause : List ℤ) → get nat_eq m id ≡ Some clause → ⊥
+    nowhere id clause is = let gone : None ≡ Some clause = sym (ap (lookup (nat_eq id)) none) ∙ is in absurd (cc)

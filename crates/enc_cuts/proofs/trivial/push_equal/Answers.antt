@@ -1,9 +1,10 @@
 use Rattle.clause_core.specs.declared.raw.Raw.TheVariants.{Var}
 use Rattle.clause_core.specs.Clauses.{IsWithin}
-use Rattle.std.proofs.Common.{◌≡◌, ap}
+use Rattle.std.proofs.Common.{◌≡◌, append_assoc, ap}
 use Rattle.sat_theory.specs.Formula.{Formula}
 use Rattle.clause_core.specs.WithinLaws.{within_var, two, three}
 use Rattle.enc_frame.specs.RoomLaws.{within_first}
+use Rattle.enc_theory.specs.Cuts.{equal_raw}
 use Rattle.enc_cuts.proofs.trivial.push_equal.Goals as goal
 
 pub push-requires : goal.push-requires
@@ -34,3 +35,11 @@ push-requires-3 c =
     rw same (two (IsWithin vars) (Var c.args.slot.var _) (Var c.f_var-2.result _)
     (within_var vars c.args.slot.var _ slot.var_from slot.var_within)
     (within_first c.args.z vars c.f_var-2.result _ room c.f_var-2.ensures.within))
+
+pub returns-then-not-constants : goal.returns-then-not-constants
+unfolding equal_raw
+returns-then-not-constants c = rw c.if-not-constants.true (rw (c.f_var.ensures.value, c.f_var-2.ensures.value) at c.push.ensures.written)
+
+pub returns : goal.returns
+unfolding equal_raw
+returns c = rw c.if-not-constants.false (rw (c.in_ok-push.ensures.written, c.f_var.ensures.value, c.f_var-2.ensures.value, append_assoc) at c.push-3.ensures.written)

@@ -1,7 +1,9 @@
+use Rattle.std.proofs.Common.{sym}
 use Rattle.clause_core.specs.declared.raw.Raw.TheVariants.{Var}
 use Rattle.clause_core.specs.Clauses.{IsWithin}
 use Rattle.enc_frame.specs.RoomLaws.{within_first}
 use Rattle.clause_core.specs.WithinLaws.{four}
+use Rattle.enc_theory.specs.Families.{operator_clause, operator_raw}
 use Rattle.enc_frame.proofs.families.push_operator_clause.Goals as goal
 
 pub push-requires : goal.push-requires
@@ -13,3 +15,9 @@ push-requires c =
     (within_first c.args.z vars c.f_var-2.result _ room c.f_var-2.ensures.within)
     (within_first c.args.z vars c.f_var-3.result _ room c.f_var-3.ensures.within)
     (within_first c.args.z vars c.f_var-4.result _ room c.f_var-4.ensures.within)
+
+pub returns : goal.returns
+unfolding operator_clause operator_raw
+returns c =
+    rw (sym c.contains.ensures, c.if-contains.false)
+    (rw (c.f_var.ensures.value, c.f_var-2.ensures.value, c.f_var-3.ensures.value, c.f_var-4.ensures.value, c.apply.ensures, c.apply-2.ensures, c.apply-3.ensures, c.apply-4.ensures) at c.push.ensures.written)

@@ -2,6 +2,7 @@ use Rattle.clause_core.specs.declared.raw.Raw.TheVariants.{Var}
 use Rattle.clause_core.specs.Clauses.{IsWithin}
 use Rattle.clause_core.specs.WithinLaws.{within_var, five}
 use Rattle.enc_frame.specs.RoomLaws.{within_first}
+use Rattle.enc_theory.specs.Families.{value_clause, value_raw}
 use Rattle.enc_frame.proofs.values.push_value_clause.Goals as goal
 
 pub push-requires : goal.push-requires
@@ -15,3 +16,7 @@ push-requires c =
     (c.x_is-2.ensures.within vars room)
     (c.x_is-3.ensures.within vars room)
     (within_first c.args.z vars c.f_var.result c.args.a room c.f_var.ensures.within)
+
+pub returns : goal.returns
+unfolding value_clause value_raw
+returns c = rw (c.x_is.ensures.value, c.x_is-2.ensures.value, c.x_is-3.ensures.value, c.f_var.ensures.value) at c.push.ensures.written
