@@ -51,25 +51,28 @@ fn texts_are_read(rt: HostRuntime) {
     }
 }
 
+/// Greatest numbers, texts, and the numbers that they are.
+const NUMBERS: &[(u32, &[u8], Option<u32>)] = &[
+    (999_999_999, b"0", Some(0)),
+    (999_999_999, b"3", Some(3)),
+    (999_999_999, b"999999999", Some(999_999_999)),
+    (999_999_999, b"1000000000", None),
+    (999_999_999, b"007", None),
+    (999_999_999, b"00", None),
+    (999_999_999, b"", None),
+    (999_999_999, b"+1", None),
+    (999_999_999, b"1 ", None),
+    (999_999_999, b"1a", None),
+    (4_294_967_295, b"4294967295", Some(4_294_967_295)),
+    (4_294_967_295, b"4294967296", None),
+    (4_294_967_295, b"99999999999999999999999999", None),
+    (0, b"0", Some(0)),
+    (0, b"1", None),
+];
+
 #[test]
 fn numbers_are_read_and_written(rt: HostRuntime) {
-    for (limit, text, number) in [
-        (999_999_999, b"0" as &[u8], Some(0)),
-        (999_999_999, b"3", Some(3)),
-        (999_999_999, b"999999999", Some(999_999_999)),
-        (999_999_999, b"1000000000", None),
-        (999_999_999, b"007", None),
-        (999_999_999, b"00", None),
-        (999_999_999, b"", None),
-        (999_999_999, b"+1", None),
-        (999_999_999, b"1 ", None),
-        (999_999_999, b"1a", None),
-        (4_294_967_295, b"4294967295", Some(4_294_967_295)),
-        (4_294_967_295, b"4294967296", None),
-        (4_294_967_295, b"99999999999999999999999999", None),
-        (0, b"0", Some(0)),
-        (0, b"1", None),
-    ] {
+    for &(limit, text, number) in NUMBERS {
         assert!(rt; number_up_to(limit, text) == number);
     }
     let mut out = Vec::from_slice(rt.alloc(), b"x").unwrap_or(Vec::new(rt.alloc()));
