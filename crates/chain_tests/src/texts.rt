@@ -1,52 +1,55 @@
 //! Lines, items, words and numbers of texts.
 use text_core::{after, begins_lower, next_item, next_line, number_up_to, push_number};
 
+/// Texts with their first lines, whether these have ends, and what is left.
+const LINES: &[(&[u8], &[u8], bool, &[u8])] = &[
+    (b"inputs 3\n01\n", b"inputs 3", true, b"01\n"),
+    (b"\n\n", b"", true, b"\n"),
+    (b"0110", b"0110", false, b""),
+    (b"01\r\nx", b"01\r", true, b"x"),
+];
+
+/// Texts with their first items, and what stands behind the blank.
+const ITEMS: &[(&[u8], &[u8], Option<&[u8]>)] = &[
+    (b"x3 x1 x2", b"x3", Some(b"x1 x2")),
+    (b"x3", b"x3", None),
+    (b"", b"", None),
+    (b" 1", b"", Some(b"1")),
+    (b"1\t2 ", b"1\t2", Some(b"")),
+];
+
+/// Words, texts, and what stands behind the word where the text begins with it.
+const AFTER: &[(&[u8], &[u8], Option<&[u8]>)] = &[
+    (b"x", b"x10", Some(b"10")),
+    (b"inputs ", b"inputs 3", Some(b"3")),
+    (b"inputs ", b"inputs", None),
+    (b"inputs ", b"Inputs 3", None),
+    (b"", b"3", Some(b"3")),
+];
+
+/// Texts, and whether they begin with a lower-case letter.
+const BEGINNINGS: &[(&[u8], bool)] = &[
+    (b"chain 1", true),
+    (b"z", true),
+    (b"0110", false),
+    (b"", false),
+    (b"Chain", false),
+    (b"-a", false),
+];
+
 #[test]
 fn texts_are_read(rt: HostRuntime) {
-    for (bytes, text, ended, rest) in [
-        (
-            b"inputs 3\n01\n" as &[u8],
-            b"inputs 3" as &[u8],
-            true,
-            b"01\n" as &[u8],
-        ),
-        (b"\n\n", b"", true, b"\n"),
-        (b"0110", b"0110", false, b""),
-        (b"01\r\nx", b"01\r", true, b"x"),
-    ] {
+    for &(bytes, text, ended, rest) in LINES {
         assert!(rt; next_line(bytes) == Some((text, ended, rest)));
     }
     assert!(rt; next_line(b"").is_none());
-    for (text, item, rest) in [
-        (
-            b"x3 x1 x2" as &[u8],
-            b"x3" as &[u8],
-            Some(b"x1 x2" as &[u8]),
-        ),
-        (b"x3", b"x3", None),
-        (b"", b"", None),
-        (b" 1", b"", Some(b"1")),
-        (b"1\t2 ", b"1\t2", Some(b"")),
-    ] {
+    for &(text, item, rest) in ITEMS {
         assert!(rt; next_item(text) == (item, rest));
     }
-    for (word, text, rest) in [
-        (b"x" as &[u8], b"x10" as &[u8], Some(b"10" as &[u8])),
-        (b"inputs ", b"inputs 3", Some(b"3")),
-        (b"inputs ", b"inputs", None),
-        (b"inputs ", b"Inputs 3", None),
-        (b"", b"3", Some(b"3")),
-    ] {
+    for &(word, text, rest) in AFTER {
         assert!(rt; after(word, text) == rest);
     }
-    for (text, begins) in [
-        (b"chain 1" as &[u8], true),
-        (b"z", true),
-        (b"0110", false),
-        (b"", false),
-        (b"Chain", false),
-        (b"-a", false),
-    ] {
+    for &(text, begins) in BEGINNINGS {
         assert!(rt; begins_lower(text) == begins);
     }
 }
