@@ -1,9 +1,6 @@
 //! Chain blocks read, refused and written, and what their chains compute.
-use chain_core::{
-    Basis, Chain, ChainError, Op, Out, Step, first_difference, first_outside, out_value,
-    read_chain, value, write_chain,
-};
-use std::test::Fail;
+use chain_core::{Basis, ChainError, first_difference, first_outside, read_chain, write_chain};
+use std::alloc::{AllocError, Global};
 use tt_core::read_tables;
 
 /// The sum and the carry of three bits in five steps.
@@ -29,51 +26,26 @@ const SEVENTEEN_STEPS: &[u8] = b"chain 17\n\
     x19 x1 x18 0110\n\
     out x19\n";
 
-#[test]
-fn a_full_adder_adds(rt: HostRuntime) -> Result<(), Fail> {
-    let (adder, used) = read_chain(rt.alloc(), FULL_ADDER, 1, 3, 2)?;
-    assert!(rt; used == FULL_ADDER.len());
-    assert!(rt; adder.n() == 3 && adder.steps().len() == 5);
-    for row in 0..8u32 {
-        let ones = row.count_ones();
-        let sum = out_value(&adder, row, 1) == (ones % 2 == 1);
-        let carry = out_value(&adder, row, 2) == (ones >= 2);
-        let inputs = value(&adder, row, 1) == (row >= 4) && value(&adder, row, 3) == (row % 2 == 1);
-        assert!(rt; sum && carry && inputs, "{row}");
+/// Whether the chain of a block differs from tables first at this output and row, or nowhere.
+fn differs_at(alloc: Global, tables: &[u8], block: &[u8], difference: Option<(u32, u32)>) -> bool {
+    if tables.len() > 1000 || block.len() > 1000 {
+        return false;
     }
-    Ok(())
+    let Ok(tables) = read_tables(alloc, tables) else {
+        return false;
+    };
+    let (inputs, outputs) = (tables.spec.n(), tables.spec.outputs());
+    if inputs > 6 || outputs > 8 {
+        return false;
+    }
+    match read_chain(alloc, block, 1, inputs, outputs) {
+        Ok((chain, _)) => first_difference(&chain, &tables.spec) == difference,
+        Err(_) => false,
+    }
 }
 
 #[test]
-fn values_follow_the_steps(rt: HostRuntime) -> Result<(), Fail> {
-    let (mixed, _) = read_chain(rt.alloc(), MIXED, 1, 1, 4)?;
-    assert!(rt; mixed.steps().len() == 2);
-    for (row, h, bit) in [
-        (0, 1, true),
-        (0, 2, true),
-        (0, 3, false),
-        (0, 4, false),
-        (1, 1, true),
-        (1, 2, false),
-        (1, 3, false),
-        (1, 4, true),
-    ] {
-        assert!(rt; out_value(&mixed, row, h) == bit, "output {h} on {row}");
-    }
-    assert!(rt;
-        mixed.steps()[1]
-            == (Step {
-                j: 2,
-                k: 1,
-                op: Op::new(2)
-            })
-    );
-    assert!(rt; mixed.outs()[0] == Out::One);
-    Ok(())
-}
-
-#[test]
-fn the_first_difference_is_found(rt: HostRuntime) -> Result<(), Fail> {
+fn the_first_difference_is_found(rt: HostRuntime) {
     let xor = b"chain 1\nx3 x1 x2 0110\nout x3\n" as &[u8];
     let or = b"chain 1\nx3 x1 x2 0111\nout x3\n" as &[u8];
     let one = b"chain 0\nout 1\n" as &[u8];
@@ -85,15 +57,22 @@ fn the_first_difference_is_found(rt: HostRuntime) -> Result<(), Fail> {
         (b"inputs 2\n0110\n", one, Some((1, 0))),
         (b"inputs 2\n0110\n0010\n", twice, Some((2, 1))),
         (b"inputs 2\n0111\n0010\n", twice, Some((1, 3))),
+        // the sum and the carry of three bits
+        (b"inputs 3\n01101001\n00010111\n", FULL_ADDER, None),
+        // a constant, AND NOT behind a negation, a constant, and the input
+        (b"inputs 1\n11\n10\n00\n01\n", MIXED, None),
     ] {
-        let spec = read_tables(rt.alloc(), tables)?.spec;
-        let outputs = spec.outputs();
-        assert!(rt; outputs <= 8);
-        assert!(rt; block.len() < 1000);
-        let (chain, _) = read_chain(rt.alloc(), block, 1, spec.n(), outputs)?;
-        assert!(rt; first_difference(&chain, &spec) == difference);
+        assert!(rt; differs_at(rt.alloc(), tables, block, difference));
     }
-    Ok(())
+}
+
+/// How many bytes of a text are a block that begins at line 4, for two inputs and one output.
+fn taken(alloc: Global, text: &[u8]) -> Result<usize, ChainError> {
+    if text.len() > 1000 {
+        return Err(ChainError::Memory);
+    }
+    let (_, used) = read_chain(alloc, text, 4, 2, 1)?;
+    Ok(used)
 }
 
 #[test]
@@ -105,106 +84,124 @@ fn blocks_are_read(rt: HostRuntime) {
         (b"chain 0\nout 0\nout 1", 14),
         (SIXTEEN_STEPS, SIXTEEN_STEPS.len()),
     ] {
-        assert!(rt; text.len() < 1000);
-        match read_chain(rt.alloc(), text, 4, 2, 1) {
-            Ok((_, taken)) => assert!(rt; taken == used),
-            Err(error) => assert!(rt; false, "{error:?}"),
-        }
+        assert!(rt; taken(rt.alloc(), text) == Ok(used), "{used}");
     }
 }
 
-/// Each text with its refusal. The first line has the number 4, there are two inputs and one output.
+/// Texts with their refusals, where the first line has the number 4, for two inputs and one output.
+const REFUSALS: &[(&[u8], ChainError)] = &[
+    (b"", ChainError::BadCount(4)),
+    (b"chain 1", ChainError::BadCount(4)),
+    (b"chain 17", ChainError::BadCount(4)),
+    (b"chain\nout x1\n", ChainError::BadCount(4)),
+    (b"chain \nout x1\n", ChainError::BadCount(4)),
+    (
+        b"chain 01\nx3 x1 x2 0110\nout x3\n",
+        ChainError::BadCount(4),
+    ),
+    (
+        b"chain  1\nx3 x1 x2 0110\nout x3\n",
+        ChainError::BadCount(4),
+    ),
+    (b"Chain 1\nx3 x1 x2 0110\nout x3\n", ChainError::BadCount(4)),
+    (
+        b"chain 1\r\nx3 x1 x2 0110\nout x3\n",
+        ChainError::BadCount(4),
+    ),
+    (b"chain 1000000000\n", ChainError::BadCount(4)),
+    (b"chain 999999999\n", ChainError::TooManySteps(4)),
+    (SEVENTEEN_STEPS, ChainError::TooManySteps(4)),
+    (b"chain 2\n", ChainError::BadStep(5)),
+    (b"chain 2\nx3 x1 x2 0110\n", ChainError::BadStep(6)),
+    (b"chain 2\nx3 x1 x2 0110\nout x3\n", ChainError::BadStep(6)),
+    (b"chain 1\nx3 x1 x2 0110", ChainError::BadStep(5)),
+    (b"chain 1\nx3 x3 x2 0110", ChainError::BadStep(5)),
+    (b"chain 1\nx4 x1 x2 0110\nout x3\n", ChainError::BadStep(5)),
+    (b"chain 1\nx4 x3 x2 0110\nout x3\n", ChainError::BadStep(5)),
+    (b"chain 1\nx3 x0 x2 0110\nout x3\n", ChainError::BadStep(5)),
+    (b"chain 1\nx3 x3 x0 0110\nout x3\n", ChainError::BadStep(5)),
+    (b"chain 1\nx3 x1  x2 0110\nout x3\n", ChainError::BadStep(5)),
+    (b"chain 1\nx3 x1 x2 0110 \nout x3\n", ChainError::BadStep(5)),
+    (b"chain 1\nx3 x1 x2 011\nout x3\n", ChainError::BadStep(5)),
+    (b"chain 1\nx3 x1 x2 0120\nout x3\n", ChainError::BadStep(5)),
+    (b"chain 1\nx3 x01 x2 0110\nout x3\n", ChainError::BadStep(5)),
+    (
+        b"chain 1\nx3 x1000000000 x2 0110\nout x3\n",
+        ChainError::BadStep(5),
+    ),
+    (
+        b"chain 1\nx3 x999999999 x2 0110\nout x3\n",
+        ChainError::ForwardPlace(5),
+    ),
+    (
+        b"chain 1\nx3 x3 x2 0110\nout x3\n",
+        ChainError::ForwardPlace(5),
+    ),
+    (
+        b"chain 2\nx3 x1 x2 0110\nx4 x1 x5 0110\n",
+        ChainError::ForwardPlace(6),
+    ),
+    (b"chain 0\n", ChainError::BadOut(5)),
+    (b"chain 1\nx3 x1 x2 0110\n", ChainError::BadOut(6)),
+    (b"chain 1\nx3 x1 x2 0110\nend\n", ChainError::BadOut(6)),
+    (b"chain 1\nx3 x1 x2 0110\nout x4\n", ChainError::BadOut(6)),
+    (b"chain 1\nx3 x1 x2 0110\nout x0\n", ChainError::BadOut(6)),
+    (b"chain 1\nx3 x1 x2 0110\nout 2\n", ChainError::BadOut(6)),
+    (b"chain 1\nx3 x1 x2 0110\nout x3", ChainError::BadOut(6)),
+];
+
 #[test]
 fn refusals_name_the_first_fault(rt: HostRuntime) {
-    for (text, refusal) in [
-        (b"" as &[u8], ChainError::BadCount(4)),
-        (b"chain 1", ChainError::BadCount(4)),
-        (b"chain 17", ChainError::BadCount(4)),
-        (b"chain\nout x1\n", ChainError::BadCount(4)),
-        (b"chain \nout x1\n", ChainError::BadCount(4)),
-        (
-            b"chain 01\nx3 x1 x2 0110\nout x3\n",
-            ChainError::BadCount(4),
-        ),
-        (
-            b"chain  1\nx3 x1 x2 0110\nout x3\n",
-            ChainError::BadCount(4),
-        ),
-        (b"Chain 1\nx3 x1 x2 0110\nout x3\n", ChainError::BadCount(4)),
-        (
-            b"chain 1\r\nx3 x1 x2 0110\nout x3\n",
-            ChainError::BadCount(4),
-        ),
-        (b"chain 1000000000\n", ChainError::BadCount(4)),
-        (b"chain 999999999\n", ChainError::TooManySteps(4)),
-        (SEVENTEEN_STEPS, ChainError::TooManySteps(4)),
-        (b"chain 2\n", ChainError::BadStep(5)),
-        (b"chain 2\nx3 x1 x2 0110\n", ChainError::BadStep(6)),
-        (b"chain 2\nx3 x1 x2 0110\nout x3\n", ChainError::BadStep(6)),
-        (b"chain 1\nx3 x1 x2 0110", ChainError::BadStep(5)),
-        (b"chain 1\nx3 x3 x2 0110", ChainError::BadStep(5)),
-        (b"chain 1\nx4 x1 x2 0110\nout x3\n", ChainError::BadStep(5)),
-        (b"chain 1\nx4 x3 x2 0110\nout x3\n", ChainError::BadStep(5)),
-        (b"chain 1\nx3 x0 x2 0110\nout x3\n", ChainError::BadStep(5)),
-        (b"chain 1\nx3 x3 x0 0110\nout x3\n", ChainError::BadStep(5)),
-        (b"chain 1\nx3 x1  x2 0110\nout x3\n", ChainError::BadStep(5)),
-        (b"chain 1\nx3 x1 x2 0110 \nout x3\n", ChainError::BadStep(5)),
-        (b"chain 1\nx3 x1 x2 011\nout x3\n", ChainError::BadStep(5)),
-        (b"chain 1\nx3 x1 x2 0120\nout x3\n", ChainError::BadStep(5)),
-        (b"chain 1\nx3 x01 x2 0110\nout x3\n", ChainError::BadStep(5)),
-        (
-            b"chain 1\nx3 x1000000000 x2 0110\nout x3\n",
-            ChainError::BadStep(5),
-        ),
-        (
-            b"chain 1\nx3 x999999999 x2 0110\nout x3\n",
-            ChainError::ForwardPlace(5),
-        ),
-        (
-            b"chain 1\nx3 x3 x2 0110\nout x3\n",
-            ChainError::ForwardPlace(5),
-        ),
-        (
-            b"chain 2\nx3 x1 x2 0110\nx4 x1 x5 0110\n",
-            ChainError::ForwardPlace(6),
-        ),
-        (b"chain 0\n", ChainError::BadOut(5)),
-        (b"chain 1\nx3 x1 x2 0110\n", ChainError::BadOut(6)),
-        (b"chain 1\nx3 x1 x2 0110\nend\n", ChainError::BadOut(6)),
-        (b"chain 1\nx3 x1 x2 0110\nout x4\n", ChainError::BadOut(6)),
-        (b"chain 1\nx3 x1 x2 0110\nout x0\n", ChainError::BadOut(6)),
-        (b"chain 1\nx3 x1 x2 0110\nout 2\n", ChainError::BadOut(6)),
-        (b"chain 1\nx3 x1 x2 0110\nout x3", ChainError::BadOut(6)),
-    ] {
-        assert!(rt; text.len() < 1000);
-        let read = read_chain(rt.alloc(), text, 4, 2, 1);
-        assert!(rt; read.err() == Some(refusal));
+    for &(text, refusal) in REFUSALS {
+        assert!(rt; taken(rt.alloc(), text) == Err(refusal));
     }
 }
 
-#[test]
-fn blocks_are_written(rt: HostRuntime) -> Result<(), Fail> {
-    for (block, n, outputs) in [(FULL_ADDER, 3, 2), (MIXED, 1, 4), (b"chain 0\n", 6, 0)] {
-        assert!(rt; block.len() < 1000);
-        let (chain, _) = read_chain(rt.alloc(), block, 1, n, outputs)?;
-        let mut text = Vec::new(rt.alloc());
-        text.extend_from_slice(b"inputs\n")?;
-        write_chain(&chain, &mut text)?;
-        let (front, written) = text.split_at(7);
-        assert!(rt; front == b"inputs\n".as_slice());
-        assert!(rt; written == block);
+/// Whether the chain of a block is written as that block, behind what stood there.
+fn is_written_again(alloc: Global, block: &[u8], n: u32, outputs: u32) -> Result<bool, AllocError> {
+    if block.len() > 1000 || n > 6 || outputs > 8 {
+        return Ok(false);
     }
-    let (steps, outs) = (Vec::new(rt.alloc()), Vec::new(rt.alloc()));
-    let mut text = Vec::new(rt.alloc());
-    write_chain(&Chain::new(0, steps, outs), &mut text)?;
-    assert!(rt; text.as_slice() == b"chain 0\n".as_slice());
+    let Ok((chain, _)) = read_chain(alloc, block, 1, n, outputs) else {
+        return Ok(false);
+    };
+    let mut text = vec![in alloc; b'x']?;
+    write_chain(&chain, &mut text)?;
+    let (_, written) = text.split_at(1);
+    Ok(written == block)
+}
+
+#[test]
+fn blocks_are_written(rt: HostRuntime) -> Result<(), AllocError> {
+    for (block, n, outputs) in [(FULL_ADDER, 3, 2), (MIXED, 1, 4), (b"chain 0\n", 6, 0)] {
+        let again = is_written_again(rt.alloc(), block, n, outputs)?;
+        assert!(rt; again, "{n}");
+    }
     Ok(())
+}
+
+/// Whether the first place of a block's chain whose operator isn't in a basis is this one; with its inputs and outputs.
+fn is_outside_at(
+    alloc: Global,
+    block: &[u8],
+    widths: (u32, u32),
+    bits: u16,
+    place: Option<u32>,
+) -> bool {
+    let (n, outputs) = widths;
+    if block.len() > 1000 || n > 6 || outputs > 8 {
+        return false;
+    }
+    match read_chain(alloc, block, 1, n, outputs) {
+        Ok((chain, _)) => first_outside(&chain, Basis::new(bits)) == place,
+        Err(_) => false,
+    }
 }
 
 /// Bases by their bits. The full adder has the operators 6, 1, 6, 1 and 7, and the mixed chain 14
 /// and 2.
 #[test]
-fn the_first_place_outside_a_basis_is_found(rt: HostRuntime) -> Result<(), Fail> {
+fn the_first_place_outside_a_basis_is_found(rt: HostRuntime) {
     for (block, n, outputs, bits, place) in [
         (FULL_ADDER, 3, 2, 65535, None),
         (FULL_ADDER, 3, 2, 2 + 64 + 128, None),
@@ -214,9 +211,7 @@ fn the_first_place_outside_a_basis_is_found(rt: HostRuntime) -> Result<(), Fail>
         (MIXED, 1, 4, 16384, Some(3)),
         (b"chain 0\nout x1\n", 1, 1, 0, None),
     ] {
-        assert!(rt; block.len() < 1000);
-        let (chain, _) = read_chain(rt.alloc(), block, 1, n, outputs)?;
-        assert!(rt; first_outside(&chain, Basis::new(bits)) == place);
+        let found = is_outside_at(rt.alloc(), block, (n, outputs), bits, place);
+        assert!(rt; found, "{bits}");
     }
-    Ok(())
 }

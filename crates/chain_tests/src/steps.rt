@@ -23,56 +23,59 @@ fn has(alloc: Global, basis: &[u8], tables: &[u8], wanted: &[u8]) -> Result<bool
     Ok(told.as_slice() == wanted)
 }
 
+/// Bases, tables, and their chains of at most one step; nothing where they have none.
+const ONE_STEP: &[(&[u8], &[u8], &[u8])] = &[
+    // no step: constants and inputs, and what don't-cares let be one
+    (
+        b"nand",
+        b"inputs 2\n0000\n1111\n0101\n0--1\n",
+        b"chain 0\nout 0\nout 1\nout x2\nout x1\n",
+    ),
+    // one step, and another output beside it
+    (
+        b"all",
+        b"inputs 2\n0110\n0011\n",
+        b"chain 1\nx3 x1 x2 0110\nout x3\nout x1\n",
+    ),
+    // a negation stands on one input
+    (
+        b"nand",
+        b"inputs 2\n1010\n",
+        b"chain 1\nx3 x2 x2 1110\nout x3\n",
+    ),
+    // also where two inputs would serve
+    (
+        b"all",
+        b"inputs 2\n1010\n",
+        b"chain 1\nx3 x2 x2 1000\nout x3\n",
+    ),
+    // operands in the other order, where the basis has no other
+    (
+        b"0010",
+        b"inputs 2\n0100\n",
+        b"chain 1\nx3 x2 x1 0010\nout x3\n",
+    ),
+    // outputs that may be one step
+    (
+        b"bench",
+        b"inputs 3\n0-0001-1\n0000-101\n",
+        b"chain 1\nx4 x1 x3 0001\nout x4\nout x4\n",
+    ),
+    // none over this basis, and two steps
+    (b"nand", b"inputs 2\n0110\n", b""),
+    (b"all", b"inputs 2\n0110\n0111\n", b""),
+    (b"all", b"inputs 3\n01101001\n", b""),
+    // the last input of six
+    (
+        b"all",
+        b"inputs 6\n0000000000000000000000000000000001010101010101010101010101010101\n",
+        b"chain 1\nx7 x1 x6 0001\nout x7\n",
+    ),
+];
+
 #[test]
 fn chains_of_one_step_are_found(rt: HostRuntime) -> Result<(), AllocError> {
-    for (basis, tables, wanted) in [
-        // no step: constants and inputs, and what don't-cares let be one
-        (
-            b"nand".as_slice(),
-            b"inputs 2\n0000\n1111\n0101\n0--1\n".as_slice(),
-            b"chain 0\nout 0\nout 1\nout x2\nout x1\n".as_slice(),
-        ),
-        // one step, and another output beside it
-        (
-            b"all",
-            b"inputs 2\n0110\n0011\n",
-            b"chain 1\nx3 x1 x2 0110\nout x3\nout x1\n",
-        ),
-        // a negation stands on one input
-        (
-            b"nand",
-            b"inputs 2\n1010\n",
-            b"chain 1\nx3 x2 x2 1110\nout x3\n",
-        ),
-        // also where two inputs would serve
-        (
-            b"all",
-            b"inputs 2\n1010\n",
-            b"chain 1\nx3 x2 x2 1000\nout x3\n",
-        ),
-        // operands in the other order, where the basis has no other
-        (
-            b"0010",
-            b"inputs 2\n0100\n",
-            b"chain 1\nx3 x2 x1 0010\nout x3\n",
-        ),
-        // outputs that may be one step
-        (
-            b"bench",
-            b"inputs 3\n0-0001-1\n0000-101\n",
-            b"chain 1\nx4 x1 x3 0001\nout x4\nout x4\n",
-        ),
-        // none over this basis, and two steps
-        (b"nand", b"inputs 2\n0110\n", b""),
-        (b"all", b"inputs 2\n0110\n0111\n", b""),
-        (b"all", b"inputs 3\n01101001\n", b""),
-        // the last input of six
-        (
-            b"all",
-            b"inputs 6\n0000000000000000000000000000000001010101010101010101010101010101\n",
-            b"chain 1\nx7 x1 x6 0001\nout x7\n",
-        ),
-    ] {
+    for &(basis, tables, wanted) in ONE_STEP {
         let found = has(rt.alloc(), basis, tables, wanted)?;
         assert!(rt; found);
     }

@@ -59,7 +59,7 @@ fn decoded(
 }
 
 /// Whether there is a chain of this one step, with these outs.
-fn is_chain(chain: &Option<Chain>, j: u32, k: u32, op: u8, outs: &[Out]) -> bool {
+fn is_chain(chain: Option<Chain>, j: u32, k: u32, op: u8, outs: &[Out]) -> bool {
     let Some(chain) = chain else {
         return false;
     };
@@ -79,88 +79,92 @@ const AND_NOT: &[u8] = b"inputs 2\n0100\n";
 /// XOR, with outputs that cost nothing before and behind it.
 const THREE: &[u8] = b"inputs 2\n0011\n0110\n----\n";
 
+/// Tables and bases, what is true in a formula of theirs, and the one step and the outs that it spells.
+const CHAINS: &[(Method, &[u8], &[u8], &[bool], u32, u32, u8, &[Out])] = &[
+    // both orders of the operands are true, and the first is taken
+    (
+        Method::Plain,
+        XOR,
+        b"all",
+        &[O, I, I, O, I, O, I, I, O, O, O, I, I],
+        1,
+        2,
+        6,
+        &[Out::Place(3)],
+    ),
+    // x2 and not x1, by an operator whose operands can't be exchanged
+    (
+        Method::Plain,
+        AND_NOT,
+        b"0010",
+        &[O, I, O, O, I, O, O, I, O, O, O, O, I],
+        2,
+        1,
+        2,
+        &[Out::Place(3)],
+    ),
+    (
+        Method::Plain,
+        THREE,
+        b"all",
+        &[O, I, I, O, I, O, I, I, O, O, O, I, O],
+        1,
+        2,
+        6,
+        &[Out::Place(1), Out::Place(3), Out::Zero],
+    ),
+    // with cuts the operands come in one order
+    (
+        Method::Ssv,
+        XOR,
+        b"all",
+        &[O, I, I, O, I, O, I, I, O, O, O, I],
+        1,
+        2,
+        6,
+        &[Out::Place(3)],
+    ),
+    (
+        Method::Select,
+        AND_NOT,
+        b"0010",
+        &[
+            O, I, O, O, I, O, O, I, O, O, I, I, O, O, I, O, I, O, O, I, I,
+        ],
+        2,
+        1,
+        2,
+        &[Out::Place(3)],
+    ),
+    (
+        Method::Select,
+        THREE,
+        b"all",
+        &[
+            O, I, I, O, I, O, I, I, O, I, O, O, I, O, O, I, I, O, I, O, I,
+        ],
+        1,
+        2,
+        6,
+        &[Out::Place(1), Out::Place(3), Out::Zero],
+    ),
+    (
+        Method::Fence,
+        XOR,
+        b"all",
+        &[O, I, I, O, I, O, I, I, O, O, O, I],
+        1,
+        2,
+        6,
+        &[Out::Place(3)],
+    ),
+];
+
 #[test]
 fn chains_are_decoded(rt: HostRuntime) {
-    for (method, tables, basis, bits, j, k, op, outs) in [
-        // both orders of the operands are true, and the first is taken
-        (
-            Method::Plain,
-            XOR,
-            b"all" as &[u8],
-            &[O, I, I, O, I, O, I, I, O, O, O, I, I] as &[bool],
-            1,
-            2,
-            6,
-            &[Out::Place(3)] as &[Out],
-        ),
-        // x2 and not x1, by an operator whose operands can't be exchanged
-        (
-            Method::Plain,
-            AND_NOT,
-            b"0010",
-            &[O, I, O, O, I, O, O, I, O, O, O, O, I],
-            2,
-            1,
-            2,
-            &[Out::Place(3)],
-        ),
-        (
-            Method::Plain,
-            THREE,
-            b"all",
-            &[O, I, I, O, I, O, I, I, O, O, O, I, O],
-            1,
-            2,
-            6,
-            &[Out::Place(1), Out::Place(3), Out::Zero],
-        ),
-        // with cuts the operands come in one order
-        (
-            Method::Ssv,
-            XOR,
-            b"all",
-            &[O, I, I, O, I, O, I, I, O, O, O, I],
-            1,
-            2,
-            6,
-            &[Out::Place(3)],
-        ),
-        (
-            Method::Select,
-            AND_NOT,
-            b"0010",
-            &[
-                O, I, O, O, I, O, O, I, O, O, I, I, O, O, I, O, I, O, O, I, I,
-            ],
-            2,
-            1,
-            2,
-            &[Out::Place(3)],
-        ),
-        (
-            Method::Select,
-            THREE,
-            b"all",
-            &[
-                O, I, I, O, I, O, I, I, O, I, O, O, I, O, O, I, I, O, I, O, I,
-            ],
-            1,
-            2,
-            6,
-            &[Out::Place(1), Out::Place(3), Out::Zero],
-        ),
-        (
-            Method::Fence,
-            XOR,
-            b"all",
-            &[O, I, I, O, I, O, I, I, O, O, O, I],
-            1,
-            2,
-            6,
-            &[Out::Place(3)],
-        ),
-    ] {
+    for &(method, tables, basis, bits, j, k, op, outs) in CHAINS {
         let chain = decoded(rt.alloc(), method, tables, basis, bits);
-        assert!(rt; is_chain(&chain, j, k, op, outs));
+        let spelled = is_chain(chain, j, k, op, outs);
+        assert!(rt; spelled, "{j} {k} {op}");
     }
 }

@@ -49,28 +49,36 @@ fn clauses_are_simplified(rt: HostRuntime) {
     assert!(rt; lits && second.lits().is_empty() && list.vars() == 4);
 }
 
+/// The cuts that a basis allows; None where the text is none.
+fn cuts_of(basis: &[u8]) -> Option<CutSet> {
+    match read_basis(basis) {
+        Ok(basis) => Some(cuts(basis)),
+        Err(_) => None,
+    }
+}
+
+/// Bases, and whether they allow cuts by exchanged operands, constants, polarity and reapplication.
+const CUTS: &[(&[u8], bool, bool, bool, bool)] = &[
+    (b"all", true, true, true, true),
+    (b"u2", true, true, true, true),
+    (b"bench", true, true, false, false),
+    (b"nand", true, true, false, false),
+    (b"0001", true, true, false, true),
+    (b"0110,1001", true, false, true, false),
+    (b"0010", false, false, false, false),
+    (b"0011", false, true, false, true),
+];
+
 #[test]
 fn bases_allow_cuts(rt: HostRuntime) {
-    for (basis, swap, constants, polarity, reapply) in [
-        (b"all" as &[u8], true, true, true, true),
-        (b"u2", true, true, true, true),
-        (b"bench", true, true, false, false),
-        (b"nand", true, true, false, false),
-        (b"0001", true, true, false, true),
-        (b"0110,1001", true, false, true, false),
-        (b"0010", false, false, false, false),
-        (b"0011", false, true, false, true),
-    ] {
+    for &(basis, swap, constants, polarity, reapply) in CUTS {
         let wanted = CutSet {
             swap,
             constants,
             polarity,
             reapply,
         };
-        match read_basis(basis) {
-            Ok(basis) => assert!(rt; cuts(basis) == wanted),
-            Err(_) => assert!(rt; false),
-        }
+        assert!(rt; cuts_of(basis) == Some(wanted));
     }
 }
 

@@ -99,10 +99,10 @@ fn live_outputs_decide_the_parts(rt: HostRuntime) {
         (b"inputs 2\n0011\n", 0, 1),
         (b"inputs 2\n0011\n", 1, 0),
     ] {
-        match parts_of_size(rt.alloc(), tables, r) {
-            Some(count) => assert!(rt; count == wanted),
-            None => assert!(rt; false),
-        }
+        assert!(rt;
+            parts_of_size(rt.alloc(), tables, r) == Some(wanted),
+            "{wanted}"
+        );
     }
 }
 

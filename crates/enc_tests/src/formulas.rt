@@ -71,11 +71,11 @@ fn numbers_of(alloc: Global, cnf: &Cnf) -> Result<Vec<i32>, AllocError> {
 
 /// Whether there is a formula of so many variables whose last clauses are these, the first of them being
 /// the formula's first where all is asked for.
-fn ends_with(alloc: Global, formula: &Option<Cnf>, vars: u32, all: bool, wanted: &[i32]) -> bool {
+fn ends_with(alloc: Global, formula: Option<Cnf>, vars: u32, all: bool, wanted: &[i32]) -> bool {
     let Some(cnf) = formula else {
         return false;
     };
-    let Ok(numbers) = numbers_of(alloc, cnf) else {
+    let Ok(numbers) = numbers_of(alloc, &cnf) else {
         return false;
     };
     if cnf.vars() != vars || numbers.len() < wanted.len() {
@@ -95,11 +95,11 @@ fn sum_of(numbers: &[i32]) -> u32 {
 }
 
 /// Whether there is a formula of so many variables and clauses, with this sum over its clauses.
-fn is_like(alloc: Global, formula: &Option<Cnf>, vars: u32, clauses: usize, sum: u32) -> bool {
+fn is_like(alloc: Global, formula: Option<Cnf>, vars: u32, clauses: usize, sum: u32) -> bool {
     let Some(cnf) = formula else {
         return false;
     };
-    let Ok(numbers) = numbers_of(alloc, cnf) else {
+    let Ok(numbers) = numbers_of(alloc, &cnf) else {
         return false;
     };
     cnf.vars() == vars && cnf.clauses().len() == clauses && sum_of(&numbers) == sum
@@ -111,113 +111,108 @@ const THREE: &[u8] = b"inputs 4\n0110100110010110\n0000000000000001\n0----------
 
 const XOR: &[u8] = b"inputs 2\n0110\n";
 
+/// Formulas of parts of sizes, with the numbers of their variables and clauses, and their sums, by another program.
+const SUMS: &[(Method, &[u8], &[u8], u32, usize, u32, usize, u32)] = &[
+    (Method::Plain, LIGHTS, b"all", 3, 0, 140, 3572, 599009576),
+    (Method::Ssv, LIGHTS, b"all", 3, 0, 109, 2433, 2276029920),
+    (
+        Method::Plain,
+        THREE,
+        b"0001,0110,1000",
+        3,
+        0,
+        143,
+        3660,
+        2724648464,
+    ),
+    (
+        Method::Ssv,
+        THREE,
+        b"0001,0110,1000",
+        3,
+        0,
+        112,
+        2443,
+        3735524217,
+    ),
+    (Method::Fence, b"inputs 1\n10\n", b"0001", 0, 0, 0, 1, 0),
+    (Method::Fence, LIGHTS, b"all", 3, 0, 84, 1231, 1713344511),
+    (Method::Fence, LIGHTS, b"all", 3, 1, 94, 1629, 2901222639),
+    (
+        Method::Fence,
+        THREE,
+        b"0001,0110,1000",
+        3,
+        0,
+        87,
+        1273,
+        1473757573,
+    ),
+    (
+        Method::Fence,
+        THREE,
+        b"0001,0110,1000",
+        3,
+        1,
+        86,
+        1155,
+        1444629802,
+    ),
+    (
+        Method::Fence,
+        THREE,
+        b"0001,0110,1000",
+        3,
+        2,
+        97,
+        1664,
+        768145087,
+    ),
+];
+
 #[test]
 fn formulas_are_those_of_another_program(rt: HostRuntime) {
-    for (method, tables, basis, r, which, vars, clauses, sum) in [
-        (
-            Method::Plain,
-            LIGHTS,
-            b"all" as &[u8],
-            3,
-            0,
-            140,
-            3572,
-            599009576,
-        ),
-        (Method::Ssv, LIGHTS, b"all", 3, 0, 109, 2433, 2276029920),
-        (
-            Method::Plain,
-            THREE,
-            b"0001,0110,1000",
-            3,
-            0,
-            143,
-            3660,
-            2724648464,
-        ),
-        (
-            Method::Ssv,
-            THREE,
-            b"0001,0110,1000",
-            3,
-            0,
-            112,
-            2443,
-            3735524217,
-        ),
-        (Method::Fence, b"inputs 1\n10\n", b"0001", 0, 0, 0, 1, 0),
-        (Method::Fence, LIGHTS, b"all", 3, 0, 84, 1231, 1713344511),
-        (Method::Fence, LIGHTS, b"all", 3, 1, 94, 1629, 2901222639),
-        (
-            Method::Fence,
-            THREE,
-            b"0001,0110,1000",
-            3,
-            0,
-            87,
-            1273,
-            1473757573,
-        ),
-        (
-            Method::Fence,
-            THREE,
-            b"0001,0110,1000",
-            3,
-            1,
-            86,
-            1155,
-            1444629802,
-        ),
-        (
-            Method::Fence,
-            THREE,
-            b"0001,0110,1000",
-            3,
-            2,
-            97,
-            1664,
-            768145087,
-        ),
-    ] {
+    for &(method, tables, basis, r, which, vars, clauses, sum) in SUMS {
         let formula = formula(rt.alloc(), method, tables, basis, r, which);
-        assert!(rt;
-            is_like(rt.alloc(), &formula, vars, clauses, sum),
-            "{r} steps"
-        );
+        let alike = is_like(rt.alloc(), formula, vars, clauses, sum);
+        assert!(rt; alike, "{r} steps");
     }
 }
 
-/// Two steps for XOR over sets of operators that the five tests tell apart in nine ways.
+/// Formulas of two steps for XOR over sets of operators that the five tests tell apart in nine ways.
+const SUMS_OF_BASES: &[(Method, &[u8], u32, usize, u32)] = &[
+    (Method::Ssv, b"0000,0011,0110", 31, 211, 141350951),
+    (Method::Select, b"0000,0011,0110", 44, 172, 3144029014),
+    (Method::Ssv, b"0000,0011,1111", 31, 220, 2272156084),
+    (Method::Select, b"0000,0011,1111", 44, 181, 1642880629),
+    (Method::Ssv, b"0000,0011,1000", 31, 206, 1967670986),
+    (Method::Select, b"0000,0011,1000", 44, 167, 3118167463),
+    (Method::Ssv, b"0000,0011,1010", 31, 220, 1890792365),
+    (Method::Select, b"0000,0011,1010", 44, 187, 2937158271),
+    (Method::Ssv, b"0000,0101,1010,1111", 31, 222, 4002883182),
+    (Method::Select, b"0000,0101,1010,1111", 44, 189, 3453105558),
+    (Method::Ssv, b"0011,0101,0110", 27, 150, 4086971746),
+    (Method::Select, b"0011,0101,0110", 44, 167, 926684078),
+    (Method::Ssv, b"0000,0011,0101,0110", 27, 152, 296785563),
+    (Method::Select, b"0000,0011,0101,0110", 44, 169, 1325322310),
+    (Method::Ssv, b"0000,1111", 27, 163, 3411101679),
+    (Method::Select, b"0000,1111", 44, 180, 1631859616),
+    (Method::Ssv, b"0000,1010,1100", 27, 161, 2726093368),
+    (Method::Select, b"0000,1010,1100", 44, 190, 2185277293),
+];
+
 #[test]
 fn tests_of_bases_decide_the_cuts(rt: HostRuntime) {
-    for (method, basis, vars, clauses, sum) in [
-        (Method::Ssv, b"0000,0011,0110" as &[u8], 31, 211, 141350951),
-        (Method::Select, b"0000,0011,0110", 44, 172, 3144029014),
-        (Method::Ssv, b"0000,0011,1111", 31, 220, 2272156084),
-        (Method::Select, b"0000,0011,1111", 44, 181, 1642880629),
-        (Method::Ssv, b"0000,0011,1000", 31, 206, 1967670986),
-        (Method::Select, b"0000,0011,1000", 44, 167, 3118167463),
-        (Method::Ssv, b"0000,0011,1010", 31, 220, 1890792365),
-        (Method::Select, b"0000,0011,1010", 44, 187, 2937158271),
-        (Method::Ssv, b"0000,0101,1010,1111", 31, 222, 4002883182),
-        (Method::Select, b"0000,0101,1010,1111", 44, 189, 3453105558),
-        (Method::Ssv, b"0011,0101,0110", 27, 150, 4086971746),
-        (Method::Select, b"0011,0101,0110", 44, 167, 926684078),
-        (Method::Ssv, b"0000,0011,0101,0110", 27, 152, 296785563),
-        (Method::Select, b"0000,0011,0101,0110", 44, 169, 1325322310),
-        (Method::Ssv, b"0000,1111", 27, 163, 3411101679),
-        (Method::Select, b"0000,1111", 44, 180, 1631859616),
-        (Method::Ssv, b"0000,1010,1100", 27, 161, 2726093368),
-        (Method::Select, b"0000,1010,1100", 44, 190, 2185277293),
-    ] {
+    for &(method, basis, vars, clauses, sum) in SUMS_OF_BASES {
         let formula = formula(rt.alloc(), method, XOR, basis, 2, 0);
-        assert!(rt; is_like(rt.alloc(), &formula, vars, clauses, sum));
+        let alike = is_like(rt.alloc(), formula, vars, clauses, sum);
+        assert!(rt; alike, "{sum}");
     }
 }
 
 /// The clauses for NOT over AND with one step: that it is the output and has its values, that it has
 /// a pair and its operator's values, and that it is no other operator; behind these the cuts.
-const NOT_BY_AND: [i32; 109] = [
+const NOT_BY_AND: &[i32] = &[
     3, 0, -3, 1, 0, -3, -2, 0, 8, 0, -8, 1, -4, 0, -8, -1, 4, 0, -8, 2, -7, 0, -8, -2, 7, 0, 4, 5,
     6, 7, 0, 4, 5, -6, 7, 0, 4, 5, -6, -7, 0, 4, -5, 6, 7, 0, 4, -5, 6, -7, 0, 4, -5, -6, 7, 0, 4,
     -5, -6, -7, 0, -4, 5, 6, 7, 0, -4, 5, 6, -7, 0, -4, 5, -6, 7, 0, -4, 5, -6, -7, 0, -4, -5, 6,
@@ -226,7 +221,7 @@ const NOT_BY_AND: [i32; 109] = [
 
 /// The same where the step chooses each operand by itself: that it has operands and they have values,
 /// in place of that it has a pair.
-const NOT_BY_AND_SELECTED: [i32; 189] = [
+const NOT_BY_AND_SELECTED: &[i32] = &[
     3, 0, -3, 1, 0, -3, -2, 0, 8, 0, 9, 0, -8, -10, 0, -8, 11, 0, -9, -12, 0, -9, 13, 0, 1, 10, 12,
     -4, 0, 1, 10, -12, -5, 0, 1, -10, 12, -6, 0, 1, -10, -12, -7, 0, -1, 10, 12, 4, 0, -1, 10, -12,
     5, 0, -1, -10, 12, 6, 0, -1, -10, -12, 7, 0, 2, 11, 13, -4, 0, 2, 11, -13, -5, 0, 2, -11, 13,
@@ -240,7 +235,7 @@ const NOT_BY_AND_SELECTED: [i32; 189] = [
 /// The clauses for one step without inputs, where no output needs it: that it has operands, of which
 /// there are none, its operator's values of their values, and the cuts: that it is read, that its
 /// operator is no copy and no constant, and that it is 0.
-const NO_INPUT: [i32; 65] = [
+const NO_INPUT: &[i32] = &[
     0, 0, 1, 6, 7, -2, 0, 1, 6, -7, -3, 0, 1, -6, 7, -4, 0, 1, -6, -7, -5, 0, -1, 6, 7, 2, 0, -1,
     6, -7, 3, 0, -1, -6, 7, 4, 0, -1, -6, -7, 5, 0, 0, 2, 3, 4, 5, 0, 2, 3, -4, -5, 0, 2, -3, 4,
     -5, 0, -2, -3, -4, -5, 0, -1, 0,
@@ -248,123 +243,123 @@ const NO_INPUT: [i32; 65] = [
 
 /// The cuts of XOR over all operators: besides that no operator is a copy or a constant, x2 is not read
 /// twice where x1 was not, and row 0 is 0.
-const XOR_CUTS: [i32; 53] = [
+const XOR_CUTS: &[i32] = &[
     5, 0, 6, 7, 8, 9, 0, 6, 7, -8, -9, 0, 6, -7, 8, -9, 0, -6, -7, -8, -9, 0, -10, 6, 0, -10, -9,
     0, -11, 6, 0, -11, -9, 0, -6, 7, -8, 9, 10, 11, 0, -6, -7, 8, 9, 10, 11, 0, -11, 0, -1, 5, 0,
 ];
 
 /// Those of two outputs over an operator and its complement, whose operands can't be exchanged: each step
 /// is read or is an output, equal operands are no copy, and pairs never fall.
-const TWO_CUTS: [i32; 46] = [
+const TWO_CUTS: &[i32] = &[
     9, 11, 29, 30, 31, 32, 33, 0, 10, 12, 0, -21, 13, -16, 0, -22, 13, -16, 0, -25, 17, -20, 0,
     -26, 17, -20, 0, -29, 17, -20, 0, -22, -25, 0, -23, -25, 0, -23, -26, 0, -24, -25, 0, -24, -26,
     0,
 ];
 
+/// Formulas with the number of their variables, whether all their clauses follow, and their last clauses.
+const WRITTEN: &[(Method, &[u8], &[u8], u32, u32, bool, &[i32])] = &[
+    (
+        Method::Ssv,
+        b"inputs 1\n10\n",
+        b"0001",
+        1,
+        8,
+        true,
+        NOT_BY_AND,
+    ),
+    (
+        Method::Select,
+        b"inputs 1\n10\n",
+        b"0001",
+        1,
+        13,
+        true,
+        NOT_BY_AND_SELECTED,
+    ),
+    // no input: without steps there is no clause, and a step has no pair and no operands
+    (Method::Plain, b"inputs 0\n1\n", b"all", 0, 0, true, &[]),
+    (Method::Plain, b"inputs 0\n1\n", b"all", 1, 5, true, &[0]),
+    (
+        Method::Select,
+        b"inputs 0\n1\n",
+        b"all",
+        1,
+        7,
+        true,
+        NO_INPUT,
+    ),
+    // live outputs are no steps where there are none
+    (
+        Method::Plain,
+        b"inputs 2\n0110\n1001\n",
+        b"all",
+        0,
+        0,
+        true,
+        &[0, 0],
+    ),
+    (
+        Method::Select,
+        b"inputs 2\n0110\n1001\n",
+        b"all",
+        0,
+        0,
+        true,
+        &[0, 0],
+    ),
+    // outputs that cost nothing ask for nothing
+    (
+        Method::Ssv,
+        b"inputs 2\n0011\n0--1\n----\n",
+        b"nand",
+        0,
+        0,
+        true,
+        &[],
+    ),
+    (
+        Method::Select,
+        b"inputs 2\n0011\n0--1\n----\n",
+        b"nand",
+        0,
+        0,
+        true,
+        &[],
+    ),
+    // the cuts stand behind all else
+    (
+        Method::Ssv,
+        b"inputs 2\n0110\n",
+        b"all",
+        1,
+        12,
+        false,
+        XOR_CUTS,
+    ),
+    (
+        Method::Ssv,
+        b"inputs 2\n0-10\n1100\n",
+        b"0010,1101",
+        2,
+        33,
+        false,
+        TWO_CUTS,
+    ),
+];
+
 #[test]
 fn formulas_are_written(rt: HostRuntime) {
-    for (method, tables, basis, r, vars, all, numbers) in [
-        (
-            Method::Plain,
-            b"inputs 1\n10\n" as &[u8],
-            b"0001" as &[u8],
-            1,
-            8,
-            true,
-            &NOT_BY_AND[..101],
-        ),
-        (
-            Method::Ssv,
-            b"inputs 1\n10\n",
-            b"0001",
-            1,
-            8,
-            true,
-            &NOT_BY_AND,
-        ),
-        (
-            Method::Select,
-            b"inputs 1\n10\n",
-            b"0001",
-            1,
-            13,
-            true,
-            &NOT_BY_AND_SELECTED,
-        ),
-        // no input: without steps there is no clause, and a step has no pair and no operands
-        (Method::Plain, b"inputs 0\n1\n", b"all", 0, 0, true, &[]),
-        (Method::Plain, b"inputs 0\n1\n", b"all", 1, 5, true, &[0]),
-        (
-            Method::Select,
-            b"inputs 0\n1\n",
-            b"all",
-            1,
-            7,
-            true,
-            &NO_INPUT,
-        ),
-        // live outputs are no steps where there are none
-        (
-            Method::Plain,
-            b"inputs 2\n0110\n1001\n",
-            b"all",
-            0,
-            0,
-            true,
-            &[0, 0],
-        ),
-        (
-            Method::Select,
-            b"inputs 2\n0110\n1001\n",
-            b"all",
-            0,
-            0,
-            true,
-            &[0, 0],
-        ),
-        // outputs that cost nothing ask for nothing
-        (
-            Method::Ssv,
-            b"inputs 2\n0011\n0--1\n----\n",
-            b"nand",
-            0,
-            0,
-            true,
-            &[],
-        ),
-        (
-            Method::Select,
-            b"inputs 2\n0011\n0--1\n----\n",
-            b"nand",
-            0,
-            0,
-            true,
-            &[],
-        ),
-        // the cuts stand behind all else
-        (
-            Method::Ssv,
-            b"inputs 2\n0110\n",
-            b"all",
-            1,
-            12,
-            false,
-            &XOR_CUTS,
-        ),
-        (
-            Method::Ssv,
-            b"inputs 2\n0-10\n1100\n",
-            b"0010,1101",
-            2,
-            33,
-            false,
-            &TWO_CUTS,
-        ),
-    ] {
+    for &(method, tables, basis, r, vars, all, numbers) in WRITTEN {
         let formula = formula(rt.alloc(), method, tables, basis, r, 0);
-        assert!(rt;
-            ends_with(rt.alloc(), &formula, vars, all, numbers),
-            "{r} steps"
-        );
+        let written = ends_with(rt.alloc(), formula, vars, all, numbers);
+        assert!(rt; written, "{r} steps");
     }
+}
+
+#[test]
+fn plain_formulas_have_no_cuts(rt: HostRuntime) {
+    let formula = formula(rt.alloc(), Method::Plain, b"inputs 1\n10\n", b"0001", 1, 0);
+    let front = &NOT_BY_AND[..101];
+    let written = ends_with(rt.alloc(), formula, 8, true, front);
+    assert!(rt; written);
 }

@@ -60,12 +60,9 @@ fn reads_memory(rt: HostRuntime) -> Result<(), Fail> {
         (5000, 2, 5000, Some(ReadError::ReadFault), 1),
     ];
     for (length, failing, limit, error, faults) in cases {
-        let right = is_read(rt.alloc(), length, failing, limit, error, faults)?;
-        assert!(rt; right, "{length} {failing} {limit}");
-        assert!(rt;
-            is_read_steadily(rt.alloc(), length, limit)?,
-            "{length} {limit}"
-        );
+        let told = is_read(rt.alloc(), length, failing, limit, error, faults)?;
+        let steady = is_read_steadily(rt.alloc(), length, limit)?;
+        assert!(rt; told && steady, "{length} {failing} {limit}");
     }
     Ok(())
 }
@@ -89,10 +86,8 @@ fn writes_memory(rt: HostRuntime) -> Result<(), Fail> {
         (3, "abcdef", 0),
     ];
     for (failing, text, faults) in cases {
-        assert!(rt;
-            is_written(rt.alloc(), failing, text, faults)?,
-            "call {failing} fails"
-        );
+        let written = is_written(rt.alloc(), failing, text, faults)?;
+        assert!(rt; written, "call {failing} fails");
     }
     Ok(())
 }

@@ -60,70 +60,76 @@ fn is_basis(rt: &HostRuntime, word: &[u8], tests: [bool; 5], text: &[u8]) -> boo
         && basis.reapply_closed() == reapply
 }
 
+/// Bases by their words, what the five tests say of them, and their texts.
+const BASES: &[(&[u8], [bool; 5], &[u8])] = &[
+    (b"all", [true; 5], b"all"),
+    (b"u2", [true; 5], b"u2"),
+    (b"bench", [true, true, true, false, false], b"bench"),
+    (b"nand", [true, true, true, false, false], b"nand"),
+    (b"0001", [true, false, true, false, true], b"0001"),
+    (
+        b"1001,0110",
+        [true, false, false, true, false],
+        b"0110,1001",
+    ),
+    (b"0010", [false; 5], b"0010"),
+    (
+        b"0010,0001,0000",
+        [false, false, false, false, true],
+        b"0000,0001,0010",
+    ),
+    (b"0011", [false, false, true, false, true], b"0011"),
+    (
+        b"0010,1000",
+        [false, true, true, false, false],
+        b"0010,1000",
+    ),
+    (b"1010", [false, true, true, false, true], b"1010"),
+    (b"1010,0101", [false, true, true, true, true], b"0101,1010"),
+    (
+        b"0010,0100",
+        [true, false, false, false, false],
+        b"0010,0100",
+    ),
+    (b"0110", [true, false, false, false, true], b"0110"),
+    (b"1000", [true, true, true, false, false], b"1000"),
+    (b"0000,1111", [true, false, true, true, true], b"0000,1111"),
+    (b"1010,1100", [true, true, true, false, true], b"1010,1100"),
+    (b"1110", [true, true, true, false, false], b"nand"),
+];
+
 /// One basis at least for each of the fourteen patterns that the five tests have together; an
 /// independent program found them by going over all 65535 bases.
 #[test]
 fn bases_are_closed(rt: HostRuntime) {
-    for (word, tests, text) in [
-        (b"all" as &[u8], [true; 5], b"all" as &[u8]),
-        (b"u2", [true; 5], b"u2"),
-        (b"bench", [true, true, true, false, false], b"bench"),
-        (b"nand", [true, true, true, false, false], b"nand"),
-        (b"0001", [true, false, true, false, true], b"0001"),
-        (
-            b"1001,0110",
-            [true, false, false, true, false],
-            b"0110,1001",
-        ),
-        (b"0010", [false; 5], b"0010"),
-        (
-            b"0010,0001,0000",
-            [false, false, false, false, true],
-            b"0000,0001,0010",
-        ),
-        (b"0011", [false, false, true, false, true], b"0011"),
-        (
-            b"0010,1000",
-            [false, true, true, false, false],
-            b"0010,1000",
-        ),
-        (b"1010", [false, true, true, false, true], b"1010"),
-        (b"1010,0101", [false, true, true, true, true], b"0101,1010"),
-        (
-            b"0010,0100",
-            [true, false, false, false, false],
-            b"0010,0100",
-        ),
-        (b"0110", [true, false, false, false, true], b"0110"),
-        (b"1000", [true, true, true, false, false], b"1000"),
-        (b"0000,1111", [true, false, true, true, true], b"0000,1111"),
-        (b"1010,1100", [true, true, true, false, true], b"1010,1100"),
-        (b"1110", [true, true, true, false, false], b"nand"),
-    ] {
+    for &(word, tests, text) in BASES {
         assert!(rt; is_basis(&rt, word, tests, text));
     }
 }
 
+/// Words that are no basis.
+const REFUSALS: &[(&[u8], BasisError)] = &[
+    (b"nor", BasisError::UnknownName),
+    (b"All", BasisError::UnknownName),
+    (b"nand,0110", BasisError::UnknownName),
+    (b"x", BasisError::UnknownName),
+    (b"0110,nand", BasisError::BadOperator),
+    (b"011", BasisError::BadOperator),
+    (b"01101", BasisError::BadOperator),
+    (b"0120", BasisError::BadOperator),
+    (b" 0110", BasisError::BadOperator),
+    (b"0110,0110,0120", BasisError::Repeated),
+    (b"0110,0120,0110", BasisError::BadOperator),
+    (b"", BasisError::Empty),
+    (b",", BasisError::Empty),
+    (b"0110,", BasisError::Empty),
+    (b"0110,,0120", BasisError::Empty),
+    (b"0110,1001,0110,", BasisError::Repeated),
+];
+
 #[test]
 fn other_words_are_refused(rt: HostRuntime) {
-    for (word, refusal) in [
-        (b"nor" as &[u8], BasisError::UnknownName),
-        (b"All", BasisError::UnknownName),
-        (b"nand,0110", BasisError::UnknownName),
-        (b"x", BasisError::UnknownName),
-        (b"0110,nand", BasisError::BadOperator),
-        (b"011", BasisError::BadOperator),
-        (b"01101", BasisError::BadOperator),
-        (b"0120", BasisError::BadOperator),
-        (b" 0110", BasisError::BadOperator),
-        (b"0110,0110,0120", BasisError::Repeated),
-        (b"0110,0120,0110", BasisError::BadOperator),
-        (b"", BasisError::Empty),
-        (b",", BasisError::Empty),
-        (b"0110,", BasisError::Empty),
-        (b"0110,,0120", BasisError::Empty),
-        (b"0110,1001,0110,", BasisError::Repeated),
-    ] {
+    for &(word, refusal) in REFUSALS {
         assert!(rt; read_basis(word).err() == Some(refusal));
     }
     assert!(rt;

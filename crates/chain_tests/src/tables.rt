@@ -1,0 +1,248 @@
+//! Tables read and refused; their symmetric inputs and their live outputs.
+use std::alloc::{AllocError, Global};
+use std::test::Fail;
+use tt_core::{
+    Cell, Out, Spec, SpecError, Tables, are_cells, inputs, live_part, push_row, read_tables, row,
+    symmetric, trivial,
+};
+
+/// The cell of output `h` on row `t`, as it is written; `?` where there is none.
+fn character(tables: &Tables, h: u32, t: u32) -> u8 {
+    if h < 1 || h > tables.spec.outputs() || tables.spec.n() > 6 || t >= 1 << tables.spec.n() {
+        return b'?';
+    }
+    match row(&tables.spec, h, t) {
+        Cell::Zero => b'0',
+        Cell::One => b'1',
+        Cell::Free => b'-',
+    }
+}
+
+/// Whether the first cells of output `h` are these.
+fn has_cells(tables: &Tables, h: u32, cells: &[u8]) -> bool {
+    for (t, cell) in cells.iter().enumerate() {
+        if t >= 64 || character(tables, h, t as u32) != *cell {
+            return false;
+        }
+    }
+    true
+}
+
+/// Whether a text is read, up to this byte, with these numbers of inputs and outputs and these cells of output `h`.
+fn is_read(
+    alloc: Global,
+    text: &[u8],
+    widths: (u32, u32),
+    used: usize,
+    h: u32,
+    cells: &[u8],
+) -> bool {
+    if text.len() > 1000 {
+        return false;
+    }
+    let Ok(tables) = read_tables(alloc, text) else {
+        return false;
+    };
+    let (n, outputs) = widths;
+    let spec = tables.spec.n() == n && tables.spec.outputs() == outputs;
+    let lines = tables.lines.checked_sub(1) == Some(outputs);
+    spec && tables.used == used && lines && has_cells(&tables, h, cells)
+}
+
+/// Texts with their numbers of inputs and outputs, where the tables end, and the cells of one output.
+const TABLES: &[(&[u8], u32, u32, usize, u32, &[u8])] = &[
+    // XOR of two inputs
+    (b"inputs 2\n0110\n", 2, 1, 14, 1, b"0110"),
+    // a full adder: the sum and the carry of three bits
+    (b"inputs 3\n01101001\n00010111\n", 3, 2, 27, 1, b"01101001"),
+    (b"inputs 3\n01101001\n00010111\n", 3, 2, 27, 2, b"00010111"),
+    (b"inputs 2\n0--1\n", 2, 1, 14, 1, b"0--1"),
+    (b"inputs 0\n1\n-\n", 0, 2, 13, 2, b"-"),
+    (
+        b"inputs 1\n00\n01\n10\n11\n0-\n1-\n-0\n--\n",
+        1,
+        8,
+        33,
+        7,
+        b"-0",
+    ),
+    // the tables end before a line that begins with a lower-case letter
+    (
+        b"inputs 2\n0110\nchain 1\nx3 x1 x2 0110\n",
+        2,
+        1,
+        14,
+        1,
+        b"0110",
+    ),
+    (b"inputs 2\n0110\nz", 2, 1, 14, 1, b"0110"),
+    (
+        b"inputs 6\n0000000000000000000000000000000100000000000000000000000000000001\n",
+        6,
+        1,
+        74,
+        1,
+        b"0000000000000000000000000000000100000000000000000000000000000001",
+    ),
+];
+
+#[test]
+fn tables_are_read(rt: HostRuntime) {
+    for &(text, n, outputs, used, h, cells) in TABLES {
+        let read = is_read(rt.alloc(), text, (n, outputs), used, h, cells);
+        assert!(rt; read, "{used}");
+    }
+}
+
+/// Texts and their refusals.
+const REFUSALS: &[(&[u8], SpecError)] = &[
+    (b"", SpecError::BadHeader(1)),
+    (b"\n0110\n", SpecError::BadHeader(1)),
+    (b"inputs 2", SpecError::BadHeader(1)),
+    (b"inputs 02\n0110\n", SpecError::BadHeader(1)),
+    (b"inputs  2\n0110\n", SpecError::BadHeader(1)),
+    (b"inputs 2 \n0110\n", SpecError::BadHeader(1)),
+    (b"inputs 2\r\n0110\n", SpecError::BadHeader(1)),
+    (b"inputs -1\n0110\n", SpecError::BadHeader(1)),
+    (b"inputs 1000000000\n0110\n", SpecError::BadHeader(1)),
+    (b"Inputs 2\n0110\n", SpecError::BadHeader(1)),
+    (b"inputs 7\n0\n", SpecError::TooManyInputs),
+    (b"inputs 999999999\nx\n", SpecError::TooManyInputs),
+    (b"inputs 2\n", SpecError::NoOutput),
+    (b"inputs 2\nchain 1\n", SpecError::NoOutput),
+    (b"inputs 2\n0110", SpecError::BadRow(2)),
+    (b"inputs 2\n011", SpecError::BadRow(2)),
+    (b"inputs 2\n\n", SpecError::BadRow(2)),
+    (b"inputs 2\n0110\n\n", SpecError::BadRow(3)),
+    (b"inputs 2\n011x\n", SpecError::BadRow(2)),
+    (b"inputs 2\n0110\n01x\n", SpecError::BadRow(3)),
+    (b"inputs 2\n 0110\n", SpecError::BadRow(2)),
+    (b"inputs 2\n011\n", SpecError::WrongLength(2)),
+    (b"inputs 2\n0110\n1001\n01100\n", SpecError::WrongLength(4)),
+    (
+        b"inputs 0\n0\n0\n0\n0\n0\n0\n0\n0\n01x",
+        SpecError::TooManyOutputs,
+    ),
+];
+
+#[test]
+fn refusals_have_their_lines(rt: HostRuntime) {
+    for &(text, refusal) in REFUSALS {
+        assert!(rt; read_tables(rt.alloc(), text).err() == Some(refusal));
+    }
+}
+
+#[test]
+fn words_are_kept(rt: HostRuntime) {
+    let spec = Spec::new(2, Vec::new(rt.alloc()), Vec::new(rt.alloc()));
+    let empty = spec.on().is_empty() && spec.care().is_empty();
+    assert!(rt; spec.n() == 2 && spec.outputs() == 0 && empty);
+}
+
+#[test]
+fn lines_are_read_by_themselves(rt: HostRuntime) -> Result<(), Fail> {
+    let headed = inputs(b"inputs 2", true) == Some(2) && inputs(b"inputs 2", false).is_none();
+    assert!(rt; headed && are_cells(b"01-1") && !are_cells(b"01x1"));
+    let (mut on, mut care) = (Vec::new(rt.alloc()), Vec::new(rt.alloc()));
+    push_row(2, &mut on, &mut care, b"01-1")?;
+    assert!(rt; on.as_slice() == [10].as_slice() && care.as_slice() == [11].as_slice());
+    Ok(())
+}
+
+/// Whether tables are read, and whether they are symmetric in two inputs is told so.
+fn is_symmetric(alloc: Global, text: &[u8], p: u32, q: u32, wanted: bool) -> bool {
+    if text.len() > 1000 {
+        return false;
+    }
+    match read_tables(alloc, text) {
+        Ok(tables) if p >= 1 && p < q && q <= tables.spec.n() => {
+            symmetric(&tables.spec, p, q) == wanted
+        }
+        _ => false,
+    }
+}
+
+/// Tables, two inputs, and whether these may be exchanged.
+const EXCHANGES: &[(&[u8], u32, u32, bool)] = &[
+    (b"inputs 2\n0110\n", 1, 2, true),
+    (b"inputs 2\n0010\n", 1, 2, false),
+    (b"inputs 2\n0--1\n", 1, 2, true),
+    (b"inputs 2\n0-11\n", 1, 2, false),
+    (b"inputs 2\n0110\n0010\n", 1, 2, false),
+    // the median of three bits
+    (b"inputs 3\n00010111\n", 1, 3, true),
+    // x1 AND x2, beside x3
+    (b"inputs 3\n00000011\n", 1, 2, true),
+    (b"inputs 3\n00000011\n", 2, 3, false),
+    (b"inputs 3\n00000011\n", 1, 3, false),
+];
+
+#[test]
+fn inputs_are_exchanged(rt: HostRuntime) {
+    for &(text, p, q, wanted) in EXCHANGES {
+        assert!(rt; is_symmetric(rt.alloc(), text, p, q, wanted), "{p} {q}");
+    }
+}
+
+/// Whether tables of four outputs have these trivial ones, and these words are left of them.
+fn is_live_part(
+    alloc: Global,
+    text: &[u8],
+    outs: [Option<Out>; 4],
+    on: &[u64],
+    care: &[u64],
+) -> Result<bool, AllocError> {
+    if text.len() > 1000 {
+        return Ok(false);
+    }
+    let Ok(tables) = read_tables(alloc, text) else {
+        return Ok(false);
+    };
+    let spec = &tables.spec;
+    if spec.outputs() != 4 {
+        return Ok(false);
+    }
+    let front = trivial(spec, 1) == outs[0] && trivial(spec, 2) == outs[1];
+    let back = trivial(spec, 3) == outs[2] && trivial(spec, 4) == outs[3];
+    let live = live_part(alloc, spec)?;
+    let words = live.on() == on && live.care() == care;
+    Ok(front && back && words && live.n() == spec.n())
+}
+
+#[test]
+fn live_outputs_are_kept(rt: HostRuntime) -> Result<(), AllocError> {
+    for (text, outs, on, care) in [
+        (
+            b"inputs 2\n0--1\n0110\n----\n0001\n" as &[u8],
+            [Some(Out::Place(1)), None, Some(Out::Zero), None],
+            &[6u64, 8] as &[u64],
+            &[15u64, 15] as &[u64],
+        ),
+        (
+            b"inputs 2\n11-1\n0101\n1100\n-10-\n",
+            [
+                Some(Out::One),
+                Some(Out::Place(2)),
+                None,
+                Some(Out::Place(2)),
+            ],
+            &[3],
+            &[15],
+        ),
+        (
+            b"inputs 0\n0\n1\n-\n1\n",
+            [
+                Some(Out::Zero),
+                Some(Out::One),
+                Some(Out::Zero),
+                Some(Out::One),
+            ],
+            &[],
+            &[],
+        ),
+    ] {
+        let well = is_live_part(rt.alloc(), text, outs, on, care)?;
+        assert!(rt; well);
+    }
+    Ok(())
+}

@@ -1,0 +1,85 @@
+//! Lines, items, words and numbers of texts.
+use text_core::{after, begins_lower, next_item, next_line, number_up_to, push_number};
+
+/// Texts with their first lines, whether these have ends, and what is left.
+const LINES: &[(&[u8], &[u8], bool, &[u8])] = &[
+    (b"inputs 3\n01\n", b"inputs 3", true, b"01\n"),
+    (b"\n\n", b"", true, b"\n"),
+    (b"0110", b"0110", false, b""),
+    (b"01\r\nx", b"01\r", true, b"x"),
+];
+
+/// Texts with their first items, and what stands behind the blank.
+const ITEMS: &[(&[u8], &[u8], Option<&[u8]>)] = &[
+    (b"x3 x1 x2", b"x3", Some(b"x1 x2")),
+    (b"x3", b"x3", None),
+    (b"", b"", None),
+    (b" 1", b"", Some(b"1")),
+    (b"1\t2 ", b"1\t2", Some(b"")),
+];
+
+/// Words, texts, and what stands behind the word where the text begins with it.
+const AFTER: &[(&[u8], &[u8], Option<&[u8]>)] = &[
+    (b"x", b"x10", Some(b"10")),
+    (b"inputs ", b"inputs 3", Some(b"3")),
+    (b"inputs ", b"inputs", None),
+    (b"inputs ", b"Inputs 3", None),
+    (b"", b"3", Some(b"3")),
+];
+
+/// Texts, and whether they begin with a lower-case letter.
+const BEGINNINGS: &[(&[u8], bool)] = &[
+    (b"chain 1", true),
+    (b"z", true),
+    (b"0110", false),
+    (b"", false),
+    (b"Chain", false),
+    (b"-a", false),
+];
+
+#[test]
+fn texts_are_read(rt: HostRuntime) {
+    for &(bytes, text, ended, rest) in LINES {
+        assert!(rt; next_line(bytes) == Some((text, ended, rest)));
+    }
+    assert!(rt; next_line(b"").is_none());
+    for &(text, item, rest) in ITEMS {
+        assert!(rt; next_item(text) == (item, rest));
+    }
+    for &(word, text, rest) in AFTER {
+        assert!(rt; after(word, text) == rest);
+    }
+    for &(text, begins) in BEGINNINGS {
+        assert!(rt; begins_lower(text) == begins);
+    }
+}
+
+/// Greatest numbers, texts, and the numbers that they are.
+const NUMBERS: &[(u32, &[u8], Option<u32>)] = &[
+    (999_999_999, b"0", Some(0)),
+    (999_999_999, b"3", Some(3)),
+    (999_999_999, b"999999999", Some(999_999_999)),
+    (999_999_999, b"1000000000", None),
+    (999_999_999, b"007", None),
+    (999_999_999, b"00", None),
+    (999_999_999, b"", None),
+    (999_999_999, b"+1", None),
+    (999_999_999, b"1 ", None),
+    (999_999_999, b"1a", None),
+    (4_294_967_295, b"4294967295", Some(4_294_967_295)),
+    (4_294_967_295, b"4294967296", None),
+    (4_294_967_295, b"99999999999999999999999999", None),
+    (0, b"0", Some(0)),
+    (0, b"1", None),
+];
+
+#[test]
+fn numbers_are_read_and_written(rt: HostRuntime) {
+    for &(limit, text, number) in NUMBERS {
+        assert!(rt; number_up_to(limit, text) == number);
+    }
+    let mut out = Vec::from_slice(rt.alloc(), b"x").unwrap_or(Vec::new(rt.alloc()));
+    assert!(rt; push_number(&mut out, 10).is_ok());
+    assert!(rt; push_number(&mut out, 4_294_967_295).is_ok());
+    assert!(rt; out.as_slice() == b"x104294967295".as_slice());
+}
