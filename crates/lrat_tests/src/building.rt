@@ -1,4 +1,4 @@
-//! Formulas and numbers that the tests are given.
+//! Formulas that the tests are given.
 use cnf_core::{Clause, Cnf};
 use lrat_text::{Line, read_line};
 use std::alloc::{AllocError, Global};
@@ -26,10 +26,4 @@ pub fn formula(alloc: Global, vars: u32, clauses: &[&[u8]]) -> Result<Cnf, Alloc
         push_within(&mut cnf, clause(alloc, text))?;
     }
     Ok(cnf)
-}
-
-/// The next of a row of numbers that look random.
-pub fn next_random(seed: u64) -> u64 {
-    seed.wrapping_mul(6364136223846793005)
-        .wrapping_add(1442695040888963407)
 }

@@ -1,7 +1,6 @@
 //! Lines of logs as texts: what is read and written, and which fault is told.
 use lrat_text::{LineError, read_line, write_line};
 use std::alloc::{AllocError, Global};
-use std::test::Fail;
 
 /// Whether a line, whose text ends with a LF, is read, and is written behind what stood there.
 fn is_written_again(alloc: Global, text: &[u8]) -> Result<bool, AllocError> {
@@ -17,20 +16,24 @@ fn is_written_again(alloc: Global, text: &[u8]) -> Result<bool, AllocError> {
     Ok(written == text)
 }
 
+/// Lines with their ends.
+const LINES: &[&[u8]] = &[
+    b"5 2 0 1 2 0\n",
+    b"6 0 5 3 4 0\n",
+    b"5 0 0\n",
+    b"5 d 7 0\n",
+    b"5 d 1 1 0\n",
+    b"5 d 0\n",
+    b"4294967295 -2147483647 2147483646 0 1 4294967295 0\n",
+    b"1 d 4294967295 0\n",
+];
+
 #[test]
-fn lines_are_read_and_written(rt: HostRuntime) -> Result<(), Fail> {
+fn lines_are_read_and_written(rt: HostRuntime) -> Result<(), AllocError> {
     let alloc = rt.alloc();
-    for text in [
-        b"5 2 0 1 2 0\n" as &[u8],
-        b"6 0 5 3 4 0\n",
-        b"5 0 0\n",
-        b"5 d 7 0\n",
-        b"5 d 1 1 0\n",
-        b"5 d 0\n",
-        b"4294967295 -2147483647 2147483646 0 1 4294967295 0\n",
-        b"1 d 4294967295 0\n",
-    ] {
-        assert!(rt; is_written_again(alloc, text)?, "{text:?}");
+    for &text in LINES {
+        let again = is_written_again(alloc, text)?;
+        assert!(rt; again, "{text:?}");
     }
     Ok(())
 }
@@ -40,47 +43,50 @@ fn fault_of(alloc: Global, text: &[u8]) -> Option<LineError> {
     read_line(alloc, text).err()
 }
 
+/// Texts that are no line, and why.
+const FAULTS: &[(&[u8], LineError)] = &[
+    (b"5 2 -2 0 1 0", LineError::RepeatedVariable),
+    (b"5 2 0 -1 0", LineError::RatHint),
+    (b"5 2 0 1", LineError::NoEnd),
+    (b"5 x 0 1 0", LineError::BadNumber),
+    // numbers and their ranges
+    (b"", LineError::BadNumber),
+    (b"0 2 0 1 0", LineError::BadNumber),
+    (b"05 2 0 1 0", LineError::BadNumber),
+    (b"-5 2 0 1 0", LineError::BadNumber),
+    (b"4294967296 2 0 1 0", LineError::BadNumber),
+    (b"5 2147483648 0 1 0", LineError::BadNumber),
+    (b"5 -2147483648 0 1 0", LineError::BadNumber),
+    (b"5 -0 0 1 0", LineError::BadNumber),
+    (b"5 +2 0 1 0", LineError::BadNumber),
+    (b"5 2 0 4294967296 0", LineError::BadNumber),
+    (b"5 d -1 0", LineError::BadNumber),
+    (b"5 2 d 0", LineError::BadNumber),
+    (b"d 5 0", LineError::BadNumber),
+    // empty items
+    (b"5  2 0 1 0", LineError::BadNumber),
+    (b"5 2 0 1 ", LineError::BadNumber),
+    (b" 5 2 0 1 0", LineError::BadNumber),
+    (b"5\t2 0 1 0", LineError::BadNumber),
+    // ends
+    (b"5", LineError::NoEnd),
+    (b"5 2", LineError::NoEnd),
+    (b"5 2 0", LineError::NoEnd),
+    (b"5 d", LineError::NoEnd),
+    (b"5 2 0 1 0 ", LineError::NoEnd),
+    (b"5 2 0 1 0 0", LineError::NoEnd),
+    (b"5 2 0 0 0", LineError::NoEnd),
+    (b"5 d 1 0 x", LineError::NoEnd),
+    // the first of several
+    (b"5 2 2 x", LineError::RepeatedVariable),
+    (b"5 x 2 2", LineError::BadNumber),
+    (b"5 2 0 -x 0 0", LineError::RatHint),
+    (b"5 2 0 1 -1 0 0", LineError::RatHint),
+];
+
 #[test]
 fn faults_are_told_from_the_left(rt: HostRuntime) {
-    for (text, error) in [
-        (b"5 2 -2 0 1 0" as &[u8], LineError::RepeatedVariable),
-        (b"5 2 0 -1 0", LineError::RatHint),
-        (b"5 2 0 1", LineError::NoEnd),
-        (b"5 x 0 1 0", LineError::BadNumber),
-        // numbers and their ranges
-        (b"", LineError::BadNumber),
-        (b"0 2 0 1 0", LineError::BadNumber),
-        (b"05 2 0 1 0", LineError::BadNumber),
-        (b"-5 2 0 1 0", LineError::BadNumber),
-        (b"4294967296 2 0 1 0", LineError::BadNumber),
-        (b"5 2147483648 0 1 0", LineError::BadNumber),
-        (b"5 -2147483648 0 1 0", LineError::BadNumber),
-        (b"5 -0 0 1 0", LineError::BadNumber),
-        (b"5 +2 0 1 0", LineError::BadNumber),
-        (b"5 2 0 4294967296 0", LineError::BadNumber),
-        (b"5 d -1 0", LineError::BadNumber),
-        (b"5 2 d 0", LineError::BadNumber),
-        (b"d 5 0", LineError::BadNumber),
-        // empty items
-        (b"5  2 0 1 0", LineError::BadNumber),
-        (b"5 2 0 1 ", LineError::BadNumber),
-        (b" 5 2 0 1 0", LineError::BadNumber),
-        (b"5\t2 0 1 0", LineError::BadNumber),
-        // ends
-        (b"5", LineError::NoEnd),
-        (b"5 2", LineError::NoEnd),
-        (b"5 2 0", LineError::NoEnd),
-        (b"5 d", LineError::NoEnd),
-        (b"5 2 0 1 0 ", LineError::NoEnd),
-        (b"5 2 0 1 0 0", LineError::NoEnd),
-        (b"5 2 0 0 0", LineError::NoEnd),
-        (b"5 d 1 0 x", LineError::NoEnd),
-        // the first of several
-        (b"5 2 2 x", LineError::RepeatedVariable),
-        (b"5 x 2 2", LineError::BadNumber),
-        (b"5 2 0 -x 0 0", LineError::RatHint),
-        (b"5 2 0 1 -1 0 0", LineError::RatHint),
-    ] {
+    for &(text, error) in FAULTS {
         let told = fault_of(rt.alloc(), text);
         assert!(rt; told == Some(error), "{text:?}");
     }

@@ -4,7 +4,6 @@ ghost use Rattle.sat_theory.specs.Formula.{IsWithin};
 
 use sat_theory::plain::{PlainClause, PlainState, literal_value, satisfies};
 use std::alloc::{AllocError, Global};
-use std::test::Fail;
 
 /// A list of literals as a vector, where they are above the least number.
 fn vector(alloc: Global, lits: &[i32]) -> Result<Vec<i32>, AllocError>
@@ -38,7 +37,7 @@ fn two_clauses(alloc: Global) -> Result<Vec<PlainClause>, AllocError> {
 }
 
 #[test]
-fn assignments_satisfy(rt: HostRuntime) -> Result<(), Fail> {
+fn assignments_satisfy(rt: HostRuntime) -> Result<(), AllocError> {
     let alloc = rt.alloc();
     let clauses = two_clauses(alloc)?;
     for (bits, yes) in [
@@ -53,37 +52,43 @@ fn assignments_satisfy(rt: HostRuntime) -> Result<(), Fail> {
     Ok(())
 }
 
+/// Ids, literals and hints, and whether they make an addition that holds.
+const ADDITIONS: &[(u32, i32, &[u32], bool)] = &[
+    (5, 2, &[1, 2], true),
+    (5, 2, &[2, 1], true),
+    (5, 2, &[2], false),
+    (5, 2, &[], false),
+    (5, 2, &[3, 4], false),
+    (5, 2, &[9], false),
+    (5, 2, &[1, 1], false),
+    (4, 2, &[1, 2], false),
+    (5, 3, &[1, 2], false),
+    (u32::MAX, -2, &[3, 4], true),
+];
+
 #[test]
-fn additions_hold(rt: HostRuntime) -> Result<(), Fail> {
+fn additions_hold(rt: HostRuntime) -> Result<(), AllocError> {
     let alloc = rt.alloc();
     let state = contradiction(alloc)?;
-    for (id, lit, hints, yes) in [
-        (5, 2, &[1u32, 2] as &[u32], true),
-        (5, 2, &[2u32, 1], true),
-        (5, 2, &[2u32], false),
-        (5, 2, &[] as &[u32], false),
-        (5, 2, &[3u32, 4], false),
-        (5, 2, &[9u32], false),
-        (5, 2, &[1u32, 1], false),
-        (4, 2, &[1u32, 2], false),
-        (5, 3, &[1u32, 2], false),
-        (u32::MAX, -2, &[3u32, 4], true),
-    ] {
+    for &(id, lit, hints, yes) in ADDITIONS {
         let holds = state.addition_holds(alloc, id, &[lit], hints)?;
         assert!(rt; holds == yes, "{id} {lit} {hints:?}");
     }
     Ok(())
 }
 
+/// Ids, and whether a deletion of them holds.
+const DELETIONS: &[(&[u32], bool)] = &[
+    (&[7], false),
+    (&[1, 1], false),
+    (&[1, 4], true),
+    (&[], true),
+];
+
 #[test]
-fn deletions_hold(rt: HostRuntime) -> Result<(), Fail> {
+fn deletions_hold(rt: HostRuntime) -> Result<(), AllocError> {
     let state = contradiction(rt.alloc())?;
-    for (ids, yes) in [
-        (&[7u32] as &[u32], false),
-        (&[1u32, 1], false),
-        (&[1u32, 4], true),
-        (&[] as &[u32], true),
-    ] {
+    for &(ids, yes) in DELETIONS {
         assert!(rt; state.deletion_holds(ids) == yes, "{ids:?}");
     }
     Ok(())

@@ -5,7 +5,6 @@ ghost use Rattle.sat_theory.specs.Formula.{variable as variable_of};
 use clause_db::ClauseDb;
 use cnf_core::{Clause, Cnf, Lit};
 use std::alloc::{AllocError, Global};
-use std::test::Fail;
 
 fn are(lits: &[Lit], numbers: &[i32]) -> bool {
     if lits.len() != numbers.len() {
@@ -25,7 +24,7 @@ fn holds(clauses: &ClauseDb, id: u32, numbers: &[i32]) -> bool {
 }
 
 #[test]
-fn clauses_have_ids(rt: HostRuntime) -> Result<(), Fail> {
+fn clauses_have_ids(rt: HostRuntime) -> Result<(), AllocError> {
     let alloc = rt.alloc();
     let mut cnf = Cnf::new(alloc, 3);
     cnf.push(Clause::new(vec![in alloc; Lit::new(1), Lit::new(-2)]?))?;
@@ -118,7 +117,7 @@ fn stands(clauses: &ClauseDb, id: u32, numbers: &[i32]) -> bool {
 }
 
 #[test]
-fn clauses_watch_their_first_two_literals(rt: HostRuntime) -> Result<(), Fail> {
+fn clauses_watch_their_first_two_literals(rt: HostRuntime) -> Result<(), AllocError> {
     let clauses = three(rt.alloc())?;
     for (number, ids, beside) in [
         (1, [1u32, 2, 3].as_slice(), [2, 3, 2].as_slice()),
@@ -132,7 +131,7 @@ fn clauses_watch_their_first_two_literals(rt: HostRuntime) -> Result<(), Fail> {
 }
 
 #[test]
-fn a_clause_watches_another_literal(rt: HostRuntime) -> Result<(), Fail> {
+fn a_clause_watches_another_literal(rt: HostRuntime) -> Result<(), AllocError> {
     let mut clauses = three(rt.alloc())?;
     let goes = rewatch(&mut clauses, 1, 1, 2)?;
     let again = rewatch(&mut clauses, 1, 1, 2)?;

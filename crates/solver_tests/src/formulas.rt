@@ -1,24 +1,26 @@
 //! Literals, clauses and formulas, and what satisfies them.
 use cnf_core::{Assign, Clause, Cnf, Lit, satisfied};
-use std::test::Fail;
+use std::alloc::AllocError;
+
+/// Bits of three variables, and whether they satisfy (1 or not 2) and (2 or 3).
+const ASSIGNMENTS: &[([bool; 3], bool)] = &[
+    ([false, false, false], false),
+    ([false, false, true], true),
+    ([false, true, false], false),
+    ([false, true, true], false),
+    ([true, false, false], false),
+    ([true, false, true], true),
+    ([true, true, false], true),
+    ([true, true, true], true),
+];
 
 #[test]
-fn assignments_satisfy(rt: HostRuntime) -> Result<(), Fail> {
+fn assignments_satisfy(rt: HostRuntime) -> Result<(), AllocError> {
     let alloc = rt.alloc();
     let mut cnf = Cnf::new(alloc, 3);
     cnf.push(Clause::new(vec![in alloc; Lit::new(1), Lit::new(-2)]?))?;
     cnf.push(Clause::new(vec![in alloc; Lit::new(2), Lit::new(3)]?))?;
-    // (1 or not 2) and (2 or 3)
-    for (bits, yes) in [
-        ([false, false, false], false),
-        ([false, false, true], true),
-        ([false, true, false], false),
-        ([false, true, true], false),
-        ([true, false, false], false),
-        ([true, false, true], true),
-        ([true, true, false], true),
-        ([true, true, true], true),
-    ] {
+    for &(bits, yes) in ASSIGNMENTS {
         let assign = Assign::new(Vec::from_slice(alloc, &bits)?);
         assert!(rt; satisfied(&cnf, &assign) == yes, "{bits:?}");
     }
@@ -42,7 +44,7 @@ fn literals_have_opposites_and_numbers(rt: HostRuntime) {
 }
 
 #[test]
-fn formulas_tell_of_the_empty_clause(rt: HostRuntime) -> Result<(), Fail> {
+fn formulas_tell_of_the_empty_clause(rt: HostRuntime) -> Result<(), AllocError> {
     let alloc = rt.alloc();
     let mut cnf = Cnf::new(alloc, 2);
     cnf.push(Clause::new(vec![in alloc; Lit::new(-2)]?))?;

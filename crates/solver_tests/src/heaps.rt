@@ -1,9 +1,9 @@
 //! Variables by their scores.
-use std::test::Fail;
+use std::alloc::AllocError;
 use var_heap::VarHeap;
 
 #[test]
-fn greatest_scores_come_first(rt: HostRuntime) -> Result<(), Fail> {
+fn greatest_scores_come_first(rt: HostRuntime) -> Result<(), AllocError> {
     let alloc = rt.alloc();
     let mut heap = VarHeap::new(alloc, 3)?;
     heap.bump(2, 5);
@@ -17,7 +17,7 @@ fn greatest_scores_come_first(rt: HostRuntime) -> Result<(), Fail> {
 }
 
 #[test]
-fn variables_come_back(rt: HostRuntime) -> Result<(), Fail> {
+fn variables_come_back(rt: HostRuntime) -> Result<(), AllocError> {
     let mut heap = VarHeap::new(rt.alloc(), 2)?;
     heap.bump(1, 18446744073709551615);
     heap.bump(2, 18446744073709551614);

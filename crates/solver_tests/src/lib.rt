@@ -1,5 +1,5 @@
 //! Tests of `cnf_core` and of the crates from `cdcl_theory` to `cdcl_core`: what satisfies formulas, the parts of
-//! the solver, and the solver against all assignments, each of its logs fed to the checker.
+//! the solver, and the solver on formulas in steps of difficulty, each of its logs fed to the checker.
 #![tactic(auto)]
 
 #[cfg(test)]

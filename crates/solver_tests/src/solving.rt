@@ -1,27 +1,33 @@
-//! The solver: formulas against all assignments, formulas in steps of difficulty, and each log fed to the checker.
+//! The solver: formulas in steps of difficulty, how many clauses are learnt, and each log fed to the checker.
 use cdcl_core::{Solved, solve};
-use cnf_core::{Assign, Cnf, satisfied};
+use cnf_core::Cnf;
 use lrat_check::Checker;
-use lrat_tests::building::{clause, formula, next_random, push_within};
+use lrat_tests::building::{clause, formula, push_within};
 use lrat_text::{Line, Log, read_line, write_line};
 use std::alloc::{AllocError, Global};
-use std::test::Fail;
 
-/// Whether the checker takes each line of a log, as it is written and read again; and if so, whether it
-/// has then reached the empty clause.
-fn judged(alloc: Global, cnf: Cnf, log: &Log) -> Result<Option<bool>, Fail> {
+/// Whether the checker takes a line of a log, as it is written and read again.
+fn is_taken(alloc: Global, checker: &mut Checker, line: &Line) -> Result<bool, AllocError> {
+    let mut text = Vec::new(alloc);
+    write_line(line, &mut text)?;
+    let Some((_, body)) = text.split_last() else {
+        return Ok(false);
+    };
+    match read_line(alloc, body) {
+        Ok(line) => Ok(checker.feed(line).is_ok()),
+        Err(_) => Ok(false),
+    }
+}
+
+/// Whether the checker takes each line of a log, and has then reached the empty clause, or hasn't.
+fn holds(alloc: Global, cnf: Cnf, log: &Log, refuted: bool) -> Result<bool, AllocError> {
     let mut checker = Checker::new(alloc, cnf)?;
     for line in &log.lines {
-        let mut text = Vec::new(alloc);
-        write_line(line, &mut text)?;
-        let Some((_, body)) = text.split_last() else {
-            return Ok(None);
-        };
-        if checker.feed(read_line(alloc, body)?).is_err() {
-            return Ok(None);
+        if !is_taken(alloc, &mut checker, line)? {
+            return Ok(false);
         }
     }
-    Ok(Some(checker.refuted()))
+    Ok(checker.refuted() == refuted)
 }
 
 /// The variables 1 and 2, and all four clauses over both.
@@ -55,7 +61,12 @@ const NEGATION: [&[u8]; 23] = [
 ];
 
 /// Whether a formula is satisfied by these bits, within a budget of one.
-fn is_satisfied(alloc: Global, vars: u32, clauses: &[&[u8]], bits: &[bool]) -> Result<bool, Fail> {
+fn is_satisfied(
+    alloc: Global,
+    vars: u32,
+    clauses: &[&[u8]],
+    bits: &[bool],
+) -> Result<bool, AllocError> {
     match solve(alloc, &formula(alloc, vars, clauses)?, 1)? {
         Solved::Sat(assign) => Ok(assign.bits() == bits),
         _ => Ok(false),
@@ -63,7 +74,7 @@ fn is_satisfied(alloc: Global, vars: u32, clauses: &[&[u8]], bits: &[bool]) -> R
 }
 
 #[test]
-fn formulas_are_satisfied(rt: HostRuntime) -> Result<(), Fail> {
+fn formulas_are_satisfied(rt: HostRuntime) -> Result<(), AllocError> {
     for (vars, clauses, bits) in [
         (
             2,
@@ -86,17 +97,21 @@ fn formulas_are_satisfied(rt: HostRuntime) -> Result<(), Fail> {
 }
 
 /// How many lines the log that refutes a formula has, within a budget of one; None where it isn't refuted so.
-fn lines_of_a_log(alloc: Global, vars: u32, clauses: &[&[u8]]) -> Result<Option<usize>, Fail> {
+fn lines_of_a_log(
+    alloc: Global,
+    vars: u32,
+    clauses: &[&[u8]],
+) -> Result<Option<usize>, AllocError> {
     let cnf = formula(alloc, vars, clauses)?;
     let Solved::Unsat(log) = solve(alloc, &cnf, 1)? else {
         return Ok(None);
     };
-    let refuted = judged(alloc, cnf, &log)? == Some(true);
-    Ok(if refuted { Some(log.lines.len()) } else { None })
+    let lines = log.lines.len();
+    Ok(holds(alloc, cnf, &log, true)?.then_some(lines))
 }
 
 #[test]
-fn formulas_are_refuted(rt: HostRuntime) -> Result<(), Fail> {
+fn formulas_are_refuted(rt: HostRuntime) -> Result<(), AllocError> {
     for (vars, clauses, expected) in [
         (2, CONTRADICTION.as_slice(), Some(2)),
         (8, NEGATION.as_slice(), None),
@@ -108,7 +123,7 @@ fn formulas_are_refuted(rt: HostRuntime) -> Result<(), Fail> {
         let lines = lines_of_a_log(rt.alloc(), vars, clauses)?;
         assert!(rt;
             lines.is_some() && (expected.is_none() || lines == expected),
-            "{lines:?}"
+            "{vars}"
         );
     }
     Ok(())
@@ -141,7 +156,7 @@ const NOT_SHORTENED: [&[u8]; 5] = [
 ];
 
 /// The line of the one clause that is learnt within a budget of one; nothing where it isn't one.
-fn learnt_line(alloc: Global, clauses: &[&[u8]]) -> Result<Vec<u8>, Fail> {
+fn learnt_line(alloc: Global, clauses: &[&[u8]]) -> Result<Vec<u8>, AllocError> {
     let mut text = Vec::new(alloc);
     if let Solved::Open(log) = solve(alloc, &formula(alloc, 5, clauses)?, 1)? {
         if log.lines.len() == 1 {
@@ -152,7 +167,7 @@ fn learnt_line(alloc: Global, clauses: &[&[u8]]) -> Result<Vec<u8>, Fail> {
 }
 
 #[test]
-fn learnt_clauses_lose_what_follows(rt: HostRuntime) -> Result<(), Fail> {
+fn learnt_clauses_lose_what_follows(rt: HostRuntime) -> Result<(), AllocError> {
     for (clauses, begin) in [
         (IMPLIED.as_slice(), b"5 -3 -1 0 " as &[u8]),
         (SHORTENED.as_slice(), b"6 -3 0 5 "),
@@ -164,29 +179,39 @@ fn learnt_clauses_lose_what_follows(rt: HostRuntime) -> Result<(), Fail> {
     Ok(())
 }
 
+/// The variable that says that a pigeon has a hole.
+fn place(holes: u32, pigeon: u32, hole: u32) -> u64 {
+    u64::from(holes) * u64::from(pigeon) + u64::from(hole)
+}
+
+/// Adds that a pigeon has one of the holes.
+fn push_pigeon(alloc: Global, cnf: &mut Cnf, holes: u32, pigeon: u32) -> Result<(), AllocError> {
+    let mut text = String::from_str(alloc, "1")?;
+    for hole in 1..=holes {
+        text.push_str(format!(in alloc; " {}", place(holes, pigeon, hole))?.as_str())?;
+    }
+    text.push_str(" 0 0")?;
+    push_within(cnf, clause(alloc, text.as_bytes()))
+}
+
+/// Adds that not both of two variables are true.
+fn push_pair(alloc: Global, cnf: &mut Cnf, one: u64, other: u64) -> Result<(), AllocError> {
+    let text = format!(in alloc; "1 -{one} -{other} 0 0")?;
+    push_within(cnf, clause(alloc, text.as_bytes()))
+}
+
 /// More pigeons by one than holes, of which each is to have a hole of its own.
 fn pigeons(alloc: Global, holes: u32) -> Result<Cnf, AllocError> {
     let holes = holes.min(9);
     let mut cnf = Cnf::new(alloc, holes * (holes + 1));
     for pigeon in 0..holes + 1 {
-        let mut text = String::from_str(alloc, "1")?;
-        for hole in 1..holes + 1 {
-            text.push_str(format!(in alloc;
-                " {}",
-                u64::from(holes) * u64::from(pigeon) + u64::from(hole)
-            )?
-            .as_str())?;
-        }
-        text.push_str(" 0 0")?;
-        push_within(&mut cnf, clause(alloc, text.as_bytes()))?;
+        push_pigeon(alloc, &mut cnf, holes, pigeon)?;
     }
     for hole in 1..holes + 1 {
         for pigeon in 0..holes + 1 {
             for other in 0..pigeon {
-                let first = u64::from(holes) * u64::from(pigeon) + u64::from(hole);
-                let second = u64::from(holes) * u64::from(other) + u64::from(hole);
-                let text = format!(in alloc; "1 -{first} -{second} 0 0")?;
-                push_within(&mut cnf, clause(alloc, text.as_bytes()))?;
+                let (first, second) = (place(holes, pigeon, hole), place(holes, other, hole));
+                push_pair(alloc, &mut cnf, first, second)?;
             }
         }
     }
@@ -227,7 +252,7 @@ fn is_thrifty(log: &Log, holes: u32, refuted: bool) -> bool {
 }
 
 /// Whether the pigeons are refuted within a budget; None where the answer or its log is wrong.
-fn pigeons_refuted(alloc: Global, holes: u32, budget: u32) -> Result<Option<bool>, Fail> {
+fn pigeons_refuted(alloc: Global, holes: u32, budget: u32) -> Result<Option<bool>, AllocError> {
     if budget == 0 || budget > 1000000 {
         return Ok(None);
     }
@@ -238,14 +263,12 @@ fn pigeons_refuted(alloc: Global, holes: u32, budget: u32) -> Result<Option<bool
         Solved::Open(log) => (log, false),
     };
     let enough = refuted || count_lines(&log).added >= u64::from(budget);
-    if enough && is_thrifty(&log, holes, refuted) && judged(alloc, cnf, &log)? == Some(refuted) {
-        return Ok(Some(refuted));
-    }
-    Ok(None)
+    let well = enough && is_thrifty(&log, holes, refuted) && holds(alloc, cnf, &log, refuted)?;
+    Ok(well.then_some(refuted))
 }
 
 #[test]
-fn pigeons_have_no_holes(rt: HostRuntime) -> Result<(), Fail> {
+fn pigeons_have_no_holes(rt: HostRuntime) -> Result<(), AllocError> {
     for (holes, budget, end) in [
         (3, 1, false),
         (3, 1000000, true),
@@ -259,7 +282,7 @@ fn pigeons_have_no_holes(rt: HostRuntime) -> Result<(), Fail> {
 }
 
 /// How many clauses are learnt until the pigeons are refuted; None where they aren't.
-fn clauses_learnt(alloc: Global, holes: u32) -> Result<Option<u64>, Fail> {
+fn clauses_learnt(alloc: Global, holes: u32) -> Result<Option<u64>, AllocError> {
     match solve(alloc, &pigeons(alloc, holes)?, 1000000)? {
         Solved::Unsat(log) => Ok(Some(count_lines(&log).added)),
         _ => Ok(None),
@@ -267,21 +290,28 @@ fn clauses_learnt(alloc: Global, holes: u32) -> Result<Option<u64>, Fail> {
 }
 
 #[test]
-fn pigeons_take_so_many_steps(rt: HostRuntime) -> Result<(), Fail> {
+fn pigeons_take_so_many_steps(rt: HostRuntime) -> Result<(), AllocError> {
     // as many clauses as an independent program learns that takes the same steps: they tell of what scores, of
     // signs and of when restarts come, which no contract says
     for (holes, added) in [(4, 33), (6, 457)] {
         let learnt = clauses_learnt(rt.alloc(), holes)?;
-        assert!(rt; learnt == Some(added), "{learnt:?}");
+        assert!(rt; learnt == Some(added), "{holes}");
     }
     Ok(())
 }
 
 #[test]
-fn ten_pigeons_have_a_log(rt: HostRuntime) -> Result<(), Fail> {
+fn ten_pigeons_have_a_log(rt: HostRuntime) -> Result<(), AllocError> {
     // either way
-    assert!(rt; pigeons_refuted(rt.alloc(), 9, 20000)?.is_some());
+    let told = pigeons_refuted(rt.alloc(), 9, 20000)?;
+    assert!(rt; told.is_some());
     Ok(())
+}
+
+/// Adds that one variable follows from another.
+fn push_step(alloc: Global, cnf: &mut Cnf, from: u32, to: u32) -> Result<(), AllocError> {
+    let text = format!(in alloc; "1 -{from} {to} 0 0")?;
+    push_within(cnf, clause(alloc, text.as_bytes()))
 }
 
 /// The variables 1 to `vars`, of which the first is true and each follows from the one before. What follows
@@ -290,104 +320,26 @@ fn implications(alloc: Global, vars: u32) -> Result<Cnf, AllocError> {
     let vars = vars.min(9000);
     let mut cnf = Cnf::new(alloc, vars);
     for left in 1..vars {
-        let text = format!(in alloc; "1 -{} {} 0 0", vars - left, vars - left + 1)?;
-        push_within(&mut cnf, clause(alloc, text.as_bytes()))?;
+        push_step(alloc, &mut cnf, vars - left, vars - left + 1)?;
     }
     push_within(&mut cnf, clause(alloc, b"1 1 0 0"))?;
     Ok(cnf)
 }
 
 /// Whether a row of implications, the last of which is false besides, is refuted by a log of one line.
-fn is_followed(alloc: Global, vars: u32) -> Result<bool, Fail> {
+fn is_followed(alloc: Global, vars: u32) -> Result<bool, AllocError> {
     let mut cnf = implications(alloc, vars)?;
     let last = format!(in alloc; "1 -{vars} 0 0")?;
     push_within(&mut cnf, clause(alloc, last.as_bytes()))?;
     match solve(alloc, &cnf, 1)? {
-        Solved::Unsat(log) => Ok(log.lines.len() == 1 && judged(alloc, cnf, &log)? == Some(true)),
+        Solved::Unsat(log) => Ok(log.lines.len() == 1 && holds(alloc, cnf, &log, true)?),
         _ => Ok(false),
     }
 }
 
 #[test]
-fn long_rows_are_followed(rt: HostRuntime) -> Result<(), Fail> {
+fn long_rows_are_followed(rt: HostRuntime) -> Result<(), AllocError> {
     let followed = is_followed(rt.alloc(), 4000)?;
     assert!(rt; followed);
-    Ok(())
-}
-
-/// A formula of random clauses over four variables.
-fn random_formula(alloc: Global, seed: u64) -> Result<Cnf, AllocError> {
-    let mut cnf = Cnf::new(alloc, 4);
-    let mut seed = next_random(seed);
-    for _ in 0..8 + (seed >> 33) % 16 {
-        let mut text = String::from_str(alloc, "1")?;
-        for variable in 1..=4u32 {
-            seed = next_random(seed);
-            match (seed >> 33) % 4 {
-                0 => text.push_str(format!(in alloc; " {variable}")?.as_str())?,
-                1 => text.push_str(format!(in alloc; " -{variable}")?.as_str())?,
-                _ => {}
-            }
-        }
-        text.push_str(" 0 0")?;
-        let clause = clause(alloc, text.as_bytes());
-        if !clause.lits().is_empty() {
-            push_within(&mut cnf, clause)?;
-        }
-    }
-    Ok(cnf)
-}
-
-/// Whether one of the sixteen assignments satisfies a formula over four variables.
-fn is_satisfiable(alloc: Global, cnf: &Cnf) -> Result<bool, AllocError> {
-    if cnf.vars() != 4 {
-        return Ok(false);
-    }
-    for number in 0..16u32 {
-        let bits = [
-            number & 1 == 1,
-            number & 2 == 2,
-            number & 4 == 4,
-            number & 8 == 8,
-        ];
-        if satisfied(cnf, &Assign::new(Vec::from_slice(alloc, &bits)?)) {
-            return Ok(true);
-        }
-    }
-    Ok(false)
-}
-
-/// Whether a random formula is satisfied; None where the answer isn't that of all assignments, or its log is refused.
-fn agreed(alloc: Global, round: u64) -> Result<Option<bool>, Fail> {
-    let cnf = random_formula(alloc, round)?;
-    let expected = is_satisfiable(alloc, &cnf)?;
-    // twice 3 to the fourth decides all
-    match solve(alloc, &cnf, 162)? {
-        Solved::Sat(assign) => {
-            if expected && satisfied(&cnf, &assign) {
-                return Ok(Some(true));
-            }
-        }
-        Solved::Unsat(log) => {
-            if !expected && judged(alloc, cnf, &log)? == Some(true) {
-                return Ok(Some(false));
-            }
-        }
-        Solved::Open(_) => {}
-    }
-    Ok(None)
-}
-
-#[test]
-fn all_assignments_agree(rt: HostRuntime) -> Result<(), Fail> {
-    let mut satisfiable = 0u32;
-    for round in 0..200u64 {
-        let agreed = agreed(rt.alloc(), round)?;
-        assert!(rt; agreed.is_some(), "{round}");
-        if agreed == Some(true) {
-            satisfiable = satisfiable.saturating_add(1);
-        }
-    }
-    assert!(rt; satisfiable > 20 && satisfiable < 180, "{satisfiable}");
     Ok(())
 }

@@ -1,7 +1,6 @@
 //! Trails that go on and back.
 use cnf_core::Lit;
 use std::alloc::AllocError;
-use std::test::Fail;
 use trail_core::Trail;
 
 /// Pushes a literal, if its variable is one of the trail's and has no value.
@@ -39,7 +38,7 @@ fn fell(trail: &Trail, places: &[(i32, u32)]) -> bool {
 }
 
 #[test]
-fn trail_goes_on_and_back(rt: HostRuntime) -> Result<(), Fail> {
+fn trail_goes_on_and_back(rt: HostRuntime) -> Result<(), AllocError> {
     let alloc = rt.alloc();
     let mut trail = Trail::new(alloc, 3)?;
     for (number, reason, pushed) in [(2, 0, true), (-1, 7, true), (1, 8, false), (4, 9, false)] {
