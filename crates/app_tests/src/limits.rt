@@ -202,6 +202,19 @@ const COUNTS: &[(&str, (Much, usize), u8, &[u8])] = &[
         b"gates 49151 -> 49151\nsettled\n",
     ),
     (BLIF, (Much::Rows, 4_097), 3, b"error: TooManyRows 4100\n"),
+];
+
+#[test]
+fn tables_and_gates_have_limits(rt: HostRuntime) -> Result<(), AllocError> {
+    for &(line, much, status, note) in COUNTS {
+        let well = is_limit(rt.alloc(), line, much, status, note)?;
+        assert!(rt; well, "{line} {note:?}");
+    }
+    Ok(())
+}
+
+/// The same of gates, which take the longest.
+const GATES: &[(&str, (Much, usize), u8, &[u8])] = &[
     (
         BLIF,
         (Much::Gates, 100_000),
@@ -217,8 +230,8 @@ const COUNTS: &[(&str, (Much, usize), u8, &[u8])] = &[
 ];
 
 #[test]
-fn netlists_have_limits(rt: HostRuntime) -> Result<(), AllocError> {
-    for &(line, much, status, note) in COUNTS {
+fn netlists_have_a_greatest_number_of_gates(rt: HostRuntime) -> Result<(), AllocError> {
+    for &(line, much, status, note) in GATES {
         let well = is_limit(rt.alloc(), line, much, status, note)?;
         assert!(rt; well, "{line} {note:?}");
     }
