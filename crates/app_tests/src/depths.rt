@@ -1,7 +1,7 @@
 //! Chains of the fewest levels: what `synth --least-depth yes` writes, and what `recheck --depth yes` tells of it and
 //! of what it isn't.
-use crate::running::told;
-use std::test::Fail;
+use crate::running::{tells, told};
+use std::alloc::{AllocError, Global};
 
 const SYNTH: &str = "synth --method fence --least-depth yes";
 
@@ -19,216 +19,208 @@ const FLATTER: &str =
 const OPEN: &str =
     "chains 1\ninputs 3\n00000011\n00000001\nbasis all\nmethod fence\nconflicts 1\nmax 16\nsize 0\nfence\nrefuted\ndone\nsize 1\nfence 1\nrefuted\n132 0 1 2 9 17 0\ndone\nchain 2\nx4 x1 x2 0001\nx5 x3 x4 0001\nout x4\nout x5\nminimum 2\nend\ndepth 2\nfence 2\nopen\n276 -1 0 3 19 274 0\ndone\n";
 
-/// The text of a bundle by its front, its line of the depth, its logs and its ending.
-fn bundle(
-    rt: &HostRuntime,
-    front: &str,
-    depth: &str,
-    logs: &str,
-    ending: &str,
-) -> Result<Vec<u8>, Fail> {
-    let mut text = Vec::new(rt.alloc());
-    text.extend_from_slice(front.as_bytes())?;
-    text.extend_from_slice(depth.as_bytes())?;
-    text.extend_from_slice(logs.as_bytes())?;
-    text.extend_from_slice(ending.as_bytes())?;
-    Ok(text)
-}
-
-/// Whether `recheck --depth yes` tells this of a text.
+/// Whether `recheck --depth yes` tells this of the text of these parts.
 fn is_judged(
-    rt: &HostRuntime,
-    text: &[u8],
+    alloc: Global,
+    parts: [&str; 4],
     status: u8,
     out: &str,
     note: &str,
-) -> Result<bool, Fail> {
-    let seen = told(rt.alloc(), RECHECK, text)?;
-    Ok(seen.is(status, out.as_bytes(), note.as_bytes()))
+) -> Result<bool, AllocError> {
+    let mut text = String::new(alloc);
+    for part in parts {
+        text.push_str(part)?;
+    }
+    tells(alloc, RECHECK, text.as_str(), status, out, note)
 }
 
 /// Whether `synth` writes a certificate of the fewest levels with this ending, which is found valid.
-fn is_found(rt: &HostRuntime, input: &str, ending: &str) -> Result<bool, Fail> {
-    let seen = told(rt.alloc(), SYNTH, input.as_bytes())?;
-    let again = told(rt.alloc(), RECHECK, seen.out.written())?;
+fn is_found(alloc: Global, input: &str, ending: &str) -> Result<bool, AllocError> {
+    let seen = told(alloc, SYNTH, input.as_bytes())?;
+    let again = told(alloc, RECHECK, seen.out.written())?;
     let well = seen.status == 0 && seen.note.written().is_empty() && again.status == 0;
     Ok(well && seen.out.written().ends_with(ending.as_bytes()))
 }
 
+/// Tables, and how their certificates end.
+const FOUND: &[(&str, &str)] = &[
+    (
+        "inputs 4\n0000000000000001\n",
+        "chain 3\nx5 x1 x2 0001\nx6 x3 x4 0001\nx7 x5 x6 0001\nout x7\nminimum 3\nend\ndepth 2\nlevels 2\nend\n",
+    ),
+    ("inputs 4\n0000000000011111\n", "done\nlevels 3\nend\n"),
+    (
+        "inputs 2\n0--1\n",
+        "minimum 0\nend\ndepth 0\nlevels 0\nend\n",
+    ),
+];
+
 #[test]
-fn fewest_levels_are_found(rt: HostRuntime) -> Result<(), Fail> {
-    for (input, ending) in [
-        (
-            "inputs 4\n0000000000000001\n",
-            "chain 3\nx5 x1 x2 0001\nx6 x3 x4 0001\nx7 x5 x6 0001\nout x7\nminimum 3\nend\ndepth 2\nlevels 2\nend\n",
-        ),
-        ("inputs 4\n0000000000011111\n", "done\nlevels 3\nend\n"),
-        (
-            "inputs 2\n0--1\n",
-            "minimum 0\nend\ndepth 0\nlevels 0\nend\n",
-        ),
-    ] {
-        let well = is_found(&rt, input, ending)?;
+fn fewest_levels_are_found(rt: HostRuntime) -> Result<(), AllocError> {
+    for &(input, ending) in FOUND {
+        let well = is_found(rt.alloc(), input, ending)?;
         assert!(rt; well, "{input}");
     }
     Ok(())
 }
 
+/// The front of a bundle, its line of the depth, its logs and its ending; the status, and what is told.
+const JUDGED: &[(&str, &str, &str, &str, u8, &str, &str)] = &[
+    // a budget that is spent leaves levels open
+    (
+        OPEN,
+        "",
+        "",
+        "levels-bounded 1 2\nend\n",
+        0,
+        "levels-bounded 1 2\n",
+        "",
+    ),
+    (
+        OPEN,
+        "",
+        "",
+        "levels 2\nend\n",
+        8,
+        "",
+        "error: WrongLevels 30\n",
+    ),
+    (
+        FRONT,
+        "depth 2\n",
+        FLATTER,
+        "levels 2\nend\n",
+        0,
+        "levels 2\n",
+        "",
+    ),
+    (
+        FRONT,
+        "depth 2\n",
+        "",
+        "levels 2\nend\n",
+        8,
+        "",
+        "error: NotRefuted 26\n",
+    ),
+    (
+        FRONT,
+        "depth 3\n",
+        FLATTER,
+        "levels 2\nend\n",
+        8,
+        "",
+        "error: WrongDepth 25\n",
+    ),
+    (
+        FRONT,
+        "depth\n",
+        FLATTER,
+        "levels 2\nend\n",
+        2,
+        "",
+        "error: Syntax 25\n",
+    ),
+    (
+        FRONT,
+        "depth 2\n",
+        FLATTER,
+        "levels 1\nend\n",
+        8,
+        "",
+        "error: WrongLevels 37\n",
+    ),
+    (
+        FRONT,
+        "depth 2\n",
+        FLATTER,
+        "levels-bounded 1 2\nend\n",
+        8,
+        "",
+        "error: WrongLevels 37\n",
+    ),
+    (
+        FRONT,
+        "depth 2\n",
+        FLATTER,
+        "fence 1 1\n",
+        8,
+        "",
+        "error: NotRefuted 37\n",
+    ),
+    (
+        FRONT,
+        "depth 2\n",
+        FLATTER,
+        "levels 2\n",
+        2,
+        "",
+        "error: Syntax 38\n",
+    ),
+    (
+        FRONT,
+        "depth 2\n",
+        FLATTER,
+        "levels 2\nend\n\n",
+        2,
+        "",
+        "error: Syntax 39\n",
+    ),
+    (
+        FRONT,
+        "depth 2\n",
+        "fence 1 1\n",
+        "",
+        8,
+        "",
+        "error: NotRefuted 26\n",
+    ),
+    (
+        FRONT,
+        "depth 2\n",
+        "fence 2\nrefuted\n276 0 0\n",
+        "",
+        8,
+        "",
+        "error: StepRefused 28 NoConflict\n",
+    ),
+    (
+        FRONT,
+        "depth 2\n",
+        "fence 2\nrefuted\ndone\n",
+        "",
+        8,
+        "",
+        "error: NotRefuted 28\n",
+    ),
+    (
+        FRONT,
+        "depth 2\n",
+        "fence 2\nopen\ndone\n",
+        "",
+        8,
+        "",
+        "error: OpenTooShort 28\n",
+    ),
+    (FRONT, "", "", "", 2, "", "error: Syntax 25\n"),
+    ("chains 1\n", "", "", "", 2, "", "error: Bundle Syntax 2\n"),
+    ("", "", "", "", 2, "", "error: Bundle Syntax 1\n"),
+    (
+        "chains 1\ninputs 1\n01\nbasis all\nmethod ssv\nconflicts 7\nmax 0\nchain 0\nout x1\nminimum 0\nend\n",
+        "",
+        "",
+        "",
+        8,
+        "",
+        "error: NotLeastForm\n",
+    ),
+];
+
 #[test]
-fn depth_bundles_are_judged(rt: HostRuntime) -> Result<(), Fail> {
-    for (front, depth, logs, ending, status, out, note) in [
-        // a budget that is spent leaves levels open
-        (
-            OPEN,
-            "",
-            "",
-            "levels-bounded 1 2\nend\n",
-            0,
-            "levels-bounded 1 2\n",
-            "",
-        ),
-        (
-            OPEN,
-            "",
-            "",
-            "levels 2\nend\n",
-            8,
-            "",
-            "error: WrongLevels 30\n",
-        ),
-        (
-            FRONT,
-            "depth 2\n",
-            FLATTER,
-            "levels 2\nend\n",
-            0,
-            "levels 2\n",
-            "",
-        ),
-        (
-            FRONT,
-            "depth 2\n",
-            "",
-            "levels 2\nend\n",
-            8,
-            "",
-            "error: NotRefuted 26\n",
-        ),
-        (
-            FRONT,
-            "depth 3\n",
-            FLATTER,
-            "levels 2\nend\n",
-            8,
-            "",
-            "error: WrongDepth 25\n",
-        ),
-        (
-            FRONT,
-            "depth\n",
-            FLATTER,
-            "levels 2\nend\n",
-            2,
-            "",
-            "error: Syntax 25\n",
-        ),
-        (
-            FRONT,
-            "depth 2\n",
-            FLATTER,
-            "levels 1\nend\n",
-            8,
-            "",
-            "error: WrongLevels 37\n",
-        ),
-        (
-            FRONT,
-            "depth 2\n",
-            FLATTER,
-            "levels-bounded 1 2\nend\n",
-            8,
-            "",
-            "error: WrongLevels 37\n",
-        ),
-        (
-            FRONT,
-            "depth 2\n",
-            FLATTER,
-            "fence 1 1\n",
-            8,
-            "",
-            "error: NotRefuted 37\n",
-        ),
-        (
-            FRONT,
-            "depth 2\n",
-            FLATTER,
-            "levels 2\n",
-            2,
-            "",
-            "error: Syntax 38\n",
-        ),
-        (
-            FRONT,
-            "depth 2\n",
-            FLATTER,
-            "levels 2\nend\n\n",
-            2,
-            "",
-            "error: Syntax 39\n",
-        ),
-        (
-            FRONT,
-            "depth 2\n",
-            "fence 1 1\n",
-            "",
-            8,
-            "",
-            "error: NotRefuted 26\n",
-        ),
-        (
-            FRONT,
-            "depth 2\n",
-            "fence 2\nrefuted\n276 0 0\n",
-            "",
-            8,
-            "",
-            "error: StepRefused 28 NoConflict\n",
-        ),
-        (
-            FRONT,
-            "depth 2\n",
-            "fence 2\nrefuted\ndone\n",
-            "",
-            8,
-            "",
-            "error: NotRefuted 28\n",
-        ),
-        (
-            FRONT,
-            "depth 2\n",
-            "fence 2\nopen\ndone\n",
-            "",
-            8,
-            "",
-            "error: OpenTooShort 28\n",
-        ),
-        (FRONT, "", "", "", 2, "", "error: Syntax 25\n"),
-        ("chains 1\n", "", "", "", 2, "", "error: Bundle Syntax 2\n"),
-        ("", "", "", "", 2, "", "error: Bundle Syntax 1\n"),
-        (
-            "chains 1\ninputs 1\n01\nbasis all\nmethod ssv\nconflicts 7\nmax 0\nchain 0\nout x1\nminimum 0\nend\n",
-            "",
-            "",
-            "",
-            8,
-            "",
-            "error: NotLeastForm\n",
-        ),
-    ] {
-        let text = bundle(&rt, front, depth, logs, ending)?;
-        let is_told = is_judged(&rt, &text, status, out, note)?;
-        assert!(rt; is_told, "{note}");
+fn depth_bundles_are_judged(rt: HostRuntime) -> Result<(), AllocError> {
+    for &(front, depth, logs, ending, status, out, note) in JUDGED {
+        let well = is_judged(rt.alloc(), [front, depth, logs, ending], status, out, note)?;
+        assert!(rt; well, "{note}");
     }
     Ok(())
 }

@@ -1,7 +1,6 @@
 //! Each read, each write and each call on the notes failing in its turn, for every command.
 use crate::running::{Fails, run_on, told};
 use std::alloc::{AllocError, Global};
-use std::test::Fail;
 
 const XOR: &str = "inputs 2\n0110\nchain 1\nx3 x1 x2 0110\nout x3\nend\n";
 
@@ -28,7 +27,7 @@ const TWO: &str =
     ".model s\n.inputs a b\n.outputs y\n.names a b p\n10 1\n.names a b q\n01 1\n.names p q y\n1- 1\n-1 1\n.end\n.model t\n.inputs a b\n.outputs y\n.names y\n.end\n";
 
 /// Every command with an input that has an answer, and the status of that answer.
-const RUNS: [(&str, &str, u8); 9] = [
+const RUNS: &[(&str, &str, u8)] = &[
     ("agree", XOR, 0),
     ("synth", AND_OF_THREE, 0),
     ("recheck", NONE, 0),
@@ -70,18 +69,17 @@ fn writes_of(
     Ok(0)
 }
 
+/// Whether a run makes writes, and each that fails is told and leaves a front of the whole text.
+fn leaves_fronts(alloc: Global, line: &str, input: &[u8], status: u8) -> Result<bool, AllocError> {
+    let whole = told(alloc, line, input)?;
+    Ok(writes_of(alloc, line, input, whole.out.written(), status)? > 0)
+}
+
 #[test]
-fn each_write_that_fails_leaves_a_front(rt: HostRuntime) -> Result<(), Fail> {
-    for (line, input, status) in RUNS {
-        let whole = told(rt.alloc(), line, input.as_bytes())?;
-        let writes = writes_of(
-            rt.alloc(),
-            line,
-            input.as_bytes(),
-            whole.out.written(),
-            status,
-        )?;
-        assert!(rt; writes > 0, "{line}");
+fn each_write_that_fails_leaves_a_front(rt: HostRuntime) -> Result<(), AllocError> {
+    for &(line, input, status) in RUNS {
+        let well = leaves_fronts(rt.alloc(), line, input.as_bytes(), status)?;
+        assert!(rt; well, "{line}");
     }
     Ok(())
 }
@@ -101,7 +99,7 @@ fn leaves_pieces(alloc: Global, call: u64, end: &[u8]) -> Result<bool, AllocErro
 }
 
 #[test]
-fn certificates_go_out_in_pieces(rt: HostRuntime) -> Result<(), Fail> {
+fn certificates_go_out_in_pieces(rt: HostRuntime) -> Result<(), AllocError> {
     let pieces: [(u64, &str); 3] = [
         (2, "\nmax 16\n"),
         (3, "\nmax 16\nsize 0\nrefuted\ndone\n"),
@@ -136,37 +134,40 @@ fn reads_of(alloc: Global, line: &str, input: &[u8], status: u8) -> Result<u64, 
 }
 
 #[test]
-fn each_read_that_fails_leaves_nothing(rt: HostRuntime) -> Result<(), Fail> {
-    for (line, input, status) in RUNS {
+fn each_read_that_fails_leaves_nothing(rt: HostRuntime) -> Result<(), AllocError> {
+    for &(line, input, status) in RUNS {
         let reads = reads_of(rt.alloc(), line, input.as_bytes(), status)?;
         assert!(rt; (reads == 0) == line.starts_with("gen"), "{line}");
     }
     Ok(())
 }
 
-/// A text with this front, which more than one read brings.
-fn long_text(alloc: Global, front: &str) -> Result<Vec<u8>, AllocError> {
+/// How many reads a run on a refused text makes that more than one read brings.
+fn reads_of_long(alloc: Global, line: &str, front: &str) -> Result<u64, AllocError> {
     let mut text = Vec::from_slice(alloc, front.as_bytes())?;
     for _ in 0..5_000u32 {
         text.push(b'\n')?;
     }
-    Ok(text)
+    reads_of(alloc, line, &text, 2)
 }
 
+/// Lines, and the fronts of texts that they refuse.
+const LONG: &[(&str, &str)] = &[
+    ("agree", "inputs 2\n0110\nchain 1\nx3 x3 x1 0110\n"),
+    ("synth", "inputs 2\n012\n"),
+    ("recheck", "chains 2\n"),
+    ("recheck", "chains 1\ninputs 1\n1\n"),
+    ("recheck --depth yes", "depths 2\n"),
+    ("improve", ".model u\n.inputs a\n.outputs y\n.end\n"),
+    ("equiv", ".model u\n"),
+];
+
 #[test]
-fn reads_that_fail_behind_a_refused_line_are_told(rt: HostRuntime) -> Result<(), Fail> {
-    for (line, front) in [
-        ("agree", "inputs 2\n0110\nchain 1\nx3 x3 x1 0110\n"),
-        ("synth", "inputs 2\n012\n"),
-        ("recheck", "chains 2\n"),
-        ("recheck", "chains 1\ninputs 1\n1\n"),
-        ("recheck --depth yes", "depths 2\n"),
-        ("improve", ".model u\n.inputs a\n.outputs y\n.end\n"),
-        ("equiv", ".model u\n"),
-    ] {
-        let text = long_text(rt.alloc(), front)?;
+fn reads_that_fail_behind_a_refused_line_are_told(rt: HostRuntime) -> Result<(), AllocError> {
+    for &(line, front) in LONG {
         // the last of three finds the end
-        assert_eq!(rt; reads_of(rt.alloc(), line, &text, 2)?, 3, "{line} {front}");
+        let reads = reads_of_long(rt.alloc(), line, front)?;
+        assert!(rt; reads == 3, "{line} {front}");
     }
     Ok(())
 }
@@ -193,51 +194,56 @@ fn notes_of(alloc: Global, line: &str, input: &[u8], whole: &[u8]) -> Result<u64
     Ok(0)
 }
 
+/// Whether a run makes calls on the notes, and each that fails leaves the whole text.
+fn leaves_text(alloc: Global, line: &str, input: &[u8]) -> Result<bool, AllocError> {
+    let whole = told(alloc, line, input)?;
+    Ok(notes_of(alloc, line, input, whole.out.written())? > 0)
+}
+
 #[test]
-fn each_note_that_fails_leaves_the_netlist(rt: HostRuntime) -> Result<(), Fail> {
+fn each_note_that_fails_leaves_the_netlist(rt: HostRuntime) -> Result<(), AllocError> {
     for (line, input) in [
         ("improve", THREE_GATES),
         ("improve --format bench", GATES),
         ("gen --blocks 1 --run improve", ""),
     ] {
-        let whole = told(rt.alloc(), line, input.as_bytes())?;
-        let notes = notes_of(rt.alloc(), line, input.as_bytes(), whole.out.written())?;
-        assert!(rt; notes > 0, "{line}");
+        let well = leaves_text(rt.alloc(), line, input.as_bytes())?;
+        assert!(rt; well, "{line}");
     }
     Ok(())
 }
 
+/// Whether a run with this status keeps it where its first hundred calls on the notes fail, and tells nothing there.
+fn keeps_status(alloc: Global, line: &str, input: &[u8], status: u8) -> Result<bool, AllocError> {
+    let notes = Fails::UpTo(100);
+    let seen = run_on(alloc, line, input, Fails::None, Fails::None, notes)?;
+    Ok(seen.status == status && seen.note.written().is_empty())
+}
+
+/// Lines with their inputs and their statuses.
+const STATUSES: &[(&str, &str, u8)] = &[
+    ("agree", XOR, 0),
+    (
+        "agree",
+        "inputs 2\n0110\nchain 1\nx3 x3 x1 0110\nout x3\nend\n",
+        2,
+    ),
+    ("improve", ".model u\n.inputs a\n.outputs y\n.end\n", 2),
+    ("improve --format bench", "INPUT(a)\nOUTPUT(y)\n", 2),
+    ("recheck", "chains 1\n", 2),
+    ("equiv", TWO, 8),
+    ("equiv", SAME, 0),
+    ("equiv", ".model u\n", 2),
+    ("gen --blocks 2", "", 0),
+    ("gen --blocks 10001", "", 1),
+    ("synth --max 17", "", 1),
+];
+
 #[test]
-fn notes_that_fail_change_no_other_status(rt: HostRuntime) -> Result<(), Fail> {
-    for (line, input, status) in [
-        ("agree", XOR, 0),
-        (
-            "agree",
-            "inputs 2\n0110\nchain 1\nx3 x3 x1 0110\nout x3\nend\n",
-            2,
-        ),
-        ("improve", ".model u\n.inputs a\n.outputs y\n.end\n", 2),
-        ("improve --format bench", "INPUT(a)\nOUTPUT(y)\n", 2),
-        ("recheck", "chains 1\n", 2),
-        ("equiv", TWO, 8),
-        ("equiv", SAME, 0),
-        ("equiv", ".model u\n", 2),
-        ("gen --blocks 2", "", 0),
-        ("gen --blocks 10001", "", 1),
-        ("synth --max 17", "", 1),
-    ] {
-        let seen = run_on(
-            rt.alloc(),
-            line,
-            input.as_bytes(),
-            Fails::None,
-            Fails::None,
-            Fails::UpTo(100),
-        )?;
-        assert!(rt;
-            seen.status == status && seen.note.written().is_empty(),
-            "{line}"
-        );
+fn notes_that_fail_change_no_other_status(rt: HostRuntime) -> Result<(), AllocError> {
+    for &(line, input, status) in STATUSES {
+        let well = keeps_status(rt.alloc(), line, input.as_bytes(), status)?;
+        assert!(rt; well, "{line}");
     }
     Ok(())
 }
@@ -262,7 +268,7 @@ fn is_cut_off(alloc: Global, length: usize) -> Result<bool, AllocError> {
 }
 
 #[test]
-fn certificates_that_are_cut_off_end_too_early(rt: HostRuntime) -> Result<(), Fail> {
+fn certificates_that_are_cut_off_end_too_early(rt: HostRuntime) -> Result<(), AllocError> {
     for length in 0..NONE.len() {
         let told = is_cut_off(rt.alloc(), length)?;
         assert!(rt; told, "{length}");

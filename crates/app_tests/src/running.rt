@@ -4,7 +4,7 @@ use port_io::{MemorySink, MemorySource};
 use std::alloc::{AllocError, Global};
 
 /// What a run came to: its status, and what stands on the output and on the notes.
-#[derive(Debug, Drop)]
+#[derive(Drop)]
 pub(crate) struct Seen {
     pub(crate) status: u8,
     pub(crate) out: MemorySink,
@@ -16,15 +16,10 @@ impl Seen {
     pub(crate) fn is(&self, status: u8, out: &[u8], note: &[u8]) -> bool {
         self.status == status && self.out.written() == out && self.note.written() == note
     }
-
-    /// The same of texts.
-    pub(crate) fn tells(&self, status: u8, out: &str, note: &str) -> bool {
-        self.is(status, out.as_bytes(), note.as_bytes())
-    }
 }
 
 /// Which call of a port fails: this one, all up to this one, or none.
-#[derive(Clone, Copy, Debug)]
+#[derive(Clone, Copy)]
 pub(crate) enum Fails {
     None,
     At(u64),
@@ -75,4 +70,17 @@ pub(crate) fn run_on(
 /// Runs where nothing fails.
 pub(crate) fn told(alloc: Global, line: &str, input: &[u8]) -> Result<Seen, AllocError> {
     run_on(alloc, line, input, Fails::None, Fails::None, Fails::None)
+}
+
+/// Whether a run where nothing fails ends with this status, and these texts then stand on the output and on the notes.
+pub(crate) fn tells(
+    alloc: Global,
+    line: &str,
+    input: &str,
+    status: u8,
+    out: &str,
+    note: &str,
+) -> Result<bool, AllocError> {
+    let seen = told(alloc, line, input.as_bytes())?;
+    Ok(seen.is(status, out.as_bytes(), note.as_bytes()))
 }

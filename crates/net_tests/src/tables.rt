@@ -64,93 +64,107 @@ fn digit(sig: Sig, places: &[bool]) -> u8 {
     if value { b'1' } else { b'0' }
 }
 
-/// The values of a signal of a net of three sources on the rows 000, 001, 010 and so on.
-fn rows(alloc: Global, net: &Net, sig: Sig) -> Result<Vec<u8>, AllocError>
+/// The value of a signal of a net of three sources on a row, as it is written.
+fn value_on(alloc: Global, net: &Net, sig: Sig, row: u32) -> Result<u8, AllocError>
     requires { net.now.sources ≡ 3 }
 {
-    let mut digits = Vec::new(alloc);
-    for row in 0..8u32 {
-        let mut places = vec![in alloc; false; 3 + net.gates().len()]?;
-        values(
-            net,
-            &[row & 4 == 4, row & 2 == 2, row & 1 == 1],
-            &mut places,
-        );
-        digits.push(digit(sig, &places))?;
-    }
-    Ok(digits)
+    let mut places = vec![in alloc; false; 3 + net.gates().len()]?;
+    values(
+        net,
+        &[row & 4 == 4, row & 2 == 2, row & 1 == 1],
+        &mut places,
+    );
+    Ok(digit(sig, &places))
 }
 
-/// The rows of a table by its gates, and how many they are; nothing where it is no cover.
-fn built(alloc: Global, cubes: &[&[u8]], on: bool) -> Result<(Vec<u8>, usize), AllocError> {
+/// Whether these are the values of a signal of a net of three sources on the rows 000, 001, 010 and so on.
+fn has_rows(alloc: Global, net: &Net, sig: Sig, digits: &[u8]) -> Result<bool, AllocError>
+    requires { net.now.sources ≡ 3 }
+{
+    for row in 0..8u32 {
+        let value = value_on(alloc, net, sig, row)?;
+        if digits.get(row as usize) != Some(&value) {
+            return Ok(false);
+        }
+    }
+    Ok(digits.len() == 8)
+}
+
+/// Whether a table has these rows by its gates, and so many of these.
+fn is_built(
+    alloc: Global,
+    cubes: &[&[u8]],
+    on: bool,
+    digits: &[u8],
+    gates: usize,
+) -> Result<bool, AllocError> {
     let cover = cover(alloc, cubes, on)?;
     let inputs = [Sig::Place(1), Sig::Place(2), Sig::Place(3)];
     if !is_cover(&cover) || cover.cubes.len() > 4096 || cover_cost(&cover, &inputs) > 1000 {
-        return Ok((Vec::new(alloc), 0));
+        return Ok(false);
     }
     let mut net = Net::new(3, Vec::new(alloc), Vec::new(alloc));
     let sig = expand(alloc, &mut net, &cover, &inputs)?;
-    let count = net.gates().len();
-    Ok((rows(alloc, &net, sig)?, count))
+    Ok(net.gates().len() == gates && has_rows(alloc, &net, sig, digits)?)
 }
+
+/// Covers by their cubes, whether of the on-set, with their rows and how many gates they take.
+const COVERS: &[(&[&[u8]], bool, &[u8; 8], usize)] = &[
+    (&[b"1-0", b"-11"], true, b"00011011", 3),
+    (&[b"000"], false, b"01111111", 2),
+    (&[b"1--"], true, b"00001111", 0),
+    (&[b"0--"], true, b"11110000", 1),
+    (&[b"1--"], false, b"11110000", 1),
+    (&[b"0--"], false, b"00001111", 0),
+    (&[b"01-", b"10-"], true, b"00111100", 3),
+    (&[b"01-", b"10-"], false, b"11000011", 3),
+    (&[b"111", b"---"], true, b"11111111", 0),
+    (&[b"---"], false, b"00000000", 0),
+    (&[], true, b"00000000", 0),
+    (&[], false, b"00000000", 0),
+];
 
 #[test]
-fn tables_become_gates(rt: HostRuntime) {
-    for (cubes, on, digits, gates) in [
-        (
-            &[b"1-0" as &[u8], b"-11"] as &[&[u8]],
-            true,
-            b"00011011",
-            3usize,
-        ),
-        (&[b"000"], false, b"01111111", 2),
-        (&[b"1--"], true, b"00001111", 0),
-        (&[b"0--"], true, b"11110000", 1),
-        (&[b"1--"], false, b"11110000", 1),
-        (&[b"0--"], false, b"00001111", 0),
-        (&[b"01-", b"10-"], true, b"00111100", 3),
-        (&[b"01-", b"10-"], false, b"11000011", 3),
-        (&[b"111", b"---"], true, b"11111111", 0),
-        (&[b"---"], false, b"00000000", 0),
-        (&[], true, b"00000000", 0),
-        (&[], false, b"00000000", 0),
-    ] {
-        let (rows, count) = built(rt.alloc(), cubes, on).expect(&rt, "memory");
-        assert!(rt; rows.as_slice() == digits.as_slice());
-        assert!(rt; count == gates);
+fn tables_become_gates(rt: HostRuntime) -> Result<(), AllocError> {
+    for &(cubes, on, digits, gates) in COVERS {
+        let built = is_built(rt.alloc(), cubes, on, digits, gates)?;
+        assert!(rt; built, "{digits:?}");
     }
+    Ok(())
 }
 
-/// The rows of three inputs that are joined, by the gates, and how many these are.
+/// Whether three inputs that are joined have these rows by two gates.
 #[tactic(auto, using(net_core::specs::BodyLaws::joined_cost))]
-fn joined(alloc: Global, whole: Whole) -> Result<(Vec<u8>, usize), AllocError>
+fn is_joined(alloc: Global, whole: Whole, digits: &[u8]) -> Result<bool, AllocError>
     requires { whole.width ≡ 3 }
 {
     let mut net = Net::new(3, Vec::new(alloc), Vec::new(alloc));
     let inputs = [Sig::Place(1), Sig::Place(2), Sig::Place(3)];
     let sig = expand_body(alloc, &mut net, &Body::Joined(whole), &inputs)?;
-    let count = net.gates().len();
-    Ok((rows(alloc, &net, sig)?, count))
+    Ok(net.gates().len() == 2 && has_rows(alloc, &net, sig, digits)?)
 }
 
+/// What joins three inputs, whether it is as it says or the opposite, and the rows.
+const JOINED: &[(Connective, bool, &[u8; 8])] = &[
+    (Connective::And, true, b"00000001"),
+    (Connective::And, false, b"11111110"),
+    (Connective::Or, true, b"01111111"),
+    (Connective::Or, false, b"10000000"),
+    (Connective::Xor, true, b"01101001"),
+    (Connective::Xor, false, b"10010110"),
+];
+
 #[test]
-fn inputs_are_joined(rt: HostRuntime) {
-    for (connective, on, digits) in [
-        (Connective::And, true, b"00000001"),
-        (Connective::And, false, b"11111110"),
-        (Connective::Or, true, b"01111111"),
-        (Connective::Or, false, b"10000000"),
-        (Connective::Xor, true, b"01101001"),
-        (Connective::Xor, false, b"10010110"),
-    ] {
+fn inputs_are_joined(rt: HostRuntime) -> Result<(), AllocError> {
+    for &(connective, on, digits) in JOINED {
         let whole = Whole {
             connective,
             width: 3,
             on,
         };
-        let (rows, count) = joined(rt.alloc(), whole).expect(&rt, "memory");
-        assert!(rt; rows.as_slice() == digits.as_slice());
         let value = body_value(&Body::Joined(whole), &[true, true, false]);
-        assert!(rt; count == 2 && value == (digits[6] == b'1'));
+        let joined = is_joined(rt.alloc(), whole, digits)?;
+        assert!(rt; joined && value == (digits[6] == b'1'), "{digits:?}");
     }
+    Ok(())
 }

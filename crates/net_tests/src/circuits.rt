@@ -1,0 +1,79 @@
+//! Circuits that are read and written again, and the refusals of whole documents.
+
+use crate::refusals::names;
+use bench_core::{read_bench, write_bench};
+use std::alloc::{AllocError, Global};
+
+/// Whether a text's circuit is written as this text.
+fn is_written(alloc: Global, bytes: &[u8], wanted: &[u8]) -> Result<bool, AllocError> {
+    if bytes.len() > 100_000 {
+        return Ok(false);
+    }
+    let Ok(circuit) = read_bench(alloc, bytes) else {
+        return Ok(false);
+    };
+    let mut text = Vec::new(alloc);
+    write_bench(&circuit, &mut text)?;
+    Ok(text.as_slice() == wanted)
+}
+
+/// Whether a text is refused by this word and this name.
+fn is_refused(alloc: Global, bytes: &[u8], word: &str, name: &[u8]) -> bool {
+    if bytes.len() > 100_000 {
+        return false;
+    }
+    match read_bench(alloc, bytes) {
+        Ok(_) => false,
+        Err(error) => names(&error, word, name),
+    }
+}
+
+/// Texts, and how their circuits are written.
+const WRITTEN: &[(&[u8], &[u8])] = &[
+    // more than two operands are joined from the left, and the last gate has the key
+    (
+        b"INPUT(a)\nINPUT(b)\nINPUT(c)\nOUTPUT(y)\ny = nand(a, b, c)\n",
+        b"INPUT(a)\nINPUT(b)\nINPUT(c)\nOUTPUT(y)\ng1 = AND(a, b)\ny = NAND(g1, c)\n",
+    ),
+    (
+        b"INPUT(a)\nINPUT(b)\nINPUT(c)\nOUTPUT(y)\ny = XNOR(a, b, c)\n",
+        b"INPUT(a)\nINPUT(b)\nINPUT(c)\nOUTPUT(y)\ng1 = XOR(a, b)\ny = XNOR(g1, c)\n",
+    ),
+    // a latch, and a NOT that only it reads
+    (
+        b"INPUT(a)\nOUTPUT(q)\nq = DFF(d)\nd = NOT(a)\n",
+        b"INPUT(a)\nOUTPUT(q)\nq = DFF(g1)\ng1 = NOT(a)\n",
+    ),
+    // one operand twice, a constant, a copy, a CR, blanks and a comment
+    (
+        b"INPUT ( a )\r\nOUTPUT(y)\nOUTPUT(z)\t# two outputs\ny=XOR(a,a)\nz = BUFF(a)\n",
+        b"INPUT(a)\nOUTPUT(y)\nOUTPUT(z)\ny = XOR(a, a)\nz = BUFF(a)\n",
+    ),
+    // nothing, and a latch that reads itself
+    (b"", b""),
+    (b"OUTPUT(q)\nq = DFF(q)\n", b"OUTPUT(q)\nq = DFF(q)\n"),
+];
+
+#[test]
+fn circuits_are_written_again(rt: HostRuntime) -> Result<(), AllocError> {
+    for &(text, wanted) in WRITTEN {
+        let again = is_written(rt.alloc(), text, wanted)?;
+        assert!(rt; again);
+    }
+    Ok(())
+}
+
+/// Documents that are refused, by which word and which name.
+const REFUSED: &[(&[u8], &str, &[u8])] = &[
+    (b"INPUT(a)\nOUTPUT(y)\ny = AND(y, a)\n", "Cycle", b"y"),
+    (b"INPUT(a)\nINPUT(a)\nOUTPUT(a)\n", "DrivenTwice", b"a"),
+    (b"INPUT(a)\nOUTPUT(y)\ny = OR(a, b)\n", "Undriven", b"b"),
+    (b"INPUT(a)\nOUTPUT(y)\n", "Undriven", b"y"),
+];
+
+#[test]
+fn documents_are_refused(rt: HostRuntime) {
+    for &(text, word, name) in REFUSED {
+        assert!(rt; is_refused(rt.alloc(), text, word, name), "{word}");
+    }
+}

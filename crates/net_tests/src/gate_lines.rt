@@ -1,0 +1,127 @@
+//! What the lines of a BENCH text list, and which fault of a line is told.
+
+use crate::listing::lists;
+use crate::refusals::fault;
+use bench_text::read_listed;
+use std::alloc::{AllocError, Global};
+
+/// Whether a text lists so many inputs, outputs, clocks, latches and tables.
+fn is_listed(alloc: Global, text: &[u8], counts: [usize; 5]) -> bool {
+    if text.len() > 100_000 {
+        return false;
+    }
+    match read_listed(alloc, text) {
+        Ok(listed) => lists(&listed, counts),
+        Err(_) => false,
+    }
+}
+
+/// Whether a text is refused by this word and at this line.
+fn is_refused(alloc: Global, text: &[u8], word: &str, line: u32) -> bool {
+    if text.len() > 100_000 {
+        return false;
+    }
+    match read_listed(alloc, text) {
+        Ok(_) => false,
+        Err(error) => {
+            let (told, at) = fault(&error);
+            told == word && at == line
+        }
+    }
+}
+
+/// Texts with how many inputs, outputs, clocks, latches and tables they list.
+const LISTED: &[(&[u8], [usize; 5])] = &[
+    (b"", [0, 0, 0, 0, 0]),
+    (b"# a comment\n\n \t\nINPUT(a)\nOUTPUT(a)", [1, 1, 0, 0, 0]),
+    (
+        b"input(a)\nOutput(y)\ny = Nor ( a , a )\nq = dff(y)\n",
+        [1, 1, 0, 1, 1],
+    ),
+    (b"y = BUF(a)\nz=not(y)\nINPUT = OR(z)\n", [0, 0, 0, 0, 3]),
+    (b"y = AND(a)\n", [0, 0, 0, 0, 1]),
+    (b"INPUT(a[0])\n", [1, 0, 0, 0, 0]),
+    (
+        b"INPUT(a)\r\n\tq\t=\tDFF\t(\ta\t)\t\r\ny=xnor(a,q,a)# three\r\n",
+        [1, 0, 0, 1, 1],
+    ),
+];
+
+#[test]
+fn lines_are_listed(rt: HostRuntime) {
+    for &(text, counts) in LISTED {
+        assert!(rt; is_listed(rt.alloc(), text, counts), "{text:?}");
+    }
+}
+
+/// Texts and their first faults.
+const FAULTS: &[(&[u8], &str, u32)] = &[
+    (b"INPUT(a)\nOUTPUT(y)\ny = LUT(a)\n", "NotSupported", 3),
+    (b"y = Lut 0x8 (a\n", "NotSupported", 1),
+    (b"y = vdd\n", "NotSupported", 1),
+    (b"y = GND\n", "NotSupported", 1),
+    (b"y = vdd(a)\n", "Syntax", 1),
+    (b"INPUT()\n", "Syntax", 1),
+    (b"y = AND()\n", "Syntax", 1),
+    (b"y = AND(a,,b)\n", "Syntax", 1),
+    (b"y = AND(a, b) c\n", "Syntax", 1),
+    (b"y = NOT(a, b)\n", "Syntax", 1),
+    (b"q = DFF(a, b)\n", "Syntax", 1),
+    (b"INPUT(a, b)\n", "Syntax", 1),
+    (b"INPUT a\n", "Syntax", 1),
+    (b"INPUT\n", "Syntax", 1),
+    (b"y = MUX(a, b)\n", "Syntax", 1),
+    (b"y AND(a)\n", "Syntax", 1),
+    (b"= AND(a)\n", "Syntax", 1),
+    (b"y = \n", "Syntax", 1),
+    (b"INPUT(a\\)\n", "Syntax", 1),
+];
+
+#[test]
+fn faults_are_told_with_their_lines(rt: HostRuntime) {
+    for &(text, word, line) in FAULTS {
+        assert!(rt; is_refused(rt.alloc(), text, word, line), "{text:?}");
+    }
+}
+
+/// A gate of so many operands.
+fn gate(alloc: Global, operands: u32) -> Result<Vec<u8>, AllocError> {
+    let mut text = Vec::from_slice(alloc, b"y = AND(a")?;
+    for _operand in 1..operands {
+        text.extend_from_slice(b", a")?;
+    }
+    text.extend_from_slice(b")\n")?;
+    Ok(text)
+}
+
+/// An input whose name has so many bytes.
+fn input(alloc: Global, bytes: u32) -> Result<Vec<u8>, AllocError> {
+    let mut text = Vec::from_slice(alloc, b"INPUT(")?;
+    for _byte in 0..bytes {
+        text.push(b'a')?;
+    }
+    text.extend_from_slice(b")\n")?;
+    Ok(text)
+}
+
+/// Whether a gate of so many operands is listed, and one of one more is too wide.
+fn is_widest(alloc: Global, operands: u32) -> Result<bool, AllocError> {
+    let listed = is_listed(alloc, &gate(alloc, operands)?, [0, 0, 0, 0, 1]);
+    let wider = gate(alloc, operands.saturating_add(1))?;
+    Ok(listed && is_refused(alloc, &wider, "TooWide", 1))
+}
+
+/// Whether a name of so many bytes is listed, and one of one more is too long.
+fn is_longest(alloc: Global, bytes: u32) -> Result<bool, AllocError> {
+    let listed = is_listed(alloc, &input(alloc, bytes)?, [1, 0, 0, 0, 0]);
+    let longer = input(alloc, bytes.saturating_add(1))?;
+    Ok(listed && is_refused(alloc, &longer, "NameTooLong", 1))
+}
+
+#[test]
+fn limits_are_exact(rt: HostRuntime) -> Result<(), AllocError> {
+    let widest = is_widest(rt.alloc(), 256)?;
+    let longest = is_longest(rt.alloc(), 1024)?;
+    assert!(rt; widest && longest);
+    Ok(())
+}
