@@ -16,9 +16,7 @@ fn copy_front(rest: &[u8], buf: &mut [u8]) -> usize
     ensures front { take result buf.new ≡ take result rest.now }
 {
     let count = buf.len().min(rest.len());
-    let (front, _) = buf.split_at_mut(count);
-    let (piece, _) = rest.split_at(count);
-    front.copy_from_slice(piece);
+    buf[..count].copy_from_slice(&rest[..count]);
     count
 }
 
