@@ -7,7 +7,7 @@ use net_core::Connective;
 
 /// The function of a gate: AND, OR or XOR of its operands, or the complement where `on` is false. A single
 /// one has one operand.
-#[derive(Clone, Copy, Debug, PartialEq, Eq)]
+#[derive(Clone, Copy)]
 pub struct GateKey {
     pub connective: Connective,
     pub on: bool,
@@ -15,7 +15,7 @@ pub struct GateKey {
 }
 
 /// What a word asks for at the place of a key.
-#[derive(Clone, Copy, Debug, PartialEq, Eq)]
+#[derive(Clone, Copy)]
 pub enum Keyword {
     /// `INPUT`
     Input,

@@ -8,7 +8,7 @@ use std::alloc::{AllocError, Global};
 use text_core::{after, next_item, next_line, number_up_to};
 
 /// Why a log has no verdict.
-#[derive(Clone, Copy, Debug, PartialEq, Eq)]
+#[derive(Clone, Copy, Debug)]
 pub enum Fault {
     /// The formula isn't of its form.
     Formula,

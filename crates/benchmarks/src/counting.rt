@@ -10,7 +10,7 @@ use std::alloc::{AllocError, Global};
 use window_core::{Readers, partners_by, readers_of, spec_of, window_by};
 
 /// How many windows there are, and what they have together.
-#[derive(Clone, Copy, Debug)]
+#[derive(Clone, Copy)]
 pub struct Count {
     pub windows: u64,
     pub gates: u64,

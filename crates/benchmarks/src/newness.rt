@@ -6,7 +6,7 @@ use std::alloc::Global;
 use text_core::next_line;
 
 /// How many additions a log has, and how many were of a new clause.
-#[derive(Clone, Copy, Debug, PartialEq, Eq)]
+#[derive(Clone, Copy)]
 pub struct Counted {
     /// The additions of a new clause.
     pub new: u64,

@@ -9,7 +9,7 @@ use std::alloc::{AllocError, Global};
 const BUDGET: u32 = 10_000_000;
 
 /// How a formula was decided.
-#[derive(Clone, Copy, Debug, PartialEq, Eq)]
+#[derive(Clone, Copy, Debug)]
 pub enum Answer {
     /// An assignment satisfies it.
     Satisfied,
@@ -20,7 +20,7 @@ pub enum Answer {
 }
 
 /// What a search came to.
-#[derive(Clone, Copy, Debug, PartialEq, Eq)]
+#[derive(Clone, Copy)]
 pub struct Outcome {
     /// How the formula was decided.
     pub answer: Answer,

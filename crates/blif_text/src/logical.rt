@@ -12,7 +12,7 @@ use text_core::next_line;
 
 /// A logical line: the number of its first line, how many bytes its lines have without their LFs, and
 /// what it says.
-#[derive(Debug, Drop)]
+#[derive(Drop)]
 pub struct LogicalLine {
     pub first: u32,
     pub size: usize,

@@ -8,7 +8,7 @@ use std::alloc::{AllocError, Global};
 use std::marker::Model;
 
 /// The control of a latch, with the latch's line.
-#[derive(Debug, Drop)]
+#[derive(Drop)]
 pub struct Control {
     pub line: u32,
     pub name: Name,
@@ -23,7 +23,7 @@ impl Model for Control {
 }
 
 /// A table by its cover, as long as cover lines of it may follow.
-#[derive(Debug, Drop)]
+#[derive(Drop)]
 pub struct CoverTable {
     pub inputs: Vec<Name>,
     pub output: Name,
@@ -57,7 +57,7 @@ impl CoverTable {
 }
 
 /// What was said so far. The last table is kept apart as long as cover lines of it may follow.
-#[derive(Debug, Drop)]
+#[derive(Drop)]
 pub struct Reading {
     pub model: Name,
     pub inputs: Vec<Name>,

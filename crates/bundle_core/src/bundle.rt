@@ -6,7 +6,7 @@ use std::marker::Model;
 
 /// A certificate: what is searched, the logs of the sizes without a chain, the chain where one was
 /// found, and what it comes to.
-#[derive(Debug, Drop)]
+#[derive(Drop)]
 pub struct Bundle {
     pub heading: Heading,
     pub sections: Vec<Section>,

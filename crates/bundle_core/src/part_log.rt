@@ -5,7 +5,7 @@ use lrat_text::Log;
 use std::marker::Model;
 
 /// A log over the formula of a part, and how it ends.
-#[derive(Debug, Drop)]
+#[derive(Drop)]
 pub struct PartLog {
     pub part: Part,
     pub ended: Ended,

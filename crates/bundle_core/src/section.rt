@@ -7,7 +7,7 @@ use cert_theory::Ended;
 use std::marker::Model;
 
 /// The logs of one size, one for each of its parts in their order.
-#[derive(Debug, Drop)]
+#[derive(Drop)]
 pub struct Section {
     pub size: u32,
     pub parts: Vec<PartLog>,

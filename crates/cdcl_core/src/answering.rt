@@ -15,7 +15,7 @@ use lrat_text::Log;
 use std::alloc::{AllocError, Global};
 
 /// What is known of a formula.
-#[derive(Debug, Drop)]
+#[derive(Drop)]
 pub enum Solved {
     /// The assignment satisfies it.
     Sat(Assign),

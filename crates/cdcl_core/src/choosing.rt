@@ -33,7 +33,7 @@ const STEP_PART: u64 = 16;
 const REASON_PART: u64 = 2;
 
 /// The variables to decide on, with their scores and signs.
-#[derive(Debug, Drop)]
+#[derive(Drop)]
 pub(crate) struct Choice {
     pub(crate) heap: VarHeap,
     /// by variable: whether it was true when it last had a value

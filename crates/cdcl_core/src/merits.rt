@@ -45,7 +45,7 @@ const LONGER_WAIT: usize = 75;
 const LAST_ONES: usize = 20;
 
 /// What is known of a learnt clause.
-#[derive(Clone, Copy, Debug)]
+#[derive(Clone, Copy)]
 struct Merit {
     activity: u64,
     /// the number of the last conflict that it had a part in
@@ -57,7 +57,7 @@ struct Merit {
 }
 
 /// What is known of the learnt clauses, in the order of their ids.
-#[derive(Debug, Drop)]
+#[derive(Drop)]
 pub(crate) struct Merits {
     /// the ids behind this are of learnt clauses
     given: u32,

@@ -11,7 +11,7 @@ const SHORTEST_RUN: u64 = 80;
 const RUNS: u32 = 2147483647;
 
 /// The run of conflicts that is going on.
-#[derive(Debug, Drop)]
+#[derive(Drop)]
 pub(crate) struct Restarts {
     /// its place in the sequence, from 1 on
     pub(crate) run: u32,

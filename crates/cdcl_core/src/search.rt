@@ -24,7 +24,7 @@ use trail_core::Trail;
 
 /// The state of a search: the clauses of the formula and those that were learnt, the literals that are
 /// true, where the levels of decisions begin, and the log so far.
-#[derive(Debug, Drop)]
+#[derive(Drop)]
 pub(crate) struct Search {
     pub(crate) clauses: ClauseDb,
     pub(crate) trail: Trail,

@@ -12,7 +12,7 @@ use text_core::{after, number_up_to};
 pub(crate) const GREATEST: u32 = 999_999_999;
 
 /// A line of a text.
-#[derive(Clone, Copy, Debug)]
+#[derive(Clone, Copy)]
 pub struct TextLine<'a> {
     /// Its bytes, without the LF.
     pub text: &'a [u8],

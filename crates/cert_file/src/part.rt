@@ -22,7 +22,7 @@ use lrat_text::{Line, LineError, read_line};
 use std::alloc::{AllocError, Global};
 
 /// The log of a part, as far as it was read.
-#[derive(Debug, Drop)]
+#[derive(Drop)]
 pub struct PartReader {
     pub(crate) checker: Checker,
     /// How it will end.
@@ -32,7 +32,7 @@ pub struct PartReader {
 }
 
 /// What one more line comes to.
-#[derive(Debug, Drop)]
+#[derive(Drop)]
 pub enum PartStep {
     /// It is one more line of the log.
     More(PartReader),

@@ -8,7 +8,7 @@ use enc_theory::{Method, Part};
 use tt_core::Spec;
 
 /// A size whose section is read, and one of its parts.
-#[derive(Debug, Drop)]
+#[derive(Drop)]
 pub(crate) struct Running {
     pub(crate) heading: Heading,
     pub(crate) size: u32,
@@ -20,7 +20,7 @@ pub(crate) struct Running {
 }
 
 /// What is due next of a bundle whose lines were good so far, and what is kept of them.
-#[derive(Debug, Drop)]
+#[derive(Drop)]
 pub(crate) enum Stage {
     /// The first line.
     Start,

@@ -3,7 +3,7 @@ use cert_theory::{Heading, Verdict};
 use chain_core::Chain;
 
 /// What a bundle asks, its chain where it has one, and its verdict.
-#[derive(Debug, Drop)]
+#[derive(Drop)]
 pub struct Told {
     /// The tables, the basis, the method, the conflicts and the greatest size.
     pub heading: Heading,

@@ -103,7 +103,7 @@ fn depth_bundles_come_in_pieces(rt: HostRuntime) -> Result<(), Fail> {
         ),
     ] {
         let text = text_of(alloc, bundle, behind)?;
-        assert!(rt; is_judged_in_pieces(alloc, &text, answer), "{answer:?}");
+        assert!(rt; is_judged_in_pieces(alloc, &text, answer), "{bundle:?}");
     }
     Ok(())
 }

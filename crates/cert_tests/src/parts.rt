@@ -87,7 +87,7 @@ fn logs_are_read(rt: HostRuntime) -> Result<(), Fail> {
         let reader = reader(alloc, conflicts, end)?;
         let ended = reader.ended() == end;
         let told = second(alloc, reader, (first, line));
-        assert!(rt; ended && told == answer, "{told:?}");
+        assert!(rt; ended && told == answer, "{line:?}");
     }
     Ok(())
 }

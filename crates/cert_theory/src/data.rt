@@ -7,7 +7,7 @@ use std::alloc::{AllocError, AllocFailed};
 use tt_core::Spec;
 
 /// What is searched.
-#[derive(Debug, Drop)]
+#[derive(Drop)]
 pub struct Heading {
     /// The tables that a chain has to agree with.
     pub spec: Spec,
@@ -22,7 +22,7 @@ pub struct Heading {
 }
 
 /// How the log of a part ends.
-#[derive(Clone, Copy, Debug, PartialEq, Eq)]
+#[derive(Clone, Copy)]
 pub enum Ended {
     /// It refutes the part's formula.
     Refuted,
@@ -31,7 +31,7 @@ pub enum Ended {
 }
 
 /// What a bundle comes to.
-#[derive(Clone, Copy, Debug, PartialEq, Eq)]
+#[derive(Clone, Copy, PartialEq, Eq)]
 pub enum Verdict {
     /// So many steps do, and no fewer.
     Minimum(u32),
@@ -46,7 +46,7 @@ pub enum Verdict {
 /// Why a text isn't a valid bundle. Lines are judged from the top and numbered from 1; where a text
 /// ends too early, the number is that of the line that would come next. The first fault is told, and
 /// `Syntax` comes before the other faults of a line.
-#[derive(Clone, Copy, Debug, PartialEq, Eq)]
+#[derive(Clone, Copy, PartialEq, Eq)]
 pub enum BundleError {
     /// The line isn't what may stand there, or has no LF, or is missing.
     Syntax(u32),
@@ -74,7 +74,7 @@ pub enum BundleError {
 
 /// Why lines aren't the log of a part, wherever the part stands. `Syntax` comes before the other faults
 /// of a line.
-#[derive(Clone, Copy, Debug, PartialEq, Eq)]
+#[derive(Clone, Copy, PartialEq, Eq)]
 pub enum PartError {
     /// The line isn't what may stand there, or has no LF.
     Syntax,

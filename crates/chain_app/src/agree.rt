@@ -15,7 +15,7 @@ use tt_core::SpecError;
 pub(crate) const MOST_BYTES: usize = 65_536;
 
 /// What a chain is to the tables that it was given with.
-#[derive(Clone, Copy, Debug, PartialEq, Eq)]
+#[derive(Clone, Copy, Debug)]
 pub(crate) enum Answer {
     /// It meets every specified cell.
     Agrees,
@@ -24,7 +24,7 @@ pub(crate) enum Answer {
 }
 
 /// Why `agree` has no answer, though its input could be read.
-#[derive(Clone, Copy, Debug, PartialEq, Eq)]
+#[derive(Clone, Copy)]
 pub(crate) enum AgreeError {
     /// The tables are at fault. Their want of memory is told as `Memory`.
     Tables(SpecError),

@@ -7,7 +7,7 @@ use chain_theory::Out;
 use std::marker::Model;
 
 /// A Boolean chain (TAOCP 7.1.2) of at most 6 inputs, 16 steps and 8 outputs.
-#[derive(Debug, Drop)]
+#[derive(Drop)]
 pub struct Chain {
     n: u32,
     steps: Vec<Step>,

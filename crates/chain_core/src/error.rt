@@ -6,7 +6,7 @@ use std::alloc::{AllocError, AllocFailed};
 
 /// Why no chain was read. Each fault of a text has the number of its line. Where the lines end too
 /// early that is the number of the line that would come next.
-#[derive(Clone, Copy, Debug, PartialEq, Eq)]
+#[derive(Clone, Copy, PartialEq, Eq)]
 pub enum ChainError {
     /// There is no line for a step, or it has no LF, or it isn't a step line (a number of more than
     /// nine digits makes it none), or it doesn't name the step's own place, or has the operand 0.

@@ -2,7 +2,7 @@
 
 /// What a chain block's lines are judged by: the number of its first line, the numbers of inputs
 /// and outputs, and the number of steps that the first line tells.
-#[derive(Clone, Copy, Debug, PartialEq, Eq)]
+#[derive(Clone, Copy)]
 pub struct Frame {
     pub first_line: u32,
     pub n: u32,

@@ -1,7 +1,7 @@
 //! Cells and outs, the two enums on which the definitions stand.
 
 /// What a specification asks of an output on a row.
-#[derive(Clone, Copy, Debug, PartialEq, Eq)]
+#[derive(Clone, Copy)]
 pub enum Cell {
     /// The output is 0 there.
     Zero,
@@ -12,7 +12,7 @@ pub enum Cell {
 }
 
 /// What an output of a chain is.
-#[derive(Clone, Copy, Debug, PartialEq, Eq)]
+#[derive(Clone, Copy, PartialEq, Eq)]
 pub enum Out {
     /// The constant 0.
     Zero,

@@ -11,7 +11,7 @@ ghost use Rattle.chain_theory.specs.Plain.{steps_of, chain_of, MeetsRows, flat_s
 use crate::data::{Cell, Out};
 
 /// An operator on two places: `j` and `k` from 1 on, `op` the number of the operator's word.
-#[derive(Clone, Copy, Debug, PartialEq, Eq)]
+#[derive(Clone, Copy)]
 pub struct PlainStep {
     pub j: u32,
     pub k: u32,

@@ -90,7 +90,7 @@ fn forget(seen: &mut [Option<bool>], lits: &[Lit])
 
 /// A formula that grows: the variables 1 to `vars`, and clauses over them. Each clause is written in
 /// time linear in what is listed of it.
-#[derive(Debug, Drop)]
+#[derive(Drop)]
 pub struct ClauseList {
     vars: u32,
     clauses: Vec<Clause>,

@@ -1,7 +1,7 @@
 //! A literal as it is listed, before its clause is written.
 
 /// A literal as it is listed, before its clause is written.
-#[derive(Clone, Copy, Debug, PartialEq, Eq)]
+#[derive(Clone, Copy)]
 pub enum Raw {
     /// What is true or false whatever the variables are.
     Fixed(bool),

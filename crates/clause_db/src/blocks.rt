@@ -15,7 +15,7 @@ use std::marker::Model;
 
 /// Lists of literals. They lie in one row, one behind another, without an allocation for each. Contracts
 /// see the lists, and where in the row each begins.
-#[derive(Debug, Drop)]
+#[derive(Drop)]
 pub(crate) struct Blocks {
     row: Vec<Lit>,
     starts: Vec<u32>,

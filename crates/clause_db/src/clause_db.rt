@@ -22,7 +22,7 @@ use std::marker::Model;
 /// Clauses by their ids, which are 1, 2 and so on, over the variables of one formula. Each clause of two
 /// literals and more watches two of them. Contracts see the variables, a list with an entry for each id that
 /// was given (its clause, where that is live), the watched pairs, and for each literal a list of ids.
-#[derive(Debug, Drop)]
+#[derive(Drop)]
 pub struct ClauseDb {
     store: Store,
     watches: Watches,

@@ -9,7 +9,7 @@ use std::alloc::{AllocError, Global};
 use std::marker::Model;
 
 /// A clause in the list of a literal that it watches.
-#[derive(Clone, Copy, Debug)]
+#[derive(Clone, Copy)]
 pub struct Watch {
     /// One of its literals: while that is true, the clause is.
     pub blocker: Lit,
@@ -18,7 +18,7 @@ pub struct Watch {
 }
 
 /// The clauses that watch a literal. Contracts see the entries.
-#[derive(Debug, Drop)]
+#[derive(Drop)]
 pub(crate) struct WatchList {
     entries: Vec<Watch>,
 }

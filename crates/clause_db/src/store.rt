@@ -11,7 +11,7 @@ use std::marker::Model;
 
 /// Clauses by their ids, over the variables of one formula. The literals of all clauses lie in one row,
 /// without an allocation for each clause. Contracts see the variables and an entry for each id.
-#[derive(Debug, Drop)]
+#[derive(Drop)]
 pub(crate) struct Store {
     vars: u32,
     row: Vec<Lit>,

@@ -18,7 +18,7 @@ use std::alloc::{AllocError, Global};
 use std::marker::Model;
 
 /// The two literals that a clause watches; where it has fewer, the literal 1 stands for what is missing.
-#[derive(Clone, Copy, Debug)]
+#[derive(Clone, Copy)]
 pub(crate) struct Pair {
     pub(crate) first: Lit,
     pub(crate) second: Lit,
@@ -26,7 +26,7 @@ pub(crate) struct Pair {
 
 /// The literals of each clause, by its id, of which it watches the first two, and for each literal, by its
 /// code, which clauses watch it.
-#[derive(Debug, Drop)]
+#[derive(Drop)]
 pub(crate) struct Watches {
     blocks: Blocks,
     lists: Vec<WatchList>,

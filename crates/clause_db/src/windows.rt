@@ -1,6 +1,6 @@
 //! Windows of the row of literals.
 /// Where the literals of a clause stand in the row of all literals, and whether the clause is live.
-#[derive(Clone, Copy, Debug)]
+#[derive(Clone, Copy)]
 pub(crate) struct Window {
     pub(crate) start: usize,
     pub(crate) end: usize,

@@ -6,7 +6,7 @@ use crate::{Clause, Cnf, Lit};
 use std::marker::Model;
 
 /// An assignment: `bits[v - 1]` is the bit of variable v. Contracts see it as the list of its bits.
-#[derive(Debug, Drop)]
+#[derive(Drop)]
 pub struct Assign {
     bits: Vec<bool>,
 }

@@ -8,7 +8,7 @@ use std::marker::Model;
 
 /// A clause: literals of different variables, of which one at least is to be true. Contracts see it
 /// as the list of its literals.
-#[derive(Debug, Drop)]
+#[derive(Drop)]
 pub struct Clause {
     lits: Vec<Lit>,
 }

@@ -10,7 +10,7 @@ use std::marker::Model;
 
 /// A formula: the variables 1 to `vars`, fewer than 1,000,000,000, and fewer than 2,000,000,000
 /// clauses over them, all of which are to be true. The ids of the clauses are 1, 2 and so on.
-#[derive(Debug, Drop)]
+#[derive(Drop)]
 pub struct Cnf {
     vars: u32,
     clauses: Vec<Clause>,

@@ -13,7 +13,7 @@ use std::marker::Model;
 /// A literal: a variable from 1 to 2147483647, and a sign. Contracts see it as a number, as DIMACS
 /// writes it: 3 says that variable 3 is true, -3 that it is false. It is kept as the place of its entry in
 /// tables, 6 or 7, so that a look at an entry has nothing to compute.
-#[derive(Clone, Copy, Debug, Eq)]
+#[derive(Clone, Copy)]
 pub struct Lit(u32);
 
 impl Model for Lit {

@@ -4,14 +4,14 @@ use improve_settings::ImproveSettings;
 use settings::SynthSettings;
 
 /// A format of netlists.
-#[derive(Clone, Copy, Debug, PartialEq, Eq)]
+#[derive(Clone, Copy, PartialEq, Eq)]
 pub enum Format {
     Blif,
     Bench,
 }
 
 /// What is done with a netlist that was generated.
-#[derive(Clone, Copy, Debug, PartialEq, Eq)]
+#[derive(Clone, Copy, PartialEq, Eq)]
 pub enum Deed {
     /// It is written.
     Write,
@@ -20,7 +20,7 @@ pub enum Deed {
 }
 
 /// What the program is asked to do.
-#[derive(Clone, Copy, Debug, PartialEq, Eq)]
+#[derive(Clone, Copy, PartialEq, Eq)]
 pub enum Command {
     /// Say whether a chain meets its tables, or where it first doesn't.
     Agree,
@@ -47,7 +47,7 @@ pub enum Command {
 }
 
 /// Why words aren't a command.
-#[derive(Clone, Copy, Debug, PartialEq, Eq)]
+#[derive(Clone, Copy, PartialEq, Eq)]
 pub enum WordsError {
     /// They aren't a command line.
     Usage,

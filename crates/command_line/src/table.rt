@@ -14,7 +14,7 @@ use settings::{MOST_CONFLICTS, MOST_STEPS, Method, SynthSettings, method_named};
 use text_core::number_up_to;
 
 /// A command by its name.
-#[derive(Clone, Copy, Debug, PartialEq, Eq)]
+#[derive(Clone, Copy)]
 pub(crate) enum Kind {
     Agree,
     Recheck,

@@ -20,7 +20,7 @@ use std::alloc::{AllocError, Global};
 use trail_core::Trail;
 
 /// The room that the analysis of conflicts takes, used again for each conflict.
-#[derive(Debug, Drop)]
+#[derive(Drop)]
 pub struct Analysis {
     walk: Walk,
     redundancy: Redundancy,

@@ -2,7 +2,7 @@
 use cnf_core::Lit;
 
 /// A clause that was learnt from a conflict.
-#[derive(Debug, Drop)]
+#[derive(Drop)]
 pub struct Learnt {
     /// Its literals; the first is the one of the conflict's level, and the second fell last of the others.
     pub lits: Vec<Lit>,

@@ -14,7 +14,7 @@ use trail_core::Trail;
 const DEPTH: u32 = 1000;
 
 /// What is known of a fallen literal.
-#[derive(Clone, Copy, Debug)]
+#[derive(Clone, Copy)]
 enum Verdict {
     Open,
     /// it follows from the literals of a clause
@@ -25,7 +25,7 @@ enum Verdict {
 
 /// Which literals of a clause follow from its others, and may be resolved away. It is found by going back
 /// over reasons from each of them, and nothing rests on it but how short the clause gets.
-#[derive(Debug, Drop)]
+#[derive(Drop)]
 pub(crate) struct Redundancy {
     /// by variable
     verdicts: Vec<Verdict>,

@@ -19,7 +19,7 @@ use std::alloc::{AllocError, Global};
 use trail_core::Trail;
 
 /// A walk back over the trail from a conflict. The marked literals are the clause that is left.
-#[derive(Debug, Drop)]
+#[derive(Drop)]
 pub(crate) struct Walk {
     pub(crate) marks: Marks,
     /// the literals that were marked since the walk began

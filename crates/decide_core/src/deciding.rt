@@ -12,7 +12,7 @@ use size_loop::{SizeOutcome, search, search_size};
 use std::alloc::{AllocError, Global};
 
 /// What is known of the chains that agree, of at most so many steps as the heading says.
-#[derive(Debug, Drop)]
+#[derive(Drop)]
 pub enum Decided {
     /// There is one, and none of fewer than `low` steps.
     Shorter { chain: Chain, low: u32 },
@@ -23,7 +23,7 @@ pub enum Decided {
 }
 
 /// What is known where no certificate is asked for.
-#[derive(Debug, Drop)]
+#[derive(Drop)]
 pub enum Sized {
     /// A chain agrees, and none of fewer than `low` steps.
     Found { chain: Chain, low: u32 },

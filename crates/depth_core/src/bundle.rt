@@ -4,7 +4,7 @@ use depth_theory::DepthVerdict;
 use std::marker::Model;
 
 /// A bundle by fences, the logs of the fences that are flatter than its chain, and what they come to.
-#[derive(Debug, Drop)]
+#[derive(Drop)]
 pub struct DepthBundle {
     pub bundle: Bundle,
     pub parts: Vec<PartLog>,

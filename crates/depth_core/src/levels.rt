@@ -17,7 +17,7 @@ use size_loop::{PartOutcome, try_part};
 use std::alloc::{AllocError, Global};
 
 /// What the fences of so many levels come to.
-#[derive(Debug, Drop)]
+#[derive(Drop)]
 pub(crate) enum Level {
     /// A chain of the size that has at most so many levels.
     Found(Chain),

@@ -20,7 +20,7 @@ use std::alloc::{AllocError, Global};
 use tt_core::Spec;
 
 /// What a search for the fewest steps and levels comes to.
-#[derive(Debug, Drop)]
+#[derive(Drop)]
 pub enum Deep {
     /// A chain of the fewest steps was found, and the fences that are flatter than it were searched.
     Least(DepthBundle),
@@ -29,7 +29,7 @@ pub enum Deep {
 }
 
 /// A chain, and the logs of the fences that are flatter.
-#[derive(Debug, Drop)]
+#[derive(Drop)]
 struct Flat {
     chain: Chain,
     parts: Vec<PartLog>,

@@ -23,7 +23,7 @@ use text_core::next_line;
 
 /// A depth bundle, as far as it was read. It keeps what its stage keeps, which of the logs is one part's checker,
 /// and the unfinished line; nothing of the lines before.
-#[derive(Debug, Drop)]
+#[derive(Drop)]
 pub struct DepthReader {
     pub(crate) stage: Stage,
     /// Which line of the text the next one is, from 1 on.

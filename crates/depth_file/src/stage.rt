@@ -6,7 +6,7 @@ use depth_theory::DepthVerdict;
 use enc_theory::Part;
 
 /// The fences that are flatter than the chain, and one of them.
-#[derive(Debug, Drop)]
+#[derive(Drop)]
 pub(crate) struct Flat {
     pub(crate) heading: Heading,
     /// How many steps the chain has, and on how many levels.
@@ -20,7 +20,7 @@ pub(crate) struct Flat {
 }
 
 /// What is due next of a depth bundle whose lines were good so far.
-#[derive(Debug, Drop)]
+#[derive(Drop)]
 pub(crate) enum Stage {
     /// A line of the bundle, which ends with the first line `end`.
     Front {

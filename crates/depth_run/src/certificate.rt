@@ -21,7 +21,7 @@ use synth_core::tables;
 use tt_core::SpecError;
 
 /// What a search for the fewest steps and levels comes to.
-#[derive(Clone, Copy, Debug, PartialEq, Eq)]
+#[derive(Clone, Copy)]
 pub enum Found {
     /// A chain of the fewest steps, and what is known of its levels.
     Least(DepthVerdict),
@@ -30,7 +30,7 @@ pub enum Found {
 }
 
 /// A certificate as it is written, and what it comes to.
-#[derive(Debug, Drop)]
+#[derive(Drop)]
 pub struct DepthCertificate {
     pub text: Vec<u8>,
     pub found: Found,

@@ -4,7 +4,7 @@ use lrat_check::CheckError;
 use std::alloc::{AllocError, AllocFailed};
 
 /// What a depth bundle comes to.
-#[derive(Clone, Copy, Debug, PartialEq, Eq)]
+#[derive(Clone, Copy, PartialEq, Eq)]
 pub enum DepthVerdict {
     /// The chain has so many levels, and no chain of so few steps has fewer.
     Levels(u32),
@@ -15,7 +15,7 @@ pub enum DepthVerdict {
 /// Why a text isn't a depth bundle. Lines are judged from the top and numbered from 1, over the whole text;
 /// where a text ends too early, the number is that of the line that would come next. The first fault is told,
 /// and `Syntax` comes before the other faults of a line.
-#[derive(Clone, Copy, Debug, PartialEq, Eq)]
+#[derive(Clone, Copy, PartialEq, Eq)]
 pub enum DepthError {
     /// The lines up to the first line `end` aren't a valid bundle, with its fault. This is never want of memory.
     Bundle(BundleError),

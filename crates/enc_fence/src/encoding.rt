@@ -24,7 +24,7 @@ use tt_core::{Spec, live_part};
 /// The encoding by fences with cuts. A size has a part for each fence that is listed for the live
 /// outputs, in lexicographic order; the formula of a part is that of the encoding by pairs with cuts, over
 /// the pairs of the fence alone.
-#[derive(Clone, Copy, Debug, PartialEq, Eq)]
+#[derive(Clone, Copy)]
 pub struct FenceEnc;
 
 /// The levels of a part's fence.

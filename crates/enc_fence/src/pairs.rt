@@ -10,7 +10,7 @@ use enc_theory::Pair;
 use std::alloc::{AllocError, Global};
 
 /// Some places in a row.
-#[derive(Clone, Copy, Debug, PartialEq, Eq)]
+#[derive(Clone, Copy)]
 struct Places {
     first: u32,
     count: u32,

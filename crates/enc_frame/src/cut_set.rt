@@ -6,7 +6,7 @@ ghost use Rattle.op_basis.specs.Closed.{swap_closed, const_closed, polarity_clos
 use op_basis::Basis;
 
 /// Which cuts a basis allows without losing the least chains.
-#[derive(Clone, Copy, Debug, PartialEq, Eq)]
+#[derive(Clone, Copy, PartialEq, Eq)]
 pub struct CutSet {
     /// The operands of a step may be put in order.
     pub swap: bool,

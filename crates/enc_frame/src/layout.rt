@@ -10,7 +10,7 @@ use std::alloc::{AllocError, Global};
 use std::marker::Model;
 
 /// A step, and the pairs that it may have with their variables, in their order.
-#[derive(Debug, Drop)]
+#[derive(Drop)]
 pub struct StepSlots {
     place: u32,
     slots: Vec<Slot>,
@@ -70,7 +70,7 @@ fn number(alloc: Global, first: u32, pairs: &[Pair]) -> Result<Vec<Slot>, AllocE
 }
 
 /// All steps of a formula with the pairs that each may have, and the number of its variables.
-#[derive(Debug, Drop)]
+#[derive(Drop)]
 pub struct Layout {
     /// The variables are 1 to `vars`.
     pub vars: u32,

@@ -27,7 +27,7 @@ pub trait Pairs {
 }
 
 /// All pairs of places below a step; where they are ordered, those with j <= k alone.
-#[derive(Clone, Copy, Debug, PartialEq, Eq)]
+#[derive(Clone, Copy)]
 pub struct AllPairs {
     pub ordered: bool,
 }

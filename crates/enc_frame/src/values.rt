@@ -10,7 +10,7 @@ use enc_theory::{Sizes, Slot};
 use std::alloc::{AllocError, Global};
 
 /// A pair that a step may have, on a row.
-#[derive(Clone, Copy, Debug)]
+#[derive(Clone, Copy)]
 struct At {
     step: u32,
     slot: Slot,

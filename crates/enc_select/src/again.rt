@@ -14,7 +14,7 @@ use op_basis::Basis;
 use std::alloc::{AllocError, Global};
 
 /// A step, its operands, and a later step.
-#[derive(Clone, Copy, Debug)]
+#[derive(Clone, Copy)]
 struct Read {
     step: u32,
     first: u32,

@@ -47,7 +47,7 @@ fn push_operands_exist(alloc: Global, list: &mut ClauseList, z: Sizes) -> Result
 }
 
 /// A place that an operand of a step may be, on a row.
-#[derive(Clone, Copy, Debug)]
+#[derive(Clone, Copy)]
 struct At {
     side: Side,
     step: u32,

@@ -40,7 +40,7 @@ fn push_cuts(alloc: Global, list: &mut ClauseList, basis: Basis, z: Sizes) -> Re
 
 /// The encoding by selection of operands, with cuts that leave a least chain. A size has one part, the
 /// whole.
-#[derive(Clone, Copy, Debug, PartialEq, Eq)]
+#[derive(Clone, Copy)]
 pub struct Select;
 
 impl Encoding for Select {

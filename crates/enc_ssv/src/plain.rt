@@ -12,7 +12,7 @@ use tt_core::{Spec, live_part};
 
 /// The plain encoding: the clauses that say what a chain is, over all pairs of operands. A size has
 /// one part, the whole.
-#[derive(Clone, Copy, Debug, PartialEq, Eq)]
+#[derive(Clone, Copy)]
 pub struct Plain;
 
 impl Encoding for Plain {

@@ -14,7 +14,7 @@ use tt_core::{Spec, live_part};
 /// The encoding by pairs with cuts: the clauses that say what a chain is, over the ordered pairs alone
 /// where the basis has each operator with its operands exchanged, and the cuts that leave a least
 /// chain. A size has one part, the whole.
-#[derive(Clone, Copy, Debug, PartialEq, Eq)]
+#[derive(Clone, Copy)]
 pub struct Ssv;
 
 impl Encoding for Ssv {

@@ -1,7 +1,7 @@
 //! What formulas are spoken of by: methods, sizes, pairs of operands and their variables.
 
 /// How a size is encoded.
-#[derive(Clone, Copy, Debug, PartialEq, Eq)]
+#[derive(Clone, Copy, PartialEq, Eq)]
 pub enum Method {
     /// What a chain is, and nothing else.
     Plain,
@@ -14,7 +14,7 @@ pub enum Method {
 }
 
 /// What a formula is made for: `n` inputs, `r` steps and `m` outputs.
-#[derive(Clone, Copy, Debug, PartialEq, Eq)]
+#[derive(Clone, Copy)]
 pub struct Sizes {
     pub n: u32,
     pub r: u32,
@@ -22,14 +22,14 @@ pub struct Sizes {
 }
 
 /// The operands of a step, both places below it.
-#[derive(Clone, Copy, Debug, PartialEq, Eq)]
+#[derive(Clone, Copy)]
 pub struct Pair {
     pub j: u32,
     pub k: u32,
 }
 
 /// A pair that a step may have, with the variable that says that it has it.
-#[derive(Clone, Copy, Debug, PartialEq, Eq)]
+#[derive(Clone, Copy)]
 pub struct Slot {
     pub j: u32,
     pub k: u32,
@@ -37,7 +37,7 @@ pub struct Slot {
 }
 
 /// Which of a step's two operands.
-#[derive(Clone, Copy, Debug, PartialEq, Eq)]
+#[derive(Clone, Copy)]
 pub enum Side {
     First,
     Second,

@@ -2,7 +2,7 @@
 use fence_core::Fence;
 
 /// A part of a size: what one formula is made for.
-#[derive(Debug, Drop)]
+#[derive(Drop)]
 pub enum Part {
     /// All chains of the size.
     Whole,

@@ -7,7 +7,7 @@ use lrat_text::Log;
 use std::alloc::{AllocError, AllocFailed};
 
 /// Whether two circuits do the same.
-#[derive(Debug, Drop)]
+#[derive(Drop)]
 pub enum Equiv {
     /// They do: the log refutes their miter.
     Equal(Log),
@@ -19,7 +19,7 @@ pub enum Equiv {
 }
 
 /// Why two circuits weren't compared.
-#[derive(Clone, Copy, Debug, PartialEq, Eq)]
+#[derive(Clone, Copy)]
 pub enum EquivError {
     /// The inputs, outputs or clocks aren't the same names in the same order, or the latches don't agree in number,
     /// order, output, control and first value.

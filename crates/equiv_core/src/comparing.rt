@@ -22,7 +22,7 @@ use net_core::{Circuit, Net};
 use std::alloc::{AllocError, Global};
 
 /// A sink, counted from 1, and bits of the sources under which its values differ.
-#[derive(Debug, Drop)]
+#[derive(Drop)]
 struct Difference {
     sink: u32,
     at: Assign,

@@ -9,7 +9,7 @@ use net_core::Sig;
 
 /// How the places of one of two nets are numbered: the sources by themselves, and the gates, whose places end
 /// before `end`, behind the gates of another net, of which `before` come first.
-#[derive(Clone, Copy, Debug)]
+#[derive(Clone, Copy)]
 pub(crate) struct Numbering {
     pub sources: u32,
     pub before: u32,

@@ -6,7 +6,7 @@ use blif_core::NetError;
 use std::alloc::{AllocError, AllocFailed};
 
 /// How two netlists compare.
-#[derive(Clone, Copy, Debug, PartialEq, Eq)]
+#[derive(Clone, Copy)]
 pub enum Standing {
     /// They do the same.
     Equal,
@@ -17,14 +17,14 @@ pub enum Standing {
 }
 
 /// How two netlists compare, and the text that tells and shows it.
-#[derive(Debug, Drop)]
+#[derive(Drop)]
 pub struct Compared {
     pub text: Vec<u8>,
     pub standing: Standing,
 }
 
 /// Why two netlists weren't compared.
-#[derive(Debug, Drop)]
+#[derive(Drop)]
 pub enum CompareError {
     /// There is no line `.end` behind which the second could stand.
     NoSecond,

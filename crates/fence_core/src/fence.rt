@@ -6,7 +6,7 @@ use std::marker::Model;
 
 /// How many steps stand on each level, the first level first, and one at least on each. Contracts see
 /// it as the list of these numbers.
-#[derive(Debug, Drop)]
+#[derive(Drop)]
 pub struct Fence {
     levels: Vec<u32>,
 }

@@ -7,7 +7,7 @@ use crate::status::Status;
 use net_core::Name;
 
 /// A field of an error line.
-#[derive(Debug, Drop)]
+#[derive(Drop)]
 pub enum Field {
     /// There is none.
     Nothing,
@@ -82,7 +82,7 @@ impl ErrorLine {
 }
 
 /// A report in parts, which go to the notes one behind the other.
-#[derive(Debug, Drop)]
+#[derive(Drop)]
 pub struct Report {
     /// What comes first.
     pub first: Vec<u8>,
@@ -108,7 +108,7 @@ impl Report {
 }
 
 /// An answer: its text, a report where the command has one, and the status.
-#[derive(Debug, Drop)]
+#[derive(Drop)]
 pub struct Reply {
     /// What goes to the output.
     pub text: Vec<u8>,

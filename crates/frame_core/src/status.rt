@@ -3,7 +3,7 @@ ghost use Rattle.std.specs.Prelude.{◌≡◌};
 ghost use Rattle.frame_core.specs.Statuses.{number_of};
 
 /// How a run ended, as its caller is told.
-#[derive(Clone, Copy, Debug, PartialEq, Eq)]
+#[derive(Clone, Copy)]
 pub enum Status {
     /// The answer stands on the output.
     Done,

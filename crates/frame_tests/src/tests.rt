@@ -7,7 +7,7 @@ use std::alloc::{AllocError, Global};
 use std::test::Fail;
 
 /// What a run came to: its status, how many reads failed, and what stands on the output and the notes.
-#[derive(Debug, Drop)]
+#[derive(Drop)]
 struct Seen {
     status: u8,
     reads_failed: u64,

@@ -10,7 +10,7 @@ use std::alloc::{AllocError, Global};
 use std::marker::Model;
 
 /// The nodes that a node reads, in the order of its inputs.
-#[derive(Debug, Drop)]
+#[derive(Drop)]
 pub struct Reads(Vec<u32>);
 
 impl Model for Reads {

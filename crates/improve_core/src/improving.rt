@@ -21,7 +21,7 @@ use net_document::Document;
 use std::alloc::{AllocError, Global};
 
 /// A circuit that was improved, how many gates it had, and what it costs where it is written.
-#[derive(Debug, Drop)]
+#[derive(Drop)]
 pub struct Improved {
     pub circuit: Circuit,
     pub before: u32,
@@ -29,21 +29,21 @@ pub struct Improved {
 }
 
 /// A netlist as it is written, and the report.
-#[derive(Debug, Drop)]
+#[derive(Drop)]
 pub struct ImprovedText {
     pub text: Vec<u8>,
     pub report: Vec<u8>,
 }
 
 /// The document as which a circuit is written, and what it costs.
-#[derive(Debug, Drop)]
+#[derive(Drop)]
 pub struct CostedDocument {
     pub document: Document,
     pub cost: u32,
 }
 
 /// A circuit that was improved, and the document as which it is written.
-#[derive(Debug, Drop)]
+#[derive(Drop)]
 struct Tidied {
     improved: Improved,
     document: Document,

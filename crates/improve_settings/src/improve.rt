@@ -12,7 +12,7 @@ pub const MOST_GATES_OF_WINDOW: u32 = 8;
 pub const MOST_ROUNDS: u32 = 100_000;
 
 /// What the improver is asked with, beside the netlist.
-#[derive(Clone, Copy, Debug, PartialEq, Eq)]
+#[derive(Clone, Copy, PartialEq, Eq)]
 pub struct ImproveSettings {
     /// The operators that new gates may have; one at least.
     pub basis: Basis,

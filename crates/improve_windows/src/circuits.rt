@@ -17,7 +17,7 @@ use std::alloc::{AllocError, Global};
 use window_trial::{ImproveSettings, ImprovedNet, Undecided, improve_net};
 
 /// A circuit that was improved.
-#[derive(Debug, Drop)]
+#[derive(Drop)]
 pub struct Improved {
     pub circuit: Circuit,
     /// How many gates it had.
@@ -31,14 +31,14 @@ pub struct Improved {
 }
 
 /// A circuit that was improved, and the document as which BLIF writes it.
-#[derive(Debug, Drop)]
+#[derive(Drop)]
 pub(crate) struct Written {
     pub(crate) improved: Improved,
     pub(crate) document: Document,
 }
 
 /// A circuit with what is left of its net.
-#[derive(Debug, Drop)]
+#[derive(Drop)]
 struct Left {
     circuit: Circuit,
     settled: bool,

@@ -26,7 +26,7 @@ use std::alloc::{AllocError, Global};
 use window_trial::ImproveSettings;
 
 /// A netlist as it is written, and the report.
-#[derive(Debug, Drop)]
+#[derive(Drop)]
 pub struct ImprovedText {
     pub text: Vec<u8>,
     pub report: Vec<u8>,

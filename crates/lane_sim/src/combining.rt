@@ -8,7 +8,7 @@ use op_basis::Op;
 use std::simd::prelude::*;
 
 /// The coefficients of an operator: of nothing, its first operand, its second, and both.
-#[derive(Clone, Copy, Debug)]
+#[derive(Clone, Copy)]
 pub struct Masks {
     pub none: u64,
     pub first: u64,

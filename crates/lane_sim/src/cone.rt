@@ -10,7 +10,7 @@ use std::marker::Model;
 
 /// Leaves, at most 12, and gates above them, each with its place. All places differ, and a gate's operands
 /// are constants, leaves or places of earlier gates.
-#[derive(Debug, Drop)]
+#[derive(Drop)]
 pub struct Cone {
     leaves: Vec<u32>,
     gates: Vec<(u32, Gate)>,

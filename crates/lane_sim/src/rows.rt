@@ -10,7 +10,7 @@ use crate::combining::{Masks, combine, combine_four};
 use std::simd::prelude::*;
 
 /// What a gate reads: a constant, or the row that begins at this place of the lanes.
-#[derive(Clone, Copy, Debug)]
+#[derive(Clone, Copy)]
 pub enum Operand {
     Zero,
     One,
@@ -31,7 +31,7 @@ pub fn word(lanes: &[u64], operand: Operand, j: usize) -> u64
 }
 
 /// Quad words, one after the other.
-#[derive(Clone, Copy, Debug)]
+#[derive(Clone, Copy)]
 pub struct Quad {
     pub first: u64,
     pub second: u64,

@@ -6,7 +6,7 @@ ghost use Rattle.lane_sim.specs.Words.{width_of as width_of_rows};
 use std::marker::Model;
 
 /// For each signal the words of `rows` assignments, one signal after the other.
-#[derive(Debug, Drop)]
+#[derive(Drop)]
 pub struct Words {
     pub lanes: Vec<u64>,
     pub rows: u32,

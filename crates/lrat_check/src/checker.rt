@@ -26,7 +26,7 @@ use std::marker::Model;
 
 /// A checker of refutation logs, over one formula. Contracts see the live clauses with their ids, the
 /// formula's variables, the greatest id so far, and whether the empty clause was reached.
-#[derive(Debug, Drop)]
+#[derive(Drop)]
 pub struct Checker {
     clauses: Clauses,
     marks: Marks,

@@ -18,7 +18,7 @@ use std::collections::HashMap;
 use std::marker::Model;
 
 /// Clauses by their ids. Ids are hashed with a fixed seed: who chooses them can make look-ups slow.
-#[derive(Debug, Drop)]
+#[derive(Drop)]
 pub(crate) struct Clauses {
     live: HashMap<u32, Clause>,
     index: Index,

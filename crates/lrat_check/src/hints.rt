@@ -13,7 +13,7 @@ use crate::marks::Marks;
 use cnf_core::Lit;
 
 /// How many literals of a clause are outside the falsified set.
-#[derive(Clone, Copy, Debug, PartialEq, Eq)]
+#[derive(Clone, Copy)]
 pub(crate) enum Scan {
     /// None.
     Conflict,

@@ -14,14 +14,14 @@ use std::collections::HashMap;
 use std::marker::Model;
 
 /// A clause's id, and one of its literals.
-#[derive(Clone, Copy, Debug)]
+#[derive(Clone, Copy)]
 pub(crate) struct Entry {
     pub(crate) id: u32,
     pub(crate) other: Lit,
 }
 
 /// A list of entries.
-#[derive(Debug, Drop)]
+#[derive(Drop)]
 pub(crate) struct Entries {
     entries: Vec<Entry>,
 }
@@ -73,7 +73,7 @@ impl Entries {
 }
 
 /// A list of ids.
-#[derive(Debug, Drop)]
+#[derive(Drop)]
 pub(crate) struct Ids {
     ids: Vec<u32>,
 }
@@ -119,7 +119,7 @@ impl Ids {
 
 /// Where clauses are looked for by their literals: each clause has an entry in the list of one of its
 /// literals, the one whose list was the shortest. Without lists for literals each has its id in `others`.
-#[derive(Debug, Drop)]
+#[derive(Drop)]
 pub(crate) struct Index {
     heads: Vec<Entries>,
     others: Ids,

@@ -11,7 +11,7 @@ use std::marker::Model;
 
 /// A set of literals that is emptied at once: each literal has a stamp, and is in the set where the
 /// stamp is the one of now.
-#[derive(Debug, Drop)]
+#[derive(Drop)]
 pub(crate) struct Marks {
     stamps: Vec<u32>,
     time: u32,

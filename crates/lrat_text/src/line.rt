@@ -2,7 +2,7 @@
 use cnf_core::Lit;
 
 /// A line of a refutation log.
-#[derive(Debug, PartialEq, Eq, Drop)]
+#[derive(Drop)]
 pub enum Line {
     /// Adds the clause of these literals under the id; the hints are the ids of the clauses that show
     /// it, in the order of the unit propagation.
@@ -19,7 +19,7 @@ pub enum Line {
 }
 
 /// A log: its lines in order.
-#[derive(Debug, PartialEq, Eq, Drop)]
+#[derive(Drop)]
 pub struct Log {
     pub lines: Vec<Line>,
 }

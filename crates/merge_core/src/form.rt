@@ -7,7 +7,7 @@ use op_basis::swapped;
 
 /// What a gate computes of which operands, in whatever order it has them: the word of its operator, and its operands as
 /// numbers, the lesser first.
-#[derive(Clone, Copy, Debug, PartialEq, Eq, Hash)]
+#[derive(Clone, Copy, PartialEq, Eq, Hash)]
 pub struct Form {
     pub word: u8,
     pub low: u64,

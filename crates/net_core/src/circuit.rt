@@ -15,7 +15,7 @@ use std::marker::Model;
 
 /// A latch: the name of its output, how it is controlled and by which net, and its first value: 0, 1,
 /// 2 for either, 3 for unknown. Its input is a sink of the circuit's net.
-#[derive(Debug, Drop)]
+#[derive(Drop)]
 pub struct Latch {
     pub output: Name,
     pub control: Option<(Trigger, Name)>,
@@ -32,7 +32,7 @@ impl Model for Latch {
 
 /// A net with names. The sources of the net are the inputs and then the latches' outputs; its sinks are
 /// the outputs and then the latches' inputs, each in order.
-#[derive(Debug, Drop)]
+#[derive(Drop)]
 pub struct Circuit {
     pub model: Name,
     pub inputs: Vec<Name>,

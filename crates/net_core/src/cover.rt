@@ -5,7 +5,7 @@ ghost use Rattle.std.specs.Prelude.{◌≡◌};
 use std::marker::Model;
 
 /// A cube by its bytes, one for each input: `0`, `1` or `-`.
-#[derive(Debug, Drop)]
+#[derive(Drop)]
 pub struct Cube(Vec<u8>);
 
 impl Model for Cube {
@@ -34,7 +34,7 @@ impl Cube {
 
 /// A table by its cubes, each of `width` bytes. They say where the table is 1, or, where `on` is false,
 /// where it is 0. A table without cubes is 0.
-#[derive(Debug, Drop)]
+#[derive(Drop)]
 pub struct Cover {
     pub width: u32,
     pub cubes: Vec<Cube>,

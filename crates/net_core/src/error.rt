@@ -7,7 +7,7 @@ use crate::name::Name;
 use std::alloc::{AllocError, AllocFailed};
 
 /// Why a netlist isn't read. Lines are numbered from 1; a line that goes on has the number of its first.
-#[derive(Debug, Drop)]
+#[derive(Drop)]
 pub enum NetError {
     /// The line isn't of a form that the format has.
     Syntax(u32),

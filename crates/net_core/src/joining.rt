@@ -9,7 +9,7 @@ use op_basis::Op;
 use std::alloc::AllocError;
 
 /// How signals are joined.
-#[derive(Clone, Copy, Debug, PartialEq, Eq)]
+#[derive(Clone, Copy)]
 pub enum Connective {
     And,
     Or,

@@ -12,7 +12,7 @@ use std::hash::{Hash, Hasher};
 use std::marker::Model;
 
 /// A name by its bytes.
-#[derive(Debug, Drop)]
+#[derive(Drop)]
 pub struct Name(Vec<u8>);
 
 impl Model for Name {

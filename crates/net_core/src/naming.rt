@@ -238,7 +238,7 @@ fn name_gates(
 }
 
 /// The names of the gates of a circuit, and the next two numbered names that aren't taken.
-#[derive(Debug, Drop)]
+#[derive(Drop)]
 pub struct GateNames {
     pub names: Vec<Name>,
     pub first_spare: Name,

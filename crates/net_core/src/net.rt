@@ -9,7 +9,7 @@ use std::marker::Model;
 
 /// A net: the places 1 to `sources` are its sources and the gates follow in order. A gate's operands
 /// are constants or earlier places, and a sink is a constant or a place. It has fewer than 2^31 places.
-#[derive(Debug, Drop)]
+#[derive(Drop)]
 pub struct Net {
     pub(crate) sources: u32,
     pub(crate) gates: Vec<Gate>,

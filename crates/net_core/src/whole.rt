@@ -20,7 +20,7 @@ use net_theory::{Gate, Sig, Signed};
 use std::alloc::{AllocError, Global};
 
 /// AND, OR or XOR of so many inputs, or its complement where `on` is false.
-#[derive(Clone, Copy, Debug, PartialEq, Eq)]
+#[derive(Clone, Copy)]
 pub struct Whole {
     pub connective: Connective,
     pub width: u32,
@@ -28,7 +28,7 @@ pub struct Whole {
 }
 
 /// The function of a table.
-#[derive(Debug, Drop)]
+#[derive(Drop)]
 pub enum Body {
     /// A cover by its cubes.
     Cubes(Cover),

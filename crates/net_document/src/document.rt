@@ -4,7 +4,7 @@ use net_core::{Body, Latch, Name};
 use std::marker::Model;
 
 /// A table: its output is the body's value at the inputs. A body that joins its inputs has some.
-#[derive(Debug, Drop)]
+#[derive(Drop)]
 pub struct Table {
     pub inputs: Vec<Name>,
     pub output: Name,
@@ -23,7 +23,7 @@ impl Model for Table {
 }
 
 /// A latch and the name of its input.
-#[derive(Debug, Drop)]
+#[derive(Drop)]
 pub struct LatchLine {
     pub input: Name,
     pub latch: Latch,
@@ -38,7 +38,7 @@ impl Model for LatchLine {
 }
 
 /// A netlist as its text names it, each list in the order of the text.
-#[derive(Debug, Drop)]
+#[derive(Drop)]
 pub struct Document {
     pub model: Name,
     pub inputs: Vec<Name>,
@@ -65,7 +65,7 @@ impl Model for Document {
 
 /// A document, the names that it drives in the order in which the text drives them, and the names that
 /// its tables and latches use, in the order of the text.
-#[derive(Debug, Drop)]
+#[derive(Drop)]
 pub struct Listed {
     pub document: Document,
     pub driven: Vec<Name>,

@@ -3,7 +3,7 @@
 use op_basis::Op;
 
 /// What an operand of a gate or a sink of a net is.
-#[derive(Clone, Copy, Debug, PartialEq, Eq)]
+#[derive(Clone, Copy, PartialEq, Eq)]
 pub enum Sig {
     /// The constant 0.
     Zero,
@@ -14,7 +14,7 @@ pub enum Sig {
 }
 
 /// A gate: an operator on two signals, which may be equal or constant.
-#[derive(Clone, Copy, Debug, PartialEq, Eq)]
+#[derive(Clone, Copy, PartialEq, Eq)]
 pub struct Gate {
     pub op: Op,
     pub a: Sig,
@@ -22,14 +22,14 @@ pub struct Gate {
 }
 
 /// A signal with a sign: where it is turned its value is the complement of the signal's.
-#[derive(Clone, Copy, Debug, PartialEq, Eq)]
+#[derive(Clone, Copy)]
 pub struct Signed {
     pub sig: Sig,
     pub turned: bool,
 }
 
 /// How a latch follows its control, by the words of the Berkeley BLIF manual.
-#[derive(Clone, Copy, Debug, PartialEq, Eq)]
+#[derive(Clone, Copy)]
 pub enum Trigger {
     /// `fe`: at the falling edge.
     Fe,

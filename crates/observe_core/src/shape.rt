@@ -4,7 +4,7 @@ use std::marker::Model;
 
 /// The gates above a window through which it is seen first, at most 16, what they read beside the window, and those of
 /// them that are seen by others; whether others see the window itself. Each list rises.
-#[derive(Debug, Drop)]
+#[derive(Drop)]
 pub struct Tail {
     pub gates: Vec<u32>,
     pub sides: Vec<u32>,

@@ -6,7 +6,7 @@ use crate::Op;
 use std::marker::Model;
 
 /// A set of operators: operator `k` is a member where bit `k` is 1.
-#[derive(Clone, Copy, Debug, PartialEq, Eq)]
+#[derive(Clone, Copy, PartialEq, Eq)]
 pub struct Basis(u16);
 
 impl Model for Basis {

@@ -1,7 +1,7 @@
 //! Why a word says no basis.
 
 /// Why a word says no basis. The items of a list are judged from the left.
-#[derive(Clone, Copy, Debug, PartialEq, Eq)]
+#[derive(Clone, Copy, PartialEq, Eq)]
 pub enum BasisError {
     /// The word begins with a letter and is no name of a basis.
     UnknownName,

@@ -7,7 +7,7 @@ use std::marker::Model;
 
 /// An operator of two bits (TAOCP 7.1.2), a number from 0 to 15. In binary the number spells the
 /// operator's values at (0,0), (0,1), (1,0) and (1,1), in this order.
-#[derive(Clone, Copy, Debug, PartialEq, Eq)]
+#[derive(Clone, Copy, PartialEq, Eq)]
 pub struct Op(u8);
 
 impl Model for Op {

@@ -6,7 +6,7 @@ ghost use Rattle.port_io.specs.Memory.{first_schedule, is_to_fail, after_success
 use std::marker::Model;
 
 /// Counts calls and faults. Both counts stay at the last value of a u64.
-#[derive(Debug, Drop)]
+#[derive(Drop)]
 pub struct Calls {
     failing: Vec<u64>,
     calls: u64,

@@ -21,7 +21,7 @@ fn copy_front(rest: &[u8], buf: &mut [u8]) -> usize
 }
 
 /// Bytes in memory, whose calls never fail.
-#[derive(Debug, Drop)]
+#[derive(Drop)]
 pub struct SteadySource {
     bytes: Vec<u8>,
     at: usize,
@@ -74,7 +74,7 @@ impl Source for SteadySource {
 }
 
 /// Bytes in memory, whose calls fail where their numbers are on a list.
-#[derive(Debug, Drop)]
+#[derive(Drop)]
 pub struct MemorySource {
     source: SteadySource,
     calls: Calls,
@@ -138,7 +138,7 @@ impl Source for MemorySource {
 
 /// Keeps in memory what is written. Its calls fail where their numbers are on a list, and for want of
 /// memory.
-#[derive(Debug, Drop)]
+#[derive(Drop)]
 pub struct MemorySink {
     written: Vec<u8>,
     calls: Calls,

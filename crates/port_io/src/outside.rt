@@ -4,7 +4,7 @@ ghost use Rattle.port_io.specs.Bytes.{Appends, Consumes, IsAtEnd};
 ghost use Rattle.port_io.specs.Faults.{Rose};
 
 /// A call of a source or sink failed. It took and wrote nothing, where the bytes are told.
-#[derive(Clone, Copy, Debug, PartialEq, Eq)]
+#[derive(Clone, Copy)]
 pub struct Failed;
 
 /// Where bytes come from.

@@ -7,7 +7,7 @@ use crate::outside::{Failed, Source};
 use std::alloc::{AllocError, Global};
 
 /// Why `read_all` gave no bytes.
-#[derive(Clone, Copy, Debug, PartialEq, Eq)]
+#[derive(Clone, Copy, PartialEq, Eq)]
 pub enum ReadError {
     /// A call of the source failed.
     ReadFault,

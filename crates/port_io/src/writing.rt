@@ -6,7 +6,7 @@ ghost use Rattle.port_io.specs.Faults.{Rose};
 use crate::outside::{Failed, Sink};
 
 /// Why `write_all` didn't write all.
-#[derive(Clone, Copy, Debug, PartialEq, Eq)]
+#[derive(Clone, Copy, PartialEq, Eq)]
 pub enum WriteFault {
     /// A call of the sink failed.
     WriteFault,

@@ -12,7 +12,7 @@ use std::alloc::{AllocError, Global};
 use std::marker::Model;
 
 /// A clause with its id, its literals as in DIMACS.
-#[derive(Debug, Drop)]
+#[derive(Drop)]
 pub struct PlainClause {
     id: u32,
     lits: Vec<i32>,
@@ -176,7 +176,7 @@ fn take_out(clauses: &mut Vec<PlainClause>, ids: &[u32])
 }
 
 /// A state of a log, its clauses with the newest first.
-#[derive(Debug, Drop)]
+#[derive(Drop)]
 pub struct PlainState {
     clauses: Vec<PlainClause>,
     vars: u32,

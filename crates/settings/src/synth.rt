@@ -12,7 +12,7 @@ pub const MOST_STEPS: u32 = 16;
 pub const MOST_CONFLICTS: u32 = 10_000_000;
 
 /// What a search for the fewest steps is asked with, beside the tables.
-#[derive(Clone, Copy, Debug, PartialEq, Eq)]
+#[derive(Clone, Copy, PartialEq, Eq)]
 pub struct SynthSettings {
     /// The operators that a chain may have; one at least.
     pub basis: Basis,

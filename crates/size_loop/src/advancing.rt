@@ -17,7 +17,7 @@ use std::marker::Model;
 use tt_core::Spec;
 
 /// A search that has come to some size.
-#[derive(Debug, Drop)]
+#[derive(Drop)]
 pub struct Search {
     heading: Heading,
     next: u32,
@@ -35,7 +35,7 @@ impl Model for Search {
 }
 
 /// What the next size comes to.
-#[derive(Debug, Drop)]
+#[derive(Drop)]
 pub enum Advance {
     /// It has no chain: the logs of its parts, and the search that goes on behind it.
     Section {

@@ -17,7 +17,7 @@ use enc_theory::Method;
 use std::alloc::{AllocError, Global};
 
 /// What a size comes to.
-#[derive(Debug, Drop)]
+#[derive(Drop)]
 pub enum SizeOutcome {
     /// A chain of so many steps.
     Found(Chain),

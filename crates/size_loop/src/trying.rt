@@ -14,7 +14,7 @@ use enc_theory::Part;
 use std::alloc::{AllocError, Global};
 
 /// What a part of a size comes to.
-#[derive(Debug, Drop)]
+#[derive(Drop)]
 pub enum PartOutcome {
     /// A chain of the size.
     Found(Chain),

@@ -12,7 +12,7 @@ use std::marker::Model;
 use tt_core::Spec;
 
 /// The words of a specification: how many inputs it has, and then its outputs' words.
-#[derive(Debug, Drop)]
+#[derive(Drop)]
 pub struct Key(Vec<u64>);
 
 impl Model for Key {

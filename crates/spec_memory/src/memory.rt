@@ -12,7 +12,7 @@ use std::marker::Model;
 
 /// What was found of a specification: a number of steps of which no fewer do, a chain that may agree, and whether the
 /// search of that number was left open.
-#[derive(Debug, Drop)]
+#[derive(Drop)]
 pub struct Found {
     pub fewest: u32,
     pub chain: Option<Chain>,
@@ -21,7 +21,7 @@ pub struct Found {
 
 /// What was found of specifications over a basis. From outside it is the basis: what it has found is no fact of
 /// its value, but each of its answers is a fact.
-#[derive(Debug, Drop)]
+#[derive(Drop)]
 pub struct Memory {
     basis: Basis,
     found: HashMap<Key, Found>,

@@ -1,7 +1,7 @@
 //! A window as it is handed in.
 
 /// The lists of a window of a net, each of places in rising order.
-#[derive(Clone, Copy, Debug)]
+#[derive(Clone, Copy)]
 pub struct WindowLists<'a> {
     /// The window's gates.
     pub gates: &'a [u32],

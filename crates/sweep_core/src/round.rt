@@ -12,7 +12,7 @@ use std::alloc::{AllocError, Global};
 use std::marker::Model;
 
 /// A round so far: whether it has changed the net, and, if not, the visits that it has left undecided.
-#[derive(Debug, Drop)]
+#[derive(Drop)]
 pub struct Round {
     pub changed: bool,
     pub named: Vec<Undecided>,

@@ -12,7 +12,7 @@ use crate::undecided::Undecided;
 use std::alloc::{AllocError, Global};
 
 /// What a sweep came to, beside its net.
-#[derive(Debug, Drop)]
+#[derive(Drop)]
 pub struct Swept {
     /// Whether the last round changed nothing.
     pub settled: bool,

@@ -6,7 +6,7 @@ use net_core::Net;
 use std::alloc::{AllocError, Global};
 
 /// What a visit came to.
-#[derive(Debug, Drop)]
+#[derive(Drop)]
 pub enum Tried {
     /// There is no such window, or it doesn't count, or it has no chain of fewer steps than it has gates.
     Passed,

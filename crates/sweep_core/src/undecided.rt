@@ -4,7 +4,7 @@ use bundle_core::Bundle;
 use std::marker::Model;
 
 /// A window that a search left undecided, and the certificate of the search.
-#[derive(Debug, Drop)]
+#[derive(Drop)]
 pub struct Undecided {
     pub visit: Visit,
     pub search: Bundle,

@@ -17,7 +17,7 @@ use text_core::next_line;
 use tt_core::{Spec, SpecError, read_tables};
 
 /// A certificate as it is written, and what it comes to.
-#[derive(Debug, Drop)]
+#[derive(Drop)]
 pub struct Certificate {
     pub text: Vec<u8>,
     pub verdict: Verdict,

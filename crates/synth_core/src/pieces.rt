@@ -17,7 +17,7 @@ use std::alloc::{AllocError, Global};
 use tt_core::SpecError;
 
 /// A search before its first size.
-#[derive(Debug, Drop)]
+#[derive(Drop)]
 pub struct Begun {
     pub search: Search,
     /// The heading of its certificate, as it is written.
@@ -25,7 +25,7 @@ pub struct Begun {
 }
 
 /// What the next size adds to the certificate.
-#[derive(Debug, Drop)]
+#[derive(Drop)]
 pub enum Piece {
     /// A section, and the search behind it.
     Section { search: Search, text: Vec<u8> },

@@ -12,7 +12,7 @@ use std::marker::Model;
 
 /// The literals that are true, in the order in which they came, with their reasons. Contracts see the
 /// row of literals, and the tables that tell where each literal fell and which clause is the reason.
-#[derive(Debug, Drop)]
+#[derive(Drop)]
 pub struct Trail {
     vars: u32,
     lits: Vec<Lit>,

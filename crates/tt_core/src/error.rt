@@ -3,7 +3,7 @@ use std::alloc::{AllocError, AllocFailed};
 
 /// Why tables are refused. Lines are judged from the top, and numbered from 1; at the end of the
 /// text the number is that of the line that would come next.
-#[derive(Clone, Copy, Debug, PartialEq, Eq)]
+#[derive(Clone, Copy, PartialEq, Eq)]
 pub enum SpecError {
     /// The first line isn't `inputs ` and a number of at most nine digits, or has no LF.
     BadHeader(u32),

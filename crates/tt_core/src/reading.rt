@@ -17,7 +17,7 @@ use std::alloc::{AllocError, Global};
 use text_core::{after, begins_lower, next_line, number_up_to};
 
 /// What was read of a text: the specification, and how many bytes and lines its tables take.
-#[derive(Debug, Drop)]
+#[derive(Drop)]
 pub struct Tables {
     /// The specification.
     pub spec: Spec,

@@ -11,7 +11,7 @@ use std::marker::Model;
 /// Bit t of `on[h - 1]` is the value of output h on row t, and bit t of `care[h - 1]` tells whether
 /// that row is specified. Row t gives input x(j) of n the bit `(t >> (n - j)) & 1`, so x1 is its most
 /// significant bit.
-#[derive(Debug, Drop)]
+#[derive(Drop)]
 pub struct Spec {
     n: u32,
     on: Vec<u64>,

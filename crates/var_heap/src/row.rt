@@ -9,7 +9,7 @@ use std::alloc::{AllocError, Global};
 
 /// The held variables in a row with the places 1 to `len`: the row of a heap, in which those below place p
 /// stand at 2 p and 2 p + 1.
-#[derive(Debug, Drop)]
+#[derive(Drop)]
 pub(crate) struct Row {
     pub(crate) heap: Vec<u32>,
     /// where a variable stands; 0 where it isn't held

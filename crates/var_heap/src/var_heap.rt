@@ -9,7 +9,7 @@ use std::marker::Model;
 
 /// Variables with scores, of which some are held. Contracts see the scores and which variables are held;
 /// the held ones stand in a row whose first has a greatest score.
-#[derive(Debug, Drop)]
+#[derive(Drop)]
 pub struct VarHeap {
     vars: u32,
     scores: Vec<u64>,

@@ -14,7 +14,7 @@ use std::alloc::{AllocError, Global};
 use std::marker::Model;
 
 /// The greatest gates below a gate that read its first and its second operand; 0 where there is none.
-#[derive(Clone, Copy, Debug)]
+#[derive(Clone, Copy)]
 pub struct Earlier {
     pub first: u32,
     pub second: u32,
@@ -22,7 +22,7 @@ pub struct Earlier {
 
 /// The index of a net: how many operands and sinks name each place, 255 for 255 or more, the earlier readers of what
 /// each gate reads, and the last reader of each place.
-#[derive(Debug, Drop)]
+#[derive(Drop)]
 pub struct Readers {
     uses: Vec<u8>,
     earlier: Vec<Earlier>,

@@ -7,7 +7,7 @@ use std::marker::Model;
 
 /// A part of a net: the root that it grew from, its partner, and the places of its 1 to 8 gates, of at most 6 inputs
 /// and of at most 8 outputs, each list rising.
-#[derive(Debug, Drop)]
+#[derive(Drop)]
 pub struct Window {
     root: u32,
     partner: Option<u32>,

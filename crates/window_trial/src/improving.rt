@@ -10,7 +10,7 @@ use std::alloc::{AllocError, Global};
 use sweep_core::{Swept, Undecided, sweep};
 
 /// What is left of a net.
-#[derive(Debug, Drop)]
+#[derive(Drop)]
 pub struct ImprovedNet {
     pub net: Net,
     /// Whether no window up to the cap has a shorter chain, but for those that are undecided.

@@ -21,7 +21,7 @@ use sweep_core::{Trial, Tried, Visit};
 use window_core::{Readers, Window, readers_of, window_by};
 
 /// A net whose windows are tried, with its index, the settings, and what was found of windows before.
-#[derive(Debug, Drop)]
+#[derive(Drop)]
 pub struct WindowTrial {
     settings: ImproveSettings,
     net: Net,
@@ -73,7 +73,7 @@ fn decide_window(
 }
 
 /// What a visit came to, with the net that takes the place of the one before, if one does.
-#[derive(Debug, Drop)]
+#[derive(Drop)]
 enum Outcome {
     Passed,
     Open(decide_core::Bundle),
