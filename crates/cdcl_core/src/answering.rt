@@ -1,11 +1,11 @@
 //! The answers of the solver, made of how its search ended.
 ghost use Rattle.std.specs.Prelude.{◌≡◌, ℕ, ◌*◌, ◌^◌, ◌<◌, ◌≤◌, [], length, Contains, IfOk};
-ghost use Rattle.sat_theory.specs.Formula.{Formula, bits_of, Satisfies};
+ghost use Rattle.sat_theory.specs.Formula.{Formula, IsFormula, bits_of, Satisfies};
 ghost use Rattle.sat_theory.specs.Log.{Refutes, IsSpent, IsKept, IsThrifty, IsThinned};
 ghost use Rattle.lrat_text.specs.Values.{line_values};
 ghost use Rattle.clause_db.specs.Stored.{IsStored};
 ghost use Rattle.cdcl_core.specs.Budgets.{most_budget};
-ghost use Rattle.cdcl_core.specs.Searching.{IsAccounted};
+ghost use Rattle.cdcl_core.specs.Searching.{IsSearching, IsAccounted, IsLogged};
 ghost use Rattle.cdcl_core.specs.Endings.{HasRefuted, HasSpent};
 ghost use Rattle.cdcl_core.specs.Answering.{IfSat, IfUnsat, IfOpen, IfLogged, IsDecided};
 
@@ -13,6 +13,7 @@ use crate::search::{Ending, Search};
 use cnf_core::{Assign, Cnf};
 use lrat_text::Log;
 use std::alloc::{AllocError, Global};
+use std::mem;
 
 /// What is known of a formula.
 #[derive(Drop)]
@@ -50,24 +51,44 @@ pub fn solve(alloc: Global, cnf: &Cnf, budget: u32) -> Result<Solved, AllocError
         }));
     }
     let mut search = Search::new(alloc, cnf, budget.min(RECKONED))?;
+    answer(&mut search, alloc, budget)
+}
+
+/// Runs a search that has done nothing yet, and gives what it shows of each formula that it stands for.
+fn answer(search: &mut Search, alloc: Global, budget: u32) -> Result<Solved, AllocError>
+    requires searching { IsSearching search.old }
+    requires budget { budget ≤ most_budget }
+    requires least { search.old.least ≤ budget }
+    requires few { length search.old.clauses.clauses < 2000000000 }
+    requires given { search.old.given ≡ length search.old.clauses.clauses }
+    requires starts { search.old.starts.items ≡ [] }
+    requires head { search.old.head ≡ 0 }
+    ensures bits { (f : Formula) → IsLogged f search.old → IfOk result (λ s. IfSat s (λ bits. length bits ≡ f.vars)) }
+    ensures sat { (f : Formula) → IsLogged f search.old → IsFormula f → IfOk result (λ s. IfSat s (λ bits. Satisfies (bits_of bits) f)) }
+    ensures unsat { (f : Formula) → IsLogged f search.old → IfOk result (λ s. IfUnsat s (Refutes f)) }
+    ensures open { (f : Formula) → IsLogged f search.old → (Contains f.clauses [] → ⊥) → IfOk result (λ s. IfOpen s (λ lines. IsSpent f lines budget)) }
+    ensures kept { (f : Formula) → IsLogged f search.old → IfOk result (λ s. IfOpen s (IsKept f)) }
+    ensures thrifty { (f : Formula) → IsLogged f search.old → IfOk result (λ s. IfLogged s (IsThrifty f)) }
+    ensures thinned { (f : Formula) → IsLogged f search.old → IfOk result (λ s. IfLogged s (IsThinned f)) }
+    ensures decides { (f : Formula) → IsLogged f search.old → (Contains f.clauses [] → ⊥) → 2 * 3 ^ f.vars ≤ budget → IfOk result IsDecided }
+{
     match search.run(budget)? {
         Ending::Valued => Ok(Solved::Sat(search.trail.assignment(alloc)?)),
-        Ending::Refuted => Ok(Solved::Unsat(log_of(search)?)),
-        Ending::Spent => Ok(Solved::Open(log_of(search)?)),
+        Ending::Refuted => Ok(Solved::Unsat(log_of(search, alloc)?)),
+        Ending::Spent => Ok(Solved::Open(log_of(search, alloc)?)),
     }
 }
 
-/// The log of a search that has ended, with enough deletions.
-fn log_of(search: Search) -> Result<Log, AllocError>
-    requires stored { IsStored search.clauses }
-    ensures refutes { (f : Formula) → HasRefuted f search → IfOk result (λ log. Refutes f (line_values log.lines.items)) }
-    ensures spent { (f : Formula) (budget : ℕ) → HasSpent f budget search → (Contains f.clauses [] → ⊥) → IfOk result (λ log. IsSpent f (line_values log.lines.items) budget) }
-    ensures kept { (f : Formula) (budget : ℕ) → HasSpent f budget search → IfOk result (λ log. IsKept f (line_values log.lines.items)) }
-    ensures thinned { (f : Formula) → IsAccounted f search → IfOk result (λ log. IsThinned f (line_values log.lines.items)) }
+/// Takes the log of a search that has ended, with enough deletions.
+fn log_of(search: &mut Search, alloc: Global) -> Result<Log, AllocError>
+    requires stored { IsStored search.old.clauses }
+    ensures refutes { (f : Formula) → HasRefuted f search.old → IfOk result (λ log. Refutes f (line_values log.lines.items)) }
+    ensures spent { (f : Formula) (budget : ℕ) → HasSpent f budget search.old → (Contains f.clauses [] → ⊥) → IfOk result (λ log. IsSpent f (line_values log.lines.items) budget) }
+    ensures kept { (f : Formula) (budget : ℕ) → HasSpent f budget search.old → IfOk result (λ log. IsKept f (line_values log.lines.items)) }
+    ensures thinned { (f : Formula) → IsAccounted f search.old → IfOk result (λ log. IsThinned f (line_values log.lines.items)) }
 {
-    let mut search = search;
     search.thin()?;
     Ok(Log {
-        lines: search.lines,
+        lines: mem::replace(&mut search.lines, Vec::new(alloc)),
     })
 }

@@ -68,17 +68,25 @@ impl Search {
         ensures head { IfOk result (λ s. s.head ≡ 0) }
         ensures least { IfOk result (λ s. s.least ≡ least) }
     {
+        let vars = cnf.vars();
+        let given = cnf.clauses().len() as u32;
+        // The greatest parts come last, so that the fewest have to go where memory gives out.
+        let merits = Merits::new(alloc, given, vars)?;
+        let trail = Trail::new(alloc, vars)?;
+        let choice = Choice::new(alloc, vars)?;
+        let analysis = Analysis::new(alloc, vars)?;
+        let clauses = ClauseDb::new(alloc, cnf)?;
         Ok(Search {
-            clauses: ClauseDb::new(alloc, cnf)?,
-            trail: Trail::new(alloc, cnf.vars())?,
+            clauses,
+            trail,
             starts: Vec::new(alloc),
-            analysis: Analysis::new(alloc, cnf.vars())?,
+            analysis,
             lines: Vec::new(alloc),
-            given: cnf.clauses().len() as u32,
+            given,
             head: 0,
-            choice: Choice::new(alloc, cnf.vars())?,
+            choice,
             restarts: Restarts::new(),
-            merits: Merits::new(alloc, cnf.clauses().len() as u32, cnf.vars())?,
+            merits,
             deleted: 0,
             least,
         })
