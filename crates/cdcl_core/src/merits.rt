@@ -222,19 +222,16 @@ impl Merits {
         Ok(activities)
     }
 
-    /// The activity in the middle of those of the idle clauses, if there are any.
-    fn middle(&self, alloc: Global, clauses: &ClauseDb) -> Result<Option<u64>, AllocError> {
-        let mut activities = self.activities(alloc, clauses)?;
-        activities.sort_unstable();
-        Ok(activities.get(activities.len() / 2).copied())
-    }
-
     /// The ids of the idle clauses of which half are more active.
     pub(crate) fn idle(&self, alloc: Global, clauses: &ClauseDb) -> Result<Vec<u32>, AllocError> {
-        let bound = self.middle(alloc, clauses)?.unwrap_or(0);
         let mut ids = Vec::new(alloc);
+        let mut activities = self.activities(alloc, clauses)?;
+        activities.sort_unstable();
+        let Some(bound) = activities.get(activities.len() / 2) else {
+            return Ok(ids);
+        };
         for index in 0..self.merits.len() {
-            if self.is_idle(clauses, index) && self.merits[index].activity < bound {
+            if self.is_idle(clauses, index) && self.merits[index].activity < *bound {
                 ids.push(self.id(index))?;
             }
         }

@@ -156,12 +156,13 @@ impl Search {
         let end = drop_levels(&mut self.starts, learnt.back as usize);
         self.choice.release(&self.trail, end);
         self.trail.back_to(end);
-        self.trail.push(learnt.lits[0], id)?;
+        let lit = learnt.lits[0];
         self.lines.push(Line::Add {
             id,
             lits: learnt.lits,
             hints: learnt.hints,
         })?;
+        self.trail.push(lit, id)?;
         self.head = end;
         Ok(())
     }
