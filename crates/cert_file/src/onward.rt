@@ -78,7 +78,10 @@ fn told_in(stage: Stage) -> Option<Told>
 {
     match stage {
         Stage::Done { told } => Some(told),
-        _ => None,
+        stage => {
+            drop(stage);
+            None
+        }
     }
 }
 

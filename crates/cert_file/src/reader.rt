@@ -15,7 +15,7 @@ use crate::onward::{take, told_of};
 use crate::stage::Stage;
 use crate::told::Told;
 use cert_theory::{BundleError, Verdict};
-use std::alloc::Global;
+use std::alloc::{AllocError, Global};
 use text_core::next_line;
 
 /// A certificate, as far as it was read. It keeps what its stage keeps, which of the logs is one part's checker,
@@ -122,7 +122,13 @@ impl BundleReader {
             fed,
         } = self;
         let mut unfinished = unfinished;
-        unfinished.extend_from_slice(text)?;
+        match unfinished.extend_from_slice(text) {
+            Ok(()) => {}
+            Err(AllocError) => {
+                drop(stage);
+                return Err(BundleError::Memory);
+            }
+        }
         Ok(BundleReader {
             stage,
             number,
@@ -157,7 +163,13 @@ impl BundleReader {
             });
         }
         let mut line = unfinished;
-        line.extend_from_slice(text)?;
+        match line.extend_from_slice(text) {
+            Ok(()) => {}
+            Err(AllocError) => {
+                drop(stage);
+                return Err(BundleError::Memory);
+            }
+        }
         let stage = take_text(alloc, stage, number, &line)?;
         line.clear();
         Ok(BundleReader {

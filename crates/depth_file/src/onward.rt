@@ -246,11 +246,11 @@ pub(crate) fn take(alloc: Global, stage: Stage, line: &TextLine) -> Result<Stage
 }
 
 /// The verdict, where nothing is due.
-fn verdict_in(stage: Stage) -> Option<DepthVerdict>
-    ensures { result ≡ stages.verdict_in stage }
+fn verdict_in(stage: &Stage) -> Option<DepthVerdict>
+    ensures { result ≡ stages.verdict_in stage.now }
 {
     match stage {
-        Stage::Done { verdict } => Some(verdict),
+        Stage::Done { verdict } => Some(*verdict),
         _ => None,
     }
 }
@@ -278,7 +278,9 @@ pub(crate) fn verdict_of(
     ensures { (answer : Answer) → Stands stage number [] answer → Gives (λ v. v) result answer }
 {
     let stage = closed(alloc, stage)?;
-    let Some(verdict) = verdict_in(stage) else {
+    let verdict = verdict_in(&stage);
+    drop(stage);
+    let Some(verdict) = verdict else {
         return Err(DepthError::Syntax(number));
     };
     Ok(verdict)

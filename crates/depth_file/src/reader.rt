@@ -18,7 +18,7 @@ use crate::onward::{take, verdict_of};
 use crate::stage::Stage;
 use cert_file::{BundleReader, TextLine};
 use depth_theory::{DepthError, DepthVerdict};
-use std::alloc::Global;
+use std::alloc::{AllocError, Global};
 use text_core::next_line;
 
 /// A depth bundle, as far as it was read. It keeps what its stage keeps, which of the logs is one part's checker,
@@ -125,7 +125,13 @@ impl DepthReader {
             fed,
         } = self;
         let mut unfinished = unfinished;
-        unfinished.extend_from_slice(text)?;
+        match unfinished.extend_from_slice(text) {
+            Ok(()) => {}
+            Err(AllocError) => {
+                drop(stage);
+                return Err(DepthError::Memory);
+            }
+        }
         Ok(DepthReader {
             stage,
             number,
@@ -160,7 +166,13 @@ impl DepthReader {
             });
         }
         let mut line = unfinished;
-        line.extend_from_slice(text)?;
+        match line.extend_from_slice(text) {
+            Ok(()) => {}
+            Err(AllocError) => {
+                drop(stage);
+                return Err(DepthError::Memory);
+            }
+        }
         let stage = take_text(alloc, stage, number, &line)?;
         line.clear();
         Ok(DepthReader {
