@@ -125,7 +125,10 @@ fn reads_port(rt: HostRuntime) -> Result<(), Fail> {
     let first = read_all(rt.alloc(), &mut port, 5);
     let failed = first.err() == Some(ReadError::ReadFault);
     assert!(rt; failed && port.faults() == 1);
-    let second = read_all(rt.alloc(), &mut port, 5)?;
+    let Ok(second) = read_all(rt.alloc(), &mut port, 5) else {
+        assert!(rt; false, "the port fails once");
+        return Ok(());
+    };
     assert!(rt; second.as_slice() == b"e".as_slice() && port.faults() == 1);
     Ok(())
 }
