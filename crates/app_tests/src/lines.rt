@@ -3,7 +3,7 @@
 use crate::running::words_of;
 use command_line::{Command, Deed, Format, ImproveSettings, SynthSettings, WordsError, read_words};
 use op_basis::Basis;
-use settings::Method;
+use settings::{MOST_STEPS, Method};
 use std::alloc::{AllocError, Global};
 
 /// Whether a line asks for this command.
@@ -187,31 +187,37 @@ fn bench_has_bases_of_its_gates(rt: HostRuntime) -> Result<(), AllocError> {
 
 #[test]
 fn fewest_levels_are_sought_by_fences(rt: HostRuntime) -> Result<(), AllocError> {
-    let by_fences = SynthSettings {
-        method: Method::Fence,
-        ..SynthSettings::usual()
-    };
-    for (line, command) in [
+    for (line, method, max, fewest_levels) in [
         (
             "synth --least-depth yes --method fence",
-            Command::LeastDepth(by_fences),
+            Method::Fence,
+            MOST_STEPS,
+            true,
         ),
         (
             "synth --method fence --max 3 --least-depth yes",
-            Command::LeastDepth(SynthSettings {
-                max: 3,
-                ..by_fences
-            }),
+            Method::Fence,
+            3,
+            true,
         ),
         (
             "synth --method fence --least-depth no",
-            Command::Synth(by_fences),
+            Method::Fence,
+            MOST_STEPS,
+            false,
         ),
-        (
-            "synth --least-depth no",
-            Command::Synth(SynthSettings::usual()),
-        ),
+        ("synth --least-depth no", Method::Ssv, MOST_STEPS, false),
     ] {
+        let settings = SynthSettings {
+            method,
+            max,
+            ..SynthSettings::usual()
+        };
+        let command = if fewest_levels {
+            Command::LeastDepth(settings)
+        } else {
+            Command::Synth(settings)
+        };
         let well = asks(rt.alloc(), line, command)?;
         assert!(rt; well, "{line}");
     }
