@@ -185,6 +185,19 @@ fn bench_has_bases_of_its_gates(rt: HostRuntime) -> Result<(), AllocError> {
     Ok(())
 }
 
+/// Whether a line asks for a chain by these settings: for the fewest levels, or for the fewest steps.
+fn asks_for_levels(
+    alloc: Global,
+    line: &str,
+    settings: SynthSettings,
+    fewest_levels: bool,
+) -> Result<bool, AllocError> {
+    if fewest_levels {
+        return asks(alloc, line, Command::LeastDepth(settings));
+    }
+    asks(alloc, line, Command::Synth(settings))
+}
+
 #[test]
 fn fewest_levels_are_sought_by_fences(rt: HostRuntime) -> Result<(), AllocError> {
     for (line, method, max, fewest_levels) in [
@@ -213,12 +226,7 @@ fn fewest_levels_are_sought_by_fences(rt: HostRuntime) -> Result<(), AllocError>
             max,
             ..SynthSettings::usual()
         };
-        let command = if fewest_levels {
-            Command::LeastDepth(settings)
-        } else {
-            Command::Synth(settings)
-        };
-        let well = asks(rt.alloc(), line, command)?;
+        let well = asks_for_levels(rt.alloc(), line, settings, fewest_levels)?;
         assert!(rt; well, "{line}");
     }
     Ok(())
