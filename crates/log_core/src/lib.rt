@@ -1,0 +1,16 @@
+//! Refutation logs as the search for them leaves them: lines are put behind, and read from the front. Contracts see a
+//! log as the list of its lines, as the definitions of logs have them.
+//!
+//! ```text
+//! let mut log = Log::new(alloc);
+//! log.add(5, &lits, &[1, 2])?; // the clause under the id 5, by the hints 1 and 2
+//! log.delete(5, &[3])?;        // takes the clause 3 away
+//! write_log(&log, &mut text)?; // appends both lines as text
+//! ```
+#![tactic(auto)]
+
+mod log;
+mod writing;
+
+pub use log::{Lines, Log};
+pub use writing::write_log;
