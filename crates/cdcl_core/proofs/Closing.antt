@@ -3,7 +3,6 @@ use Rattle.std.proofs.Common.{◌≡◌, ℕ, ◌≤◌, List, [], Contains, sub
 use Rattle.sat_theory.specs.Formula.{Formula}
 use Rattle.sat_theory.specs.Line.{Line}
 use Rattle.sat_theory.specs.Log.{additions, HasEmpty, Refutes, IsSpent, IsKept}
-use Rattle.lrat_text.specs.Values.{line_values}
 use Rattle.cdcl_core.specs.declared.search.Search.{Search}
 use Rattle.cdcl_core.specs.Searching.{IsAccounted, AreNew}
 use Rattle.cdcl_core.specs.Endings.{HasRefuted, HasSpent}
@@ -11,20 +10,20 @@ use Rattle.cdcl_core.specs.Forgetting.{with_gone, MoreGone}
 use Rattle.cdcl_core.proofs.Gone.{additions_gone, new_gone, reaches_gone, log_kept}
 use Rattle.cdcl_core.proofs.Showing.{log_spent}
 
-pub refuted_thin : (f : Formula) (s t : Search) → HasRefuted f s → MoreGone (line_values s.lines.items) (line_values t.lines.items) → IsAccounted f t → Refutes f (line_values t.lines.items)
+pub refuted_thin : (f : Formula) (s t : Search) → HasRefuted f s → MoreGone s.lines t.lines → IsAccounted f t → Refutes f t.lines
 refuted_thin f s t refuted gone accounted = record {
   holds = accounted.log.holds;
-  reaches = subst (λ (ls : List Line). HasEmpty f ls) (sym gone.is) (reaches_gone f (line_values s.lines.items) gone.own gone.ids refuted.reaches);
+  reaches = subst (λ (ls : List Line). HasEmpty f ls) (sym gone.is) (reaches_gone f s.lines gone.own gone.ids refuted.reaches);
 }
 
-pub spent_thin : (f : Formula) (budget : ℕ) (s t : Search) → HasSpent f budget s → MoreGone (line_values s.lines.items) (line_values t.lines.items) → IsAccounted f t → (Contains f.clauses [] → ⊥) → IsSpent f (line_values t.lines.items) budget
+pub spent_thin : (f : Formula) (budget : ℕ) (s t : Search) → HasSpent f budget s → MoreGone s.lines t.lines → IsAccounted f t → (Contains f.clauses [] → ⊥) → IsSpent f t.lines budget
 spent_thin f budget s t spent gone accounted none =
-    log_spent f t.clauses (line_values t.lines.items) t.deleted t.least budget accounted.log
-    (subst (λ (ls : List Line). AreNew f ls) (sym gone.is) (new_gone f (line_values s.lines.items) gone.own gone.ids spent.logged.new))
+    log_spent f t.clauses t.lines t.deleted t.least budget accounted.log
+    (subst (λ (ls : List Line). AreNew f ls) (sym gone.is) (new_gone f s.lines gone.own gone.ids spent.logged.new))
     none
-    (subst (λ (ls : List Line). budget ≤ additions ls) (sym gone.is) (let same : additions (with_gone (line_values s.lines.items) gone.own gone.ids) ≡ additions (line_values s.lines.items) = additions_gone (line_values s.lines.items) gone.own gone.ids in let enough : budget ≤ additions (line_values s.lines.items) = spent.enough in omega arith))
+    (subst (λ (ls : List Line). budget ≤ additions ls) (sym gone.is) (let same : additions (with_gone s.lines gone.own gone.ids) ≡ additions s.lines = additions_gone s.lines gone.own gone.ids in let enough : budget ≤ additions s.lines = spent.enough in omega arith))
 
-pub kept_thin : (f : Formula) (budget : ℕ) (s t : Search) → HasSpent f budget s → MoreGone (line_values s.lines.items) (line_values t.lines.items) → t.least ≡ s.least → IsAccounted f t → IsKept f (line_values t.lines.items)
+pub kept_thin : (f : Formula) (budget : ℕ) (s t : Search) → HasSpent f budget s → MoreGone s.lines t.lines → t.least ≡ s.least → IsAccounted f t → IsKept f t.lines
 kept_thin f budget s t spent gone same accounted =
-    log_kept f t.clauses (line_values t.lines.items) t.deleted t.least accounted.log
-    (subst (λ (ls : List Line). t.least ≤ additions ls) (sym gone.is) (let as_many : additions (with_gone (line_values s.lines.items) gone.own gone.ids) ≡ additions (line_values s.lines.items) = additions_gone (line_values s.lines.items) gone.own gone.ids in let enough : budget ≤ additions (line_values s.lines.items) = spent.enough in let low : s.least ≤ budget = spent.least in omega (arith, as_many, enough, low, same)))
+    log_kept f t.clauses t.lines t.deleted t.least accounted.log
+    (subst (λ (ls : List Line). t.least ≤ additions ls) (sym gone.is) (let as_many : additions (with_gone s.lines gone.own gone.ids) ≡ additions s.lines = additions_gone s.lines gone.own gone.ids in let enough : budget ≤ additions s.lines = spent.enough in let low : s.least ≤ budget = spent.least in omega (arith, as_many, enough, low, same)))

@@ -2,7 +2,7 @@
 use Rattle.std.proofs.Common.{◌≡◌, ℕ, ◌+◌, ◌-◌, ◌*◌, ◌^◌, ◌<◌, ◌≤◌, ◌==◌, ℤ, false, List, [], ◌∷◌, ◌++◌, length, slice_index_or, All, Option, Some, is_some, count_by, subst, sym, ap, ◌∙◌, arith, inl, inr, refl}
 use Rattle.std.proofs.Math.Logic.{⊎_elim}
 use Rattle.std.proofs.lemmas.Bool.{cases_eq, ne_eqb}
-use Rattle.std.proofs.lemmas.List.{length_push, length-map, map_push, get_or_push, get_or_append_left}
+use Rattle.std.proofs.lemmas.List.{length_push, length-map, get_or_push, get_or_append_left}
 use Rattle.std.proofs.lemmas.List.Elements.{All-push, All-weaker, All-nil}
 use Rattle.std.proofs.lemmas.List.Quantifiers.{Any-push}
 use Rattle.sat_theory.specs.Formula.{Formula, variable, IsClause, IsWithin}
@@ -12,8 +12,6 @@ use Rattle.sat_theory.specs.Holding.{among, HintsHold}
 use Rattle.sat_theory.specs.Log.{after, EachLine, IsStep, IsFresh, IsNew, AddsEmpty, added_ids, additions, HasEmpty, SparesFormula}
 use Rattle.sat_theory.specs.FewAdditions.{AddsSome}
 use Rattle.sat_theory.specs.LogLaws.{after-push, EachLine-push, added_ids-add}
-use Rattle.lrat_text.specs.declared.line.Line as rust
-use Rattle.lrat_text.specs.Values.{line_value, line_values}
 use Rattle.cdcl_theory.specs.ResolvingLaws.{hints_live}
 use Rattle.clause_db.specs.Stored.{Stored, live_at, live_in, IsStored, none_stored, added, all_added}
 use Rattle.clause_db.specs.StoredLaws.{live_in-add, live_in-start, live_inside, added_old, added_new, all_added-vars, all_added-clauses}
@@ -144,7 +142,3 @@ log_same f a b lines deleted least clauses vars log = record {
   gone = subst (λ (xs : List (Option (List ℤ))). count_by (λ id. is_some (live_at xs id)) (added_ids lines) + deleted ≡ additions lines) (sym clauses) log.gone;
   half = log.half;
 }
-
--- one more line of the program's
-pub lines_pushed : (lines more : List rust.Line) (line : rust.Line) → more ≡ lines ++ line ∷ [] → line_values more ≡ line_values lines ++ line_value line ∷ []
-lines_pushed lines more line is = rw is (map_push line_value lines line)

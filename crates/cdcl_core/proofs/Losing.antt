@@ -4,7 +4,6 @@ use Rattle.std.proofs.Math.Logic.{⊎_elim}
 use Rattle.std.proofs.lemmas.List.{length-set}
 use Rattle.std.proofs.lemmas.List.Elements.{All-weaker}
 use Rattle.sat_theory.specs.Formula.{Formula, opposite}
-use Rattle.lrat_text.specs.Values.{line_values}
 use Rattle.cdcl_theory.specs.Falling.{Implies, IsClosed}
 use Rattle.cdcl_theory.specs.FallingLaws.{closed_less}
 use Rattle.cdcl_theory.specs.Trails.{fell, reason_of, HasReason, IsLayered}
@@ -85,7 +84,7 @@ visited_lost s b id n some visited gone = record {
 -- The log has one id more to delete.
 pub pending_lost : (f : Formula) (s : Search) (b : Stored) (ids : List ℕ) (id : ℕ) (clause : List ℤ) → IsPending f s ids → IsStored s.clauses → live_in s.clauses id ≡ Some clause → s.given < id → IsDeleted id s.clauses b → HasHalf s → IsPending f (record s { clauses = b; deleted = s.deleted + 1 }) (ids ++ id ∷ [])
 pending_lost f s b ids id clause pending stored is learnt gone room = record {
-  log = log_lost f s.clauses b (line_values s.lines.items) ids id clause s.deleted s.least pending.log stored is (omega (arith, pending.given, learnt)) gone (⊎_elim (λ (low : 2 * (s.deleted + 1) ≤ s.least). inl low) (λ (half : 2 * (s.deleted + 1) + s.given ≤ length s.clauses.clauses). inr (omega (arith, pending.given, half))) room);
+  log = log_lost f s.clauses b s.lines ids id clause s.deleted s.least pending.log stored is (omega (arith, pending.given, learnt)) gone (⊎_elim (λ (low : 2 * (s.deleted + 1) ≤ s.least). inl low) (λ (half : 2 * (s.deleted + 1) + s.given ≤ length s.clauses.clauses). inr (omega (arith, pending.given, half))) room);
   given = pending.given;
 }
 

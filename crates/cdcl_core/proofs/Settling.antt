@@ -7,7 +7,6 @@ use Rattle.cdcl_theory.specs.Trails.{Trailed, fell, IsTrail, IsGrown, IsLayered}
 use Rattle.clause_db.specs.Stored.{Stored, live_at, live_in, IsStored}
 use Rattle.sat_theory.specs.Formula.{Formula}
 use Rattle.sat_theory.specs.Pigeonholes.{different_below}
-use Rattle.lrat_text.specs.Values.{line_values}
 use Rattle.cdcl_core.specs.Visiting.{IsRest}
 use Rattle.cdcl_core.proofs.Logging.{log_same}
 use Rattle.conflict_core.specs.Learning.{IsReady}
@@ -74,7 +73,7 @@ settled_propagated a b c settled propagated =
 
 pub logged_propagated : (f : Formula) (b c : Search) → IsLogged f b → HasPropagated b c → IsLogged f c
 logged_propagated f b c logged propagated = record {
-  log = rw (propagated.lines, propagated.deleted, propagated.least) (log_same f b.clauses c.clauses (line_values b.lines.items) b.deleted b.least propagated.rest.clauses propagated.rest.vars logged.log);
+  log = rw (propagated.lines, propagated.deleted, propagated.least) (log_same f b.clauses c.clauses b.lines b.deleted b.least propagated.rest.clauses propagated.rest.vars logged.log);
   new = rw propagated.lines logged.new;
   given = propagated.given ∙ logged.given;
 }

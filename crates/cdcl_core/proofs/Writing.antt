@@ -3,7 +3,6 @@ use Rattle.std.proofs.Common.{◌≡◌, ℕ, ◌+◌, ◌<◌, ◌∙◌, ℤ, 
 use Rattle.sat_theory.specs.Formula.{Formula}
 use Rattle.sat_theory.specs.Line.{Line}
 use Rattle.sat_theory.specs.Log.{IsThinned}
-use Rattle.lrat_text.specs.Values.{line_values}
 use Rattle.clause_db.specs.Stored.{Stored, live_in}
 use Rattle.cdcl_core.specs.declared.search.Search.{Search}
 use Rattle.cdcl_core.specs.Searching.{IsSearching, IsVisited, IsLog, AreNew, IsAccounted, IsLogged}
@@ -15,23 +14,23 @@ pub pending_none : (f : Formula) (s : Search) (ids : List ℕ) → ids ≡ [] �
 pending_none f s ids none accounted = rw none (record { log = accounted.log; given = accounted.given })
 
 -- With the line the log is that of the clauses.
-pub accounted_written : (f : Formula) (s t : Search) (ids : List ℕ) → IsPending f s ids → line_values t.lines.items ≡ with_gone (line_values s.lines.items) (length s.clauses.clauses) ids → t ≡ record s { lines = t.lines } → IsAccounted f t
+pub accounted_written : (f : Formula) (s t : Search) (ids : List ℕ) → IsPending f s ids → t.lines ≡ with_gone s.lines (length s.clauses.clauses) ids → t ≡ record s { lines = t.lines } → IsAccounted f t
 accounted_written f s t ids pending lines same =
     let clauses : t.clauses ≡ s.clauses = ap (λ (x : Search). x.clauses) same in
     let deleted : t.deleted ≡ s.deleted = ap (λ (x : Search). x.deleted) same in
     let least : t.least ≡ s.least = ap (λ (x : Search). x.least) same in
     record {
-      log = subst (λ (x : Stored). IsLog f x (line_values t.lines.items) t.deleted t.least) (sym clauses) (subst (λ (n : ℕ). IsLog f s.clauses (line_values t.lines.items) n t.least) (sym deleted) (subst (λ (n : ℕ). IsLog f s.clauses (line_values t.lines.items) s.deleted n) (sym least) (subst (λ (ls : List Line). IsLog f s.clauses ls s.deleted s.least) (sym lines) pending.log)));
+      log = subst (λ (x : Stored). IsLog f x t.lines t.deleted t.least) (sym clauses) (subst (λ (n : ℕ). IsLog f s.clauses t.lines n t.least) (sym deleted) (subst (λ (n : ℕ). IsLog f s.clauses t.lines s.deleted n) (sym least) (subst (λ (ls : List Line). IsLog f s.clauses ls s.deleted s.least) (sym lines) pending.log)));
       given = ap (λ (x : Search). x.given) same ∙ pending.given;
     }
 
-pub logged_written : (f : Formula) (a s t : Search) (ids : List ℕ) → IsLogged f a → s.lines ≡ a.lines → IsPending f s ids → line_values t.lines.items ≡ with_gone (line_values s.lines.items) (length s.clauses.clauses) ids → t ≡ record s { lines = t.lines } → IsLogged f t
+pub logged_written : (f : Formula) (a s t : Search) (ids : List ℕ) → IsLogged f a → s.lines ≡ a.lines → IsPending f s ids → t.lines ≡ with_gone s.lines (length s.clauses.clauses) ids → t ≡ record s { lines = t.lines } → IsLogged f t
 logged_written f a s t ids logged before pending lines same =
     let accounted : IsAccounted f t = accounted_written f s t ids pending lines same in
-    let old : AreNew f (line_values s.lines.items) = subst (λ ls. AreNew f (line_values ls.items)) (sym before) logged.new in
+    let old : AreNew f s.lines = subst (λ (ls : List Line). AreNew f ls) (sym before) logged.new in
     record {
       log = accounted.log;
-      new = subst (λ (ls : List Line). AreNew f ls) (sym lines) (new_gone f (line_values s.lines.items) (length s.clauses.clauses) ids old);
+      new = subst (λ (ls : List Line). AreNew f ls) (sym lines) (new_gone f s.lines (length s.clauses.clauses) ids old);
       given = accounted.given;
     }
 
@@ -66,13 +65,13 @@ pub logged_after : (f : Formula) (a b : Search) → b ≡ record a { merits = b.
 logged_after f a b same logged = subst (λ (x : Search). IsLogged f x) (sym same) (record { log = logged.log; new = logged.new; given = logged.given })
 
 -- A log that isn't thick is thinned.
-pub thinned_written : (f : Formula) (s t : Search) → (IsThick s → ⊥) → t ≡ record s { lines = t.lines } → IsAccounted f t → IsThinned f (line_values t.lines.items)
+pub thinned_written : (f : Formula) (s t : Search) → (IsThick s → ⊥) → t ≡ record s { lines = t.lines } → IsAccounted f t → IsThinned f t.lines
 thinned_written f s t thin same accounted =
     let still : IsThick t → ⊥ = subst (λ (x : Search). IsThick x → ⊥) (sym same) thin in
-    log_thinned f t.clauses (line_values t.lines.items) t.deleted t.least accounted.log (λ less. still (omega (arith, less, accounted.given)))
+    log_thinned f t.clauses t.lines t.deleted t.least accounted.log (λ less. still (omega (arith, less, accounted.given)))
 
 -- Where all learnt clauses are gone, the log isn't thick.
 pub thin_at_end : (f : Formula) (s : Search) (ids : List ℕ) → IsPending f s ids → ((id : ℕ) (clause : List ℤ) → s.given < id → live_in s.clauses id ≡ Some clause → ⊥) → IsThick s → ⊥
 thin_at_end f s ids pending none thick =
-    let all : length s.clauses.clauses ≡ length f.clauses + s.deleted = log_all_gone f s.clauses (with_gone (line_values s.lines.items) (length s.clauses.clauses) ids) s.deleted s.least pending.log (λ id clause low live. none id clause (omega (arith, low, pending.given)) live) in
+    let all : length s.clauses.clauses ≡ length f.clauses + s.deleted = log_all_gone f s.clauses (with_gone s.lines (length s.clauses.clauses) ids) s.deleted s.least pending.log (λ id clause low live. none id clause (omega (arith, low, pending.given)) live) in
     omega (arith, all, thick, pending.given)

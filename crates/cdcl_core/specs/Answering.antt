@@ -1,7 +1,6 @@
 -- The answers of the solver, by cases.
 use Rattle.std.specs.Prelude.{Bool, List}
 use Rattle.sat_theory.specs.Line as theory
-use Rattle.lrat_text.specs.Values.{line_values}
 use Rattle.cdcl_core.specs.declared.answering.Solved.{Solved}
 use Rattle.cdcl_core.specs.declared.answering.Solved.TheVariants.{Sat, Unsat, Open}
 
@@ -13,18 +12,18 @@ IfSat (Open log) P = Unit {0}
 
 abbrev pub IfUnsat : Solved → (List theory.Line → Type 0) → Type 0
 IfUnsat (Sat bits) P = Unit {0}
-IfUnsat (Unsat log) P = P (line_values log.lines.items)
+IfUnsat (Unsat log) P = P log
 IfUnsat (Open log) P = Unit {0}
 
 abbrev pub IfOpen : Solved → (List theory.Line → Type 0) → Type 0
 IfOpen (Sat bits) P = Unit {0}
 IfOpen (Unsat log) P = Unit {0}
-IfOpen (Open log) P = P (line_values log.lines.items)
+IfOpen (Open log) P = P log
 
 abbrev pub IfLogged : Solved → (List theory.Line → Type 0) → Type 0
 IfLogged (Sat bits) P = Unit {0}
-IfLogged (Unsat log) P = P (line_values log.lines.items)
-IfLogged (Open log) P = P (line_values log.lines.items)
+IfLogged (Unsat log) P = P log
+IfLogged (Open log) P = P log
 
 abbrev pub IsDecided : Solved → Type 0
 IsDecided (Sat bits) = Unit {0}

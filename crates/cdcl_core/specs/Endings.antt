@@ -2,7 +2,6 @@
 use Rattle.std.specs.Prelude.{◌≡◌, ℕ, ◌+◌, ◌≤◌}
 use Rattle.sat_theory.specs.Formula.{Formula}
 use Rattle.sat_theory.specs.Log.{HasEmpty, additions}
-use Rattle.lrat_text.specs.Values.{line_values}
 use Rattle.cdcl_theory.specs.Falling.{AllSettled}
 use Rattle.cdcl_theory.specs.Trails.{fell}
 use Rattle.clause_db.specs.Stored.{live_in}
@@ -22,12 +21,12 @@ pub record IsValued (f : Formula) (s : Search) : Type 0 where
 -- the log holds, and reaches the empty clause
 pub record HasRefuted (f : Formula) (s : Search) : Type 0 where
   pub accounted : IsAccounted f s
-  pub reaches : HasEmpty f (line_values s.lines.items)
+  pub reaches : HasEmpty f s.lines
 
 -- the log holds, and adds so many clauses, no fewer than what was reckoned with
 pub record HasSpent (f : Formula) (budget : ℕ) (s : Search) : Type 0 where
   pub logged : IsLogged f s
-  pub enough : budget ≤ additions (line_values s.lines.items)
+  pub enough : budget ≤ additions s.lines
   pub least : s.least ≤ budget
 
 abbrev pub Ends : Formula → ℕ → Search → Ending → Type 0

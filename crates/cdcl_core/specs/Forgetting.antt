@@ -2,7 +2,6 @@
 use Rattle.std.specs.Prelude.{◌≡◌, ◌⊎◌, ℕ, ◌+◌, ◌*◌, ◌<◌, ◌≤◌, ℤ, List, [], ◌∷◌, ◌++◌, length, slice_index_or, Some, IsSome}
 use Rattle.sat_theory.specs.Formula.{Formula, opposite}
 use Rattle.sat_theory.specs.Line as theory
-use Rattle.lrat_text.specs.Values.{line_values}
 use Rattle.cdcl_theory.specs.Trails.{Trailed, HasReason, reason_of, fell}
 use Rattle.clause_db.specs.Stored.{live_in}
 use Rattle.clause_db.specs.Deleting.{IsDeleted}
@@ -16,7 +15,7 @@ with_gone lines own (id ∷ ids) = lines ++ theory.Delete own (id ∷ ids) ∷ [
 
 -- The log is one of the clauses as they are, with a line more that deletes what is gone since.
 pub record IsPending (f : Formula) (s : Search) (gone : List ℕ) : Type 0 where
-  pub log : IsLog f s.clauses (with_gone (line_values s.lines.items) (length s.clauses.clauses) gone) s.deleted s.least
+  pub log : IsLog f s.clauses (with_gone s.lines (length s.clauses.clauses) gone) s.deleted s.least
   pub given : s.given ≡ length f.clauses
 
 -- a literal is true, and the clause of an id made it so

@@ -5,7 +5,6 @@ use Rattle.sat_theory.specs.Line as theory
 use Rattle.sat_theory.specs.State.{by_id, start}
 use Rattle.sat_theory.specs.Log.{after, EachLine, IsStep, IsFresh, added_ids, additions, SparesFormula}
 use Rattle.sat_theory.specs.FewAdditions.{AddsSome}
-use Rattle.lrat_text.specs.Values.{line_values}
 use Rattle.cdcl_theory.specs.Trails.{IsLayered, fell}
 use Rattle.clause_db.specs.Stored.{Stored, live_in, IsStored}
 use Rattle.conflict_core.specs.Learning.{IsReady}
@@ -44,13 +43,13 @@ pub record AreNew (f : Formula) (lines : List theory.Line) : Type 0 where
 
 -- the search's lines and clauses are such a log
 pub record IsAccounted (f : Formula) (s : Search) : Type 0 where
-  pub log : IsLog f s.clauses (line_values s.lines.items) s.deleted s.least
+  pub log : IsLog f s.clauses s.lines s.deleted s.least
   pub given : s.given ≡ length f.clauses
 
 -- and it hasn't come to the empty clause
 pub record IsLogged (f : Formula) (s : Search) : Type 0 where
-  pub log : IsLog f s.clauses (line_values s.lines.items) s.deleted s.least
-  pub new : AreNew f (line_values s.lines.items)
+  pub log : IsLog f s.clauses s.lines s.deleted s.least
+  pub new : AreNew f s.lines
   pub given : s.given ≡ length f.clauses
 
 -- The watched literals keep their promise for the literals that are visited.

@@ -2,7 +2,6 @@
 ghost use Rattle.std.specs.Prelude.{◌≡◌, ℕ, ◌*◌, ◌^◌, ◌<◌, ◌≤◌, [], length, Contains, IfOk};
 ghost use Rattle.sat_theory.specs.Formula.{Formula, IsFormula, bits_of, Satisfies};
 ghost use Rattle.sat_theory.specs.Log.{Refutes, IsSpent, IsKept, IsThrifty, IsThinned};
-ghost use Rattle.lrat_text.specs.Values.{line_values};
 ghost use Rattle.clause_db.specs.Stored.{IsStored};
 ghost use Rattle.cdcl_core.specs.Budgets.{most_budget};
 ghost use Rattle.cdcl_core.specs.Searching.{IsSearching, IsAccounted, IsLogged};
@@ -11,7 +10,7 @@ ghost use Rattle.cdcl_core.specs.Answering.{IfSat, IfUnsat, IfOpen, IfLogged, Is
 
 use crate::search::{Ending, Search};
 use cnf_core::{Assign, Cnf};
-use lrat_text::Log;
+use log_core::Log;
 use std::alloc::{AllocError, Global};
 use std::mem;
 
@@ -46,9 +45,7 @@ pub fn solve(alloc: Global, cnf: &Cnf, budget: u32) -> Result<Solved, AllocError
     ensures decides { 2 * 3 ^ cnf.now.vars ≤ budget → IfOk result IsDecided }
 {
     if cnf.has_empty() {
-        return Ok(Solved::Unsat(Log {
-            lines: Vec::new(alloc),
-        }));
+        return Ok(Solved::Unsat(Log::new(alloc)));
     }
     let mut search = Search::new(alloc, cnf, budget.min(RECKONED))?;
     answer(&mut search, alloc, budget)
@@ -82,13 +79,11 @@ fn answer(search: &mut Search, alloc: Global, budget: u32) -> Result<Solved, All
 /// Takes the log of a search that has ended, with enough deletions.
 fn log_of(search: &mut Search, alloc: Global) -> Result<Log, AllocError>
     requires stored { IsStored search.old.clauses }
-    ensures refutes { (f : Formula) → HasRefuted f search.old → IfOk result (λ log. Refutes f (line_values log.lines.items)) }
-    ensures spent { (f : Formula) (budget : ℕ) → HasSpent f budget search.old → (Contains f.clauses [] → ⊥) → IfOk result (λ log. IsSpent f (line_values log.lines.items) budget) }
-    ensures kept { (f : Formula) (budget : ℕ) → HasSpent f budget search.old → IfOk result (λ log. IsKept f (line_values log.lines.items)) }
-    ensures thinned { (f : Formula) → IsAccounted f search.old → IfOk result (λ log. IsThinned f (line_values log.lines.items)) }
+    ensures refutes { (f : Formula) → HasRefuted f search.old → IfOk result (λ log. Refutes f log) }
+    ensures spent { (f : Formula) (budget : ℕ) → HasSpent f budget search.old → (Contains f.clauses [] → ⊥) → IfOk result (λ log. IsSpent f log budget) }
+    ensures kept { (f : Formula) (budget : ℕ) → HasSpent f budget search.old → IfOk result (λ log. IsKept f log) }
+    ensures thinned { (f : Formula) → IsAccounted f search.old → IfOk result (λ log. IsThinned f log) }
 {
     search.thin()?;
-    Ok(Log {
-        lines: mem::replace(&mut search.lines, Vec::new(alloc)),
-    })
+    Ok(mem::replace(&mut search.lines, Log::new(alloc)))
 }

@@ -6,13 +6,11 @@
 ghost use Rattle.std.specs.Prelude.{◌≡◌, ◌<◌, ◌↔◌, length, IsTrue, IsFalse, IsSome, OnOk};
 ghost use Rattle.sat_theory.specs.Formula.{Formula, IsWithin};
 ghost use Rattle.sat_theory.specs.Log.{IsThinned};
-ghost use Rattle.lrat_text.specs.Values.{line_values};
 ghost use Rattle.clause_db.specs.Stored.{live_in, IsStored};
 ghost use Rattle.cdcl_core.specs.Forgetting.{NoneImplied};
 
 use crate::search::Search;
 use cnf_core::Lit;
-use lrat_text::Line;
 use std::alloc::AllocError;
 use trail_core::Trail;
 
@@ -83,17 +81,14 @@ impl Search {
     }
 
     /// Writes the line that deletes ids, if there are any.
-    fn write_gone(&mut self, gone: Vec<u32>) -> Result<(), AllocError>
-        ensures lines { OnOk result (line_values self.new.lines.items ≡ with_gone (line_values self.old.lines.items) (length self.old.clauses.clauses) gone.items) }
+    fn write_gone(&mut self, gone: &[u32]) -> Result<(), AllocError>
+        ensures lines { OnOk result (self.new.lines ≡ with_gone self.old.lines (length self.old.clauses.clauses) gone.now) }
         ensures same { OnOk result (self.new ≡ record self.old { lines = self.new.lines }) }
     {
         if gone.is_empty() {
             return Ok(());
         }
-        self.lines.push(Line::Delete {
-            id: self.clauses.last(),
-            ids: gone,
-        })?;
+        self.lines.delete(self.clauses.last(), gone)?;
         Ok(())
     }
 
@@ -113,7 +108,7 @@ impl Search {
             }
             self.let_go(*id, &mut gone)?;
         }
-        self.write_gone(gone)?;
+        self.write_gone(&gone)?;
         Ok(())
     }
 
@@ -138,14 +133,10 @@ impl Search {
     {
         let alloc = *self.starts.allocator();
         let last = self.clauses.last();
-        let Some(Line::Add { hints, .. }) = self.lines.last() else {
-            return Ok(Vec::new(alloc));
-        };
         if !self.clauses.live(last) {
             return Ok(Vec::new(alloc));
         }
         let lits = self.clauses.lits(last);
-        self.merits.count_parts(hints);
         self.merits.note(&self.trail, &self.starts, lits)?;
         self.merits.containing(alloc, &self.clauses, lits)
     }
@@ -209,14 +200,14 @@ impl Search {
     /// search.
     pub(crate) fn thin(&mut self) -> Result<(), AllocError>
         requires stored { IsStored self.old.clauses }
-        ensures gone { OnOk result (MoreGone (line_values self.old.lines.items) (line_values self.new.lines.items)) }
+        ensures gone { OnOk result (MoreGone self.old.lines self.new.lines) }
         ensures least { OnOk result (self.new.least ≡ self.old.least) }
         ensures accounted { (f : Formula) → IsAccounted f self.old → OnOk result (IsAccounted f self.new) }
-        ensures thinned { (f : Formula) → IsAccounted f self.old → OnOk result (IsThinned f (line_values self.new.lines.items)) }
+        ensures thinned { (f : Formula) → IsAccounted f self.old → OnOk result (IsThinned f self.new.lines) }
     {
         let mut gone = Vec::new(*self.starts.allocator());
         self.thin_out(&mut gone)?;
-        self.write_gone(gone)?;
+        self.write_gone(&gone)?;
         Ok(())
     }
 }

@@ -18,7 +18,7 @@ use crate::visiting::propagate_watched;
 use clause_db::ClauseDb;
 use cnf_core::Cnf;
 use conflict_core::Analysis;
-use lrat_text::Line;
+use log_core::Log;
 use std::alloc::{AllocError, Global};
 use trail_core::Trail;
 
@@ -30,7 +30,7 @@ pub(crate) struct Search {
     pub(crate) trail: Trail,
     pub(crate) starts: Vec<usize>,
     pub(crate) analysis: Analysis,
-    pub(crate) lines: Vec<Line>,
+    pub(crate) lines: Log,
     /// how many clauses the formula has: the ids behind these are of additions
     pub(crate) given: u32,
     /// how many literals of the trail are visited
@@ -81,7 +81,7 @@ impl Search {
             trail,
             starts: Vec::new(alloc),
             analysis,
-            lines: Vec::new(alloc),
+            lines: Log::new(alloc),
             given,
             head: 0,
             choice,
@@ -148,6 +148,7 @@ impl Search {
             &self.starts,
             start,
         )?;
+        self.merits.count_parts(&learnt.hints);
         self.choice.bump(self.analysis.touched());
         self.choice
             .bump_reasons(&self.trail, &self.clauses, &learnt.lits[1..]);
@@ -157,11 +158,7 @@ impl Search {
         self.choice.release(&self.trail, end);
         self.trail.back_to(end);
         let lit = learnt.lits[0];
-        self.lines.push(Line::Add {
-            id,
-            lits: learnt.lits,
-            hints: learnt.hints,
-        })?;
+        self.lines.add(id, &learnt.lits, &learnt.hints)?;
         self.trail.push(lit, id)?;
         self.head = end;
         Ok(())
@@ -274,11 +271,7 @@ impl Search {
             .analysis
             .refute(alloc, &self.trail, &self.clauses, conflict)?;
         let id = self.clauses.add(&[])?;
-        self.lines.push(Line::Add {
-            id,
-            lits: Vec::new(alloc),
-            hints,
-        })?;
+        self.lines.add(id, &[], &hints)?;
         Ok(())
     }
 

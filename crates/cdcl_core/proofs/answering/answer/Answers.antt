@@ -1,7 +1,6 @@
 use Rattle.std.proofs.Common.{◌*◌, ◌^◌, ◌<◌, subst, arith}
 use Rattle.sat_theory.specs.Log.{IsSpent}
 use Rattle.sat_theory.specs.FewAdditions.{budget_kept}
-use Rattle.lrat_text.specs.Values.{line_values}
 use Rattle.cdcl_core.specs.declared.search.Ending.{Ending}
 use Rattle.cdcl_core.specs.Endings.{Ends, IsValued, HasRefuted, HasSpent}
 use Rattle.cdcl_core.proofs.Showing.{values_satisfy, refuted_thrifty}
@@ -11,7 +10,7 @@ pub returns-in_ok-assignment-in-Valued-clause-sat : goal.returns-in_ok-assignmen
 returns-in_ok-assignment-in-Valued-clause-sat c = λ f logged formula.
     let s = c.run.new.self in
     let valued : IsValued f s = subst (λ (e : Ending). Ends f c.args.budget s e) c.in-Valued.is (c.in_ok-run.ensures.ends f logged) in
-    values_satisfy f s.clauses s.trail (line_values s.lines.items) s.deleted s.least c.in_ok-assignment-in-Valued.field-0 formula valued.logged.log valued.vars valued.values valued.settled c.in_ok-assignment-in-Valued.ensures
+    values_satisfy f s.clauses s.trail s.lines s.deleted s.least c.in_ok-assignment-in-Valued.field-0 formula valued.logged.log valued.vars valued.values valued.settled c.in_ok-assignment-in-Valued.ensures
 
 pub returns-in_ok-log_of-in-Refuted-clause-unsat : goal.returns-in_ok-log_of-in-Refuted-clause-unsat
 returns-in_ok-log_of-in-Refuted-clause-unsat c = λ f logged.
@@ -19,7 +18,7 @@ returns-in_ok-log_of-in-Refuted-clause-unsat c = λ f logged.
     c.in_ok-log_of-in-Refuted.ensures.refutes f refuted
 
 pub returns-in_ok-log_of-in-Refuted-clause-thrifty : goal.returns-in_ok-log_of-in-Refuted-clause-thrifty
-returns-in_ok-log_of-in-Refuted-clause-thrifty c = λ f logged. refuted_thrifty f (line_values c.in_ok-log_of-in-Refuted.field-0.lines.items) (returns-in_ok-log_of-in-Refuted-clause-unsat c f logged)
+returns-in_ok-log_of-in-Refuted-clause-thrifty c = λ f logged. refuted_thrifty f c.in_ok-log_of-in-Refuted.field-0 (returns-in_ok-log_of-in-Refuted-clause-unsat c f logged)
 
 pub returns-in_ok-log_of-in-Refuted-clause-thinned : goal.returns-in_ok-log_of-in-Refuted-clause-thinned
 returns-in_ok-log_of-in-Refuted-clause-thinned c = λ f logged.
@@ -46,6 +45,6 @@ returns-in_ok-log_of-in-Spent-clause-thinned c = λ f logged.
 
 pub returns-in_ok-log_of-in-Spent-clause-decides : goal.returns-in_ok-log_of-in-Spent-clause-decides
 returns-in_ok-log_of-in-Spent-clause-decides c = λ f logged none enough.
-    let spent : IsSpent f (line_values c.in_ok-log_of-in-Spent.field-0.lines.items) c.args.budget = returns-in_ok-log_of-in-Spent-clause-open c f logged none in
-    let few : c.args.budget < 2 * 3 ^ f.vars = budget_kept f (line_values c.in_ok-log_of-in-Spent.field-0.lines.items) c.args.budget spent (returns-in_ok-log_of-in-Spent-clause-thrifty c f logged) in
+    let spent : IsSpent f c.in_ok-log_of-in-Spent.field-0 c.args.budget = returns-in_ok-log_of-in-Spent-clause-open c f logged none in
+    let few : c.args.budget < 2 * 3 ^ f.vars = budget_kept f c.in_ok-log_of-in-Spent.field-0 c.args.budget spent (returns-in_ok-log_of-in-Spent-clause-thrifty c f logged) in
     omega (arith, few, enough)

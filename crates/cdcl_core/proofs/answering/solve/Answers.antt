@@ -1,14 +1,12 @@
-use Rattle.std.proofs.Common.{ap}
-use Rattle.lrat_text.specs.Values.{line_values}
 use Rattle.cdcl_core.proofs.Showing.{refuted_at_once, thinned_at_once, refuted_thrifty}
 use Rattle.cdcl_core.proofs.answering.solve.Goals as goal
 
 pub returns-then-has_empty-clause-unsat : goal.returns-then-has_empty-clause-unsat
 returns-then-has_empty-clause-unsat c =
-    refuted_at_once c.args.cnf.now (line_values c.new.result.items) (ap line_values c.new.ensures.items) (c.has_empty.ensures.value.0 c.if-has_empty.true)
+    refuted_at_once c.args.cnf.now c.new.result c.new.ensures (c.has_empty.ensures.value.0 c.if-has_empty.true)
 
 pub returns-then-has_empty-clause-thrifty : goal.returns-then-has_empty-clause-thrifty
-returns-then-has_empty-clause-thrifty c = refuted_thrifty c.args.cnf.now (line_values c.new.result.items) (returns-then-has_empty-clause-unsat c)
+returns-then-has_empty-clause-thrifty c = refuted_thrifty c.args.cnf.now c.new.result (returns-then-has_empty-clause-unsat c)
 
 pub returns-then-has_empty-clause-thinned : goal.returns-then-has_empty-clause-thinned
-returns-then-has_empty-clause-thinned c = thinned_at_once c.args.cnf.now (line_values c.new.result.items) (ap line_values c.new.ensures.items)
+returns-then-has_empty-clause-thinned c = thinned_at_once c.args.cnf.now c.new.result c.new.ensures

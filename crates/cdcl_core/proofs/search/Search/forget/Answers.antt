@@ -1,10 +1,10 @@
-use Rattle.std.proofs.Common.{◌∙◌, ℕ, ◌+◌, ◌<◌, ◌≤◌, slice_index_or, length, ap, subst, sym}
+use Rattle.std.proofs.Common.{◌∙◌, ℕ, ◌+◌, ◌<◌, ◌≤◌, List, slice_index_or, length, ap, subst, sym}
 use Rattle.clause_db.specs.DeletingLaws.{some_live}
 use Rattle.clause_db.specs.Stored.{live_in}
 use Rattle.clause_db.specs.StoredLaws.{live_inside}
 use Rattle.cdcl_core.specs.declared.search.Search.{Search}
 use Rattle.cdcl_core.specs.Searching.{IsSearching, IsVisited}
-use Rattle.cdcl_core.specs.Forgetting.{MayGo, HasLost}
+use Rattle.cdcl_core.specs.Forgetting.{with_gone, MayGo, HasLost}
 use Rattle.cdcl_core.proofs.Losing.{searching_lost, visited_lost, forgotten_lost}
 use Rattle.cdcl_core.proofs.Writing.{searching_written, visited_written, forgotten_written, logged_written}
 use Rattle.cdcl_core.proofs.search.Search.forget.Goals as goal
@@ -35,4 +35,4 @@ pub returns-clause-forgotten : goal.returns-clause-forgotten
 returns-clause-forgotten c = forgotten_written c.args.self.now c.loop-id.self c.write_gone.new.self c.loop-id.invariant.forgotten c.in_ok-write_gone.ensures.same
 
 pub returns-clause-logged : goal.returns-clause-logged
-returns-clause-logged c = λ f logged. logged_written f c.args.self.now c.loop-id.self c.write_gone.new.self c.loop-id.gone.items logged c.loop-id.invariant.lines (c.loop-id.invariant.pending f logged) c.in_ok-write_gone.ensures.lines c.in_ok-write_gone.ensures.same
+returns-clause-logged c = λ f logged. logged_written f c.args.self.now c.loop-id.self c.write_gone.new.self c.loop-id.gone.items logged c.loop-id.invariant.lines (c.loop-id.invariant.pending f logged) (c.in_ok-write_gone.ensures.lines ∙ ap (λ (ids : List ℕ). with_gone c.loop-id.self.lines (length c.loop-id.self.clauses.clauses) ids) c.deref.ensures.value) c.in_ok-write_gone.ensures.same

@@ -1,6 +1,7 @@
-use Rattle.std.proofs.Common.{◌≡◌, ◌∙◌, ◌<◌, ◌≤◌, ◌+◌, ℕ, ℤ, pos, List, length, slice_index_or, sym, ap, subst, arith}
+use Rattle.std.proofs.Common.{◌≡◌, ◌∙◌, ◌++◌, ◌∷◌, [], ◌<◌, ◌≤◌, ◌+◌, ℕ, ℤ, pos, List, length, slice_index_or, sym, ap, subst, arith}
 use Rattle.std.proofs.lemmas.List.{get_or_read, length_push}
 use Rattle.sat_theory.specs.Formula.{IsWithin}
+use Rattle.sat_theory.specs.Line as theory
 use Rattle.cdcl_theory.specs.FallingLaws.{unit_is_new}
 use Rattle.cdcl_theory.specs.Trails.{Trailed, fell, pushed, IsLayered}
 use Rattle.clause_db.specs.Stored.{Stored, live_in, added}
@@ -9,7 +10,7 @@ use Rattle.cdcl_core.proofs.Jumps.{guarded_jumped}
 use Rattle.trail_core.specs.Values.{IsOver, IsFree}
 use Rattle.conflict_core.specs.Learning.{IsReady, asserting}
 use Rattle.cdcl_core.proofs.Layers.{closed_last, reasons_last, dropped_low, jumped_free, jumped_layers, learnt_over}
-use Rattle.cdcl_core.proofs.Logging.{log_added, new_added, lines_pushed}
+use Rattle.cdcl_core.proofs.Logging.{log_added, new_added}
 use Rattle.cdcl_core.specs.Choosing.{IsChoosing}
 use Rattle.cdcl_core.proofs.Choices.{choosing_pushed}
 use Rattle.cdcl_core.proofs.search.Search.jump.Goals as goal
@@ -20,8 +21,8 @@ learn-requires-clause-closed c = closed_last (live_in c.args.self.now.clauses) c
 pub learn-requires-clause-reasons : goal.learn-requires-clause-reasons
 learn-requires-clause-reasons c = reasons_last (live_in c.args.self.now.clauses) c.args.self.now.trail c.args.self.now.starts.items c.args.start c.requires.searching.layered c.requires.level
 
-pub push-requires-2-clause-free : goal.push-requires-2-clause-free
-push-requires-2-clause-free c =
+pub push-requires-clause-free : goal.push-requires-clause-free
+push-requires-clause-free c =
     let s = c.args.self.now in
     let l = c.in_ok-learnt.learnt in
     let u : c.index-lit.result.now ≡ asserting l.lits.items = get_or_read l.lits.items 0 c.index-lit.result.now c.in_ok-learnt.ensures.learnt.some c.index-lit.ensures (pos 0) in
@@ -32,11 +33,11 @@ pub returns-clause-searching : goal.returns-clause-searching
 returns-clause-searching c =
     let s = c.args.self.now in
     let l = c.in_ok-learnt.learnt in
-    let clauses_are : c.add.new.self ≡ added s.clauses l.lits.items = c.in_ok-id.ensures.ok ∙ ap (λ (xs : List ℤ). added s.clauses xs) c.deref-3.ensures.value in
+    let clauses_are : c.add.new.self ≡ added s.clauses l.lits.items = c.in_ok-id.ensures.ok ∙ ap (λ (xs : List ℤ). added s.clauses xs) c.deref-4.ensures.value in
     let u : c.index-lit.result.now ≡ asserting l.lits.items = get_or_read l.lits.items 0 c.index-lit.result.now c.in_ok-learnt.ensures.learnt.some c.index-lit.ensures (pos 0) in
-    let trail_is : c.push-2.new.self ≡ pushed c.back_to.new.self c.index-lit.result.now c.in_ok-id.id = c.in_ok-push-2.ensures.ok in
+    let trail_is : c.push.new.self ≡ pushed c.back_to.new.self c.index-lit.result.now c.in_ok-id.id = c.in_ok-push.ensures.ok in
     let vars : c.back_to.new.self.vars ≡ s.trail.vars = c.back_to.ensures.back.vars in
-    let vars_now : c.push-2.new.self.vars ≡ s.trail.vars = ap (λ (t : Trailed). t.vars) trail_is ∙ vars in
+    let vars_now : c.push.new.self.vars ≡ s.trail.vars = ap (λ (t : Trailed). t.vars) trail_is ∙ vars in
     let within : IsWithin s.clauses.vars l.lits.items = subst (λ (n : ℕ). IsWithin n l.lits.items) (sym c.requires.searching.vars) c.in_ok-learnt.ensures.learnt.variables in
     let back : Trailed = c.back_to.new.self in
     let low = dropped_low s.starts.items c.drop_levels-end.new.starts.items c.args.start l.back c.drop_levels-end.result c.requires.searching.layered.rising c.requires.level.last c.drop_levels-end.ensures in
@@ -45,7 +46,7 @@ returns-clause-searching c =
     record {
       stored = c.in_ok-id.ensures.whole;
       vars = ap (λ (x : Stored). x.vars) clauses_are ∙ c.requires.searching.vars ∙ sym vars_now;
-      layered = subst (λ (x : Stored). IsLayered (live_in x) c.push-2.new.self c.drop_levels-end.new.starts.items) (sym clauses_are)
+      layered = subst (λ (x : Stored). IsLayered (live_in x) c.push.new.self c.drop_levels-end.new.starts.items) (sym clauses_are)
           (subst (λ (t : Trailed). IsLayered (live_in (added s.clauses l.lits.items)) t c.drop_levels-end.new.starts.items) (sym trail_is)
           (jumped_layers s.clauses s.trail c.back_to.new.self s.starts.items c.drop_levels-end.new.starts.items c.args.start c.drop_levels-end.result l.back c.in_ok-id.id l.lits.items l.hints.items c.index-lit.result.now c.requires.searching.layered c.in_ok-learnt.ensures.learnt c.requires.level c.drop_levels-end.ensures c.back_to.ensures.whole c.back_to.ensures.back c.in_ok-id.ensures.id u));
       ready = subst (λ (n : ℕ). IsReady n c.learn.new.self) (sym vars_now) c.in_ok-learnt.ensures.ready;
@@ -57,8 +58,10 @@ pub returns-clause-logged : goal.returns-clause-logged
 returns-clause-logged c = λ f logged.
     let s = c.args.self.now in
     let l = c.in_ok-learnt.learnt in
-    let clauses_are : c.add.new.self ≡ added s.clauses l.lits.items = c.in_ok-id.ensures.ok ∙ ap (λ (xs : List ℤ). added s.clauses xs) c.deref-3.ensures.value in
-    let lines_are = lines_pushed s.lines.items c.push.new.self.items _ c.in_ok-push.ensures.items in
+    let clauses_are : c.add.new.self ≡ added s.clauses l.lits.items = c.in_ok-id.ensures.ok ∙ ap (λ (xs : List ℤ). added s.clauses xs) c.deref-4.ensures.value in
+    let lines_are = c.in_ok-add.ensures.ok
+        ∙ ap (λ (xs : List ℤ). s.lines ++ theory.Add c.in_ok-id.id xs c.deref-6.result.now ∷ []) c.deref-5.ensures.value
+        ∙ ap (λ (xs : List ℕ). s.lines ++ theory.Add c.in_ok-id.id l.lits.items xs ∷ []) c.deref-6.ensures.value in
     let within : IsWithin s.clauses.vars l.lits.items = subst (λ (n : ℕ). IsWithin n l.lits.items) (sym c.requires.searching.vars) c.in_ok-learnt.ensures.learnt.variables in
     let few : s.trail.vars < 1000000000 = c.requires.searching.layered.whole.few in
     let small : s.clauses.vars < 1000000000 = omega (arith, few, c.requires.searching.vars) in
@@ -79,16 +82,16 @@ returns-clause-visited c =
     let end : ℕ = c.drop_levels-end.result in
     let back : Trailed = c.back_to.new.self in
     let u : c.index-lit.result.now ≡ asserting l.lits.items = get_or_read l.lits.items 0 c.index-lit.result.now c.in_ok-learnt.ensures.learnt.some c.index-lit.ensures (pos 0) in
-    let clauses_are : c.add.new.self ≡ added s.clauses l.lits.items = c.in_ok-id.ensures.ok ∙ ap (λ (xs : List ℤ). added s.clauses xs) c.deref-3.ensures.value in
-    let trail_is : c.push-2.new.self ≡ pushed back c.index-lit.result.now c.in_ok-id.id = c.in_ok-push-2.ensures.ok in
+    let clauses_are : c.add.new.self ≡ added s.clauses l.lits.items = c.in_ok-id.ensures.ok ∙ ap (λ (xs : List ℤ). added s.clauses xs) c.deref-4.ensures.value in
+    let trail_is : c.push.new.self ≡ pushed back c.index-lit.result.now c.in_ok-id.id = c.in_ok-push.ensures.ok in
     let low = dropped_low s.starts.items fewer c.args.start l.back end c.requires.searching.layered.rising c.requires.level.last c.drop_levels-end.ensures in
     let free : IsFree back c.index-lit.result.now = rw u (jumped_free (live_in s.clauses) s.trail back c.args.start end l.back l.lits.items l.hints.items c.requires.searching.layered.whole c.back_to.ensures.whole c.in_ok-learnt.ensures.learnt low c.back_to.ensures.back) in
     let over_old : IsOver s.trail.vars (asserting l.lits.items) = learnt_over (live_in s.clauses) s.trail c.args.start l.back l.lits.items l.hints.items c.in_ok-learnt.ensures.learnt in
     let over : IsOver back.vars c.index-lit.result.now = rw (u, c.back_to.ensures.back.vars) over_old in
     let guarded : IsGuarded (added s.clauses l.lits.items) (fell (pushed back c.index-lit.result.now c.in_ok-id.id)) fewer end = guarded_jumped s.clauses s.trail back s.starts.items fewer c.args.start end l.back c.in_ok-id.id s.head l.lits.items l.hints.items c.index-lit.result.now c.requires.searching.stored c.requires.visited.guarded c.requires.visited.begun c.in_ok-learnt.ensures.learnt c.drop_levels-end.ensures c.back_to.ensures.whole c.back_to.ensures.back over free u in
-    let long : length c.push-2.new.self.lits ≡ length back.lits + 1 = ap (λ (t : Trailed). length t.lits) trail_is ∙ length_push back.lits c.index-lit.result.now in
+    let long : length c.push.new.self.lits ≡ length back.lits + 1 = ap (λ (t : Trailed). length t.lits) trail_is ∙ length_push back.lits c.index-lit.result.now in
     record {
-      guarded = subst (λ (x : Stored). IsGuarded x (fell c.push-2.new.self) fewer end) (sym clauses_are) (subst (λ (t : Trailed). IsGuarded (added s.clauses l.lits.items) (fell t) fewer end) (sym trail_is) guarded);
+      guarded = subst (λ (x : Stored). IsGuarded x (fell c.push.new.self) fewer end) (sym clauses_are) (subst (λ (t : Trailed). IsGuarded (added s.clauses l.lits.items) (fell t) fewer end) (sym trail_is) guarded);
       low = omega (arith, long, c.back_to.ensures.back.short);
       begun = λ k d inside. (let below : slice_index_or fewer k d < l.back = c.drop_levels-end.ensures.low k d inside in let high : l.back ≤ end = c.drop_levels-end.ensures.high in omega (arith, below, high));
     }

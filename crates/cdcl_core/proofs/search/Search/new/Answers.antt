@@ -8,8 +8,8 @@ use Rattle.cdcl_core.proofs.search.Search.new.Goals as goal
 
 pub returns-clause-logged : goal.returns-clause-logged
 returns-clause-logged c = record {
-  log = rw (c.in_ok-clauses.ensures.all, c.new-7.ensures.items) (log_begun c.args.cnf.now c.args.least);
-  new = rw c.new-7.ensures.items (new_begun c.args.cnf.now);
+  log = rw (c.in_ok-clauses.ensures.all, c.new-7.ensures) (log_begun c.args.cnf.now c.args.least);
+  new = rw c.new-7.ensures (new_begun c.args.cnf.now);
   given = ap length c.clauses.ensures.value;
 }
 
