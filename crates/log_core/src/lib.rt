@@ -9,7 +9,12 @@
 //! ```
 #![tactic(auto)]
 
+mod head;
 mod log;
+mod numbers;
+mod packing;
+mod steps;
+mod unpacking;
 mod writing;
 
 pub use log::{Lines, Log};
