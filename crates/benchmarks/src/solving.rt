@@ -2,7 +2,8 @@
 use crate::check::{Fault, formula};
 use cdcl_core::{Solved, solve};
 use cnf_core::Cnf;
-use lrat_text::{Line, Log};
+use log_core::Log;
+use lrat_text::Line;
 use std::alloc::{AllocError, Global};
 
 /// The most clauses that the solver may learn.
@@ -31,20 +32,21 @@ pub struct Outcome {
 }
 
 /// What a log of the solver shows.
-fn outcome_of(answer: Answer, log: &Log) -> Outcome {
+fn outcome_of(alloc: Global, answer: Answer, log: &Log) -> Result<Outcome, AllocError> {
     let mut conflicts = 0u64;
     let mut hints = 0u64;
-    for line in &log.lines {
-        if let Line::Add { hints: shown, .. } = line {
+    let mut left = log.lines();
+    while let Some(line) = left.next(alloc)? {
+        if let Line::Add { hints: shown, .. } = &line {
             conflicts = conflicts.saturating_add(1);
             hints = hints.saturating_add(shown.len() as u64);
         }
     }
-    Outcome {
+    Ok(Outcome {
         answer,
         conflicts,
         hints,
-    }
+    })
 }
 
 /// Solves a formula.
@@ -55,8 +57,8 @@ fn solve_cnf(alloc: Global, cnf: &Cnf) -> Result<Outcome, AllocError> {
             conflicts: 0,
             hints: 0,
         }),
-        Solved::Unsat(log) => Ok(outcome_of(Answer::Refuted, &log)),
-        Solved::Open(log) => Ok(outcome_of(Answer::Open, &log)),
+        Solved::Unsat(log) => outcome_of(alloc, Answer::Refuted, &log),
+        Solved::Open(log) => outcome_of(alloc, Answer::Open, &log),
     }
 }
 

@@ -3,7 +3,7 @@
 //! valid; here is no more than what they hold, and whether a size is open.
 //!
 //! ```text
-//! let log = Log { lines: Vec::new(alloc) };
+//! let log = Log::new(alloc);
 //! let part = PartLog { part: Part::Whole, ended: Ended::Refuted, log }; // of a formula with the empty clause
 //! let section = Section { size: 0, parts: vec![in alloc; part]? };
 //! ```

@@ -1,7 +1,7 @@
 //! The log of one part, as contracts see it: its lines as the values that the definitions of logs speak of.
 use cert_theory::Ended;
 use enc_theory::Part;
-use lrat_text::Log;
+use log_core::Log;
 use std::marker::Model;
 
 /// A log over the formula of a part, and how it ends.
@@ -13,10 +13,9 @@ pub struct PartLog {
 }
 
 impl Model for PartLog {
-    ghost use Rattle.lrat_text.specs.Values.{line_values};
     ghost use Rattle.cert_theory.specs.Bundle as theory;
 
     ghost Value = { theory.PartLog };
 
-    ghost view = { λ p. record { part = p.part; ended = p.ended; log = line_values p.log.lines.items } };
+    ghost view = { λ p. record { part = p.part; ended = p.ended; log = p.log } };
 }

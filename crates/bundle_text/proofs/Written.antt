@@ -15,7 +15,7 @@ use Rattle.cert_theory.specs.declared.data.Heading.{Heading}
 use Rattle.cert_theory.specs.declared.data.Verdict.{Verdict}
 use Rattle.cert_theory.specs.Bundle.{PartLog, Section}
 use Rattle.cert_theory.specs.Spelling.{text_of, table_text, table_line, log_line, part_lines, section_lines, first_text, heading_lines, basis_line, method_line, conflicts_line, max_line, title_lines, ended_text, done_text, size_line, block_lines, verdict_line, end_text, ending_lines, bundle_text}
-use Rattle.bundle_text.specs.Texts.{cells_to, tables_to, log_text, parts_text, sections_text, spelled, heading_text, whole_text}
+use Rattle.bundle_text.specs.Texts.{cells_to, tables_to, parts_text, sections_text, spelled, heading_text, whole_text}
 
 pub cells_none : (w : Words) (h : ℕ) → cells_to w h 0 ≡ []
 unfolding cells_to
@@ -40,13 +40,9 @@ tables_more w k =
     ∙ flat_map-append line_bytes (map (λ i. table_line w (i + 1)) (range_with_len 0 k)) (table_line w (k + 1) ∷ [])
     ∙ grind (arith, common_steps)
 
-pub log_none : log_text [] ≡ []
-unfolding log_text
-log_none = refl
-
-pub log_more : (l : theory.Line) (ls : List theory.Line) → log_text (l ∷ ls) ≡ line_text l ++ log_text ls
-unfolding log_text
-log_more l ls = refl
+log_spelled : (ls : List theory.Line) → text_of (map log_line ls) ≡ flat_map line_text ls
+log_spelled [] = refl
+log_spelled (l ∷ ls) = ap (λ (xs : List ℕ). line_text l ++ xs) (log_spelled ls)
 
 pub parts_none : parts_text [] ≡ []
 unfolding parts_text
@@ -82,11 +78,11 @@ heading_spelled h =
     (ap (λ (xs : List ℕ). line_bytes (line first_text) ++ (line_bytes (header_line h.spec.n) ++ xs)) (text_both tables others)
     ∙ regroup (line_bytes (line first_text)) (line_bytes (header_line h.spec.n)) (text_of tables) (line_bytes (line (basis_line h.basis))) (line_bytes (line (method_line h.method))) (line_bytes (line (conflicts_line h.conflicts))) (line_bytes (line (max_line h.max))))
 
-pub part_parts : (p : PartLog) → text_of (part_lines p) ≡ text_of (title_lines p.part) ++ line_bytes (line (ended_text p.ended)) ++ log_text p.log ++ line_bytes (line done_text)
-unfolding part_lines log_text
+pub part_parts : (p : PartLog) → text_of (part_lines p) ≡ text_of (title_lines p.part) ++ line_bytes (line (ended_text p.ended)) ++ flat_map line_text p.log ++ line_bytes (line done_text)
+unfolding part_lines
 part_parts p =
     text_both (title_lines p.part) (line (ended_text p.ended) ∷ (map log_line p.log ++ line done_text ∷ []))
-    ∙ ap (λ (xs : List ℕ). text_of (title_lines p.part) ++ (line_bytes (line (ended_text p.ended)) ++ xs)) (text_both (map log_line p.log) (line done_text ∷ []))
+    ∙ ap (λ (xs : List ℕ). text_of (title_lines p.part) ++ (line_bytes (line (ended_text p.ended)) ++ xs)) (text_both (map log_line p.log) (line done_text ∷ []) ∙ ap (λ (xs : List ℕ). xs ++ text_of (line done_text ∷ [])) (log_spelled p.log))
     ∙ simp append_assoc (simp append-nil)
 
 pub section_parts : (s : Section) → text_of (section_lines s) ≡ line_bytes (line (size_line s.size)) ++ parts_text s.parts
@@ -117,8 +113,6 @@ pub ruleset whole = (common_steps, whole_spelled)
 pub ruleset cells = (common_steps, cells_none, cells_more)
 
 pub ruleset tables = (common_steps, tables_none, tables_more, cells_all)
-
-pub ruleset logs = (common_steps, log_none, log_more)
 
 pub ruleset parts = (common_steps, parts_none, parts_more, text_both)
 

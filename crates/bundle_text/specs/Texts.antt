@@ -1,7 +1,6 @@
 -- Texts that are written in loops, as far as the loops have come.
 use Rattle.std.specs.Prelude.{ℕ, ◌+◌, List, ◌++◌, length, map, codes, decimal, Option}
 use Rattle.std.specs.List.{flat_map, range_with_len}
-use Rattle.sat_theory.specs.Line as theory
 use Rattle.text_core.specs.Lines.{line_bytes}
 use Rattle.chain_core.specs.Spelling.{line}
 use Rattle.tt_core.specs.Words.{Words, cell_of}
@@ -10,7 +9,7 @@ use Rattle.cert_theory.specs.declared.data.Heading.{Heading}
 use Rattle.cert_theory.specs.declared.data.Verdict.{Verdict}
 use Rattle.chain_theory.specs.Chain.{Chain}
 use Rattle.cert_theory.specs.Bundle.{PartLog, Section}
-use Rattle.cert_theory.specs.Spelling.{text_of, first_text, table_line, basis_line, method_line, conflicts_line, max_line, log_line, part_lines, section_lines, ending_lines}
+use Rattle.cert_theory.specs.Spelling.{text_of, first_text, table_line, basis_line, method_line, conflicts_line, max_line, part_lines, section_lines, ending_lines}
 
 -- the first cells of an output
 unfoldable pub cells_to : Words → ℕ → ℕ → List ℕ
@@ -19,10 +18,6 @@ cells_to w h rows = map (λ t. character (cell_of w h t)) (range_with_len 0 rows
 -- the first tables
 unfoldable pub tables_to : Words → ℕ → List ℕ
 tables_to w outputs = text_of (map (λ i. table_line w (i + 1)) (range_with_len 0 outputs))
-
--- the lines of a log
-unfoldable pub log_text : List theory.Line → List ℕ
-log_text log = text_of (map log_line log)
 
 unfoldable pub parts_text : List PartLog → List ℕ
 parts_text parts = text_of (flat_map part_lines parts)

@@ -2,16 +2,15 @@
 ghost use Rattle.std.specs.Prelude.{◌≡◌, ◌++◌, OnOk, OnErr};
 ghost use Rattle.std.specs.List.{flat_map};
 ghost use Rattle.text_core.specs.Lines.{line_bytes};
-ghost use Rattle.lrat_text.specs.Values.{line_values};
 ghost use Rattle.chain_core.specs.Spelling.{line};
 ghost use Rattle.cert_theory.specs.Spelling as spelling;
-ghost use Rattle.bundle_text.specs.Texts.{log_text, parts_text};
+ghost use Rattle.bundle_text.specs.Texts.{parts_text};
 
 use crate::tables::push_numbered;
 use bundle_core::{Ended, PartLog, Section};
 use cert_theory::title_of;
 use enc_theory::Part;
-use lrat_text::{Line, write_line};
+use log_core::write_log;
 use std::alloc::AllocError;
 
 /// Appends the title of a part: the sizes of the levels of a fence, and nothing for the whole.
@@ -37,19 +36,6 @@ fn push_ended(text: &mut Vec<u8>, ended: Ended) -> Result<(), AllocError>
     }
 }
 
-/// Appends the lines of a log.
-#[tactic(auto, using(crate::proofs::Written::logs))]
-fn push_log(text: &mut Vec<u8>, lines: &[Line]) -> Result<(), AllocError>
-    ensures { OnOk result (text.new.items ≡ text.old.items ++ log_text (line_values lines.now)) }
-{
-    let mut left = lines;
-    while let Some((line, rest)) = left.split_first() {
-        write_line(line, text)?;
-        left = rest;
-    }
-    Ok(())
-}
-
 /// Appends the lines of a part.
 #[tactic(auto, using(crate::proofs::Written::part_pieces))]
 fn push_part(text: &mut Vec<u8>, part: &PartLog) -> Result<(), AllocError>
@@ -57,7 +43,7 @@ fn push_part(text: &mut Vec<u8>, part: &PartLog) -> Result<(), AllocError>
 {
     push_title(text, &part.part)?;
     push_ended(text, part.ended)?;
-    push_log(text, &part.log.lines)?;
+    write_log(&part.log, text)?;
     text.extend_from_slice(b"done\n")
 }
 

@@ -1,9 +1,10 @@
 //! Certificates as they are written, piece by piece.
 use bundle_core::{Ended, PartLog, Section, Verdict};
 use bundle_text::{write_ending, write_heading, write_section};
+use cnf_core::Lit;
 use enc_theory::{Method, Part};
 use fence_core::Fence;
-use lrat_text::{Log, read_line};
+use log_core::Log;
 use op_basis::Basis;
 use std::alloc::{AllocError, Global};
 use std::test::Fail;
@@ -11,21 +12,17 @@ use tt_core::read_tables;
 
 /// A section of size 0: the whole with no line, refuted, and a fence with one line, open.
 fn section(alloc: Global) -> Result<Section, AllocError> {
-    let mut lines = Vec::new(alloc);
-    if let Ok(line) = read_line(alloc, b"5 2 0 1 2 0") {
-        lines.push(line)?;
-    }
+    let mut log = Log::new(alloc);
+    log.add(5, &[Lit::of(2, true)], &[1, 2])?;
     let whole = PartLog {
         part: Part::Whole,
         ended: Ended::Refuted,
-        log: Log {
-            lines: Vec::new(alloc),
-        },
+        log: Log::new(alloc),
     };
     let fence = PartLog {
         part: Part::Levels(Fence::new(vec![in alloc; 2, 1]?)),
         ended: Ended::Open,
-        log: Log { lines },
+        log,
     };
     Ok(Section {
         size: 0,

@@ -1,7 +1,6 @@
 -- Circuits of which the miter was refuted do the same.
 use Rattle.sat_theory.specs.Log.{Refutes}
 use Rattle.sat_theory.specs.Soundness.{no_assignment}
-use Rattle.lrat_text.specs.Values.{line_values}
 use Rattle.net_theory.specs.Circuit.{Circuit, IsProper}
 use Rattle.net_document.specs.Alike.{AreAlike}
 use Rattle.equiv_theory.specs.Miter.{miter}
@@ -14,6 +13,6 @@ use Rattle.equiv_core.specs.Comparing.{IfEqual}
 
 pub equal_alike : (c k : Circuit) (e : Equiv) → IsProper c → IsProper k → HaveSameInterface c k → IfEqual e (Refutes (miter c.net k.net)) → IfEqual e (λ _. AreAlike c k)
 equal_alike c k (Equal log) of_c of_k same refutes =
-    refuted_alike c k of_c of_k same (λ some. no_assignment (miter c.net k.net) (line_values log.lines.items) some.0 (miter_formula c.net k.net (comparable c k of_c of_k same)) refutes some.1)
+    refuted_alike c k of_c of_k same (λ some. no_assignment (miter c.net k.net) log some.0 (miter_formula c.net k.net (comparable c k of_c of_k same)) refutes some.1)
 equal_alike c k (Differ sink at) of_c of_k same refutes = tt
 equal_alike c k (Undecided log) of_c of_k same refutes = tt

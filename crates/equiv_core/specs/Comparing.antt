@@ -1,13 +1,12 @@
 -- What is answered of two circuits, by cases.
 use Rattle.std.specs.Prelude.{ℕ, Bool, List}
 use Rattle.sat_theory.specs.Line as theory
-use Rattle.lrat_text.specs.Values.{line_values}
 use Rattle.equiv_core.specs.declared.answer.Equiv.{Equiv}
 use Rattle.equiv_core.specs.declared.answer.Equiv.TheVariants.{Equal, Differ, Undecided}
 
 -- a fact about the lines of the log
 abbrev pub IfEqual : Equiv → (List theory.Line → Type 0) → Type 0
-IfEqual (Equal log) P = P (line_values log.lines.items)
+IfEqual (Equal log) P = P log
 IfEqual (Differ sink at) P = Unit {0}
 IfEqual (Undecided log) P = Unit {0}
 
@@ -20,7 +19,7 @@ IfDiffer (Undecided log) P = Unit {0}
 abbrev pub IfUndecided : Equiv → (List theory.Line → Type 0) → Type 0
 IfUndecided (Equal log) P = Unit {0}
 IfUndecided (Differ sink at) P = Unit {0}
-IfUndecided (Undecided log) P = P (line_values log.lines.items)
+IfUndecided (Undecided log) P = P log
 
 abbrev pub IsDecided : Equiv → Type 0
 IsDecided (Equal log) = Unit {0}

@@ -3,7 +3,7 @@ ghost use Rattle.std.specs.Prelude.{◌≡◌};
 ghost use Rattle.equiv_core.specs.declared.answer.EquivError.TheVariants.{Memory};
 
 use cnf_core::Assign;
-use lrat_text::Log;
+use log_core::Log;
 use std::alloc::{AllocError, AllocFailed};
 
 /// Whether two circuits do the same.

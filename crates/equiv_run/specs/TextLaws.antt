@@ -1,19 +1,7 @@
--- The lines of a log and bits, one after the other.
+-- Bits, one after the other.
 use Rattle.std.proofs.Common.{◌≡◌, Bool, List, [], ◌∷◌, ◌++◌, length, refl, arith}
 use Rattle.std.proofs.lemmas.Grind.{common_steps}
-use Rattle.sat_theory.specs.Line as theory
-use Rattle.lrat_text.specs.Spelling.{line_text}
-use Rattle.equiv_run.specs.Texts.{log_text, character, characters, bits_text}
-
-pub log_none : log_text [] ≡ []
-unfolding log_text
-log_none = refl
-
-pub log_more : (l : theory.Line) (ls : List theory.Line) → log_text (l ∷ ls) ≡ line_text l ++ log_text ls
-unfolding log_text
-log_more l ls = refl
-
-pub ruleset logs = (common_steps, log_none, log_more)
+use Rattle.equiv_run.specs.Texts.{character, characters, bits_text}
 
 pub characters_none : characters [] ≡ []
 unfolding characters

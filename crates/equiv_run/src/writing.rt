@@ -1,32 +1,19 @@
 //! The texts that tell how two netlists compare.
 ghost use Rattle.std.specs.Prelude.{◌≡◌, ◌++◌, ◌+◌, ◌≤◌, length, OnOk, IfOk};
-ghost use Rattle.lrat_text.specs.Values.{line_values};
-ghost use Rattle.equiv_run.specs.Texts.{log_text, logged_text, characters, bits_text as bits_text_of, sink_text, differ_text as differ_text_of};
+ghost use Rattle.equiv_run.specs.Texts.{logged_text, characters, bits_text as bits_text_of, sink_text, differ_text as differ_text_of};
 
-use lrat_text::{Line, Log, write_line};
+use log_core::{Log, write_log};
 use net_core::{Latch, Name};
 use std::alloc::{AllocError, Global};
 
-/// Appends the lines of a log.
-#[tactic(auto, using(crate::specs::TextLaws::logs))]
-fn push_log(text: &mut Vec<u8>, lines: &[Line]) -> Result<(), AllocError>
-    ensures { OnOk result (text.new.items ≡ text.old.items ++ log_text (line_values lines.now)) }
-{
-    let mut left = lines;
-    while let Some((line, rest)) = left.split_first() {
-        write_line(line, text)?;
-        left = rest;
-    }
-    Ok(())
-}
-
 /// A word, the lines of a log, and `done`.
+#[tactic(auto, unfolding(crate::specs::Texts::log_text))]
 pub(crate) fn logged_text_of(alloc: Global, word: &[u8], log: &Log) -> Result<Vec<u8>, AllocError>
-    ensures { IfOk result (λ text. text.items ≡ logged_text word.now (line_values log.now.lines.items)) }
+    ensures { IfOk result (λ text. text.items ≡ logged_text word.now log.now) }
 {
     let mut text = Vec::new(alloc);
     text.extend_from_slice(word)?;
-    push_log(&mut text, &log.lines)?;
+    write_log(log, &mut text)?;
     text.extend_from_slice(b"done\n")?;
     Ok(text)
 }

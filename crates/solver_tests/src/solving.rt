@@ -3,7 +3,8 @@ use cdcl_core::{Solved, solve};
 use cnf_core::Cnf;
 use lrat_check::Checker;
 use lrat_tests::building::{clause, formula, push_within};
-use lrat_text::{Line, Log, read_line, write_line};
+use log_core::{Log, write_log};
+use lrat_text::{Line, read_line, write_line};
 use std::alloc::{AllocError, Global};
 
 /// Whether the checker takes a line of a log, as it is written and read again.
@@ -22,8 +23,9 @@ fn is_taken(alloc: Global, checker: &mut Checker, line: &Line) -> Result<bool, A
 /// Whether the checker takes each line of a log, and has then reached the empty clause, or hasn't.
 fn holds(alloc: Global, cnf: Cnf, log: &Log, refuted: bool) -> Result<bool, AllocError> {
     let mut checker = Checker::new(alloc, cnf)?;
-    for line in &log.lines {
-        if !is_taken(alloc, &mut checker, line)? {
+    let mut left = log.lines();
+    while let Some(line) = left.next(alloc)? {
+        if !is_taken(alloc, &mut checker, &line)? {
             return Ok(false);
         }
     }
@@ -106,7 +108,7 @@ fn lines_of_a_log(
     let Solved::Unsat(log) = solve(alloc, &cnf, 1)? else {
         return Ok(None);
     };
-    let lines = log.lines.len();
+    let lines = log.len();
     Ok(holds(alloc, cnf, &log, true)?.then_some(lines))
 }
 
@@ -159,8 +161,8 @@ const NOT_SHORTENED: [&[u8]; 5] = [
 fn learnt_line(alloc: Global, clauses: &[&[u8]]) -> Result<Vec<u8>, AllocError> {
     let mut text = Vec::new(alloc);
     if let Solved::Open(log) = solve(alloc, &formula(alloc, 5, clauses)?, 1)? {
-        if log.lines.len() == 1 {
-            write_line(&log.lines[0], &mut text)?;
+        if log.len() == 1 {
+            write_log(&log, &mut text)?;
         }
     }
     Ok(text)
@@ -226,21 +228,21 @@ struct Counts {
 }
 
 /// Counts what a log adds and deletes.
-fn count_lines(log: &Log) -> Counts {
+fn count_lines(alloc: Global, log: &Log) -> Result<Counts, AllocError> {
     let mut added = 0u64;
     let mut deleted = 0u64;
-    for line in &log.lines {
+    let mut left = log.lines();
+    while let Some(line) = left.next(alloc)? {
         match line {
             Line::Add { .. } => added = added.saturating_add(1),
             Line::Delete { ids, .. } => deleted = deleted.saturating_add(ids.len() as u64),
         }
     }
-    Counts { added, deleted }
+    Ok(Counts { added, deleted })
 }
 
-/// Whether a log of the pigeons keeps half of its additions where it is open, and no more than it may.
-fn is_thrifty(log: &Log, holes: u32, refuted: bool) -> bool {
-    let counts = count_lines(log);
+/// Whether a log of the pigeons with these counts keeps half of its additions where it is open, and no more than it may.
+fn is_thrifty(counts: Counts, holes: u32, refuted: bool) -> bool {
     let live = counts.added.saturating_sub(counts.deleted);
     let vars = u64::from(holes).saturating_mul(u64::from(holes).saturating_add(1));
     let most = counts.added.saturating_mul(3);
@@ -262,8 +264,9 @@ fn pigeons_refuted(alloc: Global, holes: u32, budget: u32) -> Result<Option<bool
         Solved::Unsat(log) => (log, true),
         Solved::Open(log) => (log, false),
     };
-    let enough = refuted || count_lines(&log).added >= u64::from(budget);
-    let well = enough && is_thrifty(&log, holes, refuted) && holds(alloc, cnf, &log, refuted)?;
+    let counts = count_lines(alloc, &log)?;
+    let enough = refuted || counts.added >= u64::from(budget);
+    let well = enough && is_thrifty(counts, holes, refuted) && holds(alloc, cnf, &log, refuted)?;
     Ok(well.then_some(refuted))
 }
 
@@ -284,7 +287,7 @@ fn pigeons_have_no_holes(rt: HostRuntime) -> Result<(), AllocError> {
 /// How many clauses are learnt until the pigeons are refuted; None where they aren't.
 fn clauses_learnt(alloc: Global, holes: u32) -> Result<Option<u64>, AllocError> {
     match solve(alloc, &pigeons(alloc, holes)?, 1000000)? {
-        Solved::Unsat(log) => Ok(Some(count_lines(&log).added)),
+        Solved::Unsat(log) => Ok(Some(count_lines(alloc, &log)?.added)),
         _ => Ok(None),
     }
 }
@@ -332,7 +335,7 @@ fn is_followed(alloc: Global, vars: u32) -> Result<bool, AllocError> {
     let last = format!(in alloc; "1 -{vars} 0 0")?;
     push_within(&mut cnf, clause(alloc, last.as_bytes()))?;
     match solve(alloc, &cnf, 1)? {
-        Solved::Unsat(log) => Ok(log.lines.len() == 1 && holds(alloc, cnf, &log, true)?),
+        Solved::Unsat(log) => Ok(log.len() == 1 && holds(alloc, cnf, &log, true)?),
         _ => Ok(false),
     }
 }
