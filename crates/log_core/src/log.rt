@@ -1,52 +1,73 @@
-//! Logs, stand-in.
-ghost use Rattle.std.specs.Prelude.{◌≡◌, [], ◌∷◌, ◌++◌, length, OnOk, OnErr, IfOk, IfSome, IfNone};
+//! Logs: heads of lines, and one row with the bytes of all lines. That the lengths in the heads add up to the length of
+//! the row is all that has to be known to put a line behind and to take the first one off; the bytes may be any.
+ghost use Rattle.std.specs.Prelude.{◌≡◌, [], ◌∷◌, ◌++◌, length, OnOk, OnErr, IsOkAnd, IfOk, IfSome, IfNone};
 ghost use Rattle.sat_theory.specs.Line as theory;
 ghost use Rattle.lrat_text.specs.Values.{line_value};
 
+use crate::head::Head;
+use crate::packing::{pack_addition, pack_deletion};
+use crate::unpacking::line_in;
 use cnf_core::Lit;
 use lrat_text::Line;
 use std::alloc::{AllocError, Global};
 use std::marker::Model;
 
-/// A log.
+/// A log. It takes some two bytes for each literal and hint, and no allocation for each line.
 #[derive(Drop)]
 pub struct Log {
-    lines: Vec<Line>,
+    heads: Vec<Head>,
+    bytes: Vec<u8>,
 }
 
 impl Model for Log {
     ghost use Rattle.std.specs.Prelude.{List};
     ghost use Rattle.sat_theory.specs.Line as theory;
-    ghost use Rattle.lrat_text.specs.Values.{line_values};
+    ghost use Rattle.log_core.specs.Rows.{lines_in, IsCut};
 
     ghost Value = { List theory.Line };
 
-    ghost view = { λ l. line_values l.lines.items };
+    ghost view = { λ l. lines_in l.heads.items l.bytes.items };
+
+    ghost invariant = { λ l. IsCut l.heads.items l.bytes.items };
 }
 
 /// What is left of a log that is read.
 #[derive(Drop)]
 pub struct Lines<'a> {
-    left: &'a [Line],
+    heads: &'a [Head],
+    bytes: &'a [u8],
 }
 
 impl<'a> Model for Lines<'a> {
     ghost use Rattle.std.specs.Prelude.{List};
     ghost use Rattle.sat_theory.specs.Line as theory;
-    ghost use Rattle.lrat_text.specs.Values.{line_values};
+    ghost use Rattle.log_core.specs.Rows.{lines_in, IsCut};
 
     ghost Value = { List theory.Line };
 
-    ghost view = { λ l. line_values l.left.now };
+    ghost view = { λ l. lines_in l.heads.now l.bytes.now };
+
+    ghost invariant = { λ l. IsCut l.heads.now l.bytes.now };
 }
 
+/// Puts the head of a line that was packed behind the others.
+fn push_head(heads: &mut Vec<Head>, packed: Result<Head, AllocError>) -> Result<(), AllocError>
+    ensures ok { OnOk result (IsOkAnd packed (λ head. heads.new.items ≡ heads.old.items ++ head ∷ [])) }
+    ensures err { OnErr result (heads.new.items ≡ heads.old.items) }
+{
+    heads.push(packed?)?;
+    Ok(())
+}
+
+#[tactic(auto, using(crate::proofs::Shown::shown))]
 impl Log {
     /// A log without a line.
     pub fn new(alloc: Global) -> Log
         ensures { result ≡ [] }
     {
         Log {
-            lines: Vec::new(alloc),
+            heads: Vec::new(alloc),
+            bytes: Vec::new(alloc),
         }
     }
 
@@ -54,29 +75,35 @@ impl Log {
     pub fn len(&self) -> usize
         ensures { result ≡ length self.now }
     {
-        self.lines.len()
+        self.heads.len()
     }
 
-    /// Puts an addition behind the others.
+    /// Puts an addition behind the others. Literals or hints that take more than 4,294,967,295 bytes count as want of
+    /// memory.
     pub fn add(&mut self, id: u32, lits: &[Lit], hints: &[u32]) -> Result<(), AllocError>
         ensures ok { OnOk result (self.new ≡ self.old ++ theory.Add id lits.now hints.now ∷ []) }
         ensures err { OnErr result (self.new ≡ self.old) }
     {
-        let alloc = *self.lines.allocator();
-        let lits = Vec::from_slice(alloc, lits)?;
-        let hints = Vec::from_slice(alloc, hints)?;
-        self.lines.push(Line::Add { id, lits, hints })?;
+        let start = self.bytes.len();
+        let packed = pack_addition(&mut self.bytes, id, lits, hints);
+        if let Err(error) = push_head(&mut self.heads, packed) {
+            self.bytes.truncate(start);
+            return Err(error);
+        }
         Ok(())
     }
 
-    /// Puts a deletion behind the others.
+    /// Puts a deletion behind the others. Ids that take more than 4,294,967,295 bytes count as want of memory.
     pub fn delete(&mut self, id: u32, ids: &[u32]) -> Result<(), AllocError>
         ensures ok { OnOk result (self.new ≡ self.old ++ theory.Delete id ids.now ∷ []) }
         ensures err { OnErr result (self.new ≡ self.old) }
     {
-        let alloc = *self.lines.allocator();
-        let ids = Vec::from_slice(alloc, ids)?;
-        self.lines.push(Line::Delete { id, ids })?;
+        let start = self.bytes.len();
+        let packed = pack_deletion(&mut self.bytes, id, ids);
+        if let Err(error) = push_head(&mut self.heads, packed) {
+            self.bytes.truncate(start);
+            return Err(error);
+        }
         Ok(())
     }
 
@@ -84,10 +111,14 @@ impl Log {
     pub fn lines(&self) -> Lines<'_>
         ensures { result ≡ self.now }
     {
-        Lines { left: &self.lines }
+        Lines {
+            heads: &self.heads,
+            bytes: &self.bytes,
+        }
     }
 }
 
+#[tactic(auto, using(crate::proofs::Shown::shown))]
 impl<'a> Lines<'a> {
     /// The next line. Where memory was wanting, it is still to be read.
     pub fn next(&mut self, alloc: Global) -> Result<Option<Line>, AllocError>
@@ -95,21 +126,13 @@ impl<'a> Lines<'a> {
         ensures some { IfOk result (λ found. IfSome found (λ line. self.old ≡ line_value line ∷ self.new)) }
         ensures err { OnErr result (self.new ≡ self.old) }
     {
-        let Some((line, rest)) = self.left.split_first() else {
+        let Some((head, heads)) = self.heads.split_first() else {
             return Ok(None);
         };
-        let copy = match line {
-            Line::Add { id, lits, hints } => Line::Add {
-                id: *id,
-                lits: Vec::from_slice(alloc, lits)?,
-                hints: Vec::from_slice(alloc, hints)?,
-            },
-            Line::Delete { id, ids } => Line::Delete {
-                id: *id,
-                ids: Vec::from_slice(alloc, ids)?,
-            },
-        };
-        self.left = rest;
-        Ok(Some(copy))
+        let (front, back) = self.bytes.split_at(head.size());
+        let line = line_in(alloc, *head, front)?;
+        self.heads = heads;
+        self.bytes = back;
+        Ok(Some(line))
     }
 }

@@ -1,0 +1,6 @@
+pub mod ReadNumbers
+pub mod ReadLists
+pub mod ReadRows
+pub mod Behind
+pub mod Taken
+pub mod Shown

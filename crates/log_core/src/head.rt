@@ -1,0 +1,24 @@
+//! Heads of lines.
+ghost use Rattle.std.specs.Prelude.{◌≡◌};
+ghost use Rattle.log_core.specs.Rows.{size_of};
+
+/// What the row of bytes has of a line: the lists take so many bytes.
+#[derive(Clone, Copy)]
+pub(crate) enum Head {
+    /// An addition: its literals, and behind them its hints.
+    Add { id: u32, lits: u32, hints: u32 },
+    /// A deletion.
+    Delete { id: u32, ids: u32 },
+}
+
+impl Head {
+    /// How many bytes the line takes.
+    pub(crate) fn size(self) -> usize
+        ensures { result ≡ size_of self }
+    {
+        match self {
+            Head::Add { lits, hints, .. } => lits as usize + hints as usize,
+            Head::Delete { ids, .. } => ids as usize,
+        }
+    }
+}

@@ -1,0 +1,93 @@
+//! Lists put behind a row of bytes, each number at once, with no list made beside.
+ghost use Rattle.std.specs.Prelude.{◌≡◌, ◌-◌, ◌≤◌, ◌++◌, OnOk, IfOk, All};
+ghost use Rattle.sat_theory.specs.Line as theory;
+ghost use Rattle.cnf_core.specs.Bounds.{IsLit};
+ghost use Rattle.cnf_core.specs.Codes.{code_of};
+ghost use Rattle.log_core.specs.Lists.{ids_written, literals_written};
+ghost use Rattle.log_core.specs.Rows.{BeginsAs, IsPacked};
+
+use crate::head::Head;
+use crate::numbers::push_number;
+use crate::steps::step;
+use cnf_core::Lit;
+use std::alloc::AllocError;
+
+/// Puts ids behind a row, each as the step from the one before.
+#[tactic(auto, using(crate::proofs::Behind::packed))]
+pub(crate) fn push_ids(bytes: &mut Vec<u8>, ids: &[u32]) -> Result<(), AllocError>
+    ensures ok { OnOk result (bytes.new.items ≡ bytes.old.items ++ ids_written 0 ids.now) }
+    ensures begins { BeginsAs bytes.old.items bytes.new.items }
+{
+    let mut last = 0u32;
+    for id in ids {
+        push_number(bytes, step(last, *id))?;
+        last = *id;
+    }
+    Ok(())
+}
+
+/// The number that stands for a literal.
+fn number_of(lit: Lit) -> u64
+    ensures value { result ≡ code_of lit }
+    ensures whole { IsLit lit }
+{
+    // That it is a literal is what `get` tells, and not `code`.
+    let _number = lit.get();
+    lit.code() as u64
+}
+
+/// Puts literals behind a row.
+#[tactic(auto, using(crate::proofs::Behind::packed))]
+pub(crate) fn push_literals(bytes: &mut Vec<u8>, lits: &[Lit]) -> Result<(), AllocError>
+    ensures ok { OnOk result (bytes.new.items ≡ bytes.old.items ++ literals_written lits.now) }
+    ensures whole { OnOk result (All IsLit lits.now) }
+    ensures begins { BeginsAs bytes.old.items bytes.new.items }
+{
+    for lit in lits {
+        push_number(bytes, number_of(*lit))?;
+    }
+    Ok(())
+}
+
+/// The length of a part of a row. One above 4,294,967,295 counts as want of memory.
+fn size(start: usize, end: usize) -> Result<u32, AllocError>
+    requires { start ≤ end }
+    ensures { IfOk result (λ size. size ≡ end - start) }
+{
+    if end - start > u32::MAX as usize {
+        return Err(AllocError);
+    }
+    Ok((end - start) as u32)
+}
+
+/// Packs an addition behind a row, and makes its head.
+#[tactic(auto, using(crate::proofs::Behind::behind))]
+pub(crate) fn pack_addition(
+    bytes: &mut Vec<u8>,
+    id: u32,
+    lits: &[Lit],
+    hints: &[u32],
+) -> Result<Head, AllocError>
+    ensures packed { IfOk result (IsPacked bytes.old.items bytes.new.items (theory.Add id lits.now hints.now)) }
+    ensures begins { BeginsAs bytes.old.items bytes.new.items }
+{
+    let start = bytes.len();
+    push_literals(bytes, lits)?;
+    let middle = bytes.len();
+    push_ids(bytes, hints)?;
+    let lits = size(start, middle)?;
+    let hints = size(middle, bytes.len())?;
+    Ok(Head::Add { id, lits, hints })
+}
+
+/// Packs a deletion behind a row, and makes its head.
+#[tactic(auto, using(crate::proofs::Behind::behind))]
+pub(crate) fn pack_deletion(bytes: &mut Vec<u8>, id: u32, ids: &[u32]) -> Result<Head, AllocError>
+    ensures packed { IfOk result (IsPacked bytes.old.items bytes.new.items (theory.Delete id ids.now)) }
+    ensures begins { BeginsAs bytes.old.items bytes.new.items }
+{
+    let start = bytes.len();
+    push_ids(bytes, ids)?;
+    let ids = size(start, bytes.len())?;
+    Ok(Head::Delete { id, ids })
+}

@@ -1,0 +1,22 @@
+//! Steps from one id to the next, as numbers: hints mostly lie near each other, so that most steps take two bytes.
+ghost use Rattle.std.specs.Prelude.{◌≡◌};
+ghost use Rattle.log_core.specs.Lists as spec;
+
+/// The step from one id to the next: one up by d is 2 d, one down by d is 2 d - 1.
+#[tactic(auto, unfolding(crate::specs::Lists::step))]
+pub(crate) fn step(last: u32, id: u32) -> u64
+    ensures { result ≡ spec.step last id }
+{
+    2 * u64::from(last.abs_diff(id)) - u64::from(id < last)
+}
+
+/// The id that a step leads to, kept within 32 bits.
+#[tactic(auto, unfolding(crate::specs::Lists::stepped))]
+pub(crate) fn stepped(last: u32, number: u64) -> u32
+    ensures { result ≡ spec.stepped last number }
+{
+    if number % 2 == 0 {
+        return (u64::from(last) + number / 2).min(4_294_967_295) as u32;
+    }
+    u64::from(last).saturating_sub(number / 2 + 1) as u32
+}

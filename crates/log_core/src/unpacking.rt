@@ -1,0 +1,80 @@
+//! Lists read from bytes. Any bytes spell a list, so that nothing has to be known of a row to read it.
+ghost use Rattle.std.specs.Prelude.{◌≡◌, length, IfOk};
+ghost use Rattle.log_core.specs.Lists as spec;
+ghost use Rattle.log_core.specs.Rows.{size_of, line_in};
+ghost use Rattle.lrat_text.specs.Values.{line_value};
+
+use crate::head::Head;
+use crate::numbers::grown;
+use crate::steps::stepped;
+use cnf_core::Lit;
+use lrat_text::Line;
+use std::alloc::{AllocError, Global};
+
+/// The ids that bytes spell.
+#[tactic(auto, using(crate::proofs::Taken::taken))]
+fn ids_of(alloc: Global, bytes: &[u8]) -> Result<Vec<u32>, AllocError>
+    ensures { IfOk result (λ ids. ids.items ≡ spec.ids_of bytes.now) }
+{
+    let mut ids = Vec::new(alloc);
+    let mut last = 0u32;
+    let mut number = 0u64;
+    for byte in bytes {
+        if *byte >= 128 {
+            number = grown(number, *byte);
+            continue;
+        }
+        last = stepped(last, number * 128 + u64::from(*byte));
+        number = 0;
+        ids.push(last)?;
+    }
+    Ok(ids)
+}
+
+/// The literal that a number stands for, its variable kept within 1 to 2147483647.
+#[tactic(auto, unfolding(crate::specs::Lists::literal_at, crate::specs::Lists::variable_at))]
+fn literal_at(number: u64) -> Lit
+    ensures { result ≡ spec.literal_at number }
+{
+    let variable = (number / 2).min(2_147_483_647).max(1) as u32;
+    Lit::of(variable, number % 2 == 0)
+}
+
+/// The literals that bytes spell.
+#[tactic(auto, using(crate::proofs::Taken::taken))]
+fn literals_of(alloc: Global, bytes: &[u8]) -> Result<Vec<Lit>, AllocError>
+    ensures { IfOk result (λ lits. lits.items ≡ spec.literals_of bytes.now) }
+{
+    let mut lits = Vec::new(alloc);
+    let mut number = 0u64;
+    for byte in bytes {
+        if *byte >= 128 {
+            number = grown(number, *byte);
+            continue;
+        }
+        lits.push(literal_at(number * 128 + u64::from(*byte)))?;
+        number = 0;
+    }
+    Ok(lits)
+}
+
+/// The line of a head and its bytes.
+pub(crate) fn line_in(alloc: Global, head: Head, bytes: &[u8]) -> Result<Line, AllocError>
+    requires { length bytes.now ≡ size_of head }
+    ensures { IfOk result (λ line. line_value line ≡ line_in head bytes.now) }
+{
+    match head {
+        Head::Add { id, lits, hints: _ } => {
+            let (front, back) = bytes.split_at(lits as usize);
+            Ok(Line::Add {
+                id,
+                lits: literals_of(alloc, front)?,
+                hints: ids_of(alloc, back)?,
+            })
+        }
+        Head::Delete { id, ids: _ } => Ok(Line::Delete {
+            id,
+            ids: ids_of(alloc, bytes)?,
+        }),
+    }
+}
