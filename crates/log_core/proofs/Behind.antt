@@ -4,6 +4,7 @@ use Rattle.std.proofs.lemmas.Grind.{common_steps}
 use Rattle.cnf_core.specs.Codes.{code_of}
 use Rattle.log_core.specs.Numbers.{written}
 use Rattle.log_core.specs.Lists.{step, ids_written, literals_written}
+use Rattle.log_core.proofs.ReadNumbers.{far-none}
 use Rattle.log_core.proofs.ReadRows.{begins-same, begins-more, begins-on}
 
 pub ids_written-more : (last id : ℕ) (ids : List ℕ) → ids_written last (id ∷ ids) ≡ written (step last id) ++ ids_written id ids
@@ -22,6 +23,6 @@ pub literals_written-none : literals_written [] ≡ []
 unfolding literals_written
 literals_written-none = refl
 
-pub ruleset behind = (common_steps, begins-same, begins-more, begins-on)
+pub ruleset behind = (common_steps, far-none, begins-same, begins-more, begins-on)
 
 pub ruleset packed = (common_steps, begins-same, begins-on, ids_written-more, ids_written-none, literals_written-more, literals_written-none)

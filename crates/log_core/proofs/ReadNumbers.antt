@@ -2,7 +2,7 @@
 use Rattle.std.proofs.Common.{◌≡◌, ℕ, ◌+◌, ◌*◌, ◌/◌, ◌%◌, ◌<◌, ◌≤◌, List, [], ◌∷◌, ◌++◌, refl, ap, ◌∙◌, arith, append_assoc, eq-eqb}
 use Rattle.std.proofs.Math.Logic.{⊎_elim}
 use Rattle.std.proofs.lemmas.Bool.{lt-ltb, le-ltb, ne_eqb, cases_eq}
-use Rattle.log_core.specs.Numbers.{grown, numbers_from, leading, written}
+use Rattle.log_core.specs.Numbers.{grown, numbers_from, leading, far, written}
 
 -- no number that is read grows too large to go on with
 pub grown-le : (n b : ℕ) → grown n b ≤ 17179869184
@@ -40,22 +40,35 @@ leading-read m n rest before low = ⊎_elim
     (λ (some : n ≡ 0 → ⊥). rw (leading-some n some, before) (numbers_from-more (n / 128) (n % 128 + 128) rest (omega arith) ∙ ap (λ k. numbers_from k rest) (grown_back n low)))
     (cases_eq n 0)
 
+pub far-none : (n : ℕ) → n ≡ 0 → far n ≡ []
+unfolding far
+far-none n none =
+    let third : n / 16384 ≡ 0 = omega arith in
+    let second : n / 128 ≡ 0 = omega arith in
+    rw (leading-none (n / 16384) third, leading-none (n / 128) second, leading-none n none) refl
+
+-- three more digits
+far-read : (n : ℕ) (rest : List ℕ) → n < 2097152 → numbers_from 0 (far n ++ rest) ≡ numbers_from n rest
+unfolding far
+far-read n rest low =
+    ap (numbers_from 0) (pieces (leading (n / 16384)) (leading (n / 128)) (leading n) rest)
+    ∙ leading-read 0 (n / 16384) (leading (n / 128) ++ (leading n ++ rest)) (omega arith) (omega arith)
+    ∙ leading-read (n / 16384) (n / 128) (leading n ++ rest) (omega arith) (omega arith)
+    ∙ leading-read (n / 128) n rest refl (omega arith)
+  where
+    pieces : (a b c rest : List ℕ) → (a ++ b ++ c) ++ rest ≡ a ++ (b ++ (c ++ rest))
+    pieces a b c rest = simp append_assoc
+
 -- the whole number
 pub written-read : (n : ℕ) (rest : List ℕ) → n ≤ 17179869184 → numbers_from 0 (written n ++ rest) ≡ n ∷ numbers_from 0 rest
 unfolding written
 written-read n rest low =
-    let a : ℕ = n / 268435456 in
-    let b : ℕ = n / 2097152 in
-    let c : ℕ = n / 16384 in
-    let d : ℕ = n / 128 in
     let last : List ℕ = (n % 128) ∷ rest in
-    ap (numbers_from 0) (parts (leading a) (leading b) (leading c) (leading d) (n % 128) rest)
-    ∙ leading-read 0 a (leading b ++ (leading c ++ (leading d ++ last))) (omega arith) (omega arith)
-    ∙ leading-read a b (leading c ++ (leading d ++ last)) (omega arith) (omega arith)
-    ∙ leading-read b c (leading d ++ last) (omega arith) (omega arith)
-    ∙ leading-read c d last (omega arith) (omega arith)
-    ∙ numbers_from-last d (n % 128) rest (omega arith)
+    ap (numbers_from 0) (parts (far (n / 16384)) (leading (n / 128)) (n % 128) rest)
+    ∙ far-read (n / 16384) (leading (n / 128) ++ last) (omega arith)
+    ∙ leading-read (n / 16384) (n / 128) last (omega arith) (omega arith)
+    ∙ numbers_from-last (n / 128) (n % 128) rest (omega arith)
     ∙ ap (λ k. k ∷ numbers_from 0 rest) (let whole : n / 128 * 128 + n % 128 ≡ n = omega arith in whole)
   where
-    parts : (a b c d : List ℕ) (e : ℕ) (rest : List ℕ) → (a ++ b ++ c ++ d ++ e ∷ []) ++ rest ≡ a ++ (b ++ (c ++ (d ++ e ∷ rest)))
-    parts a b c d e rest = simp append_assoc
+    parts : (a b : List ℕ) (e : ℕ) (rest : List ℕ) → (a ++ b ++ e ∷ []) ++ rest ≡ a ++ (b ++ e ∷ rest)
+    parts a b e rest = simp append_assoc

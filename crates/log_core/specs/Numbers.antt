@@ -15,6 +15,10 @@ numbers_from n (b ∷ bs) = if nat_lt b 128 then (n * 128 + b) ∷ numbers_from 
 unfoldable pub leading : ℕ → List ℕ
 leading n = if n == 0 then [] else (n % 128 + 128) ∷ []
 
+-- the three digits that a number ends with, none of them the last
+unfoldable pub far : ℕ → List ℕ
+far n = leading (n / 16384) ++ leading (n / 128) ++ leading n
+
 -- a number of at most five digits
 unfoldable pub written : ℕ → List ℕ
-written n = leading (n / 268435456) ++ leading (n / 2097152) ++ leading (n / 16384) ++ leading (n / 128) ++ (n % 128) ∷ []
+written n = far (n / 16384) ++ leading (n / 128) ++ (n % 128) ∷ []

@@ -1,5 +1,7 @@
 -- The lines of a log in one row of bytes, one behind another. A head tells of each line its kind, its id and how many
--- bytes of the row its lists take, so that where the row is cut doesn't depend on what stands in it.
+-- bytes of the row its lists take, so that where the row is cut doesn't depend on what stands in it. Example: the heads
+-- Add 5 1 2 and Delete 6 1 cut the row 6, 14, 4, 8 into the line that adds 3 by the hints 7, 9 under the id 5, and the
+-- line that deletes 4.
 use Rattle.std.specs.Prelude.{◌≡◌, ℕ, ◌+◌, List, [], ◌∷◌, ◌++◌, length, take, drop}
 use Rattle.sat_theory.specs.Line as theory
 use Rattle.log_core.specs.declared.head.Head.{Head}

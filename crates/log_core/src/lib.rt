@@ -1,5 +1,6 @@
 //! Refutation logs as the search for them leaves them: lines are put behind, and read from the front. Contracts see a
-//! log as the list of its lines, as the definitions of logs have them.
+//! log as the list of its lines, as the definitions of logs have them. It is kept as bytes: a hint mostly takes two, as
+//! the step from the one before, and a literal as many as its variable needs.
 //!
 //! ```text
 //! let mut log = Log::new(alloc);

@@ -12,7 +12,7 @@ use lrat_text::Line;
 use std::alloc::{AllocError, Global};
 use std::marker::Model;
 
-/// A log. It takes about two bytes for each literal and hint, and no allocation for each line.
+/// A log. It takes some two bytes for each literal and hint, and no allocation for each line.
 #[derive(Drop)]
 pub struct Log {
     heads: Vec<Head>,

@@ -2,7 +2,7 @@
 //! wanting begins as it was, so that it can be cut back.
 ghost use Rattle.std.specs.Prelude.{◌≡◌, ◌++◌, ◌≤◌, OnOk};
 ghost use Rattle.log_core.specs.Numbers as spec;
-ghost use Rattle.log_core.specs.Numbers.{leading, written};
+ghost use Rattle.log_core.specs.Numbers.{leading, far, written};
 ghost use Rattle.log_core.specs.Rows.{BeginsAs};
 
 use std::alloc::AllocError;
@@ -20,15 +20,28 @@ fn push_leading(bytes: &mut Vec<u8>, number: u64) -> Result<(), AllocError>
     Ok(())
 }
 
+/// Puts the three digits that a number ends with behind a row, none of them as the last. Few numbers have them.
+#[tactic(auto, using(crate::proofs::Behind::behind), unfolding(crate::specs::Numbers::far))]
+fn push_far(bytes: &mut Vec<u8>, number: u64) -> Result<(), AllocError>
+    ensures ok { OnOk result (bytes.new.items ≡ bytes.old.items ++ far number) }
+    ensures begins { BeginsAs bytes.old.items bytes.new.items }
+{
+    if number == 0 {
+        return Ok(());
+    }
+    push_leading(bytes, number / 16_384)?;
+    push_leading(bytes, number / 128)?;
+    push_leading(bytes, number)?;
+    Ok(())
+}
+
 /// Puts a number behind a row.
 #[tactic(auto, using(crate::proofs::Behind::behind), unfolding(crate::specs::Numbers::written))]
 pub(crate) fn push_number(bytes: &mut Vec<u8>, number: u64) -> Result<(), AllocError>
     ensures ok { OnOk result (bytes.new.items ≡ bytes.old.items ++ written number) }
     ensures begins { BeginsAs bytes.old.items bytes.new.items }
 {
-    push_leading(bytes, number / 268_435_456)?;
-    push_leading(bytes, number / 2_097_152)?;
-    push_leading(bytes, number / 16_384)?;
+    push_far(bytes, number / 16_384)?;
     push_leading(bytes, number / 128)?;
     bytes.push((number % 128) as u8)?;
     Ok(())

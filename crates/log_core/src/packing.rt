@@ -31,6 +31,7 @@ fn number_of(lit: Lit) -> u64
     ensures value { result ≡ code_of lit }
     ensures whole { IsLit lit }
 {
+    // That it is a literal is what `get` tells, and not `code`.
     let _number = lit.get();
     lit.code() as u64
 }

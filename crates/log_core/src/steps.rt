@@ -7,10 +7,7 @@ ghost use Rattle.log_core.specs.Lists as spec;
 pub(crate) fn step(last: u32, id: u32) -> u64
     ensures { result ≡ spec.step last id }
 {
-    if last <= id {
-        return 2 * u64::from(id - last);
-    }
-    2 * u64::from(last - id) - 1
+    2 * u64::from(last.abs_diff(id)) - u64::from(id < last)
 }
 
 /// The id that a step leads to, kept within 32 bits.

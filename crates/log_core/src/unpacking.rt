@@ -1,5 +1,5 @@
 //! Lists read from bytes. Any bytes spell a list, so that nothing has to be known of a row to read it.
-ghost use Rattle.std.specs.Prelude.{◌≡◌, ◌≤◌, ◌==◌, max, min, ◌/◌, ◌%◌, length, IfOk};
+ghost use Rattle.std.specs.Prelude.{◌≡◌, length, IfOk};
 ghost use Rattle.log_core.specs.Lists as spec;
 ghost use Rattle.log_core.specs.Rows.{size_of, line_in};
 ghost use Rattle.lrat_text.specs.Values.{line_value};
