@@ -1,5 +1,5 @@
 use Rattle.std.proofs.Common.{length}
 use Rattle.solver_tests.proofs.solving.holds.Given as goal
 
-abbrev pub decreases-loop-line : goal.decreases-loop-line
-decreases-loop-line l = length l.left
+abbrev pub decreases-loop-checker : goal.decreases-loop-checker
+decreases-loop-checker l = length l.left
