@@ -1,28 +1,27 @@
 -- The cubes of tables that join all their inputs, one after the other.
 use Rattle.std.proofs.Common.{◌≡◌, ℕ, zero, suc, ◌+◌, ◌<◌, List, [], ◌∷◌, ◌++◌, map, refl, sym, ap, ◌∙◌, arith, append_assoc}
-use Rattle.std.specs.Prelude.{◌-◌}
+use Rattle.std.specs.Prelude.{◌-◌, replicate, slice_set}
 use Rattle.std.specs.List.{flat_map}
 use Rattle.std.proofs.lemmas.Grind.{common_steps}
 use Rattle.net_theory.specs.Whole.{ones, dashes, single_ones}
 
--- what is left of a cube of ones, and of dashes
-pub ones-step : (width i : ℕ) → i < width → ones (width - i) ≡ 49 ∷ ones (width - (i + 1))
-ones-step width i low = let e : width - i ≡ suc (width - (i + 1)) = omega arith in ap ones e
+-- cubes of one byte, and with one place set
+pub same-ones : (width : ℕ) → replicate width 49 ≡ ones width
+same-ones zero = refl
+same-ones (suc width) = ap (λ (xs : List ℕ). 49 ∷ xs) (same-ones width)
 
-pub dashes-step : (width i : ℕ) → i < width → dashes (width - i) ≡ 45 ∷ dashes (width - (i + 1))
-dashes-step width i low = let e : width - i ≡ suc (width - (i + 1)) = omega arith in ap dashes e
+same-dashes : (width : ℕ) → replicate width 45 ≡ dashes width
+same-dashes zero = refl
+same-dashes (suc width) = ap (λ (xs : List ℕ). 45 ∷ xs) (same-dashes width)
 
-pub ones-all : (width : ℕ) → ones (width - 0) ≡ ones width
-ones-all width = let e : width - 0 ≡ width = omega arith in ap ones e
+pub same-single : (width i : ℕ) → i < width → slice_set (replicate width 45) i 49 ≡ dashes i ++ 49 ∷ dashes (width - i - 1)
+same-single zero i low = absurd (omega arith)
+same-single (suc width) zero low = let e : width ≡ suc width - 0 - 1 = omega arith in ap (λ (xs : List ℕ). 49 ∷ xs) (same-dashes width ∙ ap dashes e)
+same-single (suc width) (suc i) low =
+    let e : width - i - 1 ≡ suc width - suc i - 1 = omega arith in
+    ap (λ (xs : List ℕ). 45 ∷ xs) (same-single width i (omega arith) ∙ ap (λ (n : ℕ). dashes i ++ 49 ∷ dashes n) e)
 
-pub dashes-all : (width : ℕ) → dashes (width - 0) ≡ dashes width
-dashes-all width = let e : width - 0 ≡ width = omega arith in ap dashes e
-
-pub ones-none : (width : ℕ) → ones (width - width) ≡ []
-ones-none width = let e : width - width ≡ 0 = omega arith in ap ones e
-
-pub dashes-none : (width : ℕ) → dashes (width - width) ≡ []
-dashes-none width = let e : width - width ≡ 0 = omega arith in ap dashes e
+pub ruleset cubes = (common_steps, same-ones, same-single)
 
 dashes-last : (i : ℕ) → dashes i ++ 45 ∷ [] ≡ dashes (suc i)
 dashes-last zero = refl
@@ -63,4 +62,4 @@ lines-all line width = let e : width - 0 ≡ width = omega arith in ap (λ (n : 
 pub lines-none : (line : List ℕ → List ℕ) (width : ℕ) → lines_left line width width ≡ []
 lines-none line width = let e : width - width ≡ 0 = omega arith in ap (λ (n : ℕ). flat_map line (behind width (single_ones n))) e
 
-pub ruleset rows = (common_steps, ones-step, dashes-step, ones-all, dashes-all, ones-none, dashes-none, lines-step, lines-all, lines-none)
+pub ruleset rows = (common_steps, lines-step, lines-all, lines-none)

@@ -55,6 +55,11 @@ abbrev pub digit_text : Bool → ℕ
 digit_text true = 49
 digit_text false = 48
 
+-- a cube and a blank, where it isn't empty
+abbrev pub cube_text : List ℕ → List ℕ
+cube_text [] = []
+cube_text (b ∷ bs) = (b ∷ bs) ++ 32 ∷ []
+
 -- a cover line; that of a table without inputs has its value alone
 abbrev pub row_text : Bool → List ℕ → List ℕ
 row_text on [] = digit_text on ∷ 10 ∷ []
@@ -66,6 +71,10 @@ table_text t = codes ".names" ++ words_text t.inputs ++ word_text t.output ++ 10
 
 abbrev pub model_text : Name → List ℕ
 model_text model = codes ".model" ++ word_text model ++ 10 ∷ []
+
+-- model, inputs, outputs and clocks
+abbrev pub heading_text : Document → List ℕ
+heading_text d = model_text d.model ++ list_text (codes ".inputs") d.inputs ++ list_text (codes ".outputs") d.outputs ++ clocks_text d.clocks
 
 -- model, inputs, outputs, clocks, latches, tables and the end
 unfoldable pub spelled : Document → List ℕ

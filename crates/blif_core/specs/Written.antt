@@ -123,6 +123,10 @@ driven_before c = each_once [] (sources_of c ++ gate_names c)
 abbrev pub tables_of : Circuit → List Table
 tables_of c = gate_tables (place_name c) c.net.gates (gate_names c) ++ constant_tables c ++ output_tables (place_name c) (driven_before c) c.outputs c.net.sinks
 
+-- the document of a circuit, but for its latches and tables
+abbrev pub heading : Circuit → Document
+heading c = record { model = c.model; inputs = c.inputs; outputs = c.outputs; clocks = c.clocks; latches = []; tables = [] }
+
 -- The gates in the order of their places, then the constants that latches need, then the outputs whose
 -- names weren't written. A gate on which an output sits has the first such output's name.
 -- Example: of XOR of a and b with the outputs y and z it is `.names a b y` with `01 1` and `10 1`, and

@@ -1,7 +1,7 @@
 //! The cover lines of tables that join all their inputs: one for AND, and one for each input for OR. A
 //! parity has none.
 
-ghost use Rattle.std.specs.Prelude.{◌≡◌, ◌+◌, ◌-◌, ◌<◌, ◌∷◌, ◌++◌, OnOk, IfOk};
+ghost use Rattle.std.specs.Prelude.{◌≡◌, ◌-◌, ◌<◌, ◌∷◌, ◌++◌, OnOk, IfOk};
 ghost use Rattle.std.specs.List.{flat_map};
 ghost use Rattle.net_theory.specs.Whole.{ones as ones_of, dashes, single_ones};
 ghost use Rattle.net_core.specs.Wholes.{whole_cover};
@@ -12,37 +12,21 @@ use net_core::{Connective, Whole};
 use std::alloc::{AllocError, Global};
 
 /// The cube that asks each input for 1.
-#[tactic(auto, using(crate::proofs::JoinedRows::rows))]
+#[tactic(auto, using(crate::proofs::JoinedRows::cubes))]
 fn ones(alloc: Global, width: u32) -> Result<Vec<u8>, AllocError>
     ensures { IfOk result (λ cube. cube.items ≡ ones_of width) }
 {
-    let mut cube = Vec::new(alloc);
-    for _place in 0..width {
-        cube.push(b'1')?;
-    }
-    Ok(cube)
-}
-
-/// Adds a byte for each of so many inputs, which asks for nothing.
-#[tactic(auto, using(crate::proofs::JoinedRows::rows))]
-fn push_dashes(cube: &mut Vec<u8>, width: u32) -> Result<(), AllocError>
-    ensures { OnOk result (cube.new.items ≡ cube.old.items ++ dashes width) }
-{
-    for _place in 0..width {
-        cube.push(b'-')?;
-    }
-    Ok(())
+    Ok(vec![in alloc; b'1'; width as usize]?)
 }
 
 /// The cube that asks one input for 1, the first at 0.
+#[tactic(auto, using(crate::proofs::JoinedRows::cubes))]
 fn single(alloc: Global, width: u32, place: u32) -> Result<Vec<u8>, AllocError>
     requires { place < width }
     ensures { IfOk result (λ cube. cube.items ≡ dashes place ++ 49 ∷ dashes (width - place - 1)) }
 {
-    let mut cube = Vec::new(alloc);
-    push_dashes(&mut cube, place)?;
-    cube.push(b'1')?;
-    push_dashes(&mut cube, width - place - 1)?;
+    let mut cube = vec![in alloc; b'-'; width as usize]?;
+    cube[place as usize] = b'1';
     Ok(cube)
 }
 

@@ -1,7 +1,8 @@
 //! Documents as texts.
 
-ghost use Rattle.std.specs.Prelude.{◌≡◌, ◌+◌, ◌++◌, All, OnOk, OnErr};
+ghost use Rattle.std.specs.Prelude.{◌≡◌, ◌+◌, ◌≤◌, ◌∷◌, ◌++◌, List, All, IfOk, OnOk, OnErr};
 ghost use Rattle.std.specs.List.{flat_map};
+ghost use Rattle.net_theory.specs.Document.{Name};
 ghost use Rattle.net_theory.specs.WellFormed.{IsInit};
 ghost use Rattle.blif_core.specs.Spelling.{HasInit};
 ghost use Rattle.blif_core.specs.Spelling as spelling;
@@ -32,25 +33,40 @@ fn push_words(text: &mut Vec<u8>, names: &[Name]) -> Result<(), AllocError>
     Ok(())
 }
 
+/// Adds a name to a line of so many, or to another one behind 16, and tells how many the line has then.
+#[tactic(auto, unfolding(crate::specs::Spelling::rest_text))]
+fn push_name(
+    text: &mut Vec<u8>,
+    keyword: &[u8],
+    count: usize,
+    name: &[u8],
+) -> Result<usize, AllocError>
+    requires { count ≤ 16 }
+    ensures text { IfOk result (λ n. (names : List Name) →
+        text.new.items ++ spelling.rest_text keyword.now n names
+        ≡ text.old.items ++ spelling.rest_text keyword.now count (name.now ∷ names)) }
+    ensures few { IfOk result (λ n. n ≤ 16) }
+{
+    if count < 16 {
+        push_word(text, name)?;
+        return Ok(count + 1);
+    }
+    text.push(b'\n')?;
+    text.extend_from_slice(keyword)?;
+    push_word(text, name)?;
+    Ok(1)
+}
+
 /// Adds names under a keyword, 16 on a line.
 #[tactic(auto, unfolding(crate::specs::Spelling::rest_text))]
 fn push_list(text: &mut Vec<u8>, keyword: &[u8], names: &[Name]) -> Result<(), AllocError>
     ensures { OnOk result (text.new.items ≡ text.old.items ++ spelling.list_text keyword.now names.now) }
 {
     text.extend_from_slice(keyword)?;
-    let mut count: usize = 0;
+    let mut count = 0;
     let mut left = names;
     while let Some((name, rest)) = left.split_first() {
-        if count == 16 {
-            text.push(b'\n')?;
-            text.extend_from_slice(keyword)?;
-            push_word(text, name.get())?;
-            count = 1;
-            left = rest;
-            continue;
-        }
-        push_word(text, name.get())?;
-        count += 1;
+        count = push_name(text, keyword, count, name.get())?;
         left = rest;
     }
     text.push(b'\n')?;
@@ -125,17 +141,22 @@ fn digit(on: bool) -> u8
     if on { b'1' } else { b'0' }
 }
 
+/// Adds a cube and a blank; nothing where the cube is empty.
+fn push_cube(text: &mut Vec<u8>, cube: &[u8]) -> Result<(), AllocError>
+    ensures { OnOk result (text.new.items ≡ text.old.items ++ spelling.cube_text cube.now) }
+{
+    if !cube.is_empty() {
+        text.extend_from_slice(cube)?;
+        text.push(b' ')?;
+    }
+    Ok(())
+}
+
 /// Adds a cover line.
 pub fn push_row(text: &mut Vec<u8>, on: bool, cube: &[u8]) -> Result<(), AllocError>
     ensures { OnOk result (text.new.items ≡ text.old.items ++ spelling.row_text on cube.now) }
 {
-    if cube.is_empty() {
-        text.push(digit(on))?;
-        text.push(b'\n')?;
-        return Ok(());
-    }
-    text.extend_from_slice(cube)?;
-    text.push(b' ')?;
+    push_cube(text, cube)?;
     text.push(digit(on))?;
     text.push(b'\n')?;
     Ok(())
@@ -202,16 +223,24 @@ fn push_model(text: &mut Vec<u8>, model: &[u8]) -> Result<(), AllocError>
     Ok(())
 }
 
+/// Adds the lines of the model and of inputs, outputs and clocks.
+fn push_heading(text: &mut Vec<u8>, document: &Document) -> Result<(), AllocError>
+    ensures { OnOk result (text.new.items ≡ text.old.items ++ spelling.heading_text document.now) }
+{
+    push_model(text, document.model.get())?;
+    push_list(text, b".inputs", &document.inputs)?;
+    push_list(text, b".outputs", &document.outputs)?;
+    push_clocks(text, &document.clocks)?;
+    Ok(())
+}
+
 /// Adds the lines of a document.
 #[tactic(auto, unfolding(crate::specs::Spelling::spelled))]
 fn push_document(text: &mut Vec<u8>, document: &Document) -> Result<(), AllocError>
     requires { All HasInit document.now.latches }
     ensures { OnOk result (text.new.items ≡ text.old.items ++ spelling.spelled document.now) }
 {
-    push_model(text, document.model.get())?;
-    push_list(text, b".inputs", &document.inputs)?;
-    push_list(text, b".outputs", &document.outputs)?;
-    push_clocks(text, &document.clocks)?;
+    push_heading(text, document)?;
     push_latches(text, &document.latches)?;
     push_tables(text, &document.tables)?;
     text.extend_from_slice(b".end\n")?;

@@ -1,10 +1,11 @@
 //! The document that stands for a circuit where it is written.
 
-ghost use Rattle.std.specs.Prelude.{◌≡◌, ◌++◌, if◌then◌else◌, OnOk, IfOk};
+ghost use Rattle.std.specs.Prelude.{◌≡◌, ◌∷◌, ◌++◌, if◌then◌else◌, List, OnOk, IfOk};
 ghost use Rattle.std.specs.List.{list_any};
-ghost use Rattle.net_theory.specs.Document.{has};
-ghost use Rattle.net_theory.specs.Circuit.{IsProper};
-ghost use Rattle.net_theory.specs.Naming.{gate_names, first_spare, second_spare, place_name as place_name_of};
+ghost use Rattle.net_theory.specs.declared.data.Sig.{Sig};
+ghost use Rattle.net_theory.specs.Document.{Name, has};
+ghost use Rattle.net_theory.specs.Circuit.{IsProper, sources_of};
+ghost use Rattle.net_theory.specs.Naming.{each_once, gate_names, first_spare, second_spare, place_name as place_name_of};
 ghost use Rattle.net_core.specs.Names.{HasRoom};
 ghost use Rattle.blif_core.specs.Written as written;
 ghost use Rattle.blif_core.specs.Written.{output_tables as output_tables_of, is_zero as is_zero_of};
@@ -150,28 +151,29 @@ fn copied_latch(latch: &Latch) -> Result<Latch, AllocError>
     })
 }
 
-/// The latches, each with the name of its input.
+/// Adds the latches, each with the name of its input.
 #[tactic(auto, unfolding(crate::specs::Written::latch_lines))]
-fn latch_lines(
+fn push_latches(
     alloc: Global,
     circuit: &Circuit,
     names: &GateNames,
-    is_zero_needed: bool,
     latches: &[Latch],
-    sinks: &[Sig],
-) -> Result<Vec<LatchLine>, AllocError>
+    lines: &mut Vec<LatchLine>,
+) -> Result<(), AllocError>
+    requires proper { IsProper circuit.now }
     requires gates { names.now.names.items ≡ gate_names circuit.now }
     requires first { names.now.first_spare ≡ first_spare circuit.now }
     requires second { names.now.second_spare ≡ second_spare circuit.now }
-    requires zero { is_zero_needed ≡ list_any is_zero_of (next_states circuit.now) }
-    ensures { IfOk result (λ lines. lines.items ≡ written.latch_lines (sig_name_of circuit.now) latches.now sinks.now) }
+    ensures { OnOk result
+        (lines.new.items ≡ lines.old.items ++ written.latch_lines (sig_name_of circuit.now) latches.now (next_states circuit.now)) }
 {
-    let mut lines = Vec::new(alloc);
+    let sinks = latch_sinks(circuit);
+    let is_zero_needed = has_zero(sinks);
     let mut left = latches;
     let mut left_sinks = sinks;
     while let Some((latch, rest)) = left.split_first() {
         let Some((sink, rest_sinks)) = left_sinks.split_first() else {
-            return Ok(lines);
+            return Ok(());
         };
         let name = sig_name(circuit, names, is_zero_needed, *sink);
         lines.push(LatchLine {
@@ -181,7 +183,7 @@ fn latch_lines(
         left = rest;
         left_sinks = rest_sinks;
     }
-    Ok(lines)
+    Ok(())
 }
 
 /// Adds a constant, where it is needed.
@@ -252,8 +254,32 @@ fn output_table(
     }
 }
 
-/// Adds the outputs whose names weren't written.
+/// Adds an output, unless its name was written.
 #[tactic(auto, unfolding(crate::specs::Written::output_tables, net_theory::specs::Document::has))]
+fn push_output(
+    alloc: Global,
+    circuit: &Circuit,
+    names: &[Name],
+    done: &mut IndexSet<Name>,
+    output: &Name,
+    sink: Sig,
+    tables: &mut Vec<Table>,
+) -> Result<(), AllocError>
+    requires { names.now ≡ gate_names circuit.now }
+    ensures { OnOk result ((os : List Name) (sinks : List Sig)
+        → tables.new.items ++ output_tables_of (place_name_of circuit.now) done.new.keys os sinks
+        ≡ tables.old.items ++ output_tables_of (place_name_of circuit.now) done.old.keys (output.now ∷ os) (sink ∷ sinks)) }
+{
+    if done.contains(output) {
+        return Ok(());
+    }
+    tables.push(output_table(alloc, circuit, names, output.get(), sink)?)?;
+    done.insert(output.copied()?)?;
+    Ok(())
+}
+
+/// Adds the outputs whose names weren't written.
+#[tactic(auto, unfolding(crate::specs::Written::output_tables))]
 fn push_outputs(
     alloc: Global,
     circuit: &Circuit,
@@ -273,65 +299,105 @@ fn push_outputs(
         let Some((sink, rest_sinks)) = left_sinks.split_first() else {
             return Ok(());
         };
+        push_output(alloc, circuit, names, done, output, *sink, tables)?;
         left = rest;
         left_sinks = rest_sinks;
-        if done.contains(output) {
-            continue;
-        }
-        tables.push(output_table(alloc, circuit, names, output.get(), *sink)?)?;
-        done.insert(output.copied()?)?;
     }
     Ok(())
 }
 
-/// The names of the sources and of the gates.
+/// Takes the names of the sources and of the gates.
 #[tactic(auto, using(crate::proofs::Constants::sets))]
-fn written_names(
+fn take_written(
+    circuit: &Circuit,
+    names: &[Name],
+    written: &mut IndexSet<Name>,
+) -> Result<(), AllocError>
+    requires { names.now ≡ gate_names circuit.now }
+    ensures { OnOk result (written.new.keys ≡ each_once written.old.keys (sources_of circuit.now ++ gate_names circuit.now)) }
+{
+    take_names(written, &circuit.inputs)?;
+    take_latches(written, &circuit.latches)?;
+    take_names(written, names)?;
+    Ok(())
+}
+
+/// Adds the outputs whose names neither a source nor a gate has.
+fn push_others(
     alloc: Global,
     circuit: &Circuit,
     names: &[Name],
-) -> Result<IndexSet<Name>, AllocError>
+    tables: &mut Vec<Table>,
+) -> Result<(), AllocError>
     requires { names.now ≡ gate_names circuit.now }
-    ensures { IfOk result (λ set. set.keys ≡ written.driven_before circuit.now) }
+    ensures { OnOk result
+        (tables.new.items ≡ tables.old.items
+        ++ output_tables_of (place_name_of circuit.now) (written.driven_before circuit.now) circuit.now.outputs circuit.now.net.sinks) }
 {
     let mut written = IndexSet::new(alloc);
-    take_names(&mut written, &circuit.inputs)?;
-    take_latches(&mut written, &circuit.latches)?;
-    take_names(&mut written, names)?;
-    Ok(written)
-}
-
-/// The tables of a circuit: gates, constants that latches need, and outputs whose names weren't written.
-fn tables_of(alloc: Global, circuit: &Circuit, names: &GateNames) -> Result<Vec<Table>, AllocError>
-    requires proper { IsProper circuit.now }
-    requires gates { names.now.names.items ≡ gate_names circuit.now }
-    requires first { names.now.first_spare ≡ first_spare circuit.now }
-    requires second { names.now.second_spare ≡ second_spare circuit.now }
-    ensures { IfOk result (λ tables. tables.items ≡ written.tables_of circuit.now) }
-{
-    let gates = &names.names;
-    let mut tables = Vec::new(alloc);
-    push_gates(
-        alloc,
-        circuit,
-        gates,
-        circuit.net.gates(),
-        gates,
-        &mut tables,
-    )?;
-    push_constants(alloc, circuit, names, &mut tables)?;
-    let mut written = written_names(alloc, circuit, gates)?;
+    take_written(circuit, names, &mut written)?;
     let sinks = circuit.net.sinks();
     push_outputs(
         alloc,
         circuit,
-        gates,
+        names,
         &mut written,
         &circuit.outputs,
         sinks,
-        &mut tables,
-    )?;
-    Ok(tables)
+        tables,
+    )
+}
+
+/// Adds the tables of a circuit: gates, constants that latches need, and outputs whose names weren't written.
+fn push_tables(
+    alloc: Global,
+    circuit: &Circuit,
+    names: &GateNames,
+    tables: &mut Vec<Table>,
+) -> Result<(), AllocError>
+    requires proper { IsProper circuit.now }
+    requires gates { names.now.names.items ≡ gate_names circuit.now }
+    requires first { names.now.first_spare ≡ first_spare circuit.now }
+    requires second { names.now.second_spare ≡ second_spare circuit.now }
+    ensures { OnOk result (tables.new.items ≡ tables.old.items ++ written.tables_of circuit.now) }
+{
+    let gates = &names.names;
+    push_gates(alloc, circuit, gates, circuit.net.gates(), gates, tables)?;
+    push_constants(alloc, circuit, names, tables)?;
+    push_others(alloc, circuit, gates, tables)
+}
+
+/// Adds the latches and the tables of a circuit, under the names that `gate_names` tells.
+fn push_lists(
+    alloc: Global,
+    circuit: &Circuit,
+    lines: &mut Vec<LatchLine>,
+    tables: &mut Vec<Table>,
+) -> Result<(), AllocError>
+    requires { IsProper circuit.now }
+    ensures lines { OnOk result
+        (lines.new.items ≡ lines.old.items
+        ++ written.latch_lines (sig_name_of circuit.now) circuit.now.latches (next_states circuit.now)) }
+    ensures tables { OnOk result (tables.new.items ≡ tables.old.items ++ written.tables_of circuit.now) }
+    ensures room { OnOk result (HasRoom circuit.now) }
+{
+    let names = all_names(alloc, circuit)?;
+    push_tables(alloc, circuit, &names, tables)?;
+    push_latches(alloc, circuit, &names, &circuit.latches, lines)
+}
+
+/// The document of a circuit, but for its latches and tables.
+fn heading(alloc: Global, circuit: &Circuit) -> Result<Document, AllocError>
+    ensures { IfOk result (λ d. d ≡ written.heading circuit.now) }
+{
+    Ok(Document {
+        model: circuit.model.copied()?,
+        inputs: copies(alloc, &circuit.inputs)?,
+        outputs: copies(alloc, &circuit.outputs)?,
+        clocks: copies(alloc, &circuit.clocks)?,
+        latches: Vec::new(alloc),
+        tables: Vec::new(alloc),
+    })
 }
 
 /// The document as which a circuit is written: the gates in the order of their places under the names
@@ -342,23 +408,7 @@ pub fn document_of(alloc: Global, circuit: &Circuit) -> Result<Document, AllocEr
     ensures written { IfOk result (λ d. d ≡ written.written circuit.now) }
     ensures room { IfOk result (λ _. HasRoom circuit.now) }
 {
-    let names = all_names(alloc, circuit)?;
-    let tables = tables_of(alloc, circuit, &names)?;
-    let sinks = latch_sinks(circuit);
-    let latches = latch_lines(
-        alloc,
-        circuit,
-        &names,
-        has_zero(sinks),
-        &circuit.latches,
-        sinks,
-    )?;
-    Ok(Document {
-        model: circuit.model.copied()?,
-        inputs: copies(alloc, &circuit.inputs)?,
-        outputs: copies(alloc, &circuit.outputs)?,
-        clocks: copies(alloc, &circuit.clocks)?,
-        latches,
-        tables,
-    })
+    let mut document = heading(alloc, circuit)?;
+    push_lists(alloc, circuit, &mut document.latches, &mut document.tables)?;
+    Ok(document)
 }

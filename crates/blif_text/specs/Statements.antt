@@ -82,12 +82,20 @@ unfoldable pub table_of : ℕ → List (List ℕ) → Result Table NetError
 table_of line [] = Err (Syntax line)
 table_of line (w ∷ ws) = if nat_lt 256 (length ws) then Err (TooWide line) else (if are_names (w ∷ ws) then Ok (empty_table (front_of w ws) (last_of w ws)) else Err (Syntax line))
 
+-- what a table drives and uses
+abbrev pub with_table_names : Said → Table → Said
+with_table_names s t = record s { driven = s.driven ++ t.output ∷ []; used = s.used ++ t.inputs }
+
 abbrev pub with_table : Said → Table → Said
 with_table s t = record s { current = Some t; driven = s.driven ++ t.output ∷ []; used = s.used ++ t.inputs }
 
 abbrev pub control_at : ℕ → Option (Trigger × Name) → List Control
 control_at line None = []
 control_at line (Some c) = record { line = line; name = c.1 } ∷ []
+
+-- what a latch drives and uses, and its control
+abbrev pub with_latch_names : ℕ → Said → LatchLine → Said
+with_latch_names line s l = record s { driven = s.driven ++ l.latch.output ∷ []; used = s.used ++ l.input ∷ []; controls = s.controls ++ control_at line l.latch.control }
 
 abbrev pub with_latch : ℕ → Said → LatchLine → Said
 with_latch line s l = record s { latches = s.latches ++ l ∷ []; driven = s.driven ++ l.latch.output ∷ []; used = s.used ++ l.input ∷ []; controls = s.controls ++ control_at line l.latch.control }

@@ -3,6 +3,8 @@
 ghost use Rattle.std.specs.Prelude.{◌≡◌};
 ghost use Rattle.blif_text.specs.Statements.{keyword_of as keyword_of_word};
 
+use crate::words::is_word;
+
 /// The first words of BLIF statements.
 #[derive(Clone, Copy)]
 pub enum Keyword {
@@ -29,19 +31,19 @@ pub enum Keyword {
 pub fn keyword_of(word: &[u8]) -> Keyword
     ensures { result ≡ keyword_of_word word.now }
 {
-    if word == b".model".as_slice() {
+    if is_word(word, b".model") {
         Keyword::Model
-    } else if word == b".inputs".as_slice() {
+    } else if is_word(word, b".inputs") {
         Keyword::Inputs
-    } else if word == b".outputs".as_slice() {
+    } else if is_word(word, b".outputs") {
         Keyword::Outputs
-    } else if word == b".clock".as_slice() {
+    } else if is_word(word, b".clock") {
         Keyword::Clock
-    } else if word == b".names".as_slice() {
+    } else if is_word(word, b".names") {
         Keyword::Names
-    } else if word == b".latch".as_slice() {
+    } else if is_word(word, b".latch") {
         Keyword::Latch
-    } else if word == b".end".as_slice() {
+    } else if is_word(word, b".end") {
         Keyword::End
     } else {
         Keyword::Unknown

@@ -7,7 +7,7 @@ ghost use Rattle.blif_text.specs.Latches.{trigger_in as trigger_in_of, init_in a
 ghost use Rattle.blif_text.specs.Latches.{with_control, tail_in as tail_in_of, latch_of};
 ghost use Rattle.blif_text.specs.Found.{control_found, tail_found};
 
-use crate::words::next_word;
+use crate::words::{is_word, next_word};
 use net_document::{Latch, LatchLine, Name, NetError, Trigger};
 use net_text::is_name;
 use std::alloc::{AllocError, Global};
@@ -17,15 +17,15 @@ use std::alloc::{AllocError, Global};
 fn trigger_in(word: &[u8]) -> Option<Trigger>
     ensures { result ≡ trigger_in_of word.now }
 {
-    if word == b"fe".as_slice() {
+    if is_word(word, b"fe") {
         Some(Trigger::Fe)
-    } else if word == b"re".as_slice() {
+    } else if is_word(word, b"re") {
         Some(Trigger::Re)
-    } else if word == b"ah".as_slice() {
+    } else if is_word(word, b"ah") {
         Some(Trigger::Ah)
-    } else if word == b"al".as_slice() {
+    } else if is_word(word, b"al") {
         Some(Trigger::Al)
-    } else if word == b"as".as_slice() {
+    } else if is_word(word, b"as") {
         Some(Trigger::As)
     } else {
         None
@@ -70,13 +70,13 @@ fn tail_in(text: &[u8]) -> Option<(Option<(Trigger, &[u8])>, Option<u8>)>
     let Some((second, rest)) = next_word(rest) else {
         return Some((None, Some(init_in(first)?)));
     };
+    let control = control_in(first, second)?;
     let Some((third, rest)) = next_word(rest) else {
-        return Some((Some(control_in(first, second)?), None));
+        return Some((Some(control), None));
     };
     if next_word(rest).is_some() {
         return None;
     }
-    let control = control_in(first, second)?;
     Some((Some(control), Some(init_in(third)?)))
 }
 

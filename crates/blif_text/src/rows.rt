@@ -18,15 +18,10 @@ use std::alloc::Global;
 fn bit_in(word: &[u8]) -> Option<bool>
     ensures { result ≡ bit_in_of word.now }
 {
-    let [byte] = word else {
-        return None;
-    };
-    if *byte == b'1' {
-        Some(true)
-    } else if *byte == b'0' {
-        Some(false)
-    } else {
-        None
+    match word {
+        [b'1'] => Some(true),
+        [b'0'] => Some(false),
+        _ => None,
     }
 }
 

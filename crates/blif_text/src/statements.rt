@@ -7,6 +7,7 @@ ghost use Rattle.blif_text.specs.Words.{words_of};
 ghost use Rattle.blif_text.specs.Statements as say;
 ghost use Rattle.blif_text.specs.Statements.{with_model, with_inputs, with_outputs, with_clocks};
 ghost use Rattle.blif_text.specs.Statements.{with_table_line, with_latch_line, with_end};
+ghost use Rattle.blif_text.specs.Statements.{with_table_names, with_latch_names};
 ghost use Rattle.blif_text.specs.Statements.{table_of as table_of_words, front_of, last_of, control_at};
 ghost use Rattle.blif_text.specs.Statements.{directed, covered, behind_end as behind_end_of};
 ghost use Rattle.blif_text.specs.Statements.{begins_dot as begins_dot_of, stated, step};
@@ -17,7 +18,7 @@ use crate::latches::latch_of;
 use crate::logical::LogicalLine;
 use crate::reading::{Control, CoverTable, Reading};
 use crate::rows::take_row;
-use crate::words::{add_words, are_names, count_words, has_long, next_word};
+use crate::words::{add_words, are_names, count_words, has_long, is_word, next_word};
 use net_document::{Cover, LatchLine, Name, NetError, Trigger, add_copies};
 use net_text::{is_long_line, is_name};
 use std::alloc::{AllocError, Global};
@@ -143,13 +144,21 @@ fn table_of(alloc: Global, line: u32, text: &[u8]) -> Result<CoverTable, NetErro
     })
 }
 
+/// Notes the names that a table drives and uses.
+fn note_table(reading: &mut Reading, table: &CoverTable) -> Result<(), AllocError>
+    ensures { OnOk result (reading.new ≡ with_table_names reading.old table.now) }
+{
+    reading.driven.push(table.output.copied()?)?;
+    add_copies(&mut reading.used, &table.inputs)?;
+    Ok(())
+}
+
 /// `.names`
 fn take_table(alloc: Global, line: u32, reading: &mut Reading, text: &[u8]) -> Result<(), NetError>
     ensures { Gives (λ _. reading.new) result (with_table_line line reading.old (words_of text.now)) }
 {
     let table = table_of(alloc, line, text)?;
-    reading.driven.push(table.output.copied()?)?;
-    add_copies(&mut reading.used, &table.inputs)?;
+    note_table(reading, &table)?;
     reading.current = Some(table);
     Ok(())
 }
@@ -172,15 +181,22 @@ fn note_control(
     Ok(())
 }
 
+/// Notes the names that a latch drives and uses, and its control.
+fn note_latch(line: u32, reading: &mut Reading, latch: &LatchLine) -> Result<(), AllocError>
+    ensures { OnOk result (reading.new ≡ with_latch_names line reading.old latch.now) }
+{
+    reading.driven.push(latch.latch.output.copied()?)?;
+    reading.used.push(latch.input.copied()?)?;
+    note_control(&mut reading.controls, line, &latch.latch.control)
+}
+
 /// `.latch`
 fn take_latch(alloc: Global, line: u32, reading: &mut Reading, text: &[u8]) -> Result<(), NetError>
     ensures { Gives (λ _. reading.new) result (with_latch_line line reading.old (words_of text.now)) }
 {
-    let LatchLine { input, latch } = latch_of(alloc, line, text)?;
-    reading.driven.push(latch.output.copied()?)?;
-    reading.used.push(input.copied()?)?;
-    note_control(&mut reading.controls, line, &latch.control)?;
-    reading.latches.push(LatchLine { input, latch })?;
+    let latch = latch_of(alloc, line, text)?;
+    note_latch(line, reading, &latch)?;
+    reading.latches.push(latch)?;
     Ok(())
 }
 
@@ -243,7 +259,7 @@ fn begins_dot(word: &[u8]) -> bool
 fn behind_end(alloc: Global, line: u32, reading: &Reading, word: &[u8]) -> Result<(), NetError>
     ensures { Gives (λ _. reading.now) result (behind_end_of line reading.now word.now) }
 {
-    if word == b".model".as_slice() && reading.has_model {
+    if is_word(word, b".model") && reading.has_model {
         return Err(NetError::NotSupported(line, Name::of(alloc, word)?));
     }
     Err(NetError::Syntax(line))

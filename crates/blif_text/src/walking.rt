@@ -1,6 +1,6 @@
 //! Logical lines, one after the other.
 
-ghost use Rattle.std.specs.Prelude.{◌≡◌, ◌+◌, ◌*◌, ◌≤◌, ◌<◌, ◌^◌, [], length, map, None, IfOk, IfErr};
+ghost use Rattle.std.specs.Prelude.{◌≡◌, ◌+◌, ◌*◌, ◌≤◌, ◌<◌, ◌^◌, length, map, None, OnOk, IfOk, IfErr};
 ghost use Rattle.net_theory.specs.Document.{table_output};
 ghost use Rattle.net_theory.specs.Naming.{each_once};
 ghost use Rattle.blif_text.specs.Reading.{Gives};
@@ -8,7 +8,8 @@ ghost use Rattle.net_document.specs.Refusals.{Tells};
 ghost use Rattle.net_document.specs.Listed.{IsListed, AreFree};
 ghost use Rattle.net_theory.specs.Cost.{cost};
 ghost use Rattle.net_theory.specs.NetOf.{source_count};
-ghost use Rattle.blif_text.specs.Statements.{said_of, control_fault as control_fault_of, listed_by as listed_by_said, listed_of};
+ghost use Rattle.blif_text.specs.Logical.{logical_of};
+ghost use Rattle.blif_text.specs.Statements.{steps, said_of, control_fault as control_fault_of, listed_by as listed_by_said, listed_of};
 
 use crate::logical::next_logical;
 use crate::reading::{Control, Reading};
@@ -17,36 +18,45 @@ use indexmap::IndexSet;
 use net_document::{Document, Listed, Name, NetError, Table};
 use std::alloc::{AllocError, Global};
 
+/// Takes the lines of a text, one after the other.
+#[tactic(auto, unfolding(crate::specs::Statements::steps))]
+fn take_lines(alloc: Global, reading: &mut Reading, bytes: &[u8]) -> Result<(), NetError>
+    requires { length bytes.now < 2 ^ 31 }
+    ensures { Gives (λ _. reading.new) result (steps reading.old (logical_of 1 bytes.now)) }
+{
+    let mut number = 1;
+    let mut left = bytes;
+    while let Some((line, next, rest)) = next_logical(alloc, number, left)? {
+        take_line(alloc, reading, &line)?;
+        number = next;
+        left = rest;
+    }
+    reading.close()?;
+    Ok(())
+}
+
 /// What a text says.
-#[tactic(auto, unfolding(crate::specs::Statements::said_of, crate::specs::Statements::steps))]
+#[tactic(auto, unfolding(crate::specs::Statements::said_of))]
 pub fn read_said(alloc: Global, bytes: &[u8]) -> Result<Reading, NetError>
     requires { length bytes.now < 2 ^ 31 }
     ensures { Gives (λ r. r) result (said_of bytes.now) }
 {
     let mut reading = Reading::new(alloc)?;
-    let mut number = 1;
-    let mut left = bytes;
-    while let Some((line, next, rest)) = next_logical(alloc, number, left)? {
-        take_line(alloc, &mut reading, &line)?;
-        number = next;
-        left = rest;
-    }
-    reading.close()?;
+    take_lines(alloc, &mut reading, bytes)?;
     Ok(reading)
 }
 
-/// What tables drive.
+/// Adds what tables drive.
 #[tactic(auto, unfolding(net_theory::specs::Naming::each_once, net_theory::specs::Document::has))]
-fn table_outputs(alloc: Global, tables: &[Table]) -> Result<IndexSet<Name>, AllocError>
-    ensures { IfOk result (λ set. set.keys ≡ each_once [] (map table_output tables.now)) }
+fn add_driven(driven: &mut IndexSet<Name>, tables: &[Table]) -> Result<(), AllocError>
+    ensures { OnOk result (driven.new.keys ≡ each_once driven.old.keys (map table_output tables.now)) }
 {
-    let mut set = IndexSet::new(alloc);
     let mut left = tables;
     while let Some((table, rest)) = left.split_first() {
-        set.insert(table.output.copied()?)?;
+        driven.insert(table.output.copied()?)?;
         left = rest;
     }
-    Ok(set)
+    Ok(())
 }
 
 /// Refuses the first control among these names.
@@ -71,7 +81,8 @@ fn check_controls(alloc: Global, reading: &Reading) -> Result<(), NetError>
     ensures good { IfOk result (λ _. control_fault_of (map table_output reading.now.tables) reading.now.controls ≡ None) }
     ensures refused { IfErr result (λ e. Tells e (control_fault_of (map table_output reading.now.tables) reading.now.controls)) }
 {
-    let driven = table_outputs(alloc, &reading.tables)?;
+    let mut driven = IndexSet::new(alloc);
+    add_driven(&mut driven, &reading.tables)?;
     refuse_driven(&driven, &reading.controls)
 }
 

@@ -1,6 +1,7 @@
 //! Words of a logical line. A line is passed over several times, and no index of its words is kept.
 
 ghost use Rattle.std.specs.Prelude.{◌≡◌, ◌<◌, ◌++◌, length, IfSome, OnOk};
+ghost use Rattle.net_theory.specs.Document.{is_same};
 ghost use Rattle.blif_text.specs.Words.{words_of, has_long as has_long_of};
 ghost use Rattle.blif_text.specs.Walks.{words_in};
 ghost use Rattle.blif_text.specs.Statements.{are_names as are_names_of};
@@ -35,6 +36,13 @@ pub fn next_word(text: &[u8]) -> Option<(&[u8], &[u8])>
         return None;
     }
     Some((start, left))
+}
+
+/// Whether a word is this one.
+pub fn is_word(word: &[u8], this: &[u8]) -> bool
+    ensures { result ≡ is_same word.now this.now }
+{
+    word == this
 }
 
 /// Whether some word has more than 1,024 bytes.

@@ -1,9 +1,0 @@
-use Rattle.std.proofs.Common.{◌≡◌, ◌++◌, length}
-use Rattle.blif_core.specs.Written.{latch_lines, sig_name}
-use Rattle.blif_core.proofs.written.latch_lines.Given as goal
-
-abbrev pub invariant-loop-latch : goal.invariant-loop-latch
-invariant-loop-latch l = l.lines.items ++ latch_lines (sig_name l.circuit) l.left l.left_sinks ≡ latch_lines (sig_name l.circuit) l.latches l.sinks
-
-abbrev pub decreases-loop-latch : goal.decreases-loop-latch
-decreases-loop-latch l = length l.left
