@@ -18,10 +18,7 @@ fn line_of(alloc: Global, byte: u8) -> Result<Vec<u8>, AllocError>
     if byte == b'!' {
         return Err(AllocError);
     }
-    let mut line = Vec::new(alloc);
-    line.push(byte)?;
-    line.push(b'\n')?;
-    Ok(line)
+    Vec::from_slice(alloc, &[byte, b'\n'])
 }
 
 /// Writes each byte on a line.

@@ -4,106 +4,173 @@ use crate::{Greeting, Lines};
 use frame_core::perform;
 use port_io::{MemorySink, MemorySource};
 use std::alloc::{AllocError, Global};
-use std::test::Fail;
 
-/// What a run came to: its status, how many reads failed, and what stands on the output and the notes.
+/// The numbers of the calls that are to fail.
+type Fails = &'static [u64];
+
+/// The input, what fails of reads, of writes and of notes, the status, how many reads failed, and what stands on the output
+/// and on the notes.
+type Run = (
+    &'static [u8],
+    (Fails, Fails, Fails),
+    u8,
+    u64,
+    &'static [u8],
+    &'static [u8],
+);
+
+/// What a run stands on.
 #[derive(Drop)]
-struct Seen {
-    status: u8,
-    reads_failed: u64,
+struct Outside {
+    source: MemorySource,
     out: MemorySink,
     note: MemorySink,
 }
 
-impl Seen {
-    fn is(&self, status: u8, out: &str, note: &str) -> bool {
-        self.status == status
-            && self.out.written() == out.as_bytes()
-            && self.note.written() == note.as_bytes()
+/// A source of an input.
+fn source(alloc: Global, input: &[u8], fails: Fails) -> Result<MemorySource, AllocError> {
+    let bytes = Vec::from_slice(alloc, input)?;
+    Ok(MemorySource::new(bytes, Vec::from_slice(alloc, fails)?))
+}
+
+/// A sink.
+fn sink(alloc: Global, fails: Fails) -> Result<MemorySink, AllocError> {
+    Ok(MemorySink::new(alloc, Vec::from_slice(alloc, fails)?))
+}
+
+/// The memory of a run.
+fn ports(alloc: Global, run: &Run) -> Result<Outside, AllocError> {
+    let source = source(alloc, run.0, run.1.0)?;
+    let out = sink(alloc, run.1.1)?;
+    let note = sink(alloc, run.1.2)?;
+    Ok(Outside { source, out, note })
+}
+
+/// The status of the greeting or of lines.
+fn performed(alloc: Global, greets: bool, ports: &mut Outside) -> u8 {
+    let (source, out, note) = (&mut ports.source, &mut ports.out, &mut ports.note);
+    if greets {
+        return perform(alloc, &Greeting, source, out, note).number();
     }
+    perform(alloc, &Lines, source, out, note).number()
 }
 
-/// The numbers of the calls that are to fail, a digit each.
-fn failing(alloc: Global, digits: &str) -> Result<Vec<u64>, AllocError> {
-    let mut calls = Vec::new(alloc);
-    for digit in digits.as_bytes() {
-        calls.push(u64::from(*digit & 15))?;
-    }
-    Ok(calls)
+/// Whether a run of the greeting or of lines comes to what is wanted.
+fn is_run(alloc: Global, greets: bool, run: &Run) -> bool {
+    let Ok(mut ports) = ports(alloc, run) else {
+        return false;
+    };
+    let told = performed(alloc, greets, &mut ports) == run.2 && ports.source.faults() == run.3;
+    told && ports.out.written() == run.4 && ports.note.written() == run.5
 }
 
-/// Runs lines on memory.
-fn lines(alloc: Global, input: &str, fails: (&str, &str, &str)) -> Result<Seen, AllocError> {
-    let bytes = Vec::from_slice(alloc, input.as_bytes())?;
-    let mut source = MemorySource::new(bytes, failing(alloc, fails.0)?);
-    let mut out = MemorySink::new(alloc, failing(alloc, fails.1)?);
-    let mut note = MemorySink::new(alloc, failing(alloc, fails.2)?);
-    let status = perform(alloc, &Lines, &mut source, &mut out, &mut note).number();
-    Ok(Seen {
-        status,
-        reads_failed: source.faults(),
-        out,
-        note,
-    })
-}
-
-/// Runs the greeting on memory. The first call on its source would fail.
-fn greeting(alloc: Global, fails: (&str, &str)) -> Result<Seen, AllocError> {
-    let bytes = Vec::from_slice(alloc, b"unread")?;
-    let mut source = MemorySource::new(bytes, failing(alloc, "1")?);
-    let mut out = MemorySink::new(alloc, failing(alloc, fails.0)?);
-    let mut note = MemorySink::new(alloc, failing(alloc, fails.1)?);
-    let status = perform(alloc, &Greeting, &mut source, &mut out, &mut note).number();
-    Ok(Seen {
-        status,
-        reads_failed: source.faults(),
-        out,
-        note,
-    })
-}
+/// Lines.
+const LINES: &[Run] = &[
+    (b"", (&[], &[], &[]), 0, 0, b"", b""),
+    (b"abc", (&[], &[], &[]), 0, 0, b"a\nb\nc\n", b""),
+    (b"abcd", (&[], &[], &[]), 3, 0, b"", b"error: TooLong\n"),
+    (b"abc", (&[2], &[], &[]), 5, 1, b"", b"error: ReadFault\n"),
+    (b"abc", (&[], &[1], &[]), 6, 0, b"", b"error: WriteFault\n"),
+    (
+        b"abc",
+        (&[], &[3], &[]),
+        6,
+        0,
+        b"a\nb\n",
+        b"error: WriteFault\n",
+    ),
+    (b"abc", (&[], &[4], &[1]), 0, 0, b"a\nb\nc\n", b""),
+    (b"!", (&[], &[], &[]), 7, 0, b"", b"error: Memory\n"),
+    (b"ab!", (&[], &[], &[]), 7, 0, b"a\nb\n", b"error: Memory\n"),
+    (b"ab!", (&[], &[], &[1]), 7, 0, b"a\nb\n", b""),
+    (
+        b"ab!",
+        (&[], &[2], &[]),
+        6,
+        0,
+        b"a\n",
+        b"error: WriteFault\n",
+    ),
+];
 
 #[test]
-fn a_text_goes_out_in_pieces(rt: HostRuntime) -> Result<(), Fail> {
-    for (input, fails, status, out, note) in [
-        ("", ("", "", ""), 0, "", ""),
-        ("abc", ("", "", ""), 0, "a\nb\nc\n", ""),
-        ("abcd", ("", "", ""), 3, "", "error: TooLong\n"),
-        ("abc", ("2", "", ""), 5, "", "error: ReadFault\n"),
-        ("abc", ("", "1", ""), 6, "", "error: WriteFault\n"),
-        ("abc", ("", "3", ""), 6, "a\nb\n", "error: WriteFault\n"),
-        ("abc", ("", "4", "1"), 0, "a\nb\nc\n", ""),
-        ("!", ("", "", ""), 7, "", "error: Memory\n"),
-        ("ab!", ("", "", ""), 7, "a\nb\n", "error: Memory\n"),
-        ("ab!", ("", "", "1"), 7, "a\nb\n", ""),
-        ("ab!", ("", "2", ""), 6, "a\n", "error: WriteFault\n"),
-    ] {
-        let seen = lines(rt.alloc(), input, fails)?;
-        assert!(rt; seen.is(status, out, note), "{input} {fails:?}");
+fn a_text_goes_out_in_pieces(rt: HostRuntime) {
+    for run in LINES {
+        assert!(rt; is_run(rt.alloc(), false, run));
     }
-    Ok(())
 }
 
+/// Greetings. The first call on the source would fail, and none is made.
+const GREETINGS: &[Run] = &[
+    (
+        b"unread",
+        (&[1], &[], &[]),
+        0,
+        0,
+        b"hello\n",
+        b"2 parts\none\ntwo\ndone\n",
+    ),
+    (
+        b"unread",
+        (&[1], &[1], &[]),
+        6,
+        0,
+        b"",
+        b"error: WriteFault\n",
+    ),
+    (
+        b"unread",
+        (&[1], &[], &[1]),
+        6,
+        0,
+        b"hello\n",
+        b"error: WriteFault\n",
+    ),
+    (
+        b"unread",
+        (&[1], &[], &[2]),
+        6,
+        0,
+        b"hello\n",
+        b"2 parts\nerror: WriteFault\n",
+    ),
+    (
+        b"unread",
+        (&[1], &[], &[3]),
+        6,
+        0,
+        b"hello\n",
+        b"2 parts\none\nerror: WriteFault\n",
+    ),
+    (
+        b"unread",
+        (&[1], &[], &[4]),
+        6,
+        0,
+        b"hello\n",
+        b"2 parts\none\ntwo\nerror: WriteFault\n",
+    ),
+    (
+        b"unread",
+        (&[1], &[], &[4, 5]),
+        6,
+        0,
+        b"hello\n",
+        b"2 parts\none\ntwo\n",
+    ),
+    (
+        b"unread",
+        (&[1], &[], &[5]),
+        0,
+        0,
+        b"hello\n",
+        b"2 parts\none\ntwo\ndone\n",
+    ),
+];
+
 #[test]
-fn a_report_goes_out_in_parts(rt: HostRuntime) -> Result<(), Fail> {
-    for (fails, status, out, note) in [
-        (("", ""), 0, "hello\n", "2 parts\none\ntwo\ndone\n"),
-        (("1", ""), 6, "", "error: WriteFault\n"),
-        (("", "1"), 6, "hello\n", "error: WriteFault\n"),
-        (("", "2"), 6, "hello\n", "2 parts\nerror: WriteFault\n"),
-        (("", "3"), 6, "hello\n", "2 parts\none\nerror: WriteFault\n"),
-        (
-            ("", "4"),
-            6,
-            "hello\n",
-            "2 parts\none\ntwo\nerror: WriteFault\n",
-        ),
-        (("", "45"), 6, "hello\n", "2 parts\none\ntwo\n"),
-        (("", "5"), 0, "hello\n", "2 parts\none\ntwo\ndone\n"),
-    ] {
-        let seen = greeting(rt.alloc(), fails)?;
-        assert!(rt; seen.is(status, out, note), "{fails:?}");
-        // it made no call on its source
-        assert!(rt; seen.reads_failed == 0, "{fails:?}");
+fn a_report_goes_out_in_parts(rt: HostRuntime) {
+    for run in GREETINGS {
+        assert!(rt; is_run(rt.alloc(), true, run));
     }
-    Ok(())
 }

@@ -5,12 +5,13 @@ ghost use Rattle.window_theory.specs.Window.{Belongs};
 ghost use Rattle.window_theory.specs.Splice.{Fits};
 ghost use Rattle.subst_core.specs.Substitution.{Meets};
 
-use crate::nets::{gate, net_of};
+use crate::nets::{Plan, is_planned, planned};
+use crate::windows::alone;
 use chain_core::{Chain, first_difference, read_chain};
-use net_core::{Gate, Net, Sig};
+use net_core::{Net, Sig};
 use std::alloc::{AllocError, Global};
 use subst_core::{WindowLists, replace, splice, substitute};
-use window_core::{Window, spec_of, window};
+use window_core::{Window, spec_of};
 
 /// A window, and a chain that fits it.
 #[derive(Drop)]
@@ -21,56 +22,183 @@ struct Pair {
 
 /// The window of a root and a count with the chain of a block, if the chain fits and has no more steps than
 /// the window has gates.
-fn pair_of(
-    alloc: Global,
-    net: &Net,
-    root: u32,
-    count: u32,
-    block: &[u8],
-) -> Result<Option<Pair>, AllocError>
-    ensures belongs { IfOk result (λ answer. IfSome answer (λ pair. Belongs net.now pair.window)) }
-    ensures fits { IfOk result (λ answer. IfSome answer (λ pair. Fits pair.window pair.chain)) }
-    ensures few { IfOk result (λ answer. IfSome answer (λ pair. length pair.chain.steps ≤ length pair.window.gates)) }
+fn pair_of(alloc: Global, net: &Net, root: u32, count: u32, block: &[u8]) -> Option<Pair>
+    ensures belongs { IfSome result (λ pair. Belongs net.now pair.window) }
+    ensures fits { IfSome result (λ pair. Fits pair.window pair.chain) }
+    ensures few { IfSome result (λ pair. length pair.chain.steps ≤ length pair.window.gates) }
 {
-    let sources = net.sources();
-    if root <= sources || root as usize > sources as usize + net.gates().len() {
-        return Ok(None);
-    }
-    if count == 0 || count > 8 || block.len() > 1000 {
-        return Ok(None);
-    }
-    let Some(window) = window(alloc, net, root, None, count)? else {
-        return Ok(None);
+    let Ok(Some(window)) = alone(alloc, net, root, count) else {
+        return None;
     };
     let inputs = window.inputs().len() as u32;
     let outputs = window.outputs().len() as u32;
+    if block.len() > 1000 {
+        return None;
+    }
     let Ok((chain, _used)) = read_chain(alloc, block, 1, inputs, outputs) else {
-        return Ok(None);
+        return None;
     };
     if chain.steps().len() > window.gates().len() {
-        return Ok(None);
+        return None;
     }
-    Ok(Some(Pair { window, chain }))
+    Some(Pair { window, chain })
 }
 
-/// The net in which the chain of a block has taken the place of the window of a root and a count.
-fn spliced_net(
-    alloc: Global,
-    net: &Net,
+/// What stands in the net of a plan where the chain of a block takes the place of the window of a root and a count.
+struct Row {
+    plan: &'static Plan,
     root: u32,
     count: u32,
-    block: &[u8],
-) -> Result<Option<Net>, AllocError> {
-    let Some(pair) = pair_of(alloc, net, root, count, block)? else {
-        return Ok(None);
-    };
+    block: &'static [u8],
+    left: &'static Plan,
+}
+
+/// Whether the chain leaves the net that is wanted.
+fn is_spliced(alloc: Global, net: &Net, pair: &Pair, left: &Plan) -> bool
+    requires belongs { Belongs net.now pair.now.window }
+    requires fits { Fits pair.now.window pair.now.chain }
+    requires few { length pair.now.chain.steps ≤ length pair.now.window.gates }
+{
     let _sources = net.sources();
     let lists = WindowLists {
         gates: pair.window.gates(),
         inputs: pair.window.inputs(),
         outputs: pair.window.outputs(),
     };
-    Ok(Some(splice(alloc, net, &lists, &pair.chain)?))
+    match splice(alloc, net, &lists, &pair.chain) {
+        Ok(new) => is_planned(&new, left),
+        Err(_) => false,
+    }
+}
+
+/// Whether a row's chain leaves the net that is wanted.
+fn is_left(alloc: Global, row: &Row) -> bool {
+    let Some(net) = planned(alloc, row.plan) else {
+        return false;
+    };
+    match pair_of(alloc, &net, row.root, row.count, row.block) {
+        Some(pair) => is_spliced(alloc, &net, &pair, row.left),
+        None => false,
+    }
+}
+
+/// AND by two gates.
+const TWO: Plan = Plan {
+    sources: 2,
+    gates: &[
+        (14, Sig::Place(1), Sig::Place(2)),
+        (14, Sig::Place(3), Sig::Place(3)),
+    ],
+    sinks: &[Sig::Place(4)],
+};
+
+/// AND by one gate.
+const AND: Plan = Plan {
+    sources: 2,
+    gates: &[(1, Sig::Place(1), Sig::Place(2))],
+    sinks: &[Sig::Place(3)],
+};
+
+/// Three gates over two sources; the first is read by the second and by a sink, and a sink is a source.
+const THREE: Plan = Plan {
+    sources: 2,
+    gates: &[
+        (1, Sig::Place(1), Sig::Place(2)),
+        (7, Sig::Place(1), Sig::Place(3)),
+        (6, Sig::Place(1), Sig::Place(2)),
+    ],
+    sinks: &[Sig::Place(4), Sig::Place(5), Sig::Place(3), Sig::Place(2)],
+};
+
+/// What is left of them where a source takes the place of the first.
+const THREE_LEFT: Plan = Plan {
+    sources: 2,
+    gates: &[
+        (7, Sig::Place(1), Sig::Place(1)),
+        (6, Sig::Place(1), Sig::Place(2)),
+    ],
+    sinks: &[Sig::Place(3), Sig::Place(4), Sig::Place(1), Sig::Place(2)],
+};
+
+/// A gate on constants alone, read by two sinks.
+const CONSTANT: Plan = Plan {
+    sources: 1,
+    gates: &[(1, Sig::One, Sig::Zero)],
+    sinks: &[Sig::Place(2), Sig::Place(1), Sig::One, Sig::Place(2)],
+};
+
+/// The same without the gate.
+const NO_GATE: Plan = Plan {
+    sources: 1,
+    gates: &[],
+    sinks: &[Sig::Zero, Sig::Place(1), Sig::One, Sig::Zero],
+};
+
+/// The first gate is read by the window of the third, and neither the second nor the last is.
+const AROUND: Plan = Plan {
+    sources: 2,
+    gates: &[
+        (6, Sig::Place(1), Sig::Place(2)),
+        (9, Sig::Place(1), Sig::Place(2)),
+        (1, Sig::Place(2), Sig::Place(3)),
+        (7, Sig::Place(4), Sig::Place(5)),
+    ],
+    sinks: &[Sig::Place(6), Sig::Place(6), Sig::Place(4)],
+};
+
+/// The same with another gate in the place of the third.
+const AROUND_LEFT: Plan = Plan {
+    sources: 2,
+    gates: &[
+        (6, Sig::Place(1), Sig::Place(2)),
+        (4, Sig::Place(3), Sig::Place(2)),
+        (9, Sig::Place(1), Sig::Place(2)),
+        (7, Sig::Place(5), Sig::Place(4)),
+    ],
+    sinks: &[Sig::Place(6), Sig::Place(6), Sig::Place(5)],
+};
+
+/// Chains that fit windows, and what they leave.
+const ROWS: &[Row] = &[
+    // one step takes the place of two gates
+    Row {
+        plan: &TWO,
+        root: 4,
+        count: 2,
+        block: b"chain 1\nx3 x1 x2 0001\nout x3\n",
+        left: &AND,
+    },
+    // an out may be an input
+    Row {
+        plan: &THREE,
+        root: 3,
+        count: 1,
+        block: b"chain 0\nout x1\n",
+        left: &THREE_LEFT,
+    },
+    // a window may have no input
+    Row {
+        plan: &CONSTANT,
+        root: 2,
+        count: 1,
+        block: b"chain 0\nout 0\n",
+        left: &NO_GATE,
+    },
+    // other gates stand behind the steps
+    Row {
+        plan: &AROUND,
+        root: 5,
+        count: 1,
+        block: b"chain 1\nx3 x2 x1 0100\nout x3\n",
+        left: &AROUND_LEFT,
+    },
+];
+
+#[test]
+fn chains_take_the_places_of_windows(rt: HostRuntime) {
+    for row in ROWS {
+        assert!(rt; is_left(rt.alloc(), row));
+    }
 }
 
 /// Whether a chain agrees with what a window has to compute.
@@ -83,169 +211,73 @@ fn agrees(alloc: Global, net: &Net, pair: &Pair) -> Result<bool, AllocError>
     Ok(first_difference(&pair.chain, &spec).is_none())
 }
 
-/// The nets that the chain leaves, with its dead gates and without, if it agrees.
-fn substituted_nets(alloc: Global, net: &Net, pair: &Pair) -> Result<Option<(Net, Net)>, AllocError>
+/// Whether a chain agrees, and leaves these nets, with its dead gates and without.
+fn is_substituted(alloc: Global, net: &Net, pair: &Pair, left: &Plan, live: &Plan) -> bool
     requires belongs { Belongs net.now pair.now.window }
     requires fits { Fits pair.now.window pair.now.chain }
     requires few { length pair.now.chain.steps ≤ length pair.now.window.gates }
 {
-    if !agrees(alloc, net, pair)? {
-        return Ok(None);
-    }
+    let Ok(true) = agrees(alloc, net, pair) else {
+        return false;
+    };
     let _sources = net.sources();
     let lists = WindowLists {
         gates: pair.window.gates(),
         inputs: pair.window.inputs(),
         outputs: pair.window.outputs(),
     };
-    let all = substitute(alloc, net, &lists, &pair.chain)?;
-    let left = replace(alloc, net, &lists, &pair.chain)?;
-    Ok(Some((all, left)))
-}
-
-/// The same of a net that may be none.
-fn spliced(
-    alloc: Global,
-    net: Option<Net>,
-    root: u32,
-    count: u32,
-    block: &[u8],
-) -> Result<Option<Net>, AllocError> {
-    let Some(net) = net else {
-        return Ok(None);
+    let Ok(all) = substitute(alloc, net, &lists, &pair.chain) else {
+        return false;
     };
-    spliced_net(alloc, &net, root, count, block)
-}
-
-/// Whether this net is left of a net, and nothing else.
-fn is_left(new: Option<Net>, gates: &[Gate], sinks: &[Sig]) -> bool {
-    match new {
-        Some(net) => net.gates() == gates && net.sinks() == sinks,
-        None => false,
+    if !is_planned(&all, left) {
+        return false;
+    }
+    match replace(alloc, net, &lists, &pair.chain) {
+        Ok(new) => is_planned(&new, live),
+        Err(_) => false,
     }
 }
 
-/// A signal that is a place.
-fn at(place: u32) -> Sig {
-    Sig::Place(place)
-}
+/// The two gates, and one that nobody reads.
+const DEAD: Plan = Plan {
+    sources: 2,
+    gates: &[
+        (14, Sig::Place(1), Sig::Place(2)),
+        (14, Sig::Place(3), Sig::Place(3)),
+        (6, Sig::Place(1), Sig::Place(2)),
+    ],
+    sinks: &[Sig::Place(4), Sig::Place(2)],
+};
 
-/// Three gates over two sources; the first is read by the second and by a sink, and a sink is a source.
-fn three_gates(alloc: Global) -> Result<Option<Net>, AllocError> {
-    let gates = [
-        gate(1, at(1), at(2)),
-        gate(7, at(1), at(3)),
-        gate(6, at(1), at(2)),
-    ];
-    net_of(
-        alloc,
-        2,
-        gates.as_slice(),
-        [at(4), at(5), at(3), at(2)].as_slice(),
-    )
-}
+/// AND by one gate, and the gate that nobody reads.
+const DEAD_LEFT: Plan = Plan {
+    sources: 2,
+    gates: &[
+        (1, Sig::Place(1), Sig::Place(2)),
+        (6, Sig::Place(1), Sig::Place(2)),
+    ],
+    sinks: &[Sig::Place(3), Sig::Place(2)],
+};
 
-#[test]
-fn one_step_takes_the_place_of_two_gates(rt: HostRuntime) -> Result<(), AllocError> {
-    let gates = [gate(14, at(1), at(2)), gate(14, at(3), at(3))];
-    let net = net_of(rt.alloc(), 2, gates.as_slice(), [at(4)].as_slice())?;
-    let new = spliced(rt.alloc(), net, 4, 2, b"chain 1\nx3 x1 x2 0001\nout x3\n")?;
-    assert!(rt; is_left(new, [gate(1, at(1), at(2))].as_slice(), [at(3)].as_slice()));
-    Ok(())
-}
+/// AND by one gate alone.
+const LIVE: Plan = Plan {
+    sources: 2,
+    gates: &[(1, Sig::Place(1), Sig::Place(2))],
+    sinks: &[Sig::Place(3), Sig::Place(2)],
+};
 
-#[test]
-fn an_out_may_be_an_input(rt: HostRuntime) -> Result<(), AllocError> {
-    let net = three_gates(rt.alloc())?;
-    let new = spliced(rt.alloc(), net, 3, 1, b"chain 0\nout x1\n")?;
-    let gates = [gate(7, at(1), at(1)), gate(6, at(1), at(2))];
-    let sinks = [at(3), at(4), at(1), at(2)];
-    assert!(rt; is_left(new, gates.as_slice(), sinks.as_slice()));
-    Ok(())
-}
-
-#[test]
-fn a_window_may_have_no_input(rt: HostRuntime) -> Result<(), AllocError> {
-    let sinks = [at(2), at(1), Sig::One, at(2)];
-    let net = net_of(
-        rt.alloc(),
-        1,
-        [gate(1, Sig::One, Sig::Zero)].as_slice(),
-        sinks.as_slice(),
-    )?;
-    let new = spliced(rt.alloc(), net, 2, 1, b"chain 0\nout 0\n")?;
-    let sinks = [Sig::Zero, at(1), Sig::One, Sig::Zero];
-    let none: [Gate; 0] = [];
-    assert!(rt; is_left(new, none.as_slice(), sinks.as_slice()));
-    Ok(())
-}
-
-#[test]
-fn other_gates_stand_behind_the_steps(rt: HostRuntime) -> Result<(), AllocError> {
-    // the first gate is read by the window, and neither the second nor the last is
-    let gates = [
-        gate(6, at(1), at(2)),
-        gate(9, at(1), at(2)),
-        gate(1, at(2), at(3)),
-        gate(7, at(4), at(5)),
-    ];
-    let sinks = [at(6), at(6), at(4)];
-    let net = net_of(rt.alloc(), 2, gates.as_slice(), sinks.as_slice())?;
-    let new = spliced(rt.alloc(), net, 5, 1, b"chain 1\nx3 x2 x1 0100\nout x3\n")?;
-    let gates = [
-        gate(6, at(1), at(2)),
-        gate(4, at(3), at(2)),
-        gate(9, at(1), at(2)),
-        gate(7, at(5), at(4)),
-    ];
-    let sinks = [at(6), at(6), at(5)];
-    assert!(rt; is_left(new, gates.as_slice(), sinks.as_slice()));
-    Ok(())
-}
-
-/// The nets that are left of a net, with dead gates and without, if the chain agrees.
-fn substituted(
-    alloc: Global,
-    net: Option<Net>,
-    root: u32,
-    count: u32,
-    block: &[u8],
-) -> Result<Option<(Net, Net)>, AllocError> {
-    let Some(net) = net else {
-        return Ok(None);
+/// Whether AND, by one step, takes the place of the two gates.
+fn takes_the_place(alloc: Global) -> bool {
+    let Some(net) = planned(alloc, &DEAD) else {
+        return false;
     };
-    let Some(pair) = pair_of(alloc, &net, root, count, block)? else {
-        return Ok(None);
-    };
-    substituted_nets(alloc, &net, &pair)
-}
-
-/// Whether the nets that a chain leaves, with dead gates and without, have these gates and this sink.
-fn are_left(nets: Option<(Net, Net)>, gates: &[Gate], live: &[Gate], sinks: &[Sig]) -> bool {
-    match nets {
-        Some((all, left)) => is_left(Some(all), gates, sinks) && is_left(Some(left), live, sinks),
+    match pair_of(alloc, &net, 4, 2, b"chain 1\nx3 x1 x2 0001\nout x3\n") {
+        Some(pair) => is_substituted(alloc, &net, &pair, &DEAD_LEFT, &LIVE),
         None => false,
     }
 }
 
 #[test]
-fn a_chain_that_agrees_takes_the_place(rt: HostRuntime) -> Result<(), AllocError> {
-    let gates = [
-        gate(14, at(1), at(2)),
-        gate(14, at(3), at(3)),
-        gate(6, at(1), at(2)),
-    ];
-    let net = net_of(rt.alloc(), 2, gates.as_slice(), [at(4), at(2)].as_slice())?;
-    let new = substituted(rt.alloc(), net, 4, 2, b"chain 1\nx3 x1 x2 0001\nout x3\n")?;
-    let gates = [gate(1, at(1), at(2)), gate(6, at(1), at(2))];
-    let live = [gate(1, at(1), at(2))];
-    assert!(rt;
-        are_left(
-            new,
-            gates.as_slice(),
-            live.as_slice(),
-            [at(3), at(2)].as_slice()
-        )
-    );
-    Ok(())
+fn a_chain_that_agrees_takes_the_place(rt: HostRuntime) {
+    assert!(rt; takes_the_place(rt.alloc()));
 }

@@ -5,6 +5,8 @@ ghost use Rattle.std.specs.Prelude.{IsTrue, All};
 ghost use Rattle.lane_sim.specs.Cone.{IsSigAmong, places};
 
 use crate::nets::gate;
+use crate::plain::{has, only};
+use crate::surrounds::bit_of;
 use lane_sim::{Cone, cone_words, lanes_of, patterns};
 use net_core::{Gate, Sig};
 use std::alloc::{AllocError, Global};
@@ -16,125 +18,130 @@ fn are_among(cone: &Cone, signals: &[Sig]) -> bool
     signals.iter().all(|sig| cone.has(*sig))
 }
 
-/// Whether these are a cone in which the signals show the patterns of a mask, and no others.
-fn shows(
-    alloc: Global,
-    leaves: &[u32],
-    gates: &[(u32, Gate)],
-    signals: &[Sig],
-    mask: u64,
-) -> Result<bool, AllocError> {
-    let leaves = Vec::from_slice(alloc, leaves)?;
-    let gates = Vec::from_slice(alloc, gates)?;
-    let Some(cone) = Cone::checked(leaves, gates) else {
-        return Ok(false);
+/// A gate as a constant: its place, the operator's number, below 16, and the operands.
+type Step = (u32, u8, Sig, Sig);
+
+/// The gates of some steps.
+fn gates_of(alloc: Global, steps: &[Step]) -> Result<Vec<(u32, Gate)>, AllocError> {
+    let mut gates = Vec::new(alloc);
+    for &(place, op, a, b) in steps {
+        gates.push((place, gate(op, a, b)))?;
+    }
+    Ok(gates)
+}
+
+/// The cone of some leaves and steps, if it is one.
+fn cone_of(alloc: Global, leaves: &[u32], steps: &[Step]) -> Option<Cone> {
+    let Ok(gates) = gates_of(alloc, steps) else {
+        return None;
     };
-    if signals.len() > 6 || !are_among(&cone, signals) {
-        return Ok(false);
+    match Vec::from_slice(alloc, leaves) {
+        Ok(leaves) => Cone::checked(leaves, gates),
+        Err(_) => None,
     }
-    let words = cone_words(alloc, &cone)?;
-    Ok(patterns(&words, &cone, signals) == mask)
 }
 
-/// A signal that is a place.
-fn at(place: u32) -> Sig {
-    Sig::Place(place)
+/// Whether the signals show the patterns of a mask in a cone, and no others.
+fn shows(alloc: Global, cone: &Cone, signals: &[Sig], mask: u64) -> bool {
+    if signals.len() > 6 || !are_among(cone, signals) {
+        return false;
+    }
+    match cone_words(alloc, cone) {
+        Ok(words) => patterns(&words, cone, signals) == mask,
+        Err(_) => false,
+    }
 }
 
-/// The AND of two places at a place.
-fn and(place: u32, a: u32, b: u32) -> (u32, Gate) {
-    (place, gate(1, at(a), at(b)))
+/// The AND of twelve leaves, by a row of gates.
+const TWELVE: &[Step] = &[
+    (13, 1, Sig::Place(1), Sig::Place(2)),
+    (14, 1, Sig::Place(13), Sig::Place(3)),
+    (15, 1, Sig::Place(14), Sig::Place(4)),
+    (16, 1, Sig::Place(15), Sig::Place(5)),
+    (17, 1, Sig::Place(16), Sig::Place(6)),
+    (18, 1, Sig::Place(17), Sig::Place(7)),
+    (19, 1, Sig::Place(18), Sig::Place(8)),
+    (20, 1, Sig::Place(19), Sig::Place(9)),
+    (21, 1, Sig::Place(20), Sig::Place(10)),
+    (22, 1, Sig::Place(21), Sig::Place(11)),
+    (23, 1, Sig::Place(22), Sig::Place(12)),
+];
+
+/// Leaves, steps, signals, and the mask of the patterns that these show: constants and leaves, and one assignment of
+/// twelve leaves that gives 1.
+const SHOWN: &[(&[u32], &[Step], &[Sig], u64)] = &[
+    (&[], &[], &[Sig::One], 2),
+    (&[], &[], &[], 1),
+    (&[1, 2, 3], &[], &[Sig::Place(1), Sig::Place(3)], 15),
+    (
+        &[1, 2, 3, 4, 5, 6, 7, 8, 9, 10, 11, 12],
+        TWELVE,
+        &[Sig::Place(23)],
+        3,
+    ),
+];
+
+/// Whether a cone's signals show the patterns of a mask.
+fn is_shown(alloc: Global, leaves: &[u32], steps: &[Step], signals: &[Sig], mask: u64) -> bool {
+    match cone_of(alloc, leaves, steps) {
+        Some(cone) => shows(alloc, &cone, signals, mask),
+        None => false,
+    }
 }
 
 #[test]
-fn leaves_and_constants_show_patterns(rt: HostRuntime) -> Result<(), AllocError> {
-    for (leaves, signals, mask) in [
-        ([].as_slice(), [Sig::One].as_slice(), 2),
-        ([].as_slice(), [].as_slice(), 1),
-        ([1, 2, 3].as_slice(), [at(1), at(3)].as_slice(), 15),
-    ] {
-        let shown = shows(rt.alloc(), leaves, &[], signals, mask)?;
-        assert!(rt; shown, "{mask}");
-    }
-    Ok(())
-}
-
-#[test]
-fn one_assignment_of_twelve_leaves_gives_one(rt: HostRuntime) -> Result<(), AllocError> {
-    let leaves = [1, 2, 3, 4, 5, 6, 7, 8, 9, 10, 11, 12];
-    let gates = [
-        and(13, 1, 2),
-        and(14, 13, 3),
-        and(15, 14, 4),
-        and(16, 15, 5),
-        and(17, 16, 6),
-        and(18, 17, 7),
-        and(19, 18, 8),
-        and(20, 19, 9),
-        and(21, 20, 10),
-        and(22, 21, 11),
-        and(23, 22, 12),
-    ];
-    assert!(rt; shows(rt.alloc(), &leaves, &gates, &[at(23)], 3)?);
-    Ok(())
-}
-
-/// The bit of a signal, by the bits of places.
-fn bit_of(bits: &[(u32, bool)], sig: Sig) -> bool {
-    match sig {
-        Sig::Zero => false,
-        Sig::One => true,
-        Sig::Place(place) => bits.iter().any(|one| one.0 == place && one.1),
+fn signals_show_patterns(rt: HostRuntime) {
+    for &(leaves, steps, signals, mask) in SHOWN {
+        assert!(rt;
+            is_shown(rt.alloc(), leaves, steps, signals, mask),
+            "{mask}"
+        );
     }
 }
 
-/// The bits of leaves under an assignment, whose last digit is the last leaf's.
-fn leaf_bits(alloc: Global, leaves: &[u32], row: u32) -> Result<Vec<(u32, bool)>, AllocError> {
-    let mut bits = Vec::new(alloc);
+/// The places of a cone that have the bit 1 under an assignment, whose last digit is the last leaf's.
+fn ones_of(cone: &Cone, row: u32) -> u64 {
+    let mut ones = 0;
     let mut digits = row;
-    for leaf in leaves.iter().rev() {
-        bits.insert(0, (*leaf, digits % 2 == 1))?;
+    for leaf in cone.leaves().iter().rev() {
+        if digits % 2 == 1 {
+            ones |= only(*leaf);
+        }
         digits /= 2;
     }
-    Ok(bits)
-}
-
-/// The bits of all places of a cone under an assignment, in order.
-fn all_bits(alloc: Global, cone: &Cone, row: u32) -> Result<Vec<(u32, bool)>, AllocError> {
-    let mut bits = leaf_bits(alloc, cone.leaves(), row)?;
     for (place, gate) in cone.gates() {
-        let bit = gate.op.apply(bit_of(&bits, gate.a), bit_of(&bits, gate.b));
-        bits.push((*place, bit))?;
+        if gate.op.apply(bit_of(ones, gate.a), bit_of(ones, gate.b)) {
+            ones |= only(*place);
+        }
     }
-    Ok(bits)
+    ones
 }
 
-/// Whether an assignment's digit in each signal's words is its bit.
-fn are_digits(lanes: &[u64], width: usize, row: u32, bits: &[(u32, bool)]) -> bool {
+/// Whether an assignment's digit in the words of each of so many places is its bit.
+fn are_digits(lanes: &[u64], width: usize, row: u32, ones: u64, count: u32) -> bool {
     let mut start = (row / 64) as usize;
-    for (_, bit) in bits {
-        match lanes.get(start) {
-            Some(word) if (*word >> (row % 64)) & 1 == u64::from(*bit) => {}
-            _ => return false,
+    for index in 0..count {
+        let Some(word) = lanes.get(start) else {
+            return false;
+        };
+        if has(*word, row % 64) != has(ones, place_of(index)) {
+            return false;
         }
         start = start.saturating_add(width);
     }
     true
 }
 
-/// Whether the words of a cone are the bits that its places have under each assignment.
-fn are_plain(alloc: Global, cone: &Cone) -> Result<bool, AllocError> {
-    let words = cone_words(alloc, cone)?;
-    let lanes = lanes_of(&words);
+/// Whether words are the bits that so many places of a cone have under each assignment.
+fn are_plain(cone: &Cone, lanes: &[u64], count: u32) -> bool {
     let rows = 1u32 << cone.leaves().len();
     let width = (rows as usize).div_ceil(64);
     for row in 0..rows {
-        let bits = all_bits(alloc, cone, row)?;
-        if !are_digits(lanes, width, row, &bits) {
-            return Ok(false);
+        if !are_digits(lanes, width, row, ones_of(cone, row), count) {
+            return false;
         }
     }
-    Ok(true)
+    true
 }
 
 /// The next number of a fixed sequence.
@@ -143,9 +150,9 @@ fn next(state: &mut u32) -> u32 {
     *state >> 8
 }
 
-/// A place for each number below 97; the places are in no order.
+/// A place for each number below 61; the places are in no order.
 fn place_of(index: u32) -> u32 {
-    index.wrapping_mul(35) % 97
+    index.wrapping_mul(35) % 61
 }
 
 /// A constant or one of the first places.
@@ -186,21 +193,35 @@ fn any_gates(
     Ok(gates)
 }
 
-/// Whether a cone of so many leaves and gates has the words of the plain program.
-fn is_plain(alloc: Global, state: &mut u32, leaves: u32, gates: u32) -> Result<bool, AllocError> {
-    let gates = any_gates(alloc, state, leaves, gates)?;
-    let leaves = some_leaves(alloc, leaves)?;
-    match Cone::checked(leaves, gates) {
-        Some(cone) => are_plain(alloc, &cone),
-        None => Ok(false),
+/// A cone of so many leaves and gates.
+fn any_cone(alloc: Global, state: &mut u32, leaves: u32, gates: u32) -> Option<Cone> {
+    let Ok(gates) = any_gates(alloc, state, leaves, gates) else {
+        return None;
+    };
+    match some_leaves(alloc, leaves) {
+        Ok(leaves) => Cone::checked(leaves, gates),
+        Err(_) => None,
+    }
+}
+
+/// Whether the next cone, of so many leaves and twelve gates, has the words of the plain program.
+fn is_plain(alloc: Global, state: &mut u32, leaves: u32) -> bool {
+    let Some(cone) = any_cone(alloc, state, leaves, 12) else {
+        return false;
+    };
+    match cone_words(alloc, &cone) {
+        Ok(words) => are_plain(&cone, lanes_of(&words), leaves.wrapping_add(12)),
+        Err(_) => false,
     }
 }
 
 #[test]
-fn cones_have_the_words_of_the_plain_program(rt: HostRuntime) -> Result<(), AllocError> {
+fn cones_have_the_words_of_the_plain_program(rt: HostRuntime) {
     let mut state = 1;
-    for leaves in [0, 1, 2, 5, 6, 7, 8, 9, 12] {
-        assert!(rt; is_plain(rt.alloc(), &mut state, leaves, 12)?);
+    for &leaves in LEAVES {
+        assert!(rt; is_plain(rt.alloc(), &mut state, leaves));
     }
-    Ok(())
 }
+
+/// The numbers of leaves of cones.
+const LEAVES: &[u32] = &[0, 1, 2, 5, 6, 7, 8, 9, 12];

@@ -13,6 +13,8 @@ mod observed;
 #[cfg(test)]
 mod plain;
 #[cfg(test)]
+mod small;
+#[cfg(test)]
 mod specifications;
 #[cfg(test)]
 mod surrounds;

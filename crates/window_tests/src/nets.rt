@@ -1,4 +1,4 @@
-//! Nets for tests.
+//! Nets for tests, written as constants.
 
 ghost use Rattle.std.specs.Prelude.{◌+◌, ◌<◌, ◌^◌, IsTrue, All, length};
 ghost use Rattle.net_theory.specs.Net.{IsSigBelow, IsGateAt, AreGates};
@@ -6,12 +6,17 @@ ghost use Rattle.net_theory.specs.Net.{IsSigBelow, IsGateAt, AreGates};
 use net_core::{Gate, Net, Op, Sig};
 use std::alloc::{AllocError, Global};
 
+/// A net as a constant: for each gate the operator's number, below 16, and the operands.
+pub struct Plan {
+    pub sources: u32,
+    pub gates: &'static [(u8, Sig, Sig)],
+    pub sinks: &'static [Sig],
+}
+
 /// The gate of an operator on two signals.
-pub fn gate(op: u8, a: Sig, b: Sig) -> Gate
-    requires { op < 16 }
-{
+pub fn gate(op: u8, a: Sig, b: Sig) -> Gate {
     Gate {
-        op: Op::new(op),
+        op: Op::new(op % 16),
         a,
         b,
     }
@@ -58,19 +63,52 @@ fn are_sinks(place: u32, sinks: &[Sig]) -> bool
 }
 
 /// The net of these gates and sinks, if they make one.
-pub fn net_of(
-    alloc: Global,
-    sources: u32,
-    gates: &[Gate],
-    sinks: &[Sig],
-) -> Result<Option<Net>, AllocError> {
-    if sources > 1000 || gates.len() > 1000 || !are_gates(sources, gates) {
-        return Ok(None);
+pub fn net_of(sources: u32, gates: Vec<Gate>, sinks: Vec<Sig>) -> Option<Net> {
+    if sources > 1000 || gates.len() > 1000 || !are_gates(sources, &gates) {
+        return None;
     }
-    if !are_sinks(sources + 1 + gates.len() as u32, sinks) {
-        return Ok(None);
+    if !are_sinks(sources + 1 + gates.len() as u32, &sinks) {
+        return None;
     }
-    let gates = Vec::from_slice(alloc, gates)?;
-    let sinks = Vec::from_slice(alloc, sinks)?;
-    Ok(Some(Net::new(sources, gates, sinks)))
+    Some(Net::new(sources, gates, sinks))
+}
+
+/// The gates of a plan.
+fn planned_gates(alloc: Global, rows: &[(u8, Sig, Sig)]) -> Result<Vec<Gate>, AllocError> {
+    let mut gates = Vec::new(alloc);
+    for &(op, a, b) in rows {
+        gates.push(gate(op, a, b))?;
+    }
+    Ok(gates)
+}
+
+/// The net of a plan, if it is one's.
+pub fn planned(alloc: Global, plan: &Plan) -> Option<Net> {
+    let Ok(gates) = planned_gates(alloc, plan.gates) else {
+        return None;
+    };
+    let Ok(sinks) = Vec::from_slice(alloc, plan.sinks) else {
+        return None;
+    };
+    net_of(plan.sources, gates, sinks)
+}
+
+/// Whether gates are those of a plan.
+fn are_planned(gates: &[Gate], rows: &[(u8, Sig, Sig)]) -> bool {
+    let mut left = rows;
+    for made in gates {
+        let Some((&(op, a, b), rest)) = left.split_first() else {
+            return false;
+        };
+        if *made != gate(op, a, b) {
+            return false;
+        }
+        left = rest;
+    }
+    left.is_empty()
+}
+
+/// Whether a net has the gates and the sinks of a plan.
+pub fn is_planned(net: &Net, plan: &Plan) -> bool {
+    are_planned(net.gates(), plan.gates) && net.sinks() == plan.sinks
 }

@@ -1,10 +1,10 @@
-//! The definitions of windows, computed plainly: by passes over all places of a net.
+//! The definitions of windows, computed plainly: by passes over all places of a net. A set of places is a word, with
+//! a digit for each place; all nets here have less than 64.
 
 ghost use Rattle.std.specs.Prelude.{◌≡◌};
 ghost use Rattle.net_theory.specs.Net.{end_of as end_of_net};
 
 use net_core::{Gate, Net, Sig};
-use std::alloc::{AllocError, Global};
 
 /// The gate at a place, if there is one.
 pub fn gate_of(net: &Net, place: u32) -> Option<&Gate> {
@@ -23,123 +23,106 @@ pub fn end_of(net: &Net) -> u32
     sources + 1 + net.gates().len() as u32
 }
 
-/// Whether a signal is a place.
-fn is_place(sig: Sig, place: u32) -> bool {
+/// The set of one place.
+pub fn only(place: u32) -> u64 {
+    1u64 << (place % 64)
+}
+
+/// Whether a place is in a set.
+pub fn has(places: u64, place: u32) -> bool {
+    (places >> (place % 64)) & 1 == 1
+}
+
+/// The greatest place of a set; 0 if there is none.
+pub fn greatest(places: u64) -> u32 {
+    63u32.saturating_sub(places.leading_zeros())
+}
+
+/// Whether a list has the places of a set, rising.
+pub fn are(list: &[u32], places: u64) -> bool {
+    let mut left = places;
+    for place in list {
+        if left == 0 || left.trailing_zeros() != *place {
+            return false;
+        }
+        left &= left.wrapping_sub(1);
+    }
+    left == 0
+}
+
+/// The set of the place that a signal is, and none of a constant.
+fn place_of(sig: Sig) -> u64 {
     match sig {
-        Sig::Place(named) => named == place,
-        _ => false,
+        Sig::Place(place) => only(place),
+        _ => 0,
     }
 }
 
-/// Whether the gate at one place reads another place.
-pub fn reads(net: &Net, reader: u32, place: u32) -> bool {
-    match gate_of(net, reader) {
-        Some(gate) => is_place(gate.a, place) || is_place(gate.b, place),
-        None => false,
+/// The places that the gate at a place reads.
+pub fn operands(net: &Net, place: u32) -> u64 {
+    match gate_of(net, place) {
+        Some(gate) => place_of(gate.a) | place_of(gate.b),
+        None => 0,
     }
 }
 
-/// Whether some of these gates reads the place.
-fn is_read_by(net: &Net, gates: &[u32], place: u32) -> bool {
-    gates.iter().any(|reader| reads(net, *reader, place))
+/// The gates of a net.
+pub fn gates_of(net: &Net) -> u64 {
+    let mut gates = 0;
+    for place in net.sources() + 1..end_of(net) {
+        gates |= only(place);
+    }
+    gates
 }
 
-/// Whether a place is one of these.
-pub fn has(places: &[u32], place: u32) -> bool {
-    places.iter().any(|one| *one == place)
-}
-
-/// The greatest gate that isn't taken and is the root, the partner or read by one that is taken; 0 if there is none.
-fn next_gate(net: &Net, root: u32, partner: Option<u32>, taken: &[u32]) -> u32 {
-    let mut best = 0;
+/// The places that these gates read.
+fn read_by(net: &Net, gates: u64) -> u64 {
+    let mut read = 0;
     for place in 0..end_of(net) {
-        let wanted = place == root || partner == Some(place) || is_read_by(net, taken, place);
-        if gate_of(net, place).is_some() && !has(taken, place) && wanted {
-            best = place;
+        if has(gates, place) {
+            read |= operands(net, place);
         }
     }
-    best
+    read
 }
 
-/// The gates that are taken, the last first.
-pub fn taken(
-    alloc: Global,
-    net: &Net,
-    root: u32,
-    partner: Option<u32>,
-    count: u32,
-) -> Result<Option<Vec<u32>>, AllocError> {
-    let mut taken = Vec::new(alloc);
+/// The gates that are taken, so many: again and again the greatest that isn't taken and is the root, the partner or read
+/// by one that is taken. None, if there is no such gate.
+pub fn taken(net: &Net, root: u32, partner: u64, count: u32) -> u64 {
+    let gates = gates_of(net);
+    let mut taken = 0;
     for _taken in 0..count {
-        let next = next_gate(net, root, partner, &taken);
+        let next = (only(root) | partner | read_by(net, taken)) & gates & !taken;
         if next == 0 {
-            return Ok(None);
+            return 0;
         }
-        taken.insert(0, next)?;
+        taken |= only(greatest(next));
     }
-    Ok(Some(taken))
+    taken
 }
 
-/// Whether a place is an input of some gates.
-fn is_input(net: &Net, gates: &[u32], place: u32) -> bool {
-    !has(gates, place) && is_read_by(net, gates, place)
+/// The inputs of some gates.
+pub fn inputs(net: &Net, gates: u64) -> u64 {
+    read_by(net, gates) & !gates
 }
 
-/// Whether a gate outside reads the place.
-fn is_read_outside(net: &Net, gates: &[u32], place: u32) -> bool {
-    for reader in 0..end_of(net) {
-        if !has(gates, reader) && reads(net, reader, place) {
-            return true;
-        }
+/// The outputs of some gates.
+pub fn outputs(net: &Net, gates: u64) -> u64 {
+    let mut seen = read_by(net, gates_of(net) & !gates);
+    for sink in net.sinks() {
+        seen |= place_of(*sink);
     }
-    false
+    seen & gates
 }
 
-/// Whether a place is an output of some gates.
-fn is_output(net: &Net, gates: &[u32], place: u32) -> bool {
-    let sink = net.sinks().iter().any(|sink| is_place(*sink, place));
-    has(gates, place) && (sink || is_read_outside(net, gates, place))
-}
-
-/// The inputs of some gates, rising.
-pub fn inputs(alloc: Global, net: &Net, gates: &[u32]) -> Result<Vec<u32>, AllocError> {
-    let mut found = Vec::new(alloc);
-    for place in 0..end_of(net) {
-        if is_input(net, gates, place) {
-            found.push(place)?;
-        }
-    }
-    Ok(found)
-}
-
-/// The outputs of some gates, rising.
-pub fn outputs(alloc: Global, net: &Net, gates: &[u32]) -> Result<Vec<u32>, AllocError> {
-    let mut found = Vec::new(alloc);
-    for place in 0..end_of(net) {
-        if is_output(net, gates, place) {
-            found.push(place)?;
-        }
-    }
-    Ok(found)
-}
-
-/// Whether a gate shares a place with a root.
-fn shares(net: &Net, root: u32, gate: u32) -> bool {
-    for place in 1..end_of(net) {
-        if reads(net, root, place) && reads(net, gate, place) {
-            return true;
-        }
-    }
-    false
-}
-
-/// The partners of a root, rising, however many.
-pub fn sharing(alloc: Global, net: &Net, root: u32) -> Result<Vec<u32>, AllocError> {
-    let mut found = Vec::new(alloc);
+/// The partners of a root, however many.
+pub fn sharing(net: &Net, root: u32) -> u64 {
+    let own = operands(net, root);
+    let mut found = 0;
     for gate in 0..root {
-        if shares(net, root, gate) {
-            found.push(gate)?;
+        if operands(net, gate) & own != 0 {
+            found |= only(gate);
         }
     }
-    Ok(found)
+    found
 }

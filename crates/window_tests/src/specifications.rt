@@ -1,196 +1,135 @@
-//! What windows have to compute: of those of some hundred nets beside a plain program, and of some that stand at the
-//! bounds of twelve leaves and eight outputs, or have no leaf.
+//! What windows have to compute: of some small nets, and of those that stand at the bound of twelve leaves, or have no
+//! leaf.
 
-use crate::nets::{gate, net_of};
-use crate::plain::end_of;
-use crate::surrounds::{care_rows, leaves, on_rows};
-use crate::windows::{alone, any_net, at, has_words};
-use net_core::{Net, Sig};
+ghost use Rattle.std.specs.Prelude.{◌≤◌};
+
+use crate::nets::{Plan, gate, net_of, planned};
+use crate::plain::only;
+use crate::surrounds::leaves;
+use crate::windows::alone;
+use net_core::{Gate, Net, Sig};
 use std::alloc::{AllocError, Global};
 use window_core::spec_of;
 
-/// Whether these are the words of some outputs: their values on the care rows, and the care rows.
-fn are_words(
-    alloc: Global,
-    net: &Net,
-    inputs: &[u32],
-    outputs: &[u32],
-    on: &[u64],
-    care: &[u64],
-) -> Result<bool, AllocError> {
-    let rows = care_rows(alloc, net, inputs)?;
-    for index in 0..outputs.len() {
-        let Some(output) = outputs.get(index) else {
-            return Ok(false);
-        };
-        let ones = on_rows(alloc, net, inputs, *output)? & rows;
-        if on.get(index) != Some(&ones) || care.get(index) != Some(&rows) {
-            return Ok(false);
-        }
-    }
-    Ok(on.len() == outputs.len() && care.len() == outputs.len())
-}
-
-/// Whether the window of a root and a count, alone, has the specification of the plain program, or is none.
-fn is_plain(alloc: Global, net: &Net, root: u32, count: u32) -> Result<bool, AllocError> {
-    let _sources = net.sources();
-    let Some(window) = alone(alloc, net, root, count)? else {
-        return Ok(true);
+/// Whether the window of a root and a count, alone, has one output with this word of values, and these care rows.
+fn has_words(alloc: Global, net: &Net, root: u32, count: u32, on: u64, care: u64) -> bool {
+    let Ok(Some(window)) = alone(alloc, net, root, count) else {
+        return false;
     };
-    let spec = spec_of(alloc, net, &window)?;
-    are_words(
-        alloc,
-        net,
-        window.inputs(),
-        window.outputs(),
-        spec.on(),
-        spec.care(),
-    )
-}
-
-/// Whether the windows of counts 1 to 4 of a root have the specifications of the plain program.
-fn are_plain(alloc: Global, net: &Net, root: u32) -> Result<bool, AllocError> {
-    for count in 1..5 {
-        if !is_plain(alloc, net, root, count)? {
-            return Ok(false);
-        }
+    match spec_of(alloc, net, &window) {
+        Ok(spec) => spec.on() == [on].as_slice() && spec.care() == [care].as_slice(),
+        Err(_) => false,
     }
-    Ok(true)
 }
 
-/// Whether the windows of all roots of a net have the specifications of the plain program.
-fn is_plain_net(alloc: Global, net: &Net) -> Result<bool, AllocError> {
-    for root in 0..end_of(net) {
-        if !are_plain(alloc, net, root)? {
-            return Ok(false);
-        }
-    }
-    Ok(true)
-}
+/// XOR of AND and OR: AND without OR never happens.
+const HALVES: Plan = Plan {
+    sources: 2,
+    gates: &[
+        (1, Sig::Place(1), Sig::Place(2)),
+        (7, Sig::Place(1), Sig::Place(2)),
+        (6, Sig::Place(3), Sig::Place(4)),
+    ],
+    sinks: &[Sig::Place(5)],
+};
 
-/// The same of a net that may be none.
-fn is_plain_some(alloc: Global, net: Option<Net>) -> Result<bool, AllocError> {
-    match net {
-        Some(net) => is_plain_net(alloc, &net),
-        None => Ok(false),
+/// Gates on constants alone: 0, 1, and the XOR of both.
+const CONSTANTS: Plan = Plan {
+    sources: 1,
+    gates: &[
+        (1, Sig::One, Sig::Zero),
+        (7, Sig::Place(2), Sig::One),
+        (6, Sig::Place(2), Sig::Place(3)),
+    ],
+    sinks: &[Sig::Place(4)],
+};
+
+/// Nets, roots, counts, and the words of values and of care rows. Rows that never happen are free, and constants alone
+/// have one row.
+const WORDS: &[(&Plan, u32, u32, u64, u64)] = &[
+    (&HALVES, 5, 1, 0b0010, 0b1011),
+    (&HALVES, 5, 3, 0b0110, 0b1111),
+    (&HALVES, 3, 1, 0b1000, 0b1111),
+    (&CONSTANTS, 4, 1, 0b10, 0b10),
+    (&CONSTANTS, 4, 2, 0b1, 0b1),
+    (&CONSTANTS, 4, 3, 0b1, 0b1),
+];
+
+/// The same of a plan's net.
+fn has_planned_words(
+    alloc: Global,
+    plan: &Plan,
+    root: u32,
+    count: u32,
+    on: u64,
+    care: u64,
+) -> bool {
+    match planned(alloc, plan) {
+        Some(net) => has_words(alloc, &net, root, count, on, care),
+        None => false,
     }
 }
 
 #[test]
-fn small_nets_have_the_specifications_of_the_plain_program(
-    rt: HostRuntime,
-) -> Result<(), AllocError> {
-    let mut state = 1;
-    for _net in 0..200u32 {
-        let net = any_net(rt.alloc(), &mut state)?;
-        assert!(rt; is_plain_some(rt.alloc(), net)?);
+fn rows_that_never_happen_are_free(rt: HostRuntime) {
+    for &(plan, root, count, on, care) in WORDS {
+        let well = has_planned_words(rt.alloc(), plan, root, count, on, care);
+        assert!(rt; well, "{root} {count}");
     }
-    Ok(())
 }
 
 /// The OR of the first two of so many sources, the AND of all of them by a row of gates, and the XOR of both.
-fn row_of_ands(alloc: Global, sources: u32) -> Result<Option<Net>, AllocError> {
-    if sources > 100 {
-        return Ok(None);
-    }
+fn row_of_ands(alloc: Global, sources: u32) -> Result<Vec<Gate>, AllocError>
+    requires { sources ≤ 100 }
+{
     let mut gates = Vec::new(alloc);
-    gates.push(gate(7, at(1), at(2)))?;
-    gates.push(gate(1, at(1), at(2)))?;
+    gates.push(gate(7, Sig::Place(1), Sig::Place(2)))?;
+    gates.push(gate(1, Sig::Place(1), Sig::Place(2)))?;
     for source in 3..sources + 1 {
-        gates.push(gate(1, at(sources + source - 1), at(source)))?;
+        gates.push(gate(1, Sig::Place(sources + source - 1), Sig::Place(source)))?;
     }
-    gates.push(gate(6, at(sources + 1), at(2 * sources)))?;
-    net_of(alloc, sources, &gates, &[at(2 * sources + 1)])
+    gates.push(gate(6, Sig::Place(sources + 1), Sig::Place(2 * sources)))?;
+    Ok(gates)
 }
 
-/// Whether the XOR of a row of so many sources has these leaves' count, values and care rows.
-fn has_row(
-    alloc: Global,
-    sources: u32,
-    count: usize,
-    on: u64,
-    care: u64,
-) -> Result<bool, AllocError> {
-    let Some(net) = row_of_ands(alloc, sources)? else {
-        return Ok(false);
+/// The net of that row, in which the XOR is the sink.
+fn net_of_ands(alloc: Global, sources: u32) -> Option<Net>
+    requires { sources ≤ 100 }
+{
+    let Ok(gates) = row_of_ands(alloc, sources) else {
+        return None;
     };
+    match Vec::from_slice(alloc, &[Sig::Place(2 * sources + 1)]) {
+        Ok(sinks) => net_of(sources, gates, sinks),
+        Err(_) => None,
+    }
+}
+
+/// Whether the XOR of a row of so many sources has so many leaves, this word of values, and these care rows.
+fn has_row(alloc: Global, sources: u32, count: u32, on: u64, care: u64) -> bool {
     if sources > 100 {
-        return Ok(false);
+        return false;
     }
-    let found = leaves(alloc, &net, &[sources + 1, 2 * sources])?;
-    let words = has_words(alloc, &net, 2 * sources + 1, 1, &[on], &[care])?;
-    Ok(words && found.len() == count)
-}
-
-#[test]
-fn a_surround_has_no_more_than_twelve_leaves(rt: HostRuntime) -> Result<(), AllocError> {
-    // AND without OR never happens. It shows where the row opens down to its first AND and that opens too: beside the
-    // OR all sources are leaves then, one place more than there are sources
-    for (sources, count, on, care) in [
-        (10, 10, 0b0100, 0b1101),
-        (11, 11, 0b0100, 0b1101),
-        (12, 12, 0b0110, 0b1111),
-        (13, 12, 0b0110, 0b1111),
-    ] {
-        let well = has_row(rt.alloc(), sources, count, on, care)?;
-        assert!(rt; well, "{sources}");
-    }
-    Ok(())
-}
-
-/// Gates on constants alone: 0, 1, and the XOR of both.
-fn constant_gates(alloc: Global) -> Result<Option<Net>, AllocError> {
-    let gates = [
-        gate(1, Sig::One, Sig::Zero),
-        gate(7, at(2), Sig::One),
-        gate(6, at(2), at(3)),
-    ];
-    net_of(alloc, 1, gates.as_slice(), [at(4)].as_slice())
-}
-
-/// Whether the last of those gates has these words, for a window of so many.
-fn has_constant_words(alloc: Global, count: u32, words: u64) -> Result<bool, AllocError> {
-    match constant_gates(alloc)? {
-        Some(net) => has_words(alloc, &net, 4, count, &[words], &[words]),
-        None => Ok(false),
-    }
-}
-
-#[test]
-fn constants_alone_have_one_row(rt: HostRuntime) -> Result<(), AllocError> {
-    for (count, words) in [(1, 0b10), (2, 0b1), (3, 0b1)] {
-        let well = has_constant_words(rt.alloc(), count, words)?;
-        assert!(rt; well, "{count}");
-    }
-    Ok(())
-}
-
-/// Eight gates over two sources, in a row, all of them sinks.
-fn eight_sinks(alloc: Global) -> Result<Option<Net>, AllocError> {
-    let mut gates = Vec::new(alloc);
-    gates.push(gate(1, at(1), at(2)))?;
-    let mut sinks = Vec::new(alloc);
-    sinks.push(at(3))?;
-    for place in 4..11 {
-        gates.push(gate((place % 16) as u8, at(place - 1), at(1 + place % 2)))?;
-        sinks.push(at(place))?;
-    }
-    net_of(alloc, 2, &gates, &sinks)
-}
-
-/// Whether the window of all of them has eight outputs, and the specification of the plain program.
-fn are_outputs(alloc: Global) -> Result<bool, AllocError> {
-    let Some(net) = eight_sinks(alloc)? else {
-        return Ok(false);
+    let Some(net) = net_of_ands(alloc, sources) else {
+        return false;
     };
-    let window = alone(alloc, &net, 10, 8)?;
-    let eight = window.is_some_and(|window| window.outputs().len() == 8);
-    Ok(eight && is_plain(alloc, &net, 10, 8)?)
+    let found = leaves(&net, only(sources + 1) | only(2 * sources));
+    found.count_ones() == count && has_words(alloc, &net, 2 * sources + 1, 1, on, care)
 }
 
+/// Counts of sources and of leaves, and words of values and of care rows. AND without OR never happens. It shows where
+/// the row opens down to its first AND and that opens too: beside the OR all sources are leaves then, one place more than
+/// there are sources.
+const ROWS: &[(u32, u32, u64, u64)] = &[
+    (10, 10, 0b0100, 0b1101),
+    (11, 11, 0b0100, 0b1101),
+    (12, 12, 0b0110, 0b1111),
+    (13, 12, 0b0110, 0b1111),
+];
+
 #[test]
-fn eight_gates_may_be_outputs(rt: HostRuntime) -> Result<(), AllocError> {
-    let well = are_outputs(rt.alloc())?;
-    assert!(rt; well);
-    Ok(())
+fn a_surround_has_no_more_than_twelve_leaves(rt: HostRuntime) {
+    for &(sources, count, on, care) in ROWS {
+        assert!(rt; has_row(rt.alloc(), sources, count, on, care), "{sources}");
+    }
 }

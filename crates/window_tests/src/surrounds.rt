@@ -1,134 +1,128 @@
 //! Leaves, care rows and values of some places of a net, computed plainly: under one assignment after the other, with
 //! the values of all places.
 
-use crate::plain::{end_of, gate_of, has};
+use crate::plain::{end_of, gate_of, gates_of, greatest, has, inputs, only, operands, outputs};
 use net_core::{Net, Sig};
-use std::alloc::{AllocError, Global};
 
-/// The bit that a row gives to the place of an index among so many; the last place has the last digit.
-fn digit(row: u32, count: usize, index: usize) -> bool {
-    let behind = count.wrapping_sub(index).wrapping_sub(1);
-    behind < 32 && (row >> behind as u32) & 1 == 1
-}
-
-/// The bit that a row gives to one of these places.
-fn given(places: &[u32], row: u32, place: u32) -> bool {
-    let mut bit = false;
-    for index in 0..places.len() {
-        if places.get(index) == Some(&place) {
-            bit = digit(row, places.len(), index);
-        }
-    }
-    bit
-}
-
-/// The bit of a signal, by the bits of all places from 0 on.
-pub fn bit_of(bits: &[bool], sig: Sig) -> bool {
+/// The bit of a signal, by the places whose bit is 1.
+pub fn bit_of(ones: u64, sig: Sig) -> bool {
     match sig {
         Sig::Zero => false,
         Sig::One => true,
-        Sig::Place(place) => bits.get(place as usize) == Some(&true),
+        Sig::Place(place) => has(ones, place),
     }
 }
 
-/// The bits of all places from 0 on, where a row gives these places theirs; other sources have 0.
-pub fn values(alloc: Global, net: &Net, places: &[u32], row: u32) -> Result<Vec<bool>, AllocError> {
-    let mut bits = Vec::new(alloc);
-    for place in 0..end_of(net) {
-        let bit = match gate_of(net, place) {
-            Some(gate) if !has(places, place) => {
-                gate.op.apply(bit_of(&bits, gate.a), bit_of(&bits, gate.b))
-            }
-            _ => given(places, row, place),
-        };
-        bits.push(bit)?;
-    }
-    Ok(bits)
-}
-
-/// The greatest gate among some places, if there is one.
-fn greatest_gate(net: &Net, places: &[u32]) -> Option<u32> {
-    let mut best = None;
-    for place in 0..end_of(net) {
-        if has(places, place) && gate_of(net, place).is_some() {
-            best = Some(place);
-        }
-    }
-    best
-}
-
-/// Whether a place is left or added where a gate among some places is opened.
-fn is_behind(net: &Net, places: &[u32], opened: u32, place: u32) -> bool {
-    let read = match gate_of(net, opened) {
-        Some(gate) => gate.a == Sig::Place(place) || gate.b == Sig::Place(place),
+/// The bit of a gate, by the places whose bit is 1; 0 where no gate is.
+fn gate_bit(net: &Net, ones: u64, place: u32) -> bool {
+    match gate_of(net, place) {
+        Some(gate) => gate.op.apply(bit_of(ones, gate.a), bit_of(ones, gate.b)),
         None => false,
-    };
-    read || (place != opened && has(places, place))
+    }
 }
 
-/// The places, rising, that are there when a gate among them is opened.
-fn opened(alloc: Global, net: &Net, places: &[u32], gate: u32) -> Result<Vec<u32>, AllocError> {
-    let mut found = Vec::new(alloc);
+/// The places whose bit is 1, where some places are given, these with 1; other sources have 0.
+pub fn values(net: &Net, given: u64, ones: u64) -> u64 {
+    let mut all = ones;
     for place in 0..end_of(net) {
-        if is_behind(net, places, gate, place) {
-            found.push(place)?;
+        if !has(given, place) && gate_bit(net, all, place) {
+            all |= only(place);
         }
     }
-    Ok(found)
+    all
 }
 
 /// The leaves of the surround of some places: the greatest gate is opened again and again, as long as no more than
 /// twelve places are there.
-pub fn leaves(alloc: Global, net: &Net, places: &[u32]) -> Result<Vec<u32>, AllocError> {
-    let mut leaves = Vec::from_slice(alloc, places)?;
+pub fn leaves(net: &Net, places: u64) -> u64 {
+    let gates = gates_of(net);
+    let mut leaves = places;
     for _place in 0..end_of(net) {
-        let Some(gate) = greatest_gate(net, &leaves) else {
-            break;
-        };
-        let next = opened(alloc, net, &leaves, gate)?;
-        if next.len() > 12 {
+        let gate = greatest(leaves & gates);
+        let next = (leaves & !only(gate)) | operands(net, gate);
+        if gate == 0 || next.count_ones() > 12 {
             break;
         }
         leaves = next;
     }
-    Ok(leaves)
+    leaves
 }
 
-/// The row that bits give to some places.
-pub fn row_of(bits: &[bool], places: &[u32]) -> u32 {
-    let mut row = 0u32;
-    for place in places {
-        row = row.wrapping_mul(2);
-        if bit_of(bits, Sig::Place(*place)) {
-            row = row.wrapping_add(1);
+/// The number of rows of some places.
+pub fn rows_of(places: u64) -> u32 {
+    1u32 << (places.count_ones() % 32)
+}
+
+/// Those of some places to which a row gives 1; the last place has the last digit.
+pub fn ones_of(places: u64, row: u32) -> u64 {
+    let mut ones = 0;
+    let mut digits = u64::from(row);
+    for back in 0..64u32 {
+        let place = 63 - back;
+        if !has(places, place) {
+            continue;
         }
+        ones |= (digits % 2) << place;
+        digits /= 2;
+    }
+    ones
+}
+
+/// The row that some places have, by those whose bit is 1.
+pub fn row_of(ones: u64, places: u64) -> u32 {
+    let mut row = 0u32;
+    for place in 0..64u32 {
+        if !has(places, place) {
+            continue;
+        }
+        row = row
+            .wrapping_mul(2)
+            .wrapping_add(u32::from(has(ones, place)));
     }
     row
 }
 
 /// The care rows of some places, a digit for each.
-pub fn care_rows(alloc: Global, net: &Net, places: &[u32]) -> Result<u64, AllocError> {
-    let leaves = leaves(alloc, net, places)?;
-    let mut care = 0u64;
-    if leaves.len() <= 12 {
-        for row in 0..1u32 << leaves.len() as u32 {
-            let bits = values(alloc, net, &leaves, row)?;
-            care |= 1u64 << (row_of(&bits, places) % 64);
-        }
+pub fn care_rows(net: &Net, places: u64) -> u64 {
+    let leaves = leaves(net, places);
+    let mut care = 0;
+    for row in 0..rows_of(leaves) {
+        let ones = values(net, leaves, ones_of(leaves, row));
+        care |= only(row_of(ones, places));
     }
-    Ok(care)
+    care
 }
 
 /// The rows of the inputs under which an output has the value 1, a digit for each.
-pub fn on_rows(alloc: Global, net: &Net, inputs: &[u32], output: u32) -> Result<u64, AllocError> {
-    let mut on = 0u64;
-    if inputs.len() <= 6 {
-        for row in 0..1u32 << inputs.len() as u32 {
-            let bits = values(alloc, net, inputs, row)?;
-            if bit_of(&bits, Sig::Place(output)) {
-                on |= 1u64 << (row % 64);
-            }
+fn on_rows(net: &Net, inputs: u64, output: u32) -> u64 {
+    let mut on = 0;
+    for row in 0..rows_of(inputs) {
+        if has(values(net, inputs, ones_of(inputs, row)), output) {
+            on |= only(row);
         }
     }
-    Ok(on)
+    on
+}
+
+/// Whether these are the words of values of some gates' outputs on the care rows.
+fn are_values(net: &Net, gates: u64, rows: u64, on: &[u64]) -> bool {
+    let mut left = outputs(net, gates);
+    for word in on {
+        let output = left.trailing_zeros();
+        if left == 0 || *word != on_rows(net, inputs(net, gates), output) & rows {
+            return false;
+        }
+        left &= left.wrapping_sub(1);
+    }
+    left == 0
+}
+
+/// Whether these are the words of some gates' outputs: their values on the care rows, and the care rows.
+pub fn are_words(net: &Net, gates: u64, rows: u64, on: &[u64], care: &[u64]) -> bool {
+    for word in care {
+        if *word != rows {
+            return false;
+        }
+    }
+    on.len() == care.len() && are_values(net, gates, rows, on)
 }
