@@ -15,7 +15,7 @@ use crate::onward::{take, told_of};
 use crate::stage::Stage;
 use crate::told::Told;
 use cert_theory::{BundleError, Verdict};
-use std::alloc::{AllocError, Global};
+use std::alloc::Global;
 use text_core::next_line;
 
 /// A certificate, as far as it was read. It keeps what its stage keeps, which of the logs is one part's checker,
@@ -122,12 +122,10 @@ impl BundleReader {
             fed,
         } = self;
         let mut unfinished = unfinished;
-        match unfinished.extend_from_slice(text) {
-            Ok(()) => {}
-            Err(AllocError) => {
-                drop(stage);
-                return Err(BundleError::Memory);
-            }
+        if unfinished.extend_from_slice(text).is_err() {
+            // by the type's own drop, which an exit would write out
+            drop(stage);
+            return Err(BundleError::Memory);
         }
         Ok(BundleReader {
             stage,
@@ -163,12 +161,10 @@ impl BundleReader {
             });
         }
         let mut line = unfinished;
-        match line.extend_from_slice(text) {
-            Ok(()) => {}
-            Err(AllocError) => {
-                drop(stage);
-                return Err(BundleError::Memory);
-            }
+        if line.extend_from_slice(text).is_err() {
+            // by the type's own drop, which an exit would write out
+            drop(stage);
+            return Err(BundleError::Memory);
         }
         let stage = take_text(alloc, stage, number, &line)?;
         line.clear();

@@ -18,7 +18,7 @@ use crate::onward::{take, verdict_of};
 use crate::stage::Stage;
 use cert_file::{BundleReader, TextLine};
 use depth_theory::{DepthError, DepthVerdict};
-use std::alloc::{AllocError, Global};
+use std::alloc::Global;
 use text_core::next_line;
 
 /// A depth bundle, as far as it was read. It keeps what its stage keeps, which of the logs is one part's checker,
@@ -125,12 +125,10 @@ impl DepthReader {
             fed,
         } = self;
         let mut unfinished = unfinished;
-        match unfinished.extend_from_slice(text) {
-            Ok(()) => {}
-            Err(AllocError) => {
-                drop(stage);
-                return Err(DepthError::Memory);
-            }
+        if unfinished.extend_from_slice(text).is_err() {
+            // by the type's own drop, which an exit would write out
+            drop(stage);
+            return Err(DepthError::Memory);
         }
         Ok(DepthReader {
             stage,
@@ -166,12 +164,10 @@ impl DepthReader {
             });
         }
         let mut line = unfinished;
-        match line.extend_from_slice(text) {
-            Ok(()) => {}
-            Err(AllocError) => {
-                drop(stage);
-                return Err(DepthError::Memory);
-            }
+        if line.extend_from_slice(text).is_err() {
+            // by the type's own drop, which an exit would write out
+            drop(stage);
+            return Err(DepthError::Memory);
         }
         let stage = take_text(alloc, stage, number, &line)?;
         line.clear();
