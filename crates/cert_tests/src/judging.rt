@@ -1,11 +1,13 @@
-//! Certificates as texts, judged.
-use cert_file::{BundleError, Verdict, check_bundle};
+//! Certificates as texts, judged, whole and in pieces: wherever they are cut, the answer is that of the whole.
+ghost use Rattle.std.specs.Prelude.{◌+◌, ◌^◌, ◌<◌, length};
+ghost use Rattle.cert_file.specs.Reader.{seen, IsReader};
+
+use cert_file::{BundleError, BundleReader, Verdict, check_bundle};
 use lrat_check::CheckError;
 use std::alloc::{AllocError, Global};
-use std::test::Fail;
 
 /// Not by AND alone: no chain of at most one step, with a log for either size.
-pub(crate) const NOT_BY_AND: [&[u8]; 17] = [
+const NOT_BY_AND: &[&[u8]] = &[
     b"chains 1",
     b"inputs 1",
     b"10",
@@ -25,8 +27,25 @@ pub(crate) const NOT_BY_AND: [&[u8]; 17] = [
     b"end",
 ];
 
+/// The front of that, as far as the log of one step.
+const NOT_YET: &[&[u8]] = &[
+    b"chains 1",
+    b"inputs 1",
+    b"10",
+    b"basis 0001",
+    b"method plain",
+    b"conflicts 100000",
+    b"max 1",
+    b"size 0",
+    b"refuted",
+    b"done",
+    b"size 1",
+    b"refuted",
+    b"",
+];
+
 /// XOR in one step.
-pub(crate) const XOR: [&[u8]; 15] = [
+const XOR: &[&[u8]] = &[
     b"chains 1",
     b"inputs 2",
     b"0110",
@@ -44,140 +63,8 @@ pub(crate) const XOR: [&[u8]; 15] = [
     b"end",
 ];
 
-/// The text of some lines, where two are replaced. Lines are numbered from 1, and what stands in their
-/// place is whole lines with their ends, or nothing.
-pub(crate) fn text_of(
-    alloc: Global,
-    lines: &[&[u8]],
-    first: (usize, &[u8]),
-    second: (usize, &[u8]),
-) -> Result<Vec<u8>, AllocError> {
-    let mut text = Vec::new(alloc);
-    for (index, line) in lines.iter().enumerate() {
-        let number = index.wrapping_add(1);
-        if number == first.0 {
-            text.extend_from_slice(first.1)?;
-            continue;
-        }
-        if number == second.0 {
-            text.extend_from_slice(second.1)?;
-            continue;
-        }
-        text.extend_from_slice(line)?;
-        text.push(b'\n')?;
-    }
-    Ok(text)
-}
-
-fn judged(
-    alloc: Global,
-    lines: &[&[u8]],
-    first: (usize, &[u8]),
-    second: (usize, &[u8]),
-) -> Result<Verdict, BundleError> {
-    let text = text_of(alloc, lines, first, second)?;
-    if text.len() > 100_000 {
-        return Err(BundleError::Memory);
-    }
-    check_bundle(alloc, &text)
-}
-
-/// Whether a certificate in which two lines are replaced has this answer.
-fn is_judged(
-    alloc: Global,
-    lines: &[&[u8]],
-    first: (usize, &[u8]),
-    second: (usize, &[u8]),
-    answer: Result<Verdict, BundleError>,
-) -> bool {
-    judged(alloc, lines, first, second) == answer
-}
-
-#[test]
-fn refutations_are_judged(rt: HostRuntime) -> Result<(), Fail> {
-    let alloc = rt.alloc();
-    for (line, by, other, or, answer) in [
-        (
-            0usize,
-            b"" as &[u8],
-            0usize,
-            b"" as &[u8],
-            Ok(Verdict::NoChain(1)),
-        ),
-        (
-            13,
-            b"24 -5 0 1 2 3 4 6 7 20 0\n",
-            0,
-            b"",
-            Err(BundleError::StepRefused(13, CheckError::NoConflict)),
-        ),
-        (
-            13,
-            b"24 -5 0 1 2 3 4 6 22 20 0\n",
-            0,
-            b"",
-            Err(BundleError::StepRefused(13, CheckError::NotUnit(22))),
-        ),
-        (
-            13,
-            b"24 -5 0 1 2 3 4 6 7 22 20 0\n25 d 16 0\n",
-            0,
-            b"",
-            Err(BundleError::StepRefused(15, CheckError::UnknownId(16))),
-        ),
-        (
-            11,
-            b"size 2\n",
-            0,
-            b"",
-            Err(BundleError::SizeOutOfOrder(11)),
-        ),
-        (14, b"", 0, b"", Err(BundleError::NotRefuted(14))),
-        (12, b"open\n", 14, b"", Err(BundleError::OpenTooShort(14))),
-        (12, b"open\n", 0, b"", Err(BundleError::WrongVerdict(15))),
-        (
-            12,
-            b"open\n",
-            14,
-            b"25 -5 3 0 1 0\n",
-            Err(BundleError::NotNew(14)),
-        ),
-        (16, b"none 0\n", 0, b"", Err(BundleError::WrongVerdict(16))),
-        (16, b"", 17, b"", Err(BundleError::Syntax(16))),
-        (17, b"end\n\n", 0, b"", Err(BundleError::Syntax(18))),
-        (5, b"method fences\n", 0, b"", Err(BundleError::Syntax(5))),
-        (2, b"inputs 7\n", 0, b"", Err(BundleError::Syntax(2))),
-        (3, b"", 0, b"", Err(BundleError::Syntax(3))),
-        (4, b"basis 0110,0001\n", 0, b"", Err(BundleError::Syntax(4))),
-    ] {
-        let well = is_judged(alloc, &NOT_BY_AND, (line, by), (other, or), answer);
-        assert!(rt; well, "{line}");
-    }
-    Ok(())
-}
-
-#[test]
-fn chains_are_judged(rt: HostRuntime) -> Result<(), Fail> {
-    let alloc = rt.alloc();
-    for (line, by, answer) in [
-        (0usize, b"" as &[u8], Ok(Verdict::Minimum(1))),
-        (5, b"method ssv\n", Ok(Verdict::Minimum(1))),
-        (5, b"method select\n", Ok(Verdict::Minimum(1))),
-        (12, b"x3 x1 x2 1001\n", Err(BundleError::ChainDiffers(1, 0))),
-        (4, b"basis 0001\n", Err(BundleError::OperatorNotInBasis(3))),
-        (14, b"minimum 2\n", Err(BundleError::WrongVerdict(14))),
-        (14, b"none 1\n", Err(BundleError::Syntax(14))),
-        (11, b"chain 2\n", Err(BundleError::SizeOutOfOrder(11))),
-        (11, b"chain 17\n", Err(BundleError::Syntax(11))),
-    ] {
-        let well = is_judged(alloc, &XOR, (line, by), (0, b""), answer);
-        assert!(rt; well, "{line}");
-    }
-    Ok(())
-}
-
-/// The same by fences: each size has one, and its parts bear titles.
-pub(crate) const NOT_BY_FENCES: [&[u8]; 19] = [
+/// Not by AND alone, by fences: each size has one, and its parts bear titles.
+const NOT_BY_FENCES: &[&[u8]] = &[
     b"chains 1",
     b"inputs 1",
     b"10",
@@ -199,46 +86,316 @@ pub(crate) const NOT_BY_FENCES: [&[u8]; 19] = [
     b"end",
 ];
 
-#[test]
-fn titles_are_compared(rt: HostRuntime) -> Result<(), Fail> {
-    let alloc = rt.alloc();
-    for (line, by, answer) in [
-        (0usize, b"" as &[u8], Ok(Verdict::NoChain(1))),
-        (8, b"fence\n", Err(BundleError::Syntax(8))),
-        (9, b"", Err(BundleError::Syntax(9))),
-        (9, b"size 1\n", Err(BundleError::NotRefuted(9))),
-        (9, b"none 1\n", Err(BundleError::NotRefuted(9))),
-        (9, b"chain 17\n", Err(BundleError::Syntax(9))),
-        (13, b"fence 0\n", Err(BundleError::NotRefuted(13))),
-        (13, b"fence 01\n", Err(BundleError::Syntax(13))),
-        (13, b"fence 1 \n", Err(BundleError::Syntax(13))),
-        (18, b"fence 1\n", Err(BundleError::NotRefuted(18))),
-        (18, b"none 2\n", Err(BundleError::WrongVerdict(18))),
-        (5, b"method ssv\n", Err(BundleError::Syntax(9))),
-    ] {
-        let well = is_judged(alloc, &NOT_BY_FENCES, (line, by), (0, b""), answer);
-        assert!(rt; well, "{line}");
+/// What stands in the place of a line: whole lines with their ends, or nothing. Lines are numbered from 1.
+type Put = (usize, &'static [u8]);
+
+/// In the place of no line.
+const NOTHING: Put = (0, b"");
+
+/// Adds a line with its end, or what stands in its place.
+fn push_line(
+    text: &mut Vec<u8>,
+    number: usize,
+    line: &[u8],
+    first: Put,
+    second: Put,
+) -> Result<(), AllocError> {
+    if number == first.0 {
+        return text.extend_from_slice(first.1);
     }
-    Ok(())
+    if number == second.0 {
+        return text.extend_from_slice(second.1);
+    }
+    text.extend_from_slice(line)?;
+    text.extend_from_slice(b"\n")
 }
 
-/// By `ssv` three clauses of cuts stand behind the plain ones, and take the next three ids.
-#[test]
-fn cuts_are_clauses(rt: HostRuntime) -> Result<(), Fail> {
-    let alloc = rt.alloc();
-    let front = &NOT_BY_AND[..13];
-    for (log, answer) in [
-        (
-            b"27 -5 0 1 2 3 4 6 7 22 20 0\n28 0 1 2 3 4 6 7 27 18 16 0\ndone\nnone 1\nend\n" as &[u8],
-            Ok(Verdict::NoChain(1)),
-        ),
-        (
-            b"26 -5 0 1 2 3 4 6 7 22 20 0\n",
-            Err(BundleError::StepRefused(13, CheckError::IdNotGreater(26))),
-        ),
-    ] {
-        let well = is_judged(alloc, front, (5, b"method ssv\n"), (13, log), answer);
-        assert!(rt; well, "{log:?}");
+/// The text of some lines, where two are replaced.
+fn text_of(alloc: Global, lines: &[&[u8]], first: Put, second: Put) -> Result<Vec<u8>, AllocError> {
+    let mut text = Vec::new(alloc);
+    for (index, line) in lines.iter().enumerate() {
+        push_line(&mut text, index.wrapping_add(1), line, first, second)?;
     }
-    Ok(())
+    Ok(text)
+}
+
+/// Feeds two pieces.
+fn in_two(alloc: Global, front: &[u8], behind: &[u8]) -> Result<Verdict, BundleError>
+    requires { length front.now + length behind.now < 2 ^ 31 }
+{
+    let reader = BundleReader::new(alloc).feed(front)?;
+    reader.feed(behind)?.finish()
+}
+
+/// Feeds each byte by itself.
+fn by_bytes(reader: BundleReader, text: &[u8]) -> Result<Verdict, BundleError>
+    requires whole { IsReader (seen reader) }
+    requires room { reader.fed + length text.now < 2 ^ 31 }
+{
+    let mut reader = reader;
+    let mut left = text;
+    while !left.is_empty() {
+        let (byte, rest) = left.split_at(1);
+        reader = reader.feed(byte)?;
+        left = rest;
+    }
+    reader.finish()
+}
+
+/// Whether a text of at most 10,000 bytes has this answer whole, wherever it is cut in two, and byte by byte.
+fn is_judged_in_pieces(alloc: Global, text: &[u8], answer: Result<Verdict, BundleError>) -> bool {
+    if text.len() > 10_000 || check_bundle(alloc, text) != answer {
+        return false;
+    }
+    for at in 0..=text.len() {
+        let (front, behind) = text.split_at(at);
+        if in_two(alloc, front, behind) != answer {
+            return false;
+        }
+    }
+    by_bytes(BundleReader::new(alloc), text) == answer
+}
+
+/// Certificates, what stands in the place of two of their lines, and the answer.
+const JUDGED: &[(&[&[u8]], Put, Put, Result<Verdict, BundleError>)] = &[
+    // refutations
+    (NOT_BY_AND, NOTHING, NOTHING, Ok(Verdict::NoChain(1))),
+    (
+        NOT_BY_AND,
+        (13, b"24 -5 0 1 2 3 4 6 7 20 0\n"),
+        NOTHING,
+        Err(BundleError::StepRefused(13, CheckError::NoConflict)),
+    ),
+    (
+        NOT_BY_AND,
+        (13, b"24 -5 0 1 2 3 4 6 22 20 0\n"),
+        NOTHING,
+        Err(BundleError::StepRefused(13, CheckError::NotUnit(22))),
+    ),
+    (
+        NOT_BY_AND,
+        (13, b"24 -5 0 1 2 3 4 6 7 22 20 0\n25 d 16 0\n"),
+        NOTHING,
+        Err(BundleError::StepRefused(15, CheckError::UnknownId(16))),
+    ),
+    (
+        NOT_BY_AND,
+        (11, b"size 2\n"),
+        NOTHING,
+        Err(BundleError::SizeOutOfOrder(11)),
+    ),
+    (
+        NOT_BY_AND,
+        (14, b""),
+        NOTHING,
+        Err(BundleError::NotRefuted(14)),
+    ),
+    (
+        NOT_BY_AND,
+        (12, b"open\n"),
+        (14, b""),
+        Err(BundleError::OpenTooShort(14)),
+    ),
+    (
+        NOT_BY_AND,
+        (12, b"open\n"),
+        NOTHING,
+        Err(BundleError::WrongVerdict(15)),
+    ),
+    (
+        NOT_BY_AND,
+        (12, b"open\n"),
+        (14, b"25 -5 3 0 1 0\n"),
+        Err(BundleError::NotNew(14)),
+    ),
+    (
+        NOT_BY_AND,
+        (16, b"none 0\n"),
+        NOTHING,
+        Err(BundleError::WrongVerdict(16)),
+    ),
+    (
+        NOT_BY_AND,
+        (16, b""),
+        (17, b""),
+        Err(BundleError::Syntax(16)),
+    ),
+    (
+        NOT_BY_AND,
+        (17, b"end\n\n"),
+        NOTHING,
+        Err(BundleError::Syntax(18)),
+    ),
+    (
+        NOT_BY_AND,
+        (5, b"method fences\n"),
+        NOTHING,
+        Err(BundleError::Syntax(5)),
+    ),
+    (
+        NOT_BY_AND,
+        (2, b"inputs 7\n"),
+        NOTHING,
+        Err(BundleError::Syntax(2)),
+    ),
+    (NOT_BY_AND, (3, b""), NOTHING, Err(BundleError::Syntax(3))),
+    (
+        NOT_BY_AND,
+        (4, b"basis 0110,0001\n"),
+        NOTHING,
+        Err(BundleError::Syntax(4)),
+    ),
+    // by `ssv` three clauses of cuts stand behind the plain ones, and take the next three ids
+    (
+        NOT_YET,
+        (5, b"method ssv\n"),
+        (
+            13,
+            b"27 -5 0 1 2 3 4 6 7 22 20 0\n28 0 1 2 3 4 6 7 27 18 16 0\ndone\nnone 1\nend\n",
+        ),
+        Ok(Verdict::NoChain(1)),
+    ),
+    (
+        NOT_YET,
+        (5, b"method ssv\n"),
+        (13, b"26 -5 0 1 2 3 4 6 7 22 20 0\n"),
+        Err(BundleError::StepRefused(13, CheckError::IdNotGreater(26))),
+    ),
+    // chains
+    (XOR, NOTHING, NOTHING, Ok(Verdict::Minimum(1))),
+    (XOR, (5, b"method ssv\n"), NOTHING, Ok(Verdict::Minimum(1))),
+    (
+        XOR,
+        (5, b"method select\n"),
+        NOTHING,
+        Ok(Verdict::Minimum(1)),
+    ),
+    (
+        XOR,
+        (12, b"x3 x1 x2 1001\n"),
+        NOTHING,
+        Err(BundleError::ChainDiffers(1, 0)),
+    ),
+    (
+        XOR,
+        (4, b"basis 0001\n"),
+        NOTHING,
+        Err(BundleError::OperatorNotInBasis(3)),
+    ),
+    (
+        XOR,
+        (14, b"minimum 2\n"),
+        NOTHING,
+        Err(BundleError::WrongVerdict(14)),
+    ),
+    (
+        XOR,
+        (14, b"none 1\n"),
+        NOTHING,
+        Err(BundleError::Syntax(14)),
+    ),
+    (
+        XOR,
+        (11, b"chain 2\n"),
+        NOTHING,
+        Err(BundleError::SizeOutOfOrder(11)),
+    ),
+    (
+        XOR,
+        (11, b"chain 17\n"),
+        NOTHING,
+        Err(BundleError::Syntax(11)),
+    ),
+    (XOR, (15, b""), NOTHING, Err(BundleError::Syntax(15))),
+    (XOR, (15, b"end\n\n"), NOTHING, Err(BundleError::Syntax(16))),
+    // titles are compared
+    (NOT_BY_FENCES, NOTHING, NOTHING, Ok(Verdict::NoChain(1))),
+    (
+        NOT_BY_FENCES,
+        (8, b"fence\n"),
+        NOTHING,
+        Err(BundleError::Syntax(8)),
+    ),
+    (
+        NOT_BY_FENCES,
+        (9, b""),
+        NOTHING,
+        Err(BundleError::Syntax(9)),
+    ),
+    (
+        NOT_BY_FENCES,
+        (9, b"size 1\n"),
+        NOTHING,
+        Err(BundleError::NotRefuted(9)),
+    ),
+    (
+        NOT_BY_FENCES,
+        (9, b"none 1\n"),
+        NOTHING,
+        Err(BundleError::NotRefuted(9)),
+    ),
+    (
+        NOT_BY_FENCES,
+        (9, b"chain 17\n"),
+        NOTHING,
+        Err(BundleError::Syntax(9)),
+    ),
+    (
+        NOT_BY_FENCES,
+        (13, b"fence 0\n"),
+        NOTHING,
+        Err(BundleError::NotRefuted(13)),
+    ),
+    (
+        NOT_BY_FENCES,
+        (13, b"fence 01\n"),
+        NOTHING,
+        Err(BundleError::Syntax(13)),
+    ),
+    (
+        NOT_BY_FENCES,
+        (13, b"fence 1 \n"),
+        NOTHING,
+        Err(BundleError::Syntax(13)),
+    ),
+    (
+        NOT_BY_FENCES,
+        (18, b"fence 1\n"),
+        NOTHING,
+        Err(BundleError::NotRefuted(18)),
+    ),
+    (
+        NOT_BY_FENCES,
+        (18, b"none 2\n"),
+        NOTHING,
+        Err(BundleError::WrongVerdict(18)),
+    ),
+    (
+        NOT_BY_FENCES,
+        (5, b"method ssv\n"),
+        NOTHING,
+        Err(BundleError::Syntax(9)),
+    ),
+];
+
+/// Whether a certificate in which two lines are replaced has this answer.
+fn is_judged(
+    alloc: Global,
+    lines: &[&[u8]],
+    first: Put,
+    second: Put,
+    answer: Result<Verdict, BundleError>,
+) -> bool {
+    match text_of(alloc, lines, first, second) {
+        Ok(text) => is_judged_in_pieces(alloc, &text, answer),
+        Err(_) => false,
+    }
+}
+
+#[test]
+fn certificates_are_judged(rt: HostRuntime) {
+    for &(lines, first, second, answer) in JUDGED {
+        let well = is_judged(rt.alloc(), lines, first, second, answer);
+        assert!(rt; well, "{}", first.0);
+    }
 }

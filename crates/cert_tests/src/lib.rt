@@ -9,8 +9,6 @@ mod judging;
 #[cfg(test)]
 mod parts;
 #[cfg(test)]
-mod pieces;
-#[cfg(test)]
 mod searching;
 #[cfg(test)]
 mod synthesising;

@@ -1,93 +1,129 @@
 //! The log of one part, line after line.
 use cert_file::{Ended, PartError, PartReader, PartStep};
-use cnf_core::{Clause, Cnf, Lit};
+use cnf_core::{Clause, Cnf};
 use lrat_check::CheckError;
-use std::alloc::Global;
-use std::test::Fail;
+use lrat_text::{Line, read_line};
+use std::alloc::{AllocError, Global};
 
-/// A reader of a log over the clauses 1: 1, 2 and 2: -1, 2 and 3: -2.
-fn reader(alloc: Global, conflicts: u32, end: Ended) -> Result<PartReader, Fail> {
+/// The clauses 1: 1, 2 and 2: -1, 2 and 3: -2, as lines that add them.
+const CLAUSES: &[&[u8]] = &[b"1 1 2 0 0", b"2 -1 2 0 0", b"3 -2 0 0"];
+
+/// Adds the clause of a line, if it has one within the variables.
+fn push(alloc: Global, cnf: &mut Cnf, line: &[u8]) -> Result<(), AllocError> {
+    let Ok(Line::Add { lits, .. }) = read_line(alloc, line) else {
+        return Ok(());
+    };
+    let clause = Clause::new(lits);
+    if clause.is_within(cnf.vars()) && cnf.clauses().len() < 9 {
+        cnf.push(clause)?;
+    }
+    Ok(())
+}
+
+/// The formula of the clauses.
+fn formula(alloc: Global) -> Result<Cnf, AllocError> {
     let mut cnf = Cnf::new(alloc, 2);
-    cnf.push(Clause::new(vec![in alloc; Lit::new(1), Lit::new(2)]?))?;
-    cnf.push(Clause::new(vec![in alloc; Lit::new(-1), Lit::new(2)]?))?;
-    cnf.push(Clause::new(vec![in alloc; Lit::new(-2)]?))?;
-    Ok(PartReader::new(alloc, cnf, conflicts, end)?)
+    for line in CLAUSES {
+        push(alloc, &mut cnf, line)?;
+    }
+    Ok(cnf)
+}
+
+/// A reader of a log over the clauses.
+fn reader(alloc: Global, conflicts: u32, end: Ended) -> Result<PartReader, AllocError> {
+    PartReader::new(alloc, formula(alloc)?, conflicts, end)
+}
+
+/// Whether a log goes on.
+fn is_more(step: &PartStep) -> bool {
+    match step {
+        PartStep::More(_) => true,
+        PartStep::Done => false,
+    }
 }
 
 /// Whether the log goes on behind the second of two lines.
-fn second(alloc: Global, reader: PartReader, lines: (&[u8], &[u8])) -> Result<bool, PartError> {
-    let PartStep::More(reader) = reader.feed(alloc, lines.0, true)? else {
-        return Err(PartError::Syntax);
-    };
-    match reader.feed(alloc, lines.1, true)? {
-        PartStep::More(_) => Ok(true),
-        PartStep::Done => Ok(false),
+fn second(alloc: Global, reader: PartReader, first: &[u8], line: &[u8]) -> Result<bool, PartError> {
+    match reader.feed(alloc, first, true)? {
+        PartStep::More(reader) => Ok(is_more(&reader.feed(alloc, line, true)?)),
+        PartStep::Done => Err(PartError::Syntax),
     }
 }
 
+/// How a log ends, how many additions an open one needs, two lines, and whether the log goes on behind them.
+const LOGS: &[(Ended, u32, &[u8], &[u8], Result<bool, PartError>)] = &[
+    // a refutation, and a log without the empty clause
+    (Ended::Refuted, 9, b"4 0 3 1 2 0", b"done", Ok(false)),
+    (
+        Ended::Refuted,
+        9,
+        b"4 2 0 1 2 0",
+        b"done",
+        Err(PartError::NotRefuted),
+    ),
+    // an open part: enough additions, too few, the empty clause, a clause that isn't new
+    (Ended::Open, 1, b"4 2 0 1 2 0", b"done", Ok(false)),
+    (
+        Ended::Open,
+        2,
+        b"4 2 0 1 2 0",
+        b"done",
+        Err(PartError::TooShort),
+    ),
+    (
+        Ended::Open,
+        1,
+        b"4 0 3 1 2 0",
+        b"done",
+        Err(PartError::EmptyStands),
+    ),
+    (
+        Ended::Open,
+        1,
+        b"4 2 0 1 2 0",
+        b"5 2 0 4 0",
+        Err(PartError::NotNew),
+    ),
+    // one more line, one that doesn't hold, and one that is none
+    (Ended::Refuted, 1, b"4 2 0 1 2 0", b"5 2 0 4 0", Ok(true)),
+    (
+        Ended::Refuted,
+        1,
+        b"4 2 0 1 2 0",
+        b"5 0 9 0",
+        Err(PartError::StepRefused(CheckError::UnknownId(9))),
+    ),
+    (
+        Ended::Refuted,
+        1,
+        b"4 2 0 1 2 0",
+        b"refuted",
+        Err(PartError::Syntax),
+    ),
+];
+
+/// Whether a log of two lines has this answer.
+fn is_read(
+    alloc: Global,
+    end: Ended,
+    conflicts: u32,
+    first: &[u8],
+    line: &[u8],
+    answer: Result<bool, PartError>,
+) -> bool {
+    let Ok(reader) = reader(alloc, conflicts, end) else {
+        return false;
+    };
+    let ended = reader.ended();
+    second(alloc, reader, first, line) == answer && ended == end
+}
+
 #[test]
-fn logs_are_read(rt: HostRuntime) -> Result<(), Fail> {
-    let alloc = rt.alloc();
-    for (end, conflicts, first, line, answer) in [
-        // a refutation, and a log without the empty clause
-        (
-            Ended::Refuted,
-            9u32,
-            b"4 0 3 1 2 0" as &[u8],
-            b"done" as &[u8],
-            Ok(false),
-        ),
-        (
-            Ended::Refuted,
-            9,
-            b"4 2 0 1 2 0",
-            b"done",
-            Err(PartError::NotRefuted),
-        ),
-        // an open part: enough additions, too few, the empty clause, a clause that isn't new
-        (Ended::Open, 1, b"4 2 0 1 2 0", b"done", Ok(false)),
-        (
-            Ended::Open,
-            2,
-            b"4 2 0 1 2 0",
-            b"done",
-            Err(PartError::TooShort),
-        ),
-        (
-            Ended::Open,
-            1,
-            b"4 0 3 1 2 0",
-            b"done",
-            Err(PartError::EmptyStands),
-        ),
-        (
-            Ended::Open,
-            1,
-            b"4 2 0 1 2 0",
-            b"5 2 0 4 0",
-            Err(PartError::NotNew),
-        ),
-        // one more line, one that doesn't hold, and one that is none
-        (Ended::Refuted, 1, b"4 2 0 1 2 0", b"5 2 0 4 0", Ok(true)),
-        (
-            Ended::Refuted,
-            1,
-            b"4 2 0 1 2 0",
-            b"5 0 9 0",
-            Err(PartError::StepRefused(CheckError::UnknownId(9))),
-        ),
-        (
-            Ended::Refuted,
-            1,
-            b"4 2 0 1 2 0",
-            b"refuted",
-            Err(PartError::Syntax),
-        ),
-    ] {
-        let reader = reader(alloc, conflicts, end)?;
-        let ended = reader.ended() == end;
-        let told = second(alloc, reader, (first, line));
-        assert!(rt; ended && told == answer, "{line:?}");
+fn logs_are_read(rt: HostRuntime) {
+    for &(end, conflicts, first, line, answer) in LOGS {
+        assert!(rt;
+            is_read(rt.alloc(), end, conflicts, first, line, answer),
+            "{line:?}"
+        );
     }
-    Ok(())
 }

@@ -4,7 +4,6 @@ use enc_theory::Method;
 use op_basis::Basis;
 use size_loop::{Advance, Search, search};
 use std::alloc::Global;
-use std::test::Fail;
 use tt_core::read_tables;
 
 const ALL: u16 = 65_535;
@@ -20,147 +19,201 @@ fn searched(
     method: Method,
     max: u32,
     budget: u32,
-) -> Result<Bundle, Fail> {
+) -> Option<Bundle> {
     if text.len() > 1_000 || basis == 0 || max > 16 || budget == 0 || budget > 10_000_000 {
-        return Err(Fail::from("beyond the limits"));
+        return None;
     }
-    let tables = read_tables(alloc, text).map_err(|_| Fail::from("refused"))?;
-    let found = search(alloc, &tables.spec, Basis::new(basis), method, max, budget);
-    found.map_err(|_| Fail::from("want of memory"))
+    let Ok(tables) = read_tables(alloc, text) else {
+        return None;
+    };
+    match search(alloc, &tables.spec, Basis::new(basis), method, max, budget) {
+        Ok(bundle) => Some(bundle),
+        Err(_) => None,
+    }
 }
 
-/// Whether a search within 100,000 clauses ends so, with so many sections.
+/// Tables, the basis, the method, the most steps and the budget of clauses, the verdict, and how many sections there
+/// are.
+const SEARCHED: &[(&[u8], u16, Method, u32, u32, Verdict, usize)] = &[
+    // XOR, by all operators and by NAND
+    (
+        b"inputs 2\n0110\n",
+        ALL,
+        Method::Plain,
+        16,
+        100_000,
+        Verdict::Minimum(1),
+        1,
+    ),
+    (
+        b"inputs 2\n0110\n",
+        ALL,
+        Method::Ssv,
+        16,
+        100_000,
+        Verdict::Minimum(1),
+        1,
+    ),
+    (
+        b"inputs 2\n0110\n",
+        NAND,
+        Method::Plain,
+        16,
+        100_000,
+        Verdict::Minimum(4),
+        4,
+    ),
+    (
+        b"inputs 2\n0110\n",
+        NAND,
+        Method::Ssv,
+        16,
+        100_000,
+        Verdict::Minimum(4),
+        4,
+    ),
+    // NOT by NAND, AND of three, cells that are all free
+    (
+        b"inputs 1\n10\n",
+        NAND,
+        Method::Ssv,
+        16,
+        100_000,
+        Verdict::Minimum(1),
+        1,
+    ),
+    (
+        b"inputs 3\n00000001\n",
+        ALL,
+        Method::Ssv,
+        16,
+        100_000,
+        Verdict::Minimum(2),
+        2,
+    ),
+    (
+        b"inputs 2\n----\n",
+        ALL,
+        Method::Plain,
+        16,
+        100_000,
+        Verdict::Minimum(0),
+        0,
+    ),
+    // NOT by XOR and its complement: a constant step is needed
+    (
+        b"inputs 1\n10\n",
+        576,
+        Method::Ssv,
+        16,
+        100_000,
+        Verdict::Minimum(2),
+        2,
+    ),
+    (
+        b"inputs 3\n00000001\n",
+        ALL,
+        Method::Select,
+        16,
+        100_000,
+        Verdict::Minimum(2),
+        2,
+    ),
+    (
+        b"inputs 3\n00000001\n",
+        ALL,
+        Method::Fence,
+        16,
+        100_000,
+        Verdict::Minimum(2),
+        2,
+    ),
+    // the limits end a search
+    (
+        b"inputs 2\n0110\n",
+        NAND,
+        Method::Plain,
+        3,
+        100_000,
+        Verdict::NoChain(3),
+        4,
+    ),
+    (
+        b"inputs 3\n00000001\n",
+        ALL,
+        Method::Ssv,
+        1,
+        100_000,
+        Verdict::NoChain(1),
+        2,
+    ),
+    // the full adder, with next to no work
+    (
+        b"inputs 3\n01101001\n00010111\n",
+        ALL,
+        Method::Plain,
+        2,
+        1,
+        Verdict::Open { low: 2 },
+        3,
+    ),
+];
+
+/// Whether a search ends so, with so many sections.
 fn ends_in(
     alloc: Global,
     text: &[u8],
     basis: u16,
     method: Method,
-    verdict: Verdict,
-    sections: usize,
-) -> Result<bool, Fail> {
-    let bundle = searched(alloc, text, basis, method, 16, 100_000)?;
-    Ok(bundle.verdict == verdict && bundle.sections.len() == sections)
-}
-
-#[test]
-fn fewest_steps_are_found(rt: HostRuntime) -> Result<(), Fail> {
-    for (text, basis, method, verdict, sections) in [
-        // XOR, by all operators and by NAND
-        (
-            b"inputs 2\n0110\n" as &[u8],
-            ALL,
-            Method::Plain,
-            Verdict::Minimum(1),
-            1,
-        ),
-        (
-            b"inputs 2\n0110\n",
-            ALL,
-            Method::Ssv,
-            Verdict::Minimum(1),
-            1,
-        ),
-        (
-            b"inputs 2\n0110\n",
-            NAND,
-            Method::Plain,
-            Verdict::Minimum(4),
-            4,
-        ),
-        (
-            b"inputs 2\n0110\n",
-            NAND,
-            Method::Ssv,
-            Verdict::Minimum(4),
-            4,
-        ),
-        // NOT by NAND, AND of three, cells that are all free
-        (b"inputs 1\n10\n", NAND, Method::Ssv, Verdict::Minimum(1), 1),
-        (
-            b"inputs 3\n00000001\n",
-            ALL,
-            Method::Ssv,
-            Verdict::Minimum(2),
-            2,
-        ),
-        (
-            b"inputs 2\n----\n",
-            ALL,
-            Method::Plain,
-            Verdict::Minimum(0),
-            0,
-        ),
-        // NOT by XOR and its complement: a constant step is needed
-        (b"inputs 1\n10\n", 576, Method::Ssv, Verdict::Minimum(2), 2),
-        (
-            b"inputs 3\n00000001\n",
-            ALL,
-            Method::Select,
-            Verdict::Minimum(2),
-            2,
-        ),
-        (
-            b"inputs 3\n00000001\n",
-            ALL,
-            Method::Fence,
-            Verdict::Minimum(2),
-            2,
-        ),
-    ] {
-        let well = ends_in(rt.alloc(), text, basis, method, verdict, sections)?;
-        assert!(rt; well, "{text:?} {basis}");
+    limits: (u32, u32),
+    end: (Verdict, usize),
+) -> bool {
+    match searched(alloc, text, basis, method, limits.0, limits.1) {
+        Some(bundle) => bundle.verdict == end.0 && bundle.sections.len() == end.1,
+        None => false,
     }
-    Ok(())
 }
 
 #[test]
-fn limits_end_a_search(rt: HostRuntime) -> Result<(), Fail> {
-    for (text, basis, method, max, budget, verdict) in [
-        (
-            b"inputs 2\n0110\n" as &[u8],
-            NAND,
-            Method::Plain,
-            3,
-            100_000,
-            Verdict::NoChain(3),
-        ),
-        (
-            b"inputs 3\n00000001\n",
-            ALL,
-            Method::Ssv,
-            1,
-            100_000,
-            Verdict::NoChain(1),
-        ),
-        // the full adder, with next to no work
-        (
-            b"inputs 3\n01101001\n00010111\n",
-            ALL,
-            Method::Plain,
-            2,
-            1,
-            Verdict::Open { low: 2 },
-        ),
-    ] {
-        let bundle = searched(rt.alloc(), text, basis, method, max, budget)?;
-        assert!(rt; bundle.verdict == verdict, "{text:?}");
+fn fewest_steps_are_found(rt: HostRuntime) {
+    for &(text, basis, method, max, budget, verdict, sections) in SEARCHED {
+        let end = (verdict, sections);
+        assert!(rt;
+            ends_in(rt.alloc(), text, basis, method, (max, budget), end),
+            "{text:?} {basis}"
+        );
     }
-    Ok(())
 }
 
-#[test]
-fn search_goes_on_a_size_at_a_time(rt: HostRuntime) -> Result<(), Fail> {
-    let alloc = rt.alloc();
+/// Whether a search has ended with a chain of one step.
+fn has_ended(advance: &Advance) -> bool {
+    match advance {
+        Advance::Ended { chain, verdict } => { chain.is_some() && *verdict == Verdict::Minimum(1) }
+        _ => false,
+    }
+}
+
+/// Whether the next size is the last, with a chain of one step.
+fn ends(alloc: Global, search: Search) -> bool {
+    match search.advance(alloc) {
+        Ok(advance) => has_ended(&advance),
+        Err(_) => false,
+    }
+}
+
+/// Whether the search for a chain for XOR goes on behind size 0 and ends behind size 1.
+fn goes_on(alloc: Global) -> bool {
     let Ok(tables) = read_tables(alloc, b"inputs 2\n0110\n") else {
-        return Err(Fail::from("no answer"));
+        return false;
     };
     let search = Search::new(tables.spec, Basis::new(ALL), Method::Plain, 16, 100_000);
-    let Ok(Advance::Section { rest, section }) = search.advance(alloc) else {
-        return Err(Fail::from("no answer"));
-    };
-    let Ok(Advance::Ended { chain, verdict }) = rest.advance(alloc) else {
-        return Err(Fail::from("no answer"));
-    };
-    assert!(rt; section.size == 0 && chain.is_some() && verdict == Verdict::Minimum(1));
-    Ok(())
+    match search.advance(alloc) {
+        Ok(Advance::Section { rest, section }) => ends(alloc, rest) && section.size == 0,
+        _ => false,
+    }
+}
+
+#[test]
+fn search_goes_on_a_size_at_a_time(rt: HostRuntime) {
+    assert!(rt; goes_on(rt.alloc()));
 }

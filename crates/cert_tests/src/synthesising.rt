@@ -5,8 +5,8 @@ ghost use Rattle.settings.specs.Synth.{IsInRange};
 use bundle_core::Verdict;
 use op_basis::Basis;
 use settings::Method;
-use std::alloc::Global;
-use std::test::Fail;
+use size_loop::Search;
+use std::alloc::{AllocError, Global};
 use synth_core::{Certificate, Piece, SynthSettings, begin, go_on, synthesise};
 use tt_core::SpecError;
 
@@ -36,86 +36,134 @@ fn certified(
     synthesise(alloc, text, &asked)
 }
 
-#[test]
-fn certificates_end_in_their_verdict(rt: HostRuntime) -> Result<(), Fail> {
-    for (text, basis, method, end) in [
-        (
-            b"inputs 2\n0110\n" as &[u8],
-            ALL,
-            Method::Ssv,
-            b"\nchain 1\nx3 x1 x2 0110\nout x3\nminimum 1\nend\n" as &[u8],
-        ),
-        // the cuts leave this chain alone
-        (
-            b"inputs 3\n00000001\n",
-            ALL,
-            Method::Ssv,
-            b"\nchain 2\nx4 x1 x2 0001\nx5 x3 x4 0001\nout x5\nminimum 2\nend\n",
-        ),
-        // a complemented output isn't free
-        (
-            b"inputs 2\n0110\n1001\n",
-            ALL,
-            Method::Ssv,
-            b"\nminimum 2\nend\n",
-        ),
-        // NOT by NAND, cells that are all free, a basis that isn't closed under exchanged operands
-        (
-            b"inputs 1\n10\n",
-            NAND,
-            Method::Plain,
-            b"\nchain 1\nx2 x1 x1 1110\nout x2\nminimum 1\nend\n",
-        ),
-        (
-            b"inputs 2\n----\n",
-            ALL,
-            Method::Select,
-            b"\nchain 0\nout 0\nminimum 0\nend\n",
-        ),
-        (
-            b"inputs 2\n0100\n",
-            4,
-            Method::Ssv,
-            b"\nchain 1\nx3 x2 x1 0010\nout x3\nminimum 1\nend\n",
-        ),
-    ] {
-        let found = certified(rt.alloc(), text, basis, method, 16, 100_000);
-        let certificate = found.map_err(|_| Fail::from("refused"))?;
-        assert!(rt; certificate.text.ends_with(end), "{text:?}");
-    }
-    Ok(())
-}
-
-#[test]
-fn whole_certificate_is_written(rt: HostRuntime) -> Result<(), Fail> {
-    let found = certified(
-        rt.alloc(),
-        b"inputs 2\n0--1\n",
+/// Tables, the basis, the method, and how the certificate ends.
+const ENDS: &[(&[u8], u16, Method, &[u8])] = &[
+    (
+        b"inputs 2\n0110\n",
         ALL,
         Method::Ssv,
-        16,
-        100_000,
-    );
-    let certificate = found.map_err(|_| Fail::from("refused"))?;
-    let text =
-        b"chains 1\ninputs 2\n0--1\nbasis all\nmethod ssv\nconflicts 100000\nmax 16\nchain 0\nout x1\nminimum 0\nend\n";
-    let written = certificate.text.as_slice() == text.as_slice();
-    assert!(rt; written && certificate.verdict == Verdict::Minimum(0));
-    Ok(())
+        b"\nchain 1\nx3 x1 x2 0110\nout x3\nminimum 1\nend\n",
+    ),
+    // the cuts leave this chain alone
+    (
+        b"inputs 3\n00000001\n",
+        ALL,
+        Method::Ssv,
+        b"\nchain 2\nx4 x1 x2 0001\nx5 x3 x4 0001\nout x5\nminimum 2\nend\n",
+    ),
+    // a complemented output isn't free
+    (
+        b"inputs 2\n0110\n1001\n",
+        ALL,
+        Method::Ssv,
+        b"\nminimum 2\nend\n",
+    ),
+    // NOT by NAND, cells that are all free, a basis that isn't closed under exchanged operands
+    (
+        b"inputs 1\n10\n",
+        NAND,
+        Method::Plain,
+        b"\nchain 1\nx2 x1 x1 1110\nout x2\nminimum 1\nend\n",
+    ),
+    (
+        b"inputs 2\n----\n",
+        ALL,
+        Method::Select,
+        b"\nchain 0\nout 0\nminimum 0\nend\n",
+    ),
+    (
+        b"inputs 2\n0100\n",
+        4,
+        Method::Ssv,
+        b"\nchain 1\nx3 x2 x1 0010\nout x3\nminimum 1\nend\n",
+    ),
+];
+
+/// Whether the certificate of tables ends so.
+fn ends_with(alloc: Global, text: &[u8], basis: u16, method: Method, end: &[u8]) -> bool {
+    match certified(alloc, text, basis, method, 16, 100_000) {
+        Ok(certificate) => certificate.text.ends_with(end),
+        Err(_) => false,
+    }
 }
 
 #[test]
-fn only_tables_are_read(rt: HostRuntime) -> Result<(), Fail> {
-    for (text, error) in [
-        (b"" as &[u8], SpecError::BadHeader(1)),
-        (b"inputs 2\n01a0\n", SpecError::BadRow(2)),
-        (b"inputs 2\n0110\nend\n", SpecError::BadRow(3)),
-        (b"inputs 7\n0110\n", SpecError::TooManyInputs),
-    ] {
-        let found = certified(rt.alloc(), text, ALL, Method::Ssv, 16, 1).err();
-        assert!(rt; found == Some(error), "{text:?}");
+fn certificates_end_in_their_verdict(rt: HostRuntime) {
+    for &(text, basis, method, end) in ENDS {
+        assert!(rt; ends_with(rt.alloc(), text, basis, method, end), "{text:?}");
     }
-    Ok(())
+}
+
+/// The whole certificate of a table with cells that are free.
+const WHOLE: &[u8] =
+    b"chains 1\ninputs 2\n0--1\nbasis all\nmethod ssv\nconflicts 100000\nmax 16\nchain 0\nout x1\nminimum 0\nend\n";
+
+/// Whether that is what is certified.
+fn is_whole(alloc: Global) -> bool {
+    match certified(alloc, b"inputs 2\n0--1\n", ALL, Method::Ssv, 16, 100_000) {
+        Ok(certificate) => {
+            certificate.text.as_slice() == WHOLE && certificate.verdict == Verdict::Minimum(0)
+        }
+        Err(_) => false,
+    }
+}
+
+#[test]
+fn whole_certificate_is_written(rt: HostRuntime) {
+    assert!(rt; is_whole(rt.alloc()));
+}
+
+/// Texts that aren't tables, and why they are refused.
+const REFUSED: &[(&[u8], SpecError)] = &[
+    (b"", SpecError::BadHeader(1)),
+    (b"inputs 2\n01a0\n", SpecError::BadRow(2)),
+    (b"inputs 2\n0110\nend\n", SpecError::BadRow(3)),
+    (b"inputs 7\n0110\n", SpecError::TooManyInputs),
+];
+
+/// Whether a text is refused so.
+fn is_refused(alloc: Global, text: &[u8], error: SpecError) -> bool {
+    match certified(alloc, text, ALL, Method::Ssv, 16, 1) {
+        Ok(_) => false,
+        Err(told) => told == error,
+    }
+}
+
+#[test]
+fn only_tables_are_read(rt: HostRuntime) {
+    for &(text, error) in REFUSED {
+        assert!(rt; is_refused(rt.alloc(), text, error), "{text:?}");
+    }
+}
+
+/// Adds the piece of the next size, and gives back what is left of the search.
+fn push_piece(
+    alloc: Global,
+    search: Search,
+    whole: &mut Vec<u8>,
+) -> Result<Option<Search>, AllocError> {
+    match go_on(alloc, search)? {
+        Piece::Section { search, text } => {
+            whole.extend_from_slice(&text)?;
+            Ok(Some(search))
+        }
+        Piece::Ending { text, .. } => {
+            whole.extend_from_slice(&text)?;
+            Ok(None)
+        }
+    }
+}
+
+/// Adds the pieces of all sizes, of which there are no more than 18.
+fn push_pieces(alloc: Global, search: Search, whole: &mut Vec<u8>) -> Result<(), AllocError> {
+    let mut search = search;
+    for _size in 0..18u32 {
+        match push_piece(alloc, search, whole)? {
+            Some(next) => search = next,
+            None => return Ok(()),
+        }
+    }
+    Err(AllocError)
 }
 
 /// The text of a certificate that is handed out a size at a time.
@@ -125,37 +173,34 @@ fn piece_by_piece(alloc: Global, text: &[u8], asked: &SynthSettings) -> Result<V
 {
     let begun = begin(alloc, text, asked)?;
     let mut whole = begun.text;
-    let mut search = begun.search;
-    // no more sizes than there are
-    for _size in 0..18u32 {
-        match go_on(alloc, search)? {
-            Piece::Section { search: next, text } => {
-                whole.extend_from_slice(&text)?;
-                search = next;
-            }
-            Piece::Ending { text, .. } => {
-                whole.extend_from_slice(&text)?;
-                return Ok(whole);
-            }
-        }
-    }
-    Err(SpecError::Memory)
+    push_pieces(alloc, begun.search, &mut whole)?;
+    Ok(whole)
 }
 
-#[test]
-fn pieces_are_the_certificate(rt: HostRuntime) -> Result<(), Fail> {
-    let alloc = rt.alloc();
-    for text in [
-        b"inputs 2\n0110\n" as &[u8],
-        b"inputs 3\n00000001\n",
-        b"inputs 1\n01\nend\n",
-    ] {
-        let asked = SynthSettings::usual();
-        let whole = match synthesise(alloc, text, &asked) {
-            Ok(certificate) => Ok(certificate.text),
-            Err(error) => Err(error),
-        };
-        assert!(rt; piece_by_piece(alloc, text, &asked) == whole);
+/// Whether the pieces of a short text's certificate are that, or the text is refused as a whole and in pieces alike.
+fn is_in_pieces(alloc: Global, text: &[u8]) -> bool {
+    if text.len() > 1_000 {
+        return false;
     }
-    Ok(())
+    let asked = SynthSettings::usual();
+    let pieces = piece_by_piece(alloc, text, &asked);
+    match (synthesise(alloc, text, &asked), pieces) {
+        (Ok(certificate), Ok(whole)) => certificate.text.as_slice() == whole.as_slice(),
+        (Err(error), Err(told)) => error == told,
+        _ => false,
+    }
+}
+
+/// XOR, AND of three, and a text that is refused.
+const TEXTS: &[&[u8]] = &[
+    b"inputs 2\n0110\n",
+    b"inputs 3\n00000001\n",
+    b"inputs 1\n01\nend\n",
+];
+
+#[test]
+fn pieces_are_the_certificate(rt: HostRuntime) {
+    for &text in TEXTS {
+        assert!(rt; is_in_pieces(rt.alloc(), text));
+    }
 }

@@ -99,16 +99,22 @@ fn signals_show_patterns(rt: HostRuntime) {
     }
 }
 
-/// The places of a cone that have the bit 1 under an assignment, whose last digit is the last leaf's.
-fn ones_of(cone: &Cone, row: u32) -> u64 {
+/// The leaves that have the bit 1 under an assignment, whose last digit is the last leaf's.
+fn leaf_ones(leaves: &[u32], row: u32) -> u64 {
     let mut ones = 0;
     let mut digits = row;
-    for leaf in cone.leaves().iter().rev() {
+    for leaf in leaves.iter().rev() {
         if digits % 2 == 1 {
             ones |= only(*leaf);
         }
         digits /= 2;
     }
+    ones
+}
+
+/// The places of a cone that have the bit 1 under an assignment.
+fn ones_of(cone: &Cone, row: u32) -> u64 {
+    let mut ones = leaf_ones(cone.leaves(), row);
     for (place, gate) in cone.gates() {
         if gate.op.apply(bit_of(ones, gate.a), bit_of(ones, gate.b)) {
             ones |= only(*place);

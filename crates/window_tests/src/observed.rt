@@ -1,13 +1,10 @@
-//! Tails and observed specifications: those of a window beside a plain program, and of the net of two gates of which
-//! the first is seen only where a source is 1.
+//! Tails and observed specifications of windows, beside a plain program.
 
 ghost use Rattle.window_theory.specs.Window.{Belongs};
 
-use crate::nets::{Plan, planned};
 use crate::plain::{are, end_of, gates_of, has, inputs, only, operands, outputs};
 use crate::surrounds::{are_words, care_rows, leaves, ones_of, row_of, rows_of, values};
-use crate::windows::alone;
-use net_core::{Net, Sig};
+use net_core::Net;
 use observe_core::{Tail, observed_spec, tail};
 use std::alloc::Global;
 use window_core::Window;
@@ -91,50 +88,5 @@ pub fn is_seen_plainly(alloc: Global, net: &Net, window: &Window, gates: u64) ->
     match observed_spec(alloc, net, window) {
         Ok(spec) => are_words(net, gates, rows, spec.on(), spec.care()),
         Err(_) => false,
-    }
-}
-
-/// Whether the gate of a plan at a place has this observed word of values, and these care rows.
-fn is_observed(alloc: Global, plan: &Plan, root: u32, on: u64, care: u64) -> bool {
-    let Some(net) = planned(alloc, plan) else {
-        return false;
-    };
-    let Ok(Some(window)) = alone(alloc, &net, root, 1) else {
-        return false;
-    };
-    match observed_spec(alloc, &net, &window) {
-        Ok(spec) => spec.on() == [on].as_slice() && spec.care() == [care].as_slice(),
-        Err(_) => false,
-    }
-}
-
-/// XNOR of two sources, which AND with the first source reads.
-const HIDDEN: Plan = Plan {
-    sources: 2,
-    gates: &[
-        (9, Sig::Place(1), Sig::Place(2)),
-        (1, Sig::Place(3), Sig::Place(1)),
-    ],
-    sinks: &[Sig::Place(4)],
-};
-
-/// The same, where XNOR is a sink too.
-const BARE: Plan = Plan {
-    sources: 2,
-    gates: &[
-        (9, Sig::Place(1), Sig::Place(2)),
-        (1, Sig::Place(3), Sig::Place(1)),
-    ],
-    sinks: &[Sig::Place(4), Sig::Place(3)],
-};
-
-/// Of some nets the observed values and care rows of XNOR. The rows with the first source 1 are the third and the
-/// fourth; where the gate is a sink itself all are seen.
-const OBSERVED: &[(&Plan, u64, u64)] = &[(&HIDDEN, 0b1000, 0b1100), (&BARE, 0b1001, 0b1111)];
-
-#[test]
-fn a_gate_is_seen_where_the_gate_above_lets_it(rt: HostRuntime) {
-    for &(plan, on, care) in OBSERVED {
-        assert!(rt; is_observed(rt.alloc(), plan, 3, on, care), "{care}");
     }
 }

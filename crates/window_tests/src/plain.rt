@@ -86,8 +86,8 @@ fn read_by(net: &Net, gates: u64) -> u64 {
     read
 }
 
-/// The gates that are taken, so many: again and again the greatest that isn't taken and is the root, the partner or read
-/// by one that is taken. None, if there is no such gate.
+/// The gates that are taken, so many: again and again the greatest that isn't taken and is the root, the partner or
+/// read by one that is taken. None, if there is no such gate.
 pub fn taken(net: &Net, root: u32, partner: u64, count: u32) -> u64 {
     let gates = gates_of(net);
     let mut taken = 0;

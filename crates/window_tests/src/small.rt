@@ -1,5 +1,5 @@
-//! Some hundred small nets, made by a fixed generator: their partners, windows, specifications and tails beside a plain
-//! program. And a window of eight outputs.
+//! Some hundred small nets, made by a fixed generator: their partners, windows, specifications and tails beside a
+//! plain program. And a window of eight outputs.
 
 ghost use Rattle.window_theory.specs.Window.{Belongs};
 
@@ -94,7 +94,8 @@ fn is_specified(alloc: Global, net: &Net, window: &Window, gates: u64) -> bool
     }
 }
 
-/// Whether the window of a root and a count, alone, is that of the plain program, with specification and tail, or is none.
+/// Whether the window of a root and a count, alone, is that of the plain program, with specification and tail, or is
+/// none.
 fn is_plain(alloc: Global, net: &Net, root: u32, count: u32) -> bool {
     let gates = taken(net, root, 0, count);
     match alone(alloc, net, root, count) {

@@ -1,25 +1,61 @@
-//! What windows have to compute: of some small nets, and of those that stand at the bound of twelve leaves, or have no
-//! leaf.
+//! What windows have to compute, and what of it is observed: of some small nets, and of those that stand at the bound of
+//! twelve leaves, or have no leaf.
 
 ghost use Rattle.std.specs.Prelude.{◌≤◌};
+ghost use Rattle.window_theory.specs.Window.{Belongs};
 
 use crate::nets::{Plan, gate, net_of, planned};
 use crate::plain::only;
 use crate::surrounds::leaves;
 use crate::windows::alone;
 use net_core::{Gate, Net, Sig};
+use observe_core::observed_spec;
 use std::alloc::{AllocError, Global};
-use window_core::spec_of;
+use window_core::{Window, spec_of};
 
-/// Whether the window of a root and a count, alone, has one output with this word of values, and these care rows.
-fn has_words(alloc: Global, net: &Net, root: u32, count: u32, on: u64, care: u64) -> bool {
+/// Whether this is the one word.
+fn is_one(words: &[u64], word: u64) -> bool {
+    words.len() == 1 && words[0] == word
+}
+
+/// Whether a window has one output with this word of values, and these care rows.
+fn is_specified(alloc: Global, net: &Net, window: &Window, on: u64, care: u64) -> bool
+    requires { Belongs net.now window.now }
+{
+    match spec_of(alloc, net, window) {
+        Ok(spec) => is_one(spec.on(), on) && is_one(spec.care(), care),
+        Err(_) => false,
+    }
+}
+
+/// The same of what is observed.
+fn is_observed(alloc: Global, net: &Net, window: &Window, on: u64, care: u64) -> bool
+    requires { Belongs net.now window.now }
+{
+    match observed_spec(alloc, net, window) {
+        Ok(spec) => is_one(spec.on(), on) && is_one(spec.care(), care),
+        Err(_) => false,
+    }
+}
+
+/// Whether the window of a root and a count, alone, has one output with this word of values, and these care rows, as it is
+/// or as it is observed.
+fn has_words(
+    alloc: Global,
+    net: &Net,
+    root: u32,
+    count: u32,
+    observed: bool,
+    on: u64,
+    care: u64,
+) -> bool {
     let Ok(Some(window)) = alone(alloc, net, root, count) else {
         return false;
     };
-    match spec_of(alloc, net, &window) {
-        Ok(spec) => spec.on() == [on].as_slice() && spec.care() == [care].as_slice(),
-        Err(_) => false,
+    if observed {
+        return is_observed(alloc, net, &window, on, care);
     }
+    is_specified(alloc, net, &window, on, care)
 }
 
 /// XOR of AND and OR: AND without OR never happens.
@@ -44,15 +80,39 @@ const CONSTANTS: Plan = Plan {
     sinks: &[Sig::Place(4)],
 };
 
-/// Nets, roots, counts, and the words of values and of care rows. Rows that never happen are free, and constants alone
-/// have one row.
-const WORDS: &[(&Plan, u32, u32, u64, u64)] = &[
-    (&HALVES, 5, 1, 0b0010, 0b1011),
-    (&HALVES, 5, 3, 0b0110, 0b1111),
-    (&HALVES, 3, 1, 0b1000, 0b1111),
-    (&CONSTANTS, 4, 1, 0b10, 0b10),
-    (&CONSTANTS, 4, 2, 0b1, 0b1),
-    (&CONSTANTS, 4, 3, 0b1, 0b1),
+/// XNOR of two sources, which AND with the first source reads.
+const HIDDEN: Plan = Plan {
+    sources: 2,
+    gates: &[
+        (9, Sig::Place(1), Sig::Place(2)),
+        (1, Sig::Place(3), Sig::Place(1)),
+    ],
+    sinks: &[Sig::Place(4)],
+};
+
+/// The same, where XNOR is a sink too.
+const BARE: Plan = Plan {
+    sources: 2,
+    gates: &[
+        (9, Sig::Place(1), Sig::Place(2)),
+        (1, Sig::Place(3), Sig::Place(1)),
+    ],
+    sinks: &[Sig::Place(4), Sig::Place(3)],
+};
+
+/// Nets, roots, counts, whether as it is observed, and the words of values and of care rows.
+const WORDS: &[(&Plan, u32, u32, bool, u64, u64)] = &[
+    // rows that never happen are free
+    (&HALVES, 5, 1, false, 0b0010, 0b1011),
+    (&HALVES, 5, 3, false, 0b0110, 0b1111),
+    (&HALVES, 3, 1, false, 0b1000, 0b1111),
+    // constants alone have one row
+    (&CONSTANTS, 4, 1, false, 0b10, 0b10),
+    (&CONSTANTS, 4, 2, false, 0b1, 0b1),
+    (&CONSTANTS, 4, 3, false, 0b1, 0b1),
+    // the rows with the first source 1 are the third and the fourth; where the gate is a sink itself all are seen
+    (&HIDDEN, 3, 1, true, 0b1000, 0b1100),
+    (&BARE, 3, 1, true, 0b1001, 0b1111),
 ];
 
 /// The same of a plan's net.
@@ -61,21 +121,39 @@ fn has_planned_words(
     plan: &Plan,
     root: u32,
     count: u32,
+    observed: bool,
     on: u64,
     care: u64,
 ) -> bool {
     match planned(alloc, plan) {
-        Some(net) => has_words(alloc, &net, root, count, on, care),
+        Some(net) => has_words(alloc, &net, root, count, observed, on, care),
         None => false,
     }
 }
 
 #[test]
-fn rows_that_never_happen_are_free(rt: HostRuntime) {
-    for &(plan, root, count, on, care) in WORDS {
-        let well = has_planned_words(rt.alloc(), plan, root, count, on, care);
-        assert!(rt; well, "{root} {count}");
+fn rows_that_never_happen_or_are_not_seen_are_free(rt: HostRuntime) {
+    for &(plan, root, count, observed, on, care) in WORDS {
+        let well = has_planned_words(rt.alloc(), plan, root, count, observed, on, care);
+        assert!(rt; well, "{root}");
     }
+}
+
+/// The gate of an index in a row of gates over so many sources.
+fn gate_in_row(sources: u32, index: u32) -> Gate
+    requires sources { sources ≤ 100 }
+    requires index { index ≤ sources }
+{
+    if index == 0 {
+        return gate(7, Sig::Place(1), Sig::Place(2));
+    }
+    if index == 1 {
+        return gate(1, Sig::Place(1), Sig::Place(2));
+    }
+    if index == sources {
+        return gate(6, Sig::Place(sources + 1), Sig::Place(2 * sources));
+    }
+    gate(1, Sig::Place(sources + index), Sig::Place(index + 1))
 }
 
 /// The OR of the first two of so many sources, the AND of all of them by a row of gates, and the XOR of both.
@@ -83,12 +161,9 @@ fn row_of_ands(alloc: Global, sources: u32) -> Result<Vec<Gate>, AllocError>
     requires { sources ≤ 100 }
 {
     let mut gates = Vec::new(alloc);
-    gates.push(gate(7, Sig::Place(1), Sig::Place(2)))?;
-    gates.push(gate(1, Sig::Place(1), Sig::Place(2)))?;
-    for source in 3..sources + 1 {
-        gates.push(gate(1, Sig::Place(sources + source - 1), Sig::Place(source)))?;
+    for index in 0..=sources {
+        gates.push(gate_in_row(sources, index))?;
     }
-    gates.push(gate(6, Sig::Place(sources + 1), Sig::Place(2 * sources)))?;
     Ok(gates)
 }
 
@@ -114,12 +189,12 @@ fn has_row(alloc: Global, sources: u32, count: u32, on: u64, care: u64) -> bool 
         return false;
     };
     let found = leaves(&net, only(sources + 1) | only(2 * sources));
-    found.count_ones() == count && has_words(alloc, &net, 2 * sources + 1, 1, on, care)
+    found.count_ones() == count && has_words(alloc, &net, 2 * sources + 1, 1, false, on, care)
 }
 
 /// Counts of sources and of leaves, and words of values and of care rows. AND without OR never happens. It shows where
-/// the row opens down to its first AND and that opens too: beside the OR all sources are leaves then, one place more than
-/// there are sources.
+/// the row opens down to its first AND and that opens too: beside the OR all sources are leaves then, one place more
+/// than there are sources.
 const ROWS: &[(u32, u32, u64, u64)] = &[
     (10, 10, 0b0100, 0b1101),
     (11, 11, 0b0100, 0b1101),

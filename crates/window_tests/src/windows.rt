@@ -125,66 +125,92 @@ const ROW: Plan = Plan {
     sinks: &[Sig::Place(13)],
 };
 
-/// Nets, roots, whether with a partner, counts, and the gates, inputs and outputs of the window; without gates
-/// where there is none. Six inputs are enough.
-const WINDOWS: &[(&Plan, u32, bool, u32, &[u32], &[u32], &[u32])] = &[
-    (&TWINS, 4, true, 2, &[3, 4], &[1, 2], &[3, 4]),
-    (
-        &ROW,
-        13,
-        false,
-        5,
-        &[9, 10, 11, 12, 13],
-        &[3, 4, 5, 6, 7, 8],
-        &[13],
-    ),
-    (&ROW, 13, false, 6, &[], &[], &[]),
-    (&ROW, 9, false, 3, &[], &[], &[]),
+/// The window of a root and a count in the net of a plan, with its partner or alone: its gates, inputs and outputs;
+/// without gates where there is none.
+struct Found {
+    plan: &'static Plan,
+    root: u32,
+    paired: bool,
+    count: u32,
+    gates: &'static [u32],
+    inputs: &'static [u32],
+    outputs: &'static [u32],
+}
+
+/// Windows; six inputs are enough.
+const WINDOWS: &[Found] = &[
+    Found {
+        plan: &TWINS,
+        root: 4,
+        paired: true,
+        count: 2,
+        gates: &[3, 4],
+        inputs: &[1, 2],
+        outputs: &[3, 4],
+    },
+    Found {
+        plan: &ROW,
+        root: 13,
+        paired: false,
+        count: 5,
+        gates: &[9, 10, 11, 12, 13],
+        inputs: &[3, 4, 5, 6, 7, 8],
+        outputs: &[13],
+    },
+    Found {
+        plan: &ROW,
+        root: 13,
+        paired: false,
+        count: 6,
+        gates: &[],
+        inputs: &[],
+        outputs: &[],
+    },
+    Found {
+        plan: &ROW,
+        root: 9,
+        paired: false,
+        count: 3,
+        gates: &[],
+        inputs: &[],
+        outputs: &[],
+    },
 ];
 
 /// The window of a root and a count, with the first partner or alone.
-fn window_of(
-    alloc: Global,
-    net: &Net,
-    root: u32,
-    paired: bool,
-    count: u32,
-) -> Result<Option<Window>, AllocError> {
-    if paired {
-        return together(alloc, net, root, 0, count);
+fn window_of(alloc: Global, net: &Net, found: &Found) -> Result<Option<Window>, AllocError> {
+    if found.paired {
+        return together(alloc, net, found.root, 0, found.count);
     }
-    alone(alloc, net, root, count)
+    alone(alloc, net, found.root, found.count)
 }
 
-/// Whether the window of a root and a count has these parts; where they have no gates, whether there is none.
-fn has_parts(
-    alloc: Global,
-    plan: &Plan,
-    root: u32,
-    paired: bool,
-    count: u32,
-    parts: (&[u32], &[u32], &[u32]),
-) -> bool {
-    let Some(net) = planned(alloc, plan) else {
-        return false;
-    };
-    match window_of(alloc, &net, root, paired, count) {
-        Ok(Some(window)) => {
-            let places = window.gates() == parts.0 && window.inputs() == parts.1;
-            places && window.outputs() == parts.2
-        }
-        Ok(None) => parts.0.is_empty(),
+/// Whether a window has the parts that are wanted.
+fn has_parts(window: &Window, found: &Found) -> bool {
+    let places = window.gates() == found.gates && window.inputs() == found.inputs;
+    places && window.outputs() == found.outputs
+}
+
+/// Whether a net has the window that is wanted, or none.
+fn has_window(alloc: Global, net: &Net, found: &Found) -> bool {
+    match window_of(alloc, net, found) {
+        Ok(Some(window)) => has_parts(&window, found),
+        Ok(None) => found.gates.is_empty(),
         Err(_) => false,
+    }
+}
+
+/// Whether the net of a plan has it.
+fn is_found(alloc: Global, found: &Found) -> bool {
+    match planned(alloc, found.plan) {
+        Some(net) => has_window(alloc, &net, found),
+        None => false,
     }
 }
 
 #[test]
 fn windows_have_their_parts(rt: HostRuntime) {
-    for &(plan, root, paired, count, gates, inputs, outputs) in WINDOWS {
-        let parts = (gates, inputs, outputs);
-        assert!(rt;
-            has_parts(rt.alloc(), plan, root, paired, count, parts),
-            "{root} {count}"
-        );
+    for found in WINDOWS {
+        assert!(rt; is_found(rt.alloc(), found), "{}", found.root);
     }
 }

@@ -1,7 +1,7 @@
 -- A reader that has room for what is left.
 use Rattle.std.proofs.Common.{◌+◌, ◌<◌, ◌^◌, length}
 use Rattle.cert_file.specs.Reader.{seen, IsReader}
-use Rattle.cert_tests.proofs.pieces.by_bytes.Given as goal
+use Rattle.cert_tests.proofs.judging.by_bytes.Given as goal
 
 abbrev pub invariant-loop-left : goal.invariant-loop-left
 invariant-loop-left l = record {
