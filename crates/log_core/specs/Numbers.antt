@@ -2,7 +2,7 @@
 -- a reader sees where a number ends. Example: 300 is 2 * 128 + 44, and its bytes are 130, 44.
 use Rattle.std.specs.Prelude.{ℕ, ◌+◌, ◌-◌, ◌*◌, ◌/◌, ◌%◌, ◌==◌, nat_lt, if◌then◌else◌, min, List, [], ◌∷◌, ◌++◌}
 
--- a number with one digit more behind it, read from a byte from 128 on; no number grows above 2 ^ 34
+-- a number with one digit more behind it, read from a byte from 128 on; before its last digit no number grows above 2 ^ 34
 unfoldable pub grown : ℕ → ℕ → ℕ
 grown n b = min (n * 128 + (b - 128)) 17179869184
 

@@ -12,7 +12,7 @@ use lrat_text::Line;
 use std::alloc::{AllocError, Global};
 use std::marker::Model;
 
-/// A log. It takes some two bytes for each literal and hint, and no allocation for each line.
+/// A log. A line takes 16 bytes and some two for each literal and hint, and no allocation of its own.
 #[derive(Drop)]
 pub struct Log {
     heads: Vec<Head>,
@@ -123,6 +123,7 @@ impl<'a> Lines<'a> {
     /// The next line. Where memory was wanting, it is still to be read.
     pub fn next(&mut self, alloc: Global) -> Result<Option<Line>, AllocError>
         ensures none { IfOk result (λ found. IfNone found (self.old ≡ [])) }
+        ensures end { IfOk result (λ found. IfNone found (self.new ≡ [])) }
         ensures some { IfOk result (λ found. IfSome found (λ line. self.old ≡ line_value line ∷ self.new)) }
         ensures err { OnErr result (self.new ≡ self.old) }
     {

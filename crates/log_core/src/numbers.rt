@@ -47,7 +47,8 @@ pub(crate) fn push_number(bytes: &mut Vec<u8>, number: u64) -> Result<(), AllocE
     Ok(())
 }
 
-/// A number with one digit more behind it, read from a byte from 128 on. No number grows above 2^34.
+/// A number with one digit more behind it, read from a byte from 128 on. Before its last digit no
+/// number grows above 2^34.
 #[tactic(auto, unfolding(crate::specs::Numbers::grown))]
 pub(crate) fn grown(number: u64, byte: u8) -> u64
     requires number { number ≤ 17179869184 }

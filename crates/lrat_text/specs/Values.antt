@@ -1,5 +1,4 @@
 -- What the program's lines mean.
-use Rattle.std.specs.Prelude.{List, map}
 use Rattle.sat_theory.specs.Line as theory
 use Rattle.lrat_text.specs.declared.line.Line.{Line}
 use Rattle.lrat_text.specs.declared.line.Line.TheVariants.{Add, Delete}
@@ -7,6 +6,3 @@ use Rattle.lrat_text.specs.declared.line.Line.TheVariants.{Add, Delete}
 abbrev pub line_value : Line → theory.Line
 line_value (Add id lits hints) = theory.Add id lits.items hints.items
 line_value (Delete id ids) = theory.Delete id ids.items
-
-abbrev pub line_values : List Line → List theory.Line
-line_values lines = map line_value lines

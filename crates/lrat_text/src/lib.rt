@@ -23,6 +23,6 @@ mod writing;
 
 pub use error::LineError;
 pub use laws::laws_of_lines;
-pub use line::{Line, Log};
+pub use line::Line;
 pub use reading::read_line;
 pub use writing::write_line;

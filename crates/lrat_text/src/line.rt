@@ -1,4 +1,4 @@
-//! Lines of a log as values. Contracts see them as the lines of the definitions (`line_values`).
+//! Lines of a log as values. Contracts see them as the lines of the definitions (`line_value`).
 use cnf_core::Lit;
 
 /// A line of a refutation log.
@@ -16,10 +16,4 @@ pub enum Line {
         id: u32,
         ids: Vec<u32>,
     },
-}
-
-/// A log: its lines in order.
-#[derive(Drop)]
-pub struct Log {
-    pub lines: Vec<Line>,
 }

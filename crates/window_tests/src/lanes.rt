@@ -73,6 +73,8 @@ const SHOWN: &[(&[u32], &[Step], &[Sig], u64)] = &[
     (&[], &[], &[Sig::One], 2),
     (&[], &[], &[], 1),
     (&[1, 2, 3], &[], &[Sig::Place(1), Sig::Place(3)], 15),
+    // places behind the first word of a set
+    (&[63, 64, 97], &[], &[Sig::Place(64), Sig::Place(97)], 15),
     (
         &[1, 2, 3, 4, 5, 6, 7, 8, 9, 10, 11, 12],
         TWELVE,

@@ -108,7 +108,9 @@ fn are_planned(gates: &[Gate], rows: &[(u8, Sig, Sig)]) -> bool {
     left.is_empty()
 }
 
-/// Whether a net has the gates and the sinks of a plan.
+/// Whether a net is that of a plan.
 pub fn is_planned(net: &Net, plan: &Plan) -> bool {
-    are_planned(net.gates(), plan.gates) && net.sinks() == plan.sinks
+    net.sources() == plan.sources
+        && are_planned(net.gates(), plan.gates)
+        && net.sinks() == plan.sinks
 }
