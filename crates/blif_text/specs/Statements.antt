@@ -86,8 +86,9 @@ table_of line (w ∷ ws) = if nat_lt 256 (length ws) then Err (TooWide line) els
 abbrev pub with_table_names : Said → Table → Said
 with_table_names s t = record s { driven = s.driven ++ t.output ∷ []; used = s.used ++ t.inputs }
 
+-- and its rows are to come
 abbrev pub with_table : Said → Table → Said
-with_table s t = record s { current = Some t; driven = s.driven ++ t.output ∷ []; used = s.used ++ t.inputs }
+with_table s t = record (with_table_names s t) { current = Some t }
 
 abbrev pub control_at : ℕ → Option (Trigger × Name) → List Control
 control_at line None = []
@@ -98,7 +99,7 @@ abbrev pub with_latch_names : ℕ → Said → LatchLine → Said
 with_latch_names line s l = record s { driven = s.driven ++ l.latch.output ∷ []; used = s.used ++ l.input ∷ []; controls = s.controls ++ control_at line l.latch.control }
 
 abbrev pub with_latch : ℕ → Said → LatchLine → Said
-with_latch line s l = record s { latches = s.latches ++ l ∷ []; driven = s.driven ++ l.latch.output ∷ []; used = s.used ++ l.input ∷ []; controls = s.controls ++ control_at line l.latch.control }
+with_latch line s l = record (with_latch_names line s l) { latches = s.latches ++ l ∷ [] }
 
 -- `.inputs NAMES`, which are driven, `.outputs NAMES` and `.clock NAMES`
 abbrev pub with_inputs : ℕ → Said → List (List ℕ) → Result Said NetError
