@@ -62,8 +62,7 @@ cube_text (b ∷ bs) = (b ∷ bs) ++ 32 ∷ []
 
 -- a cover line; that of a table without inputs has its value alone
 abbrev pub row_text : Bool → List ℕ → List ℕ
-row_text on [] = digit_text on ∷ 10 ∷ []
-row_text on (b ∷ bs) = (b ∷ bs) ++ 32 ∷ digit_text on ∷ 10 ∷ []
+row_text on cube = cube_text cube ++ digit_text on ∷ 10 ∷ []
 
 -- Example: `.names a b y` with `01 1` and `10 1`.
 abbrev pub table_text : Table → List ℕ
@@ -78,7 +77,7 @@ heading_text d = model_text d.model ++ list_text (codes ".inputs") d.inputs ++ l
 
 -- model, inputs, outputs, clocks, latches, tables and the end
 unfoldable pub spelled : Document → List ℕ
-spelled d = model_text d.model ++ list_text (codes ".inputs") d.inputs ++ list_text (codes ".outputs") d.outputs ++ clocks_text d.clocks ++ flat_map latch_text d.latches ++ flat_map table_text d.tables ++ codes ".end\n"
+spelled d = heading_text d ++ flat_map latch_text d.latches ++ flat_map table_text d.tables ++ codes ".end\n"
 
 -- the text of a circuit
 abbrev pub circuit_text : Circuit → List ℕ

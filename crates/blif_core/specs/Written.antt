@@ -132,11 +132,7 @@ heading c = record { model = c.model; inputs = c.inputs; outputs = c.outputs; cl
 -- Example: of XOR of a and b with the outputs y and z it is `.names a b y` with `01 1` and `10 1`, and
 -- `.names y z` with `1 1`.
 unfoldable pub written : Circuit → Document
-written c = record {
-  model = c.model;
-  inputs = c.inputs;
-  outputs = c.outputs;
-  clocks = c.clocks;
+written c = record (heading c) {
   latches = latch_lines (sig_name c) c.latches (next_states c);
   tables = tables_of c;
 }
