@@ -141,7 +141,7 @@ impl Search {
         self.merits.containing(alloc, &self.clauses, lits)
     }
 
-    /// Forgets idle clauses, where it is time for that.
+    /// Forgets idle clauses, where it is time for that, and takes back their room.
     pub(crate) fn tidy(&mut self) -> Result<(), AllocError>
         requires searching { IsSearching self.old }
         requires visited { IsVisited self.old }
@@ -152,6 +152,10 @@ impl Search {
     {
         let idle = self.due_ones()?;
         self.forget(&idle)?;
+        if idle.is_empty() {
+            return Ok(());
+        }
+        self.clauses.compact();
         Ok(())
     }
 

@@ -240,6 +240,14 @@ impl ClauseDb {
         self.store.delete(id);
     }
 
+    /// Takes back the room of clauses that went. Nothing that contracts see changes.
+    pub fn compact(&mut self)
+        ensures same { self.new ≡ self.old }
+        ensures whole { IsStored self.new }
+    {
+        self.store.compact();
+    }
+
     /// Lets a clause that watches `from` watch `to`, another one of its literals, in place of it: as
     /// `rewatch_at` does, where the index isn't known.
     pub fn rewatch(&mut self, id: u32, from: Lit, to: Lit) -> Result<(), AllocError>

@@ -1,13 +1,66 @@
 //! The literals of clauses as they were added, in one row, and a window for each id that was ever given. An id is the
-//! number of windows when it was given, so that none is given again, whatever becomes of its clause.
-ghost use Rattle.std.specs.Prelude.{◌≡◌, ◌+◌, ◌<◌, ◌↔◌, ◌∷◌, [], ◌++◌, length, take, slice_set, ◌-◌, Some, None, IsTrue, IsSome, IfOk, OnOk, OnErr};
+//! number of windows when it was given, so that none is given again, whatever becomes of its clause. The windows lie one
+//! behind the other in the row, so the literals of live clauses can be moved down over those of clauses that went: each
+//! move changes only places below the end of its own window, and none below where the last move ended (`packed_more`).
+ghost use Rattle.std.specs.Prelude.{◌≡◌, ◌+◌, ◌<◌, ◌≤◌, ◌↔◌, ◌∷◌, [], ◌++◌, length, take, drop, slice_set, ◌-◌, Some, None, IsTrue, IsSome, IfOk, OnOk, OnErr};
 ghost use Rattle.sat_theory.specs.Formula.{IsClause, IsWithin};
 ghost use Rattle.clause_db.specs.Stored.{live_at};
+ghost use Rattle.clause_db.specs.Windows.{entry_of, entries_of, AreFrom, AreInside};
 
 use crate::windows::Window;
 use cnf_core::Lit;
 use std::alloc::{AllocError, Global};
 use std::marker::Model;
+
+/// Moves the literals of a window down to a place in the row, and gives the window that they have there. Those of a
+/// clause that went are left behind.
+fn move_down(row: &mut [Lit], window: Window, to: usize) -> Window
+    requires before { to ≤ window.start }
+    requires rises { window.start ≤ window.end }
+    requires inside { window.end ≤ length row.old }
+    ensures starts { result.start ≡ to }
+    ensures rises { result.start ≤ result.end }
+    ensures within { result.end ≤ window.end }
+    ensures entry { entry_of row.new result ≡ entry_of row.old window }
+    ensures below { take to row.new ≡ take to row.old }
+    ensures behind { drop window.end row.new ≡ drop window.end row.old }
+    ensures long { length row.new ≡ length row.old }
+{
+    if !window.live {
+        return Window {
+            start: to,
+            end: to,
+            live: false,
+        };
+    }
+    if window.start == to {
+        return window;
+    }
+    row.copy_within(window.start..window.end, to);
+    Window {
+        start: to,
+        end: to + (window.end - window.start),
+        live: true,
+    }
+}
+
+/// Lets the literals of live clauses lie close together at the front of the row, and gives where they end.
+fn pack(row: &mut [Lit], windows: &mut [Window]) -> usize
+    requires { AreInside row.old windows.old }
+    ensures entries { entries_of row.new windows.new ≡ entries_of row.old windows.old }
+    ensures from { AreFrom 0 windows.new result }
+    ensures inside { result ≤ length row.new }
+    ensures row { length row.new ≡ length row.old }
+    ensures windows { length windows.new ≡ length windows.old }
+{
+    let mut end = 0;
+    for index in 0..windows.len() {
+        let window = move_down(row, windows[index], end);
+        end = window.end;
+        windows[index] = window;
+    }
+    end
+}
 
 /// Clauses by their ids, over the variables of one formula. The literals of all clauses lie in one row,
 /// without an allocation for each clause. Contracts see the variables and an entry for each id.
@@ -20,10 +73,9 @@ pub(crate) struct Store {
 
 impl Model for Store {
     ghost use Rattle.clause_db.specs.Stored.{Entries, AreEntries};
+    ghost use Rattle.clause_db.specs.Windows.{entries_of, AreInside};
 
     ghost Value = { Entries };
-
-    ghost use Rattle.clause_db.specs.Windows.{entries_of, AreInside};
 
     ghost view = { λ c. record { vars = c.vars; clauses = entries_of c.row.items c.windows.items } };
 
@@ -75,6 +127,14 @@ impl Store {
         ensures { self.new ≡ record self.old { clauses = slice_set self.old.clauses (id - 1) None } }
     {
         self.windows[id as usize - 1].live = false;
+    }
+
+    /// Takes back the room of clauses that went.
+    pub(crate) fn compact(&mut self)
+        ensures { self.new ≡ self.old }
+    {
+        let end = pack(&mut self.row, &mut self.windows);
+        self.row.truncate(end);
     }
 
     /// The literals of a live clause.

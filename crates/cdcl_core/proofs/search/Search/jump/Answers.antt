@@ -60,8 +60,8 @@ returns-clause-logged c = λ f logged.
     let l = c.in_ok-learnt.learnt in
     let clauses_are : c.add.new.self ≡ added s.clauses l.lits.items = c.in_ok-id.ensures.ok ∙ ap (λ (xs : List ℤ). added s.clauses xs) c.deref-4.ensures.value in
     let lines_are = c.in_ok-add.ensures.ok
-        ∙ ap (λ (xs : List ℤ). s.lines ++ theory.Add c.in_ok-id.id xs c.deref-6.result.now ∷ []) c.deref-5.ensures.value
-        ∙ ap (λ (xs : List ℕ). s.lines ++ theory.Add c.in_ok-id.id l.lits.items xs ∷ []) c.deref-6.ensures.value in
+    ∙ ap (λ (xs : List ℤ). s.lines ++ theory.Add c.in_ok-id.id xs c.deref-6.result.now ∷ []) c.deref-5.ensures.value
+    ∙ ap (λ (xs : List ℕ). s.lines ++ theory.Add c.in_ok-id.id l.lits.items xs ∷ []) c.deref-6.ensures.value in
     let within : IsWithin s.clauses.vars l.lits.items = subst (λ (n : ℕ). IsWithin n l.lits.items) (sym c.requires.searching.vars) c.in_ok-learnt.ensures.learnt.variables in
     let few : s.trail.vars < 1000000000 = c.requires.searching.layered.whole.few in
     let small : s.clauses.vars < 1000000000 = omega (arith, few, c.requires.searching.vars) in
