@@ -125,7 +125,7 @@ latches_spelled (l ∷ ls) =
 
 row_spelled : (cube : List ℕ) → row_text true cube ≡ line_text (row_line cube)
 row_spelled [] = refl
-row_spelled (b ∷ bs) = sym (append_assoc (b ∷ bs) (32 ∷ 49 ∷ []) (10 ∷ []))
+row_spelled (b ∷ bs) = append_assoc (b ∷ bs) (32 ∷ []) (49 ∷ 10 ∷ []) ∙ sym (append_assoc (b ∷ bs) (32 ∷ 49 ∷ []) (10 ∷ []))
 
 rows_spelled : (cubes : List (List ℕ)) → flat_map (row_text true) cubes ≡ lines_text (map row_line cubes)
 rows_spelled [] = refl
