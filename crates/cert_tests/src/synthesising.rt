@@ -36,103 +36,127 @@ fn certified(
     synthesise(alloc, text, &asked)
 }
 
-/// Tables, the basis, the method, and how the certificate ends.
-const ENDS: &[(&[u8], u16, Method, &[u8])] = &[
+/// What is wanted of a text.
+#[derive(Clone, Copy)]
+enum Wanted {
+    /// A certificate that ends so.
+    Ends(&'static [u8]),
+    /// This certificate, by a chain of no step.
+    Whole(&'static [u8]),
+    Refused(SpecError),
+}
+
+/// Whether a certificate is the one that is wanted.
+fn is_wanted(certificate: &Certificate, wanted: Wanted) -> bool {
+    match wanted {
+        Wanted::Ends(end) => certificate.text.ends_with(end),
+        Wanted::Whole(whole) => {
+            certificate.text.as_slice() == whole && certificate.verdict == Verdict::Minimum(0)
+        }
+        Wanted::Refused(_) => false,
+    }
+}
+
+/// Whether a refusal is the one that is wanted.
+fn is_refusal(error: SpecError, wanted: Wanted) -> bool {
+    match wanted {
+        Wanted::Refused(told) => told == error,
+        _ => false,
+    }
+}
+
+/// Texts, the basis, the method, and what is wanted.
+const CERTIFIED: &[(&[u8], u16, Method, Wanted)] = &[
     (
         b"inputs 2\n0110\n",
         ALL,
         Method::Ssv,
-        b"\nchain 1\nx3 x1 x2 0110\nout x3\nminimum 1\nend\n",
+        Wanted::Ends(b"\nchain 1\nx3 x1 x2 0110\nout x3\nminimum 1\nend\n"),
     ),
     // the cuts leave this chain alone
     (
         b"inputs 3\n00000001\n",
         ALL,
         Method::Ssv,
-        b"\nchain 2\nx4 x1 x2 0001\nx5 x3 x4 0001\nout x5\nminimum 2\nend\n",
+        Wanted::Ends(b"\nchain 2\nx4 x1 x2 0001\nx5 x3 x4 0001\nout x5\nminimum 2\nend\n"),
     ),
     // a complemented output isn't free
     (
         b"inputs 2\n0110\n1001\n",
         ALL,
         Method::Ssv,
-        b"\nminimum 2\nend\n",
+        Wanted::Ends(b"\nminimum 2\nend\n"),
     ),
     // NOT by NAND, cells that are all free, a basis that isn't closed under exchanged operands
     (
         b"inputs 1\n10\n",
         NAND,
         Method::Plain,
-        b"\nchain 1\nx2 x1 x1 1110\nout x2\nminimum 1\nend\n",
+        Wanted::Ends(b"\nchain 1\nx2 x1 x1 1110\nout x2\nminimum 1\nend\n"),
     ),
     (
         b"inputs 2\n----\n",
         ALL,
         Method::Select,
-        b"\nchain 0\nout 0\nminimum 0\nend\n",
+        Wanted::Ends(b"\nchain 0\nout 0\nminimum 0\nend\n"),
     ),
     (
         b"inputs 2\n0100\n",
         4,
         Method::Ssv,
-        b"\nchain 1\nx3 x2 x1 0010\nout x3\nminimum 1\nend\n",
+        Wanted::Ends(b"\nchain 1\nx3 x2 x1 0010\nout x3\nminimum 1\nend\n"),
+    ),
+    // a whole certificate
+    (
+        b"inputs 2\n0--1\n",
+        ALL,
+        Method::Ssv,
+        Wanted::Whole(
+            b"chains 1\ninputs 2\n0--1\nbasis all\nmethod ssv\nconflicts 100000\nmax 16\nchain 0\nout x1\nminimum 0\nend\n",
+        ),
+    ),
+    // texts that aren't tables
+    (
+        b"",
+        ALL,
+        Method::Ssv,
+        Wanted::Refused(SpecError::BadHeader(1)),
+    ),
+    (
+        b"inputs 2\n01a0\n",
+        ALL,
+        Method::Ssv,
+        Wanted::Refused(SpecError::BadRow(2)),
+    ),
+    (
+        b"inputs 2\n0110\nend\n",
+        ALL,
+        Method::Ssv,
+        Wanted::Refused(SpecError::BadRow(3)),
+    ),
+    (
+        b"inputs 7\n0110\n",
+        ALL,
+        Method::Ssv,
+        Wanted::Refused(SpecError::TooManyInputs),
     ),
 ];
 
-/// Whether the certificate of tables ends so.
-fn ends_with(alloc: Global, text: &[u8], basis: u16, method: Method, end: &[u8]) -> bool {
+/// Whether what is certified of a text is what is wanted.
+fn is_certified(alloc: Global, text: &[u8], basis: u16, method: Method, wanted: Wanted) -> bool {
     match certified(alloc, text, basis, method, 16, 100_000) {
-        Ok(certificate) => certificate.text.ends_with(end),
-        Err(_) => false,
+        Ok(certificate) => is_wanted(&certificate, wanted),
+        Err(error) => is_refusal(error, wanted),
     }
 }
 
 #[test]
-fn certificates_end_in_their_verdict(rt: HostRuntime) {
-    for &(text, basis, method, end) in ENDS {
-        assert!(rt; ends_with(rt.alloc(), text, basis, method, end), "{text:?}");
-    }
-}
-
-/// The whole certificate of a table with cells that are free.
-const WHOLE: &[u8] =
-    b"chains 1\ninputs 2\n0--1\nbasis all\nmethod ssv\nconflicts 100000\nmax 16\nchain 0\nout x1\nminimum 0\nend\n";
-
-/// Whether that is what is certified.
-fn is_whole(alloc: Global) -> bool {
-    match certified(alloc, b"inputs 2\n0--1\n", ALL, Method::Ssv, 16, 100_000) {
-        Ok(certificate) => {
-            certificate.text.as_slice() == WHOLE && certificate.verdict == Verdict::Minimum(0)
-        }
-        Err(_) => false,
-    }
-}
-
-#[test]
-fn whole_certificate_is_written(rt: HostRuntime) {
-    assert!(rt; is_whole(rt.alloc()));
-}
-
-/// Texts that aren't tables, and why they are refused.
-const REFUSED: &[(&[u8], SpecError)] = &[
-    (b"", SpecError::BadHeader(1)),
-    (b"inputs 2\n01a0\n", SpecError::BadRow(2)),
-    (b"inputs 2\n0110\nend\n", SpecError::BadRow(3)),
-    (b"inputs 7\n0110\n", SpecError::TooManyInputs),
-];
-
-/// Whether a text is refused so.
-fn is_refused(alloc: Global, text: &[u8], error: SpecError) -> bool {
-    match certified(alloc, text, ALL, Method::Ssv, 16, 1) {
-        Ok(_) => false,
-        Err(told) => told == error,
-    }
-}
-
-#[test]
-fn only_tables_are_read(rt: HostRuntime) {
-    for &(text, error) in REFUSED {
-        assert!(rt; is_refused(rt.alloc(), text, error), "{text:?}");
+fn certificates_are_written(rt: HostRuntime) {
+    for &(text, basis, method, wanted) in CERTIFIED {
+        assert!(rt;
+            is_certified(rt.alloc(), text, basis, method, wanted),
+            "{text:?}"
+        );
     }
 }
 

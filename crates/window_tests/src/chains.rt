@@ -44,8 +44,8 @@ fn pair_of(alloc: Global, net: &Net, root: u32, count: u32, block: &[u8]) -> Opt
     Some(Pair { window, chain })
 }
 
-/// What stands in the net of a plan where the chain of a block takes the place of the window of a root and a count; and
-/// of a chain that agrees what of that isn't dead.
+/// What stands in the net of a plan where the chain of a block takes the place of the window of a root and a count;
+/// and of a chain that agrees what of that isn't dead.
 struct Row {
     plan: &'static Plan,
     root: u32,

@@ -1,5 +1,5 @@
-//! What windows have to compute, and what of it is observed: of some small nets, and of those that stand at the bound of
-//! twelve leaves, or have no leaf.
+//! What windows have to compute, and what of it is observed: of some small nets, and of those that stand at the bound
+//! of twelve leaves, or have no leaf.
 
 ghost use Rattle.std.specs.Prelude.{◌≤◌};
 ghost use Rattle.window_theory.specs.Window.{Belongs};
@@ -38,8 +38,8 @@ fn is_observed(alloc: Global, net: &Net, window: &Window, on: u64, care: u64) ->
     }
 }
 
-/// Whether the window of a root and a count, alone, has one output with this word of values, and these care rows, as it is
-/// or as it is observed.
+/// Whether the window of a root and a count, alone, has one output with this word of values, and these care rows, as
+/// it is or as it is observed.
 fn has_words(
     alloc: Global,
     net: &Net,
