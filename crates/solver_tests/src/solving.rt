@@ -1,9 +1,9 @@
 //! The solver: formulas in steps of difficulty, how many clauses are learnt, and each log fed to the checker.
 use cdcl_core::{Solved, solve};
 use cnf_core::Cnf;
+use log_core::{Log, write_log};
 use lrat_check::Checker;
 use lrat_tests::building::{clause, formula, push_within};
-use log_core::{Log, write_log};
 use lrat_text::{Line, read_line, write_line};
 use std::alloc::{AllocError, Global};
 
