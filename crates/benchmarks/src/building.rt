@@ -51,6 +51,19 @@ fn size_by<E: Encoding>(alloc: Global, encoding: &E, spec: &Spec, r: u32) -> Opt
     Some(size)
 }
 
+/// How large the formulas of a size are by the method of a word.
+fn size_of(alloc: Global, method: &[u8], spec: &Spec, r: u32) -> Option<Size>
+    requires { r ≤ 16 }
+{
+    match method {
+        b"plain" => size_by(alloc, &Plain, spec, r),
+        b"ssv" => size_by(alloc, &Ssv, spec, r),
+        b"select" => size_by(alloc, &Select, spec, r),
+        b"fence" => size_by(alloc, &FenceEnc, spec, r),
+        _ => None,
+    }
+}
+
 /// How large the formulas of at most 16 steps are, where the text is one of tables and the word is a
 /// method.
 pub fn build(alloc: Global, method: &[u8], text: &[u8], r: u32) -> Option<Size>
@@ -60,11 +73,5 @@ pub fn build(alloc: Global, method: &[u8], text: &[u8], r: u32) -> Option<Size>
         return None;
     }
     let tables = read_tables(alloc, text).ok()?;
-    match method {
-        b"plain" => size_by(alloc, &Plain, &tables.spec, r),
-        b"ssv" => size_by(alloc, &Ssv, &tables.spec, r),
-        b"select" => size_by(alloc, &Select, &tables.spec, r),
-        b"fence" => size_by(alloc, &FenceEnc, &tables.spec, r),
-        _ => None,
-    }
+    size_of(alloc, method, &tables.spec, r)
 }

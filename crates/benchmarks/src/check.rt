@@ -90,14 +90,20 @@ pub fn formula(alloc: Global, text: &[u8]) -> Result<(Cnf, &[u8]), Fault> {
     Ok((cnf, left))
 }
 
-/// Whether the log behind a formula refutes it, where each of its lines holds.
-pub fn check(alloc: Global, text: &[u8]) -> Result<bool, Fault> {
-    let (cnf, log) = formula(alloc, text)?;
-    let mut checker = Checker::new(alloc, cnf)?;
+/// Feeds the lines of a log, where each of them holds.
+fn feed_all(alloc: Global, checker: &mut Checker, log: &[u8]) -> Result<(), Fault> {
     let mut left = log;
     while let Some((line, _, rest)) = next_line(left) {
         checker.feed(read_line(alloc, line)?)?;
         left = rest;
     }
+    Ok(())
+}
+
+/// Whether the log behind a formula refutes it, where each of its lines holds.
+pub fn check(alloc: Global, text: &[u8]) -> Result<bool, Fault> {
+    let (cnf, log) = formula(alloc, text)?;
+    let mut checker = Checker::new(alloc, cnf)?;
+    feed_all(alloc, &mut checker, log)?;
     Ok(checker.refuted())
 }

@@ -1,13 +1,14 @@
 //! Measures what a change of a net costs: a chain of one step in the place of a gate (`splice`), dropping dead gates
 //! (`drop`), and the index of a net (`index`), each done 200 times on a net of 100,000 gates that a fixed generator makes.
-ghost use Rattle.std.specs.Prelude.{◌≡◌, ◌+◌, ◌≤◌, ◌<◌, ◌^◌, vec_len, IfOk, All};
-ghost use Rattle.net_theory.specs.Net.{AreGates, IsSigBelow};
+ghost use Rattle.std.specs.Prelude.{◌≡◌, ◌+◌, ◌≤◌, ◌<◌, ◌^◌, length, vec_len, IfOk, All};
+ghost use Rattle.net_theory.specs.Net.{AreGates, IsNet, IsSigBelow};
+ghost use Rattle.window_theory.specs.Window.{Belongs};
 
 use chain_core::read_chain;
 use net_core::{Gate, Net, Op, Sig, drop_dead};
 use std::alloc::{AllocError, Global};
 use subst_core::{WindowLists, splice};
-use window_core::{readers_of, window};
+use window_core::{Window, readers_of, window};
 
 /// The next number of the generator.
 fn next(seed: u32) -> u32 {
@@ -66,6 +67,33 @@ fn random_net(alloc: Global) -> Result<Net, AllocError> {
     Ok(Net::new(1000, gates, sinks))
 }
 
+/// The net in which the chain of a block has taken the place of a window.
+fn replaced(
+    alloc: Global,
+    net: &Net,
+    window: &Window,
+    block: &[u8],
+) -> Result<Option<Net>, AllocError>
+    requires net { IsNet net.now }
+    requires belongs { Belongs net.now window.now }
+    requires short { length block.now ≤ 1000 }
+{
+    let inputs = window.inputs().len() as u32;
+    let outputs = window.outputs().len() as u32;
+    let Ok((chain, _used)) = read_chain(alloc, block, 1, inputs, outputs) else {
+        return Ok(None);
+    };
+    if chain.steps().len() > window.gates().len() {
+        return Ok(None);
+    }
+    let lists = WindowLists {
+        gates: window.gates(),
+        inputs: window.inputs(),
+        outputs: window.outputs(),
+    };
+    Ok(Some(splice(alloc, net, &lists, &chain)?))
+}
+
 /// The net in which the chain of a block has taken the place of the window of a root and a count.
 fn spliced_net(
     alloc: Global,
@@ -84,20 +112,7 @@ fn spliced_net(
     let Some(window) = window(alloc, net, root, None, count)? else {
         return Ok(None);
     };
-    let inputs = window.inputs().len() as u32;
-    let outputs = window.outputs().len() as u32;
-    let Ok((chain, _used)) = read_chain(alloc, block, 1, inputs, outputs) else {
-        return Ok(None);
-    };
-    if chain.steps().len() > window.gates().len() {
-        return Ok(None);
-    }
-    let lists = WindowLists {
-        gates: window.gates(),
-        inputs: window.inputs(),
-        outputs: window.outputs(),
-    };
-    Ok(Some(splice(alloc, net, &lists, &chain)?))
+    replaced(alloc, net, &window, block)
 }
 
 /// The net in which XOR has taken the place of a gate, where it can.

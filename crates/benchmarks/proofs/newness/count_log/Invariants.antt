@@ -1,5 +1,5 @@
 use Rattle.std.proofs.Common.{length}
-use Rattle.benchmarks.proofs.check.check.Given as goal
+use Rattle.benchmarks.proofs.newness.count_log.Given as goal
 
 abbrev pub decreases-loop-line : goal.decreases-loop-line
 decreases-loop-line l = length l.left
