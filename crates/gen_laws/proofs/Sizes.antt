@@ -56,7 +56,7 @@ pieces text most P each (x ∷ xs) all =
 
 row_short : (on : Bool) (cube : List ℕ) → length cube ≤ 2 → length (row_text on cube) ≤ 5
 row_short on [] low = omega arith
-row_short on (b ∷ bs) low = omega (arith, low, length-append (b ∷ bs) (32 ∷ digit_text on ∷ 10 ∷ []))
+row_short on (b ∷ bs) low = omega (arith, low, length-append (b ∷ bs) (32 ∷ []), length-append ((b ∷ bs) ++ 32 ∷ []) (digit_text on ∷ 10 ∷ []))
 
 table_short : (t : Table) → IsTiny t → length (table_text t) ≤ 100
 table_short t is =

@@ -1,5 +1,5 @@
 -- The tables of blocks: they are tables of cubes, layered behind the inputs, and cost at most a gate each.
-use Rattle.std.specs.Prelude.{◌≡◌, ℕ, zero, suc, ◌+◌, ◌%◌, ◌^◌, ◌≤◌, ◌<◌, Bool, true, false, ◌&&◌, ◌||◌, ◌==◌, nat_le, List, [], ◌∷◌, ◌++◌, length, map, All, Option, Some, None, option_to_list, codes, if◌then◌else◌, sum_by, refl}
+use Rattle.std.specs.Prelude.{◌≡◌, ℕ, zero, suc, ◌%◌, ◌^◌, ◌≤◌, ◌<◌, Bool, true, false, ◌&&◌, ◌||◌, ◌==◌, nat_le, List, [], ◌∷◌, ◌++◌, length, map, All, Option, Some, None, option_to_list, codes, if◌then◌else◌, sum_by, refl}
 use Rattle.std.proofs.Common.{arith, sym, ◌∙◌, ap, subst, append_assoc, append-nil}
 use Rattle.std.proofs.lemmas.Bool.{cond_both, both_ways, and_parts, leb-true, eqb-true}
 use Rattle.std.proofs.lemmas.List.{map-append}
