@@ -1,5 +1,5 @@
 -- Tables that join all their inputs.
-use Rattle.std.proofs.Common.{◌≡◌, ℕ, ◌-◌, ◌<◌, Bool, true, false, not, if◌then◌else◌, List, [], ◌∷◌, length, refl, ◌∙◌, ap, sym, arith}
+use Rattle.std.proofs.Common.{◌≡◌, ℕ, ◌<◌, Bool, true, false, not, if◌then◌else◌, List, [], ◌∷◌, length, refl, ◌∙◌, ap, sym, arith}
 use Rattle.std.proofs.lemmas.Grind.{common_steps}
 use Rattle.net_theory.specs.declared.data.Sig.{Sig}
 use Rattle.net_theory.specs.declared.data.Gate.{Gate}

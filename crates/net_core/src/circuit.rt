@@ -61,22 +61,17 @@ impl Circuit {
         ensures proper { IfOk result (λ left. IsProper left) }
         ensures same { IfOk result (λ left. (d : Document) → Describes d self → Describes d left) }
     {
-        let Circuit {
-            model,
-            inputs,
-            outputs,
-            clocks,
-            latches,
-            net,
-        } = self;
-        let net = drop_dead(alloc, &net)?;
-        Ok(Circuit {
-            model,
-            inputs,
-            outputs,
-            clocks,
-            latches,
-            net,
-        })
+        let mut left = self;
+        match drop_dead(alloc, &left.net) {
+            Ok(net) => {
+                left.net = net;
+                Ok(left)
+            }
+            Err(error) => {
+                // by the type's own drop, which an exit would write out
+                drop(left);
+                Err(error)
+            }
+        }
     }
 }

@@ -4,8 +4,8 @@ ghost use Rattle.std.specs.Prelude.{◌≡◌, ◌+◌, ◌-◌, ◌≤◌, ◌<
 ghost use Rattle.std.specs.List.{list_any};
 ghost use Rattle.net_theory.specs.Net.{IsSigBelow, sig_value, values_of, end_of};
 ghost use Rattle.net_theory.specs.Cover.{IsCover, cover_value as cover_value_of};
-ghost use Rattle.net_theory.specs.Cost.{cover_cost, wide_cost, literal_sum};
-ghost use Rattle.net_theory.specs.Expansion.{constant_sig, with_not, unary_built, binary_built, literals as literals_of, terms_from, complemented as complemented_of, last_complemented, finished_by, asks_nothing as asks_nothing_of, is_plain as is_plain_of, wide_built, expanded};
+ghost use Rattle.net_theory.specs.Cost.{cover_cost, wide_cost, literal_count, literal_sum};
+ghost use Rattle.net_theory.specs.Expansion.{constant_sig, with_not, unary_built, binary_built, literals as literals_of, and_word, join_all as join_all_of, or_built, terms_from, complemented as complemented_of, last_complemented, finished_by, asks_nothing as asks_nothing_of, is_plain as is_plain_of, wide_built, expanded};
 ghost use Rattle.net_theory.specs.BuiltLaws.{IsBuilt};
 ghost use Rattle.net_theory.specs.WideLaws.{AreTerms};
 ghost use Rattle.net_theory.specs.declared.data.Gate.{Gate};
@@ -149,6 +149,26 @@ fn literals(alloc: Global, cube: &[u8], inputs: &[Sig]) -> Result<Vec<Signed>, A
     Ok(all)
 }
 
+/// A cube as AND of its literals.
+#[tactic(auto, using(crate::proofs::Wide::terms_loop))]
+fn push_term(
+    alloc: Global,
+    sources: u32,
+    gates: &mut Vec<Gate>,
+    cube: &[u8],
+    inputs: &[Sig],
+) -> Result<Signed, AllocError>
+    requires width { length cube.now ≡ length inputs.now }
+    requires some { 0 < literal_count cube.now }
+    requires room { sources + vec_len gates.old + literal_count cube.now ≤ 2 ^ 31 }
+    ensures gates { IfOk result (λ out. joint gates.new.items out ≡ join_all_of and_word sources gates.old.items (literals_of cube.now inputs.now)) }
+    ensures count { OnOk result (vec_len gates.new + 1 ≡ vec_len gates.old + literal_count cube.now) }
+    ensures front { IsFront gates.old.items gates.new.items }
+{
+    let signals = literals(alloc, cube, inputs)?;
+    join_all(Connective::And, sources, gates, &signals)
+}
+
 /// The cubes, each as AND of its literals.
 #[tactic(auto, using(crate::proofs::Wide::terms_loop), unfolding(net_theory::specs::Expansion::terms_from))]
 fn push_terms(
@@ -168,12 +188,31 @@ fn push_terms(
     let mut outs = Vec::new(alloc);
     let mut left = cubes;
     while let Some((cube, rest)) = left.split_first() {
-        let signals = literals(alloc, cube.get(), inputs)?;
-        let out = join_all(Connective::And, sources, gates, &signals)?;
+        let out = push_term(alloc, sources, gates, cube.get(), inputs)?;
         outs.push(out)?;
         left = rest;
     }
     Ok(outs)
+}
+
+/// OR of the cubes.
+#[tactic(auto, using(crate::proofs::Wide::wide_table))]
+fn join_terms(
+    alloc: Global,
+    sources: u32,
+    gates: &mut Vec<Gate>,
+    cubes: &[Cube],
+    inputs: &[Sig],
+) -> Result<Signed, AllocError>
+    requires cubes { AreTerms (length inputs.now) cubes.now }
+    requires some { 0 < length cubes.now }
+    requires room { sources + vec_len gates.old + literal_sum cubes.now ≤ 2 ^ 31 }
+    ensures gates { IfOk result (λ out. joint gates.new.items out ≡ or_built sources (terms_from sources inputs.now (terms gates.old.items []) cubes.now)) }
+    ensures count { OnOk result (vec_len gates.new + 1 ≡ vec_len gates.old + literal_sum cubes.now) }
+    ensures front { IsFront gates.old.items gates.new.items }
+{
+    let outs = push_terms(alloc, sources, gates, cubes, inputs)?;
+    join_all(Connective::Or, sources, gates, &outs)
 }
 
 /// The gate with the complement of its operator.
@@ -244,8 +283,7 @@ fn expand_wide(
         return Ok(constant(cover.on && !cover.cubes.is_empty()));
     }
     let before = gates.len();
-    let outs = push_terms(alloc, sources, gates, &cover.cubes, inputs)?;
-    let out = join_all(Connective::Or, sources, gates, &outs)?;
+    let out = join_terms(alloc, sources, gates, &cover.cubes, inputs)?;
     finish(sources, gates, before, out, cover.on)
 }
 

@@ -3,7 +3,7 @@
 ghost use Rattle.std.specs.Prelude.{◌≡◌, ◌^◌, ◌+◌, ◌-◌, ◌≤◌, ◌<◌, [], length, map, slice_get, vec_len, All, OnOk, IfOk};
 ghost use Rattle.std.specs.List.{filter_map};
 ghost use Rattle.net_theory.specs.Document.{has, latch_output};
-ghost use Rattle.net_theory.specs.Naming.{control_of, taken_set, numbered as numbered_of, each_once, free_names, first_free, rest_free, named, names_after, names_in, gate_names as gate_names_of, first_spare as first_spare_of, second_spare as second_spare_of};
+ghost use Rattle.net_theory.specs.Naming.{control_of, taken_names, taken_set, numbered as numbered_of, each_once, free_names, first_free, rest_free, named, names_after, names_in, gate_names as gate_names_of, first_spare as first_spare_of, second_spare as second_spare_of};
 ghost use Rattle.net_theory.specs.Circuit.{IsProper};
 ghost use Rattle.std.specs.Option.{option_copied};
 ghost use Rattle.net_theory.specs.Net.{IsSigBelow};
@@ -67,17 +67,24 @@ fn take_controls(taken: &mut IndexSet<Name>, latches: &[Latch]) -> Result<(), Al
     Ok(())
 }
 
-/// The names that numbered names pass over.
+/// Adds the names that numbered names pass over.
 #[tactic(auto, using(crate::proofs::NamingLemmas::sets))]
+fn take_all(taken: &mut IndexSet<Name>, circuit: &Circuit) -> Result<(), AllocError>
+    ensures { OnOk result (taken.new.keys ≡ each_once taken.old.keys (taken_names circuit.now)) }
+{
+    take_names(taken, &circuit.inputs)?;
+    take_names(taken, &circuit.outputs)?;
+    take_latches(taken, &circuit.latches)?;
+    take_names(taken, &circuit.clocks)?;
+    take_controls(taken, &circuit.latches)
+}
+
+/// The names that numbered names pass over.
 fn taken(alloc: Global, circuit: &Circuit) -> Result<IndexSet<Name>, AllocError>
     ensures { IfOk result (λ taken. taken.keys ≡ taken_set circuit.now) }
 {
     let mut taken = IndexSet::new(alloc);
-    take_names(&mut taken, &circuit.inputs)?;
-    take_names(&mut taken, &circuit.outputs)?;
-    take_latches(&mut taken, &circuit.latches)?;
-    take_names(&mut taken, &circuit.clocks)?;
-    take_controls(&mut taken, &circuit.latches)?;
+    take_all(&mut taken, circuit)?;
     Ok(taken)
 }
 
