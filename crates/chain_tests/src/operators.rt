@@ -1,58 +1,89 @@
 //! Operators by their words, and bases: their tests and their texts.
 use op_basis::{Basis, BasisError, Op, read_basis, read_operator, write_basis, write_operator};
+use std::alloc::Global;
 
-/// Each operator's values at (0,0), (0,1), (1,0), (1,1), written as its word.
+/// Whether an operator has these values at (0,0), (0,1), (1,0), (1,1).
+fn has_values(word: u8, values: [bool; 4]) -> bool {
+    if word >= 16 {
+        return false;
+    }
+    let op = Op::new(word);
+    let [at_00, at_01, at_10, at_11] = values;
+    op.get() == word
+        && op.apply(false, false) == at_00
+        && op.apply(false, true) == at_01
+        && op.apply(true, false) == at_10
+        && op.apply(true, true) == at_11
+}
+
+/// Operators, and their values, written as their words.
+const VALUES: &[(u8, [bool; 4])] = &[
+    (1, [false, false, false, true]),
+    (2, [false, false, true, false]),
+    (6, [false, true, true, false]),
+    (7, [false, true, true, true]),
+    (8, [true, false, false, false]),
+    (9, [true, false, false, true]),
+    (12, [true, true, false, false]),
+    (14, [true, true, true, false]),
+];
+
 #[test]
 fn operators_have_the_values_of_their_words(rt: HostRuntime) {
-    let words = [
-        (1, [false, false, false, true]),
-        (2, [false, false, true, false]),
-        (6, [false, true, true, false]),
-        (7, [false, true, true, true]),
-        (8, [true, false, false, false]),
-        (9, [true, false, false, true]),
-        (12, [true, true, false, false]),
-        (14, [true, true, true, false]),
-    ];
-    for (word, [at_00, at_01, at_10, at_11]) in words {
-        assert!(rt; word < 16);
-        let op = Op::new(word);
-        let first = op.apply(false, false) == at_00 && op.apply(false, true) == at_01;
-        let second = op.apply(true, false) == at_10 && op.apply(true, true) == at_11;
-        assert!(rt; op.get() == word && first && second, "at {word}");
+    for &(word, values) in VALUES {
+        assert!(rt; has_values(word, values), "at {word}");
     }
 }
 
+/// The operator of a word, as a number.
+fn number_of(word: &[u8]) -> Option<u8> {
+    match read_operator(word) {
+        Some(op) => Some(op.get()),
+        None => None,
+    }
+}
+
+/// Whether an operator is written as this word.
+fn is_operator(alloc: Global, op: Op, word: &[u8]) -> bool {
+    let mut out = Vec::new(alloc);
+    write_operator(op, &mut out).is_ok() && out.as_slice() == word
+}
+
+/// Words, and their operators.
+const OPERATORS: &[(&[u8], Option<u8>)] = &[
+    (b"0110", Some(6)),
+    (b"1110", Some(14)),
+    (b"011", None),
+    (b"01101", None),
+    (b"0120", None),
+    (b"", None),
+];
+
 #[test]
 fn words_of_operators_are_read_and_written(rt: HostRuntime) {
-    for (word, op) in [
-        (b"0110" as &[u8], Some(Op::new(6))),
-        (b"1110", Some(Op::new(14))),
-        (b"011", None),
-        (b"01101", None),
-        (b"0120", None),
-        (b"", None),
-    ] {
-        assert!(rt; read_operator(word) == op);
+    for &(word, number) in OPERATORS {
+        assert!(rt; number_of(word) == number);
     }
-    let mut out = Vec::new(rt.alloc());
-    assert!(rt; write_operator(Op::new(2), &mut out).is_ok());
-    assert!(rt; out.as_slice() == b"0010".as_slice());
+    assert!(rt; is_operator(rt.alloc(), Op::new(2), b"0010"));
+}
+
+/// Whether a basis is written as this text.
+fn is_text(alloc: Global, basis: Basis, text: &[u8]) -> bool {
+    if basis.get() == 0 {
+        return false;
+    }
+    let mut out = Vec::new(alloc);
+    write_basis(basis, &mut out).is_ok() && out.as_slice() == text
 }
 
 /// Whether a basis that is read from the word passes the tests for exchanged operands, negation,
 /// constants, polarity and reapplication as they are given, and is written as the text.
-fn is_basis(rt: &HostRuntime, word: &[u8], tests: [bool; 5], text: &[u8]) -> bool {
+fn is_basis(alloc: Global, word: &[u8], tests: [bool; 5], text: &[u8]) -> bool {
     let Ok(basis) = read_basis(word) else {
         return false;
     };
-    if basis.get() == 0 {
-        return false;
-    }
-    let mut out = Vec::new(rt.alloc());
     let [swap, negation, constants, polarity, reapply] = tests;
-    write_basis(basis, &mut out).is_ok()
-        && out.as_slice() == text
+    is_text(alloc, basis, text)
         && basis.swap_closed() == swap
         && basis.has_negation() == negation
         && basis.const_closed() == constants
@@ -103,7 +134,7 @@ const BASES: &[(&[u8], [bool; 5], &[u8])] = &[
 #[test]
 fn bases_are_closed(rt: HostRuntime) {
     for &(word, tests, text) in BASES {
-        assert!(rt; is_basis(&rt, word, tests, text));
+        assert!(rt; is_basis(rt.alloc(), word, tests, text));
     }
 }
 
@@ -132,7 +163,6 @@ fn other_words_are_refused(rt: HostRuntime) {
     for &(word, refusal) in REFUSALS {
         assert!(rt; read_basis(word).err() == Some(refusal));
     }
-    assert!(rt;
-        Basis::new(16384).contains(Op::new(14)) && !Basis::new(16384).contains(Op::new(13))
-    );
+    let nand = Basis::new(16384);
+    assert!(rt; nand.contains(Op::new(14)) && !nand.contains(Op::new(13)));
 }
