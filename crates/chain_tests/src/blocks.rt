@@ -3,7 +3,7 @@ use chain_core::{
     Basis, Chain, ChainError, first_difference, first_outside, read_chain, write_chain,
 };
 use std::alloc::Global;
-use tt_core::read_tables;
+use tt_core::{Spec, read_tables};
 
 /// The sum and the carry of three bits in five steps.
 const FULL_ADDER: &[u8] = b"chain 5\nx4 x1 x2 0110\nx5 x1 x2 0001\nx6 x4 x3 0110\nx7 x4 x3 0001\n\
@@ -29,19 +29,24 @@ const SEVENTEEN_STEPS: &[u8] = b"chain 17\n\
     out x19\n";
 
 /// Whether the chain of a block differs from tables first at this output and row, or nowhere.
-fn differs_at(alloc: Global, tables: &[u8], block: &[u8], difference: Option<(u32, u32)>) -> bool {
-    if tables.len() > 1000 || block.len() > 1000 {
-        return false;
-    }
-    let Ok(tables) = read_tables(alloc, tables) else {
-        return false;
-    };
-    let (inputs, outputs) = (tables.spec.n(), tables.spec.outputs());
-    if inputs > 6 || outputs > 8 {
+fn is_difference(alloc: Global, spec: &Spec, block: &[u8], difference: Option<(u32, u32)>) -> bool {
+    let (inputs, outputs) = (spec.n(), spec.outputs());
+    if block.len() > 1000 || inputs > 6 || outputs > 8 {
         return false;
     }
     match read_chain(alloc, block, 1, inputs, outputs) {
-        Ok((chain, _)) => first_difference(&chain, &tables.spec) == difference,
+        Ok((chain, _)) => first_difference(&chain, spec) == difference,
+        Err(_) => false,
+    }
+}
+
+/// The same of the text of tables.
+fn differs_at(alloc: Global, tables: &[u8], block: &[u8], difference: Option<(u32, u32)>) -> bool {
+    if tables.len() > 1000 {
+        return false;
+    }
+    match read_tables(alloc, tables) {
+        Ok(tables) => is_difference(alloc, &tables.spec, block, difference),
         Err(_) => false,
     }
 }

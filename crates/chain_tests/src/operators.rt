@@ -2,69 +2,53 @@
 use op_basis::{Basis, BasisError, Op, read_basis, read_operator, write_basis, write_operator};
 use std::alloc::Global;
 
+/// Whether an operator is written as this word.
+fn is_written(alloc: Global, op: Op, word: &[u8]) -> bool {
+    let mut out = Vec::new(alloc);
+    write_operator(op, &mut out).is_ok() && out.as_slice() == word
+}
+
 /// Whether an operator has these values at (0,0), (0,1), (1,0), (1,1).
-fn has_values(word: u8, values: [bool; 4]) -> bool {
-    if word >= 16 {
-        return false;
-    }
-    let op = Op::new(word);
+fn has_values(op: Op, values: [bool; 4]) -> bool {
     let [at_00, at_01, at_10, at_11] = values;
-    op.get() == word
-        && op.apply(false, false) == at_00
+    op.apply(false, false) == at_00
         && op.apply(false, true) == at_01
         && op.apply(true, false) == at_10
         && op.apply(true, true) == at_11
 }
 
-/// Operators, and their values, written as their words.
-const VALUES: &[(u8, [bool; 4])] = &[
-    (1, [false, false, false, true]),
-    (2, [false, false, true, false]),
-    (6, [false, true, true, false]),
-    (7, [false, true, true, true]),
-    (8, [true, false, false, false]),
-    (9, [true, false, false, true]),
-    (12, [true, true, false, false]),
-    (14, [true, true, true, false]),
+/// Whether a word is read as the operator of this number, which has these values and is written as the word; or is
+/// refused.
+fn is_operator(alloc: Global, word: &[u8], number: Option<u8>, values: [bool; 4]) -> bool {
+    match read_operator(word) {
+        Some(op) => {
+            number == Some(op.get()) && has_values(op, values) && is_written(alloc, op, word)
+        }
+        None => number.is_none(),
+    }
+}
+
+/// Words with their operators and their values, written as the words.
+const OPERATORS: &[(&[u8], Option<u8>, [bool; 4])] = &[
+    (b"0001", Some(1), [false, false, false, true]),
+    (b"0010", Some(2), [false, false, true, false]),
+    (b"0110", Some(6), [false, true, true, false]),
+    (b"0111", Some(7), [false, true, true, true]),
+    (b"1000", Some(8), [true, false, false, false]),
+    (b"1001", Some(9), [true, false, false, true]),
+    (b"1100", Some(12), [true, true, false, false]),
+    (b"1110", Some(14), [true, true, true, false]),
+    (b"011", None, [false; 4]),
+    (b"01101", None, [false; 4]),
+    (b"0120", None, [false; 4]),
+    (b"", None, [false; 4]),
 ];
 
 #[test]
 fn operators_have_the_values_of_their_words(rt: HostRuntime) {
-    for &(word, values) in VALUES {
-        assert!(rt; has_values(word, values), "at {word}");
+    for &(word, number, values) in OPERATORS {
+        assert!(rt; is_operator(rt.alloc(), word, number, values));
     }
-}
-
-/// The operator of a word, as a number.
-fn number_of(word: &[u8]) -> Option<u8> {
-    match read_operator(word) {
-        Some(op) => Some(op.get()),
-        None => None,
-    }
-}
-
-/// Whether an operator is written as this word.
-fn is_operator(alloc: Global, op: Op, word: &[u8]) -> bool {
-    let mut out = Vec::new(alloc);
-    write_operator(op, &mut out).is_ok() && out.as_slice() == word
-}
-
-/// Words, and their operators.
-const OPERATORS: &[(&[u8], Option<u8>)] = &[
-    (b"0110", Some(6)),
-    (b"1110", Some(14)),
-    (b"011", None),
-    (b"01101", None),
-    (b"0120", None),
-    (b"", None),
-];
-
-#[test]
-fn words_of_operators_are_read_and_written(rt: HostRuntime) {
-    for &(word, number) in OPERATORS {
-        assert!(rt; number_of(word) == number);
-    }
-    assert!(rt; is_operator(rt.alloc(), Op::new(2), b"0010"));
 }
 
 /// Whether a basis is written as this text.
@@ -163,6 +147,10 @@ fn other_words_are_refused(rt: HostRuntime) {
     for &(word, refusal) in REFUSALS {
         assert!(rt; read_basis(word).err() == Some(refusal));
     }
+}
+
+#[test]
+fn bases_contain_their_operators(rt: HostRuntime) {
     let nand = Basis::new(16384);
     assert!(rt; nand.contains(Op::new(14)) && !nand.contains(Op::new(13)));
 }

@@ -91,15 +91,21 @@ fn reads_memory(rt: HostRuntime) {
     }
 }
 
+/// Whether the first or the second write fails, where that call is to fail, and no other.
+fn is_told(sink: &mut MemorySink, failing: u64) -> bool {
+    let first = write_all(sink, b"abc").is_err();
+    let second = write_all(sink, b"def").is_err();
+    first == (failing == 1) && second == (failing == 2)
+}
+
 /// Whether a sink that fails at one call has this text after two calls, and so many faults.
 fn is_written(alloc: Global, failing: u64, text: &[u8], faults: u64) -> bool {
     let Ok(calls) = Vec::from_slice(alloc, &[failing]) else {
         return false;
     };
     let mut sink = MemorySink::new(alloc, calls);
-    let first = write_all(&mut sink, b"abc").is_err() == (failing == 1);
-    let second = write_all(&mut sink, b"def").is_err() == (failing == 2);
-    first && second && sink.written() == text && sink.faults() == faults
+    let told = is_told(&mut sink, failing);
+    told && sink.written() == text && sink.faults() == faults
 }
 
 /// The number of the call that fails, what then stands written after two calls, and the number of faults.

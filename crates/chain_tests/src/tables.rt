@@ -140,10 +140,18 @@ fn has_words(spec: &Spec, on: &[u64], care: &[u64]) -> bool {
     spec.n() == 2 && spec.on() == on && spec.care() == care
 }
 
-#[test]
-fn words_are_kept(rt: HostRuntime) {
-    let spec = Spec::new(2, Vec::new(rt.alloc()), Vec::new(rt.alloc()));
-    assert!(rt; has_words(&spec, &[], &[]) && spec.outputs() == 0);
+/// Whether tables without outputs are made.
+fn are_kept(alloc: Global) -> bool {
+    let spec = Spec::new(2, Vec::new(alloc), Vec::new(alloc));
+    has_words(&spec, &[], &[]) && spec.outputs() == 0
+}
+
+/// Whether headings and rows are told from what isn't one.
+fn are_told() -> bool {
+    inputs(b"inputs 2", true) == Some(2)
+        && inputs(b"inputs 2", false).is_none()
+        && are_cells(b"01-1")
+        && !are_cells(b"01x1")
 }
 
 /// Whether a row of two inputs is kept as these words.
@@ -157,9 +165,7 @@ fn is_row(alloc: Global, text: &[u8; 4], on: u64, care: u64) -> bool {
 
 #[test]
 fn lines_are_read_by_themselves(rt: HostRuntime) {
-    let headed = inputs(b"inputs 2", true) == Some(2) && inputs(b"inputs 2", false).is_none();
-    let cells = are_cells(b"01-1") && !are_cells(b"01x1");
-    assert!(rt; headed && cells && is_row(rt.alloc(), b"01-1", 10, 11));
+    assert!(rt; are_told() && are_kept(rt.alloc()) && is_row(rt.alloc(), b"01-1", 10, 11));
 }
 
 /// Whether tables are read, and whether they are symmetric in two inputs is told so.

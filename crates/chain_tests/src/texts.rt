@@ -39,17 +39,36 @@ const BEGINNINGS: &[(&[u8], bool)] = &[
     (b"-a", false),
 ];
 
+fn are_lines() -> bool {
+    for &(bytes, line) in LINES {
+        if next_line(bytes) != line {
+            return false;
+        }
+    }
+    true
+}
+
+fn are_items() -> bool {
+    for &(text, item, rest) in ITEMS {
+        if next_item(text) != (item, rest) {
+            return false;
+        }
+    }
+    true
+}
+
+fn are_after() -> bool {
+    for &(word, text, rest) in AFTER {
+        if after(word, text) != rest {
+            return false;
+        }
+    }
+    true
+}
+
 #[test]
 fn texts_are_read(rt: HostRuntime) {
-    for &(bytes, line) in LINES {
-        assert!(rt; next_line(bytes) == line);
-    }
-    for &(text, item, rest) in ITEMS {
-        assert!(rt; next_item(text) == (item, rest));
-    }
-    for &(word, text, rest) in AFTER {
-        assert!(rt; after(word, text) == rest);
-    }
+    assert!(rt; are_lines() && are_items() && are_after());
     for &(text, begins) in BEGINNINGS {
         assert!(rt; begins_lower(text) == begins);
     }
@@ -85,9 +104,13 @@ fn are_pushed(alloc: Global) -> bool {
 }
 
 #[test]
-fn numbers_are_read_and_written(rt: HostRuntime) {
+fn numbers_are_read(rt: HostRuntime) {
     for &(limit, text, number) in NUMBERS {
         assert!(rt; number_up_to(limit, text) == number);
     }
+}
+
+#[test]
+fn numbers_are_written(rt: HostRuntime) {
     assert!(rt; are_pushed(rt.alloc()));
 }
