@@ -1,5 +1,5 @@
 //! Each read, each write and each call on the notes failing in its turn, for every command.
-use crate::running::{Fails, run_on, told};
+use crate::running::{Fails, Seen, run_on, tells, told};
 use std::alloc::{AllocError, Global};
 
 const XOR: &str = "inputs 2\n0110\nchain 1\nx3 x1 x2 0110\nout x3\nend\n";
@@ -26,129 +26,146 @@ const SAME: &str =
 const TWO: &str =
     ".model s\n.inputs a b\n.outputs y\n.names a b p\n10 1\n.names a b q\n01 1\n.names p q y\n1- 1\n-1 1\n.end\n.model t\n.inputs a b\n.outputs y\n.names y\n.end\n";
 
-/// Every command with an input that has an answer, and the status of that answer.
-const RUNS: &[(&str, &str, u8)] = &[
-    ("agree", XOR, 0),
-    ("synth", AND_OF_THREE, 0),
-    ("recheck", NONE, 0),
-    ("improve", THREE_GATES, 0),
-    ("improve --format bench", GATES, 0),
-    ("equiv", TWO, 8),
-    ("equiv", SAME, 0),
-    ("gen --blocks 3", "", 0),
-    ("gen --blocks 1 --run improve", "", 0),
-];
+/// A port whose calls fail.
+#[derive(Clone, Copy)]
+enum Port {
+    Reads,
+    Writes,
+    Notes,
+}
 
-/// How many writes a run makes. 0 where one of them that fails isn't told, or leaves no front of the whole text.
-fn writes_of(
+/// A run where one call of a port fails.
+fn failing(
     alloc: Global,
     line: &str,
     input: &[u8],
+    port: Port,
+    call: u64,
+) -> Result<Seen, AllocError> {
+    let at = Fails::At(call);
+    match port {
+        Port::Reads => run_on(alloc, line, input, at, Fails::None, Fails::None),
+        Port::Writes => run_on(alloc, line, input, Fails::None, at, Fails::None),
+        Port::Notes => run_on(alloc, line, input, Fails::None, Fails::None, at),
+    }
+}
+
+/// Whether a call that failed was told, and what it has to leave of the whole text stands on the output: nothing where
+/// it was a read, a front where it was a write, and the whole where it was one on the notes.
+fn leaves(seen: &Seen, port: Port, whole: &[u8]) -> bool {
+    match port {
+        Port::Reads => seen.is(5, b"", b"error: ReadFault\n"),
+        Port::Writes => {
+            let out = seen.out.written();
+            whole.starts_with(out) && seen.is(6, out, b"error: WriteFault\n")
+        }
+        Port::Notes => seen.status == 6 && seen.out.written() == whole,
+    }
+}
+
+/// How many calls of a port a run makes that ends with this status; None where one of them that fails isn't told, or
+/// leaves something else than it has to.
+fn calls_of(
+    alloc: Global,
+    line: &str,
+    input: &[u8],
+    port: Port,
     whole: &[u8],
     status: u8,
-) -> Result<u64, AllocError> {
+) -> Option<u64> {
     for call in 1..1_000u64 {
-        let seen = run_on(
-            alloc,
-            line,
-            input,
-            Fails::None,
-            Fails::At(call),
-            Fails::None,
-        )?;
+        let Ok(seen) = failing(alloc, line, input, port, call) else {
+            return None;
+        };
         if seen.status == status {
-            return Ok(call - 1);
+            return Some(call - 1);
         }
-        if !whole.starts_with(seen.out.written()) {
-            return Ok(0);
-        }
-        if seen.status != 6 || seen.note.written() != b"error: WriteFault\n".as_slice() {
-            return Ok(0);
+        if !leaves(&seen, port, whole) {
+            return None;
         }
     }
-    Ok(0)
+    None
 }
 
-/// Whether a run makes writes, and each that fails is told and leaves a front of the whole text.
-fn leaves_fronts(alloc: Global, line: &str, input: &[u8], status: u8) -> Result<bool, AllocError> {
-    let whole = told(alloc, line, input)?;
-    Ok(writes_of(alloc, line, input, whole.out.written(), status)? > 0)
+/// Whether a run makes calls of a port, or none, and each that fails is told and leaves what it has to.
+fn makes(alloc: Global, run: (&str, &[u8], u8), whole: &[u8], port: Port, some: bool) -> bool {
+    match calls_of(alloc, run.0, run.1, port, whole, run.2) {
+        Some(calls) => (calls > 0) == some,
+        None => false,
+    }
 }
+
+/// Whether each call of a run that fails is told and leaves what it has to, where the run writes, and reads and makes
+/// notes as it is given.
+fn withstands(alloc: Global, run: (&str, &[u8], u8), reads: bool, notes: bool) -> bool {
+    let Ok(seen) = told(alloc, run.0, run.1) else {
+        return false;
+    };
+    let whole = seen.out.written();
+    makes(alloc, run, whole, Port::Writes, true)
+        && makes(alloc, run, whole, Port::Reads, reads)
+        && makes(alloc, run, whole, Port::Notes, notes)
+}
+
+/// Every command with an input that has an answer, the status of that answer, and whether it reads and makes notes.
+const RUNS: &[(&str, &str, u8, bool, bool)] = &[
+    ("agree", XOR, 0, true, false),
+    ("synth", AND_OF_THREE, 0, true, false),
+    ("recheck", NONE, 0, true, false),
+    ("improve", THREE_GATES, 0, true, true),
+    ("improve --format bench", GATES, 0, true, true),
+    ("equiv", TWO, 8, true, false),
+    ("equiv", SAME, 0, true, false),
+    ("gen --blocks 3", "", 0, false, false),
+    ("gen --blocks 1 --run improve", "", 0, false, true),
+];
 
 #[test]
-fn each_write_that_fails_leaves_a_front(rt: HostRuntime) -> Result<(), AllocError> {
-    for &(line, input, status) in RUNS {
-        let well = leaves_fronts(rt.alloc(), line, input.as_bytes(), status)?;
-        assert!(rt; well, "{line}");
+fn each_call_that_fails_is_told(rt: HostRuntime) {
+    for &(line, input, status, reads, notes) in RUNS {
+        let run = (line, input.as_bytes(), status);
+        assert!(rt; withstands(rt.alloc(), run, reads, notes), "{line}");
     }
-    Ok(())
 }
 
 /// Whether `synth` leaves what it wrote before its call of this number, where that call fails: whole pieces, of which
 /// the last is the heading, a section, or nothing.
-fn leaves_pieces(alloc: Global, call: u64, end: &[u8]) -> Result<bool, AllocError> {
-    let seen = run_on(
-        alloc,
-        "synth",
-        AND_OF_THREE.as_bytes(),
-        Fails::None,
-        Fails::At(call),
-        Fails::None,
-    )?;
-    Ok(seen.status == 6 && seen.out.written().ends_with(end))
+fn leaves_pieces(alloc: Global, call: u64, end: &str) -> bool {
+    match failing(alloc, "synth", AND_OF_THREE.as_bytes(), Port::Writes, call) {
+        Ok(seen) => seen.status == 6 && seen.out.written().ends_with(end.as_bytes()),
+        Err(_) => false,
+    }
 }
+
+/// Calls, and how what they leave ends.
+const PIECES: &[(u64, &str)] = &[
+    (2, "\nmax 16\n"),
+    (3, "\nmax 16\nsize 0\nrefuted\ndone\n"),
+    (4, "\ndone\n"),
+];
 
 #[test]
-fn certificates_go_out_in_pieces(rt: HostRuntime) -> Result<(), AllocError> {
-    let pieces: [(u64, &str); 3] = [
-        (2, "\nmax 16\n"),
-        (3, "\nmax 16\nsize 0\nrefuted\ndone\n"),
-        (4, "\ndone\n"),
-    ];
-    for (call, end) in pieces {
-        let leaves = leaves_pieces(rt.alloc(), call, end.as_bytes())?;
-        assert!(rt; leaves, "{call}");
+fn certificates_go_out_in_pieces(rt: HostRuntime) {
+    for &(call, end) in PIECES {
+        assert!(rt; leaves_pieces(rt.alloc(), call, end), "{call}");
     }
-    Ok(())
 }
 
-/// How many reads a run makes. 0 where one of them that fails isn't told, or something stands on the output.
-fn reads_of(alloc: Global, line: &str, input: &[u8], status: u8) -> Result<u64, AllocError> {
-    for call in 1..1_000u64 {
-        let seen = run_on(
-            alloc,
-            line,
-            input,
-            Fails::At(call),
-            Fails::None,
-            Fails::None,
-        )?;
-        if seen.status == status {
-            return Ok(call - 1);
-        }
-        if !seen.is(5, b"", b"error: ReadFault\n") {
-            return Ok(0);
-        }
-    }
-    Ok(0)
-}
-
-#[test]
-fn each_read_that_fails_leaves_nothing(rt: HostRuntime) -> Result<(), AllocError> {
-    for &(line, input, status) in RUNS {
-        let reads = reads_of(rt.alloc(), line, input.as_bytes(), status)?;
-        assert!(rt; (reads == 0) == line.starts_with("gen"), "{line}");
-    }
-    Ok(())
-}
-
-/// How many reads a run on a refused text makes that more than one read brings.
-fn reads_of_long(alloc: Global, line: &str, front: &str) -> Result<u64, AllocError> {
+/// A text that more than one read brings.
+fn long(alloc: Global, front: &str) -> Result<Vec<u8>, AllocError> {
     let mut text = Vec::from_slice(alloc, front.as_bytes())?;
     for _ in 0..5_000u32 {
         text.push(b'\n')?;
     }
-    reads_of(alloc, line, &text, 2)
+    Ok(text)
+}
+
+/// Whether a run on a refused text makes three reads, of which the last finds the end, and each that fails is told.
+fn is_read_on(alloc: Global, line: &str, front: &str) -> bool {
+    match long(alloc, front) {
+        Ok(text) => calls_of(alloc, line, &text, Port::Reads, b"", 2) == Some(3),
+        Err(_) => false,
+    }
 }
 
 /// Lines, and the fronts of texts that they refuse.
@@ -163,61 +180,19 @@ const LONG: &[(&str, &str)] = &[
 ];
 
 #[test]
-fn reads_that_fail_behind_a_refused_line_are_told(rt: HostRuntime) -> Result<(), AllocError> {
+fn reads_that_fail_behind_a_refused_line_are_told(rt: HostRuntime) {
     for &(line, front) in LONG {
-        // the last of three finds the end
-        let reads = reads_of_long(rt.alloc(), line, front)?;
-        assert!(rt; reads == 3, "{line} {front}");
+        assert!(rt; is_read_on(rt.alloc(), line, front), "{line} {front}");
     }
-    Ok(())
-}
-
-/// How many calls a run makes on the notes. 0 where one of them fails and the whole text doesn't stand on the output,
-/// or the status isn't that of a write that failed.
-fn notes_of(alloc: Global, line: &str, input: &[u8], whole: &[u8]) -> Result<u64, AllocError> {
-    for call in 1..1_000u64 {
-        let seen = run_on(
-            alloc,
-            line,
-            input,
-            Fails::None,
-            Fails::None,
-            Fails::At(call),
-        )?;
-        if seen.status == 0 {
-            return Ok(call - 1);
-        }
-        if seen.status != 6 || seen.out.written() != whole {
-            return Ok(0);
-        }
-    }
-    Ok(0)
-}
-
-/// Whether a run makes calls on the notes, and each that fails leaves the whole text.
-fn leaves_text(alloc: Global, line: &str, input: &[u8]) -> Result<bool, AllocError> {
-    let whole = told(alloc, line, input)?;
-    Ok(notes_of(alloc, line, input, whole.out.written())? > 0)
-}
-
-#[test]
-fn each_note_that_fails_leaves_the_netlist(rt: HostRuntime) -> Result<(), AllocError> {
-    for (line, input) in [
-        ("improve", THREE_GATES),
-        ("improve --format bench", GATES),
-        ("gen --blocks 1 --run improve", ""),
-    ] {
-        let well = leaves_text(rt.alloc(), line, input.as_bytes())?;
-        assert!(rt; well, "{line}");
-    }
-    Ok(())
 }
 
 /// Whether a run with this status keeps it where its first hundred calls on the notes fail, and tells nothing there.
-fn keeps_status(alloc: Global, line: &str, input: &[u8], status: u8) -> Result<bool, AllocError> {
+fn keeps_status(alloc: Global, line: &str, input: &[u8], status: u8) -> bool {
     let notes = Fails::UpTo(100);
-    let seen = run_on(alloc, line, input, Fails::None, Fails::None, notes)?;
-    Ok(seen.status == status && seen.note.written().is_empty())
+    match run_on(alloc, line, input, Fails::None, Fails::None, notes) {
+        Ok(seen) => seen.status == status && seen.note.written().is_empty(),
+        Err(_) => false,
+    }
 }
 
 /// Lines with their inputs and their statuses.
@@ -240,12 +215,11 @@ const STATUSES: &[(&str, &str, u8)] = &[
 ];
 
 #[test]
-fn notes_that_fail_change_no_other_status(rt: HostRuntime) -> Result<(), AllocError> {
+fn notes_that_fail_change_no_other_status(rt: HostRuntime) {
     for &(line, input, status) in STATUSES {
-        let well = keeps_status(rt.alloc(), line, input.as_bytes(), status)?;
+        let well = keeps_status(rt.alloc(), line, input.as_bytes(), status);
         assert!(rt; well, "{line}");
     }
-    Ok(())
 }
 
 /// The line that comes behind a text, counted by its line feeds.
@@ -260,18 +234,17 @@ fn line_behind(text: &[u8]) -> u32 {
 }
 
 /// Whether a certificate that is cut off behind so many bytes is refused at the line where it ends.
-fn is_cut_off(alloc: Global, length: usize) -> Result<bool, AllocError> {
+fn is_cut_off(alloc: Global, length: usize) -> bool {
     let (front, _) = NONE.as_bytes().split_at(length.min(NONE.len()));
-    let seen = told(alloc, "recheck", front)?;
-    let note = format!(in alloc; "error: Syntax {}\n", line_behind(front))?;
-    Ok(seen.is(2, b"", note.as_bytes()))
+    match format!(in alloc; "error: Syntax {}\n", line_behind(front)) {
+        Ok(note) => tells(alloc, "recheck", front, 2, "", note.as_str()),
+        Err(_) => false,
+    }
 }
 
 #[test]
-fn certificates_that_are_cut_off_end_too_early(rt: HostRuntime) -> Result<(), AllocError> {
+fn certificates_that_are_cut_off_end_too_early(rt: HostRuntime) {
     for length in 0..NONE.len() {
-        let told = is_cut_off(rt.alloc(), length)?;
-        assert!(rt; told, "{length}");
+        assert!(rt; is_cut_off(rt.alloc(), length), "{length}");
     }
-    Ok(())
 }

@@ -3,233 +3,212 @@
 use crate::running::words_of;
 use command_line::{Command, Deed, Format, ImproveSettings, SynthSettings, WordsError, read_words};
 use op_basis::Basis;
-use settings::{MOST_STEPS, Method};
-use std::alloc::{AllocError, Global};
+use settings::Method;
+use std::alloc::Global;
 
-/// Whether a line asks for this command.
-fn asks(alloc: Global, line: &str, command: Command) -> Result<bool, AllocError> {
-    let words = words_of(alloc, line)?;
-    Ok(read_words(&words) == Ok(command))
+/// Whether a line asks for this command, or is refused so.
+fn asks(alloc: Global, line: &str, wanted: Result<Command, WordsError>) -> bool {
+    match words_of(alloc, line) {
+        Ok(words) => read_words(&words) == wanted,
+        Err(_) => false,
+    }
 }
 
-/// Whether a line asks for no command.
-fn asks_nothing(alloc: Global, line: &str) -> Result<bool, AllocError> {
-    let words = words_of(alloc, line)?;
-    Ok(read_words(&words) == Err(WordsError::Usage))
+/// A command without settings.
+#[derive(Clone, Copy)]
+enum Bare {
+    Agree,
+    Recheck,
+    RecheckDepth,
+    Equiv(u32),
+    Gen(u32, Deed),
 }
+
+/// That command.
+fn command_of(command: Bare) -> Command {
+    match command {
+        Bare::Agree => Command::Agree,
+        Bare::Recheck => Command::Recheck,
+        Bare::RecheckDepth => Command::RecheckDepth,
+        Bare::Equiv(conflicts) => Command::Equiv(conflicts),
+        Bare::Gen(blocks, deed) => Command::Gen { blocks, deed },
+    }
+}
+
+/// Lines, and the commands that they ask for.
+const COMMANDS: &[(&str, Bare)] = &[
+    ("agree", Bare::Agree),
+    ("recheck", Bare::Recheck),
+    ("recheck --depth no", Bare::Recheck),
+    ("recheck --depth yes", Bare::RecheckDepth),
+    ("equiv", Bare::Equiv(100_000)),
+    ("equiv --conflicts 7", Bare::Equiv(7)),
+    ("gen --blocks 3", Bare::Gen(3, Deed::Write)),
+    (
+        "gen --run write --blocks 10000",
+        Bare::Gen(10_000, Deed::Write),
+    ),
+    ("gen --run improve --blocks 1", Bare::Gen(1, Deed::Improve)),
+];
 
 #[test]
-fn lines_ask_for_commands(rt: HostRuntime) -> Result<(), AllocError> {
-    for (line, command) in [
-        ("agree", Command::Agree),
-        ("recheck", Command::Recheck),
-        ("recheck --depth no", Command::Recheck),
-        ("recheck --depth yes", Command::RecheckDepth),
-        ("equiv", Command::Equiv(100_000)),
-        ("equiv --conflicts 7", Command::Equiv(7)),
-        (
-            "gen --blocks 3",
-            Command::Gen {
-                blocks: 3,
-                deed: Deed::Write,
-            },
-        ),
-        (
-            "gen --run write --blocks 10000",
-            Command::Gen {
-                blocks: 10_000,
-                deed: Deed::Write,
-            },
-        ),
-        (
-            "gen --run improve --blocks 1",
-            Command::Gen {
-                blocks: 1,
-                deed: Deed::Improve,
-            },
-        ),
-    ] {
-        let well = asks(rt.alloc(), line, command)?;
-        assert!(rt; well, "{line}");
+fn lines_ask_for_commands(rt: HostRuntime) {
+    for &(line, command) in COMMANDS {
+        assert!(rt; asks(rt.alloc(), line, Ok(command_of(command))), "{line}");
     }
-    Ok(())
 }
 
-/// Lines of `synth`, with the basis, the method, the greatest size and the conflicts that they ask for.
-const SYNTHS: &[(&str, u16, Method, u32, u32)] = &[
-    ("synth", 65_535, Method::Ssv, 16, 100_000),
+/// The basis, the method, the greatest size, the conflicts, and whether the fewest levels are sought.
+type Synth = (u16, Method, u32, u32, bool);
+
+/// A command of these settings.
+fn synth_of(settings: Synth) -> Command {
+    let (basis, method, max, conflicts, fewest_levels) = settings;
+    let settings = SynthSettings {
+        basis: Basis::new(basis),
+        method,
+        max,
+        conflicts,
+    };
+    if fewest_levels {
+        return Command::LeastDepth(settings);
+    }
+    Command::Synth(settings)
+}
+
+/// Lines of `synth`, with the settings that they ask for. What isn't named has its default.
+const SYNTHS: &[(&str, Synth)] = &[
+    ("synth", (65_535, Method::Ssv, 16, 100_000, false)),
     (
         "synth --max 3 --basis nand",
-        16_384,
-        Method::Ssv,
-        3,
-        100_000,
+        (16_384, Method::Ssv, 3, 100_000, false),
     ),
-    ("synth --method plain", 65_535, Method::Plain, 16, 100_000),
-    ("synth --method select", 65_535, Method::Select, 16, 100_000),
-    ("synth --method fence", 65_535, Method::Fence, 16, 100_000),
+    (
+        "synth --method plain",
+        (65_535, Method::Plain, 16, 100_000, false),
+    ),
+    (
+        "synth --method select",
+        (65_535, Method::Select, 16, 100_000, false),
+    ),
+    (
+        "synth --method fence",
+        (65_535, Method::Fence, 16, 100_000, false),
+    ),
     (
         "synth --conflicts 10000000 --max 0 --method ssv",
-        65_535,
-        Method::Ssv,
-        0,
-        10_000_000,
+        (65_535, Method::Ssv, 0, 10_000_000, false),
     ),
     (
         "synth --basis 0110,1001 --conflicts 1",
-        576,
-        Method::Ssv,
-        16,
-        1,
+        (576, Method::Ssv, 16, 1, false),
+    ),
+    // the fewest levels are sought by fences
+    (
+        "synth --least-depth yes --method fence",
+        (65_535, Method::Fence, 16, 100_000, true),
+    ),
+    (
+        "synth --method fence --max 3 --least-depth yes",
+        (65_535, Method::Fence, 3, 100_000, true),
+    ),
+    (
+        "synth --method fence --least-depth no",
+        (65_535, Method::Fence, 16, 100_000, false),
+    ),
+    (
+        "synth --least-depth no",
+        (65_535, Method::Ssv, 16, 100_000, false),
     ),
 ];
 
 #[test]
-fn what_is_not_named_has_its_default(rt: HostRuntime) -> Result<(), AllocError> {
-    for &(line, basis, method, max, conflicts) in SYNTHS {
-        let command = Command::Synth(SynthSettings {
-            basis: Basis::new(basis),
-            method,
-            max,
-            conflicts,
-        });
-        let well = asks(rt.alloc(), line, command)?;
-        assert!(rt; well, "{line}");
+fn synth_is_asked_with_settings(rt: HostRuntime) {
+    for &(line, settings) in SYNTHS {
+        assert!(rt; asks(rt.alloc(), line, Ok(synth_of(settings))), "{line}");
     }
-    Ok(())
 }
 
-/// Lines of `improve`, with the basis, the method, the cap, the rounds and the conflicts that they ask for.
-const IMPROVES: &[(&str, u16, Method, u32, u32, u32)] = &[
-    ("improve", 65_535, Method::Ssv, 5, 1000, 100_000),
+/// The format, the basis, the method, the cap, the rounds, the conflicts, and whether rows that nobody sees are left out.
+type Improve = (Format, u16, Method, u32, u32, u32, bool);
+
+/// A command of these settings.
+fn improve_of(settings: Improve) -> Command {
+    let (format, basis, method, cap, rounds, conflicts, observe) = settings;
+    let settings = ImproveSettings {
+        basis: Basis::new(basis),
+        method,
+        cap,
+        rounds,
+        conflicts,
+        observe,
+    };
+    Command::Improve { format, settings }
+}
+
+/// Lines of `improve`, with the settings that they ask for.
+const IMPROVES: &[(&str, Improve)] = &[
+    (
+        "improve",
+        (Format::Blif, 65_535, Method::Ssv, 5, 1000, 100_000, false),
+    ),
     (
         "improve --format blif --cap 0",
-        65_535,
-        Method::Ssv,
-        0,
-        1000,
-        100_000,
+        (Format::Blif, 65_535, Method::Ssv, 0, 1000, 100_000, false),
     ),
     (
         "improve --rounds 1 --cap 8 --basis nand --conflicts 7 --method fence",
-        16_384,
-        Method::Fence,
-        8,
-        1,
-        7,
+        (Format::Blif, 16_384, Method::Fence, 8, 1, 7, false),
     ),
     (
         "improve --rounds 100000 --conflicts 10000000",
-        65_535,
-        Method::Ssv,
-        5,
-        100_000,
-        10_000_000,
+        (
+            Format::Blif,
+            65_535,
+            Method::Ssv,
+            5,
+            100_000,
+            10_000_000,
+            false,
+        ),
+    ),
+    // rows that nobody sees
+    (
+        "improve --observe no",
+        (Format::Blif, 65_535, Method::Ssv, 5, 1000, 100_000, false),
+    ),
+    (
+        "improve --observe yes",
+        (Format::Blif, 65_535, Method::Ssv, 5, 1000, 100_000, true),
+    ),
+    (
+        "improve --cap 5 --observe yes --rounds 1000",
+        (Format::Blif, 65_535, Method::Ssv, 5, 1000, 100_000, true),
+    ),
+    // BENCH has bases of its gates
+    (
+        "improve --format bench",
+        (Format::Bench, 17_346, Method::Ssv, 5, 1000, 100_000, false),
+    ),
+    (
+        "improve --basis bench --format bench",
+        (Format::Bench, 17_346, Method::Ssv, 5, 1000, 100_000, false),
+    ),
+    (
+        "improve --format bench --basis nand",
+        (Format::Bench, 16_384, Method::Ssv, 5, 1000, 100_000, false),
+    ),
+    (
+        "improve --format bench --basis 0110,1001",
+        (Format::Bench, 576, Method::Ssv, 5, 1000, 100_000, false),
     ),
 ];
 
 #[test]
-fn improve_is_asked_with_settings(rt: HostRuntime) -> Result<(), AllocError> {
-    for &(line, basis, method, cap, rounds, conflicts) in IMPROVES {
-        let settings = ImproveSettings {
-            basis: Basis::new(basis),
-            method,
-            cap,
-            rounds,
-            conflicts,
-            observe: false,
-        };
-        let format = Format::Blif;
-        let well = asks(rt.alloc(), line, Command::Improve { format, settings })?;
-        assert!(rt; well, "{line}");
+fn improve_is_asked_with_settings(rt: HostRuntime) {
+    for &(line, settings) in IMPROVES {
+        assert!(rt; asks(rt.alloc(), line, Ok(improve_of(settings))), "{line}");
     }
-    Ok(())
-}
-
-#[test]
-fn rows_that_nobody_sees_are_left_out_where_that_is_named(
-    rt: HostRuntime,
-) -> Result<(), AllocError> {
-    for (line, observe) in [
-        ("improve --observe no", false),
-        ("improve --observe yes", true),
-        ("improve --cap 5 --observe yes --rounds 1000", true),
-    ] {
-        let settings = ImproveSettings {
-            observe,
-            ..ImproveSettings::usual()
-        };
-        let format = Format::Blif;
-        let well = asks(rt.alloc(), line, Command::Improve { format, settings })?;
-        assert!(rt; well, "{line}");
-    }
-    Ok(())
-}
-
-#[test]
-fn bench_has_bases_of_its_gates(rt: HostRuntime) -> Result<(), AllocError> {
-    for (line, basis) in [
-        ("improve --format bench", 17_346),
-        ("improve --basis bench --format bench", 17_346),
-        ("improve --format bench --basis nand", 16_384),
-        ("improve --format bench --basis 0110,1001", 576),
-    ] {
-        let settings = ImproveSettings {
-            basis: Basis::new(basis),
-            ..ImproveSettings::usual()
-        };
-        let format = Format::Bench;
-        let well = asks(rt.alloc(), line, Command::Improve { format, settings })?;
-        assert!(rt; well, "{line}");
-    }
-    Ok(())
-}
-
-/// Whether a line asks for a chain by these settings: for the fewest levels, or for the fewest steps.
-fn asks_for_levels(
-    alloc: Global,
-    line: &str,
-    settings: SynthSettings,
-    fewest_levels: bool,
-) -> Result<bool, AllocError> {
-    if fewest_levels {
-        return asks(alloc, line, Command::LeastDepth(settings));
-    }
-    asks(alloc, line, Command::Synth(settings))
-}
-
-#[test]
-fn fewest_levels_are_sought_by_fences(rt: HostRuntime) -> Result<(), AllocError> {
-    for (line, method, max, fewest_levels) in [
-        (
-            "synth --least-depth yes --method fence",
-            Method::Fence,
-            MOST_STEPS,
-            true,
-        ),
-        (
-            "synth --method fence --max 3 --least-depth yes",
-            Method::Fence,
-            3,
-            true,
-        ),
-        (
-            "synth --method fence --least-depth no",
-            Method::Fence,
-            MOST_STEPS,
-            false,
-        ),
-        ("synth --least-depth no", Method::Ssv, MOST_STEPS, false),
-    ] {
-        let settings = SynthSettings {
-            method,
-            max,
-            ..SynthSettings::usual()
-        };
-        let well = asks_for_levels(rt.alloc(), line, settings, fewest_levels)?;
-        assert!(rt; well, "{line}");
-    }
-    Ok(())
 }
 
 /// Lines that ask for nothing.
@@ -288,12 +267,10 @@ const NOTHING: &[&str] = &[
 ];
 
 #[test]
-fn other_words_ask_for_none(rt: HostRuntime) -> Result<(), AllocError> {
+fn other_words_ask_for_none(rt: HostRuntime) {
     for &line in NOTHING {
-        let well = asks_nothing(rt.alloc(), line)?;
-        assert!(rt; well, "{line}");
+        assert!(rt; asks(rt.alloc(), line, Err(WordsError::Usage)), "{line}");
     }
-    Ok(())
 }
 
 #[test]

@@ -46,6 +46,28 @@ pub(crate) fn words_of(alloc: Global, line: &str) -> Result<Vec<String>, AllocEr
     Ok(words)
 }
 
+/// A source of an input.
+fn source(alloc: Global, input: &[u8], fails: Fails) -> Result<MemorySource, AllocError> {
+    let bytes = Vec::from_slice(alloc, input)?;
+    Ok(MemorySource::new(bytes, calls(alloc, fails)?))
+}
+
+/// A sink.
+fn sink(alloc: Global, fails: Fails) -> Result<MemorySink, AllocError> {
+    Ok(MemorySink::new(alloc, calls(alloc, fails)?))
+}
+
+/// The output and the notes before a run.
+fn nothing(alloc: Global, writes: Fails, notes: Fails) -> Result<Seen, AllocError> {
+    let out = sink(alloc, writes)?;
+    let note = sink(alloc, notes)?;
+    Ok(Seen {
+        status: 0,
+        out,
+        note,
+    })
+}
+
 /// Runs on memory, where calls of the source, of the output and of the notes may fail.
 pub(crate) fn run_on(
     alloc: Global,
@@ -56,15 +78,11 @@ pub(crate) fn run_on(
     notes: Fails,
 ) -> Result<Seen, AllocError> {
     let words = words_of(alloc, line)?;
-    let input = Vec::from_slice(alloc, input)?;
-    let reads = calls(alloc, reads)?;
-    let writes = calls(alloc, writes)?;
-    let notes = calls(alloc, notes)?;
-    let mut source = MemorySource::new(input, reads);
-    let mut out = MemorySink::new(alloc, writes);
-    let mut note = MemorySink::new(alloc, notes);
-    let status = run(alloc, &words, &mut source, &mut out, &mut note).number();
-    Ok(Seen { status, out, note })
+    let mut source = source(alloc, input, reads)?;
+    let mut seen = nothing(alloc, writes, notes)?;
+    let status = run(alloc, &words, &mut source, &mut seen.out, &mut seen.note).number();
+    seen.status = status;
+    Ok(seen)
 }
 
 /// Runs where nothing fails.
@@ -76,11 +94,13 @@ pub(crate) fn told(alloc: Global, line: &str, input: &[u8]) -> Result<Seen, Allo
 pub(crate) fn tells(
     alloc: Global,
     line: &str,
-    input: &str,
+    input: &[u8],
     status: u8,
     out: &str,
     note: &str,
-) -> Result<bool, AllocError> {
-    let seen = told(alloc, line, input.as_bytes())?;
-    Ok(seen.is(status, out.as_bytes(), note.as_bytes()))
+) -> bool {
+    match told(alloc, line, input) {
+        Ok(seen) => seen.is(status, out.as_bytes(), note.as_bytes()),
+        Err(_) => false,
+    }
 }

@@ -1,7 +1,9 @@
 //! Chain blocks read, refused and written, and what their chains compute.
-use chain_core::{Basis, ChainError, first_difference, first_outside, read_chain, write_chain};
-use std::alloc::{AllocError, Global};
-use tt_core::read_tables;
+use chain_core::{
+    Basis, Chain, ChainError, first_difference, first_outside, read_chain, write_chain,
+};
+use std::alloc::Global;
+use tt_core::{Spec, read_tables};
 
 /// The sum and the carry of three bits in five steps.
 const FULL_ADDER: &[u8] = b"chain 5\nx4 x1 x2 0110\nx5 x1 x2 0001\nx6 x4 x3 0110\nx7 x4 x3 0001\n\
@@ -27,41 +29,51 @@ const SEVENTEEN_STEPS: &[u8] = b"chain 17\n\
     out x19\n";
 
 /// Whether the chain of a block differs from tables first at this output and row, or nowhere.
-fn differs_at(alloc: Global, tables: &[u8], block: &[u8], difference: Option<(u32, u32)>) -> bool {
-    if tables.len() > 1000 || block.len() > 1000 {
-        return false;
-    }
-    let Ok(tables) = read_tables(alloc, tables) else {
-        return false;
-    };
-    let (inputs, outputs) = (tables.spec.n(), tables.spec.outputs());
-    if inputs > 6 || outputs > 8 {
+fn is_difference(alloc: Global, spec: &Spec, block: &[u8], difference: Option<(u32, u32)>) -> bool {
+    let (inputs, outputs) = (spec.n(), spec.outputs());
+    if block.len() > 1000 || inputs > 6 || outputs > 8 {
         return false;
     }
     match read_chain(alloc, block, 1, inputs, outputs) {
-        Ok((chain, _)) => first_difference(&chain, &tables.spec) == difference,
+        Ok((chain, _)) => first_difference(&chain, spec) == difference,
         Err(_) => false,
     }
 }
 
+/// The same of the text of tables.
+fn differs_at(alloc: Global, tables: &[u8], block: &[u8], difference: Option<(u32, u32)>) -> bool {
+    if tables.len() > 1000 {
+        return false;
+    }
+    match read_tables(alloc, tables) {
+        Ok(tables) => is_difference(alloc, &tables.spec, block, difference),
+        Err(_) => false,
+    }
+}
+
+const ONE_XOR: &[u8] = b"chain 1\nx3 x1 x2 0110\nout x3\n";
+
+const ONE_OR: &[u8] = b"chain 1\nx3 x1 x2 0111\nout x3\n";
+
+const XOR_TWICE: &[u8] = b"chain 1\nx3 x1 x2 0110\nout x3\nout x3\n";
+
+/// Tables, blocks, and the first output and row on which they differ.
+const DIFFERENCES: &[(&[u8], &[u8], Option<(u32, u32)>)] = &[
+    (b"inputs 2\n0110\n", ONE_XOR, None),
+    (b"inputs 2\n0110\n", ONE_OR, Some((1, 3))),
+    (b"inputs 2\n011-\n", ONE_OR, None),
+    (b"inputs 2\n0110\n", b"chain 0\nout 1\n", Some((1, 0))),
+    (b"inputs 2\n0110\n0010\n", XOR_TWICE, Some((2, 1))),
+    (b"inputs 2\n0111\n0010\n", XOR_TWICE, Some((1, 3))),
+    // the sum and the carry of three bits
+    (b"inputs 3\n01101001\n00010111\n", FULL_ADDER, None),
+    // a constant, AND NOT behind a negation, a constant, and the input
+    (b"inputs 1\n11\n10\n00\n01\n", MIXED, None),
+];
+
 #[test]
 fn the_first_difference_is_found(rt: HostRuntime) {
-    let xor = b"chain 1\nx3 x1 x2 0110\nout x3\n" as &[u8];
-    let or = b"chain 1\nx3 x1 x2 0111\nout x3\n" as &[u8];
-    let one = b"chain 0\nout 1\n" as &[u8];
-    let twice = b"chain 1\nx3 x1 x2 0110\nout x3\nout x3\n" as &[u8];
-    for (tables, block, difference) in [
-        (b"inputs 2\n0110\n" as &[u8], xor, None),
-        (b"inputs 2\n0110\n", or, Some((1, 3))),
-        (b"inputs 2\n011-\n", or, None),
-        (b"inputs 2\n0110\n", one, Some((1, 0))),
-        (b"inputs 2\n0110\n0010\n", twice, Some((2, 1))),
-        (b"inputs 2\n0111\n0010\n", twice, Some((1, 3))),
-        // the sum and the carry of three bits
-        (b"inputs 3\n01101001\n00010111\n", FULL_ADDER, None),
-        // a constant, AND NOT behind a negation, a constant, and the input
-        (b"inputs 1\n11\n10\n00\n01\n", MIXED, None),
-    ] {
+    for &(tables, block, difference) in DIFFERENCES {
         assert!(rt; differs_at(rt.alloc(), tables, block, difference));
     }
 }
@@ -75,109 +87,159 @@ fn taken(alloc: Global, text: &[u8]) -> Result<usize, ChainError> {
     Ok(used)
 }
 
-#[test]
-fn blocks_are_read(rt: HostRuntime) {
-    for (text, used) in [
-        (b"chain 1\nx3 x1 x2 0110\nout x3\nend\n" as &[u8], 29),
-        (b"chain 1\nx3 x2 x2 1110\nout x2\n", 29),
-        (b"chain 0\nout 0\n", 14),
-        (b"chain 0\nout 0\nout 1", 14),
-        (SIXTEEN_STEPS, SIXTEEN_STEPS.len()),
-    ] {
-        assert!(rt; taken(rt.alloc(), text) == Ok(used), "{used}");
-    }
-}
-
-/// Texts with their refusals, where the first line has the number 4, for two inputs and one output.
-const REFUSALS: &[(&[u8], ChainError)] = &[
-    (b"", ChainError::BadCount(4)),
-    (b"chain 1", ChainError::BadCount(4)),
-    (b"chain 17", ChainError::BadCount(4)),
-    (b"chain\nout x1\n", ChainError::BadCount(4)),
-    (b"chain \nout x1\n", ChainError::BadCount(4)),
+/// Texts for two inputs and one output, where the first line has the number 4: how many bytes are taken, or the refusal.
+const READ: &[(&[u8], Result<usize, ChainError>)] = &[
+    (b"chain 1\nx3 x1 x2 0110\nout x3\nend\n", Ok(29)),
+    (b"chain 1\nx3 x2 x2 1110\nout x2\n", Ok(29)),
+    (b"chain 0\nout 0\n", Ok(14)),
+    (b"chain 0\nout 0\nout 1", Ok(14)),
+    // the whole text
+    (SIXTEEN_STEPS, Ok(258)),
+    (b"", Err(ChainError::BadCount(4))),
+    (b"chain 1", Err(ChainError::BadCount(4))),
+    (b"chain 17", Err(ChainError::BadCount(4))),
+    (b"chain\nout x1\n", Err(ChainError::BadCount(4))),
+    (b"chain \nout x1\n", Err(ChainError::BadCount(4))),
     (
         b"chain 01\nx3 x1 x2 0110\nout x3\n",
-        ChainError::BadCount(4),
+        Err(ChainError::BadCount(4)),
     ),
     (
         b"chain  1\nx3 x1 x2 0110\nout x3\n",
-        ChainError::BadCount(4),
+        Err(ChainError::BadCount(4)),
     ),
-    (b"Chain 1\nx3 x1 x2 0110\nout x3\n", ChainError::BadCount(4)),
+    (
+        b"Chain 1\nx3 x1 x2 0110\nout x3\n",
+        Err(ChainError::BadCount(4)),
+    ),
     (
         b"chain 1\r\nx3 x1 x2 0110\nout x3\n",
-        ChainError::BadCount(4),
+        Err(ChainError::BadCount(4)),
     ),
-    (b"chain 1000000000\n", ChainError::BadCount(4)),
-    (b"chain 999999999\n", ChainError::TooManySteps(4)),
-    (SEVENTEEN_STEPS, ChainError::TooManySteps(4)),
-    (b"chain 2\n", ChainError::BadStep(5)),
-    (b"chain 2\nx3 x1 x2 0110\n", ChainError::BadStep(6)),
-    (b"chain 2\nx3 x1 x2 0110\nout x3\n", ChainError::BadStep(6)),
-    (b"chain 1\nx3 x1 x2 0110", ChainError::BadStep(5)),
-    (b"chain 1\nx3 x3 x2 0110", ChainError::BadStep(5)),
-    (b"chain 1\nx4 x1 x2 0110\nout x3\n", ChainError::BadStep(5)),
-    (b"chain 1\nx4 x3 x2 0110\nout x3\n", ChainError::BadStep(5)),
-    (b"chain 1\nx3 x0 x2 0110\nout x3\n", ChainError::BadStep(5)),
-    (b"chain 1\nx3 x3 x0 0110\nout x3\n", ChainError::BadStep(5)),
-    (b"chain 1\nx3 x1  x2 0110\nout x3\n", ChainError::BadStep(5)),
-    (b"chain 1\nx3 x1 x2 0110 \nout x3\n", ChainError::BadStep(5)),
-    (b"chain 1\nx3 x1 x2 011\nout x3\n", ChainError::BadStep(5)),
-    (b"chain 1\nx3 x1 x2 0120\nout x3\n", ChainError::BadStep(5)),
-    (b"chain 1\nx3 x01 x2 0110\nout x3\n", ChainError::BadStep(5)),
+    (b"chain 1000000000\n", Err(ChainError::BadCount(4))),
+    (b"chain 999999999\n", Err(ChainError::TooManySteps(4))),
+    (SEVENTEEN_STEPS, Err(ChainError::TooManySteps(4))),
+    (b"chain 2\n", Err(ChainError::BadStep(5))),
+    (b"chain 2\nx3 x1 x2 0110\n", Err(ChainError::BadStep(6))),
+    (
+        b"chain 2\nx3 x1 x2 0110\nout x3\n",
+        Err(ChainError::BadStep(6)),
+    ),
+    (b"chain 1\nx3 x1 x2 0110", Err(ChainError::BadStep(5))),
+    (b"chain 1\nx3 x3 x2 0110", Err(ChainError::BadStep(5))),
+    (
+        b"chain 1\nx4 x1 x2 0110\nout x3\n",
+        Err(ChainError::BadStep(5)),
+    ),
+    (
+        b"chain 1\nx4 x3 x2 0110\nout x3\n",
+        Err(ChainError::BadStep(5)),
+    ),
+    (
+        b"chain 1\nx3 x0 x2 0110\nout x3\n",
+        Err(ChainError::BadStep(5)),
+    ),
+    (
+        b"chain 1\nx3 x3 x0 0110\nout x3\n",
+        Err(ChainError::BadStep(5)),
+    ),
+    (
+        b"chain 1\nx3 x1  x2 0110\nout x3\n",
+        Err(ChainError::BadStep(5)),
+    ),
+    (
+        b"chain 1\nx3 x1 x2 0110 \nout x3\n",
+        Err(ChainError::BadStep(5)),
+    ),
+    (
+        b"chain 1\nx3 x1 x2 011\nout x3\n",
+        Err(ChainError::BadStep(5)),
+    ),
+    (
+        b"chain 1\nx3 x1 x2 0120\nout x3\n",
+        Err(ChainError::BadStep(5)),
+    ),
+    (
+        b"chain 1\nx3 x01 x2 0110\nout x3\n",
+        Err(ChainError::BadStep(5)),
+    ),
     (
         b"chain 1\nx3 x1000000000 x2 0110\nout x3\n",
-        ChainError::BadStep(5),
+        Err(ChainError::BadStep(5)),
     ),
     (
         b"chain 1\nx3 x999999999 x2 0110\nout x3\n",
-        ChainError::ForwardPlace(5),
+        Err(ChainError::ForwardPlace(5)),
     ),
     (
         b"chain 1\nx3 x3 x2 0110\nout x3\n",
-        ChainError::ForwardPlace(5),
+        Err(ChainError::ForwardPlace(5)),
     ),
     (
         b"chain 2\nx3 x1 x2 0110\nx4 x1 x5 0110\n",
-        ChainError::ForwardPlace(6),
+        Err(ChainError::ForwardPlace(6)),
     ),
-    (b"chain 0\n", ChainError::BadOut(5)),
-    (b"chain 1\nx3 x1 x2 0110\n", ChainError::BadOut(6)),
-    (b"chain 1\nx3 x1 x2 0110\nend\n", ChainError::BadOut(6)),
-    (b"chain 1\nx3 x1 x2 0110\nout x4\n", ChainError::BadOut(6)),
-    (b"chain 1\nx3 x1 x2 0110\nout x0\n", ChainError::BadOut(6)),
-    (b"chain 1\nx3 x1 x2 0110\nout 2\n", ChainError::BadOut(6)),
-    (b"chain 1\nx3 x1 x2 0110\nout x3", ChainError::BadOut(6)),
+    (b"chain 0\n", Err(ChainError::BadOut(5))),
+    (b"chain 1\nx3 x1 x2 0110\n", Err(ChainError::BadOut(6))),
+    (b"chain 1\nx3 x1 x2 0110\nend\n", Err(ChainError::BadOut(6))),
+    (
+        b"chain 1\nx3 x1 x2 0110\nout x4\n",
+        Err(ChainError::BadOut(6)),
+    ),
+    (
+        b"chain 1\nx3 x1 x2 0110\nout x0\n",
+        Err(ChainError::BadOut(6)),
+    ),
+    (
+        b"chain 1\nx3 x1 x2 0110\nout 2\n",
+        Err(ChainError::BadOut(6)),
+    ),
+    (
+        b"chain 1\nx3 x1 x2 0110\nout x3",
+        Err(ChainError::BadOut(6)),
+    ),
 ];
 
 #[test]
-fn refusals_name_the_first_fault(rt: HostRuntime) {
-    for &(text, refusal) in REFUSALS {
-        assert!(rt; taken(rt.alloc(), text) == Err(refusal));
+fn blocks_are_read_or_refused_at_the_first_fault(rt: HostRuntime) {
+    for &(text, wanted) in READ {
+        assert!(rt; taken(rt.alloc(), text) == wanted);
     }
 }
 
-/// Whether the chain of a block is written as that block, behind what stood there.
-fn is_written_again(alloc: Global, block: &[u8], n: u32, outputs: u32) -> Result<bool, AllocError> {
-    if block.len() > 1000 || n > 6 || outputs > 8 {
-        return Ok(false);
-    }
-    let Ok((chain, _)) = read_chain(alloc, block, 1, n, outputs) else {
-        return Ok(false);
+/// Whether a chain is written as this block, behind what stood there.
+fn is_written(alloc: Global, chain: &Chain, block: &[u8]) -> bool {
+    let Ok(mut text) = Vec::from_slice(alloc, b"x") else {
+        return false;
     };
-    let mut text = vec![in alloc; b'x']?;
-    write_chain(&chain, &mut text)?;
-    let (_, written) = text.split_at(1);
-    Ok(written == block)
+    if write_chain(chain, &mut text).is_err() {
+        return false;
+    }
+    match text.as_slice().split_first() {
+        Some((_, written)) => written == block,
+        None => false,
+    }
 }
+
+/// Whether the chain of a block is written as that block.
+fn is_written_again(alloc: Global, block: &[u8], n: u32, outputs: u32) -> bool {
+    if block.len() > 1000 || n > 6 || outputs > 8 {
+        return false;
+    }
+    match read_chain(alloc, block, 1, n, outputs) {
+        Ok((chain, _)) => is_written(alloc, &chain, block),
+        Err(_) => false,
+    }
+}
+
+/// Blocks with their inputs and outputs.
+const WRITTEN: &[(&[u8], u32, u32)] = &[(FULL_ADDER, 3, 2), (MIXED, 1, 4), (b"chain 0\n", 6, 0)];
 
 #[test]
-fn blocks_are_written(rt: HostRuntime) -> Result<(), AllocError> {
-    for (block, n, outputs) in [(FULL_ADDER, 3, 2), (MIXED, 1, 4), (b"chain 0\n", 6, 0)] {
-        let again = is_written_again(rt.alloc(), block, n, outputs)?;
-        assert!(rt; again, "{n}");
+fn blocks_are_written(rt: HostRuntime) {
+    for &(block, n, outputs) in WRITTEN {
+        assert!(rt; is_written_again(rt.alloc(), block, n, outputs), "{n}");
     }
-    Ok(())
 }
 
 /// Whether the first place of a block's chain whose operator isn't in a basis is this one; with its inputs and outputs.
@@ -198,20 +260,22 @@ fn is_outside_at(
     }
 }
 
-/// Bases by their bits. The full adder has the operators 6, 1, 6, 1 and 7, and the mixed chain 14
-/// and 2.
+/// Blocks with their inputs and outputs, bases by their bits, and the first places outside them. The full adder has the
+/// operators 6, 1, 6, 1 and 7, and the mixed chain 14 and 2.
+const OUTSIDE: &[(&[u8], (u32, u32), u16, Option<u32>)] = &[
+    (FULL_ADDER, (3, 2), 65535, None),
+    (FULL_ADDER, (3, 2), 2 + 64 + 128, None),
+    (FULL_ADDER, (3, 2), 2 + 64, Some(8)),
+    (FULL_ADDER, (3, 2), 64, Some(5)),
+    (FULL_ADDER, (3, 2), 16384, Some(4)),
+    (MIXED, (1, 4), 16384, Some(3)),
+    (b"chain 0\nout x1\n", (1, 1), 0, None),
+];
+
 #[test]
 fn the_first_place_outside_a_basis_is_found(rt: HostRuntime) {
-    for (block, n, outputs, bits, place) in [
-        (FULL_ADDER, 3, 2, 65535, None),
-        (FULL_ADDER, 3, 2, 2 + 64 + 128, None),
-        (FULL_ADDER, 3, 2, 2 + 64, Some(8)),
-        (FULL_ADDER, 3, 2, 64, Some(5)),
-        (FULL_ADDER, 3, 2, 16384, Some(4)),
-        (MIXED, 1, 4, 16384, Some(3)),
-        (b"chain 0\nout x1\n", 1, 1, 0, None),
-    ] {
-        let found = is_outside_at(rt.alloc(), block, (n, outputs), bits, place);
+    for &(block, widths, bits, place) in OUTSIDE {
+        let found = is_outside_at(rt.alloc(), block, widths, bits, place);
         assert!(rt; found, "{bits}");
     }
 }

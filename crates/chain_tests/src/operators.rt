@@ -1,58 +1,73 @@
 //! Operators by their words, and bases: their tests and their texts.
 use op_basis::{Basis, BasisError, Op, read_basis, read_operator, write_basis, write_operator};
+use std::alloc::Global;
 
-/// Each operator's values at (0,0), (0,1), (1,0), (1,1), written as its word.
-#[test]
-fn operators_have_the_values_of_their_words(rt: HostRuntime) {
-    let words = [
-        (1, [false, false, false, true]),
-        (2, [false, false, true, false]),
-        (6, [false, true, true, false]),
-        (7, [false, true, true, true]),
-        (8, [true, false, false, false]),
-        (9, [true, false, false, true]),
-        (12, [true, true, false, false]),
-        (14, [true, true, true, false]),
-    ];
-    for (word, [at_00, at_01, at_10, at_11]) in words {
-        assert!(rt; word < 16);
-        let op = Op::new(word);
-        let first = op.apply(false, false) == at_00 && op.apply(false, true) == at_01;
-        let second = op.apply(true, false) == at_10 && op.apply(true, true) == at_11;
-        assert!(rt; op.get() == word && first && second, "at {word}");
+/// Whether an operator is written as this word.
+fn is_written(alloc: Global, op: Op, word: &[u8]) -> bool {
+    let mut out = Vec::new(alloc);
+    write_operator(op, &mut out).is_ok() && out.as_slice() == word
+}
+
+/// Whether an operator has these values at (0,0), (0,1), (1,0), (1,1).
+fn has_values(op: Op, values: [bool; 4]) -> bool {
+    let [at_00, at_01, at_10, at_11] = values;
+    op.apply(false, false) == at_00
+        && op.apply(false, true) == at_01
+        && op.apply(true, false) == at_10
+        && op.apply(true, true) == at_11
+}
+
+/// Whether a word is read as the operator of this number, which has these values and is written as the word; or is
+/// refused.
+fn is_operator(alloc: Global, word: &[u8], number: Option<u8>, values: [bool; 4]) -> bool {
+    match read_operator(word) {
+        Some(op) => {
+            number == Some(op.get()) && has_values(op, values) && is_written(alloc, op, word)
+        }
+        None => number.is_none(),
     }
 }
 
+/// Words with their operators and their values, written as the words.
+const OPERATORS: &[(&[u8], Option<u8>, [bool; 4])] = &[
+    (b"0001", Some(1), [false, false, false, true]),
+    (b"0010", Some(2), [false, false, true, false]),
+    (b"0110", Some(6), [false, true, true, false]),
+    (b"0111", Some(7), [false, true, true, true]),
+    (b"1000", Some(8), [true, false, false, false]),
+    (b"1001", Some(9), [true, false, false, true]),
+    (b"1100", Some(12), [true, true, false, false]),
+    (b"1110", Some(14), [true, true, true, false]),
+    (b"011", None, [false; 4]),
+    (b"01101", None, [false; 4]),
+    (b"0120", None, [false; 4]),
+    (b"", None, [false; 4]),
+];
+
 #[test]
-fn words_of_operators_are_read_and_written(rt: HostRuntime) {
-    for (word, op) in [
-        (b"0110" as &[u8], Some(Op::new(6))),
-        (b"1110", Some(Op::new(14))),
-        (b"011", None),
-        (b"01101", None),
-        (b"0120", None),
-        (b"", None),
-    ] {
-        assert!(rt; read_operator(word) == op);
+fn operators_have_the_values_of_their_words(rt: HostRuntime) {
+    for &(word, number, values) in OPERATORS {
+        assert!(rt; is_operator(rt.alloc(), word, number, values));
     }
-    let mut out = Vec::new(rt.alloc());
-    assert!(rt; write_operator(Op::new(2), &mut out).is_ok());
-    assert!(rt; out.as_slice() == b"0010".as_slice());
+}
+
+/// Whether a basis is written as this text.
+fn is_text(alloc: Global, basis: Basis, text: &[u8]) -> bool {
+    if basis.get() == 0 {
+        return false;
+    }
+    let mut out = Vec::new(alloc);
+    write_basis(basis, &mut out).is_ok() && out.as_slice() == text
 }
 
 /// Whether a basis that is read from the word passes the tests for exchanged operands, negation,
 /// constants, polarity and reapplication as they are given, and is written as the text.
-fn is_basis(rt: &HostRuntime, word: &[u8], tests: [bool; 5], text: &[u8]) -> bool {
+fn is_basis(alloc: Global, word: &[u8], tests: [bool; 5], text: &[u8]) -> bool {
     let Ok(basis) = read_basis(word) else {
         return false;
     };
-    if basis.get() == 0 {
-        return false;
-    }
-    let mut out = Vec::new(rt.alloc());
     let [swap, negation, constants, polarity, reapply] = tests;
-    write_basis(basis, &mut out).is_ok()
-        && out.as_slice() == text
+    is_text(alloc, basis, text)
         && basis.swap_closed() == swap
         && basis.has_negation() == negation
         && basis.const_closed() == constants
@@ -103,7 +118,7 @@ const BASES: &[(&[u8], [bool; 5], &[u8])] = &[
 #[test]
 fn bases_are_closed(rt: HostRuntime) {
     for &(word, tests, text) in BASES {
-        assert!(rt; is_basis(&rt, word, tests, text));
+        assert!(rt; is_basis(rt.alloc(), word, tests, text));
     }
 }
 
@@ -132,7 +147,10 @@ fn other_words_are_refused(rt: HostRuntime) {
     for &(word, refusal) in REFUSALS {
         assert!(rt; read_basis(word).err() == Some(refusal));
     }
-    assert!(rt;
-        Basis::new(16384).contains(Op::new(14)) && !Basis::new(16384).contains(Op::new(13))
-    );
+}
+
+#[test]
+fn bases_contain_their_operators(rt: HostRuntime) {
+    let nand = Basis::new(16384);
+    assert!(rt; nand.contains(Op::new(14)) && !nand.contains(Op::new(13)));
 }

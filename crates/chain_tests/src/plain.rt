@@ -2,19 +2,33 @@
 use chain_theory::plain::{PlainStep, agrees, place_level, place_value};
 use chain_theory::{Cell, Out};
 
-fn step(j: u32, k: u32, op: u8) -> PlainStep {
-    PlainStep { j, k, op }
-}
-
-fn full_adder() -> [PlainStep; 5] {
-    [
-        step(1, 2, 0b0110),
-        step(3, 4, 0b0110),
-        step(1, 2, 0b0001),
-        step(3, 4, 0b0001),
-        step(6, 7, 0b0111),
-    ]
-}
+const FULL_ADDER: &[PlainStep] = &[
+    PlainStep {
+        j: 1,
+        k: 2,
+        op: 0b0110,
+    },
+    PlainStep {
+        j: 3,
+        k: 4,
+        op: 0b0110,
+    },
+    PlainStep {
+        j: 1,
+        k: 2,
+        op: 0b0001,
+    },
+    PlainStep {
+        j: 3,
+        k: 4,
+        op: 0b0001,
+    },
+    PlainStep {
+        j: 6,
+        k: 7,
+        op: 0b0111,
+    },
+];
 
 fn cell(character: u8) -> Cell {
     match character {
@@ -33,41 +47,51 @@ fn cells(tables: &[u8; 16]) -> [Cell; 16] {
     cells
 }
 
+/// Whether the full adder has the sum and the carry of a row, and its first input.
+fn is_row(row: u32) -> bool {
+    let sum = (row & 1) + ((row >> 1) & 1) + ((row >> 2) & 1);
+    place_value(3, FULL_ADDER, row, 5) == (sum & 1 == 1)
+        && place_value(3, FULL_ADDER, row, 8) == (sum > 1)
+        && place_value(3, FULL_ADDER, row, 1) == (row > 3)
+}
+
 #[test]
 fn a_full_adder_adds(rt: HostRuntime) {
-    let steps = full_adder();
     for row in 0..8u32 {
-        let sum = (row & 1) + ((row >> 1) & 1) + (row >> 2);
-        let odd = place_value(3, &steps, row, 5) == (sum & 1 == 1);
-        let carry = place_value(3, &steps, row, 8) == (sum > 1);
-        let input = place_value(3, &steps, row, 1) == (row > 3);
-        assert!(rt; odd && carry && input, "{row}");
+        assert!(rt; is_row(row), "{row}");
     }
 }
+
+/// Places and their levels.
+const LEVELS: &[(u32, u32)] = &[(1, 0), (3, 0), (4, 1), (5, 2), (6, 1), (7, 2), (8, 3)];
 
 #[test]
 fn a_full_adder_has_three_levels(rt: HostRuntime) {
-    let steps = full_adder();
-    for (place, level) in [(1, 0), (3, 0), (4, 1), (5, 2), (6, 1), (7, 2), (8, 3)] {
-        assert!(rt; place_level(3, &steps, place) == level, "x{place}");
+    for &(place, level) in LEVELS {
+        assert!(rt; place_level(3, FULL_ADDER, place) == level, "x{place}");
     }
 }
 
+const BOTH: [Out; 2] = [Out::Place(5), Out::Place(8)];
+
+const CONSTANTS: [Out; 2] = [Out::Zero, Out::One];
+
+/// Two outputs, their tables, and whether the chain agrees: sum and carry; one cell changed; that cell free; the tables
+/// exchanged; constants.
+const TABLES: &[([Out; 2], &[u8; 16], bool)] = &[
+    (BOTH, b"0110100100010111", true),
+    (BOTH, b"0110100100010110", false),
+    (BOTH, b"011010010001011-", true),
+    (BOTH, b"0010100100010111", false),
+    (BOTH, b"0-10100100010111", true),
+    (BOTH, b"0001011101101001", false),
+    (CONSTANTS, b"00-0000-111-1111", true),
+    (CONSTANTS, b"0000000111111111", false),
+];
+
 #[test]
 fn a_full_adder_agrees_with_its_tables(rt: HostRuntime) {
-    let steps = full_adder();
-    let both = [Out::Place(5), Out::Place(8)];
-    // sum and carry; one cell changed; that cell free; the tables exchanged; constants
-    for (outs, tables, wanted) in [
-        (both, b"0110100100010111", true),
-        (both, b"0110100100010110", false),
-        (both, b"011010010001011-", true),
-        (both, b"0010100100010111", false),
-        (both, b"0-10100100010111", true),
-        (both, b"0001011101101001", false),
-        ([Out::Zero, Out::One], b"00-0000-111-1111", true),
-        ([Out::Zero, Out::One], b"0000000111111111", false),
-    ] {
-        assert!(rt; agrees(3, &steps, &outs, &cells(tables)) == wanted);
+    for &(outs, tables, wanted) in TABLES {
+        assert!(rt; agrees(3, FULL_ADDER, &outs, &cells(tables)) == wanted);
     }
 }

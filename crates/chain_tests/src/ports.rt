@@ -1,19 +1,46 @@
 //! Faults in mid-stream and limits, over each kind of source and sink.
 use port_io::{
-    InputPort, MemorySink, MemorySource, OutputPort, ReadError, SteadySource, WriteFault, read_all,
-    write_all,
+    InputPort, MemorySink, MemorySource, OutputPort, ReadError, SteadySource, read_all, write_all,
 };
 use std::alloc::{AllocError, Global};
 use std::io;
 use std::io::{ErrorKind, Read, Write};
-use std::test::Fail;
+
+/// The byte at a place of a source.
+fn byte_at(place: usize) -> u8 {
+    (place % 251) as u8
+}
 
 fn bytes_of(alloc: Global, length: usize) -> Result<Vec<u8>, AllocError> {
     let mut bytes = Vec::new(alloc);
     for place in 0..length {
-        bytes.push((place % 251) as u8)?;
+        bytes.push(byte_at(place))?;
     }
     Ok(bytes)
+}
+
+/// Whether these are all bytes of a source of this length.
+fn are_all(bytes: &[u8], length: usize) -> bool {
+    for (place, byte) in bytes.iter().enumerate() {
+        if *byte != byte_at(place) {
+            return false;
+        }
+    }
+    bytes.len() == length
+}
+
+/// Whether what was read is this error, or a source of this length where there is none.
+fn came_to(read: &Result<Vec<u8>, ReadError>, length: usize, error: Option<ReadError>) -> bool {
+    match read {
+        Ok(bytes) => error.is_none() && are_all(bytes, length),
+        Err(told) => error == Some(*told),
+    }
+}
+
+/// A source of so many bytes that fails at one call.
+fn source(alloc: Global, length: usize, failing: u64) -> Result<MemorySource, AllocError> {
+    let bytes = bytes_of(alloc, length)?;
+    Ok(MemorySource::new(bytes, vec![in alloc; failing]?))
 }
 
 /// Whether a source of so many bytes that fails at one call is read with this error, or whole, and with so many
@@ -25,71 +52,78 @@ fn is_read(
     limit: usize,
     error: Option<ReadError>,
     faults: u64,
-) -> Result<bool, AllocError> {
-    let bytes = bytes_of(alloc, length)?;
-    let mut source = MemorySource::new(bytes.clone()?, vec![in alloc; failing]?);
-    let read = read_all(alloc, &mut source, limit);
-    if source.faults() != faults {
-        return Ok(false);
-    }
-    match read {
-        Ok(all) => Ok(error.is_none() && all.as_slice() == bytes.as_slice()),
-        Err(told) => Ok(error == Some(told)),
-    }
+) -> bool {
+    let Ok(mut source) = source(alloc, length, failing) else {
+        return false;
+    };
+    came_to(&read_all(alloc, &mut source, limit), length, error) && source.faults() == faults
 }
 
 /// Whether a source that never fails is read to its end, where the limit allows it, and has no fault.
-fn is_read_steadily(alloc: Global, length: usize, limit: usize) -> Result<bool, AllocError> {
-    let mut steady = SteadySource::new(bytes_of(alloc, length)?);
-    let read = read_all(alloc, &mut steady, limit).is_ok();
-    Ok(read == (length <= limit) && steady.faults() == 0)
+fn is_read_steadily(alloc: Global, length: usize, limit: usize) -> bool {
+    let Ok(bytes) = bytes_of(alloc, length) else {
+        return false;
+    };
+    let mut steady = SteadySource::new(bytes);
+    read_all(alloc, &mut steady, limit).is_ok() == (length <= limit) && steady.faults() == 0
 }
 
+/// How many bytes a source has, the number of the call that fails, the limit, the error, and the number of faults.
+const READ: &[(usize, u64, usize, Option<ReadError>, u64)] = &[
+    (0, 0, 0, None, 0),
+    (3, 0, 3, None, 0),
+    (3, 0, 2, Some(ReadError::TooLong), 0),
+    (3, 0, usize::MAX, None, 0),
+    (3, 1, 3, Some(ReadError::ReadFault), 1),
+    (3, 2, 3, Some(ReadError::ReadFault), 1),
+    (3, 3, 3, None, 0),
+    (5000, 0, 5000, None, 0),
+    (5000, 0, 4999, Some(ReadError::TooLong), 0),
+    (5000, 2, 5000, Some(ReadError::ReadFault), 1),
+];
+
 #[test]
-fn reads_memory(rt: HostRuntime) -> Result<(), Fail> {
-    let cases = [
-        (0, 0, 0, None, 0),
-        (3, 0, 3, None, 0),
-        (3, 0, 2, Some(ReadError::TooLong), 0),
-        (3, 0, usize::MAX, None, 0),
-        (3, 1, 3, Some(ReadError::ReadFault), 1),
-        (3, 2, 3, Some(ReadError::ReadFault), 1),
-        (3, 3, 3, None, 0),
-        (5000, 0, 5000, None, 0),
-        (5000, 0, 4999, Some(ReadError::TooLong), 0),
-        (5000, 2, 5000, Some(ReadError::ReadFault), 1),
-    ];
-    for (length, failing, limit, error, faults) in cases {
-        let told = is_read(rt.alloc(), length, failing, limit, error, faults)?;
-        let steady = is_read_steadily(rt.alloc(), length, limit)?;
+fn reads_memory(rt: HostRuntime) {
+    for &(length, failing, limit, error, faults) in READ {
+        let told = is_read(rt.alloc(), length, failing, limit, error, faults);
+        let steady = is_read_steadily(rt.alloc(), length, limit);
         assert!(rt; told && steady, "{length} {failing} {limit}");
     }
-    Ok(())
+}
+
+/// Whether the first or the second write fails, where that call is to fail, and no other.
+fn is_told(sink: &mut MemorySink, failing: u64) -> bool {
+    let first = write_all(sink, b"abc").is_err();
+    let second = write_all(sink, b"def").is_err();
+    first == (failing == 1) && second == (failing == 2)
 }
 
 /// Whether a sink that fails at one call has this text after two calls, and so many faults.
-fn is_written(alloc: Global, failing: u64, text: &str, faults: u64) -> Result<bool, AllocError> {
-    let mut sink = MemorySink::new(alloc, vec![in alloc; failing]?);
-    let first = write_all(&mut sink, b"abc");
-    let second = write_all(&mut sink, b"def");
-    let failed = first.is_err() == (failing == 1) && second.is_err() == (failing == 2);
-    Ok(failed && sink.written() == text.as_bytes() && sink.faults() == faults)
+fn is_written(alloc: Global, failing: u64, text: &[u8], faults: u64) -> bool {
+    let Ok(calls) = Vec::from_slice(alloc, &[failing]) else {
+        return false;
+    };
+    let mut sink = MemorySink::new(alloc, calls);
+    let told = is_told(&mut sink, failing);
+    told && sink.written() == text && sink.faults() == faults
 }
 
+/// The number of the call that fails, what then stands written after two calls, and the number of faults.
+const WRITTEN: &[(u64, &[u8], u64)] = &[
+    (0, b"abcdef", 0),
+    (1, b"def", 1),
+    (2, b"abc", 1),
+    (3, b"abcdef", 0),
+];
+
 #[test]
-fn writes_memory(rt: HostRuntime) -> Result<(), Fail> {
-    // The number of the call that fails, and what then stands written after two calls.
-    let cases = [
-        (0, "abcdef", 0),
-        (1, "def", 1),
-        (2, "abc", 1),
-        (3, "abcdef", 0),
-    ];
-    for (failing, text, faults) in cases {
-        let written = is_written(rt.alloc(), failing, text, faults)?;
-        assert!(rt; written, "call {failing} fails");
+fn writes_memory(rt: HostRuntime) {
+    for &(failing, text, faults) in WRITTEN {
+        assert!(rt;
+            is_written(rt.alloc(), failing, text, faults),
+            "call {failing} fails"
+        );
     }
-    Ok(())
 }
 
 /// Gives two bytes a call, and fails at one call.
@@ -115,22 +149,30 @@ impl<'a> Read for Dripping<'a> {
     }
 }
 
-#[test]
-fn reads_port(rt: HostRuntime) -> Result<(), Fail> {
+/// Whether what was read is this text.
+fn is_text(read: Result<Vec<u8>, ReadError>, text: &[u8]) -> bool {
+    match read {
+        Ok(bytes) => bytes.as_slice() == text,
+        Err(_) => false,
+    }
+}
+
+/// Whether a port fails once, and is read to its end by the next call.
+fn is_read_behind_a_fault(alloc: Global) -> bool {
     let mut port = InputPort::new(Dripping {
         rest: b"abcde",
         calls: 0,
         failing: 3,
     });
-    let first = read_all(rt.alloc(), &mut port, 5);
-    let failed = first.err() == Some(ReadError::ReadFault);
-    assert!(rt; failed && port.faults() == 1);
-    let Ok(second) = read_all(rt.alloc(), &mut port, 5) else {
-        assert!(rt; false, "the port fails once");
-        return Ok(());
-    };
-    assert!(rt; second.as_slice() == b"e".as_slice() && port.faults() == 1);
-    Ok(())
+    let failed = read_all(alloc, &mut port, 5).err() == Some(ReadError::ReadFault);
+    let once = port.faults() == 1;
+    let read = is_text(read_all(alloc, &mut port, 5), b"e");
+    failed && once && read && port.faults() == 1
+}
+
+#[test]
+fn reads_port(rt: HostRuntime) {
+    assert!(rt; is_read_behind_a_fault(rt.alloc()));
 }
 
 /// Takes some bytes a call, and fails at one call.
@@ -159,23 +201,33 @@ impl Write for Taking {
     }
 }
 
+/// Whether a port takes so many bytes a call, fails at this call, and has this text and so many faults in the end.
+fn is_taken(alloc: Global, most: usize, failing: u8, text: &[u8], faults: u64) -> bool {
+    let mut writer = Taking {
+        bytes: Vec::new(alloc),
+        most,
+        calls: 0,
+        failing,
+    };
+    let mut port = OutputPort::new(&mut writer);
+    let failed = write_all(&mut port, b"abcde").is_err() == (faults > 0);
+    let told = port.faults() == faults;
+    failed && told && writer.bytes.as_slice() == text
+}
+
+/// How many bytes a port takes a call, the number of the call that fails, what has gone out, and the number of faults.
+const TAKEN: &[(usize, u8, &[u8], u64)] = &[
+    (2, 0, b"abcde", 0),
+    (2, 3, b"abcd", 1),
+    (0, 0, b"", 1),
+];
+
 #[test]
-fn writes_port(rt: HostRuntime) -> Result<(), Fail> {
-    // How many bytes it takes a call, the number of the call that fails, and what has gone out.
-    let cases = [(2, 0, "abcde", 0), (2, 3, "abcd", 1), (0, 0, "", 1)];
-    for (most, failing, text, faults) in cases {
-        let mut writer = Taking {
-            bytes: Vec::new(rt.alloc()),
-            most,
-            calls: 0,
-            failing,
-        };
-        let mut port = OutputPort::new(&mut writer);
-        let result = write_all(&mut port, b"abcde");
-        let count = port.faults();
-        let told = result.err() == (faults > 0).then_some(WriteFault::WriteFault);
-        let written = writer.bytes.as_slice() == text.as_bytes();
-        assert!(rt; told && count == faults && written, "{most} {failing}");
+fn writes_port(rt: HostRuntime) {
+    for &(most, failing, text, faults) in TAKEN {
+        assert!(rt;
+            is_taken(rt.alloc(), most, failing, text, faults),
+            "{most} {failing}"
+        );
     }
-    Ok(())
 }

@@ -1,26 +1,32 @@
 //! Tables, and the chains of at most one step that they have.
-use chain_core::write_chain;
+use chain_core::{Chain, write_chain};
 use op_basis::read_basis;
-use std::alloc::{AllocError, Global};
+use std::alloc::Global;
 use step_core::one_step;
 use tt_core::read_tables;
 
-/// Whether tables have this chain over a basis; an empty text stands for none.
-fn has(alloc: Global, basis: &[u8], tables: &[u8], wanted: &[u8]) -> Result<bool, AllocError> {
+/// Whether a chain is written as this text.
+fn is_written(alloc: Global, chain: &Chain, text: &[u8]) -> bool {
     let mut told = Vec::new(alloc);
+    write_chain(chain, &mut told).is_ok() && told.as_slice() == text
+}
+
+/// Whether tables have this chain over a basis; an empty text stands for none.
+fn has(alloc: Global, basis: &[u8], tables: &[u8], wanted: &[u8]) -> bool {
     if tables.len() > 100_000 {
-        return Ok(false);
+        return false;
     }
     let Ok(basis) = read_basis(basis) else {
-        return Ok(false);
+        return false;
     };
     let Ok(tables) = read_tables(alloc, tables) else {
-        return Ok(false);
+        return false;
     };
-    if let Some(chain) = one_step(alloc, &tables.spec, basis)? {
-        write_chain(&chain, &mut told)?;
+    match one_step(alloc, &tables.spec, basis) {
+        Ok(Some(chain)) => is_written(alloc, &chain, wanted),
+        Ok(None) => wanted.is_empty(),
+        Err(_) => false,
     }
-    Ok(told.as_slice() == wanted)
 }
 
 /// Bases, tables, and their chains of at most one step; nothing where they have none.
@@ -74,10 +80,8 @@ const ONE_STEP: &[(&[u8], &[u8], &[u8])] = &[
 ];
 
 #[test]
-fn chains_of_one_step_are_found(rt: HostRuntime) -> Result<(), AllocError> {
+fn chains_of_one_step_are_found(rt: HostRuntime) {
     for &(basis, tables, wanted) in ONE_STEP {
-        let found = has(rt.alloc(), basis, tables, wanted)?;
-        assert!(rt; found);
+        assert!(rt; has(rt.alloc(), basis, tables, wanted));
     }
-    Ok(())
 }

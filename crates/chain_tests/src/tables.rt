@@ -1,6 +1,5 @@
 //! Tables read and refused; their symmetric inputs and their live outputs.
-use std::alloc::{AllocError, Global};
-use std::test::Fail;
+use std::alloc::Global;
 use tt_core::{
     Cell, Out, Spec, SpecError, Tables, are_cells, inputs, live_part, push_row, read_tables, row,
     symmetric, trivial,
@@ -28,6 +27,13 @@ fn has_cells(tables: &Tables, h: u32, cells: &[u8]) -> bool {
     true
 }
 
+/// Whether tables have these numbers of inputs and outputs, and end behind this byte.
+fn has_widths(tables: &Tables, widths: (u32, u32), used: usize) -> bool {
+    let (n, outputs) = widths;
+    let spec = tables.spec.n() == n && tables.spec.outputs() == outputs;
+    spec && tables.used == used && tables.lines.checked_sub(1) == Some(outputs)
+}
+
 /// Whether a text is read, up to this byte, with these numbers of inputs and outputs and these cells of output `h`.
 fn is_read(
     alloc: Global,
@@ -43,10 +49,7 @@ fn is_read(
     let Ok(tables) = read_tables(alloc, text) else {
         return false;
     };
-    let (n, outputs) = widths;
-    let spec = tables.spec.n() == n && tables.spec.outputs() == outputs;
-    let lines = tables.lines.checked_sub(1) == Some(outputs);
-    spec && tables.used == used && lines && has_cells(&tables, h, cells)
+    has_widths(&tables, widths, used) && has_cells(&tables, h, cells)
 }
 
 /// Texts with their numbers of inputs and outputs, where the tables end, and the cells of one output.
@@ -132,21 +135,37 @@ fn refusals_have_their_lines(rt: HostRuntime) {
     }
 }
 
-#[test]
-fn words_are_kept(rt: HostRuntime) {
-    let spec = Spec::new(2, Vec::new(rt.alloc()), Vec::new(rt.alloc()));
-    let empty = spec.on().is_empty() && spec.care().is_empty();
-    assert!(rt; spec.n() == 2 && spec.outputs() == 0 && empty);
+/// Whether there are two inputs, and these words.
+fn has_words(spec: &Spec, on: &[u64], care: &[u64]) -> bool {
+    spec.n() == 2 && spec.on() == on && spec.care() == care
+}
+
+/// Whether tables without outputs are made.
+fn are_kept(alloc: Global) -> bool {
+    let spec = Spec::new(2, Vec::new(alloc), Vec::new(alloc));
+    has_words(&spec, &[], &[]) && spec.outputs() == 0
+}
+
+/// Whether headings and rows are told from what isn't one.
+fn are_told() -> bool {
+    inputs(b"inputs 2", true) == Some(2)
+        && inputs(b"inputs 2", false).is_none()
+        && are_cells(b"01-1")
+        && !are_cells(b"01x1")
+}
+
+/// Whether a row of two inputs is kept as these words.
+fn is_row(alloc: Global, text: &[u8; 4], on: u64, care: u64) -> bool {
+    let mut values = Vec::new(alloc);
+    let mut cares = Vec::new(alloc);
+    push_row(2, &mut values, &mut cares, text).is_ok()
+        && values.as_slice() == [on].as_slice()
+        && cares.as_slice() == [care].as_slice()
 }
 
 #[test]
-fn lines_are_read_by_themselves(rt: HostRuntime) -> Result<(), Fail> {
-    let headed = inputs(b"inputs 2", true) == Some(2) && inputs(b"inputs 2", false).is_none();
-    assert!(rt; headed && are_cells(b"01-1") && !are_cells(b"01x1"));
-    let (mut on, mut care) = (Vec::new(rt.alloc()), Vec::new(rt.alloc()));
-    push_row(2, &mut on, &mut care, b"01-1")?;
-    assert!(rt; on.as_slice() == [10].as_slice() && care.as_slice() == [11].as_slice());
-    Ok(())
+fn lines_are_read_by_themselves(rt: HostRuntime) {
+    assert!(rt; are_told() && are_kept(rt.alloc()) && is_row(rt.alloc(), b"01-1", 10, 11));
 }
 
 /// Whether tables are read, and whether they are symmetric in two inputs is told so.
@@ -184,65 +203,75 @@ fn inputs_are_exchanged(rt: HostRuntime) {
     }
 }
 
+/// Whether the live part of tables has as many inputs as they, and these words.
+fn is_part(alloc: Global, spec: &Spec, on: &[u64], care: &[u64]) -> bool {
+    match live_part(alloc, spec) {
+        Ok(live) => live.on() == on && live.care() == care && live.n() == spec.n(),
+        Err(_) => false,
+    }
+}
+
+/// Whether tables of four outputs have these trivial ones.
+fn are_trivial(spec: &Spec, outs: &[Option<Out>; 4]) -> bool {
+    spec.outputs() == 4
+        && trivial(spec, 1) == outs[0]
+        && trivial(spec, 2) == outs[1]
+        && trivial(spec, 3) == outs[2]
+        && trivial(spec, 4) == outs[3]
+}
+
 /// Whether tables of four outputs have these trivial ones, and these words are left of them.
 fn is_live_part(
     alloc: Global,
     text: &[u8],
-    outs: [Option<Out>; 4],
+    outs: &[Option<Out>; 4],
     on: &[u64],
     care: &[u64],
-) -> Result<bool, AllocError> {
+) -> bool {
     if text.len() > 1000 {
-        return Ok(false);
+        return false;
     }
-    let Ok(tables) = read_tables(alloc, text) else {
-        return Ok(false);
-    };
-    let spec = &tables.spec;
-    if spec.outputs() != 4 {
-        return Ok(false);
+    match read_tables(alloc, text) {
+        Ok(tables) => are_trivial(&tables.spec, outs) && is_part(alloc, &tables.spec, on, care),
+        Err(_) => false,
     }
-    let front = trivial(spec, 1) == outs[0] && trivial(spec, 2) == outs[1];
-    let back = trivial(spec, 3) == outs[2] && trivial(spec, 4) == outs[3];
-    let live = live_part(alloc, spec)?;
-    let words = live.on() == on && live.care() == care;
-    Ok(front && back && words && live.n() == spec.n())
 }
 
+/// Tables of four outputs, their trivial outputs, and the words of the others.
+const LIVE: &[(&[u8], [Option<Out>; 4], &[u64], &[u64])] = &[
+    (
+        b"inputs 2\n0--1\n0110\n----\n0001\n",
+        [Some(Out::Place(1)), None, Some(Out::Zero), None],
+        &[6, 8],
+        &[15, 15],
+    ),
+    (
+        b"inputs 2\n11-1\n0101\n1100\n-10-\n",
+        [
+            Some(Out::One),
+            Some(Out::Place(2)),
+            None,
+            Some(Out::Place(2)),
+        ],
+        &[3],
+        &[15],
+    ),
+    (
+        b"inputs 0\n0\n1\n-\n1\n",
+        [
+            Some(Out::Zero),
+            Some(Out::One),
+            Some(Out::Zero),
+            Some(Out::One),
+        ],
+        &[],
+        &[],
+    ),
+];
+
 #[test]
-fn live_outputs_are_kept(rt: HostRuntime) -> Result<(), AllocError> {
-    for (text, outs, on, care) in [
-        (
-            b"inputs 2\n0--1\n0110\n----\n0001\n" as &[u8],
-            [Some(Out::Place(1)), None, Some(Out::Zero), None],
-            &[6u64, 8] as &[u64],
-            &[15u64, 15] as &[u64],
-        ),
-        (
-            b"inputs 2\n11-1\n0101\n1100\n-10-\n",
-            [
-                Some(Out::One),
-                Some(Out::Place(2)),
-                None,
-                Some(Out::Place(2)),
-            ],
-            &[3],
-            &[15],
-        ),
-        (
-            b"inputs 0\n0\n1\n-\n1\n",
-            [
-                Some(Out::Zero),
-                Some(Out::One),
-                Some(Out::Zero),
-                Some(Out::One),
-            ],
-            &[],
-            &[],
-        ),
-    ] {
-        let well = is_live_part(rt.alloc(), text, outs, on, care)?;
-        assert!(rt; well);
+fn live_outputs_are_kept(rt: HostRuntime) {
+    for (text, outs, on, care) in LIVE {
+        assert!(rt; is_live_part(rt.alloc(), text, outs, on, care));
     }
-    Ok(())
 }

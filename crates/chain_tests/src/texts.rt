@@ -1,12 +1,14 @@
 //! Lines, items, words and numbers of texts.
+use std::alloc::Global;
 use text_core::{after, begins_lower, next_item, next_line, number_up_to, push_number};
 
 /// Texts with their first lines, whether these have ends, and what is left.
-const LINES: &[(&[u8], &[u8], bool, &[u8])] = &[
-    (b"inputs 3\n01\n", b"inputs 3", true, b"01\n"),
-    (b"\n\n", b"", true, b"\n"),
-    (b"0110", b"0110", false, b""),
-    (b"01\r\nx", b"01\r", true, b"x"),
+const LINES: &[(&[u8], Option<(&[u8], bool, &[u8])>)] = &[
+    (b"inputs 3\n01\n", Some((b"inputs 3", true, b"01\n"))),
+    (b"\n\n", Some((b"", true, b"\n"))),
+    (b"0110", Some((b"0110", false, b""))),
+    (b"01\r\nx", Some((b"01\r", true, b"x"))),
+    (b"", None),
 ];
 
 /// Texts with their first items, and what stands behind the blank.
@@ -37,18 +39,36 @@ const BEGINNINGS: &[(&[u8], bool)] = &[
     (b"-a", false),
 ];
 
+fn are_lines() -> bool {
+    for &(bytes, line) in LINES {
+        if next_line(bytes) != line {
+            return false;
+        }
+    }
+    true
+}
+
+fn are_items() -> bool {
+    for &(text, item, rest) in ITEMS {
+        if next_item(text) != (item, rest) {
+            return false;
+        }
+    }
+    true
+}
+
+fn are_after() -> bool {
+    for &(word, text, rest) in AFTER {
+        if after(word, text) != rest {
+            return false;
+        }
+    }
+    true
+}
+
 #[test]
 fn texts_are_read(rt: HostRuntime) {
-    for &(bytes, text, ended, rest) in LINES {
-        assert!(rt; next_line(bytes) == Some((text, ended, rest)));
-    }
-    assert!(rt; next_line(b"").is_none());
-    for &(text, item, rest) in ITEMS {
-        assert!(rt; next_item(text) == (item, rest));
-    }
-    for &(word, text, rest) in AFTER {
-        assert!(rt; after(word, text) == rest);
-    }
+    assert!(rt; are_lines() && are_items() && are_after());
     for &(text, begins) in BEGINNINGS {
         assert!(rt; begins_lower(text) == begins);
     }
@@ -73,13 +93,24 @@ const NUMBERS: &[(u32, &[u8], Option<u32>)] = &[
     (0, b"1", None),
 ];
 
+/// Whether two numbers stand behind what stood there.
+fn are_pushed(alloc: Global) -> bool {
+    let Ok(mut out) = Vec::from_slice(alloc, b"x") else {
+        return false;
+    };
+    push_number(&mut out, 10).is_ok()
+        && push_number(&mut out, 4_294_967_295).is_ok()
+        && out.as_slice() == b"x104294967295".as_slice()
+}
+
 #[test]
-fn numbers_are_read_and_written(rt: HostRuntime) {
+fn numbers_are_read(rt: HostRuntime) {
     for &(limit, text, number) in NUMBERS {
         assert!(rt; number_up_to(limit, text) == number);
     }
-    let mut out = Vec::from_slice(rt.alloc(), b"x").unwrap_or(Vec::new(rt.alloc()));
-    assert!(rt; push_number(&mut out, 10).is_ok());
-    assert!(rt; push_number(&mut out, 4_294_967_295).is_ok());
-    assert!(rt; out.as_slice() == b"x104294967295".as_slice());
+}
+
+#[test]
+fn numbers_are_written(rt: HostRuntime) {
+    assert!(rt; are_pushed(rt.alloc()));
 }
