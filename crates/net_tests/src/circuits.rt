@@ -55,12 +55,10 @@ const WRITTEN: &[(&[u8], &[u8])] = &[
 ];
 
 #[test]
-fn circuits_are_written_again(rt: HostRuntime) -> Result<(), AllocError> {
+fn circuits_are_written_again(rt: HostRuntime) {
     for &(text, wanted) in WRITTEN {
-        let again = is_written(rt.alloc(), text, wanted)?;
-        assert!(rt; again);
+        assert!(rt; matches!(is_written(rt.alloc(), text, wanted), Ok(true)));
     }
-    Ok(())
 }
 
 /// Documents that are refused, by which word and which name.

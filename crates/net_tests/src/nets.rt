@@ -32,8 +32,6 @@ fn dead_gates_go_from(alloc: Global) -> Result<bool, AllocError> {
 }
 
 #[test]
-fn dead_gates_go(rt: HostRuntime) -> Result<(), AllocError> {
-    let well = dead_gates_go_from(rt.alloc())?;
-    assert!(rt; well);
-    Ok(())
+fn dead_gates_go(rt: HostRuntime) {
+    assert!(rt; matches!(dead_gates_go_from(rt.alloc()), Ok(true)));
 }
