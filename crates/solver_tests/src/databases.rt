@@ -42,19 +42,26 @@ fn all_held(clauses: &ClauseDb) -> bool {
     !clauses.live(0) && !clauses.live(4) && !clauses.live(4294967295)
 }
 
-/// Whether clauses have ids from 1 on, and the next is that of an added one.
-fn have_ids(alloc: Global) -> Result<bool, AllocError> {
-    let mut clauses = database(alloc, &[b"1 1 -2 0 0", b"2 0 0"])?;
+/// Whether two clauses have ids from 1 on, and the next is that of an added one.
+fn have_ids(clauses: &mut ClauseDb) -> Result<bool, AllocError> {
     if clauses.vars() != 3 || clauses.last() != 2 {
         return Ok(false);
     }
     let id = clauses.add(&[Lit::new(3)])?;
-    Ok(id == 3 && clauses.last() == 3 && all_held(&clauses))
+    Ok(id == 3 && clauses.last() == 3 && all_held(clauses))
+}
+
+/// Whether clauses have their ids.
+fn are_counted(alloc: Global) -> Result<bool, AllocError> {
+    let mut clauses = database(alloc, &[b"1 1 -2 0 0", b"2 0 0"])?;
+    let well = have_ids(&mut clauses);
+    drop(clauses);
+    well
 }
 
 #[test]
 fn clauses_have_ids(rt: HostRuntime) {
-    assert!(rt; matches!(have_ids(rt.alloc()), Ok(true)));
+    assert!(rt; matches!(are_counted(rt.alloc()), Ok(true)));
 }
 
 /// The literal of a number, if its variable is one of the formula.
@@ -150,23 +157,25 @@ fn all_watching(clauses: &ClauseDb, rows: &[(i32, &[u32], &[i32])]) -> bool {
     true
 }
 
-/// Whether the first clause watches 3 in place of 1, and not a second time.
-fn goes_over(clauses: &mut ClauseDb) -> Result<bool, AllocError> {
+/// Whether clauses watch their first two literals, and then the first one 3 in place of 1, not a second time.
+fn are_watched(clauses: &mut ClauseDb) -> Result<bool, AllocError> {
+    let first = all_watching(clauses, FIRST);
     let goes = rewatch(clauses, 1, 1, 2)?;
     let again = rewatch(clauses, 1, 1, 2)?;
-    Ok(goes && !again && watches(clauses, 1, 3, 2))
+    let kept = holds(clauses, 1, &[1, 2, 3]) && stands(clauses, 1, &[3, 2, 1]);
+    let gone = first && goes && !again && watches(clauses, 1, 3, 2);
+    Ok(gone && kept && all_watching(clauses, THEN))
 }
 
-/// Whether clauses watch their first two literals, and then another.
-fn are_watched(alloc: Global) -> Result<bool, AllocError> {
+/// Whether the three clauses are watched so.
+fn three_are_watched(alloc: Global) -> Result<bool, AllocError> {
     let mut clauses = database(alloc, THREE)?;
-    let first = all_watching(&clauses, FIRST);
-    let goes = goes_over(&mut clauses)?;
-    let kept = holds(&clauses, 1, &[1, 2, 3]) && stands(&clauses, 1, &[3, 2, 1]);
-    Ok(first && goes && kept && all_watching(&clauses, THEN))
+    let well = are_watched(&mut clauses);
+    drop(clauses);
+    well
 }
 
 #[test]
 fn clauses_watch_their_first_two_literals_and_then_another(rt: HostRuntime) {
-    assert!(rt; matches!(are_watched(rt.alloc()), Ok(true)));
+    assert!(rt; matches!(three_are_watched(rt.alloc()), Ok(true)));
 }

@@ -22,14 +22,21 @@ fn satisfies(alloc: Global, cnf: &Cnf, bits: &[bool; 3]) -> Result<bool, AllocEr
 }
 
 /// Whether just those bits satisfy the formula.
-fn are_judged(alloc: Global) -> Result<bool, AllocError> {
-    let cnf = formula(alloc, 3, &[b"1 1 -2 0 0", b"2 2 3 0 0"])?;
+fn all_satisfy(alloc: Global, cnf: &Cnf) -> Result<bool, AllocError> {
     for (bits, yes) in ASSIGNMENTS {
-        if satisfies(alloc, &cnf, bits)? != *yes {
+        if satisfies(alloc, cnf, bits)? != *yes {
             return Ok(false);
         }
     }
     Ok(!cnf.has_empty())
+}
+
+/// Whether they satisfy that formula.
+fn are_judged(alloc: Global) -> Result<bool, AllocError> {
+    let cnf = formula(alloc, 3, &[b"1 1 -2 0 0", b"2 2 3 0 0"])?;
+    let well = all_satisfy(alloc, &cnf);
+    drop(cnf);
+    well
 }
 
 /// Whether a formula tells of its empty clause.

@@ -23,7 +23,9 @@ fn greatest_first(alloc: Global) -> Result<bool, AllocError> {
     heap.bump(2, 5);
     heap.bump(3, 7);
     heap.halve();
-    Ok(pops(&mut heap, &[3, 2, 1]))
+    let well = pops(&mut heap, &[3, 2, 1]);
+    drop(heap);
+    Ok(well)
 }
 
 /// Whether scores stay at the greatest number, and a variable comes back once.
@@ -39,7 +41,9 @@ fn back_again(alloc: Global) -> Result<bool, AllocError> {
     heap.push(2);
     heap.push(2);
     let back = heap.contains(2);
-    Ok(first == 2 && gone && back && pops(&mut heap, &[2, 1]))
+    let popped = pops(&mut heap, &[2, 1]);
+    drop(heap);
+    Ok(first == 2 && gone && back && popped)
 }
 
 #[test]

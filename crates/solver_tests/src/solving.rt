@@ -172,7 +172,7 @@ fn is_told(
     }
 }
 
-/// Whether an answer is what is wanted, and the checker takes its log.
+/// Whether an answer is what is wanted, and this checker takes its log.
 fn is_wanted(
     alloc: Global,
     checker: &mut Checker,
@@ -187,6 +187,19 @@ fn is_wanted(
     }
 }
 
+/// Whether an answer is what is wanted, and a checker of the formula takes its log.
+fn is_checked(
+    alloc: Global,
+    cnf: Cnf,
+    solved: &Solved,
+    wanted: &Wanted,
+) -> Result<bool, AllocError> {
+    let mut checker = Checker::new(alloc, cnf)?;
+    let well = is_wanted(alloc, &mut checker, solved, wanted);
+    drop(checker);
+    well
+}
+
 /// The answer within a budget of 1 to 1000000.
 fn answer(alloc: Global, cnf: &Cnf, budget: u32) -> Result<Solved, AllocError> {
     if budget == 0 || budget > 1000000 {
@@ -197,9 +210,13 @@ fn answer(alloc: Global, cnf: &Cnf, budget: u32) -> Result<Solved, AllocError> {
 
 /// Whether a formula has the answer that is wanted, within a budget.
 fn is_answered(alloc: Global, cnf: Cnf, budget: u32, wanted: &Wanted) -> Result<bool, AllocError> {
-    let solved = answer(alloc, &cnf, budget)?;
-    let mut checker = Checker::new(alloc, cnf)?;
-    is_wanted(alloc, &mut checker, &solved, wanted)
+    let Ok(solved) = answer(alloc, &cnf, budget) else {
+        drop(cnf);
+        return Err(AllocError);
+    };
+    let well = is_checked(alloc, cnf, &solved, wanted);
+    drop(solved);
+    well
 }
 
 /// The variables 1 and 2, and all four clauses over both.
@@ -322,19 +339,24 @@ fn formulas_are_answered(rt: HostRuntime) {
     }
 }
 
+/// Spells one more number.
+fn spell(alloc: Global, text: &mut String, number: i64) -> Result<(), AllocError> {
+    text.push_str(format!(in alloc; "{number} ")?.as_str())
+}
+
 /// Spells an addition of these literals.
-fn spelled(alloc: Global, lits: &[i64]) -> Result<String, AllocError> {
-    let mut text = String::from_str(alloc, "1 ")?;
+fn spell_all(alloc: Global, text: &mut String, lits: &[i64]) -> Result<(), AllocError> {
+    text.push_str("1 ")?;
     for lit in lits {
-        text.push_str(format!(in alloc; "{lit} ")?.as_str())?;
+        spell(alloc, text, *lit)?;
     }
-    text.push_str("0 0")?;
-    Ok(text)
+    text.push_str("0 0")
 }
 
 /// Adds the clause of these literals.
 fn push(alloc: Global, cnf: &mut Cnf, lits: &[i64]) -> Result<(), AllocError> {
-    let text = spelled(alloc, lits)?;
+    let mut text = String::new(alloc);
+    spell_all(alloc, &mut text, lits)?;
     push_within(cnf, clause(alloc, text.as_bytes()))
 }
 
@@ -391,8 +413,8 @@ fn are_told(alloc: Global, wanted: Told) -> Result<bool, AllocError> {
 
 /// What is wanted of so many holes within so many learnt clauses.
 ///
-/// Where it's told how many clauses are learnt, it's as many as an independent program learns that takes the same steps:
-/// they tell of what scores, of signs and of when restarts come, which no contract says.
+/// Where it's told how many clauses are learnt, it's as many as an independent program learns that takes the same
+/// steps: they tell of what scores, of signs and of when restarts come, which no contract says.
 const PIGEONS: &[(u32, u32, bool, Option<u64>)] = &[
     (3, 1, false, None),
     (3, 1000000, true, None),

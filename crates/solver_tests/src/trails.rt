@@ -85,13 +85,22 @@ fn goes_back(trail: &mut Trail) -> bool {
     trail.len() == 1 && fell(trail, &[(1, 0)]) && is_free(trail, -1)
 }
 
-/// Whether a trail of three variables goes on and back.
-fn goes(alloc: Global) -> Result<bool, AllocError> {
+/// Whether a trail goes on and back.
+fn goes(alloc: Global, trail: &mut Trail) -> Result<bool, AllocError> {
+    let on = goes_on(trail)?;
+    let told = tells(alloc, trail)?;
+    Ok(on && told && goes_back(trail))
+}
+
+/// Whether a trail of three variables does.
+fn three_go(alloc: Global) -> Result<bool, AllocError> {
     let mut trail = Trail::new(alloc, 3)?;
-    Ok(goes_on(&mut trail)? && tells(alloc, &trail)? && goes_back(&mut trail))
+    let well = goes(alloc, &mut trail);
+    drop(trail);
+    well
 }
 
 #[test]
 fn trail_goes_on_and_back(rt: HostRuntime) {
-    assert!(rt; matches!(goes(rt.alloc()), Ok(true)));
+    assert!(rt; matches!(three_go(rt.alloc()), Ok(true)));
 }
