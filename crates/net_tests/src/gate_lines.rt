@@ -1,7 +1,7 @@
 //! What the lines of a BENCH text list, and which fault of a line is told.
 
 use crate::listing::lists;
-use crate::refusals::fault;
+use crate::refusals::tells;
 use bench_text::read_listed;
 use std::alloc::{AllocError, Global};
 
@@ -11,8 +11,15 @@ fn is_listed(alloc: Global, text: &[u8], counts: [usize; 5]) -> bool {
         return false;
     }
     match read_listed(alloc, text) {
-        Ok(listed) => lists(&listed, counts),
-        Err(_) => false,
+        Ok(listed) => {
+            let well = lists(&listed, counts);
+            drop(listed);
+            well
+        }
+        Err(error) => {
+            drop(error);
+            false
+        }
     }
 }
 
@@ -21,13 +28,16 @@ fn is_refused(alloc: Global, text: &[u8], word: &str, line: u32) -> bool {
     if text.len() > 100_000 {
         return false;
     }
-    match read_listed(alloc, text) {
-        Ok(_) => false,
-        Err(error) => {
-            let (told, at) = fault(&error);
-            told == word && at == line
+    let error = match read_listed(alloc, text) {
+        Ok(listed) => {
+            drop(listed);
+            return false;
         }
-    }
+        Err(error) => error,
+    };
+    let told = tells(&error, word, line);
+    drop(error);
+    told
 }
 
 /// Texts with how many inputs, outputs, clocks, latches and tables they list.

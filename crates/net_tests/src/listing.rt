@@ -1,6 +1,6 @@
 //! What the lines of a text list, and which fault is told: the rules that no clause spells out.
 
-use crate::refusals::fault;
+use crate::refusals::tells;
 use blif_text::{Listed, read_listed};
 use net_core::Body;
 use std::alloc::Global;
@@ -30,8 +30,15 @@ fn is_listed(alloc: Global, text: &[u8], counts: [usize; 5], lines: usize) -> bo
         return false;
     }
     match read_listed(alloc, text) {
-        Ok(listed) => lists(&listed, counts) && cover_lines(&listed) == lines,
-        Err(_) => false,
+        Ok(listed) => {
+            let well = lists(&listed, counts) && cover_lines(&listed) == lines;
+            drop(listed);
+            well
+        }
+        Err(error) => {
+            drop(error);
+            false
+        }
     }
 }
 
@@ -40,13 +47,16 @@ fn is_refused(alloc: Global, text: &[u8], word: &str, line: u32) -> bool {
     if text.len() > 100_000 {
         return false;
     }
-    match read_listed(alloc, text) {
-        Ok(_) => false,
-        Err(error) => {
-            let (told, at) = fault(&error);
-            told == word && at == line
+    let error = match read_listed(alloc, text) {
+        Ok(listed) => {
+            drop(listed);
+            return false;
         }
-    }
+        Err(error) => error,
+    };
+    let told = tells(&error, word, line);
+    drop(error);
+    told
 }
 
 /// Texts with how many inputs, outputs, clocks, latches, tables and lines of covers they list.

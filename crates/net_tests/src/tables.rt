@@ -90,6 +90,27 @@ fn has_rows(alloc: Global, net: &Net, sig: Sig, digits: &[u8]) -> Result<bool, A
     Ok(digits.len() == 8)
 }
 
+/// Whether a cover of three inputs has these rows by its gates, and so many of these.
+fn is_expanded(
+    alloc: Global,
+    cover: &Cover,
+    digits: &[u8],
+    gates: usize,
+) -> Result<bool, AllocError>
+    requires { cover.now.width ≡ 3 }
+{
+    let inputs = [Sig::Place(1), Sig::Place(2), Sig::Place(3)];
+    if !is_cover(cover) || cover.cubes.len() > 4096 || cover_cost(cover, &inputs) > 1000 {
+        return Ok(false);
+    }
+    let mut net = Net::new(3, Vec::new(alloc), Vec::new(alloc));
+    let sig = expand(alloc, &mut net, cover, &inputs)?;
+    let few = net.gates().len() == gates;
+    let rows = has_rows(alloc, &net, sig, digits);
+    drop(net);
+    Ok(few && rows?)
+}
+
 /// Whether a table has these rows by its gates, and so many of these.
 fn is_built(
     alloc: Global,
@@ -99,13 +120,9 @@ fn is_built(
     gates: usize,
 ) -> Result<bool, AllocError> {
     let cover = cover(alloc, cubes, on)?;
-    let inputs = [Sig::Place(1), Sig::Place(2), Sig::Place(3)];
-    if !is_cover(&cover) || cover.cubes.len() > 4096 || cover_cost(&cover, &inputs) > 1000 {
-        return Ok(false);
-    }
-    let mut net = Net::new(3, Vec::new(alloc), Vec::new(alloc));
-    let sig = expand(alloc, &mut net, &cover, &inputs)?;
-    Ok(net.gates().len() == gates && has_rows(alloc, &net, sig, digits)?)
+    let built = is_expanded(alloc, &cover, digits, gates);
+    drop(cover);
+    built
 }
 
 /// Covers by their cubes, whether of the on-set, with their rows and how many gates they take.
@@ -140,7 +157,10 @@ fn is_joined(alloc: Global, whole: Whole, digits: &[u8]) -> Result<bool, AllocEr
     let mut net = Net::new(3, Vec::new(alloc), Vec::new(alloc));
     let inputs = [Sig::Place(1), Sig::Place(2), Sig::Place(3)];
     let sig = expand_body(alloc, &mut net, &Body::Joined(whole), &inputs)?;
-    Ok(net.gates().len() == 2 && has_rows(alloc, &net, sig, digits)?)
+    let few = net.gates().len() == 2;
+    let rows = has_rows(alloc, &net, sig, digits);
+    drop(net);
+    Ok(few && rows?)
 }
 
 /// What joins three inputs, whether it is as it says or the opposite, and the rows.
