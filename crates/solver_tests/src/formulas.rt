@@ -18,7 +18,9 @@ const ASSIGNMENTS: &[([bool; 3], bool)] = &[
 /// Whether bits satisfy a formula.
 fn satisfies(alloc: Global, cnf: &Cnf, bits: &[bool; 3]) -> Result<bool, AllocError> {
     let assign = Assign::new(Vec::from_slice(alloc, bits)?);
-    Ok(cnf.vars() == 3 && satisfied(cnf, &assign))
+    let well = cnf.vars() == 3 && satisfied(cnf, &assign);
+    drop(assign);
+    Ok(well)
 }
 
 /// Whether just those bits satisfy the formula.

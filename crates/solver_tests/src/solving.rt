@@ -17,13 +17,17 @@ struct Counts {
 
 impl Counts {
     /// Counts one more line.
-    fn count(&mut self, line: &Line, taken: bool) {
+    fn count(&mut self, line: &Line) {
         match line {
             Line::Add { .. } => self.added = self.added.saturating_add(1),
             Line::Delete { ids, .. } => {
                 self.deleted = self.deleted.saturating_add(ids.len() as u64)
             }
         }
+    }
+
+    /// Counts whether it's refused.
+    fn judge(&mut self, taken: bool) {
         self.refused = self.refused.saturating_add(u64::from(!taken));
     }
 }
@@ -55,8 +59,10 @@ fn count_lines(alloc: Global, checker: &mut Checker, log: &Log) -> Result<Counts
     };
     let mut left = log.lines();
     'lines: while let Some(line) = left.next(alloc)? {
-        let taken = is_taken(alloc, checker, &line)?;
-        counts.count(&line, taken);
+        let taken = is_taken(alloc, checker, &line);
+        counts.count(&line);
+        drop(line);
+        counts.judge(taken?);
     }
     Ok(counts)
 }

@@ -69,10 +69,14 @@ fn goes_on(trail: &mut Trail) -> Result<bool, AllocError> {
 /// Where the literals fell then.
 const FALLS: &[(i32, u32)] = &[(1, 2), (-1, 0), (2, 0), (-2, 1), (3, 0), (-3, 0)];
 
+/// The assignment then.
+const BITS: &[bool] = &[false, true, false];
+
 /// Whether the trail tells what was pushed.
 fn tells(alloc: Global, trail: &Trail) -> Result<bool, AllocError> {
     let assign = trail.assignment(alloc)?;
-    let told = assign.bits() == [false, true, false].as_slice();
+    let told = assign.bits() == BITS;
+    drop(assign);
     Ok(told && fell(trail, FALLS) && is_free(trail, -3))
 }
 
