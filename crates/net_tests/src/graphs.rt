@@ -33,10 +33,8 @@ const GRAPHS: &[(&[&[u32]], Option<&[u32]>)] = &[
 ];
 
 #[test]
-fn nodes_are_ordered(rt: HostRuntime) -> Result<(), AllocError> {
+fn nodes_are_ordered(rt: HostRuntime) {
     for &(graph, order) in GRAPHS {
-        let ordered = is_ordered(rt.alloc(), graph, order)?;
-        assert!(rt; ordered);
+        assert!(rt; matches!(is_ordered(rt.alloc(), graph, order), Ok(true)));
     }
-    Ok(())
 }

@@ -10,8 +10,12 @@ fn is_improved(alloc: Global, bytes: &[u8], wanted: &[u8]) -> bool {
     if bytes.len() > 100_000 {
         return false;
     }
-    let Ok(improved) = improve(alloc, bytes) else {
-        return false;
+    let improved = match improve(alloc, bytes) {
+        Ok(improved) => improved,
+        Err(error) => {
+            drop(error);
+            return false;
+        }
     };
     if improved.text.len() > wanted.len() {
         return false;
@@ -25,10 +29,16 @@ fn is_refused(alloc: Global, bytes: &[u8], word: &str, name: &[u8]) -> bool {
     if bytes.len() > 100_000 {
         return false;
     }
-    match improve(alloc, bytes) {
-        Ok(_) => false,
-        Err(error) => names(&error, word, name),
-    }
+    let error = match improve(alloc, bytes) {
+        Ok(improved) => {
+            drop(improved);
+            return false;
+        }
+        Err(error) => error,
+    };
+    let told = names(&error, word, name);
+    drop(error);
+    told
 }
 
 /// Netlists, and their texts and reports.

@@ -1,6 +1,6 @@
 //! What the lines of a text list, and which fault is told: the rules that no clause spells out.
 
-use crate::refusals::fault;
+use crate::refusals::tells;
 use blif_text::{Listed, read_listed};
 use net_core::Body;
 use std::alloc::Global;
@@ -30,8 +30,15 @@ fn is_listed(alloc: Global, text: &[u8], counts: [usize; 5], lines: usize) -> bo
         return false;
     }
     match read_listed(alloc, text) {
-        Ok(listed) => lists(&listed, counts) && cover_lines(&listed) == lines,
-        Err(_) => false,
+        Ok(listed) => {
+            let well = lists(&listed, counts) && cover_lines(&listed) == lines;
+            drop(listed);
+            well
+        }
+        Err(error) => {
+            drop(error);
+            false
+        }
     }
 }
 
@@ -40,71 +47,77 @@ fn is_refused(alloc: Global, text: &[u8], word: &str, line: u32) -> bool {
     if text.len() > 100_000 {
         return false;
     }
-    match read_listed(alloc, text) {
-        Ok(_) => false,
-        Err(error) => {
-            let (told, at) = fault(&error);
-            told == word && at == line
+    let error = match read_listed(alloc, text) {
+        Ok(listed) => {
+            drop(listed);
+            return false;
         }
-    }
+        Err(error) => error,
+    };
+    let told = tells(&error, word, line);
+    drop(error);
+    told
 }
 
 /// Texts with how many inputs, outputs, clocks, latches, tables and lines of covers they list.
-const LISTED: &[(&[u8], [usize; 5], usize)] = &[
+const LISTED: &[(&str, [usize; 5], usize)] = &[
     // lines that go on, comments and CR
-    (b".inputs a\\\nb\n", [2, 0, 0, 0, 0], 0),
-    (b".inputs a \\ # c\n b\n", [2, 0, 0, 0, 0], 0),
-    (b".inputs a \\\r\nb\r\n", [2, 0, 0, 0, 0], 0),
-    (b".inputs a \\", [1, 0, 0, 0, 0], 0),
+    (".inputs a\\\nb\n", [2, 0, 0, 0, 0], 0),
+    (".inputs a \\ # c\n b\n", [2, 0, 0, 0, 0], 0),
+    (".inputs a \\\r\nb\r\n", [2, 0, 0, 0, 0], 0),
+    (".inputs a \\", [1, 0, 0, 0, 0], 0),
     // models and ends
-    (b"", [0, 0, 0, 0, 0], 0),
-    (b"\n# a\n\n.model m\n.end\n", [0, 0, 0, 0, 0], 0),
+    ("", [0, 0, 0, 0, 0], 0),
+    ("\n# a\n\n.model m\n.end\n", [0, 0, 0, 0, 0], 0),
     // tables
     (
-        b".names a b y\n1- 1\n-1 1\n.names z\n1\n",
+        ".names a b y\n1- 1\n-1 1\n.names z\n1\n",
         [0, 0, 0, 0, 2],
         3,
     ),
     // latches
     (
-        b".latch d q\n.latch d r 2\n.latch d s re c\n.latch d t as c 3\n",
+        ".latch d q\n.latch d r 2\n.latch d s re c\n.latch d t as c 3\n",
         [0, 0, 0, 4, 0],
         0,
     ),
-    (b".clock c\n.latch d q re c\n", [0, 0, 1, 1, 0], 0),
+    (".clock c\n.latch d q re c\n", [0, 0, 1, 1, 0], 0),
 ];
 
 #[test]
 fn texts_are_listed(rt: HostRuntime) {
     for &(text, counts, lines) in LISTED {
-        assert!(rt; is_listed(rt.alloc(), text, counts, lines), "{text:?}");
+        assert!(rt;
+            is_listed(rt.alloc(), text.as_bytes(), counts, lines),
+            "{text}"
+        );
     }
 }
 
 /// Texts and their first faults.
-const FAULTS: &[(&[u8], &str, u32)] = &[
+const FAULTS: &[(&str, &str, u32)] = &[
     // lines that go on, comments and CR
-    (b".inputs a # \\\nb\n", "Syntax", 2),
-    (b".inputs a\r", "Syntax", 1),
+    (".inputs a # \\\nb\n", "Syntax", 2),
+    (".inputs a\r", "Syntax", 1),
     // models and ends
-    (b".model m n\n", "Syntax", 1),
-    (b".inputs a\n.model m\n", "Syntax", 2),
-    (b".model m\n.model n\n", "NotSupported", 2),
-    (b".model m\n.end\n.model n\n", "NotSupported", 3),
-    (b".end\n.model n\n", "Syntax", 2),
-    (b".end\n.subckt x\n", "Syntax", 2),
-    (b".subckt x\n", "NotSupported", 1),
+    (".model m n\n", "Syntax", 1),
+    (".inputs a\n.model m\n", "Syntax", 2),
+    (".model m\n.model n\n", "NotSupported", 2),
+    (".model m\n.end\n.model n\n", "NotSupported", 3),
+    (".end\n.model n\n", "Syntax", 2),
+    (".end\n.subckt x\n", "Syntax", 2),
+    (".subckt x\n", "NotSupported", 1),
     // tables
-    (b".names y\n1 1\n", "Syntax", 2),
-    (b".names a y\n1 1\n0 0\n", "MixedCover", 3),
-    (b".names a y\n1 1\n.inputs a\n0 1\n", "Syntax", 4),
-    (b".names\n", "Syntax", 1),
+    (".names y\n1 1\n", "Syntax", 2),
+    (".names a y\n1 1\n0 0\n", "MixedCover", 3),
+    (".names a y\n1 1\n.inputs a\n0 1\n", "Syntax", 4),
+    (".names\n", "Syntax", 1),
     // latches
-    (b".latch d q 4\n", "Syntax", 1),
-    (b".latch d q re\n", "Syntax", 1),
-    (b".latch d q re c 1 1\n", "Syntax", 1),
+    (".latch d q 4\n", "Syntax", 1),
+    (".latch d q re\n", "Syntax", 1),
+    (".latch d q re c 1 1\n", "Syntax", 1),
     (
-        b".names c\n.latch d q re c\n.latch d r re e\n.names e\n",
+        ".names c\n.latch d q re c\n.latch d r re e\n.names e\n",
         "NotSupported",
         2,
     ),
@@ -113,6 +126,9 @@ const FAULTS: &[(&[u8], &str, u32)] = &[
 #[test]
 fn faults_are_told(rt: HostRuntime) {
     for &(text, word, line) in FAULTS {
-        assert!(rt; is_refused(rt.alloc(), text, word, line), "{text:?}");
+        assert!(rt;
+            is_refused(rt.alloc(), text.as_bytes(), word, line),
+            "{text}"
+        );
     }
 }

@@ -4,16 +4,18 @@ use net_theory::plain::{matches_bits, place_value};
 use net_theory::{Gate, Sig};
 use op_basis::Op;
 
+/// Bits, and whether they match `1-0` as the Berkeley BLIF manual reads it: the first input 1, the third 0.
+const MATCHED: &[(&str, [bool; 3], bool)] = &[
+    ("100", [true, false, false], true),
+    ("110", [true, true, false], true),
+    ("101", [true, false, true], false),
+    ("010", [false, true, false], false),
+];
+
 #[test]
 fn cubes_match(rt: HostRuntime) {
-    // as the Berkeley BLIF manual reads `1-0`: the first input 1, the third 0
-    for (a, b, c, wanted) in [
-        (true, false, false, true),
-        (true, true, false, true),
-        (true, false, true, false),
-        (false, true, false, false),
-    ] {
-        assert!(rt; matches_bits(b"1-0", &[a, b, c]) == wanted, "{a} {b} {c}");
+    for (name, bits, wanted) in MATCHED {
+        assert!(rt; matches_bits(b"1-0", bits) == *wanted, "{name}");
     }
 }
 

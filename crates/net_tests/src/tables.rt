@@ -90,6 +90,27 @@ fn has_rows(alloc: Global, net: &Net, sig: Sig, digits: &[u8]) -> Result<bool, A
     Ok(digits.len() == 8)
 }
 
+/// Whether a cover of three inputs has these rows by its gates, and so many of these.
+fn is_expanded(
+    alloc: Global,
+    cover: &Cover,
+    digits: &[u8],
+    gates: usize,
+) -> Result<bool, AllocError>
+    requires { cover.now.width ≡ 3 }
+{
+    let inputs = [Sig::Place(1), Sig::Place(2), Sig::Place(3)];
+    if !is_cover(cover) || cover.cubes.len() > 4096 || cover_cost(cover, &inputs) > 1000 {
+        return Ok(false);
+    }
+    let mut net = Net::new(3, Vec::new(alloc), Vec::new(alloc));
+    let sig = expand(alloc, &mut net, cover, &inputs)?;
+    let few = net.gates().len() == gates;
+    let rows = has_rows(alloc, &net, sig, digits);
+    drop(net);
+    Ok(few && rows?)
+}
+
 /// Whether a table has these rows by its gates, and so many of these.
 fn is_built(
     alloc: Global,
@@ -99,38 +120,33 @@ fn is_built(
     gates: usize,
 ) -> Result<bool, AllocError> {
     let cover = cover(alloc, cubes, on)?;
-    let inputs = [Sig::Place(1), Sig::Place(2), Sig::Place(3)];
-    if !is_cover(&cover) || cover.cubes.len() > 4096 || cover_cost(&cover, &inputs) > 1000 {
-        return Ok(false);
-    }
-    let mut net = Net::new(3, Vec::new(alloc), Vec::new(alloc));
-    let sig = expand(alloc, &mut net, &cover, &inputs)?;
-    Ok(net.gates().len() == gates && has_rows(alloc, &net, sig, digits)?)
+    let built = is_expanded(alloc, &cover, digits, gates);
+    drop(cover);
+    built
 }
 
 /// Covers by their cubes, whether of the on-set, with their rows and how many gates they take.
-const COVERS: &[(&[&[u8]], bool, &[u8; 8], usize)] = &[
-    (&[b"1-0", b"-11"], true, b"00011011", 3),
-    (&[b"000"], false, b"01111111", 2),
-    (&[b"1--"], true, b"00001111", 0),
-    (&[b"0--"], true, b"11110000", 1),
-    (&[b"1--"], false, b"11110000", 1),
-    (&[b"0--"], false, b"00001111", 0),
-    (&[b"01-", b"10-"], true, b"00111100", 3),
-    (&[b"01-", b"10-"], false, b"11000011", 3),
-    (&[b"111", b"---"], true, b"11111111", 0),
-    (&[b"---"], false, b"00000000", 0),
-    (&[], true, b"00000000", 0),
-    (&[], false, b"00000000", 0),
+const COVERS: &[(&[&[u8]], bool, &str, usize)] = &[
+    (&[b"1-0", b"-11"], true, "00011011", 3),
+    (&[b"000"], false, "01111111", 2),
+    (&[b"1--"], true, "00001111", 0),
+    (&[b"0--"], true, "11110000", 1),
+    (&[b"1--"], false, "11110000", 1),
+    (&[b"0--"], false, "00001111", 0),
+    (&[b"01-", b"10-"], true, "00111100", 3),
+    (&[b"01-", b"10-"], false, "11000011", 3),
+    (&[b"111", b"---"], true, "11111111", 0),
+    (&[b"---"], false, "00000000", 0),
+    (&[], true, "00000000", 0),
+    (&[], false, "00000000", 0),
 ];
 
 #[test]
-fn tables_become_gates(rt: HostRuntime) -> Result<(), AllocError> {
+fn tables_become_gates(rt: HostRuntime) {
     for &(cubes, on, digits, gates) in COVERS {
-        let built = is_built(rt.alloc(), cubes, on, digits, gates)?;
-        assert!(rt; built, "{digits:?}");
+        let built = is_built(rt.alloc(), cubes, on, digits.as_bytes(), gates);
+        assert!(rt; matches!(built, Ok(true)), "{on} {digits}");
     }
-    Ok(())
 }
 
 /// Whether three inputs that are joined have these rows by two gates.
@@ -141,30 +157,40 @@ fn is_joined(alloc: Global, whole: Whole, digits: &[u8]) -> Result<bool, AllocEr
     let mut net = Net::new(3, Vec::new(alloc), Vec::new(alloc));
     let inputs = [Sig::Place(1), Sig::Place(2), Sig::Place(3)];
     let sig = expand_body(alloc, &mut net, &Body::Joined(whole), &inputs)?;
-    Ok(net.gates().len() == 2 && has_rows(alloc, &net, sig, digits)?)
+    let few = net.gates().len() == 2;
+    let rows = has_rows(alloc, &net, sig, digits);
+    drop(net);
+    Ok(few && rows?)
 }
 
 /// What joins three inputs, whether it is as it says or the opposite, and the rows.
-const JOINED: &[(Connective, bool, &[u8; 8])] = &[
-    (Connective::And, true, b"00000001"),
-    (Connective::And, false, b"11111110"),
-    (Connective::Or, true, b"01111111"),
-    (Connective::Or, false, b"10000000"),
-    (Connective::Xor, true, b"01101001"),
-    (Connective::Xor, false, b"10010110"),
+const JOINED: &[(Connective, bool, &str)] = &[
+    (Connective::And, true, "00000001"),
+    (Connective::And, false, "11111110"),
+    (Connective::Or, true, "01111111"),
+    (Connective::Or, false, "10000000"),
+    (Connective::Xor, true, "01101001"),
+    (Connective::Xor, false, "10010110"),
 ];
 
+/// Whether the whole table is true of 1, 1 and 0 where its row says so.
+fn is_valued(whole: Whole, digits: &[u8]) -> bool
+    requires { whole.width ≡ 3 }
+{
+    let value = body_value(&Body::Joined(whole), &[true, true, false]);
+    digits.len() == 8 && value == (digits[6] == b'1')
+}
+
 #[test]
-fn inputs_are_joined(rt: HostRuntime) -> Result<(), AllocError> {
+fn inputs_are_joined(rt: HostRuntime) {
     for &(connective, on, digits) in JOINED {
         let whole = Whole {
             connective,
             width: 3,
             on,
         };
-        let value = body_value(&Body::Joined(whole), &[true, true, false]);
-        let joined = is_joined(rt.alloc(), whole, digits)?;
-        assert!(rt; joined && value == (digits[6] == b'1'), "{digits:?}");
+        let joined = is_joined(rt.alloc(), whole, digits.as_bytes());
+        let well = is_valued(whole, digits.as_bytes());
+        assert!(rt; well && matches!(joined, Ok(true)), "{digits}");
     }
-    Ok(())
 }

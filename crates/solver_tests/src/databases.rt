@@ -3,7 +3,8 @@ ghost use Rattle.std.specs.Prelude.{◌≤◌, IfSome};
 ghost use Rattle.sat_theory.specs.Formula.{variable as variable_of};
 
 use clause_db::ClauseDb;
-use cnf_core::{Clause, Cnf, Lit};
+use cnf_core::Lit;
+use lrat_tests::building::formula;
 use std::alloc::{AllocError, Global};
 
 fn are(lits: &[Lit], numbers: &[i32]) -> bool {
@@ -23,22 +24,44 @@ fn holds(clauses: &ClauseDb, id: u32, numbers: &[i32]) -> bool {
     clauses.live(id) && are(clauses.lits(id), numbers)
 }
 
-#[test]
-fn clauses_have_ids(rt: HostRuntime) -> Result<(), AllocError> {
-    let alloc = rt.alloc();
-    let mut cnf = Cnf::new(alloc, 3);
-    cnf.push(Clause::new(vec![in alloc; Lit::new(1), Lit::new(-2)]?))?;
-    cnf.push(Clause::new(Vec::new(alloc)))?;
-    let mut clauses = ClauseDb::new(alloc, &cnf)?;
-    assert!(rt; clauses.vars() == 3);
-    assert!(rt; clauses.last() == 2);
+/// The database of some clauses over three variables.
+fn database(alloc: Global, clauses: &[&[u8]]) -> Result<ClauseDb, AllocError> {
+    ClauseDb::new(alloc, &formula(alloc, 3, clauses)?)
+}
+
+/// The literals by the ids that they have.
+const HELD: &[(u32, &[i32])] = &[(1, &[1, -2]), (2, &[]), (3, &[3])];
+
+/// Whether the clauses have their ids.
+fn all_held(clauses: &ClauseDb) -> bool {
+    for &(id, numbers) in HELD {
+        if !holds(clauses, id, numbers) || !stands(clauses, id, numbers) {
+            return false;
+        }
+    }
+    !clauses.live(0) && !clauses.live(4) && !clauses.live(4294967295)
+}
+
+/// Whether two clauses have ids from 1 on, and the next is that of an added one.
+fn have_ids(clauses: &mut ClauseDb) -> Result<bool, AllocError> {
+    if clauses.vars() != 3 || clauses.last() != 2 {
+        return Ok(false);
+    }
     let id = clauses.add(&[Lit::new(3)])?;
-    let counted = clauses.last() == 3 && id == 3;
-    let live = clauses.live(0) || clauses.live(4) || clauses.live(4294967295);
-    assert!(rt; counted && !live);
-    let held = holds(&clauses, 1, &[1, -2]) && holds(&clauses, 2, &[]) && holds(&clauses, 3, &[3]);
-    assert!(rt; held && stands(&clauses, 2, &[]) && stands(&clauses, 3, &[3]));
-    Ok(())
+    Ok(id == 3 && clauses.last() == 3 && all_held(clauses))
+}
+
+/// Whether clauses have their ids.
+fn are_counted(alloc: Global) -> Result<bool, AllocError> {
+    let mut clauses = database(alloc, &[b"1 1 -2 0 0", b"2 0 0"])?;
+    let well = have_ids(&mut clauses);
+    drop(clauses);
+    well
+}
+
+#[test]
+fn clauses_have_ids(rt: HostRuntime) {
+    assert!(rt; matches!(are_counted(rt.alloc()), Ok(true)));
 }
 
 /// The literal of a number, if its variable is one of the formula.
@@ -74,14 +97,7 @@ fn watching(clauses: &ClauseDb, number: i32, ids: &[u32], beside: &[i32]) -> boo
 }
 
 /// The clauses 1, 2, 3 and 1, 3 and 1, 2.
-fn three(alloc: Global) -> Result<ClauseDb, AllocError> {
-    let (a, b, c) = (Lit::new(1), Lit::new(2), Lit::new(3));
-    let mut cnf = Cnf::new(alloc, 3);
-    cnf.push(Clause::new(vec![in alloc; a, b, c]?))?;
-    cnf.push(Clause::new(vec![in alloc; a, c]?))?;
-    cnf.push(Clause::new(vec![in alloc; a, b]?))?;
-    ClauseDb::new(alloc, &cnf)
-}
+const THREE: &[&[u8]] = &[b"1 1 2 3 0 0", b"2 1 3 0 0", b"3 1 2 0 0"];
 
 /// Whether a clause watches these two literals.
 fn watches(clauses: &ClauseDb, id: u32, one: i32, other: i32) -> bool {
@@ -116,33 +132,50 @@ fn stands(clauses: &ClauseDb, id: u32, numbers: &[i32]) -> bool {
     clauses.live(id) && are(clauses.arranged(id), numbers)
 }
 
-#[test]
-fn clauses_watch_their_first_two_literals(rt: HostRuntime) -> Result<(), AllocError> {
-    let clauses = three(rt.alloc())?;
-    for (number, ids, beside) in [
-        (1, [1u32, 2, 3].as_slice(), [2, 3, 2].as_slice()),
-        (2, [1u32, 3].as_slice(), [1, 1].as_slice()),
-        (3, [2u32].as_slice(), [1].as_slice()),
-        (-1, [].as_slice(), [].as_slice()),
-    ] {
-        assert!(rt; watching(&clauses, number, ids, beside), "{number}");
+/// Literals with the clauses that watch them and the literals beside them.
+const FIRST: &[(i32, &[u32], &[i32])] = &[
+    (1, &[1, 2, 3], &[2, 3, 2]),
+    (2, &[1, 3], &[1, 1]),
+    (3, &[2], &[1]),
+    (-1, &[], &[]),
+];
+
+/// The same where the first clause watches 3 in place of 1.
+const THEN: &[(i32, &[u32], &[i32])] = &[
+    (1, &[3, 2], &[2, 3]),
+    (2, &[1, 3], &[1, 1]),
+    (3, &[2, 1], &[1, 2]),
+];
+
+/// Whether literals are watched so.
+fn all_watching(clauses: &ClauseDb, rows: &[(i32, &[u32], &[i32])]) -> bool {
+    for &(number, ids, beside) in rows {
+        if !watching(clauses, number, ids, beside) {
+            return false;
+        }
     }
-    Ok(())
+    true
+}
+
+/// Whether clauses watch their first two literals, and then the first one 3 in place of 1, not a second time.
+fn are_watched(clauses: &mut ClauseDb) -> Result<bool, AllocError> {
+    let first = all_watching(clauses, FIRST);
+    let goes = rewatch(clauses, 1, 1, 2)?;
+    let again = rewatch(clauses, 1, 1, 2)?;
+    let kept = holds(clauses, 1, &[1, 2, 3]) && stands(clauses, 1, &[3, 2, 1]);
+    let gone = first && goes && !again && watches(clauses, 1, 3, 2);
+    Ok(gone && kept && all_watching(clauses, THEN))
+}
+
+/// Whether the three clauses are watched so.
+fn three_are_watched(alloc: Global) -> Result<bool, AllocError> {
+    let mut clauses = database(alloc, THREE)?;
+    let well = are_watched(&mut clauses);
+    drop(clauses);
+    well
 }
 
 #[test]
-fn a_clause_watches_another_literal(rt: HostRuntime) -> Result<(), AllocError> {
-    let mut clauses = three(rt.alloc())?;
-    let goes = rewatch(&mut clauses, 1, 1, 2)?;
-    let again = rewatch(&mut clauses, 1, 1, 2)?;
-    assert!(rt; goes && !again && watches(&clauses, 1, 3, 2));
-    assert!(rt; holds(&clauses, 1, &[1, 2, 3]) && stands(&clauses, 1, &[3, 2, 1]));
-    for (number, ids, beside) in [
-        (1, [3, 2], [2, 3]),
-        (2, [1, 3], [1, 1]),
-        (3, [2, 1], [1, 2]),
-    ] {
-        assert!(rt; watching(&clauses, number, &ids, &beside), "{number}");
-    }
-    Ok(())
+fn clauses_watch_their_first_two_literals_and_then_another(rt: HostRuntime) {
+    assert!(rt; matches!(three_are_watched(rt.alloc()), Ok(true)));
 }

@@ -1,6 +1,7 @@
 //! Literals, clauses and formulas, and what satisfies them.
-use cnf_core::{Assign, Clause, Cnf, Lit, satisfied};
-use std::alloc::AllocError;
+use cnf_core::{Assign, Cnf, Lit, satisfied};
+use lrat_tests::building::formula;
+use std::alloc::{AllocError, Global};
 
 /// Bits of three variables, and whether they satisfy (1 or not 2) and (2 or 3).
 const ASSIGNMENTS: &[([bool; 3], bool)] = &[
@@ -14,42 +15,67 @@ const ASSIGNMENTS: &[([bool; 3], bool)] = &[
     ([true, true, true], true),
 ];
 
-#[test]
-fn assignments_satisfy(rt: HostRuntime) -> Result<(), AllocError> {
-    let alloc = rt.alloc();
-    let mut cnf = Cnf::new(alloc, 3);
-    cnf.push(Clause::new(vec![in alloc; Lit::new(1), Lit::new(-2)]?))?;
-    cnf.push(Clause::new(vec![in alloc; Lit::new(2), Lit::new(3)]?))?;
-    for &(bits, yes) in ASSIGNMENTS {
-        let assign = Assign::new(Vec::from_slice(alloc, &bits)?);
-        assert!(rt; satisfied(&cnf, &assign) == yes, "{bits:?}");
+/// Whether bits satisfy a formula.
+fn satisfies(alloc: Global, cnf: &Cnf, bits: &[bool; 3]) -> Result<bool, AllocError> {
+    let assign = Assign::new(Vec::from_slice(alloc, bits)?);
+    let well = cnf.vars() == 3 && satisfied(cnf, &assign);
+    drop(assign);
+    Ok(well)
+}
+
+/// Whether just those bits satisfy the formula.
+fn all_satisfy(alloc: Global, cnf: &Cnf) -> Result<bool, AllocError> {
+    for (bits, yes) in ASSIGNMENTS {
+        if satisfies(alloc, cnf, bits)? != *yes {
+            return Ok(false);
+        }
     }
-    Ok(())
+    Ok(!cnf.has_empty())
+}
+
+/// Whether they satisfy that formula.
+fn are_judged(alloc: Global) -> Result<bool, AllocError> {
+    let cnf = formula(alloc, 3, &[b"1 1 -2 0 0", b"2 2 3 0 0"])?;
+    let well = all_satisfy(alloc, &cnf);
+    drop(cnf);
+    well
+}
+
+/// Whether a formula tells of its empty clause.
+fn is_empty(alloc: Global) -> Result<bool, AllocError> {
+    Ok(formula(alloc, 2, &[b"1 -2 0 0", b"2 0 0"])?.has_empty())
+}
+
+#[test]
+fn assignments_satisfy_and_empty_clauses_are_told(rt: HostRuntime) {
+    let judged = matches!(are_judged(rt.alloc()), Ok(true));
+    let told = matches!(is_empty(rt.alloc()), Ok(true));
+    assert!(rt; judged && told);
+}
+
+/// Numbers of literals, with the variable, whether it is positive, and the place.
+const LITERALS: &[(i32, u32, bool, usize)] = &[
+    (1, 1, true, 2),
+    (-1, 1, false, 3),
+    (-7, 7, false, 15),
+    (2147483647, 2147483647, true, 4294967294),
+];
+
+/// Whether the literal of a number tells these.
+fn tells(number: i32, variable: u32, positive: bool, place: usize) -> bool {
+    if number == 0 || number == i32::MIN {
+        return false;
+    }
+    let lit = Lit::new(number);
+    let other = lit.opposite();
+    let told = lit.get() == number && lit.variable() == variable && lit.code() == place;
+    let signs = lit.is_positive() == positive && other.is_positive() != positive;
+    told && signs && other.opposite() == lit
 }
 
 #[test]
 fn literals_have_opposites_and_numbers(rt: HostRuntime) {
-    for (number, variable, positive, place) in [
-        (1, 1, true, 2),
-        (-1, 1, false, 3),
-        (-7, 7, false, 15),
-        (2147483647, 2147483647, true, 4294967294),
-    ] {
-        let lit = Lit::new(number);
-        let other = lit.opposite();
-        let told = lit.get() == number && lit.variable() == variable && lit.code() == place;
-        let signs = lit.is_positive() == positive && other.is_positive() != positive;
-        assert!(rt; told && signs && other.opposite() == lit, "{number}");
+    for &(number, variable, positive, place) in LITERALS {
+        assert!(rt; tells(number, variable, positive, place), "{number}");
     }
-}
-
-#[test]
-fn formulas_tell_of_the_empty_clause(rt: HostRuntime) -> Result<(), AllocError> {
-    let alloc = rt.alloc();
-    let mut cnf = Cnf::new(alloc, 2);
-    cnf.push(Clause::new(vec![in alloc; Lit::new(-2)]?))?;
-    assert!(rt; !cnf.has_empty());
-    cnf.push(Clause::new(Vec::new(alloc)))?;
-    assert!(rt; cnf.has_empty());
-    Ok(())
 }

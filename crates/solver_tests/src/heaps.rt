@@ -1,36 +1,54 @@
 //! Variables by their scores.
-use std::alloc::AllocError;
+use std::alloc::{AllocError, Global};
 use var_heap::VarHeap;
 
-#[test]
-fn greatest_scores_come_first(rt: HostRuntime) -> Result<(), AllocError> {
-    let alloc = rt.alloc();
+/// Whether the variables come in this order, and then none.
+fn pops(heap: &mut VarHeap, order: &[u32]) -> bool {
+    for variable in order {
+        match heap.pop() {
+            Some(first) => {
+                if first != *variable {
+                    return false;
+                }
+            }
+            None => return false,
+        }
+    }
+    heap.pop().is_none()
+}
+
+/// Whether variables come by their scores.
+fn greatest_first(alloc: Global) -> Result<bool, AllocError> {
     let mut heap = VarHeap::new(alloc, 3)?;
     heap.bump(2, 5);
     heap.bump(3, 7);
     heap.halve();
-    for variable in [3, 2, 1] {
-        assert!(rt; heap.pop() == Some(variable), "{variable}");
-    }
-    assert!(rt; heap.pop().is_none());
-    Ok(())
+    let well = pops(&mut heap, &[3, 2, 1]);
+    drop(heap);
+    Ok(well)
 }
 
-#[test]
-fn variables_come_back(rt: HostRuntime) -> Result<(), AllocError> {
-    let mut heap = VarHeap::new(rt.alloc(), 2)?;
+/// Whether scores stay at the greatest number, and a variable comes back once.
+fn back_again(alloc: Global) -> Result<bool, AllocError> {
+    let mut heap = VarHeap::new(alloc, 2)?;
     heap.bump(1, 18446744073709551615);
     heap.bump(2, 18446744073709551614);
     heap.bump(2, 5);
     heap.halve();
     heap.bump(2, 1);
-    let first = heap.pop();
+    let first = heap.pop().unwrap_or(0);
     let gone = !heap.contains(2);
     heap.push(2);
     heap.push(2);
-    assert!(rt; first == Some(2) && gone && heap.contains(2));
-    for variable in [2, 1] {
-        assert!(rt; heap.pop() == Some(variable), "{variable}");
-    }
-    Ok(())
+    let back = heap.contains(2);
+    let popped = pops(&mut heap, &[2, 1]);
+    drop(heap);
+    Ok(first == 2 && gone && back && popped)
+}
+
+#[test]
+fn greatest_scores_come_first_and_variables_come_back(rt: HostRuntime) {
+    let come = matches!(greatest_first(rt.alloc()), Ok(true));
+    let back = matches!(back_again(rt.alloc()), Ok(true));
+    assert!(rt; come && back);
 }

@@ -7,36 +7,229 @@ use lrat_tests::building::{clause, formula, push_within};
 use lrat_text::{Line, read_line, write_line};
 use std::alloc::{AllocError, Global};
 
-/// Whether the checker takes a line of a log, as it is written and read again.
+/// How many clauses the lines of a log add and delete, and how many lines the checker refuses.
+#[derive(Clone, Copy)]
+struct Counts {
+    added: u64,
+    deleted: u64,
+    refused: u64,
+}
+
+impl Counts {
+    /// Counts one more line.
+    fn count(&mut self, line: &Line) {
+        match line {
+            Line::Add { .. } => self.added = self.added.saturating_add(1),
+            Line::Delete { ids, .. } => {
+                self.deleted = self.deleted.saturating_add(ids.len() as u64)
+            }
+        }
+    }
+
+    /// Counts whether it's refused.
+    fn judge(&mut self, taken: bool) {
+        self.refused = self.refused.saturating_add(u64::from(!taken));
+    }
+}
+
+/// Whether the checker takes a line of a text.
+fn is_fed(alloc: Global, checker: &mut Checker, text: &[u8]) -> bool {
+    let Some((_, body)) = text.split_last() else {
+        return false;
+    };
+    let Ok(line) = read_line(alloc, body) else {
+        return false;
+    };
+    checker.feed(line).is_ok()
+}
+
+/// Whether the checker takes a line, as it is written and read again.
 fn is_taken(alloc: Global, checker: &mut Checker, line: &Line) -> Result<bool, AllocError> {
     let mut text = Vec::new(alloc);
     write_line(line, &mut text)?;
-    let Some((_, body)) = text.split_last() else {
-        return Ok(false);
+    Ok(is_fed(alloc, checker, &text))
+}
+
+/// Feeds the lines of a log to the checker, and counts them.
+fn count_lines(alloc: Global, checker: &mut Checker, log: &Log) -> Result<Counts, AllocError> {
+    let mut counts = Counts {
+        added: 0,
+        deleted: 0,
+        refused: 0,
     };
-    match read_line(alloc, body) {
-        Ok(line) => Ok(checker.feed(line).is_ok()),
-        Err(_) => Ok(false),
+    let mut left = log.lines();
+    'lines: while let Some(line) = left.next(alloc)? {
+        let taken = is_taken(alloc, checker, &line);
+        counts.count(&line);
+        drop(line);
+        counts.judge(taken?);
+    }
+    Ok(counts)
+}
+
+/// What is wanted of the answer to pigeons.
+#[derive(Clone, Copy)]
+struct Told {
+    holes: u32,
+    budget: u32,
+    /// None: either way
+    refuted: Option<bool>,
+    /// None: however many clauses are learnt
+    added: Option<u64>,
+}
+
+/// What is wanted of an answer.
+#[derive(Clone, Copy)]
+enum Wanted {
+    /// These bits satisfy the formula.
+    Bits(&'static [bool]),
+    /// A log refutes it, of so many lines, if that is told.
+    Refuted(Option<usize>),
+    /// The log is open and has one line, which begins so.
+    Learnt(&'static [u8]),
+    Pigeons(Told),
+}
+
+/// Whether these bits are the answer.
+fn has_bits(solved: &Solved, bits: &[bool]) -> bool {
+    match solved {
+        Solved::Sat(assign) => assign.bits() == bits,
+        _ => false,
     }
 }
 
-/// Whether the checker takes each line of a log, and has then reached the empty clause, or hasn't.
-fn holds(alloc: Global, cnf: Cnf, log: &Log, refuted: bool) -> Result<bool, AllocError> {
-    let mut checker = Checker::new(alloc, cnf)?;
-    let mut left = log.lines();
-    while let Some(line) = left.next(alloc)? {
-        if !is_taken(alloc, &mut checker, &line)? {
-            return Ok(false);
-        }
+/// Whether the answer is a log that refutes, of so many lines, if that is told.
+fn is_refuted(
+    alloc: Global,
+    checker: &mut Checker,
+    solved: &Solved,
+    lines: Option<usize>,
+) -> Result<bool, AllocError> {
+    let Solved::Unsat(log) = solved else {
+        return Ok(false);
+    };
+    let counts = count_lines(alloc, checker, log)?;
+    let long = match lines {
+        Some(lines) => log.len() == lines,
+        None => true,
+    };
+    Ok(long && counts.refused == 0 && checker.refuted())
+}
+
+/// Whether the answer is an open log of one line, which begins so.
+fn is_learnt(alloc: Global, solved: &Solved, begin: &[u8]) -> Result<bool, AllocError> {
+    let Solved::Open(log) = solved else {
+        return Ok(false);
+    };
+    let mut text = Vec::new(alloc);
+    write_log(log, &mut text)?;
+    Ok(log.len() == 1 && text.starts_with(begin))
+}
+
+/// Whether a log of the pigeons with these counts keeps half of its additions where it is open, and no more than it may.
+fn is_thrifty(counts: Counts, holes: u32, refuted: bool) -> bool {
+    let live = counts.added.saturating_sub(counts.deleted);
+    let vars = u64::from(holes).saturating_mul(u64::from(holes).saturating_add(1));
+    let most = counts.added.saturating_mul(3);
+    (refuted || live >= counts.deleted)
+        && live.saturating_mul(4)
+            <= most
+                .saturating_add(vars.saturating_mul(4))
+                .saturating_add(8000)
+}
+
+/// Whether counts of a log are what is wanted of pigeons.
+fn fits(counts: Counts, refuted: bool, wanted: Told) -> bool {
+    let end = match wanted.refuted {
+        Some(end) => end == refuted,
+        None => true,
+    };
+    let added = match wanted.added {
+        Some(added) => counts.added == added,
+        None => true,
+    };
+    let enough = refuted || counts.added >= u64::from(wanted.budget);
+    end && added && enough && counts.refused == 0 && is_thrifty(counts, wanted.holes, refuted)
+}
+
+/// Whether a log of pigeons is what is wanted.
+fn is_right(
+    alloc: Global,
+    checker: &mut Checker,
+    log: &Log,
+    refuted: bool,
+    wanted: Told,
+) -> Result<bool, AllocError> {
+    let counts = count_lines(alloc, checker, log)?;
+    Ok(checker.refuted() == refuted && fits(counts, refuted, wanted))
+}
+
+/// Whether an answer to pigeons is what is wanted.
+fn is_told(
+    alloc: Global,
+    checker: &mut Checker,
+    solved: &Solved,
+    wanted: Told,
+) -> Result<bool, AllocError> {
+    match solved {
+        Solved::Sat(_) => Ok(false),
+        Solved::Unsat(log) => is_right(alloc, checker, log, true, wanted),
+        Solved::Open(log) => is_right(alloc, checker, log, false, wanted),
     }
-    Ok(checker.refuted() == refuted)
+}
+
+/// Whether an answer is what is wanted, and this checker takes its log.
+fn is_wanted(
+    alloc: Global,
+    checker: &mut Checker,
+    solved: &Solved,
+    wanted: &Wanted,
+) -> Result<bool, AllocError> {
+    match wanted {
+        Wanted::Bits(bits) => Ok(has_bits(solved, bits)),
+        Wanted::Refuted(lines) => is_refuted(alloc, checker, solved, *lines),
+        Wanted::Learnt(begin) => is_learnt(alloc, solved, begin),
+        Wanted::Pigeons(pigeons) => is_told(alloc, checker, solved, *pigeons),
+    }
+}
+
+/// Whether an answer is what is wanted, and a checker of the formula takes its log.
+fn is_checked(
+    alloc: Global,
+    cnf: Cnf,
+    solved: &Solved,
+    wanted: &Wanted,
+) -> Result<bool, AllocError> {
+    let mut checker = Checker::new(alloc, cnf)?;
+    let well = is_wanted(alloc, &mut checker, solved, wanted);
+    drop(checker);
+    well
+}
+
+/// The answer within a budget of 1 to 1000000.
+fn answer(alloc: Global, cnf: &Cnf, budget: u32) -> Result<Solved, AllocError> {
+    if budget == 0 || budget > 1000000 {
+        return solve(alloc, cnf, 1);
+    }
+    solve(alloc, cnf, budget)
+}
+
+/// Whether a formula has the answer that is wanted, within a budget.
+fn is_answered(alloc: Global, cnf: Cnf, budget: u32, wanted: &Wanted) -> Result<bool, AllocError> {
+    let Ok(solved) = answer(alloc, &cnf, budget) else {
+        drop(cnf);
+        return Err(AllocError);
+    };
+    let well = is_checked(alloc, cnf, &solved, wanted);
+    drop(solved);
+    well
 }
 
 /// The variables 1 and 2, and all four clauses over both.
-const CONTRADICTION: [&[u8]; 4] = [b"1 1 2 0 0", b"2 -1 2 0 0", b"3 1 -2 0 0", b"4 -1 -2 0 0"];
+const CONTRADICTION: &[&[u8]] = &[b"1 1 2 0 0", b"2 -1 2 0 0", b"3 1 -2 0 0", b"4 -1 -2 0 0"];
 
 /// A step that negates its input by conjunction alone.
-const NEGATION: [&[u8]; 23] = [
+const NEGATION: &[&[u8]] = &[
     b"1 3 0 0",
     b"1 -3 1 0 0",
     b"1 -3 -2 0 0",
@@ -62,77 +255,8 @@ const NEGATION: [&[u8]; 23] = [
     b"1 -4 -5 -6 -7 0 0",
 ];
 
-/// Whether a formula is satisfied by these bits, within a budget of one.
-fn is_satisfied(
-    alloc: Global,
-    vars: u32,
-    clauses: &[&[u8]],
-    bits: &[bool],
-) -> Result<bool, AllocError> {
-    match solve(alloc, &formula(alloc, vars, clauses)?, 1)? {
-        Solved::Sat(assign) => Ok(assign.bits() == bits),
-        _ => Ok(false),
-    }
-}
-
-#[test]
-fn formulas_are_satisfied(rt: HostRuntime) -> Result<(), AllocError> {
-    for (vars, clauses, bits) in [
-        (
-            2,
-            [b"1 1 2 0 0" as &[u8], b"2 -1 0 0"].as_slice(),
-            [false, true].as_slice(),
-        ),
-        // no clause, no variable, a variable in no clause
-        (0, [].as_slice(), [].as_slice()),
-        (2, [].as_slice(), [true, true].as_slice()),
-        (
-            3,
-            [b"1 1 0 0" as &[u8], b"2 3 0 0"].as_slice(),
-            [true, true, true].as_slice(),
-        ),
-    ] {
-        let well = is_satisfied(rt.alloc(), vars, clauses, bits)?;
-        assert!(rt; well, "{bits:?}");
-    }
-    Ok(())
-}
-
-/// How many lines the log that refutes a formula has, within a budget of one; None where it isn't refuted so.
-fn lines_of_a_log(
-    alloc: Global,
-    vars: u32,
-    clauses: &[&[u8]],
-) -> Result<Option<usize>, AllocError> {
-    let cnf = formula(alloc, vars, clauses)?;
-    let Solved::Unsat(log) = solve(alloc, &cnf, 1)? else {
-        return Ok(None);
-    };
-    let lines = log.len();
-    Ok(holds(alloc, cnf, &log, true)?.then_some(lines))
-}
-
-#[test]
-fn formulas_are_refuted(rt: HostRuntime) -> Result<(), AllocError> {
-    for (vars, clauses, expected) in [
-        (2, CONTRADICTION.as_slice(), Some(2)),
-        (8, NEGATION.as_slice(), None),
-        // units that conflict, and the empty clause
-        (1, [b"1 1 0 0" as &[u8], b"2 -1 0 0"].as_slice(), Some(1)),
-        (2, [b"1 1 2 0 0" as &[u8], b"2 0 0"].as_slice(), Some(0)),
-        (0, [b"1 0 0" as &[u8]].as_slice(), Some(0)),
-    ] {
-        let lines = lines_of_a_log(rt.alloc(), vars, clauses)?;
-        assert!(rt;
-            lines.is_some() && (expected.is_none() || lines == expected),
-            "{vars}"
-        );
-    }
-    Ok(())
-}
-
 /// The conflict behind the decisions 1 and 5 leads back to -3, -2 and -1, of which -2 follows from -1.
-const IMPLIED: [&[u8]; 4] = [
+const IMPLIED: &[&[u8]] = &[
     b"1 -1 2 0 0",
     b"2 -5 3 0 0",
     b"3 -1 -2 -3 4 0 0",
@@ -140,7 +264,7 @@ const IMPLIED: [&[u8]; 4] = [
 ];
 
 /// The same, and 1 follows from 3, so that -1 goes too.
-const SHORTENED: [&[u8]; 5] = [
+const SHORTENED: &[&[u8]] = &[
     b"1 -1 2 0 0",
     b"2 -5 3 0 0",
     b"3 -1 -2 -3 4 0 0",
@@ -149,7 +273,7 @@ const SHORTENED: [&[u8]; 5] = [
 ];
 
 /// The same with 2 in the last clause besides, so that -1 stays.
-const NOT_SHORTENED: [&[u8]; 5] = [
+const NOT_SHORTENED: &[&[u8]] = &[
     b"1 -1 2 0 0",
     b"2 -5 3 0 0",
     b"3 -1 -2 -3 4 0 0",
@@ -157,192 +281,200 @@ const NOT_SHORTENED: [&[u8]; 5] = [
     b"5 -3 1 2 0 0",
 ];
 
-/// The line of the one clause that is learnt within a budget of one; nothing where it isn't one.
-fn learnt_line(alloc: Global, clauses: &[&[u8]]) -> Result<Vec<u8>, AllocError> {
-    let mut text = Vec::new(alloc);
-    if let Solved::Open(log) = solve(alloc, &formula(alloc, 5, clauses)?, 1)? {
-        if log.len() == 1 {
-            write_log(&log, &mut text)?;
-        }
-    }
-    Ok(text)
+/// Formulas of so many variables with their answers within a budget of one.
+const FORMULAS: &[(&str, u32, &[&[u8]], Wanted)] = &[
+    (
+        "satisfied",
+        2,
+        &[b"1 1 2 0 0", b"2 -1 0 0"],
+        Wanted::Bits(&[false, true]),
+    ),
+    ("no variable", 0, &[], Wanted::Bits(&[])),
+    ("no clause", 2, &[], Wanted::Bits(&[true, true])),
+    (
+        "a variable in no clause",
+        3,
+        &[b"1 1 0 0", b"2 3 0 0"],
+        Wanted::Bits(&[true, true, true]),
+    ),
+    ("contradiction", 2, CONTRADICTION, Wanted::Refuted(Some(2))),
+    ("negation", 8, NEGATION, Wanted::Refuted(None)),
+    (
+        "units that conflict",
+        1,
+        &[b"1 1 0 0", b"2 -1 0 0"],
+        Wanted::Refuted(Some(1)),
+    ),
+    (
+        "the empty clause",
+        2,
+        &[b"1 1 2 0 0", b"2 0 0"],
+        Wanted::Refuted(Some(0)),
+    ),
+    (
+        "the empty clause alone",
+        0,
+        &[b"1 0 0"],
+        Wanted::Refuted(Some(0)),
+    ),
+    ("implied", 5, IMPLIED, Wanted::Learnt(b"5 -3 -1 0 ")),
+    ("shortened", 5, SHORTENED, Wanted::Learnt(b"6 -3 0 5 ")),
+    (
+        "not shortened",
+        5,
+        NOT_SHORTENED,
+        Wanted::Learnt(b"6 -3 -1 0 "),
+    ),
+];
+
+/// Whether some clauses have this answer within a budget of one.
+fn are_answered(
+    alloc: Global,
+    vars: u32,
+    clauses: &[&[u8]],
+    wanted: &Wanted,
+) -> Result<bool, AllocError> {
+    is_answered(alloc, formula(alloc, vars, clauses)?, 1, wanted)
 }
 
 #[test]
-fn learnt_clauses_lose_what_follows(rt: HostRuntime) -> Result<(), AllocError> {
-    for (clauses, begin) in [
-        (IMPLIED.as_slice(), b"5 -3 -1 0 " as &[u8]),
-        (SHORTENED.as_slice(), b"6 -3 0 5 "),
-        (NOT_SHORTENED.as_slice(), b"6 -3 -1 0 "),
-    ] {
-        let text = learnt_line(rt.alloc(), clauses)?;
-        assert!(rt; text.starts_with(begin), "{text:?}");
+fn formulas_are_answered(rt: HostRuntime) {
+    for (name, vars, clauses, wanted) in FORMULAS {
+        let answered = are_answered(rt.alloc(), *vars, clauses, wanted);
+        assert!(rt; matches!(answered, Ok(true)), "{name}");
     }
-    Ok(())
+}
+
+/// Spells one more number.
+fn spell(alloc: Global, text: &mut String, number: i64) -> Result<(), AllocError> {
+    text.push_str(format!(in alloc; "{number} ")?.as_str())
+}
+
+/// Spells an addition of these literals.
+fn spell_all(alloc: Global, text: &mut String, lits: &[i64]) -> Result<(), AllocError> {
+    text.push_str("1 ")?;
+    for lit in lits {
+        spell(alloc, text, *lit)?;
+    }
+    text.push_str("0 0")
+}
+
+/// Adds the clause of these literals.
+fn push(alloc: Global, cnf: &mut Cnf, lits: &[i64]) -> Result<(), AllocError> {
+    let mut text = String::new(alloc);
+    spell_all(alloc, &mut text, lits)?;
+    push_within(cnf, clause(alloc, text.as_bytes()))
 }
 
 /// The variable that says that a pigeon has a hole.
-fn place(holes: u32, pigeon: u32, hole: u32) -> u64 {
-    u64::from(holes) * u64::from(pigeon) + u64::from(hole)
+fn place(holes: u32, pigeon: u32, hole: u32) -> u32 {
+    holes.wrapping_mul(pigeon).wrapping_add(hole)
 }
 
 /// Adds that a pigeon has one of the holes.
 fn push_pigeon(alloc: Global, cnf: &mut Cnf, holes: u32, pigeon: u32) -> Result<(), AllocError> {
-    let mut text = String::from_str(alloc, "1")?;
+    let mut lits = Vec::new(alloc);
     for hole in 1..=holes {
-        text.push_str(format!(in alloc; " {}", place(holes, pigeon, hole))?.as_str())?;
+        lits.push(i64::from(place(holes, pigeon, hole)))?;
     }
-    text.push_str(" 0 0")?;
-    push_within(cnf, clause(alloc, text.as_bytes()))
+    push(alloc, cnf, &lits)
 }
 
-/// Adds that not both of two variables are true.
-fn push_pair(alloc: Global, cnf: &mut Cnf, one: u64, other: u64) -> Result<(), AllocError> {
-    let text = format!(in alloc; "1 -{one} -{other} 0 0")?;
-    push_within(cnf, clause(alloc, text.as_bytes()))
+/// Adds that no two pigeons have a hole.
+fn push_hole(alloc: Global, cnf: &mut Cnf, holes: u32, hole: u32) -> Result<(), AllocError> {
+    for pigeon in 0..=holes {
+        for other in 0..pigeon {
+            let first = -i64::from(place(holes, pigeon, hole));
+            let second = -i64::from(place(holes, other, hole));
+            push(alloc, cnf, &[first, second])?;
+        }
+    }
+    Ok(())
+}
+
+/// Adds that each pigeon has a hole of its own.
+fn push_pigeons(alloc: Global, cnf: &mut Cnf, holes: u32) -> Result<(), AllocError> {
+    for pigeon in 0..=holes {
+        push_pigeon(alloc, cnf, holes, pigeon)?;
+    }
+    for hole in 1..=holes {
+        push_hole(alloc, cnf, holes, hole)?;
+    }
+    Ok(())
 }
 
 /// More pigeons by one than holes, of which each is to have a hole of its own.
 fn pigeons(alloc: Global, holes: u32) -> Result<Cnf, AllocError> {
     let holes = holes.min(9);
     let mut cnf = Cnf::new(alloc, holes * (holes + 1));
-    for pigeon in 0..holes + 1 {
-        push_pigeon(alloc, &mut cnf, holes, pigeon)?;
-    }
-    for hole in 1..holes + 1 {
-        for pigeon in 0..holes + 1 {
-            for other in 0..pigeon {
-                let (first, second) = (place(holes, pigeon, hole), place(holes, other, hole));
-                push_pair(alloc, &mut cnf, first, second)?;
-            }
-        }
-    }
+    push_pigeons(alloc, &mut cnf, holes)?;
     Ok(cnf)
 }
 
-/// How many clauses the lines of a log add and delete.
-#[derive(Clone, Copy)]
-struct Counts {
-    added: u64,
-    deleted: u64,
+/// Whether pigeons have the answer that is wanted.
+fn are_told(alloc: Global, wanted: Told) -> Result<bool, AllocError> {
+    let cnf = pigeons(alloc, wanted.holes)?;
+    is_answered(alloc, cnf, wanted.budget, &Wanted::Pigeons(wanted))
 }
 
-/// Counts what a log adds and deletes.
-fn count_lines(alloc: Global, log: &Log) -> Result<Counts, AllocError> {
-    let mut added = 0u64;
-    let mut deleted = 0u64;
-    let mut left = log.lines();
-    while let Some(line) = left.next(alloc)? {
-        match line {
-            Line::Add { .. } => added = added.saturating_add(1),
-            Line::Delete { ids, .. } => deleted = deleted.saturating_add(ids.len() as u64),
-        }
-    }
-    Ok(Counts { added, deleted })
-}
-
-/// Whether a log of the pigeons with these counts keeps half of its additions where it is open, and no more than it may.
-fn is_thrifty(counts: Counts, holes: u32, refuted: bool) -> bool {
-    let live = counts.added.saturating_sub(counts.deleted);
-    let vars = u64::from(holes).saturating_mul(u64::from(holes).saturating_add(1));
-    let most = counts.added.saturating_mul(3);
-    (refuted || live >= counts.deleted)
-        && live.saturating_mul(4)
-            <= most
-                .saturating_add(vars.saturating_mul(4))
-                .saturating_add(8000)
-}
-
-/// Whether the pigeons are refuted within a budget; None where the answer or its log is wrong.
-fn pigeons_refuted(alloc: Global, holes: u32, budget: u32) -> Result<Option<bool>, AllocError> {
-    if budget == 0 || budget > 1000000 {
-        return Ok(None);
-    }
-    let cnf = pigeons(alloc, holes)?;
-    let (log, refuted) = match solve(alloc, &cnf, budget)? {
-        Solved::Sat(_) => return Ok(None),
-        Solved::Unsat(log) => (log, true),
-        Solved::Open(log) => (log, false),
-    };
-    let counts = count_lines(alloc, &log)?;
-    let enough = refuted || counts.added >= u64::from(budget);
-    let well = enough && is_thrifty(counts, holes, refuted) && holds(alloc, cnf, &log, refuted)?;
-    Ok(well.then_some(refuted))
-}
+/// What is wanted of so many holes within so many learnt clauses.
+///
+/// Where it's told how many clauses are learnt, it's as many as an independent program learns that takes the same
+/// steps: they tell of what scores, of signs and of when restarts come, which no contract says.
+const PIGEONS: &[(u32, u32, bool, Option<u64>)] = &[
+    (3, 1, false, None),
+    (3, 1000000, true, None),
+    (4, 3, false, None),
+    (4, 1000000, true, Some(33)),
+    (5, 1000000, true, None),
+    (6, 1000000, true, Some(457)),
+];
 
 #[test]
-fn pigeons_have_no_holes(rt: HostRuntime) -> Result<(), AllocError> {
-    for (holes, budget, end) in [
-        (3, 1, false),
-        (3, 1000000, true),
-        (4, 3, false),
-        (5, 1000000, true),
-    ] {
-        let refuted = pigeons_refuted(rt.alloc(), holes, budget)?;
-        assert!(rt; refuted == Some(end), "{holes} {budget}");
-    }
-    Ok(())
-}
-
-/// How many clauses are learnt until the pigeons are refuted; None where they aren't.
-fn clauses_learnt(alloc: Global, holes: u32) -> Result<Option<u64>, AllocError> {
-    match solve(alloc, &pigeons(alloc, holes)?, 1000000)? {
-        Solved::Unsat(log) => Ok(Some(count_lines(alloc, &log)?.added)),
-        _ => Ok(None),
+fn pigeons_have_no_holes(rt: HostRuntime) {
+    for &(holes, budget, refuted, added) in PIGEONS {
+        let wanted = Told {
+            holes,
+            budget,
+            refuted: Some(refuted),
+            added,
+        };
+        let told = are_told(rt.alloc(), wanted);
+        assert!(rt; matches!(told, Ok(true)), "{holes} {budget}");
     }
 }
 
 #[test]
-fn pigeons_take_so_many_steps(rt: HostRuntime) -> Result<(), AllocError> {
-    // as many clauses as an independent program learns that takes the same steps: they tell of what scores, of
-    // signs and of when restarts come, which no contract says
-    for (holes, added) in [(4, 33), (6, 457)] {
-        let learnt = clauses_learnt(rt.alloc(), holes)?;
-        assert!(rt; learnt == Some(added), "{holes}");
-    }
-    Ok(())
-}
-
-#[test]
-fn ten_pigeons_have_a_log(rt: HostRuntime) -> Result<(), AllocError> {
+fn ten_pigeons_have_a_log(rt: HostRuntime) {
     // either way
-    let told = pigeons_refuted(rt.alloc(), 9, 20000)?;
-    assert!(rt; told.is_some());
-    Ok(())
+    let wanted = Told {
+        holes: 9,
+        budget: 20000,
+        refuted: None,
+        added: None,
+    };
+    assert!(rt; matches!(are_told(rt.alloc(), wanted), Ok(true)));
 }
 
-/// Adds that one variable follows from another.
-fn push_step(alloc: Global, cnf: &mut Cnf, from: u32, to: u32) -> Result<(), AllocError> {
-    let text = format!(in alloc; "1 -{from} {to} 0 0")?;
-    push_within(cnf, clause(alloc, text.as_bytes()))
-}
-
-/// The variables 1 to `vars`, of which the first is true and each follows from the one before. What follows
-/// last is listed first.
-fn implications(alloc: Global, vars: u32) -> Result<Cnf, AllocError> {
-    let vars = vars.min(9000);
-    let mut cnf = Cnf::new(alloc, vars);
+/// Adds that the first of some variables is true, that each follows from the one before, and that the last is false.
+/// What follows last is listed first.
+fn push_row(alloc: Global, cnf: &mut Cnf, vars: u32) -> Result<(), AllocError> {
     for left in 1..vars {
-        push_step(alloc, &mut cnf, vars - left, vars - left + 1)?;
+        let from = i64::from(vars - left);
+        push(alloc, cnf, &[-from, from + 1])?;
     }
-    push_within(&mut cnf, clause(alloc, b"1 1 0 0"))?;
-    Ok(cnf)
+    push(alloc, cnf, &[1])?;
+    push(alloc, cnf, &[-i64::from(vars)])
 }
 
-/// Whether a row of implications, the last of which is false besides, is refuted by a log of one line.
-fn is_followed(alloc: Global, vars: u32) -> Result<bool, AllocError> {
-    let mut cnf = implications(alloc, vars)?;
-    let last = format!(in alloc; "1 -{vars} 0 0")?;
-    push_within(&mut cnf, clause(alloc, last.as_bytes()))?;
-    match solve(alloc, &cnf, 1)? {
-        Solved::Unsat(log) => Ok(log.len() == 1 && holds(alloc, cnf, &log, true)?),
-        _ => Ok(false),
-    }
+/// Whether a row of 4000 implications from a true to a false variable is refuted by a log of one line.
+fn is_followed(alloc: Global) -> Result<bool, AllocError> {
+    let mut cnf = Cnf::new(alloc, 4000);
+    push_row(alloc, &mut cnf, 4000)?;
+    is_answered(alloc, cnf, 1, &Wanted::Refuted(Some(1)))
 }
 
 #[test]
-fn long_rows_are_followed(rt: HostRuntime) -> Result<(), AllocError> {
-    let followed = is_followed(rt.alloc(), 4000)?;
-    assert!(rt; followed);
-    Ok(())
+fn long_rows_are_followed(rt: HostRuntime) {
+    assert!(rt; matches!(is_followed(rt.alloc()), Ok(true)));
 }

@@ -1,59 +1,110 @@
 //! Trails that go on and back.
+ghost use Rattle.std.specs.Prelude.{◌≤◌, IfSome};
+ghost use Rattle.sat_theory.specs.Formula.{variable as variable_of};
+
 use cnf_core::Lit;
-use std::alloc::AllocError;
+use std::alloc::{AllocError, Global};
 use trail_core::Trail;
+
+/// The literal of a number, if its variable is one of the trail's.
+fn over(trail: &Trail, number: i32) -> Option<Lit>
+    ensures { IfSome result (λ l. variable_of l ≤ trail.now.vars) }
+{
+    if !(-9..=9).contains(&number) || number == 0 {
+        return None;
+    }
+    let lit = Lit::new(number);
+    if lit.variable() > trail.vars() {
+        return None;
+    }
+    Some(lit)
+}
 
 /// Pushes a literal, if its variable is one of the trail's and has no value.
 fn push_free(trail: &mut Trail, number: i32, reason: u32) -> Result<bool, AllocError> {
-    if !(-1000..=1000).contains(&number) || number == 0 {
+    let Some(lit) = over(trail, number) else {
         return Ok(false);
-    }
-    let lit = Lit::new(number);
-    if lit.variable() > trail.vars() || !trail.is_free(lit) {
+    };
+    if !trail.is_free(lit) {
         return Ok(false);
     }
     trail.push(lit, reason)?;
     Ok(true)
 }
 
-/// Where a literal of the trail's variables fell.
-fn place(trail: &Trail, lit: Lit) -> Option<u32> {
-    if lit.variable() > trail.vars() {
-        return None;
-    }
-    Some(trail.fell(lit))
-}
-
 /// Whether literals of the trail's variables fell at these places.
 fn fell(trail: &Trail, places: &[(i32, u32)]) -> bool {
-    for (number, fell) in places {
-        if !(-1000..=1000).contains(number) || *number == 0 {
+    for &(number, fell) in places {
+        let Some(lit) = over(trail, number) else {
             return false;
-        }
-        if place(trail, Lit::new(*number)) != Some(*fell) {
+        };
+        if trail.fell(lit) != fell {
             return false;
         }
     }
     true
 }
 
-#[test]
-fn trail_goes_on_and_back(rt: HostRuntime) -> Result<(), AllocError> {
-    let alloc = rt.alloc();
+/// Whether the first free literal is this one.
+fn is_free(trail: &Trail, number: i32) -> bool {
+    match trail.free_literal() {
+        Some(lit) => lit.get() == number,
+        None => false,
+    }
+}
+
+/// Literals with their reasons, and whether they can be pushed.
+const PUSHED: &[(i32, u32, bool)] = &[(2, 0, true), (-1, 7, true), (1, 8, false), (4, 9, false)];
+
+/// Whether those literals are pushed which can be.
+fn goes_on(trail: &mut Trail) -> Result<bool, AllocError> {
+    for &(number, reason, pushed) in PUSHED {
+        if push_free(trail, number, reason)? != pushed {
+            return Ok(false);
+        }
+    }
+    Ok(true)
+}
+
+/// Where the literals fell then.
+const FALLS: &[(i32, u32)] = &[(1, 2), (-1, 0), (2, 0), (-2, 1), (3, 0), (-3, 0)];
+
+/// The assignment then.
+const BITS: &[bool] = &[false, true, false];
+
+/// Whether the trail tells what was pushed.
+fn tells(alloc: Global, trail: &Trail) -> Result<bool, AllocError> {
+    let assign = trail.assignment(alloc)?;
+    let told = assign.bits() == BITS;
+    drop(assign);
+    Ok(told && fell(trail, FALLS) && is_free(trail, -3))
+}
+
+/// Whether the trail goes back behind its first literal.
+fn goes_back(trail: &mut Trail) -> bool {
+    if trail.len() != 2 || trail.at(1).get() != -1 {
+        return false;
+    }
+    trail.back_to(1);
+    trail.len() == 1 && fell(trail, &[(1, 0)]) && is_free(trail, -1)
+}
+
+/// Whether a trail goes on and back.
+fn goes(alloc: Global, trail: &mut Trail) -> Result<bool, AllocError> {
+    let on = goes_on(trail)?;
+    let told = tells(alloc, trail)?;
+    Ok(on && told && goes_back(trail))
+}
+
+/// Whether a trail of three variables does.
+fn three_go(alloc: Global) -> Result<bool, AllocError> {
     let mut trail = Trail::new(alloc, 3)?;
-    for (number, reason, pushed) in [(2, 0, true), (-1, 7, true), (1, 8, false), (4, 9, false)] {
-        let done = push_free(&mut trail, number, reason)?;
-        assert!(rt; done == pushed, "{number}");
-    }
-    let falls = [(1, 2), (-1, 0), (2, 0), (-2, 1), (3, 0), (-3, 0)];
-    let bits = trail.assignment(alloc)?;
-    let told = bits.bits() == [false, true, false].as_slice();
-    assert!(rt; told && fell(&trail, &falls) && trail.free_literal() == Some(Lit::new(-3)));
-    if trail.len() > 1 {
-        assert!(rt; trail.at(1) == Lit::new(-1));
-        trail.back_to(1);
-    }
-    let back = trail.len() == 1 && fell(&trail, &[(1, 0)]);
-    assert!(rt; back && trail.free_literal() == Some(Lit::new(-1)));
-    Ok(())
+    let well = goes(alloc, &mut trail);
+    drop(trail);
+    well
+}
+
+#[test]
+fn trail_goes_on_and_back(rt: HostRuntime) {
+    assert!(rt; matches!(three_go(rt.alloc()), Ok(true)));
 }

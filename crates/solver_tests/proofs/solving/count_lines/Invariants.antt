@@ -1,5 +1,5 @@
 use Rattle.std.proofs.Common.{length}
 use Rattle.solver_tests.proofs.solving.count_lines.Given as goal
 
-abbrev pub decreases-loop-line : goal.decreases-loop-line
-decreases-loop-line l = length l.left
+abbrev pub decreases-lines : goal.decreases-lines
+decreases-lines l = length l.left
