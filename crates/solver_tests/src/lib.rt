@@ -9,6 +9,8 @@ mod formulas;
 #[cfg(test)]
 mod heaps;
 #[cfg(test)]
+mod pigeons;
+#[cfg(test)]
 mod solving;
 #[cfg(test)]
 mod trails;
