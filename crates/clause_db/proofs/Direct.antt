@@ -1,8 +1,9 @@
 -- The entries of all lists have the starts of their clauses, and by these their ids.
-use Rattle.std.proofs.Common.{◌≡◌, ℕ, ◌+◌, ◌-◌, ◌<◌, ◌≤◌, ℤ, List, [], ◌∷◌, ◌++◌, length, take, slice_index_or, slice_set, All, refl, sym, ap, ◌∙◌, subst, arith}
+use Rattle.std.proofs.Common.{◌≡◌, ◌↔◌, IsTrue, nat_eq, ℕ, ◌+◌, ◌-◌, ◌<◌, ◌≤◌, ℤ, List, [], ◌∷◌, ◌++◌, length, take, slice_index_or, slice_set, All, refl, sym, ap, ◌∙◌, subst, arith}
 use Rattle.std.specs.List.{swap_remove, swap}
 use Rattle.std.proofs.lemmas.List.{length-map, length-append, length-set, get_or-map}
 use Rattle.std.proofs.lemmas.List.Elements.{All-get_or, All-head, All-tail, All-set, All-take, All-weaker}
+use Rattle.std.proofs.lemmas.Bool.{eq-eqb, eqb-true}
 use Rattle.std.proofs.lemmas.Grind.{common_steps}
 use Rattle.cdcl_theory.specs.Codes.{code_of}
 use Rattle.clause_db.specs.declared.lists.Watch.{Watch}
@@ -50,6 +51,13 @@ start_direct b arranged id s same some given there is =
       given = omega (arith, given, its, ap length same);
       is = ap (λ (n : ℕ). slice_index_or b.starts (n - 1) 0) its ∙ there;
     }
+
+-- An entry has an id exactly where it has the start of that id.
+pub is_at : (b : Blocked) (s start id own : ℕ) → IsStart b s → id_in b.starts s ≡ own → slice_index_or b.starts (id - 1) 0 ≡ start → id_in b.starts start ≡ id → IsTrue (nat_eq s start) ↔ (own ≡ id)
+is_at b s start id own direct is there its = (
+  λ same. sym is ∙ ap (id_in b.starts) (eqb-true s start same) ∙ its,
+  λ (same : own ≡ id). eq-eqb s start (sym direct.is ∙ ap (λ (n : ℕ). slice_index_or b.starts (n - 1) 0) (is ∙ same) ∙ there),
+)
 
 -- One list is written.
 pub direct_set : (b : Blocked) (all : List Listed) (k : ℕ) (new : Listed) → AreDirect b all → All (IsDirect b) new → AreDirect b (slice_set all k new)

@@ -159,16 +159,18 @@ shown_same vars row new lits windows same is kept inside = rw kept (ap (λ (es :
     shown_of : ℕ → List (Option (List ℤ)) → Entries
     shown_of v es = record { vars = v; clauses = es }
 
-pub laid_more : (s : Entries) (vars : ℕ) (row new lits : List ℤ) (windows more : List Window) (w : Window) → shown vars row windows ≡ s → new ≡ row ++ lits → more ≡ windows ++ w ∷ [] → w.live ≡ true → w.start ≡ length row → w.end ≡ length new → IsLaid vars row windows → IsClause lits → IsWithin s.vars lits → length s.clauses < 4000000000 → IsLaid vars new more
-laid_more s vars row new lits windows more w view is kept live at end laid is_clause within few =
+pub laid_more : (s : Entries) (vars : ℕ) (row new lits : List ℤ) (windows more : List Window) (w : Window) → shown vars row windows ≡ s → new ≡ row ++ lits → more ≡ windows ++ w ∷ [] → w.live ≡ true → w.start ≡ length row → w.end ≡ length row + length lits → IsLaid vars row windows → IsClause lits → IsWithin s.vars lits → length s.clauses < 4000000000 → IsLaid vars new more
+laid_more s vars row new lits windows more w view is kept live at ends laid is_clause within few =
+    let end : w.end ≡ length new = rw (is, length-append) ends in
     let before : AreEntries s = subst AreEntries view laid.1 in
     let vars_same : vars ≡ s.vars = ap (λ (t : Entries). t.vars) view in
     let entries : entries_of row windows ≡ s.clauses = ap (λ (t : Entries). t.clauses) view in
     let all : entries_of new (windows ++ w ∷ []) ≡ s.clauses ++ Some lits ∷ [] = entries_added row new lits windows w is laid.0 live at end ∙ ap (λ (es : List (Option (List ℤ))). es ++ Some lits ∷ []) entries in
     rw kept ((inside_added row new lits windows w is laid.0 at end, rw (all, vars_same) (entries_add s lits before is_clause within few)))
 
-pub shown_more : (s : Entries) (vars : ℕ) (row new lits : List ℤ) (windows more : List Window) (w : Window) → shown vars row windows ≡ s → new ≡ row ++ lits → more ≡ windows ++ w ∷ [] → w.live ≡ true → w.start ≡ length row → w.end ≡ length new → AreInside row windows → shown vars new more ≡ record s { clauses = s.clauses ++ Some lits ∷ [] }
-shown_more s vars row new lits windows more w view is kept live at end inside =
+pub shown_more : (s : Entries) (vars : ℕ) (row new lits : List ℤ) (windows more : List Window) (w : Window) → shown vars row windows ≡ s → new ≡ row ++ lits → more ≡ windows ++ w ∷ [] → w.live ≡ true → w.start ≡ length row → w.end ≡ length row + length lits → AreInside row windows → shown vars new more ≡ record s { clauses = s.clauses ++ Some lits ∷ [] }
+shown_more s vars row new lits windows more w view is kept live at ends inside =
+    let end : w.end ≡ length new = rw (is, length-append) ends in
     let vars_same : vars ≡ s.vars = ap (λ (t : Entries). t.vars) view in
     let entries : entries_of row windows ≡ s.clauses = ap (λ (t : Entries). t.clauses) view in
     let all : entries_of new (windows ++ w ∷ []) ≡ s.clauses ++ Some lits ∷ [] = entries_added row new lits windows w is inside live at end ∙ ap (λ (es : List (Option (List ℤ))). es ++ Some lits ∷ []) entries in

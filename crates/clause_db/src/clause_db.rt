@@ -273,7 +273,7 @@ impl ClauseDb {
         let _last = self.last();
         let count = self.watching(lit).len();
         let mut index = 0;
-        while index + 1 < count && self.id_at(lit, index) != id {
+        while index + 1 < count && !self.watches.stands_at(lit, index, id) {
             index += 1;
         }
         index

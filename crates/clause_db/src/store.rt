@@ -2,7 +2,7 @@
 //! number of windows when it was given, so that none is given again, whatever becomes of its clause. The windows lie one
 //! behind the other in the row, so the literals of live clauses can be moved down over those of clauses that went: each
 //! move changes only places below the end of its own window, and none below where the last move ended (`packed_more`).
-ghost use Rattle.std.specs.Prelude.{◌≡◌, ◌+◌, ◌<◌, ◌≤◌, ◌↔◌, ◌∷◌, [], ◌++◌, length, take, drop, slice_set, ◌-◌, Some, None, IsTrue, IsSome, IfOk, OnOk, OnErr};
+ghost use Rattle.std.specs.Prelude.{◌≡◌, ◌+◌, ◌<◌, ◌≤◌, ◌↔◌, ◌∷◌, [], ◌++◌, length, take, drop, slice_set, ◌-◌, Some, None, true, IsTrue, IsSome, IfOk, OnOk, OnErr};
 ghost use Rattle.sat_theory.specs.Formula.{IsClause, IsWithin};
 ghost use Rattle.clause_db.specs.Stored.{live_at};
 ghost use Rattle.clause_db.specs.Windows.{entry_of, entries_of, AreFrom, AreInside};
@@ -14,7 +14,7 @@ use std::marker::Model;
 
 /// Moves the literals of a window down to a place in the row, and gives the window that they have there. Those of a
 /// clause that went are left behind.
-fn move_down(row: &mut [Lit], window: Window, to: usize) -> Window
+fn move_down(row: &mut [Lit], window: Window, to: u32) -> Window
     requires before { to ≤ window.start }
     requires rises { window.start ≤ window.end }
     requires inside { window.end ≤ length row.old }
@@ -36,7 +36,7 @@ fn move_down(row: &mut [Lit], window: Window, to: usize) -> Window
     if window.start == to {
         return window;
     }
-    row.copy_within(window.start..window.end, to);
+    row.copy_within(window.start as usize..window.end as usize, to as usize);
     Window {
         start: to,
         end: to + (window.end - window.start),
@@ -45,7 +45,7 @@ fn move_down(row: &mut [Lit], window: Window, to: usize) -> Window
 }
 
 /// Lets the literals of live clauses lie close together at the front of the row, and gives where they end.
-fn pack(row: &mut [Lit], windows: &mut [Window]) -> usize
+fn pack(row: &mut [Lit], windows: &mut [Window]) -> u32
     requires { AreInside row.old windows.old }
     ensures entries { entries_of row.new windows.new ≡ entries_of row.old windows.old }
     ensures from { AreFrom 0 windows.new result }
@@ -60,6 +60,23 @@ fn pack(row: &mut [Lit], windows: &mut [Window]) -> usize
         windows[index] = window;
     }
     end
+}
+
+/// The window of so many literals behind a row. A row of more than 4,294,967,295 counts as want of memory.
+fn window_behind(row: usize, count: usize) -> Result<Window, AllocError>
+    ensures start { IfOk result (λ w. w.start ≡ row) }
+    ensures end { IfOk result (λ w. w.end ≡ row + count) }
+    ensures live { IfOk result (λ w. w.live ≡ true) }
+{
+    let most = u32::MAX as usize;
+    if row > most || count > most - row {
+        return Err(AllocError);
+    }
+    Ok(Window {
+        start: row as u32,
+        end: (row + count) as u32,
+        live: true,
+    })
 }
 
 /// Clauses by their ids, over the variables of one formula. The literals of all clauses lie in one row,
@@ -93,7 +110,7 @@ impl Store {
         }
     }
 
-    /// Adds a clause, and gives its id.
+    /// Adds a clause, and gives its id. A row of more than 4,294,967,295 literals counts as want of memory.
     pub(crate) fn add(&mut self, lits: &[Lit]) -> Result<u32, AllocError>
         requires clause { IsClause lits.now }
         requires variables { IsWithin self.old.vars lits.now }
@@ -102,13 +119,9 @@ impl Store {
         ensures id { IfOk result (λ id. id ≡ length self.old.clauses + 1) }
         ensures err { OnErr result (self.new ≡ self.old) }
     {
-        let start = self.row.len();
+        let window = window_behind(self.row.len(), lits.len())?;
         self.row.extend_from_slice(lits)?;
-        self.windows.push(Window {
-            start,
-            end: self.row.len(),
-            live: true,
-        })?;
+        self.windows.push(window)?;
         Ok(self.windows.len() as u32)
     }
 
@@ -134,7 +147,7 @@ impl Store {
         ensures { self.new ≡ self.old }
     {
         let end = pack(&mut self.row, &mut self.windows);
-        self.row.truncate(end);
+        self.row.truncate(end as usize);
     }
 
     /// The literals of a live clause.
@@ -145,7 +158,7 @@ impl Store {
         ensures variables { IsWithin self.now.vars result.now }
     {
         let window = &self.windows[id as usize - 1];
-        &self.row[window.start..window.end]
+        &self.row[window.start as usize..window.end as usize]
     }
 
     /// Whether an id is that of a live clause.

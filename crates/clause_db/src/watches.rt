@@ -2,7 +2,7 @@
 //! no pair is kept, and an entry of a list says where they begin, which the invariant ties to the table of starts.
 //! Moving a watch is a push to one list, a change of two places, and a taking out of another list. The push comes
 //! first, since it alone can want memory; the change is made by the start in the entry, before that is taken out.
-ghost use Rattle.std.specs.Prelude.{◌≡◌, ◌≢◌, ◌⊎◌, ℤ, ◌+◌, ◌-◌, ◌*◌, ◌<◌, ◌≤◌, [], length, take, All, Contains, pos, slice_index_or, slice_set, replicate, IfOk, OnOk, OnErr};
+ghost use Rattle.std.specs.Prelude.{◌≡◌, ◌≢◌, ◌⊎◌, ◌↔◌, ℤ, IsTrue, ◌+◌, ◌-◌, ◌*◌, ◌<◌, ◌≤◌, [], length, take, All, Contains, pos, slice_index_or, slice_set, replicate, IfOk, OnOk, OnErr};
 ghost use Rattle.std.specs.List.{swap_remove};
 ghost use Rattle.cdcl_theory.specs.Codes.{code_of};
 ghost use Rattle.clause_db.specs.Watching.{listed_in, pair_of, with_id, with_ids, watching_moved};
@@ -96,6 +96,19 @@ impl Watches {
     {
         let watch = self.lists[lit.code()].at(index);
         self.blocks.id(watch.start)
+    }
+
+    /// Whether an id stands at an index in a literal's list. The entry tells it by where the literals begin, so that no
+    /// clause is read.
+    pub(crate) fn stands_at(&self, lit: Lit, index: usize, id: u32) -> bool
+        requires room { code_of lit < length self.now.lists }
+        requires inside { index < length (listed_in self.now.lists lit) }
+        requires some { 0 < id }
+        requires given { id ≤ length self.now.blocks }
+        ensures { IsTrue result ↔ (slice_index_or (listed_in self.now.lists lit) index 0 ≡ id) }
+    {
+        let watch = self.lists[lit.code()].at(index);
+        watch.start == self.blocks.start(id as usize - 1)
     }
 
     /// The literals of the clause at an index in a literal's list.

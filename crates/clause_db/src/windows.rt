@@ -2,7 +2,7 @@
 /// Where the literals of a clause stand in the row of all literals, and whether the clause is live.
 #[derive(Clone, Copy)]
 pub(crate) struct Window {
-    pub(crate) start: usize,
-    pub(crate) end: usize,
+    pub(crate) start: u32,
+    pub(crate) end: u32,
     pub(crate) live: bool,
 }
