@@ -44,16 +44,17 @@ const LONGER_WAIT: usize = 75;
 /// So many clauses before the one that was learnt last are looked at whether they contain it.
 const LAST_ONES: usize = 20;
 
+/// The shapes of so many last clauses are known, the last one and those that are looked at among them.
+const RING: usize = 32;
+
 /// What is known of a learnt clause.
 #[derive(Clone, Copy)]
 struct Merit {
     activity: u64,
     /// the number of the last conflict that it had a part in
-    used: usize,
+    used: u32,
     /// over how many levels its literals stood
     levels: u32,
-    /// a bit for each of its literals, which others may share
-    shape: u64,
 }
 
 /// What is known of the learnt clauses, in the order of their ids.
@@ -62,6 +63,8 @@ pub(crate) struct Merits {
     /// the ids behind this are of learnt clauses
     given: u32,
     merits: Vec<Merit>,
+    /// of the last clauses, by the last digits of their index: a bit for each of the literals, which others may share
+    shapes: [u64; RING],
     /// what a part in the next conflict counts
     step: u64,
     /// by level: the number of the last conflict that was counted there
@@ -77,6 +80,7 @@ impl Merits {
         Ok(Merits {
             given,
             merits: Vec::new(alloc),
+            shapes: [0; RING],
             step: FIRST_STEP,
             counted: vec![in alloc; 0; vars as usize + 1]?,
             due: FIRST_DUE,
@@ -87,6 +91,7 @@ impl Merits {
     /// Lets the learnt clauses among these count for the conflict that they had a part in.
     pub(crate) fn count_parts(&mut self, ids: &[u32]) {
         let number = self.merits.len();
+        let used = short(number);
         for id in ids {
             if *id <= self.given {
                 continue;
@@ -96,7 +101,7 @@ impl Merits {
                 let merit = self.merits[index];
                 self.merits[index] = Merit {
                     activity: merit.activity.saturating_add(self.step),
-                    used: number,
+                    used,
                     ..merit
                 };
             }
@@ -147,12 +152,13 @@ impl Merits {
         requires { IsWithin trail.now.vars lits.now }
     {
         let levels = self.levels(trail, starts, lits);
+        let index = self.merits.len();
         self.merits.push(Merit {
             activity: self.step,
-            used: self.merits.len(),
+            used: short(index),
             levels,
-            shape: shape(lits),
         })?;
+        self.shapes[index % RING] = shape(lits);
         self.grow();
         Ok(())
     }
@@ -171,7 +177,7 @@ impl Merits {
         let bits = shape(lits);
         let end = self.merits.len().saturating_sub(1);
         for index in end.saturating_sub(LAST_ONES)..end {
-            if self.merits[index].shape & bits != bits {
+            if self.shapes[index % RING] & bits != bits {
                 continue;
             }
             let id = self.id(index);
@@ -184,8 +190,7 @@ impl Merits {
 
     /// The id of the learnt clause at an index.
     fn id(&self, index: usize) -> u32 {
-        let index = index.min(u32::MAX as usize) as u32;
-        self.given.saturating_add(1).saturating_add(index)
+        self.given.saturating_add(1).saturating_add(short(index))
     }
 
     /// Whether it is time for idle clauses to go. If so, the next time is set.
@@ -206,7 +211,7 @@ impl Merits {
         let merit = self.merits[index];
         let id = self.id(index);
         merit.levels > FEW_LEVELS
-            && merit.used.saturating_add(RECENT) < self.merits.len()
+            && merit.used as usize + RECENT < self.merits.len()
             && clauses.live(id)
             && clauses.lits(id).len() > 2
     }
@@ -237,6 +242,11 @@ impl Merits {
         }
         Ok(ids)
     }
+}
+
+/// A number in 32 bits; a greater one is the greatest of these.
+fn short(number: usize) -> u32 {
+    number.min(u32::MAX as usize) as u32
 }
 
 /// A bit for each literal, by the last digits of its place in tables.
