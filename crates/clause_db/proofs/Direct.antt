@@ -11,6 +11,7 @@ use Rattle.clause_db.specs.BlockRanges.{Blocked, id_in, IsStart, KeepsIds}
 use Rattle.clause_db.specs.Lists.{Listed, no_watch, blocked_by, ids_of, lists_of, rows_of, IsDirect, AreDirect}
 use Rattle.clause_db.specs.Watching.{listed_in}
 use Rattle.clause_db.specs.Arranging.{Arranged, block_at, exchanged_at}
+use Rattle.clause_db.specs.Deleting.{arranged_without}
 use Rattle.clause_db.proofs.Listed.{shown_lists, shown_list, watch_id, ids_inside, lists_room}
 
 shown_room : (b : Blocked) (all : List Listed) (w : Arranged) (l : ℤ) (k : ℕ) → shown_lists b all ≡ w → k ≡ code_of l → code_of l < length w.lists → k < length all
@@ -177,15 +178,27 @@ exchanged_shown b new all a s id low high view id_is exchanged starts =
     ∙ ap (λ (n : ℕ). exchanged_at (shown_lists b all) n low high) id_is
     ∙ ap (λ (x : Arranged). exchanged_at x id low high) view
 
-pub direct_exchanged : (b new : Blocked) (all : List Listed) (s low high : ℕ) → IsExchange b new s low high → new.starts ≡ b.starts → AreDirect b all → AreDirect new all
-direct_exchanged b new all s low high exchanged starts are = All-weaker (All (IsDirect b)) (All (IsDirect new)) (λ e. All-weaker (IsDirect b) (IsDirect new) (λ w its. one w.start its) e) all are
+-- The starts stay, and there are as many lists.
+pub direct_same : (b new : Blocked) (all : List Listed) → length new.lists ≡ length b.lists → new.starts ≡ b.starts → AreDirect b all → AreDirect new all
+direct_same b new all long starts are = All-weaker (All (IsDirect b)) (All (IsDirect new)) (λ e. All-weaker (IsDirect b) (IsDirect new) (λ w its. one w.start its) e) all are
   where
-    long : length new.lists ≡ length b.lists
-    long = ap length exchanged ∙ length-set b.lists (id_in b.starts s - 1) (swap (block_at b.lists (id_in b.starts s)) low high)
-
     one : (t : ℕ) → IsStart b t → IsStart new t
     one t its = record {
       some = rw starts its.some;
       given = rw (starts, long) its.given;
       is = rw starts its.is;
     }
+
+pub direct_exchanged : (b new : Blocked) (all : List Listed) (s low high : ℕ) → IsExchange b new s low high → new.starts ≡ b.starts → AreDirect b all → AreDirect new all
+direct_exchanged b new all s low high exchanged starts are =
+    direct_same b new all (ap length exchanged ∙ length-set b.lists (id_in b.starts s - 1) (swap (block_at b.lists (id_in b.starts s)) low high)) starts are
+
+-- The literals of an id go.
+pub direct_without : (b new : Blocked) (all : List Listed) (index : ℕ) → new.lists ≡ slice_set b.lists index [] → new.starts ≡ b.starts → AreDirect b all → AreDirect new all
+direct_without b new all index lists starts are = direct_same b new all (ap length lists ∙ length-set b.lists index []) starts are
+
+pub shown_without : (b new : Blocked) (all : List Listed) (a : Arranged) (id : ℕ) → shown_lists b all ≡ a → new.lists ≡ slice_set b.lists (id - 1) [] → new.starts ≡ b.starts → shown_lists new all ≡ arranged_without a id
+shown_without b new all a id view lists starts =
+    ap (λ (ss : List ℕ). shown_of new.lists (lists_of ss all) (rows_of all)) starts
+    ∙ ap (λ (ls : List (List ℤ)). shown_of ls (lists_of b.starts all) (rows_of all)) lists
+    ∙ ap (λ (x : Arranged). arranged_without x id) view

@@ -13,11 +13,11 @@ use Rattle.clause_db.proofs.Rows.{range_front, range_behind}
 pub range_long : (row : List ℤ) (a b : ℕ) → a ≤ b → b ≤ length row → length (slice_range row a b) ≡ b - a
 range_long row a b order inside = length-take-le (b - a) (drop a row) (rw length-drop (omega arith))
 
-range_read : (row : List ℤ) (a b k : ℕ) (d : ℤ) → k < b - a → slice_index_or (slice_range row a b) k d ≡ slice_index_or row (a + k) d
+pub range_read : (row : List ℤ) (a b k : ℕ) (d : ℤ) → k < b - a → slice_index_or (slice_range row a b) k d ≡ slice_index_or row (a + k) d
 range_read row a b k d low = get_or-take (b - a) (drop a row) k d low ∙ get_or-drop a row k d
 
 -- Two rows that agree on a range have the same list there.
-range_same : (row new : List ℤ) (a b : ℕ) → a ≤ b → b ≤ length row → b ≤ length new → ((k : ℕ) (d : ℤ) → a ≤ k → k < b → slice_index_or new k d ≡ slice_index_or row k d) → slice_range new a b ≡ slice_range row a b
+pub range_same : (row new : List ℤ) (a b : ℕ) → a ≤ b → b ≤ length row → b ≤ length new → ((k : ℕ) (d : ℤ) → a ≤ k → k < b → slice_index_or new k d ≡ slice_index_or row k d) → slice_range new a b ≡ slice_range row a b
 range_same row new a b order inside inside_new same =
     let long : length (slice_range row a b) ≡ b - a = range_long row a b order inside in
     let long_new : length (slice_range new a b) ≡ b - a = range_long new a b order inside_new in

@@ -19,20 +19,20 @@ shown row starts = record { lists = lists_in row (ranges_of row starts); starts 
 abbrev pub start_at : List ℕ → ℕ → ℕ
 start_at starts k = slice_index_or starts k 0
 
-range_of : (row : List ℤ) (starts : List ℕ) (k : ℕ) (d : Range) → k < length starts → slice_index_or (ranges_of row starts) k d ≡ range_at row (start_at starts k)
+pub range_of : (row : List ℤ) (starts : List ℕ) (k : ℕ) (d : Range) → k < length starts → slice_index_or (ranges_of row starts) k d ≡ range_at row (start_at starts k)
 range_of row starts k d low = get_or-map (range_at row) starts k 0 d low
 
-room_of : (row : List ℤ) (starts : List ℕ) → length (ranges_of row starts) ≡ length starts
+pub room_of : (row : List ℤ) (starts : List ℕ) → length (ranges_of row starts) ≡ length starts
 room_of row starts = length-map starts (range_at row)
 
 -- What stands before a list lies in the row, and behind the lists before it.
-headed_at : (row : List ℤ) (starts : List ℕ) (k : ℕ) → AreRanges row (ranges_of row starts) → k < length starts → 1 < start_at starts k
+pub headed_at : (row : List ℤ) (starts : List ℕ) (k : ℕ) → AreRanges row (ranges_of row starts) → k < length starts → 1 < start_at starts k
 headed_at row starts k are low = subst (λ (r : Range). 1 < r.start) (range_of row starts k (range_at row 0) low) (are.headed k (range_at row 0) (rw (room_of row starts) low))
 
-inside_at : (row : List ℤ) (starts : List ℕ) (k : ℕ) → AreRanges row (ranges_of row starts) → k < length starts → start_at starts k + count_at row (start_at starts k) ≤ length row
+pub inside_at : (row : List ℤ) (starts : List ℕ) (k : ℕ) → AreRanges row (ranges_of row starts) → k < length starts → start_at starts k + count_at row (start_at starts k) ≤ length row
 inside_at row starts k are low = (subst (λ (r : Range). (r.start ≤ r.end) × (r.end ≤ length row)) (range_of row starts k (range_at row 0) low) (are.inside k (range_at row 0) (rw (room_of row starts) low))).1
 
-behind_at : (row : List ℤ) (starts : List ℕ) (i k : ℕ) → AreRanges row (ranges_of row starts) → i < k → k < length starts → start_at starts i + count_at row (start_at starts i) + 1 < start_at starts k
+pub behind_at : (row : List ℤ) (starts : List ℕ) (i k : ℕ) → AreRanges row (ranges_of row starts) → i < k → k < length starts → start_at starts i + count_at row (start_at starts i) + 1 < start_at starts k
 behind_at row starts i k are order low =
     let d : Range = range_at row 0 in
     let early : i < length starts = omega (arith, order, low) in
@@ -154,7 +154,7 @@ shown_added lists row new lits id head starts more s view is kept count at are =
     ∙ lists_added row new lits id head (ranges_of row starts) (range_at new s) is at (omega (arith, at, long)) are ∙ ap (λ (ls : List (List ℤ)). ls ++ lits ∷ []) view
 
 -- There are as many lists as starts.
-lists_room : (b : Blocked) (row : List ℤ) (starts : List ℕ) → shown row starts ≡ b → length b.lists ≡ length starts
+pub lists_room : (b : Blocked) (row : List ℤ) (starts : List ℕ) → shown row starts ≡ b → length b.lists ≡ length starts
 lists_room b row starts view = ap (λ (x : Blocked). length x.lists) (sym view) ∙ length-map (ranges_of row starts) (list_in row) ∙ room_of row starts
 
 -- The lists before one that is put behind them keep their places and ids,

@@ -44,6 +44,14 @@ unfoldable pub id_in : List ℕ → ℕ → ℕ
 id_in [] s = 0
 id_in (x ∷ xs) s = if x == s then 1 else suc (id_in xs s)
 
+-- Each start has the id of its index.
+abbrev pub AreIds : Blocked → Type 0
+AreIds b = (k : ℕ) → k < length b.lists → id_in b.starts (slice_index_or b.starts k 0) ≡ k + 1
+
+-- where the list before an index ends
+abbrev pub end_before : Blocked → ℕ → ℕ
+end_before b index = if index == 0 then 0 else slice_index_or b.starts (index - 1) 0 + length (slice_index_or b.lists (index - 1) [])
+
 -- A list begins at a place.
 pub record IsStart (b : Blocked) (s : ℕ) : Type 0 where
   pub some : 0 < id_in b.starts s

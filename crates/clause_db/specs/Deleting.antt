@@ -1,8 +1,8 @@
 -- A clause that goes: its id leaves the lists of the literals that it watched.
-use Rattle.std.specs.Prelude.{◌≡◌, ℕ, ◌-◌, ◌<◌, ℤ, pos, List, length, slice_index_or, slice_set, None}
+use Rattle.std.specs.Prelude.{◌≡◌, ℕ, ◌-◌, ◌<◌, ℤ, pos, List, [], length, slice_index_or, slice_set, None}
 use Rattle.std.specs.List.{swap_remove}
 use Rattle.cdcl_theory.specs.Codes.{code_of}
-use Rattle.clause_db.specs.Watching.{listed_in, list_of}
+use Rattle.clause_db.specs.Watching.{listed_in, list_of, no_pair}
 use Rattle.clause_db.specs.Blocking.{row_of, with_row}
 use Rattle.clause_db.specs.Arranging.{Arranged}
 use Rattle.clause_db.specs.Stored.{Stored, Watches}
@@ -15,12 +15,12 @@ pub record HasLeft (id : ℕ) (old new : List ℕ) : Type 0 where
   pub is : new ≡ swap_remove old index 0
 
 -- The clause of an id went: no clause has the id any more, the id left the lists of the literals that the clause
--- watched, and all else is as it was.
+-- watched, its pair is that of no literals, and all else is as it was.
 -- Example: of the clauses 1: 1, 2 and 2: 1, 3 and 3: 1, 4 in the list 1, 2, 3 of the literal 1, the first one leaves 3, 2.
 pub record IsDeleted (id : ℕ) (old new : Stored) : Type 0 where
   pub vars : new.vars ≡ old.vars
   pub clauses : new.clauses ≡ slice_set old.clauses (id - 1) None
-  pub pairs : new.watches.pairs ≡ old.watches.pairs
+  pub pairs : new.watches.pairs ≡ slice_set old.watches.pairs (id - 1) no_pair
   pub room : length new.watches.lists ≡ length old.watches.lists
   pub left : (l : ℤ) → Watches old id l → HasLeft id (list_of old.watches l) (list_of new.watches l)
   pub others : (l : ℤ) → (Watches old id l → ⊥) → list_of new.watches l ≡ list_of old.watches l
@@ -34,3 +34,7 @@ rows_left rows l index = with_row rows l (swap_remove (row_of rows l) index (pos
 
 abbrev pub arranged_left : Arranged → ℤ → ℕ → Arranged
 arranged_left a l index = record { blocks = a.blocks; lists = lists_left a.lists l index; rows = rows_left a.rows l index }
+
+-- the literals of an id went
+abbrev pub arranged_without : Arranged → ℕ → Arranged
+arranged_without a id = record { blocks = slice_set a.blocks (id - 1) []; lists = a.lists; rows = a.rows }

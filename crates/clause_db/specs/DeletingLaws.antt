@@ -4,12 +4,12 @@ use Rattle.std.specs.Option.{option_flatten}
 use Rattle.std.proofs.Common.{sym, ap, ◌∙◌, subst, arith, inl, inr}
 use Rattle.std.proofs.Math.Logic.{⊎_elim}
 use Rattle.std.proofs.lemmas.Bool.{cases_eq, cases_lt, eq-eqb, ne_eqb}
-use Rattle.std.proofs.lemmas.List.{length-set}
+use Rattle.std.proofs.lemmas.List.{length-set, get_or-set_other}
 use Rattle.sat_theory.specs.Formula.{IsWithin}
 use Rattle.sat_theory.specs.State.{without, is_listed}
 use Rattle.cdcl_theory.specs.CodeLaws.{cases_literal}
 use Rattle.clause_db.specs.declared.watches.Pair.{Pair}
-use Rattle.clause_db.specs.Watching.{list_of, pair_at}
+use Rattle.clause_db.specs.Watching.{list_of, pair_at, no_pair}
 use Rattle.clause_db.specs.WatchingLaws.{swap_keeps, swap_only, swap_once}
 use Rattle.clause_db.specs.Stored.{Stored, live_at, live_in, Watches, IsPair, IsStored}
 use Rattle.clause_db.specs.StoredLaws.{live_inside}
@@ -77,6 +77,11 @@ pub some_live : (o : Option (List ℤ)) → IsSome o → (clause : List ℤ) × 
 some_live (Some clause) some = (clause, refl)
 some_live None some = absurd (cc)
 
+-- The pairs of other ids are what they were.
+pub pair_left : (id : ℕ) (old new : Stored) (k : ℕ) → IsDeleted id old new → 0 < id → 0 < k → (k ≡ id → ⊥) → pair_at new.watches k ≡ pair_at old.watches k
+pair_left id old new k deleted some some_k apart =
+    ap (λ (ps : List Pair). slice_index_or ps (k - 1) no_pair) deleted.pairs ∙ get_or-set_other old.watches.pairs (id - 1) (k - 1) no_pair no_pair (λ e. apart (omega (arith, e, some, some_k)))
+
 -- The same of what clauses watch.
 pub still_watches : (id : ℕ) (old new : Stored) (k : ℕ) (l : ℤ) → IsDeleted id old new → 0 < id → Watches new k l → Watches old k l × (k ≡ id → ⊥)
 still_watches id old new k l deleted some watches =
@@ -85,7 +90,7 @@ still_watches id old new k l deleted some watches =
         clause = watches.clause;
         is_live = before.0;
         long = watches.long;
-        watched = subst (λ (ps : List Pair). (l ≡ (pair_at (record { pairs = ps; lists = old.watches.lists }) k).first) ⊎ (l ≡ (pair_at (record { pairs = ps; lists = old.watches.lists }) k).second)) deleted.pairs watches.watched;
+        watched = subst (λ (p : Pair). (l ≡ p.first) ⊎ (l ≡ p.second)) (pair_left id old new k deleted some (live_inside new k watches.clause watches.is_live).0 before.1) watches.watched;
       },
       before.1,
     )
@@ -95,7 +100,7 @@ kept_watches id old new k l deleted some apart watches = record {
   clause = watches.clause;
   is_live = kept_live id old new k watches.clause deleted some apart watches.is_live;
   long = watches.long;
-  watched = subst (λ (ps : List Pair). (l ≡ (pair_at (record { pairs = ps; lists = old.watches.lists }) k).first) ⊎ (l ≡ (pair_at (record { pairs = ps; lists = old.watches.lists }) k).second)) (sym deleted.pairs) watches.watched;
+  watched = subst (λ (p : Pair). (l ≡ p.first) ⊎ (l ≡ p.second)) (sym (pair_left id old new k deleted some (live_inside old k watches.clause watches.is_live).0 apart)) watches.watched;
 }
 
 -- a live clause watches a literal or doesn't
@@ -124,9 +129,11 @@ stored_deleted id old new clause stored is deleted = record {
   clauses = λ k c live. stored.clauses k c (still_live id old new k c deleted some live).0;
   variables = λ k c live. subst (λ (n : ℕ). IsWithin n c) (sym deleted.vars) (stored.variables k c (still_live id old new k c deleted some live).0);
   few = (let long : length new.clauses ≡ length old.clauses = ap length deleted.clauses ∙ length-set old.clauses (id - 1) None in let few : length old.clauses ≤ 4000000000 = stored.few in omega (arith, long, few));
-  pairs_room = ap length deleted.pairs ∙ stored.pairs_room ∙ sym (ap length deleted.clauses ∙ length-set old.clauses (id - 1) None);
+  pairs_room = ap length deleted.pairs ∙ length-set old.watches.pairs (id - 1) no_pair ∙ stored.pairs_room ∙ sym (ap length deleted.clauses ∙ length-set old.clauses (id - 1) None);
   room = deleted.room ∙ stored.room ∙ ap (λ (n : ℕ). 2 * n + 2) (sym deleted.vars);
-  pairs = λ k c live long. subst (λ (ps : List Pair). IsPair c (pair_at (record { pairs = ps; lists = old.watches.lists }) k)) (sym deleted.pairs) (stored.pairs k c (still_live id old new k c deleted some live).0 long);
+  pairs = λ k c live long.
+      let before : (live_in old k ≡ Some c) × (k ≡ id → ⊥) = still_live id old new k c deleted some live in
+      subst (IsPair c) (sym (pair_left id old new k deleted some (live_inside new k c live).0 before.1)) (stored.pairs k c before.0 long);
   listed = listed;
   only = only;
   once = once;

@@ -1,6 +1,6 @@
 -- How the lists of ids lie, and the rows of literals beside them: an entry has a literal and the start of its clause's
 -- literals, which has the id.
-use Rattle.std.specs.Prelude.{ℕ, ℤ, pos, List, [], map, All}
+use Rattle.std.specs.Prelude.{ℕ, ◌-◌, ◌<◌, ◌≤◌, ℤ, pos, List, [], map, length, slice_index_or, All}
 use Rattle.clause_db.specs.declared.lists.Watch.{Watch}
 use Rattle.clause_db.specs.BlockRanges.{Blocked, id_in, IsStart}
 
@@ -40,3 +40,17 @@ IsDirect b w = IsStart b w.start
 
 abbrev pub AreDirect : Blocked → List Listed → Type 0
 AreDirect b all = All (All (IsDirect b)) all
+
+-- An entry with the id of its clause where the start stands, and one with the start where the id stands.
+abbrev pub named : List ℕ → Watch → Watch
+named starts w = record { blocker = w.blocker; start = id_in starts w.start }
+
+abbrev pub placed : List ℕ → Watch → Watch
+placed starts w = record { blocker = w.blocker; start = slice_index_or starts (w.start - 1) 0 }
+
+-- An id stands where the start of a list does.
+abbrev pub IsNamed : Blocked → Watch → Type 0
+IsNamed b w = (0 < w.start) × (w.start ≤ length b.lists)
+
+abbrev pub AreNamed : Blocked → List Listed → Type 0
+AreNamed b all = All (All (IsNamed b)) all

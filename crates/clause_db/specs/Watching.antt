@@ -17,6 +17,10 @@ listed_in lists l = slice_index_or lists (code_of l) []
 abbrev pub list_of : Watching → ℤ → List ℕ
 list_of w = listed_in w.lists
 
+-- the pair where there are no literals
+abbrev pub no_pair : Pair
+no_pair = record { first = pos 1; second = pos 1 }
+
 -- the pair of an id
 abbrev pub pair_at : Watching → ℕ → Pair
 pair_at w id = slice_index_or w.pairs (id - 1) (record { first = pos 1; second = pos 1 })

@@ -2,12 +2,14 @@
 //! than its index, and its length, both as literals whose variable is one more than the number. So a list is read by
 //! the place where it begins, with no look into a table, and so is its id. That the ranges lie in the row and behind
 //! each other, with two places between, and that the ids are right, is the invariant. So a change of places in one list
-//! leaves the ids, the lengths and all other lists as they were.
+//! leaves the ids, the lengths and all other lists as they were. More places may lie between: a list that becomes empty
+//! leaves the places of its literals to none, until `pack` moves the lists behind it down. That goes one list at a
+//! time, and the invariant holds after each.
 ghost use Rattle.std.specs.Prelude.{◌≡◌, [], ◌∷◌, ◌++◌, ◌<◌, ◌+◌, ◌-◌, ◌^◌, length, take, slice_index_or, slice_set, OnOk, OnErr};
 ghost use Rattle.std.specs.List.{swap};
 ghost use Rattle.sat_theory.specs.Formula.{variable as variable_of};
 ghost use Rattle.clause_db.specs.Arranging.{block_at};
-ghost use Rattle.clause_db.specs.BlockRanges.{id_in, IsStart, KeepsIds};
+ghost use Rattle.clause_db.specs.BlockRanges.{id_in, end_before, IsStart, KeepsIds, AreIds};
 
 use cnf_core::Lit;
 use std::alloc::{AllocError, Global};
@@ -68,6 +70,63 @@ impl Blocks {
         if let Some(start) = self.starts.pop() {
             self.row.truncate(start as usize - 2);
         }
+    }
+
+    /// Lets the list at an index be the empty one.
+    pub(crate) fn empty(&mut self, index: usize)
+        requires { index < length self.old.lists }
+        ensures lists { self.new.lists ≡ slice_set self.old.lists index [] }
+        ensures starts { self.new.starts ≡ self.old.starts }
+    {
+        let start = self.starts[index] as usize;
+        self.row[start - 1] = written(0);
+    }
+
+    /// Lets each list begin two places behind the end of the one before it, and takes back the places behind the last
+    /// one. The ids stay, and the places where lists begin change.
+    pub(crate) fn pack(&mut self)
+        ensures lists { self.new.lists ≡ self.old.lists }
+        ensures ids { AreIds self.new }
+    {
+        let mut end = 0;
+        for index in 0..self.count() {
+            end = self.move_down(index, end);
+        }
+        self.cut(end);
+    }
+
+    /// How many lists there are.
+    fn count(&self) -> usize
+        ensures { result ≡ length self.now.lists }
+    {
+        self.starts.len()
+    }
+
+    /// Moves the list at an index, with the two places before it, down to the end of the one before it, and gives where
+    /// it ends there.
+    fn move_down(&mut self, index: usize, end: usize) -> usize
+        requires inside { index < length self.old.lists }
+        requires before { end ≡ end_before self.old index }
+        ensures lists { self.new.lists ≡ self.old.lists }
+        ensures end { result ≡ end_before self.new (index + 1) }
+    {
+        let start = self.starts[index] as usize;
+        let past = start + self.row[start - 1].variable() as usize - 1;
+        if start == end + 2 {
+            return past;
+        }
+        self.row.copy_within(start - 2..past, end);
+        self.starts[index] = end as u32 + 2;
+        end + 2 + (past - start)
+    }
+
+    /// Takes back the places behind the last list.
+    fn cut(&mut self, end: usize)
+        requires { end ≡ end_before self.old (length self.old.lists) }
+        ensures lists { self.new.lists ≡ self.old.lists }
+        ensures ids { AreIds self.new }
+    {
+        self.row.truncate(end);
     }
 
     /// The list at an index.

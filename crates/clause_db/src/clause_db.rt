@@ -1,7 +1,8 @@
 //! Clauses with their ids and what they watch. Three things are held besides what contracts see: the literals of a
 //! clause in a second order, the watched ones in front; in each list, where its ids are shown, a literal of the clause
-//! and the place where all of them begin; and windows in a row of literals. The invariant ties the literals to the value of contracts,
-//! and that of `Watches` the places to the ids. On that value every call says its effect as an equation (`added`,
+//! and the place where all of them begin; and windows in a row of literals. The invariant ties the literals to the
+//! value of contracts, and that of `Watches` the places to the ids. So literals lie elsewhere in both rows after
+//! `compact`, and the value is the same. On that value every call says its effect as an equation (`added`,
 //! `rewatched`), so that what the solver needs of watches are laws over these.
 ghost use Rattle.std.specs.Prelude.{◌≡◌, ◌≢◌, ℕ, ◌+◌, ◌<◌, ◌≤◌, ◌⊎◌, ◌↔◌, ◌∷◌, [], length, slice_index_or, Contains, All, AllPairs, Some, List, ℤ, IsTrue, IsSome, IfOk, OnOk, OnErr};
 ghost use Rattle.sat_theory.specs.Formula.{variable as variable_of, IsClause, IsWithin};
@@ -71,8 +72,8 @@ impl ClauseDb {
     }
 
     /// Adds a clause over the variables of the formula, and gives its id, the one behind all before. It
-    /// watches its first two literals. The literals of all clauses, also of those that went, and two places more for
-    /// each clause, are at most 2,147,483,647; more count as want of memory.
+    /// watches its first two literals. The literals of all clauses, and two places more for each id that was given, are
+    /// at most 2,147,483,647; more count as want of memory. Those of a clause that went count until `compact`.
     pub fn add(&mut self, lits: &[Lit]) -> Result<u32, AllocError>
         requires clause { IsClause lits.now }
         requires variables { IsWithin self.old.vars lits.now }
@@ -222,7 +223,7 @@ impl ClauseDb {
     }
 
     /// Lets a live clause go. Its id is no clause's any more, and is never given again. In the lists of the literals
-    /// that the clause watched the last entry takes its place.
+    /// that the clause watched the last entry takes its place. The room of its literals is taken back by `compact`.
     pub fn delete(&mut self, id: u32)
         requires { IsSome (live_in self.old id) }
         ensures live { live_in self.new ≡ without (live_in self.old) (id ∷ []) }
@@ -230,22 +231,25 @@ impl ClauseDb {
         ensures whole { IsStored self.new }
     {
         if self.lits(id).len() < 2 {
+            self.watches.empty(id);
             self.store.delete(id);
             return;
         }
         let (first, second) = self.watched(id);
         let index = self.find(first, id);
         let place = self.find(second, id);
-        self.watches.leave(first, index, second, place);
+        self.watches.leave(id, first, index, second, place);
         self.store.delete(id);
     }
 
-    /// Takes back the room of clauses that went. Nothing that contracts see changes.
+    /// Takes back the room of clauses that went, in both rows of literals and in place. Nothing that contracts see
+    /// changes.
     pub fn compact(&mut self)
         ensures same { self.new ≡ self.old }
         ensures whole { IsStored self.new }
     {
         self.store.compact();
+        self.watches.compact();
     }
 
     /// Lets a clause that watches `from` watch `to`, another one of its literals, in place of it: as

@@ -1,9 +1,11 @@
 //! The list of a literal: for each clause that watches it a literal of the clause, and where its literals begin. Both
-//! stand in one struct, so that nothing has to be as long as anything else, and a visit reads no table of starts.
-ghost use Rattle.std.specs.Prelude.{◌≡◌, ◌-◌, ◌<◌, ◌∷◌, [], ◌++◌, length, take, slice_index_or, slice_set, OnOk, OnErr};
+//! stand in one struct, so that nothing has to be as long as anything else, and a visit reads no table of starts. While
+//! clauses move to other places, entries have their ids in place of the starts.
+ghost use Rattle.std.specs.Prelude.{◌≡◌, ◌-◌, ◌<◌, ◌∷◌, [], ◌++◌, length, take, map, slice_index_or, slice_set, All, OnOk, OnErr};
 ghost use Rattle.std.specs.List.{swap_remove};
-ghost use Rattle.clause_db.specs.Lists.{no_watch, blocked_by};
+ghost use Rattle.clause_db.specs.Lists.{no_watch, blocked_by, named, placed, IsDirect, IsNamed};
 
+use crate::blocks::Blocks;
 use cnf_core::Lit;
 use std::alloc::{AllocError, Global};
 use std::marker::Model;
@@ -84,5 +86,41 @@ impl WatchList {
         ensures { self.new ≡ slice_set self.old index (blocked_by (slice_index_or self.old index no_watch) blocker) }
     {
         self.entries[index].blocker = blocker;
+    }
+
+    /// Puts the id of each clause where its start stands.
+    pub(crate) fn put_ids(&mut self, blocks: &Blocks)
+        requires { All (IsDirect blocks.now) self.old }
+        ensures { self.new ≡ map (named blocks.now.starts) self.old }
+    {
+        ids_for_starts(&mut self.entries, blocks);
+    }
+
+    /// Puts the start of each clause where its id stands.
+    pub(crate) fn put_starts(&mut self, blocks: &Blocks)
+        requires { All (IsNamed blocks.now) self.old }
+        ensures { self.new ≡ map (placed blocks.now.starts) self.old }
+    {
+        starts_for_ids(&mut self.entries, blocks);
+    }
+}
+
+fn ids_for_starts(entries: &mut [Watch], blocks: &Blocks)
+    requires { All (IsDirect blocks.now) entries.old }
+    ensures { entries.new ≡ map (named blocks.now.starts) entries.old }
+{
+    for index in 0..entries.len() {
+        let id = blocks.id(entries[index].start);
+        entries[index].start = id;
+    }
+}
+
+fn starts_for_ids(entries: &mut [Watch], blocks: &Blocks)
+    requires { All (IsNamed blocks.now) entries.old }
+    ensures { entries.new ≡ map (placed blocks.now.starts) entries.old }
+{
+    for index in 0..entries.len() {
+        let start = blocks.start(entries[index].start as usize - 1);
+        entries[index].start = start;
     }
 }

@@ -2,14 +2,16 @@
 //! no pair is kept, and an entry of a list says where they begin, which the invariant ties to the table of starts.
 //! Moving a watch is a push to one list, a change of two places, and a taking out of another list. The push comes
 //! first, since it alone can want memory; the change is made by the start in the entry, before that is taken out.
-ghost use Rattle.std.specs.Prelude.{◌≡◌, ◌≢◌, ◌⊎◌, ◌↔◌, ℤ, IsTrue, ◌+◌, ◌-◌, ◌*◌, ◌<◌, ◌≤◌, [], length, take, All, Contains, pos, slice_index_or, slice_set, replicate, IfOk, OnOk, OnErr};
+//! While the literals of all clauses move, entries have ids in place of starts: the old starts are read for the last time
+//! before, and the new ones after it.
+ghost use Rattle.std.specs.Prelude.{◌≡◌, ◌≢◌, ◌⊎◌, ◌↔◌, ℤ, IsTrue, ◌+◌, ◌-◌, ◌*◌, ◌<◌, ◌≤◌, [], length, take, map, All, Contains, pos, slice_index_or, slice_set, replicate, IfOk, OnOk, OnErr};
 ghost use Rattle.std.specs.List.{swap_remove};
 ghost use Rattle.cdcl_theory.specs.Codes.{code_of};
 ghost use Rattle.clause_db.specs.Watching.{listed_in, pair_of, with_id, with_ids, watching_moved};
 ghost use Rattle.clause_db.specs.Blocking.{row_of, with_row, with_blocker, with_blockers, rows_moved, besides};
 ghost use Rattle.clause_db.specs.Arranging.{block_at, watching_of, arranged_more, exchanged_at, ArePermuted, IsNoneOf};
-ghost use Rattle.clause_db.specs.Deleting.{arranged_left};
-ghost use Rattle.clause_db.specs.Lists.{blockers_of};
+ghost use Rattle.clause_db.specs.Deleting.{arranged_left, arranged_without};
+ghost use Rattle.clause_db.specs.Lists.{blockers_of, named, placed, AreDirect, AreNamed};
 
 use crate::blocks::Blocks;
 use crate::lists::{Watch, WatchList};
@@ -236,15 +238,37 @@ impl Watches {
         Ok(())
     }
 
-    /// Takes the ids at two places out of the lists of two literals.
-    pub(crate) fn leave(&mut self, one: Lit, index: usize, other: Lit, place: usize)
+    /// Takes an id out of the lists of two literals, where it stands at two places, and lets its literals go.
+    pub(crate) fn leave(&mut self, id: u32, one: Lit, index: usize, other: Lit, place: usize)
+        requires some { 0 < id }
+        requires given { id ≤ length self.old.blocks }
         requires rooms { (code_of one < length self.old.lists) × (code_of other < length self.old.lists) }
         requires apart { one ≢ other }
         requires inside { (index < length (listed_in self.old.lists one)) × (place < length (listed_in self.old.lists other)) }
-        ensures { self.new ≡ arranged_left (arranged_left self.old one index) other place }
+        ensures { self.new ≡ arranged_without (arranged_left (arranged_left self.old one index) other place) id }
     {
         self.take_out(one, index);
         self.take_out(other, place);
+        self.empty(id);
+    }
+
+    /// Lets the literals of an id go.
+    pub(crate) fn empty(&mut self, id: u32)
+        requires some { 0 < id }
+        requires given { id ≤ length self.old.blocks }
+        ensures { self.new ≡ arranged_without self.old id }
+    {
+        self.blocks.empty(id as usize - 1);
+    }
+
+    /// Takes back the room of literals that went. Those of each clause may begin elsewhere then, so each entry gets the
+    /// id of its clause before, and the new start after it.
+    pub(crate) fn compact(&mut self)
+        ensures { self.new ≡ self.old }
+    {
+        all_ids_for_starts(&mut self.lists, &self.blocks);
+        self.blocks.pack();
+        all_starts_for_ids(&mut self.lists, &self.blocks);
     }
 
     /// Takes the id at an index out of a literal's list, with what stands beside it.
@@ -266,6 +290,26 @@ impl Watches {
     {
         let watch = self.lists[lit.code()].at(index);
         self.blocks.exchange(watch.start, low, high);
+    }
+}
+
+/// Puts the id of its clause where the start stands, in each entry of all lists.
+fn all_ids_for_starts(lists: &mut [WatchList], blocks: &Blocks)
+    requires { AreDirect blocks.now lists.old }
+    ensures { lists.new ≡ map (map (named blocks.now.starts)) lists.old }
+{
+    for index in 0..lists.len() {
+        lists[index].put_ids(blocks);
+    }
+}
+
+/// Puts the start of its clause where the id stands, in each entry of all lists.
+fn all_starts_for_ids(lists: &mut [WatchList], blocks: &Blocks)
+    requires { AreNamed blocks.now lists.old }
+    ensures { lists.new ≡ map (map (placed blocks.now.starts)) lists.old }
+{
+    for index in 0..lists.len() {
+        lists[index].put_starts(blocks);
     }
 }
 

@@ -4,13 +4,13 @@ use Rattle.clause_db.proofs.Leaving.{gone_alone, gone_left}
 use Rattle.clause_db.proofs.clause_db.ClauseDb.delete.Goals as goal
 
 pub invariant_of-self : goal.invariant_of-self
-invariant_of-self c = rw c.delete.ensures (gone_alone c.self.inside.store c.self.inside.watches c.args.self.now c.args.id c.lits.result.now c.self.view_is c.self.invariant c.lits.ensures.value c.if-lits-lt2.true).0
+invariant_of-self c = rw (c.delete.ensures, c.empty.ensures) (gone_alone c.self.inside.store c.self.inside.watches c.args.self.now c.args.id c.lits.result.now c.self.view_is c.self.invariant c.lits.ensures.value c.if-lits-lt2.true).0
 
 pub returns-then-lits-lt2-clause-live : goal.returns-then-lits-lt2-clause-live
-returns-then-lits-lt2-clause-live c = rw c.delete.ensures (live_deleted c.args.id c.args.self.now _ (gone_alone c.self.inside.store c.self.inside.watches c.args.self.now c.args.id c.lits.result.now c.self.view_is c.self.invariant c.lits.ensures.value c.if-lits-lt2.true).1 (live_inside c.args.self.now c.args.id c.lits.result.now c.lits.ensures.value).0)
+returns-then-lits-lt2-clause-live c = rw (c.delete.ensures, c.empty.ensures) (live_deleted c.args.id c.args.self.now _ (gone_alone c.self.inside.store c.self.inside.watches c.args.self.now c.args.id c.lits.result.now c.self.view_is c.self.invariant c.lits.ensures.value c.if-lits-lt2.true).1 (live_inside c.args.self.now c.args.id c.lits.result.now c.lits.ensures.value).0)
 
 pub returns-then-lits-lt2-clause-deleted : goal.returns-then-lits-lt2-clause-deleted
-returns-then-lits-lt2-clause-deleted c = rw c.delete.ensures (gone_alone c.self.inside.store c.self.inside.watches c.args.self.now c.args.id c.lits.result.now c.self.view_is c.self.invariant c.lits.ensures.value c.if-lits-lt2.true).1
+returns-then-lits-lt2-clause-deleted c = rw (c.delete.ensures, c.empty.ensures) (gone_alone c.self.inside.store c.self.inside.watches c.args.self.now c.args.id c.lits.result.now c.self.view_is c.self.invariant c.lits.ensures.value c.if-lits-lt2.true).1
 
 pub returns-then-lits-lt2-clause-whole : goal.returns-then-lits-lt2-clause-whole
 returns-then-lits-lt2-clause-whole c = (invariant_of-self c).0
