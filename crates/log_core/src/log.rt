@@ -3,6 +3,7 @@
 ghost use Rattle.std.specs.Prelude.{◌≡◌, [], ◌∷◌, ◌++◌, length, OnOk, OnErr, IsOkAnd, IfOk, IfSome, IfNone};
 ghost use Rattle.sat_theory.specs.Line as theory;
 ghost use Rattle.lrat_text.specs.Values.{line_value};
+ghost use Rattle.log_core.specs.Rows.{lines_in, IsCut};
 
 use crate::head::Head;
 use crate::packing::{pack_addition, pack_deletion};
@@ -105,6 +106,14 @@ impl Log {
             return Err(error);
         }
         Ok(())
+    }
+
+    /// The heads of its lines, and the bytes that they cut.
+    pub(crate) fn parts(&self) -> (&[Head], &[u8])
+        ensures lines { lines_in result.0.now result.1.now ≡ self.now }
+        ensures cut { IsCut result.0.now result.1.now }
+    {
+        (&self.heads, &self.bytes)
     }
 
     /// All its lines, to be read from the front.
