@@ -4,3 +4,4 @@ pub mod ReadRows
 pub mod Behind
 pub mod Taken
 pub mod Shown
+pub mod Spelled

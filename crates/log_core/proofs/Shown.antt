@@ -2,7 +2,7 @@
 use Rattle.std.proofs.Common.{◌≡◌, ℕ, List, [], length, take, refl, ap, ◌∙◌}
 use Rattle.std.proofs.lemmas.Grind.{common_steps}
 use Rattle.log_core.specs.Rows.{IsCut, sizes_of, BeginsAs}
-use Rattle.log_core.proofs.ReadRows.{lines-length, lines-none, lines-first, first-size, cut-first, result_put}
+use Rattle.log_core.proofs.ReadRows.{lines-length, lines-none, lines-first, first-size, cut-first}
 
 pub cut-none : IsCut [] []
 unfolding sizes_of
@@ -12,4 +12,6 @@ cut-none = refl
 pub cut_back : (old new back : List ℕ) (start : ℕ) → start ≡ length old → BeginsAs old new → back ≡ take start new → back ≡ old
 cut_back old new back start at begins is = is ∙ ap (λ (n : ℕ). take n new) at ∙ begins
 
-pub ruleset shown = (common_steps, lines-length, lines-none, lines-first, first-size, cut-first, cut-none, cut_back, result_put)
+pub ruleset shown = (common_steps, lines-length, lines-none, cut-none, cut_back)
+
+pub ruleset left = (common_steps, lines-none, lines-first, first-size, cut-first)

@@ -1,8 +1,9 @@
 //! Logs: heads of lines, and one row with the bytes of all lines. That the lengths in the heads add up to the length of
 //! the row is all that has to be known to put a line behind and to take the first one off; the bytes may be any.
-ghost use Rattle.std.specs.Prelude.{◌≡◌, [], ◌∷◌, ◌++◌, length, OnOk, OnErr, IsOkAnd, IfOk, IfSome, IfNone};
+ghost use Rattle.std.specs.Prelude.{◌≡◌, [], ◌∷◌, ◌++◌, length, take, OnOk, OnErr, IsOkAnd, IfOk, IfSome, IfNone};
 ghost use Rattle.sat_theory.specs.Line as theory;
 ghost use Rattle.lrat_text.specs.Values.{line_value};
+ghost use Rattle.log_core.specs.Rows.{lines_in, IsCut};
 
 use crate::head::Head;
 use crate::packing::{pack_addition, pack_deletion};
@@ -59,6 +60,26 @@ fn push_head(heads: &mut Vec<Head>, packed: Result<Head, AllocError>) -> Result<
     Ok(())
 }
 
+/// Puts the head of a line that was packed behind the others. Where memory was wanting, the row is cut back to where the
+/// line began.
+fn push_or_cut(
+    heads: &mut Vec<Head>,
+    bytes: &mut Vec<u8>,
+    start: usize,
+    packed: Result<Head, AllocError>,
+) -> Result<(), AllocError>
+    ensures ok { OnOk result (IsOkAnd packed (λ head. heads.new.items ≡ heads.old.items ++ head ∷ [])) }
+    ensures kept { OnOk result (bytes.new.items ≡ bytes.old.items) }
+    ensures err { OnErr result (heads.new.items ≡ heads.old.items) }
+    ensures cut { OnErr result (bytes.new.items ≡ take start bytes.old.items) }
+{
+    let pushed = push_head(heads, packed);
+    if pushed.is_err() {
+        bytes.truncate(start);
+    }
+    pushed
+}
+
 #[tactic(auto, using(crate::proofs::Shown::shown))]
 impl Log {
     /// A log without a line.
@@ -86,10 +107,7 @@ impl Log {
     {
         let start = self.bytes.len();
         let packed = pack_addition(&mut self.bytes, id, lits, hints);
-        if let Err(error) = push_head(&mut self.heads, packed) {
-            self.bytes.truncate(start);
-            return Err(error);
-        }
+        push_or_cut(&mut self.heads, &mut self.bytes, start, packed)?;
         Ok(())
     }
 
@@ -100,11 +118,16 @@ impl Log {
     {
         let start = self.bytes.len();
         let packed = pack_deletion(&mut self.bytes, id, ids);
-        if let Err(error) = push_head(&mut self.heads, packed) {
-            self.bytes.truncate(start);
-            return Err(error);
-        }
+        push_or_cut(&mut self.heads, &mut self.bytes, start, packed)?;
         Ok(())
+    }
+
+    /// The heads of its lines, and the bytes that they cut.
+    pub(crate) fn parts(&self) -> (&[Head], &[u8])
+        ensures lines { lines_in result.0.now result.1.now ≡ self.now }
+        ensures cut { IsCut result.0.now result.1.now }
+    {
+        (&self.heads, &self.bytes)
     }
 
     /// All its lines, to be read from the front.
@@ -118,7 +141,7 @@ impl Log {
     }
 }
 
-#[tactic(auto, using(crate::proofs::Shown::shown))]
+#[tactic(auto, using(crate::proofs::Shown::left))]
 impl<'a> Lines<'a> {
     /// The next line. Where memory was wanting, it is still to be read.
     pub fn next(&mut self, alloc: Global) -> Result<Option<Line>, AllocError>

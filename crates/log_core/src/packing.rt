@@ -31,8 +31,8 @@ fn number_of(lit: Lit) -> u64
     ensures value { result ≡ code_of lit }
     ensures whole { IsLit lit }
 {
-    // That it is a literal is what `get` tells, and not `code`.
-    let _number = lit.get();
+    // That it is a literal is what `variable` tells, and not `code`.
+    let _variable = lit.variable();
     lit.code() as u64
 }
 

@@ -5,7 +5,7 @@ ghost use Rattle.log_core.specs.Rows.{size_of, line_in};
 ghost use Rattle.lrat_text.specs.Values.{line_value};
 
 use crate::head::Head;
-use crate::numbers::grown;
+use crate::numbers::next_number;
 use crate::steps::stepped;
 use cnf_core::Lit;
 use lrat_text::Line;
@@ -16,24 +16,20 @@ use std::alloc::{AllocError, Global};
 fn ids_of(alloc: Global, bytes: &[u8]) -> Result<Vec<u32>, AllocError>
     ensures { IfOk result (λ ids. ids.items ≡ spec.ids_of bytes.now) }
 {
-    let mut ids = Vec::new(alloc);
+    let mut ids = Vec::with_capacity(alloc, bytes.len())?;
     let mut last = 0u32;
-    let mut number = 0u64;
-    for byte in bytes {
-        if *byte >= 128 {
-            number = grown(number, *byte);
-            continue;
-        }
-        last = stepped(last, number * 128 + u64::from(*byte));
-        number = 0;
+    let mut left = bytes;
+    while let Some((number, rest)) = next_number(left) {
+        last = stepped(last, number);
         ids.push(last)?;
+        left = rest;
     }
     Ok(ids)
 }
 
 /// The literal that a number stands for, its variable kept within 1 to 2147483647.
 #[tactic(auto, unfolding(crate::specs::Lists::literal_at, crate::specs::Lists::variable_at))]
-fn literal_at(number: u64) -> Lit
+pub(crate) fn literal_at(number: u64) -> Lit
     ensures { result ≡ spec.literal_at number }
 {
     let variable = (number / 2).min(2_147_483_647).max(1) as u32;
@@ -45,15 +41,11 @@ fn literal_at(number: u64) -> Lit
 fn literals_of(alloc: Global, bytes: &[u8]) -> Result<Vec<Lit>, AllocError>
     ensures { IfOk result (λ lits. lits.items ≡ spec.literals_of bytes.now) }
 {
-    let mut lits = Vec::new(alloc);
-    let mut number = 0u64;
-    for byte in bytes {
-        if *byte >= 128 {
-            number = grown(number, *byte);
-            continue;
-        }
-        lits.push(literal_at(number * 128 + u64::from(*byte)))?;
-        number = 0;
+    let mut lits = Vec::with_capacity(alloc, bytes.len())?;
+    let mut left = bytes;
+    while let Some((number, rest)) = next_number(left) {
+        lits.push(literal_at(number))?;
+        left = rest;
     }
     Ok(lits)
 }

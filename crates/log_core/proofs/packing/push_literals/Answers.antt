@@ -1,4 +1,4 @@
-use Rattle.std.proofs.Common.{ℤ, List, subst, arith}
+use Rattle.std.proofs.Common.{ℤ, List, subst, rules}
 use Rattle.std.specs.Prelude.{All}
 use Rattle.std.proofs.lemmas.List.{take_all}
 use Rattle.std.proofs.lemmas.List.Elements.{All-more}
@@ -9,7 +9,7 @@ use Rattle.log_core.proofs.packing.push_literals.Goals as goal
 
 pub loop-lit-preserved : goal.loop-lit-preserved
 loop-lit-preserved c = record {
-  all = grind (arith, packed);
+  all = search (rules, packed);
   whole = All-more IsLit c.args.lits.now c.loop-lit.lit-index c.lit-item.result c.loop-lit-test.true c.loop-lit.invariant.whole (subst IsLit c.lit-item.is c.number_of.ensures.whole);
   begins = begins-on _ _ _ c.loop-lit.invariant.begins c.push_number.ensures.begins;
 }

@@ -1,10 +1,10 @@
-use Rattle.std.proofs.Common.{◌≡◌, ◌≤◌, ◌++◌, drop}
+use Rattle.std.proofs.Common.{◌≡◌, ◌++◌, length}
 use Rattle.log_core.specs.Numbers.{numbers_from}
 use Rattle.log_core.specs.Lists.{literals_from, literals_of}
 use Rattle.log_core.proofs.unpacking.literals_of.Given as goal
 
-abbrev pub invariant-loop-byte : goal.invariant-loop-byte
-invariant-loop-byte l = record {
-  all : l.lits.items ++ literals_from (numbers_from l.number (drop l.byte-index l.bytes)) ≡ literals_of l.bytes;
-  small : l.number ≤ 17179869184;
-}
+abbrev pub invariant-loop-number : goal.invariant-loop-number
+invariant-loop-number l = l.lits.items ++ literals_from (numbers_from 0 l.left) ≡ literals_of l.bytes
+
+abbrev pub decreases-loop-number : goal.decreases-loop-number
+decreases-loop-number l = length l.left
