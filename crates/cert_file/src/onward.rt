@@ -68,7 +68,11 @@ pub(crate) fn take(alloc: Global, stage: Stage, line: &TextLine) -> Result<Stage
             chain,
         } => at_found(heading, low, chain, line),
         Stage::End { told } => at_end(told, line),
-        Stage::Done { .. } => Err(BundleError::Syntax(line.number)),
+        Stage::Done { told } => {
+            // by the type's own drop, which an exit would write out
+            drop(told);
+            Err(BundleError::Syntax(line.number))
+        }
     }
 }
 

@@ -78,16 +78,24 @@ impl PartReader {
             missing,
         } = self;
         if is_done(text, lf) {
-            closed(checker.refuted(), missing == 0, end)?;
+            let empty = checker.refuted();
+            // by the type's own drop, which exits would write out
+            drop(checker);
+            closed(empty, missing == 0, end)?;
             return Ok(PartStep::Done);
         }
         let mut checker = checker;
-        let added = logged(alloc, &mut checker, end, text, lf)?;
-        Ok(PartStep::More(PartReader {
-            checker,
-            ended: end,
-            missing: missing.saturating_sub(added),
-        }))
+        match logged(alloc, &mut checker, end, text, lf) {
+            Ok(added) => Ok(PartStep::More(PartReader {
+                checker,
+                ended: end,
+                missing: missing.saturating_sub(added),
+            })),
+            Err(fault) => {
+                drop(checker);
+                Err(fault)
+            }
+        }
     }
 }
 

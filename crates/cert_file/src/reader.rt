@@ -206,6 +206,9 @@ impl BundleReader {
         ensures accepted { (text : List ℕ) (b : Bundle) → StandsFor (seen self) text → IsBundle text b → Gives (λ v. v) result (Ok b.verdict) }
     {
         let told = self.tell()?;
-        Ok(told.verdict)
+        let verdict = told.verdict;
+        // by the type's own drop, which an exit would write out
+        drop(told);
+        Ok(verdict)
     }
 }

@@ -103,31 +103,46 @@ fn add_tables(
     Ok(())
 }
 
-/// The signals of the sources: the places from 1 on.
+/// Gives the sources the places from 1 on.
 #[tactic(auto, using(crate::proofs::Growths::sources))]
-fn source_signals(alloc: Global, document: &Document) -> Result<IndexMap<Name, Sig>, AllocError>
+fn place_sources(signals: &mut IndexMap<Name, Sig>, document: &Document) -> Result<(), AllocError>
     requires { source_count document.now + 100000 < 2 ^ 31 }
-    ensures { IfOk result (λ m. get is_same m ≡ with_sources (λ n. None) 1 (source_names document.now)) }
+    ensures { OnOk result (get is_same signals.new ≡ with_sources (get is_same signals.old) 1 (source_names document.now)) }
 {
-    let mut signals = IndexMap::new(alloc);
-    place_names(&mut signals, 1, &document.inputs)?;
+    place_names(signals, 1, &document.inputs)?;
     let next = 1 + document.inputs.len() as u32;
-    place_latches(&mut signals, next, &document.latches)?;
-    Ok(signals)
+    place_latches(signals, next, &document.latches)
+}
+
+/// The net of a document whose tables are ordered, over the signals of its sources.
+#[tactic(auto, using(crate::proofs::Growths::nets), unfolding(net_theory::specs::NetOf::net_in_order))]
+fn net_over(
+    alloc: Global,
+    document: &Document,
+    order: &[u32],
+    signals: &mut IndexMap<Name, Sig>,
+) -> Result<Net, AllocError>
+    requires well { IsWellFormed document.now }
+    requires small { source_count document.now + 100000 < 2 ^ 31 }
+    requires order { IsOrder (graph_of document.now.tables) order.now }
+    requires signals { get is_same signals.old ≡ with_sources (λ n. None) 1 (source_names document.now) }
+    ensures { IfOk result (λ net. net ≡ net_in_order document.now order.now) }
+{
+    let sources = document.inputs.len() + document.latches.len();
+    let mut net = Net::new(sources as u32, Vec::new(alloc), Vec::new(alloc));
+    add_tables(alloc, &mut net, signals, document, order)?;
+    let sinks = sinks_of(alloc, signals, document)?;
+    Ok(net.with_sinks(sinks))
 }
 
 /// The net of a document whose tables are ordered.
-#[tactic(auto, using(crate::proofs::Growths::nets), unfolding(net_theory::specs::NetOf::net_in_order))]
 pub fn grow(alloc: Global, document: &Document, order: &[u32]) -> Result<Net, AllocError>
     requires well { IsWellFormed document.now }
     requires small { source_count document.now + 100000 < 2 ^ 31 }
     requires order { IsOrder (graph_of document.now.tables) order.now }
     ensures { IfOk result (λ net. net ≡ net_in_order document.now order.now) }
 {
-    let mut signals = source_signals(alloc, document)?;
-    let sources = document.inputs.len() + document.latches.len();
-    let mut net = Net::new(sources as u32, Vec::new(alloc), Vec::new(alloc));
-    add_tables(alloc, &mut net, &mut signals, document, order)?;
-    let sinks = sinks_of(alloc, &signals, document)?;
-    Ok(net.with_sinks(sinks))
+    let mut signals = IndexMap::new(alloc);
+    place_sources(&mut signals, document)?;
+    net_over(alloc, document, order, &mut signals)
 }

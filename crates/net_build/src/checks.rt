@@ -1,6 +1,6 @@
 //! What is refused once a document was read whole.
 
-ghost use Rattle.std.specs.Prelude.{◌≡◌, ◌<◌, ◌^◌, [], ◌++◌, None, IfOk, IfErr, IfNone};
+ghost use Rattle.std.specs.Prelude.{◌≡◌, ◌<◌, ◌≤◌, ◌^◌, [], ◌++◌, None, IfOk, IfErr, IfNone};
 ghost use Rattle.net_theory.specs.Cost.{cost};
 ghost use Rattle.net_document.specs.Listed.{IsListed};
 ghost use Rattle.net_document.specs.Refusals.{repeated, missing, fault_of, IsRefused};
@@ -11,22 +11,21 @@ use net_core::{Name, NetError};
 use net_document::Listed;
 use std::alloc::{AllocError, Global};
 
-/// The names in a set, and the first one that stands among those before it.
+/// Adds the names of drivers to a set, up to the first one that it has already, which is told.
 #[tactic(auto, unfolding(net_document::specs::Refusals::repeated, net_theory::specs::Document::has))]
-fn name_set(alloc: Global, names: &[Name]) -> Result<(IndexSet<Name>, Option<Name>), AllocError>
-    ensures first { IfOk result (λ x. x.1 ≡ repeated [] names.now) }
-    ensures set { IfOk result (λ x. IfNone x.1 (x.0.keys ≡ names.now)) }
+fn add_drivers(set: &mut IndexSet<Name>, names: &[Name]) -> Result<Option<Name>, AllocError>
+    ensures first { IfOk result (λ name. name ≡ repeated set.old.keys names.now) }
+    ensures set { IfOk result (λ name. IfNone name (set.new.keys ≡ set.old.keys ++ names.now)) }
 {
-    let mut set = IndexSet::new(alloc);
     let mut left = names;
-    while let Some((name, rest)) = left.split_first() {
-        if set.contains(name) {
-            return Ok((set, Some(name.copied()?)));
+    while let Some((driver, rest)) = left.split_first() {
+        if set.contains(driver) {
+            return Ok(Some(driver.copied()?));
         }
-        set.insert(name.copied()?)?;
+        set.insert(driver.copied()?)?;
         left = rest;
     }
-    Ok((set, None))
+    Ok(None)
 }
 
 /// The first name that isn't driven.
@@ -59,6 +58,36 @@ fn first_undriven(
     }
 }
 
+/// Refuses a name that is used and not driven, where nothing else is at fault.
+#[tactic(auto, unfolding(net_document::specs::Refusals::fault_of))]
+fn check_used(driven: &IndexSet<Name>, listed: &Listed) -> Result<(), NetError>
+    requires few { cost listed.now.document ≤ 100000 }
+    requires once { repeated [] listed.now.driven ≡ None }
+    requires driven { driven.now.keys ≡ listed.now.driven }
+    ensures good { IfOk result (λ _. fault_of listed.now ≡ None) }
+    ensures refused { IfErr result (IsRefused listed.now) }
+{
+    match first_undriven(driven, &listed.used, &listed.document.outputs)? {
+        Some(name) => Err(NetError::Undriven(name)),
+        None => Ok(()),
+    }
+}
+
+/// Refuses a name that is driven twice, or else one that is used and not driven, where nothing else is at
+/// fault. The set is empty, and holds the names of drivers behind it.
+#[tactic(auto, unfolding(net_document::specs::Refusals::fault_of))]
+fn check_names(driven: &mut IndexSet<Name>, listed: &Listed) -> Result<(), NetError>
+    requires few { cost listed.now.document ≤ 100000 }
+    requires none { driven.old.keys ≡ [] }
+    ensures good { IfOk result (λ _. fault_of listed.now ≡ None) }
+    ensures refused { IfErr result (IsRefused listed.now) }
+{
+    match add_drivers(driven, &listed.driven)? {
+        Some(name) => Err(NetError::DrivenTwice(name)),
+        None => check_used(driven, listed),
+    }
+}
+
 /// Refuses what is at fault, but for tables that depend on themselves.
 #[tactic(auto, unfolding(net_document::specs::Refusals::fault_of, net_theory::specs::Cost::cost))]
 pub fn check(alloc: Global, listed: &Listed) -> Result<(), NetError>
@@ -71,12 +100,6 @@ pub fn check(alloc: Global, listed: &Listed) -> Result<(), NetError>
     if gates > 100_000 {
         return Err(NetError::TooManyGates(gates));
     }
-    let (driven, twice) = name_set(alloc, &listed.driven)?;
-    if let Some(name) = twice {
-        return Err(NetError::DrivenTwice(name));
-    }
-    match first_undriven(&driven, &listed.used, &listed.document.outputs)? {
-        Some(name) => Err(NetError::Undriven(name)),
-        None => Ok(()),
-    }
+    let mut driven = IndexSet::new(alloc);
+    check_names(&mut driven, listed)
 }

@@ -78,8 +78,7 @@ fn document_graph(alloc: Global, document: &Document) -> Result<Vec<Reads>, Allo
     ensures graph { IfOk result (λ graph. graph.items ≡ graph_of_tables document.now.tables) }
     ensures count { IfOk result (λ graph. length graph.items ≡ length document.now.tables) }
 {
-    let graph = graph_of(alloc, &document.tables)?;
-    Ok(graph)
+    graph_of(alloc, &document.tables)
 }
 
 /// The net of a document whose tables have an order, or the first table that depends on itself.
@@ -101,12 +100,27 @@ fn ordered_net(alloc: Global, document: &Document) -> Result<Net, NetError>
     Ok(net)
 }
 
+/// The net of a document, or why the document isn't well formed.
+#[tactic(auto, using(crate::proofs::Wholes::circuits))]
+fn listed_net(alloc: Global, listed: &Listed) -> Result<Net, NetError>
+    requires listed { IsListed listed.now }
+    requires free { AreFree listed.now.document }
+    requires small { 2 * source_count listed.now.document + cost listed.now.document < 2 ^ 31 }
+    requires few { length listed.now.document.tables < 2 ^ 31 }
+    ensures well_formed { IfOk result (λ _. IsWellFormed listed.now.document) }
+    ensures circuit { IfOk result (λ net. IsCircuitOf listed.now.document (circuit_with listed.now.document net)) }
+    ensures good { IfOk result (λ _. fault_of listed.now ≡ None) }
+    ensures refused { IfErr result (IsRefused listed.now) }
+{
+    check(alloc, listed)?;
+    ordered_net(alloc, &listed.document)
+}
+
 /// The circuit of a document, or why the document isn't well formed: more than 100,000 gates, then a
 /// name that is driven twice, then one that is used and not driven, and then a table that depends on
 /// itself.
 ///
 /// The lists of driven and used names tell which name is first.
-#[tactic(auto, using(crate::proofs::Wholes::circuits))]
 pub fn circuit_of(alloc: Global, listed: Listed) -> Result<Circuit, NetError>
     requires listed { IsListed listed }
     requires free { AreFree listed.document }
@@ -117,12 +131,6 @@ pub fn circuit_of(alloc: Global, listed: Listed) -> Result<Circuit, NetError>
     ensures good { IfOk result (λ _. fault_of listed ≡ None) }
     ensures refused { IfErr result (IsRefused listed) }
 {
-    check(alloc, &listed)?;
-    let Listed {
-        document,
-        driven: _,
-        used: _,
-    } = listed;
-    let net = ordered_net(alloc, &document)?;
-    Ok(with_net(alloc, document, net)?)
+    let net = listed_net(alloc, &listed)?;
+    Ok(with_net(alloc, listed.document, net)?)
 }

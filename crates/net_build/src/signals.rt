@@ -23,19 +23,19 @@ fn set_driver(drivers: &mut IndexMap<Name, u32>, name: &Name, table: u32) -> Res
     Ok(())
 }
 
-/// The tables that drive names, the first one where several do.
+/// Gives names the tables that drive them, the first one where several do.
 #[tactic(auto, using(crate::proofs::Drivers::drivers))]
-fn drivers_of(alloc: Global, tables: &[Table]) -> Result<IndexMap<Name, u32>, AllocError>
-    requires { length tables.now < 2 ^ 31 }
-    ensures { IfOk result (λ m. get is_same m ≡ driver_of tables.now) }
+fn set_drivers(drivers: &mut IndexMap<Name, u32>, tables: &[Table]) -> Result<(), AllocError>
+    requires none { get is_same drivers.old ≡ (λ n. None) }
+    requires few { length tables.now < 2 ^ 31 }
+    ensures { OnOk result (get is_same drivers.new ≡ driver_of tables.now) }
 {
-    let mut drivers = IndexMap::new(alloc);
     let mut left = tables;
     while let Some((table, rest)) = left.split_last() {
-        set_driver(&mut drivers, &table.output, rest.len() as u32)?;
+        set_driver(drivers, &table.output, rest.len() as u32)?;
         left = rest;
     }
-    Ok(drivers)
+    Ok(())
 }
 
 /// The tables that drive these names, from the left.
@@ -81,9 +81,9 @@ pub fn graph_of(alloc: Global, tables: &[Table]) -> Result<Vec<Reads>, AllocErro
     requires { length tables.now < 2 ^ 31 }
     ensures { IfOk result (λ graph. graph.items ≡ graph_of_tables tables.now) }
 {
-    let drivers = drivers_of(alloc, tables)?;
-    let graph = graph_by(alloc, &drivers, tables)?;
-    Ok(graph)
+    let mut drivers = IndexMap::new(alloc);
+    set_drivers(&mut drivers, tables)?;
+    graph_by(alloc, &drivers, tables)
 }
 
 /// Gives a name a signal.

@@ -2,7 +2,7 @@ use Rattle.std.proofs.Common.{◌≡◌, ◌++◌, length, drop}
 use Rattle.indexmap.specs.IndexMap.{get}
 use Rattle.net_theory.specs.Document.{is_same}
 use Rattle.net_theory.specs.NetOf.{driver_from}
-use Rattle.net_build.proofs.signals.drivers_of.Given as goal
+use Rattle.net_build.proofs.signals.set_drivers.Given as goal
 
 abbrev pub invariant-loop-table : goal.invariant-loop-table
 invariant-loop-table l = record {

@@ -3,7 +3,7 @@ use Rattle.indexmap.specs.IndexMap.{get}
 use Rattle.net_theory.specs.Document.{is_same, Table}
 use Rattle.net_build.specs.Parts.{with_driver}
 use Rattle.net_build.proofs.Drivers.{cut_last, driver_step}
-use Rattle.net_build.proofs.signals.drivers_of.Goals as goal
+use Rattle.net_build.proofs.signals.set_drivers.Goals as goal
 
 pub loop-table-preserved : goal.loop-table-preserved
 loop-table-preserved c = record {

@@ -5,7 +5,7 @@ use Rattle.net_theory.specs.declared.data.Sig.{Sig}
 use Rattle.net_theory.specs.Net.{IsSigBelow, end_of}
 use Rattle.net_theory.specs.Document.{is_same, sink_names}
 use Rattle.net_build.proofs.Growths.{begun_below, signals_below}
-use Rattle.net_build.proofs.building.grow.Goals as goal
+use Rattle.net_build.proofs.building.net_over.Goals as goal
 
 pub with_sinks-requires : goal.with_sinks-requires
 with_sinks-requires c =
