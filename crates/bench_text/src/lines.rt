@@ -1,11 +1,11 @@
 //! Lines, one function for each kind: what a line does to the document so far is the right side of its
 //! definition, and nothing is listed by a line that is refused.
 
-ghost use Rattle.std.specs.Prelude.{◌≡◌, ℕ, ◌<◌, ◌≤◌, List, length};
+ghost use Rattle.std.specs.Prelude.{◌≡◌, ℕ, ◌<◌, ◌≤◌, List, [], ◌∷◌, ◌++◌, length, OnOk};
 ghost use Rattle.blif_text.specs.Reading.{Gives};
 ghost use Rattle.bench_text.specs.Items.{items_of};
 ghost use Rattle.bench_text.specs.Statements.{is_counted as is_counted_of, table_of as table_of_names, latch_of as latch_of_names};
-ghost use Rattle.bench_text.specs.Statements.{ported, driven, driven_by, keyword_of as keyword_of_word, stated, step};
+ghost use Rattle.bench_text.specs.Statements.{ported, driven, driven_by, keyword_of as keyword_of_word, stated, step, with_table, with_latch};
 ghost use Rattle.bench_text.specs.declared.keywords.Keyword.TheVariants.{Input, Output, Gate, Dff};
 
 use crate::items::{has_long, is_item, is_mark_item, next_item};
@@ -14,7 +14,7 @@ use crate::operands::{alone, names_of, port_of};
 use net_core::Whole;
 use net_document::{Body, Latch, LatchLine, Listed, Name, NetError, Table, add_copies};
 use net_text::{content_of, is_long_line, is_name};
-use std::alloc::Global;
+use std::alloc::{AllocError, Global};
 
 /// `INPUT(a)`
 #[tactic(auto, unfolding(crate::specs::Statements::ported))]
@@ -90,6 +90,25 @@ fn table_of(
     })
 }
 
+/// Adds the names that a table drives and uses to those that are driven and used.
+fn add_names(driven: &mut Vec<Name>, used: &mut Vec<Name>, table: &Table) -> Result<(), AllocError>
+    ensures driven { OnOk result (driven.new.items ≡ driven.old.items ++ table.now.output ∷ []) }
+    ensures used { OnOk result (used.new.items ≡ used.old.items ++ table.now.inputs) }
+{
+    driven.push(table.output.copied()?)?;
+    add_copies(used, &table.inputs)?;
+    Ok(())
+}
+
+/// Lists a table.
+fn list_table(listed: &mut Listed, table: Table) -> Result<(), AllocError>
+    ensures { OnOk result (listed.new ≡ with_table listed.old table) }
+{
+    add_names(&mut listed.driven, &mut listed.used, &table)?;
+    listed.document.tables.push(table)?;
+    Ok(())
+}
+
 /// A gate.
 #[tactic(auto, unfolding(crate::specs::Statements::driven))]
 fn take_gate(
@@ -104,9 +123,7 @@ fn take_gate(
 {
     let inputs = names_of(alloc, line, text)?;
     let table = table_of(alloc, line, key, output, inputs)?;
-    listed.driven.push(table.output.copied()?)?;
-    add_copies(&mut listed.used, &table.inputs)?;
-    listed.document.tables.push(table)?;
+    list_table(listed, table)?;
     Ok(())
 }
 
@@ -134,6 +151,29 @@ fn latch_of(
     })
 }
 
+/// Adds the names that a latch drives and uses to those that are driven and used.
+fn add_ends(
+    driven: &mut Vec<Name>,
+    used: &mut Vec<Name>,
+    latch: &LatchLine,
+) -> Result<(), AllocError>
+    ensures driven { OnOk result (driven.new.items ≡ driven.old.items ++ latch.now.latch.output ∷ []) }
+    ensures used { OnOk result (used.new.items ≡ used.old.items ++ latch.now.input ∷ []) }
+{
+    driven.push(latch.latch.output.copied()?)?;
+    used.push(latch.input.copied()?)?;
+    Ok(())
+}
+
+/// Lists a latch.
+fn list_latch(listed: &mut Listed, latch: LatchLine) -> Result<(), AllocError>
+    ensures { OnOk result (listed.new ≡ with_latch listed.old latch) }
+{
+    add_ends(&mut listed.driven, &mut listed.used, &latch)?;
+    listed.document.latches.push(latch)?;
+    Ok(())
+}
+
 /// `q = DFF(d)`
 #[tactic(auto, unfolding(crate::specs::Statements::driven))]
 fn take_latch(
@@ -146,10 +186,8 @@ fn take_latch(
     ensures { (word : List ℕ) → Gives (λ _. listed.new) result (driven line listed.old output.now word (items_of text.now) Dff) }
 {
     let inputs = names_of(alloc, line, text)?;
-    let LatchLine { input, latch } = latch_of(alloc, line, output, inputs)?;
-    listed.driven.push(latch.output.copied()?)?;
-    listed.used.push(input.copied()?)?;
-    listed.document.latches.push(LatchLine { input, latch })?;
+    let latch = latch_of(alloc, line, output, inputs)?;
+    list_latch(listed, latch)?;
     Ok(())
 }
 

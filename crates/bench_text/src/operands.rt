@@ -1,6 +1,6 @@
 //! Operands in brackets.
 
-ghost use Rattle.std.specs.Prelude.{◌≡◌, ◌<◌, ◌≤◌, [], length, IfOk, IfSome};
+ghost use Rattle.std.specs.Prelude.{◌≡◌, ◌<◌, ◌≤◌, true, Some, None, [], length, if◌then◌else◌, IfOk, IfSome};
 ghost use Rattle.std.specs.List.{list_all};
 ghost use Rattle.net_theory.specs.Document.{is_name as is_name_of};
 ghost use Rattle.blif_text.specs.Reading.{Gives};
@@ -13,35 +13,48 @@ use net_document::{Name, NetError};
 use net_text::is_name;
 use std::alloc::{AllocError, Global};
 
-/// The words up to the closing bracket, which ends the text; None where they aren't parted by commas.
+/// Adds the words up to the closing bracket to others, and says whether they are parted by commas and the bracket ends
+/// the text.
 #[tactic(auto, unfolding(crate::specs::Statements::operands_from))]
-fn closed_operands(alloc: Global, text: &[u8]) -> Result<Option<Vec<Name>>, AllocError>
-    ensures operands { IfOk result (λ found. option_map (λ names. names.items) found ≡ operands_from [] (items_of text.now)) }
-    ensures some { IfOk result (λ found. IfSome found (λ names. 0 < length names.items)) }
+fn add_operands(alloc: Global, names: &mut Vec<Name>, text: &[u8]) -> Result<bool, AllocError>
+    ensures operands { IfOk result (λ closed. (if closed then Some names.new.items else None) ≡ operands_from names.old.items (items_of text.now)) }
+    ensures some { IfOk result (λ closed. closed ≡ true → 0 < length names.new.items) }
 {
-    let mut names = Vec::new(alloc);
     let mut left = text;
     while let Some((word, rest)) = next_item(left) {
         let Some((mark, rest)) = next_item(rest) else {
-            return Ok(None);
+            return Ok(false);
         };
         if is_mark_item(word) {
-            return Ok(None);
+            return Ok(false);
         }
         names.push(Name::of(alloc, word)?)?;
         if is_item(mark, b')') {
             if next_item(rest).is_some() {
-                return Ok(None);
+                return Ok(false);
             }
-            return Ok(Some(names));
+            return Ok(true);
         }
         if is_item(mark, b',') {
             left = rest;
             continue;
         }
-        return Ok(None);
+        return Ok(false);
     }
-    Ok(None)
+    Ok(false)
+}
+
+/// The words up to the closing bracket, which ends the text; None where they aren't parted by commas.
+fn closed_operands(alloc: Global, text: &[u8]) -> Result<Option<Vec<Name>>, AllocError>
+    ensures operands { IfOk result (λ found. option_map (λ names. names.items) found ≡ operands_from [] (items_of text.now)) }
+    ensures some { IfOk result (λ found. IfSome found (λ names. 0 < length names.items)) }
+{
+    let mut names = Vec::new(alloc);
+    if add_operands(alloc, &mut names, text)? {
+        Ok(Some(names))
+    } else {
+        Ok(None)
+    }
 }
 
 /// The words in brackets.

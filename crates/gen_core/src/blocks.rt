@@ -1,6 +1,6 @@
 //! Blocks: the names and the tables of one.
 
-ghost use Rattle.std.specs.Prelude.{◌≡◌, ◌<◌, ◌^◌, ◌∷◌, ◌++◌, IfOk, OnOk, length, option_to_list};
+ghost use Rattle.std.specs.Prelude.{◌≡◌, ◌<◌, ◌^◌, [], ◌∷◌, ◌++◌, IfOk, OnOk, length, option_to_list};
 ghost use Rattle.std.specs.Option.{option_copied};
 ghost use Rattle.gen_core.specs.Generated.{name_of as name_of_letter, names_of as names_of_letters, table_of as table_of_letters, exclusive, conjunction, choice, block_inputs, block_tables};
 
@@ -77,47 +77,64 @@ fn table_of(
     })
 }
 
+/// Adds a table by its letters.
+fn add_table(
+    block: u32,
+    tables: &mut Vec<Table>,
+    inputs: &[u8],
+    output: u8,
+    first: &[u8],
+    second: Option<&[u8]>,
+) -> Result<(), AllocError>
+    requires { length inputs.now < 2 ^ 32 }
+    ensures { OnOk result (tables.new.items ≡ tables.old.items ++ table_of_letters block inputs.now output first.now (option_copied second.entry) ∷ []) }
+{
+    let table = table_of(*tables.allocator(), block, inputs, output, first, second)?;
+    tables.push(table)?;
+    Ok(())
+}
+
 /// Adds the tables of XOR.
-fn push_exclusive(alloc: Global, block: u32, tables: &mut Vec<Table>) -> Result<(), AllocError>
+fn push_exclusive(block: u32, tables: &mut Vec<Table>) -> Result<(), AllocError>
     ensures { OnOk result (tables.new.items ≡ tables.old.items ++ exclusive block) }
 {
-    tables.push(table_of(alloc, block, b"ab", b'p', b"10", None)?)?;
-    tables.push(table_of(alloc, block, b"ab", b'q', b"01", None)?)?;
-    tables.push(table_of(alloc, block, b"pq", b'y', b"1-", Some(b"-1"))?)?;
+    add_table(block, tables, b"ab", b'p', b"10", None)?;
+    add_table(block, tables, b"ab", b'q', b"01", None)?;
+    add_table(block, tables, b"pq", b'y', b"1-", Some(b"-1"))?;
     Ok(())
 }
 
 /// Adds the tables of AND.
-fn push_conjunction(alloc: Global, block: u32, tables: &mut Vec<Table>) -> Result<(), AllocError>
+fn push_conjunction(block: u32, tables: &mut Vec<Table>) -> Result<(), AllocError>
     ensures { OnOk result (tables.new.items ≡ tables.old.items ++ conjunction block) }
 {
-    tables.push(table_of(alloc, block, b"ab", b'p', b"11", None)?)?;
-    tables.push(table_of(alloc, block, b"ac", b'q', b"11", None)?)?;
-    tables.push(table_of(alloc, block, b"pq", b'y', b"11", None)?)?;
+    add_table(block, tables, b"ab", b'p', b"11", None)?;
+    add_table(block, tables, b"ac", b'q', b"11", None)?;
+    add_table(block, tables, b"pq", b'y', b"11", None)?;
     Ok(())
 }
 
 /// Adds the tables of the choice by a.
-fn push_choice(alloc: Global, block: u32, tables: &mut Vec<Table>) -> Result<(), AllocError>
+fn push_choice(block: u32, tables: &mut Vec<Table>) -> Result<(), AllocError>
     ensures { OnOk result (tables.new.items ≡ tables.old.items ++ choice block) }
 {
-    tables.push(table_of(alloc, block, b"a", b'p', b"0", None)?)?;
-    tables.push(table_of(alloc, block, b"ab", b'q', b"11", None)?)?;
-    tables.push(table_of(alloc, block, b"pc", b'r', b"11", None)?)?;
-    tables.push(table_of(alloc, block, b"qr", b'y', b"1-", Some(b"-1"))?)?;
+    add_table(block, tables, b"a", b'p', b"0", None)?;
+    add_table(block, tables, b"ab", b'q', b"11", None)?;
+    add_table(block, tables, b"pc", b'r', b"11", None)?;
+    add_table(block, tables, b"qr", b'y', b"1-", Some(b"-1"))?;
     Ok(())
 }
 
 /// Adds the tables of a block.
-pub fn push_tables(alloc: Global, block: u32, tables: &mut Vec<Table>) -> Result<(), AllocError>
+pub fn push_tables(block: u32, tables: &mut Vec<Table>) -> Result<(), AllocError>
     ensures { OnOk result (tables.new.items ≡ tables.old.items ++ block_tables block) }
 {
     if block % 3 == 0 {
-        push_exclusive(alloc, block, tables)
+        push_exclusive(block, tables)
     } else if block % 3 == 1 {
-        push_conjunction(alloc, block, tables)
+        push_conjunction(block, tables)
     } else {
-        push_choice(alloc, block, tables)
+        push_choice(block, tables)
     }
 }
 

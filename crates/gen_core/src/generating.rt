@@ -39,7 +39,7 @@ fn tables(alloc: Global, blocks: u32) -> Result<Vec<Table>, AllocError>
 {
     let mut tables = Vec::new(alloc);
     for block in 0..blocks {
-        push_tables(alloc, block, &mut tables)?;
+        push_tables(block, &mut tables)?;
     }
     Ok(tables)
 }
@@ -66,9 +66,6 @@ pub fn generate(blocks: u32, out: &mut Vec<u8>) -> Result<(), AllocError>
     ensures ok { OnOk result (out.new.items ≡ out.old.items ++ generated_text blocks) }
     ensures err { OnErr result (out.new.items ≡ out.old.items) }
 {
-    let alloc = *out.allocator();
-    let netlist = document(alloc, blocks)?;
-    let mut text = Vec::new(alloc);
-    write_document(&mut text, &netlist)?;
-    out.extend_from_slice(&text)
+    let netlist = document(*out.allocator(), blocks)?;
+    write_document(out, &netlist)
 }

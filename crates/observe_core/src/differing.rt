@@ -57,6 +57,23 @@ fn add_watchers(
     }
 }
 
+/// The words of the cone of a tail with bits in the place of the outputs.
+fn put_words(
+    alloc: Global,
+    net: &Net,
+    outputs: &[u32],
+    bits: u32,
+    surround: &Cone,
+    tail: &[u32],
+) -> Result<Words, AllocError>
+    requires few { length outputs.now ≤ 8 }
+    requires above { IsAbove net.now outputs.now surround.now tail.now }
+    ensures { IfOk result (λ words. ArePutWords net.now outputs.now bits surround.now tail.now words) }
+{
+    let cone = put_cone(alloc, net, outputs, bits, surround, tail)?;
+    cone_words(alloc, &cone)
+}
+
 /// Adds the assignments under which it is told that bits were put in place of 0.
 fn add_bits(
     alloc: Global,
@@ -79,8 +96,7 @@ fn add_bits(
     ensures size { length differ.new ≡ length differ.old }
 {
     let _sources = net.sources(); // says that the net is one
-    let cone = put_cone(alloc, net, outputs, bits, surround, tail)?;
-    let words = cone_words(alloc, &cone)?;
+    let words = put_words(alloc, net, outputs, bits, surround, tail)?;
     let start = surround.leaves().len() + surround.gates().len();
     add_watchers(
         differ,
@@ -138,8 +154,7 @@ pub(crate) fn telling(
     ensures telling { IfOk result (λ differ. AreTelling net.now surround.now.leaves outputs.now watchers.now differ.items) }
 {
     let _sources = net.sources(); // says that the net is one
-    let cone = put_cone(alloc, net, outputs, 0, surround, tail)?;
-    let zero = cone_words(alloc, &cone)?;
+    let zero = put_words(alloc, net, outputs, 0, surround, tail)?;
     let rows = 1usize << surround.leaves().len();
     let mut differ = vec![in alloc; 0u64; (rows + 63) / 64]?;
     add_all_bits(

@@ -4,8 +4,9 @@ ghost use Rattle.std.specs.Prelude.{◌≡◌, map, bit_and, IfOk};
 ghost use Rattle.tt_core.specs.Words.{specification};
 ghost use Rattle.window_theory.specs.Window.{Belongs};
 ghost use Rattle.window_core.specs.Readers.{AreReaders};
+ghost use Rattle.observe_theory.specs.Tail.{Tail, IsTail};
 ghost use Rattle.observe_theory.specs.Observed.{IsObservedOf};
-ghost use Rattle.observe_core.specs.Observing.{IsMasked};
+ghost use Rattle.observe_core.specs.Observing.{IsMasked, IsSeenMask};
 
 use crate::observing::seen_rows;
 use crate::trailing::tail_by;
@@ -30,6 +31,16 @@ fn narrowed(alloc: Global, spec: &Spec, mask: u64) -> Result<Spec, AllocError>
     Ok(Spec::new(inputs, on, care))
 }
 
+/// The rows on which somebody sees a window, by the index of the net.
+fn seen_by(alloc: Global, net: &Net, readers: &Readers, window: &Window) -> Result<u64, AllocError>
+    requires index { AreReaders net.now readers.now }
+    requires belongs { Belongs net.now window.now }
+    ensures { IfOk result (λ seen. (tail : Tail) × IsTail net.now window.now tail × IsSeenMask net.now window.now tail seen) }
+{
+    let tail = tail_by(alloc, net, readers, window)?;
+    seen_rows(alloc, net, window, &tail)
+}
+
 /// The observed specification of a window, by the index of the net.
 pub fn observed_spec_by(
     alloc: Global,
@@ -42,11 +53,9 @@ pub fn observed_spec_by(
     ensures { IfOk result (λ s. IsObservedOf net.now window.now (specification s)) }
 {
     let whole = spec_of(alloc, net, window)?;
-    let tail = tail_by(alloc, net, readers, window)?;
-    let seen = seen_rows(alloc, net, window, &tail)?;
-    let spec = narrowed(alloc, &whole, seen)?;
+    let seen = seen_by(alloc, net, readers, window)?;
     let _outputs = whole.outputs(); // says that the tables are a specification
-    Ok(spec)
+    narrowed(alloc, &whole, seen)
 }
 
 /// The same without an index: it is made for this window alone.

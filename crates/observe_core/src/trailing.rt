@@ -1,10 +1,10 @@
 //! The tail of a window, its side inputs, its watchers, and whether the window is seen past it.
 
-ghost use Rattle.std.specs.Prelude.{◌≡◌, ℕ, true, false, [], ◌⊎◌, IfOk, OnOk};
+ghost use Rattle.std.specs.Prelude.{◌≡◌, ℕ, true, false, List, [], ◌⊎◌, IfOk, OnOk};
 ghost use Rattle.net_theory.specs.Reach.{is_place};
 ghost use Rattle.window_theory.specs.Places.{among, IsRising, AreJust};
 ghost use Rattle.window_theory.specs.Paths.{IsGate};
-ghost use Rattle.window_theory.specs.Window.{IsReadBy, Belongs};
+ghost use Rattle.window_theory.specs.Window.{IsReadBy, IsInput, Belongs};
 ghost use Rattle.window_core.specs.Readers.{AreReaders};
 ghost use Rattle.observe_theory.specs.Tail.{IsTail};
 ghost use Rattle.observe_core.specs.Following.{HasTail};
@@ -134,6 +134,43 @@ fn has_some(gates: &[u32], places: &[u32]) -> bool
     false
 }
 
+/// Those of the places that all gates read from outside that the tail's gates read.
+fn sides_of(alloc: Global, net: &Net, all: &[u32], gates: &[u32]) -> Result<Vec<u32>, AllocError>
+    requires all { (p : ℕ) → among all.now p ≡ true → IsGate net.now p }
+    requires gates { (p : ℕ) → among gates.now p ≡ true → IsGate net.now p }
+    ensures { IfOk result (λ sides. (inputs : List ℕ) × AreJust (IsInput net.now all.now) inputs × AreJust (IsBoth (IsReadBy net.now gates.now) inputs) sides.items) }
+{
+    let inputs = all_inputs(alloc, net, all)?;
+    places_read(alloc, net, &inputs, gates)
+}
+
+/// The tail of a window by its gates, where all gates are these and the window's.
+fn tail_of(
+    alloc: Global,
+    net: &Net,
+    readers: &Readers,
+    window: &Window,
+    all: &[u32],
+    gates: Vec<u32>,
+) -> Result<Tail, AllocError>
+    requires index { AreReaders net.now readers.now }
+    requires belongs { Belongs net.now window.now }
+    requires tail { HasTail net.now window.now.gates all.now gates.items }
+    ensures { IfOk result (λ tail. IsTail net.now window.now tail) }
+{
+    let own = window.gates();
+    let sides = sides_of(alloc, net, all, &gates)?;
+    let outputs = all_outputs(alloc, net, readers, all)?;
+    let watchers = places_outside(alloc, &outputs, own)?;
+    let bare = has_some(own, &outputs);
+    Ok(Tail {
+        gates,
+        sides,
+        watchers,
+        bare,
+    })
+}
+
 /// The tail of a window, by the index of the net.
 pub fn tail_by(
     alloc: Global,
@@ -150,17 +187,7 @@ pub fn tail_by(
     all.extend_from_slice(window.gates())?;
     let mut gates = Vec::with_capacity(alloc, 16)?;
     take_tail(net, readers, &mut all, &mut gates)?;
-    let inputs = all_inputs(alloc, net, &all)?;
-    let sides = places_read(alloc, net, &inputs, &gates)?;
-    let outputs = all_outputs(alloc, net, readers, &all)?;
-    let watchers = places_outside(alloc, &outputs, window.gates())?;
-    let bare = has_some(window.gates(), &outputs);
-    Ok(Tail {
-        gates,
-        sides,
-        watchers,
-        bare,
-    })
+    tail_of(alloc, net, readers, window, &all, gates)
 }
 
 /// The same without an index: it is made for this window alone.

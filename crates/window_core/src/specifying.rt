@@ -1,12 +1,13 @@
 //! The specification of a window. Its care rows are the patterns that its inputs show in their surround, and its values
 //! come from its gates by themselves, on all rows of its inputs at once.
 
-ghost use Rattle.std.specs.Prelude.{◌≡◌, ℕ, ◌+◌, ◌≤◌, ◌<◌, ◌^◌, true, [], length, map, slice_get, Some, IfOk};
+ghost use Rattle.std.specs.Prelude.{◌≡◌, ℕ, ◌+◌, ◌≤◌, ◌<◌, ◌^◌, true, [], length, map, slice_get, Some, All, IfOk};
 ghost use Rattle.chain_theory.specs.Operator.{digit};
 ghost use Rattle.net_theory.specs.declared.data.Sig.TheVariants as sigs;
 ghost use Rattle.net_theory.specs.Net.{end_of};
 ghost use Rattle.tt_core.specs.Words.{specification};
-ghost use Rattle.lane_sim.specs.Words.{AreWords};
+ghost use Rattle.lane_sim.specs.Cone.{IsSigAmong, places as places_in};
+ghost use Rattle.lane_sim.specs.Words.{AreWords, ArePatterns};
 ghost use Rattle.window_theory.specs.Places.{among, IsRising};
 ghost use Rattle.window_theory.specs.Paths.{IsGate};
 ghost use Rattle.window_theory.specs.Window.{Belongs};
@@ -29,6 +30,17 @@ pub fn signals_of(alloc: Global, places: &[u32]) -> Result<Vec<Sig>, AllocError>
     places.iter().map(|place| Sig::Place(*place)).collect(alloc)
 }
 
+/// The patterns that some places show in a cone, as the digits of a mask.
+fn shown_by(alloc: Global, cone: &Cone, places: &[u32]) -> Result<u64, AllocError>
+    requires few { length places.now ≤ 6 }
+    requires known { All (IsSigAmong (places_in cone.now)) (map sigs.Place places.now) }
+    ensures { IfOk result (λ mask. ArePatterns cone.now (map sigs.Place places.now) mask) }
+{
+    let words = cone_words(alloc, cone)?;
+    let signals = signals_of(alloc, places)?;
+    Ok(patterns(&words, cone, &signals))
+}
+
 /// The care rows of some places, as the digits of a mask.
 fn care_rows(alloc: Global, net: &Net, places: &[u32]) -> Result<u64, AllocError>
     requires rising { IsRising places.now }
@@ -38,10 +50,7 @@ fn care_rows(alloc: Global, net: &Net, places: &[u32]) -> Result<u64, AllocError
 {
     let _sources = net.sources(); // says that the net is one
     let cone = surround(alloc, net, places)?;
-    let words = cone_words(alloc, &cone)?;
-    let signals = signals_of(alloc, places)?;
-    let _leaves = cone.leaves(); // says that the cone is one
-    Ok(patterns(&words, &cone, &signals))
+    shown_by(alloc, &cone, places)
 }
 
 /// The gates at some places, with their places.
@@ -118,8 +127,7 @@ fn masked_spec(
     requires gates { gate_places cone.now.gates ≡ window.now.gates }
     requires outputs { (p : ℕ) → among window.now.outputs p ≡ true → among window.now.gates p ≡ true }
     requires low { (t : ℕ) → digit mask t ≡ true → t < 2 ^ length window.now.inputs }
-    ensures n { IfOk result (λ s. s.n ≡ length window.now.inputs) }
-    ensures masked { IfOk result (λ s. AreMasked cone.now mask window.now.outputs [] s.on s.care) }
+    ensures { IfOk result (λ s. (s.n ≡ length window.now.inputs) × AreMasked cone.now mask window.now.outputs [] s.on s.care) }
 {
     let mut on = Vec::with_capacity(alloc, 8)?;
     let mut cares = Vec::with_capacity(alloc, 8)?;
@@ -133,6 +141,18 @@ fn masked_spec(
     Ok(Spec::new(inputs as u32, on, cares))
 }
 
+/// The specification by a mask of care rows and a cone that has all gates.
+fn spec_by(alloc: Global, window: &Window, cone: &Cone, mask: u64) -> Result<Spec, AllocError>
+    requires leaves { cone.now.leaves ≡ window.now.inputs }
+    requires gates { gate_places cone.now.gates ≡ window.now.gates }
+    requires outputs { (p : ℕ) → among window.now.outputs p ≡ true → among window.now.gates p ≡ true }
+    requires low { (t : ℕ) → digit mask t ≡ true → t < 2 ^ length window.now.inputs }
+    ensures { IfOk result (λ s. (s.n ≡ length window.now.inputs) × AreMasked cone.now mask window.now.outputs [] s.on s.care) }
+{
+    let words = cone_words(alloc, cone)?;
+    masked_spec(alloc, window, cone, &words, mask)
+}
+
 /// The specification of a window: on a care row of its inputs, in rising place, the cells are the values of its
 /// outputs, in rising place, and all other cells are free.
 pub fn spec_of(alloc: Global, net: &Net, window: &Window) -> Result<Spec, AllocError>
@@ -142,7 +162,5 @@ pub fn spec_of(alloc: Global, net: &Net, window: &Window) -> Result<Spec, AllocE
     let _sources = net.sources(); // says that the net is one
     let mask = care_rows(alloc, net, window.inputs())?;
     let cone = inner_cone(alloc, net, window)?;
-    let words = cone_words(alloc, &cone)?;
-    let spec = masked_spec(alloc, window, &cone, &words, mask)?;
-    Ok(spec)
+    spec_by(alloc, window, &cone, mask)
 }

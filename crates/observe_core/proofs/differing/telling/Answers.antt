@@ -6,7 +6,7 @@ use Rattle.observe_core.proofs.differing.telling.Goals as goal
 pub add_all_bits-requires-clause-told : goal.add_all_bits-requires-clause-told
 add_all_bits-requires-clause-told c =
     told_start c.args.net.now c.args.outputs.now c.args.surround.now c.args.tail.now c.args.watchers.now c.in_ok-zero.zero c.deref_mut.result.now c.sources-sources.ensures.net c.requires.above
-    (record { cone = c.in_ok-cone.cone; is = c.in_ok-cone.ensures; are = c.in_ok-zero.ensures }) c.requires.watchers
+    c.in_ok-zero.ensures c.requires.watchers
     (all_zero c.deref_mut.result.now _ (c.deref_mut.ensures.value ∙ c.in_ok-differ.ensures.items_if_clones_equal (λ y e. e)))
 
 pub returns-clause-telling : goal.returns-clause-telling

@@ -2,7 +2,7 @@ use Rattle.std.proofs.Common.{◌++◌, [], ◌∷◌, ap, sym, ◌∙◌}
 use Rattle.net_theory.specs.Document.{Name}
 use Rattle.bench_text.specs.Items.{items_of}
 use Rattle.bench_text.proofs.Closing.{going_on}
-use Rattle.bench_text.proofs.operands.closed_operands.Goals as goal
+use Rattle.bench_text.proofs.operands.add_operands.Goals as goal
 
 pub loop-word-preserved : goal.loop-word-preserved
 loop-word-preserved c =
