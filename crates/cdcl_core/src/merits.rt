@@ -44,7 +44,8 @@ const LONGER_WAIT: usize = 75;
 /// So many clauses before the one that was learnt last are looked at whether they contain it.
 const LAST_ONES: usize = 20;
 
-/// The shapes of so many last clauses are known, the last one and those that are looked at among them.
+/// The shapes of so many last clauses are known: more than `LAST_ONES`, since the last clause is one of them besides
+/// those that are looked at.
 const RING: usize = 32;
 
 /// What is known of a learnt clause.

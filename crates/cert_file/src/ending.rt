@@ -346,7 +346,7 @@ pub(crate) fn at_end(told: Told, line: &TextLine) -> Result<Stage, BundleError>
     ensures tells { (ls all : List Line) → heading_in all ≡ Some told.heading → HasEnded told.heading told.chain told.verdict 1 line.now.number all → IfOk result (λ s. Tells s (line.now.number + 1) ls all) }
 {
     if !is_line(b"end", line) {
-        // by the type's own drop, which an exit would write out
+        // dropped here at once: left to the exit, each of its fields would be
         drop(told);
         return Err(BundleError::Syntax(line.number));
     }

@@ -69,7 +69,7 @@ pub(crate) fn take(alloc: Global, stage: Stage, line: &TextLine) -> Result<Stage
         } => at_found(heading, low, chain, line),
         Stage::End { told } => at_end(told, line),
         Stage::Done { told } => {
-            // by the type's own drop, which an exit would write out
+            // dropped here at once: left to the exit, each of its fields would be
             drop(told);
             Err(BundleError::Syntax(line.number))
         }

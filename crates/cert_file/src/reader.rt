@@ -123,7 +123,7 @@ impl BundleReader {
         } = self;
         let mut unfinished = unfinished;
         if unfinished.extend_from_slice(text).is_err() {
-            // by the type's own drop, which an exit would write out
+            // dropped here at once: left to the exit, each of its fields would be
             drop(stage);
             return Err(BundleError::Memory);
         }
@@ -162,7 +162,7 @@ impl BundleReader {
         }
         let mut line = unfinished;
         if line.extend_from_slice(text).is_err() {
-            // by the type's own drop, which an exit would write out
+            // dropped here at once: left to the exit, each of its fields would be
             drop(stage);
             return Err(BundleError::Memory);
         }
@@ -207,7 +207,7 @@ impl BundleReader {
     {
         let told = self.tell()?;
         let verdict = told.verdict;
-        // by the type's own drop, which an exit would write out
+        // dropped here at once: left to the exit, each of its fields would be
         drop(told);
         Ok(verdict)
     }

@@ -1,10 +1,10 @@
 //! Lists of literals in one row, one behind another. Before the literals of each list stand its id, which is one more
 //! than its index, and its length, both as literals whose variable is one more than the number. So a list is read by
 //! the place where it begins, with no look into a table, and so is its id. That the ranges lie in the row and behind
-//! each other, with two places between, and that the ids are right, is the invariant. So a change of places in one list
-//! leaves the ids, the lengths and all other lists as they were. More places may lie between: a list that becomes empty
-//! leaves the places of its literals to none, until `pack` moves the lists behind it down. That goes one list at a
-//! time, and the invariant holds after each.
+//! each other, with two places between at least, and that the ids are right, is the invariant. So a change of places in
+//! one list leaves the ids, the lengths and all other lists as they were. A list that becomes empty leaves the places of
+//! its literals to none, until `pack` moves the lists behind it down. That goes one list at a time, and the invariant
+//! holds after each.
 ghost use Rattle.std.specs.Prelude.{◌≡◌, [], ◌∷◌, ◌++◌, ◌<◌, ◌+◌, ◌-◌, ◌^◌, length, take, slice_index_or, slice_set, OnOk, OnErr};
 ghost use Rattle.std.specs.List.{swap};
 ghost use Rattle.sat_theory.specs.Formula.{variable as variable_of};

@@ -1,7 +1,8 @@
 //! The literals of clauses as they were added, in one row, and a window for each id that was ever given. An id is the
-//! number of windows when it was given, so that none is given again, whatever becomes of its clause. The windows lie one
-//! behind the other in the row, so the literals of live clauses can be moved down over those of clauses that went: each
-//! move changes only places below the end of its own window, and none below where the last move ended (`packed_more`).
+//! number of windows when it was given, so that none is given again, whatever becomes of its clause. The windows lie
+//! one behind the other in the row, so the literals of live clauses can be moved down over those of clauses that went:
+//! each move changes only places below the end of its own window, and none below where the last move ended
+//! (`packed_more`).
 ghost use Rattle.std.specs.Prelude.{◌≡◌, ◌+◌, ◌<◌, ◌≤◌, ◌↔◌, ◌∷◌, [], ◌++◌, length, take, drop, slice_set, ◌-◌, Some, None, true, IsTrue, IsSome, IfOk, OnOk, OnErr};
 ghost use Rattle.sat_theory.specs.Formula.{IsClause, IsWithin};
 ghost use Rattle.clause_db.specs.Stored.{live_at};
@@ -62,7 +63,7 @@ fn pack(row: &mut [Lit], windows: &mut [Window]) -> u32
     end
 }
 
-/// The window of so many literals behind a row. A row of more than 4,294,967,295 counts as want of memory.
+/// The window of so many literals behind a row. A row of more than 4,294,967,295 literals counts as want of memory.
 fn window_behind(row: usize, count: usize) -> Result<Window, AllocError>
     ensures start { IfOk result (λ w. w.start ≡ row) }
     ensures end { IfOk result (λ w. w.end ≡ row + count) }

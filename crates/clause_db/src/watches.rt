@@ -2,8 +2,8 @@
 //! no pair is kept, and an entry of a list says where they begin, which the invariant ties to the table of starts.
 //! Moving a watch is a push to one list, a change of two places, and a taking out of another list. The push comes
 //! first, since it alone can want memory; the change is made by the start in the entry, before that is taken out.
-//! While the literals of all clauses move, entries have ids in place of starts: the old starts are read for the last time
-//! before, and the new ones after it.
+//! While the literals of all clauses move, entries have ids in place of starts: the old starts are read for the last
+//! time before, and the new ones after it.
 ghost use Rattle.std.specs.Prelude.{◌≡◌, ◌≢◌, ◌⊎◌, ◌↔◌, ℤ, IsTrue, ◌+◌, ◌-◌, ◌*◌, ◌<◌, ◌≤◌, [], length, take, map, All, Contains, pos, slice_index_or, slice_set, replicate, IfOk, OnOk, OnErr};
 ghost use Rattle.std.specs.List.{swap_remove};
 ghost use Rattle.cdcl_theory.specs.Codes.{code_of};

@@ -126,7 +126,7 @@ impl DepthReader {
         } = self;
         let mut unfinished = unfinished;
         if unfinished.extend_from_slice(text).is_err() {
-            // by the type's own drop, which an exit would write out
+            // dropped here at once: left to the exit, each of its fields would be
             drop(stage);
             return Err(DepthError::Memory);
         }
@@ -165,7 +165,7 @@ impl DepthReader {
         }
         let mut line = unfinished;
         if line.extend_from_slice(text).is_err() {
-            // by the type's own drop, which an exit would write out
+            // dropped here at once: left to the exit, each of its fields would be
             drop(stage);
             return Err(DepthError::Memory);
         }

@@ -60,8 +60,7 @@ fn push_head(heads: &mut Vec<Head>, packed: Result<Head, AllocError>) -> Result<
     Ok(())
 }
 
-/// Puts the head of a line that was packed behind the others. Where memory was wanting, the row is cut back to where the
-/// line began.
+/// As `push_head`, but where memory was wanting, the row of bytes is cut back to where the line began.
 fn push_or_cut(
     heads: &mut Vec<Head>,
     bytes: &mut Vec<u8>,

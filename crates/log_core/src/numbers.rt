@@ -1,5 +1,5 @@
-//! Numbers as bytes, in as many as they have digits to the base 128: put behind a row, and read from the front of one. A
-//! row to which memory was wanting begins as it was, so that it can be cut back.
+//! Numbers as bytes, in as many as they have digits to the base 128: put behind a row, and read from the front of one.
+//! A row to which memory was wanting begins as it was, so that it can be cut back.
 ghost use Rattle.std.specs.Prelude.{◌≡◌, [], ◌∷◌, ◌++◌, ◌<◌, ◌≤◌, length, OnOk, IfSome, IfNone};
 ghost use Rattle.log_core.specs.Numbers as spec;
 ghost use Rattle.log_core.specs.Numbers.{leading, far, written, numbers_from};

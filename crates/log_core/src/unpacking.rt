@@ -11,7 +11,7 @@ use cnf_core::Lit;
 use lrat_text::Line;
 use std::alloc::{AllocError, Global};
 
-/// The ids that bytes spell.
+/// The ids that bytes spell, at most one for each byte.
 #[tactic(auto, using(crate::proofs::Taken::taken))]
 fn ids_of(alloc: Global, bytes: &[u8]) -> Result<Vec<u32>, AllocError>
     ensures { IfOk result (λ ids. ids.items ≡ spec.ids_of bytes.now) }
@@ -36,7 +36,7 @@ pub(crate) fn literal_at(number: u64) -> Lit
     Lit::of(variable, number % 2 == 0)
 }
 
-/// The literals that bytes spell.
+/// The literals that bytes spell, at most one for each byte.
 #[tactic(auto, using(crate::proofs::Taken::taken))]
 fn literals_of(alloc: Global, bytes: &[u8]) -> Result<Vec<Lit>, AllocError>
     ensures { IfOk result (λ lits. lits.items ≡ spec.literals_of bytes.now) }

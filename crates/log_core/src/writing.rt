@@ -1,5 +1,5 @@
-//! Logs as texts: their lines one behind another, as the grammar spells them. Each number is spelled as it is read, with
-//! no line made beside. A text to which memory was wanting begins as it was, and is cut back once.
+//! Logs as texts: their lines one behind another, as the grammar spells them. Each number is spelled as it is read,
+//! with no line made beside. A text to which memory was wanting begins as it was, and is cut back once.
 ghost use Rattle.std.specs.Prelude.{◌≡◌, ◌++◌, length, OnOk, OnErr};
 ghost use Rattle.std.specs.List.{flat_map};
 ghost use Rattle.sat_theory.specs.Line as theory;

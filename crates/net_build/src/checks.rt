@@ -74,7 +74,7 @@ fn check_used(driven: &IndexSet<Name>, listed: &Listed) -> Result<(), NetError>
 }
 
 /// Refuses a name that is driven twice, or else one that is used and not driven, where nothing else is at
-/// fault. The set is empty, and holds the names of drivers behind it.
+/// fault. The set is empty at first, and then holds the names of drivers.
 #[tactic(auto, unfolding(net_document::specs::Refusals::fault_of))]
 fn check_names(driven: &mut IndexSet<Name>, listed: &Listed) -> Result<(), NetError>
     requires few { cost listed.now.document ≤ 100000 }

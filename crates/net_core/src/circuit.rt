@@ -68,7 +68,7 @@ impl Circuit {
                 Ok(left)
             }
             Err(error) => {
-                // by the type's own drop, which an exit would write out
+                // dropped here at once: left to the exit, each of its fields would be
                 drop(left);
                 Err(error)
             }
