@@ -4,7 +4,7 @@ ghost use Rattle.cert_theory.specs.Spelling as spelling;
 ghost use Rattle.bundle_text.specs.Texts.{spelled, heading_text};
 
 use crate::tables::{push_numbered, push_tables};
-use enc_theory::Method;
+use settings::Method;
 use op_basis::{Basis, write_basis};
 use settings::method_name;
 use std::alloc::AllocError;

@@ -5,7 +5,7 @@ use Rattle.text_core.specs.Lines.{Line}
 use Rattle.tt_core.specs.Words.{Words}
 use Rattle.tt_core.specs.Tables as tables
 use Rattle.tt_core.specs.declared.error.SpecError.{SpecError}
-use Rattle.enc_theory.specs.declared.data.Method.{Method}
+use Rattle.settings.specs.declared.methods.Method.{Method}
 use Rattle.cert_theory.specs.declared.data.Heading.{Heading}
 use Rattle.cert_theory.specs.Judging.{basis_in, method_in, conflicts_in, max_in}
 

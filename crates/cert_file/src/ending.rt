@@ -23,7 +23,7 @@ use chain_core::{
     Chain, ChainError, Frame, Out, Step, add_step, count_at, first_difference, first_outside,
     out_at, step_at,
 };
-use enc_theory::Method;
+use settings::Method;
 use std::alloc::Global;
 use text_core::{next_item, number_up_to};
 

@@ -8,7 +8,8 @@ use enc_fence::FenceEnc;
 use enc_frame::Encoding;
 use enc_select::Select;
 use enc_ssv::{Plain, Ssv};
-use enc_theory::{Method, Part};
+use enc_theory::Part;
+use settings::Method;
 use std::alloc::{AllocError, Global};
 
 /// The parts of a size, by the heading's method.

@@ -13,7 +13,7 @@ ghost use Rattle.cert_file.specs.Telling.{Tells};
 use crate::lines::{TextLine, is_line, value_of};
 use crate::stage::Stage;
 use cert_theory::{BundleError, Heading};
-use enc_theory::Method;
+use settings::Method;
 use op_basis::{Basis, read_basis, write_basis};
 use settings::{MOST_CONFLICTS, MOST_STEPS, method_named};
 use std::alloc::{AllocError, Global};

@@ -4,7 +4,8 @@ use crate::part::PartReader;
 use crate::told::Told;
 use cert_theory::Heading;
 use chain_core::{Basis, Chain, Frame, Out, Step};
-use enc_theory::{Method, Part};
+use enc_theory::Part;
+use settings::Method;
 use tt_core::Spec;
 
 /// A size whose section is read, and one of its parts.

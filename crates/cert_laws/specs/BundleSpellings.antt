@@ -6,7 +6,7 @@ use Rattle.text_core.specs.Lines.{Line, lines_of}
 use Rattle.text_core.specs.ReadBack.{lines_spell}
 use Rattle.tt_core.specs.Words.{Words, IsSpec}
 use Rattle.tt_core.specs.Tables as tables
-use Rattle.enc_theory.specs.declared.data.Method.{Method}
+use Rattle.settings.specs.declared.methods.Method.{Method}
 use Rattle.chain_core.specs.Spelling.{line}
 use Rattle.cert_theory.specs.declared.data.Heading.{Heading}
 use Rattle.cert_theory.specs.declared.data.Verdict.{Verdict}

@@ -16,7 +16,7 @@ use Rattle.tt_core.specs.Spelling.{character, IsTableLine, SpellsTables}
 use Rattle.tt_core.specs.Tables as tables
 use Rattle.tt_core.specs.ReadBack.{tables_again}
 use Rattle.chain_core.specs.Spelling.{line}
-use Rattle.enc_theory.specs.declared.data.Method.{Method}
+use Rattle.settings.specs.declared.methods.Method.{Method}
 use Rattle.cert_theory.specs.declared.data.Heading.{Heading}
 use Rattle.cert_theory.specs.declared.data.Verdict.{Verdict}
 use Rattle.cert_theory.specs.declared.data.BundleError.TheVariants.{Syntax}

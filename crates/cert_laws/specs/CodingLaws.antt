@@ -6,8 +6,8 @@ use Rattle.sat_theory.specs.Formula.{IsFormula}
 use Rattle.tt_core.specs.Words.{Words, specification}
 use Rattle.op_basis.specs.Basis.{members}
 use Rattle.clause_core.specs.Clauses.{IsSatisfiable}
-use Rattle.enc_theory.specs.declared.data.Method.{Method}
-use Rattle.enc_theory.specs.declared.data.Method.TheVariants.{Plain, Ssv, Select, Fence}
+use Rattle.settings.specs.declared.methods.Method.{Method}
+use Rattle.settings.specs.declared.methods.Method.TheVariants.{Plain, Ssv, Select, Fence}
 use Rattle.enc_laws.specs.Laws.{plain_complete, plain_is_formula}
 use Rattle.enc_laws.specs.Ssv.{ssv_complete, ssv_is_formula}
 use Rattle.enc_laws.specs.Select.{select_complete, select_is_formula}

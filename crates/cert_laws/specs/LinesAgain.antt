@@ -20,8 +20,8 @@ use Rattle.op_basis.specs.declared.error.BasisError.{BasisError}
 use Rattle.op_basis.specs.ReadBack.{basis_back}
 use Rattle.chain_core.specs.Block.{number_in}
 use Rattle.chain_core.specs.Spelling.{line}
-use Rattle.enc_theory.specs.declared.data.Method.{Method}
-use Rattle.enc_theory.specs.declared.data.Method.TheVariants.{Plain, Ssv, Select, Fence}
+use Rattle.settings.specs.declared.methods.Method.{Method}
+use Rattle.settings.specs.declared.methods.Method.TheVariants.{Plain, Ssv, Select, Fence}
 use Rattle.cert_theory.specs.declared.data.Heading.{Heading}
 use Rattle.cert_theory.specs.declared.data.Ended.{Ended}
 use Rattle.cert_theory.specs.declared.data.Ended.TheVariants as ends

@@ -1,6 +1,6 @@
 //! The search for a chain of the fewest steps.
 use bundle_core::{Bundle, Verdict};
-use enc_theory::Method;
+use settings::Method;
 use op_basis::Basis;
 use size_loop::{Advance, Search, search};
 use std::alloc::Global;

@@ -2,7 +2,8 @@
 use bundle_core::{Ended, PartLog, Section, Verdict};
 use bundle_text::{write_ending, write_heading, write_section};
 use cnf_core::Lit;
-use enc_theory::{Method, Part};
+use enc_theory::Part;
+use settings::Method;
 use fence_core::Fence;
 use log_core::Log;
 use op_basis::Basis;

@@ -9,8 +9,8 @@ use Rattle.enc_theory.specs.Fence.{fence_formula}
 use Rattle.enc_theory.specs.Parts.{parts_for, fence_in}
 use Rattle.enc_theory.specs.declared.part.Part.{Part}
 use Rattle.enc_theory.specs.declared.part.Part.TheVariants.{Whole}
-use Rattle.enc_theory.specs.declared.data.Method.{Method}
-use Rattle.enc_theory.specs.declared.data.Method.TheVariants.{Plain, Ssv, Select, Fence}
+use Rattle.settings.specs.declared.methods.Method.{Method}
+use Rattle.settings.specs.declared.methods.Method.TheVariants.{Plain, Ssv, Select, Fence}
 
 -- The parts in which a size is searched, in their order, and the formula of a part: of tables, over
 -- the set of operators that a number is, of so many steps.

@@ -1,6 +1,6 @@
 //! What certificates hold beside chains and logs, and what may be wrong with them: the data that the
 //! definitions of this crate speak of.
-use enc_theory::Method;
+use settings::Method;
 use lrat_check::CheckError;
 use op_basis::Basis;
 use std::alloc::{AllocError, AllocFailed};

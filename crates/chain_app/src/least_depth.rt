@@ -1,6 +1,6 @@
 //! The command `synth --least-depth yes`: what it tells of bytes.
 ghost use Rattle.std.specs.Prelude.{◌≡◌, ◌≤◌, length};
-ghost use Rattle.enc_theory.specs.declared.data.Method.TheVariants.{Fence};
+ghost use Rattle.settings.specs.declared.methods.Method.TheVariants.{Fence};
 ghost use Rattle.settings.specs.Synth.{IsInRange};
 ghost use Rattle.frame_core.specs.Views.{reply_value, Judges};
 ghost use Rattle.chain_app.specs.Agree.{most_of_tables};

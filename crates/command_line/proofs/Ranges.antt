@@ -8,8 +8,8 @@ use Rattle.text_core.specs.ReadBack.{number_spells}
 use Rattle.op_basis.specs.Text.{bench_set, basis_of}
 use Rattle.op_basis.specs.ListLaws.{basis_some}
 use Rattle.op_basis.specs.declared.error.BasisError.{BasisError}
-use Rattle.enc_theory.specs.declared.data.Method.{Method}
-use Rattle.enc_theory.specs.declared.data.Method.TheVariants.{Plain, Ssv, Select, Fence}
+use Rattle.settings.specs.declared.methods.Method.{Method}
+use Rattle.settings.specs.declared.methods.Method.TheVariants.{Plain, Ssv, Select, Fence}
 use Rattle.settings.specs.declared.synth.SynthSettings.{SynthSettings}
 use Rattle.improve_settings.specs.declared.improve.ImproveSettings.{ImproveSettings}
 use Rattle.settings.specs.Synth.{IsInRange, most_conflicts}

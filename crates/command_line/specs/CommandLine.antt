@@ -2,8 +2,8 @@
 use Rattle.std.specs.Prelude.{◌≡◌, ℕ, ◌≤◌, List, [], ◌∷◌, map, Bool, true, false, not, ◌&&◌, Option, Some, None, is_some, Result, Ok, Err, Vec, String, if◌then◌else◌}
 use Rattle.std.specs.Global.{Global}
 use Rattle.std.specs.String.{string_bytes}
-use Rattle.enc_theory.specs.declared.data.Method.{Method}
-use Rattle.enc_theory.specs.declared.data.Method.TheVariants.{Fence}
+use Rattle.settings.specs.declared.methods.Method.{Method}
+use Rattle.settings.specs.declared.methods.Method.TheVariants.{Fence}
 use Rattle.settings.specs.declared.synth.SynthSettings.{SynthSettings}
 use Rattle.settings.specs.Synth.{most_conflicts, IsInRange}
 use Rattle.op_basis.specs.Text.{bench_set}

@@ -5,7 +5,7 @@ use Rattle.std.specs.Cmp.Lexicographic.{pointwise}
 use Rattle.text_core.specs.Numbers.{number_up_to}
 use Rattle.op_basis.specs.Text.{bench_set, basis_of}
 use Rattle.op_basis.specs.declared.error.BasisError.{BasisError}
-use Rattle.enc_theory.specs.declared.data.Method.{Method}
+use Rattle.settings.specs.declared.methods.Method.{Method}
 use Rattle.settings.specs.Methods.{method_named}
 use Rattle.settings.specs.Synth.{usual, most_steps, most_conflicts}
 use Rattle.improve_settings.specs.Improve as improver

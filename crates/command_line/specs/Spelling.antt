@@ -2,7 +2,7 @@
 use Rattle.std.specs.Prelude.{◌≡◌, ℕ, List, [], ◌∷◌, Bool, true, false, Some, All, Contains}
 use Rattle.std.specs.List.{IsDistinct, flat_map}
 use Rattle.std.specs.Map.{keys_of}
-use Rattle.enc_theory.specs.declared.data.Method.TheVariants.{Fence}
+use Rattle.settings.specs.declared.methods.Method.TheVariants.{Fence}
 use Rattle.settings.specs.declared.synth.SynthSettings.{SynthSettings}
 use Rattle.improve_settings.specs.declared.improve.ImproveSettings.{ImproveSettings}
 use Rattle.command_line.specs.declared.command.Command.{Command}

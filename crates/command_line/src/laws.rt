@@ -1,7 +1,7 @@
 //! What the definitions come to. Each law is the contract of a function that does nothing.
 ghost use Rattle.std.specs.Prelude.{◌≡◌, ◌↔◌, ◌≤◌, true, ℕ, List, [], ◌∷◌, codes};
 ghost use Rattle.std.specs.List.Sorted.{IsPermutation};
-ghost use Rattle.enc_theory.specs.declared.data.Method.TheVariants.{Fence};
+ghost use Rattle.settings.specs.declared.methods.Method.TheVariants.{Fence};
 ghost use Rattle.settings.specs.declared.synth.SynthSettings.{SynthSettings};
 ghost use Rattle.improve_settings.specs.declared.improve.ImproveSettings.{ImproveSettings};
 ghost use Rattle.settings.specs.Synth.{usual, IsInRange};

@@ -2,7 +2,7 @@
 //! one, the logs are those of all of them.
 ghost use Rattle.std.specs.Prelude.{◌≡◌, ◌≤◌, ◌<◌, ◌==◌, IfOk, Contains};
 ghost use Rattle.std.specs.List.{filter};
-ghost use Rattle.enc_theory.specs.declared.data.Method.TheVariants.{Fence};
+ghost use Rattle.settings.specs.declared.methods.Method.TheVariants.{Fence};
 ghost use Rattle.cert_theory.specs.Bundle.{PartLog, IsHeading};
 ghost use Rattle.depth_theory.specs.DepthBundle.{part_levels, open_levels as open_levels_of};
 ghost use Rattle.enc_theory.specs.Parts.{parts_for};

@@ -2,7 +2,7 @@
 ghost use Rattle.std.specs.Prelude.{◌≡◌, ℕ, ◌≤◌, ◌<◌, ◌+◌, ◌++◌, Some, IfOk, OnOk};
 ghost use Rattle.settings.specs.Synth.{IsInRange};
 ghost use Rattle.chain_theory.specs.Levels.{depth};
-ghost use Rattle.enc_theory.specs.declared.data.Method.TheVariants.{Fence};
+ghost use Rattle.settings.specs.declared.methods.Method.TheVariants.{Fence};
 ghost use Rattle.cert_theory.specs.Bundle.{IsHeading, IsFound, IsValid};
 ghost use Rattle.size_loop.specs.Thrift.{AreThrifty};
 ghost use Rattle.depth_theory.specs.DepthBundle.{open_levels as open_levels_of, levels_found};
@@ -13,7 +13,7 @@ use crate::levels::{Level, flatter_than, open_levels, search_level};
 use bundle_core::{Bundle, Heading, PartLog, Section, Verdict};
 use chain_core::Chain;
 use depth_theory::{DepthVerdict, depth_of};
-use enc_theory::Method;
+use settings::Method;
 use op_basis::Basis;
 use size_loop::search;
 use std::alloc::{AllocError, Global};

@@ -11,8 +11,8 @@ use Rattle.enc_theory.specs.Fence.{fence_formula}
 use Rattle.enc_theory.specs.Parts.{parts_for, fence_in}
 use Rattle.enc_theory.specs.declared.part.Part.{Part}
 use Rattle.enc_theory.specs.declared.part.Part.TheVariants.{Levels}
-use Rattle.enc_theory.specs.declared.data.Method.{Method}
-use Rattle.enc_theory.specs.declared.data.Method.TheVariants.{Fence}
+use Rattle.settings.specs.declared.methods.Method.{Method}
+use Rattle.settings.specs.declared.methods.Method.TheVariants.{Fence}
 use Rattle.cert_theory.specs.Coding.{coding_of}
 use Rattle.sat_theory.specs.Line as theory
 use Rattle.cert_theory.specs.declared.data.Ended.{Ended}

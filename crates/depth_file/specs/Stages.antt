@@ -3,7 +3,7 @@ use Rattle.std.specs.Prelude.{◌≡◌, ℕ, ◌+◌, ◌≤◌, ◌<◌, List,
 use Rattle.text_core.specs.Lines.{Line}
 use Rattle.sat_theory.specs.Line as theory
 use Rattle.enc_theory.specs.declared.part.Part.TheVariants.{Levels}
-use Rattle.enc_theory.specs.declared.data.Method.TheVariants.{Fence}
+use Rattle.settings.specs.declared.methods.Method.TheVariants.{Fence}
 use Rattle.cert_theory.specs.Bundle.{formula_of}
 use Rattle.cert_file.specs.declared.part.PartReader.{PartReader}
 use Rattle.cert_file.specs.Logged.{IsReading}

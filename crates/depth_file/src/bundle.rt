@@ -11,7 +11,7 @@ ghost use Rattle.depth_file.specs.Stages.{IsStage, IsBehindFront, Judged, fed_of
 use crate::stage::Stage;
 use cert_file::{BundleError, BundleReader, TextLine, Told, Verdict, is_line};
 use depth_theory::{DepthError, depth_of};
-use enc_theory::Method;
+use settings::Method;
 use std::alloc::Global;
 
 /// A fault of the bundle, as one of the whole.

@@ -3,7 +3,7 @@
 ghost use Rattle.std.specs.Prelude.{◌≡◌, ◌+◌, ◌^◌, ◌<◌, ◌≤◌, ℕ, List, [], ◌∷◌, length, drop, IfOk};
 ghost use Rattle.text_core.specs.Lines.{Line, line_bytes};
 ghost use Rattle.enc_theory.specs.declared.part.Part.TheVariants.{Levels};
-ghost use Rattle.enc_theory.specs.declared.data.Method.TheVariants.{Fence};
+ghost use Rattle.settings.specs.declared.methods.Method.TheVariants.{Fence};
 ghost use Rattle.cert_theory.specs.Bundle as bundles;
 ghost use Rattle.cert_theory.specs.Judging.{low_with as low_with_of};
 ghost use Rattle.cert_file.specs.Reader.{HasNoEnd};

@@ -1,7 +1,7 @@
 //! Tables read, the search, and the text of what it found.
 ghost use Rattle.std.specs.Prelude.{◌≡◌, ◌^◌, ◌<◌, length, IfOk, IfErr};
 ghost use Rattle.text_core.specs.Lines.{lines_of};
-ghost use Rattle.enc_theory.specs.declared.data.Method.TheVariants.{Fence};
+ghost use Rattle.settings.specs.declared.methods.Method.TheVariants.{Fence};
 ghost use Rattle.settings.specs.Synth.{IsInRange};
 ghost use Rattle.tt_core.specs.Gives.{Fails};
 ghost use Rattle.cert_theory.specs.Bundle.{HasOutput, IsValid};

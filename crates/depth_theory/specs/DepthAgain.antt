@@ -25,8 +25,8 @@ use Rattle.clause_core.specs.Holds.{contains_head, contains_tail, contains_map}
 use Rattle.enc_theory.specs.Parts.{fence_in, parts_for}
 use Rattle.enc_theory.specs.declared.part.Part.{Part}
 use Rattle.enc_theory.specs.declared.part.Part.TheVariants.{Levels}
-use Rattle.enc_theory.specs.declared.data.Method.{Method}
-use Rattle.enc_theory.specs.declared.data.Method.TheVariants.{Fence}
+use Rattle.settings.specs.declared.methods.Method.{Method}
+use Rattle.settings.specs.declared.methods.Method.TheVariants.{Fence}
 use Rattle.enc_laws.specs.Fence.{fence_is_formula}
 use Rattle.cert_theory.specs.Coding.{coding_of}
 use Rattle.cert_theory.specs.declared.data.Heading.{Heading}

@@ -6,7 +6,7 @@ use Rattle.chain_theory.specs.Chain.{Chain}
 use Rattle.chain_theory.specs.Levels.{depth}
 use Rattle.enc_theory.specs.declared.part.Part.{Part}
 use Rattle.enc_theory.specs.declared.part.Part.TheVariants.{Whole, Levels}
-use Rattle.enc_theory.specs.declared.data.Method.TheVariants.{Fence}
+use Rattle.settings.specs.declared.methods.Method.TheVariants.{Fence}
 use Rattle.cert_theory.specs.declared.data.Verdict.TheVariants.{Minimum}
 use Rattle.cert_theory.specs.Bundle.{PartLog, Bundle, IsPartLog, part_of, is_open_end, IsValid}
 use Rattle.depth_theory.specs.declared.data.DepthVerdict.{DepthVerdict}

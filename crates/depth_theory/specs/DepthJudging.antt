@@ -10,8 +10,8 @@ use Rattle.text_core.specs.Items.{items_of}
 use Rattle.sat_theory.specs.Line as theory
 use Rattle.chain_core.specs.Block.{number_in}
 use Rattle.enc_theory.specs.declared.part.Part.TheVariants.{Levels}
-use Rattle.enc_theory.specs.declared.data.Method.{Method}
-use Rattle.enc_theory.specs.declared.data.Method.TheVariants as methods
+use Rattle.settings.specs.declared.methods.Method.{Method}
+use Rattle.settings.specs.declared.methods.Method.TheVariants as methods
 use Rattle.cert_theory.specs.declared.data.Heading.{Heading}
 use Rattle.cert_theory.specs.declared.data.Ended.{Ended}
 use Rattle.cert_theory.specs.declared.data.Verdict.{Verdict}

@@ -6,7 +6,7 @@ use enc_fence::FenceEnc;
 use enc_frame::Encoding;
 use enc_select::Select;
 use enc_ssv::{Plain, Ssv};
-use enc_theory::Method;
+use settings::Method;
 use op_basis::{Basis, read_basis};
 use std::alloc::{AllocError, Global};
 use tt_core::{Spec, read_tables};

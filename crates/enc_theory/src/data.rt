@@ -1,17 +1,4 @@
-//! What formulas are spoken of by: methods, sizes, pairs of operands and their variables.
-
-/// How a size is encoded.
-#[derive(Clone, Copy, PartialEq, Eq)]
-pub enum Method {
-    /// What a chain is, and nothing else.
-    Plain,
-    /// A variable for each pair of operands, with cuts that leave a least chain.
-    Ssv,
-    /// A variable for each operand, with the same cuts.
-    Select,
-    /// As `Ssv`, one formula for each way in which steps may stand in levels.
-    Fence,
-}
+//! What formulas are spoken of by: sizes, pairs of operands and their variables.
 
 /// What a formula is made for: `n` inputs, `r` steps and `m` outputs.
 #[derive(Clone, Copy)]

@@ -27,5 +27,5 @@ mod data;
 pub mod laws;
 mod part;
 
-pub use data::{Method, Pair, Side, Sizes, Slot};
+pub use data::{Pair, Side, Sizes, Slot};
 pub use part::Part;

@@ -1,7 +1,7 @@
 -- What the improver of netlists is asked with.
 use Rattle.std.specs.Prelude.{ℕ, ◌≤◌, ◌<◌, false}
 use Rattle.op_basis.specs.Text.{all_set}
-use Rattle.enc_theory.specs.declared.data.Method.TheVariants.{Ssv}
+use Rattle.settings.specs.declared.methods.Method.TheVariants.{Ssv}
 use Rattle.settings.specs.Synth.{most_conflicts}
 use Rattle.improve_settings.specs.declared.improve.ImproveSettings.{ImproveSettings}
 

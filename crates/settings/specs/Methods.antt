@@ -1,8 +1,8 @@
 -- Names of methods.
 use Rattle.std.specs.Prelude.{ℕ, List, codes, nat_eq, Bool, Option, Some, None, if◌then◌else◌}
 use Rattle.std.specs.Cmp.Lexicographic.{pointwise}
-use Rattle.enc_theory.specs.declared.data.Method.{Method}
-use Rattle.enc_theory.specs.declared.data.Method.TheVariants.{Plain, Ssv, Select, Fence}
+use Rattle.settings.specs.declared.methods.Method.{Method}
+use Rattle.settings.specs.declared.methods.Method.TheVariants.{Plain, Ssv, Select, Fence}
 
 abbrev pub method_text : Method → List ℕ
 method_text Plain = codes "plain"

@@ -1,7 +1,7 @@
 -- What a search for the fewest steps is asked with.
 use Rattle.std.specs.Prelude.{ℕ, ◌≤◌, ◌<◌}
 use Rattle.op_basis.specs.Text.{all_set}
-use Rattle.enc_theory.specs.declared.data.Method.TheVariants.{Ssv}
+use Rattle.settings.specs.declared.methods.Method.TheVariants.{Ssv}
 use Rattle.settings.specs.declared.synth.SynthSettings.{SynthSettings}
 
 abbrev pub most_steps : ℕ

@@ -1,6 +1,6 @@
 //! What the definitions come to. Each law is the contract of a function that does nothing.
 ghost use Rattle.std.specs.Prelude.{◌≡◌, ◌↔◌, ℕ, List, Some};
-ghost use Rattle.enc_theory.specs.declared.data.Method.{Method};
+ghost use Rattle.settings.specs.declared.methods.Method.{Method};
 ghost use Rattle.settings.specs.Methods.{method_text, method_named};
 
 /// A word is a method's name exactly where it is read as that method.

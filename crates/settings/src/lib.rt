@@ -1,6 +1,6 @@
 //! What a search is asked with, as data with ranges and defaults, for whoever reads it from words,
-//! searches by it or writes it into a certificate. It stands on `op_basis` for bases and on
-//! `enc_theory` for the methods, and on nothing that searches or reads.
+//! searches by it or writes it into a certificate. It stands on `op_basis` for bases, and on nothing that
+//! encodes, searches or reads.
 //!
 //! `specs/Synth.antt` says which settings are in their ranges (`IsInRange`), and which hold where
 //! nothing is named (`usual`); `specs/Methods.antt` has the name of each method. A name is that of one
@@ -16,6 +16,5 @@ pub mod laws;
 mod methods;
 mod synth;
 
-pub use enc_theory::Method;
-pub use methods::{method_name, method_named};
+pub use methods::{Method, method_name, method_named};
 pub use synth::{MOST_CONFLICTS, MOST_STEPS, SynthSettings};

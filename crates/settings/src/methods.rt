@@ -1,8 +1,19 @@
-//! Names of methods.
+//! The methods, and their names.
 ghost use Rattle.std.specs.Prelude.{◌≡◌};
 ghost use Rattle.settings.specs.Methods as spec;
 
-use enc_theory::Method;
+/// How a size is encoded.
+#[derive(Clone, Copy, PartialEq, Eq)]
+pub enum Method {
+    /// What a chain is, and nothing else.
+    Plain,
+    /// A variable for each pair of operands, with cuts that leave a least chain.
+    Ssv,
+    /// A variable for each operand, with the same cuts.
+    Select,
+    /// As `Ssv`, one formula for each way in which steps may stand in levels.
+    Fence,
+}
 
 /// The name of a method.
 pub fn method_name(method: Method) -> &'static [u8]

@@ -2,7 +2,7 @@
 ghost use Rattle.std.specs.Prelude.{◌≡◌};
 ghost use Rattle.settings.specs.Synth.{usual, IsInRange};
 
-use enc_theory::Method;
+use crate::methods::Method;
 use op_basis::Basis;
 
 /// The most steps that are ever tried.

@@ -10,7 +10,7 @@ ghost use Rattle.size_loop.specs.State.{IsState};
 use crate::sizes::{SizeOutcome, search_size};
 use bundle_core::{Heading, Section, Verdict};
 use chain_core::Chain;
-use enc_theory::Method;
+use settings::Method;
 use op_basis::Basis;
 use std::alloc::{AllocError, Global};
 use std::marker::Model;

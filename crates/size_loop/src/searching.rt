@@ -7,7 +7,7 @@ ghost use Rattle.size_loop.specs.Thrift.{AreThrifty};
 
 use crate::advancing::{Advance, Search};
 use bundle_core::{Bundle, Heading};
-use enc_theory::Method;
+use settings::Method;
 use op_basis::Basis;
 use std::alloc::{AllocError, Global};
 use tt_core::Spec;

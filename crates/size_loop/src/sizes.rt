@@ -13,7 +13,7 @@ use enc_fence::FenceEnc;
 use enc_frame::Encoding;
 use enc_select::Select;
 use enc_ssv::{Plain, Ssv};
-use enc_theory::Method;
+use settings::Method;
 use std::alloc::{AllocError, Global};
 
 /// What a size comes to.

@@ -1,0 +1,31 @@
+-- The answers of the solver, by cases.
+use Rattle.std.specs.Prelude.{Bool, List}
+use Rattle.sat_theory.specs.Line as theory
+use Rattle.sat_solve.specs.declared.solver.Solved.{Solved}
+use Rattle.sat_solve.specs.declared.solver.Solved.TheVariants.{Sat, Unsat, Open}
+
+-- a fact about the bits of the assignment, and about the lines of the log
+abbrev pub IfSat : Solved → (List Bool → Type 0) → Type 0
+IfSat (Sat bits) P = P bits
+IfSat (Unsat log) P = Unit {0}
+IfSat (Open log) P = Unit {0}
+
+abbrev pub IfUnsat : Solved → (List theory.Line → Type 0) → Type 0
+IfUnsat (Sat bits) P = Unit {0}
+IfUnsat (Unsat log) P = P log
+IfUnsat (Open log) P = Unit {0}
+
+abbrev pub IfOpen : Solved → (List theory.Line → Type 0) → Type 0
+IfOpen (Sat bits) P = Unit {0}
+IfOpen (Unsat log) P = Unit {0}
+IfOpen (Open log) P = P log
+
+abbrev pub IfLogged : Solved → (List theory.Line → Type 0) → Type 0
+IfLogged (Sat bits) P = Unit {0}
+IfLogged (Unsat log) P = P log
+IfLogged (Open log) P = P log
+
+abbrev pub IsDecided : Solved → Type 0
+IsDecided (Sat bits) = Unit {0}
+IsDecided (Unsat log) = Unit {0}
+IsDecided (Open log) = ⊥
