@@ -7,7 +7,7 @@ pub record IsLit (l : ℤ) : Type 0 where
   pub some : 0 < variable l
   pub small : variable l < 2 ^ 31
 
--- few enough variables and clauses for 32 bits, with room for the clauses that a log adds
+-- fewer variables and clauses than 32 bits can number, with room for the clauses that a log adds
 pub record IsCnf (f : Formula) : Type 0 where
   pub formula : IsFormula f
   pub few_variables : f.vars < 1000000000

@@ -14,11 +14,11 @@ code_of-same (pos a) (negsuc b) e = let h : 2 * a ≡ 2 * suc b + 1 = e in absur
 code_of-same (negsuc a) (pos b) e = let h : 2 * suc a + 1 ≡ 2 * b = e in absurd (omega arith)
 code_of-same (negsuc a) (negsuc b) e = let h : 2 * suc a + 1 ≡ 2 * suc b + 1 = e in let same : a ≡ b = omega arith in ap (λ (n : ℕ). negsuc n) same
 
--- an even place is that of a positive literal
+-- an even index is that of a positive literal
 literal_of-even : (n : ℕ) → n % 2 ≡ 0 → literal_of n ≡ pos (n / 2)
 literal_of-even n even = rw even refl
 
--- an odd place is that of a negative one
+-- an odd index is that of a negative one
 literal_of-odd : (n : ℕ) → n % 2 ≡ 1 → literal_of n ≡ negsuc (n / 2 - 1)
 literal_of-odd n odd = rw odd refl
 
@@ -28,19 +28,19 @@ parity n = ⊎_elim
     (λ (high : 1 ≤ n % 2). inr (omega arith))
     (cases_lt (n % 2) 1)
 
--- a place is that of its literal
+-- the literal of an index has that index
 pub code_of-literal_of : (n : ℕ) → 2 ≤ n → code_of (literal_of n) ≡ n
 code_of-literal_of n some = ⊎_elim
     (λ (even : n % 2 ≡ 0). rw (literal_of-even n even) (let goal : 2 * (n / 2) ≡ n = omega arith in goal))
     (λ (odd : n % 2 ≡ 1). rw (literal_of-odd n odd) (let goal : 2 * suc (n / 2 - 1) + 1 ≡ n = omega arith in goal))
     (parity n)
 
--- literals stand from place 2 on
+-- the indices of literals begin at 2
 pub code_of-from_2 : (l : ℤ) → 0 < variable l → 2 ≤ code_of l
 code_of-from_2 (pos a) some = let h : 0 < a = some in let goal : 2 ≤ 2 * a = omega arith in goal
 code_of-from_2 (negsuc a) some = let goal : 2 ≤ 2 * suc a + 1 = omega arith in goal
 
--- a literal is that of its place
+-- a literal is the literal of its index
 pub literal_of-code_of : (l : ℤ) → 0 < variable l → literal_of (code_of l) ≡ l
 literal_of-code_of l some = code_of-same (literal_of (code_of l)) l (code_of-literal_of (code_of l) (code_of-from_2 l some))
 
@@ -86,6 +86,6 @@ opposite-odd n some odd =
     let beside : code_of (opposite (literal_of n)) ≡ bit_xor n 1 = rw (literal_of-odd n odd, xor_1-odd n odd) (let goal : 2 * suc (n / 2 - 1) ≡ n - 1 = omega arith in goal) in
     code_of-same (literal_of (bit_xor n 1)) (opposite (literal_of n)) (code_of-literal_of (bit_xor n 1) (rw (xor_1-odd n odd) (omega arith)) ∙ sym beside)
 
--- the entry of the opposite stands beside that of a literal
+-- the entry of the opposite is the neighbour of a literal's entry
 pub opposite-literal_of : (n : ℕ) → 2 ≤ n → literal_of (bit_xor n 1) ≡ opposite (literal_of n)
 opposite-literal_of n some = ⊎_elim (opposite-even n some) (opposite-odd n some) (parity n)

@@ -20,7 +20,7 @@ impl Model for Assign {
 }
 
 impl Assign {
-    /// The assignment of these bits.
+    /// The assignment of `bits`.
     pub fn new(bits: Vec<bool>) -> Assign
         ensures { result ≡ bits.items }
     {
@@ -51,7 +51,7 @@ fn is_true(bits: &[bool], clause: &Clause) -> bool
     clause.lits().iter().any(|lit| literal_value(bits, *lit))
 }
 
-/// The bit of a literal; variables behind the list are 0.
+/// The bit of a literal; variables after the end of `bits` are 0.
 fn literal_value(bits: &[bool], lit: Lit) -> bool
     ensures { result ≡ literal_value_of (bits_of bits.now) lit }
 {

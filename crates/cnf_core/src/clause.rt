@@ -1,12 +1,12 @@
-//! Clauses. That their literals are of different variables is an invariant of the type, so whoever builds one shows it
-//! once, and whoever reads one has it.
+//! Clauses. That the literals have different variables is an invariant of the type: shown once,
+//! where a clause is made, and known wherever one is read.
 ghost use Rattle.std.specs.Prelude.{◌≡◌, ◌↔◌, IsTrue};
 ghost use Rattle.sat_theory.specs.Formula.{IsClause, IsWithin};
 
 use crate::Lit;
 use std::marker::Model;
 
-/// A clause: literals of different variables, of which one at least is to be true. Contracts see it
+/// A clause: literals of different variables, at least one of which is to be true. Contracts see it
 /// as the list of its literals.
 #[derive(Drop)]
 pub struct Clause {
@@ -25,7 +25,7 @@ impl Model for Clause {
 }
 
 impl Clause {
-    /// The clause of these literals, kept in their order.
+    /// The clause of `lits`, in their order.
     pub fn new(lits: Vec<Lit>) -> Clause
         requires { IsClause lits.items }
         ensures { result ≡ lits.items }
@@ -48,7 +48,7 @@ impl Clause {
         self.lits.iter().all(|lit| lit.variable() <= vars)
     }
 
-    /// Its literals, given back.
+    /// Its literals, by value.
     pub fn into_lits(self) -> Vec<Lit>
         ensures value { result.items ≡ self }
         ensures whole { IsClause self }

@@ -1,5 +1,5 @@
-//! Formulas. Their bounds are an invariant of the type, so that ids and variables of 32 bits never run over, not even
-//! with all the clauses that a log adds.
+//! Formulas in conjunctive normal form (CNF). Their bounds are an invariant of the type, so ids and
+//! variables never exceed 32 bits, not even with all clauses that a log adds.
 ghost use Rattle.std.specs.Prelude.{◌≡◌, ◌↔◌, ◌<◌, ◌+◌, [], ◌∷◌, ◌++◌, length, Contains, IsTrue, OnOk, OnErr};
 ghost use Rattle.sat_theory.specs.Formula.{IsWithin};
 ghost use Rattle.cnf_core.specs.Bounds.{IsCnf};
@@ -46,7 +46,7 @@ impl Cnf {
         ensures ok { OnOk result (self.new ≡ record self.old { clauses = self.old.clauses ++ clause ∷ [] }) }
         ensures err { OnErr result (self.new ≡ self.old) }
     {
-        // brings what the type of a clause says of its literals
+        // for the prover: brings in the invariant of the clause
         let _lits = clause.lits();
         self.clauses.push(clause)?;
         Ok(())
@@ -76,7 +76,7 @@ impl Cnf {
         self.clauses.iter().any(|clause| clause.lits().is_empty())
     }
 
-    /// Its clauses, given back.
+    /// Its clauses, by value.
     pub fn into_clauses(self) -> Vec<Clause>
         ensures value { result.items ≡ self.clauses }
         ensures whole { IsCnf self }

@@ -1,5 +1,6 @@
-//! Literals, kept as places of tables: the opposite is the place beside, and an entry is read without computing.
-//! That a place and a number are one thing told twice rests on the two laws that turn each into the other.
+//! Literals, kept as their table index: the opposite is the neighbouring index, and an entry is
+//! read without computing. That index and number determine each other rests on two laws
+//! (`CodeLaws`).
 ghost use Rattle.std.specs.Prelude.{◌≡◌, ℕ, ℤ, pos, ◌<◌, ◌^◌, ◌<ℤ◌, ◌↔◌, IsTrue};
 ghost use Rattle.std.specs.Ordering.{int_eq};
 ghost use Rattle.std.specs.Cmp.Rules.{comparing};
@@ -11,8 +12,8 @@ ghost use Rattle.sat_theory.specs.Formula.{variable as variable_of, opposite as 
 use std::marker::Model;
 
 /// A literal: a variable from 1 to 2147483647, and a sign. Contracts see it as a number, as DIMACS
-/// writes it: 3 says that variable 3 is true, -3 that it is false. It is kept as the place of its entry in
-/// tables, 6 or 7, so that a look at an entry has nothing to compute.
+/// writes it: 3 says that variable 3 is true, -3 that it is false. It is kept as the index of its
+/// entry in tables (6 and 7 in the example).
 #[derive(Clone, Copy)]
 pub struct Lit(u32);
 
@@ -46,7 +47,7 @@ impl PartialEq for Lit {
 
 #[tactic(auto, using(crate::proofs::Placing::placing))]
 impl Lit {
-    /// The literal that a number writes.
+    /// The literal that `number` writes in DIMACS.
     pub fn new(number: i32) -> Lit
         requires { IsLit number }
         ensures { result ≡ number }
@@ -57,7 +58,7 @@ impl Lit {
         Lit(2 * number.unsigned_abs() + 1)
     }
 
-    /// The literal that says of a variable that it is true, where `positive`, or that it is false.
+    /// The literal of `variable` that is positive where `positive`.
     pub fn of(variable: u32, positive: bool) -> Lit
         requires some { 0 < variable }
         requires small { variable < 2 ^ 31 }
@@ -91,7 +92,7 @@ impl Lit {
         self.0 / 2
     }
 
-    /// The literal of the same variable with the other sign.
+    /// The opposite literal.
     pub fn opposite(self) -> Lit
         ensures value { result ≡ opposite_of self }
         ensures variable { variable_of result ≡ variable_of self }
@@ -99,15 +100,15 @@ impl Lit {
         Lit(self.0 ^ 1)
     }
 
-    /// Whether it says that its variable is true.
+    /// Whether it is the positive literal of its variable.
     pub fn is_positive(self) -> bool
         ensures { IsTrue result ↔ (pos 0 <ℤ self) }
     {
         self.0 % 2 == 0
     }
 
-    /// Where its entry stands in a table with an entry for each literal: at 2 v for the variable v, and
-    /// at 2 v + 1 for the opposite. A table of 2 n + 2 entries has room for the variables 1 to n.
+    /// The index of its entry in a table over all literals: 2 v for the variable v, 2 v + 1 for its
+    /// opposite. A table of 2 n + 2 entries has room for the variables 1 to n.
     pub fn code(self) -> usize
         ensures value { result ≡ code_of self }
         ensures small { result < 2 ^ 33 }

@@ -1,6 +1,6 @@
--- How many additions of a log can be live: fewer than 3 to the number of variables, where each is of a new clause
--- and none of the empty one. An addition isn't contained in a later one, as long as both are live, so that all
--- live additions are different clauses.
+-- How many additions of a log can be live: fewer than 3 ^ vars, where each is of a new clause and
+-- none of the empty one. No live addition is contained in a later one, so all live additions are
+-- different clauses.
 use Rattle.std.specs.Prelude.{◌≡◌, ◌≢◌, ℕ, suc, ◌+◌, ◌*◌, ◌^◌, ◌<◌, ◌≤◌, ◌==◌, if◌then◌else◌, ℤ, Bool, true, false, List, [], ◌∷◌, length, slice_index_or, Contains, All, Any, AllPairs, count_by, cond, Option, Some, None, is_some}
 use Rattle.std.proofs.Common.{sym, subst, ap, ◌∙◌, arith, inr, refl}
 use Rattle.std.proofs.lemmas.Bool.{ne_eqb, eq-eqb}
@@ -29,7 +29,7 @@ some_or_empty (Delete id ids) none = tt
 pub adds_some : (lines : List Line) → (Any AddsEmpty lines → ⊥) → All AddsSome lines
 adds_some lines none = λ k d low. some_or_empty (slice_index_or lines k d) (λ is. (let x = Contains-get_or lines k d low in none (x.0, slice_index_or lines k d, x.1, x.2, is)))
 
--- what is known of a clause that was added
+-- a clause that was added: over the variables 1 to vars, and not empty
 record IsAdded (vars : ℕ) (clause : List ℤ) : Type 0 where
   is_clause : IsClause clause
   within : IsWithin vars clause
@@ -49,12 +49,12 @@ abbrev with_code : ℕ → Option (List ℤ) → List ℕ → List ℕ
 with_code v None ns = ns
 with_code v (Some clause) ns = code (among clause) v ∷ ns
 
--- the numbers of the live clauses of ids
+-- the base 3 numbers of the live clauses of ids
 unfoldable codes : State → List ℕ → List ℕ
 codes s [] = []
 codes s (id ∷ ids) = with_code s.vars (s.live id) (codes s ids)
 
--- a number of a live clause of one of the ids
+-- n is the base 3 number of a live clause of one of ids
 record IsCode (s : State) (ids : List ℕ) (n : ℕ) : Type 0 where
   id : ℕ
   there : Contains ids id
@@ -86,7 +86,7 @@ unfolding codes
 codes_are s [] = λ k d (low : k < 0). absurd (omega arith)
 codes_are s (id ∷ ids) = codes_cons s id ids (codes s ids) (s.live id) refl (codes_are s ids)
 
--- the number of a clause that an earlier one isn't contained in is none of the earlier ones'
+-- the number of a clause differs from those of earlier clauses that aren't contained in it
 code_differs : (s : State) (id : ℕ) (ids : List ℕ) (clause : List ℤ) (n : ℕ) → s.live id ≡ Some clause → AreApart s (id ∷ ids) → IsCode s ids n → code (among clause) s.vars ≡ n → ⊥
 code_differs s id ids clause n is_live all found same =
     let at : slice_index_or ids found.there.0 found.id ≡ found.id = found.there.2 in
@@ -133,7 +133,7 @@ codes_long s (id ∷ ids) =
     let more : count_by (is_live_in s) (id ∷ ids) ≡ cond {A = ℕ} (is_some (s.live id)) 1 0 + count_by (is_live_in s) ids = count_cons (is_live_in s) id ids in
     omega arith
 
--- so few are live
+-- so fewer than 3 ^ vars are live
 live_few : (s : State) (ids : List ℕ) → AreApart s ids → count_by (is_live_in s) ids < 3 ^ s.vars
 live_few s ids all =
     let room : 0 < 3 ^ s.vars = (let h : code (among []) s.vars < 3 ^ s.vars = code_low (among []) s.vars in omega arith) in
@@ -190,7 +190,7 @@ apart_added s id lits hints ids greater known new all = record {
     same : (k d : ℕ) → k < length ids → after_it.live (slice_index_or ids k d) ≡ s.live (slice_index_or ids k d)
     same k d low = before_added s id lits hints (slice_index_or ids k d) greater (all.given k d low)
 
--- the live additions of a log, with those that were live before
+-- the live additions of a log, together with those that were live before it
 live_added : (s : State) (lines : List Line) (ids : List ℕ) → EachLine IsStep s lines → EachLine IsFresh s lines → All AddsSome lines → AreApart s ids → count_by (is_live_in (after s lines)) ids + count_by (is_live_in (after s lines)) (added_ids lines) < 3 ^ s.vars
 unfolding EachLine after added_ids
 live_added s [] ids steps fresh some all = (let few : count_by (is_live_in s) ids < 3 ^ s.vars = live_few s ids all in let none : count_by (is_live_in s) [] ≡ 0 = refl in omega arith)
@@ -211,7 +211,7 @@ none_apart s = record {
   apart = λ i j d order (within : j < 0). absurd (omega arith);
 }
 
--- A log of new clauses that doesn't add the empty one has few live additions.
+-- A log of new clauses that doesn't add the empty one has fewer than 3 ^ vars live additions.
 pub few_live : (f : Formula) (lines : List Line) → EachLine IsStep (start f) lines → EachLine IsFresh (start f) lines → All AddsSome lines → live_additions (after (start f) lines) lines < 3 ^ f.vars
 few_live f lines steps fresh some =
     let few : count_by (is_live_in (after (start f) lines)) [] + live_additions (after (start f) lines) lines < 3 ^ f.vars = live_added (start f) lines [] steps fresh some (none_apart (start f)) in
@@ -228,7 +228,7 @@ count_all p (x ∷ xs) all =
     let long : length (x ∷ xs) ≡ suc (length xs) = refl in
     omega arith
 
--- ids that were given, and are live
+-- the id was given and is live
 abbrev IsThere : State → ℕ → Type 0
 IsThere s id = (id ≤ s.greatest) × (is_some (s.live id) ≡ true)
 
@@ -259,7 +259,7 @@ all_live f lines steps adding =
     let zero_ : length {A = ℕ} [] ≡ 0 = refl in
     omega arith
 
--- A budget that a log of half live additions has spent is small,
+-- A budget that a log with half of its additions live has spent is below 2 * 3 ^ vars,
 pub budget_kept : (f : Formula) (lines : List Line) (budget : ℕ) → IsSpent f lines budget → IsThrifty f lines → budget < 2 * 3 ^ f.vars
 budget_kept f lines budget spent thrifty =
     let few : live_additions (after (start f) lines) lines < 3 ^ f.vars = few_live f lines spent.holds spent.fresh (adds_some lines (λ there. spent.open_yet (inr there))) in
@@ -267,7 +267,7 @@ budget_kept f lines budget spent thrifty =
     let enough : budget ≤ additions lines = spent.enough in
     omega arith
 
--- and half as large where nothing was deleted.
+-- and one that a log without deletions has spent is below 3 ^ vars.
 pub budget_undeleted : (f : Formula) (lines : List Line) (budget : ℕ) → IsSpent f lines budget → DeletesNothing lines → budget < 3 ^ f.vars
 budget_undeleted f lines budget spent adding =
     let few : live_additions (after (start f) lines) lines < 3 ^ f.vars = few_live f lines spent.holds spent.fresh (adds_some lines (λ there. spent.open_yet (inr there))) in

@@ -24,9 +24,9 @@ pub record IsClause (lits : List ℤ) : Type 0 where
 abbrev pub IsWithin : ℕ → List ℤ → Type 0
 IsWithin vars lits = All (λ l. variable l ≤ vars) lits
 
--- A formula has the variables 1 to vars, and says that each of its clauses is true.
--- Example: the variables 1 and 2 with the clauses 1, 2 and -1, 2 and 1, -2 and -1, -2 contradict
--- themselves, though no three of these clauses do.
+-- A formula has the variables 1 to vars, and says that each of its clauses is true (CNF).
+-- Example: over the variables 1 and 2 the clauses 1, 2 and -1, 2 and 1, -2 and -1, -2 are
+-- unsatisfiable, and any three of them are satisfiable.
 pub record Formula : Type 0 where
   pub vars : ℕ
   pub clauses : List (List ℤ)
@@ -39,7 +39,7 @@ pub record IsFormula (f : Formula) : Type 0 where
 abbrev pub Assignment : Type 0
 Assignment = ℕ → Bool
 
--- bit v - 1 of a list is that of variable v, and the bits behind the list are 0
+-- bit v - 1 of a list is that of variable v; the bits after the end of the list are 0
 abbrev pub bits_of : List Bool → Assignment
 bits_of bits v = if v == 0 then false else slice_index_or bits (v - 1) false
 

@@ -1,4 +1,4 @@
--- When a line of a log holds.
+-- When a line of a log holds: additions by reverse unit propagation (RUP) along their hints.
 use Rattle.std.specs.Prelude.{◌≡◌, ◌≢◌, ℕ, ◌<◌, ◌⊎◌, ℤ, Bool, true, false, ◌||◌, List, [], ◌∷◌, Contains, All, AllPairs, Option, Some, IsSome}
 use Rattle.std.specs.List.{list_any}
 use Rattle.std.specs.Ordering.{int_eq}
@@ -6,22 +6,23 @@ use Rattle.sat_theory.specs.Formula.{opposite, IsWithin}
 use Rattle.sat_theory.specs.Line.{Line, Add, Delete}
 use Rattle.sat_theory.specs.State.{State}
 
--- A set of literals is the test that tells its members: those of a list, and those of a set with one more.
+-- A set of literals is its membership test: that of a list, and that of a set with one literal
+-- more.
 abbrev pub among : List ℤ → ℤ → Bool
 among lits l = list_any (λ m. int_eq l m) lits
 
 abbrev pub with_literal : (ℤ → Bool) → ℤ → ℤ → Bool
 with_literal set l m = int_eq m l || set m
 
--- l is the one literal of the clause outside the set
+-- the clause is unit outside the set, with the literal l
 pub record IsUnitOutside (set : ℤ → Bool) (clause : List ℤ) (l : ℤ) : Type 0 where
   pub there : Contains clause l
   pub outside : set l ≡ false
   pub others : All (λ m. (m ≡ l) ⊎ (set m ≡ true)) clause
 
--- The set has literals that are taken to be false. Each hint but the last names a live clause with
--- one literal outside the set, which must then be true: its opposite joins the set. The last hint
--- names a live clause with no literal outside, which can't be.
+-- The set has literals that are taken to be false. Each hint but the last names a live clause that
+-- is unit: its one literal outside the set must be true, so the opposite of that joins the set. The
+-- last hint names a live clause with no literal outside, which is a conflict.
 -- Example: of the clauses 1: 1, 2 and 2: -1, 2, the hints 1, 2 hold from the set of the literal 2.
 -- Clause 1 has 1 outside, so -1 joins, and clause 2 has nothing outside.
 unfoldable pub HintsHold : (ℕ → Option (List ℤ)) → (ℤ → Bool) → List ℕ → Type 0
@@ -29,8 +30,8 @@ HintsHold live set [] = ⊥
 HintsHold live set (hint ∷ []) = (clause : List ℤ) × (live hint ≡ Some clause) × All (λ m. set m ≡ true) clause
 HintsHold live set (hint ∷ more ∷ hints) = (clause : List ℤ) × (l : ℤ) × (live hint ≡ Some clause) × IsUnitOutside set clause l × HintsHold live (with_literal set (opposite l)) (more ∷ hints)
 
--- An addition holds where its id is greater than all before, its variables are the formula's, and its
--- hints hold from the set of its own literals.
+-- An addition holds where its id is greater than all before, its variables are the formula's, and
+-- its hints hold from the set of its own literals.
 pub record AdditionHolds (s : State) (id : ℕ) (lits : List ℤ) (hints : List ℕ) : Type 0 where
   pub greater : s.greatest < id
   pub variables : IsWithin s.vars lits

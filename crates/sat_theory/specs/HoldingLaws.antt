@@ -17,7 +17,7 @@ or_last : (p : ℤ → Bool) (lits : List ℤ) (x : ℤ) → list_any p (lits ++
 or_last p [] x = refl
 or_last p (y ∷ ys) x = rw (or_last p ys x) (swap_or (p y) (p x) (list_any p ys))
 
--- a set as a list, with one more at its end
+-- the set of a list with one literal more at its end
 pub among-push : (lits : List ℤ) (x : ℤ) → among (lits ++ x ∷ []) ≡ with_literal (among lits) x
 among-push lits x = λ i l. or_last (λ (m : ℤ). int_eq l m) lits x i
 

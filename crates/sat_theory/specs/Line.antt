@@ -1,10 +1,10 @@
--- The lines of a refutation log (LRAT with additions by unit propagation and deletions).
+-- The lines of a refutation log (LRAT with RUP additions and deletions).
 use Rattle.std.specs.Prelude.{ℕ, ◌<◌, ◌^◌, ◌-◌, ℤ, List, All}
 use Rattle.sat_theory.specs.Formula.{IsClause, IsWithin}
 
--- Clauses are named by numbers, their ids. An addition adds the clause of its literals under its id,
--- and its hints are the ids of the clauses that show it. A deletion names the clauses that go; its
--- own id says nothing.
+-- Clauses are named by numbers, their ids. An addition adds the clause of its literals under its
+-- id; its hints are the ids of the clauses by which unit propagation shows it. A deletion removes
+-- the clauses of its ids; its own id has no meaning.
 pub data Line : Type 0 where
   Add : (id : ℕ) (lits : List ℤ) (hints : List ℕ) → Line
   Delete : (id : ℕ) (ids : List ℕ) → Line

@@ -9,7 +9,7 @@ unfoldable pub after : State → List Line → State
 after s [] = s
 after s (l ∷ ls) = after (next s l) ls
 
--- a fact about each line and the state before it
+-- P holds of each line and the state before it
 unfoldable pub EachLine : (State → Line → Type 0) → State → List Line → Type 0
 EachLine P s [] = Unit {0}
 EachLine P s (l ∷ ls) = P s l × EachLine P (next s l) ls
@@ -37,7 +37,8 @@ pub record Refutes (f : Formula) (lines : List Line) : Type 0 where
   pub holds : LogHolds f lines
   pub reaches : HasEmpty f lines
 
--- A clause is new where no live clause has all its literals in it: nothing live says as much.
+-- A clause is new where no live clause subsumes it (has all its literals among those of the
+-- clause).
 -- Example: with the one live clause 1, 2 the clause 1, 3 is new, and 1, 2, 3 is not.
 abbrev pub IsNew : (ℕ → Option (List ℤ)) → List ℤ → Type 0
 IsNew live lits = (id : ℕ) (clause : List ℤ) → live id ≡ Some clause → All (Contains lits) clause → ⊥
@@ -57,12 +58,12 @@ added_ids (Delete id ids ∷ ls) = added_ids ls
 abbrev pub additions : List Line → ℕ
 additions lines = length (added_ids lines)
 
--- how many of these are live in a state
+-- how many of the log's additions are live in a state
 abbrev pub live_additions : State → List Line → ℕ
 live_additions s lines = count_by (λ id. is_some (s.live id)) (added_ids lines)
 
 -- A log has spent a budget on a formula where it holds, doesn't reach the empty clause, and has at
--- least so many additions, each of a new clause.
+-- least `budget` additions, each of a new clause.
 pub record IsSpent (f : Formula) (lines : List Line) (budget : ℕ) : Type 0 where
   pub holds : LogHolds f lines
   pub open_yet : HasEmpty f lines → ⊥
@@ -73,13 +74,13 @@ pub record IsSpent (f : Formula) (lines : List Line) (budget : ℕ) : Type 0 whe
 abbrev pub IsKept : Formula → List Line → Type 0
 IsKept f lines = additions lines ≤ 2 * live_additions (after (start f) lines) lines
 
--- no deletion names a clause of the formula; these have the first ids
+-- no deletion names a clause of the formula (those have the ids 1 to the number of clauses)
 abbrev pub SparesFormula : Formula → Line → Type 0
 SparesFormula f (Add id lits hints) = Unit {0}
 SparesFormula f (Delete id ids) = All (λ k. length f.clauses < k) ids
 
--- A log is thinned where it deletes additions alone, and at its end about a quarter of them or more: so it stays
--- cheap to check, however long it is.
+-- A log is thinned where it deletes additions alone, and at its end at most about three quarters of
+-- its additions are live.
 pub record IsThinned (f : Formula) (lines : List Line) : Type 0 where
   pub spares : All (SparesFormula f) lines
   pub few : 4 * live_additions (after (start f) lines) lines ≤ 3 * additions lines + 4 * f.vars + 8000
@@ -88,6 +89,6 @@ pub record IsThinned (f : Formula) (lines : List Line) : Type 0 where
 abbrev pub DeletesNothing : List Line → Type 0
 DeletesNothing lines = All IsAdding lines
 
--- What a log owes besides what it shows: where it leaves the formula open, it keeps half of its additions.
+-- Where a log leaves the formula open, half of its additions are live at its end.
 pub record IsThrifty (f : Formula) (lines : List Line) : Type 0 where
   pub kept : (HasEmpty f lines → ⊥) → IsKept f lines

@@ -5,19 +5,19 @@ use Rattle.sat_theory.specs.Line.{Line, Add, Delete}
 use Rattle.sat_theory.specs.State.{State, next}
 use Rattle.sat_theory.specs.Log.{after, EachLine, added_ids}
 
--- the state after it
+-- the state after the line
 pub after-push : (s : State) (ls : List Line) (l : Line) → after s (ls ++ l ∷ []) ≡ next (after s ls) l
 unfolding after
 after-push s [] l = refl
 after-push s (m ∷ ls) l = after-push (next s m) ls l
 
--- what holds of each line before, and of this one, holds of each
+-- what holds of each line before, and of the last one, holds of each
 pub EachLine-push : (P : State → Line → Type 0) (s : State) (ls : List Line) (l : Line) → EachLine P s ls → P (after s ls) l → EachLine P s (ls ++ l ∷ [])
 unfolding after EachLine
 EachLine-push P s [] l each last = (last, tt)
 EachLine-push P s (m ∷ ls) l each last = (each.0, EachLine-push P (next s m) ls l each.1 last)
 
--- and the other way round
+-- and conversely
 pub EachLine-front : (P : State → Line → Type 0) (s : State) (ls : List Line) (l : Line) → EachLine P s (ls ++ l ∷ []) → EachLine P s ls
 unfolding after EachLine
 EachLine-front P s [] l each = tt

@@ -16,7 +16,7 @@ zeros_less table i room was =
     let one : cond {A = ℕ} (slice_index_or table i 0 == 0) 1 0 ≡ 1 = rw before refl in
     omega arith
 
--- different numbers whose entries are 0: each takes one of the zeros
+-- different numbers whose entries are 0 are at most as many as the table has zeros
 at_most_zeros : (xs table : List ℕ) → All (λ x. (x < length table) × (slice_index_or table x 0 ≡ 0)) xs → AllPairs (λ a b. a ≢ b) xs → length xs ≤ zeros table
 at_most_zeros [] table free differ = omega arith
 at_most_zeros (x ∷ xs) table free differ =

@@ -1,4 +1,4 @@
--- How the plain program holds its data.
+-- How `plain` holds its data.
 use Rattle.std.specs.Prelude.{ℕ, ◌==◌, if◌then◌else◌, ℤ, List, [], ◌∷◌, not, filter, Option, Some, None}
 use Rattle.sat_theory.specs.State.{State, is_listed}
 

@@ -24,7 +24,7 @@ opposite_value v (negsuc n) one is = not-true (v (suc n)) is
 abbrev IsFalseSet : Assignment → (ℤ → Bool) → Type 0
 IsFalseSet v set = (l : ℤ) → set l ≡ true → literal_value v l ≡ false
 
--- a member of the greater set is the literal, or is in the set
+-- a member of the set with one literal more is that literal, or is in the set
 with_literal_cases : (set : ℤ → Bool) (l m : ℤ) → with_literal set l m ≡ true → (m ≡ l) ⊎ (set m ≡ true)
 with_literal_cases set l m is =
     ⊎_elim (λ (same : int_eq m l ≡ true). inl ((signed_Decides m l).0 same)) (λ (member : set m ≡ true). inr member) (or_cases (int_eq m l) (set m) is)
@@ -40,11 +40,11 @@ unit_value v set clause l false_set (k, m, within, at, value) unit =
     let P : ℤ → Type 0 = λ x. (x ≡ l) ⊎ (set x ≡ true) in
     ⊎_elim (λ (same : m ≡ l). subst (λ (x : ℤ). literal_value v x ≡ true) same value) (λ (member : set m ≡ true). not_both (literal_value v m) value (false_set m member)) (All-contains P clause m unit.others (k, within, at))
 
--- the clauses that are live are clauses, and are true
+-- live clauses are clauses, and are true
 abbrev Models : Assignment → (ℕ → Option (List ℤ)) → Type 0
 Models v live = (id : ℕ) (clause : List ℤ) → live id ≡ Some clause → IsClause clause × IsTrueClause v clause
 
--- Hints that hold from a set contradict that the set is false.
+-- Where hints hold from a set, not all literals of the set are false.
 hints_contradict : (v : Assignment) (live : ℕ → Option (List ℤ)) (hints : List ℕ) (set : ℤ → Bool) → Models v live → HintsHold live set hints → IsFalseSet v set → ⊥
 unfolding HintsHold IsTrueClause
 hints_contradict v live [] set models hold false_set = hold
@@ -67,17 +67,17 @@ Contains-from_among lits l is =
     let same : l ≡ found.1 = (signed_Decides l found.1).0 found.4 in
     rw same (found.0, found.2, found.3)
 
--- and the other way round
+-- and conversely
 pub among-from_Contains : (lits : List ℤ) (l : ℤ) → Contains lits l → among lits l ≡ true
 among-from_Contains lits l (k, within, at) =
     list_any-from_Any (λ (m : ℤ). int_eq l m) lits (k, l, within, at, (signed_Decides l l).1 refl)
 
--- a clause without a true literal is a false set
+-- where a clause has no true literal, its literals are a set of false ones
 false_clause : (v : Assignment) (lits : List ℤ) → list_any (literal_value v) lits ≡ false → IsFalseSet v (among lits)
 false_clause v lits none l member =
     ⊎_elim (λ (value : literal_value v l ≡ true). let there : Contains lits l = Contains-from_among lits l member in not_both (list_any (literal_value v) lits) (list_any-from_Any (literal_value v) lits (there.0, l, there.1, there.2, value)) none) (λ (value : literal_value v l ≡ false). value) (cases_Bool (literal_value v l))
 
--- An addition that holds is true wherever the live clauses are.
+-- RUP is sound: an addition that holds is true wherever all live clauses are.
 addition_true : (v : Assignment) (s : State) (id : ℕ) (lits : List ℤ) (hints : List ℕ) → Models v s.live → AdditionHolds s id lits hints → IsTrueClause v lits
 unfolding IsTrueClause
 addition_true v s id lits hints models holds =
@@ -124,7 +124,7 @@ no_empty v s (Delete id ids ∷ ls) each models some =
     (λ (later : Any AddsEmpty ls). no_empty v (next s (Delete id ids)) ls each.1 (models_next v s (Delete id ids) each.0 models) later)
     (Any-cons AddsEmpty (Delete id ids) ls some)
 
--- the clauses of a formula are its own
+-- by_id finds clauses of the formula alone
 pub by_id-Contains : (clauses : List (List ℤ)) (id : ℕ) (clause : List ℤ) → by_id clauses id ≡ Some clause → Contains clauses clause
 by_id-Contains clauses id clause is =
     ⊎_elim

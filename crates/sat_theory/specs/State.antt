@@ -1,4 +1,4 @@
--- What a log has made of a formula so far.
+-- The state of a log: what is live after some of its lines.
 use Rattle.std.specs.Prelude.{ℕ, ◌-◌, ◌==◌, Bool, if◌then◌else◌, ℤ, List, length, slice_get, Option, Some, None}
 use Rattle.std.specs.List.{list_any}
 use Rattle.sat_theory.specs.Formula.{Formula}
@@ -21,7 +21,7 @@ start f = record { live = by_id f.clauses; vars = f.vars; greatest = length f.cl
 abbrev pub with_clause : (ℕ → Option (List ℤ)) → ℕ → List ℤ → ℕ → Option (List ℤ)
 with_clause live id lits k = if k == id then Some lits else live k
 
--- whether an id is one of these
+-- whether an id is one of ids
 abbrev pub is_listed : List ℕ → ℕ → Bool
 is_listed ids id = list_any (λ k. id == k) ids
 

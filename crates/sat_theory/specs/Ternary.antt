@@ -10,7 +10,8 @@ use Rattle.sat_theory.specs.Formula.{variable, IsClause, IsWithin}
 use Rattle.sat_theory.specs.Holding.{among}
 use Rattle.sat_theory.specs.Soundness.{Contains-from_among, among-from_Contains}
 
--- which of the two literals of variable suc n is among some: 1 is the positive one, 2 the negative one
+-- the digit of variable suc n: 1 where its positive literal is in the set, 2 where its negative one
+-- is, else 0
 abbrev value : Bool → Bool → ℕ
 value a b = if a then 1 else (if b then 2 else 0)
 
@@ -93,7 +94,7 @@ one_sign lits n clause is = ⊎_elim (λ (both : among lits (pos (suc n)) ≡ tr
         (λ (order : (i < j) ⊎ (j < i)). ⊎_elim (λ (less : i < j). differs i j (negsuc n) (pos (suc n)) at_i at_j less low_j refl) (λ (more : j < i). differs j i (pos (suc n)) (negsuc n) at_j at_i more low_i refl) order)
         (cases_order i j)
 
--- Clauses of one number have the same literals.
+-- Clauses with the same number have the same literals.
 pub inside : (xs ys : List ℤ) (n : ℕ) → IsClause xs → IsWithin n xs → code (among xs) n ≡ code (among ys) n → All (Contains ys) xs
 inside xs ys n clause within e = λ k d low. there (slice_index_or xs k d) (Contains-get_or xs k d low) (clause.literals k d low) (within k d low)
   where

@@ -9,13 +9,14 @@ pub fn refuted_is_unsatisfiable()
     ensures { (f : Formula) (lines : List Line) (v : Assignment) → IsFormula f → Refutes f lines → Satisfies v f → ⊥ }
 {}
 
-/// A log of new clauses that leaves a formula of v variables open, and keeps half of its additions, has spent a budget
-/// below 2 * 3^v: live additions are different clauses, of which there are 3^v with the empty one.
+/// A log of new clauses that leaves a formula of v variables open, and keeps half of its additions,
+/// has spent a `budget` below 2 * 3^v: the live additions are different clauses, of which there are
+/// 3^v, the empty one included.
 pub fn kept_logs_are_short()
     ensures { (f : Formula) (lines : List Line) (budget : ℕ) → IsSpent f lines budget → IsThrifty f lines → budget < 2 * 3 ^ f.vars }
 {}
 
-/// And one that deletes nothing has spent a budget below 3^v.
+/// A log that deletes nothing has spent a `budget` below 3^v.
 pub fn logs_without_deletions_are_short()
     ensures { (f : Formula) (lines : List Line) (budget : ℕ) → IsSpent f lines budget → DeletesNothing lines → budget < 3 ^ f.vars }
 {}

@@ -1,5 +1,5 @@
-//! The definitions, computed as they stand: every clause is looked for from the front, and a set of
-//! literals is a list. It is meant for reading, and for comparing faster checkers with it.
+//! The definitions, computed literally: every clause is searched for from the first on, and a set
+//! of literals is a list. For reading, and for testing faster checkers against it.
 ghost use Rattle.std.specs.Prelude.{◌≡◌, ℕ, ◌-◌, ◌^◌, ◌<◌, ◌↔◌, [], ℤ, IsTrue, IfOk, OnOk, OnErr, IfSome, IfNone, Some, None, All, List};
 ghost use Rattle.std.specs.Option.{option_map};
 ghost use Rattle.sat_theory.specs.Formula.{bits_of, variable, IsWithin, IsTrueClause, literal_value as literal_value_of, opposite as opposite_of};
@@ -31,7 +31,7 @@ impl Model for PlainClause {
 }
 
 impl PlainClause {
-    /// A clause under an id, of literals above the least number.
+    /// A clause under an id; its literals are above the least number of 32 bits.
     pub fn new(id: u32, lits: Vec<i32>) -> PlainClause
         requires { IsWithin (2 ^ 31 - 1) lits.items }
         ensures { result ≡ record { id = id; lits = lits.items } }
@@ -69,7 +69,7 @@ pub fn literal_value(bits: &[bool], lit: i32) -> bool
     }
 }
 
-/// Whether a clause has a true literal.
+/// Whether a clause has a true literal under `bits`.
 #[tactic(auto, unfolding(crate::specs::Formula::IsTrueClause))]
 pub fn is_true(bits: &[bool], lits: &[i32]) -> bool
     ensures { IsTrue result ↔ IsTrueClause (bits_of bits.now) lits.now }
@@ -77,7 +77,7 @@ pub fn is_true(bits: &[bool], lits: &[i32]) -> bool
     lits.iter().any(|lit| literal_value(bits, *lit))
 }
 
-/// Whether each clause has a true literal.
+/// Whether each clause has a true literal under `bits`.
 pub fn satisfies(bits: &[bool], clauses: &[PlainClause]) -> bool
     ensures { IsTrue result ↔ All (λ (c : Numbered). IsTrueClause (bits_of bits.now) c.lits) clauses.now }
 {
@@ -106,7 +106,7 @@ fn is_among(lits: &[i32], lit: i32) -> bool
     lits.iter().any(|member| lit == *member)
 }
 
-/// The literal of the other sign.
+/// The opposite literal.
 fn opposite(lit: i32) -> i32
     requires { variable lit < 2 ^ 31 }
     ensures { result ≡ opposite_of lit }
@@ -114,7 +114,7 @@ fn opposite(lit: i32) -> i32
     -lit
 }
 
-/// The one literal of a clause that isn't in the set.
+/// The one literal of a clause that isn't in `set`, if there is exactly one.
 fn unit_outside(set: &[i32], lits: &[i32]) -> Option<i32>
     ensures found { IfSome result (IsUnitOutside (among set.now) lits.now) }
     ensures none { IfNone result ((l : ℤ) → IsUnitOutside (among set.now) lits.now l → ⊥) }
@@ -135,7 +135,8 @@ fn unit_outside(set: &[i32], lits: &[i32]) -> Option<i32>
     found
 }
 
-/// Whether hints hold from a set, where each hint but the last puts a literal into the set.
+/// Whether `hints` hold from `set`: each hint but the last is unit and its literal's opposite joins
+/// the set, the last one is a conflict.
 #[tactic(auto, unfolding(crate::specs::Holding::HintsHold))]
 fn hints_hold(
     clauses: &[PlainClause],
@@ -168,14 +169,14 @@ fn is_listed(ids: &[u32], id: u32) -> bool
     ids.iter().any(|other| id == *other)
 }
 
-/// Keeps the clauses whose ids aren't in a list.
+/// Keeps the clauses whose ids aren't in `ids`.
 fn take_out(clauses: &mut Vec<PlainClause>, ids: &[u32])
     ensures { clauses.new.items ≡ not_listed ids.now clauses.old.items }
 {
     clauses.retain(|clause| !is_listed(ids, clause.id()));
 }
 
-/// A state of a log, its clauses with the newest first.
+/// A state of a log: its live clauses, the newest first.
 #[derive(Drop)]
 pub struct PlainState {
     clauses: Vec<PlainClause>,
@@ -193,7 +194,7 @@ impl Model for PlainState {
 
 #[tactic(auto, using(crate::proofs::Listed::states))]
 impl PlainState {
-    /// Before the first clause of a formula.
+    /// The state before the first clause of a formula.
     pub fn new(alloc: Global, vars: u32) -> PlainState
         ensures { state_of result ≡ start (record { vars = vars; clauses = [] }) }
     {
@@ -204,7 +205,7 @@ impl PlainState {
         }
     }
 
-    /// Adds a clause, be it of the formula or of a line, whether it holds or not.
+    /// Adds a clause, of the formula or of a line. Whether it holds isn't judged.
     pub fn add(&mut self, id: u32, lits: Vec<i32>) -> Result<(), AllocError>
         requires { IsWithin (2 ^ 31 - 1) lits.items }
         ensures ok { OnOk result ((hints : List ℕ) → state_of self.new ≡ next (state_of self.old) (Add id lits.items hints)) }
@@ -215,14 +216,14 @@ impl PlainState {
         Ok(())
     }
 
-    /// Takes clauses away, whether they are there or not.
+    /// Removes the clauses of `ids`; an id that isn't live is passed over.
     pub fn remove(&mut self, ids: &[u32])
         ensures { (id : ℕ) → state_of self.new ≡ next (state_of self.old) (Delete id ids.now) }
     {
         take_out(&mut self.clauses, ids);
     }
 
-    /// Whether an addition holds; what it adds isn't added.
+    /// Whether an addition holds. The state stays as it is.
     pub fn addition_holds(
         &self,
         alloc: Global,
@@ -239,7 +240,7 @@ impl PlainState {
         hints_hold(&self.clauses, &mut set, hints)
     }
 
-    /// Whether a deletion holds; what it names isn't taken away.
+    /// Whether a deletion holds. The state stays as it is.
     pub fn deletion_holds(&self, ids: &[u32]) -> bool
         ensures { IsTrue result ↔ DeletionHolds (live_in self.now.clauses) ids.now }
     {
@@ -247,7 +248,7 @@ impl PlainState {
     }
 }
 
-/// Whether ids are live and different.
+/// Whether `ids` are live and different.
 #[tactic(auto, using(crate::proofs::Listed::deletions))]
 fn are_live(clauses: &[PlainClause], ids: &[u32]) -> bool
     ensures { IsTrue result ↔ DeletionHolds (live_in clauses.now) ids.now }

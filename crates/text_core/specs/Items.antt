@@ -12,16 +12,18 @@ unfoldable pub split_from : List ℕ → List ℕ → Split
 split_from front [] = record { first = front; more = [] }
 split_from front (b ∷ bs) = if b == 32 then record { first = front; more = (split_from [] bs).first ∷ (split_from [] bs).more } else split_from (front ++ b ∷ []) bs
 
--- the items of a text, one more than it has blanks: two blanks in a row have an empty item between them
+-- the items of a text, one more than it has blanks: between two adjacent blanks there is an empty
+-- item
 abbrev pub items_of : List ℕ → List (List ℕ)
 items_of text = (split_from [] text).first ∷ (split_from [] text).more
 
--- the items of what is left behind an item, none where the text ended with it
+-- the items of what is left after an item, none where the text ended with it
 abbrev pub items_left : Option (Bor (List ℕ)) → List (List ℕ)
 items_left None = []
 items_left (Some text) = items_of text.now
 
--- how far reading has to go: 0 where the text ended, and each item takes at least one
+-- the termination measure of reading items: 0 where the text ended, and each item takes at least
+-- one byte
 abbrev pub size_left : Option (Bor (List ℕ)) → ℕ
 size_left None = 0
 size_left (Some text) = length text.now + 1

@@ -6,7 +6,7 @@ pub record Line : Type 0 where
   pub text : List ℕ
   pub ended : Bool
 
--- what stands behind the last LF: a line that no LF ends, unless nothing stands there
+-- what follows the last LF: a line that no LF ends, unless it is empty
 abbrev pub last_line : List ℕ → List Line
 last_line [] = []
 last_line (b ∷ bs) = record { text = b ∷ bs; ended = false } ∷ []

@@ -1,8 +1,9 @@
--- Numbers: decimal digits with no sign, and no 0 in front of others.
+-- Numbers: decimal digits with no sign and no leading 0.
 use Rattle.std.specs.Prelude.{ℕ, ◌+◌, ◌-◌, ◌*◌, List, [], ◌∷◌, Option, Some, None, ◌==◌, nat_lt, if◌then◌else◌}
 use Rattle.std.specs.Char.{is_ascii_digit}
 
--- the number whose first digits are worth n and whose others are given, where it is at most limit
+-- the number whose first digits have the value n and whose other digits are given, where it is at
+-- most limit
 unfoldable pub number_from : ℕ → ℕ → List ℕ → Option ℕ
 number_from limit n [] = Some n
 number_from limit n (b ∷ bs) = if is_ascii_digit b then (if nat_lt limit (n * 10 + (b - 48)) then None else number_from limit (n * 10 + (b - 48)) bs) else None

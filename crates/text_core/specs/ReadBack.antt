@@ -1,4 +1,4 @@
--- What a text is made of is read from it again, whatever follows; and what is read was written there.
+-- Round trips: what is spelled is read again, whatever follows; and what is read was spelled so.
 use Rattle.std.specs.Prelude.{◌≡◌, ℕ, ◌+◌, ◌*◌, ◌/◌, ◌%◌, ◌^◌, ◌<◌, ◌≤◌, true, false, List, [], ◌∷◌, ◌++◌, length, Some, decimal, refl}
 use Rattle.std.specs.List.{flat_map, join_with_byte}
 use Rattle.std.proofs.Common.{◌-◌, ◌≢◌, ap, ◌∙◌, sym, subst, arith, get_or, ◌⊎◌, inl, inr}
@@ -28,7 +28,7 @@ unfolding lines_from is_free
 last_from_back front [] free = grind (arith, common_steps)
 last_from_back front (b ∷ text) free = grind (arith, common_steps, last_from_back (front ++ b ∷ []) text)
 
--- a last line that none ends
+-- a last line that no LF ends
 pub last_line_back : (text : List ℕ) → is_free 10 text ≡ true → 0 < length text → lines_of text ≡ record { text = text; ended = false } ∷ []
 last_line_back [] free some = absurd (omega arith)
 last_line_back (b ∷ text) free some = last_from_back [] (b ∷ text) free
@@ -77,13 +77,13 @@ last_item_back item free = grind (arith, common_steps, last_item_from_back [] it
 
 -- ---- words
 
--- what stands behind a word that was written
+-- what follows a word is what was written after it
 pub word_back : (word rest : List ℕ) → after word (word ++ rest) ≡ Some rest
 unfolding after
 word_back [] rest = refl
 word_back (w ∷ word) rest = grind (arith, common_steps, word_back word rest)
 
--- where something stands behind a word, the word was written
+-- where `after` finds a word, it was written there
 pub word_spells : (word text rest : List ℕ) → after word text ≡ Some rest → text ≡ word ++ rest
 unfolding after
 word_spells [] text rest e = cc
@@ -133,7 +133,7 @@ digits_fold = record { empty = λ n. refl; more = λ n c cs d. refl }
 digits_are : IsNumeralModel (λ ds. all_ascii_digits ds ≡ true) (read_on 0)
 digits_are = numerals_by_fold _ tells_all_ascii_digits read_on digits_fold
 
--- what reading found of digits
+-- what number_from found: the digits' value, within the limit
 record Found (limit v n : ℕ) (ds : List ℕ) : Type 0 where
   digits : all_ascii_digits ds ≡ true
   value : read_on v ds ≡ n
@@ -152,7 +152,7 @@ spells_by limit n text narrow some needed e =
     let below : read_on 0 text < 2 ^ 64 = rw found.value (omega (arith, found.within)) in
     (found.within, sym (decimal-digits_value digits_are text found.digits some needed below) ∙ ap decimal found.value)
 
--- a second digit stands behind no 0
+-- no digit follows a first 0
 no_zero_first : (limit n b c : ℕ) (text : List ℕ) → number_up_to limit (b ∷ c ∷ text) ≡ Some n → (b ≢ 48) × (number_from limit 0 (b ∷ c ∷ text) ≡ Some n)
 no_zero_first limit n b c text e = (λ zero. grind (arith, common_steps), grind (arith, common_steps))
 
@@ -164,9 +164,9 @@ number_spells limit n (b ∷ c ∷ text) narrow e =
     let parts = no_zero_first limit n b c text e in
     spells_by limit n (b ∷ c ∷ text) narrow (omega arith) (λ zero. absurd (parts.0 zero)) parts.1
 
--- ---- bytes that don't stand in a text
+-- ---- bytes that aren't in a text
 
--- nor in two, one after the other
+-- nor in two texts joined
 pub free_both : (byte : ℕ) (xs ys : List ℕ) → is_free byte xs ≡ true → is_free byte ys ≡ true → is_free byte (xs ++ ys) ≡ true
 unfolding is_free
 free_both byte [] ys one two = two
@@ -176,7 +176,7 @@ free_digit : (byte d : ℕ) → byte < 48 → is_free byte ((48 + d) ∷ []) ≡
 unfolding is_free
 free_digit byte d low = grind (arith, common_steps)
 
--- a blank, an LF and what else is below the digits stand in no number
+-- no byte below the digits (blank and LF among them) is part of a number
 pub free_decimal : (byte n : ℕ) → byte < 48 → n < 2 ^ 64 → is_free byte (decimal n) ≡ true
 free_decimal byte n low narrow =
     decimal_by_steps

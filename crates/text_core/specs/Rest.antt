@@ -1,10 +1,10 @@
--- What is left of a text behind what was read of it.
+-- What is left of a text after what was read of it.
 use Rattle.std.specs.Prelude.{◌≡◌, ℕ, ◌+◌, ◌-◌, ◌≤◌, List, length, refl}
 use Rattle.std.proofs.Common.{drop, ap, ◌∙◌, arith}
 use Rattle.std.proofs.lemmas.List.{drop-drop}
 use Rattle.std.proofs.lemmas.Grind.{common_steps}
 
--- rest is the end of bytes, from the place on that the two lengths tell
+-- rest is the suffix of bytes whose length it has
 pub record IsRest (bytes rest : List ℕ) : Type 0 where
   pub shorter : length rest ≤ length bytes
   pub place : rest ≡ drop (length bytes - length rest) bytes

@@ -1,8 +1,8 @@
--- Words at the front of a text.
+-- Words at the start of a text.
 use Rattle.std.specs.Prelude.{ℕ, Bool, true, false, List, [], ◌∷◌, Option, Some, None, ◌==◌, if◌then◌else◌}
 use Rattle.std.specs.Char.{is_ascii_lowercase}
 
--- what stands behind a word, None where the text doesn't begin with it
+-- what follows a word, None where the text doesn't begin with it
 unfoldable pub after : List ℕ → List ℕ → Option (List ℕ)
 after [] text = Some text
 after (w ∷ ws) [] = None
@@ -13,7 +13,7 @@ abbrev pub begins_lower : List ℕ → Bool
 begins_lower [] = false
 begins_lower (b ∷ bs) = is_ascii_lowercase b
 
--- whether a byte stands nowhere in a text
+-- whether a byte isn't in a text
 unfoldable pub is_free : ℕ → List ℕ → Bool
 is_free byte [] = true
 is_free byte (b ∷ bs) = if b == byte then false else is_free byte bs

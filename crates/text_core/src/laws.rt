@@ -26,20 +26,20 @@ pub fn laws_of_items()
     ensures spelled { (text : List ℕ) → join_with_byte 32 (items_of text) ≡ text }
 {}
 
-/// What stands behind a word is what was written behind it.
+/// What follows a word is what was written after it.
 pub fn laws_of_words()
     ensures { (word text rest : List ℕ) → (after word text ≡ Some rest) ↔ (text ≡ word ++ rest) }
 {}
 
 /// A number is read exactly where its decimal digits are written and it is within the limit. No
-/// blank, no LF and no other byte below the digits stands in it.
+/// blank, no LF and no other byte below the digits is part of it.
 pub fn laws_of_numbers()
     ensures read { (limit n : ℕ) (text : List ℕ) → limit < 2 ^ 32 →
         (number_up_to limit text ≡ Some n) ↔ ((n ≤ limit) × (text ≡ decimal n)) }
     ensures apart { (n byte : ℕ) → n < 2 ^ 32 → byte < 48 → is_free byte (decimal n) ≡ true }
 {}
 
-/// A text is a rest of itself, and a rest of a rest is a rest.
+/// A text is a rest (suffix) of itself, and a rest of a rest is a rest.
 pub fn laws_of_rests()
     ensures whole { (bytes : List ℕ) → IsRest bytes bytes }
     ensures onward { (a b c : List ℕ) → IsRest a b → IsRest b c → IsRest a c }

@@ -1,5 +1,5 @@
-//! Lines, items, words and numbers of texts: the ground on which the readers of tables, chains,
-//! logs and bundles stand.
+//! Lines, items, words and numbers of texts: what the readers of tables, chains, logs and
+//! certificates are built from.
 //!
 //! A text is a list of lines, a line a list of items parted by single blanks, and a number its
 //! decimal digits. Each of these is a definition on lists (`lines_of`, `items_of`, `after`,

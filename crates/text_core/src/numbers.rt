@@ -1,13 +1,12 @@
-//! Decimal numbers, read and written. A number has one spelling: no sign, and no 0 in front of others.
+//! Decimal numbers, read and written. A number has one spelling: no sign, no leading 0.
 ghost use Rattle.std.specs.Prelude.{◌≡◌, ◌++◌, OnOk, OnErr, decimal};
 ghost use Rattle.text_core.specs.Numbers as spec;
 
 use itoa::Buffer;
 use std::alloc::AllocError;
 
-/// The number that all of a text spells: decimal digits, with no sign and no needless 0 in front.
-/// None where it spells none, or one above `limit`. With the limit 999999999 a number has at most
-/// nine digits.
+/// The number that the whole text spells: decimal digits, no sign, no leading 0. None where it
+/// spells none, or one above `limit`. With the limit 999999999 a number has at most nine digits.
 #[tactic(auto, unfolding(crate::specs::Numbers::number_from))]
 pub fn number_up_to(limit: u32, text: &[u8]) -> Option<u32>
     ensures { result ≡ spec.number_up_to limit text.now }
@@ -31,7 +30,7 @@ pub fn number_up_to(limit: u32, text: &[u8]) -> Option<u32>
     Some(value)
 }
 
-/// Writes a number at the end of a text, in decimal digits.
+/// Appends a number in decimal digits.
 pub fn push_number(out: &mut Vec<u8>, n: u32) -> Result<(), AllocError>
     ensures ok { OnOk result (out.new.items ≡ out.old.items ++ decimal n) }
     ensures err { OnErr result (out.new.items ≡ out.old.items) }

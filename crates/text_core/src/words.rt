@@ -1,9 +1,9 @@
-//! Words at the front of a text.
+//! Words at the start of a text.
 ghost use Rattle.std.specs.Prelude.{◌≡◌};
 ghost use Rattle.std.specs.Option.{option_copied};
 ghost use Rattle.text_core.specs.Words as spec;
 
-/// What stands behind a word at the front of a text; None where the text doesn't begin with the word.
+/// What follows `word` where the text begins with it; else None.
 #[tactic(auto, unfolding(crate::specs::Words::after))]
 pub fn after<'a>(word: &[u8], text: &'a [u8]) -> Option<&'a [u8]>
     ensures { option_copied result ≡ spec.after word.now text.now }
