@@ -9,11 +9,12 @@ use Rattle.log_core.specs.Numbers.{numbers_from, written}
 unfoldable pub step : ℕ → ℕ → ℕ
 step last id = if nat_le last id then 2 * (id - last) else 2 * (last - id) - 1
 
--- the id that a step leads to, kept within 32 bits
+-- the id that a step leads to, clamped to 32 bits
 unfoldable pub stepped : ℕ → ℕ → ℕ
 stepped last n = if n % 2 == 0 then min (last + n / 2) 4294967295 else last - (n / 2 + 1)
 
--- ids as bytes: each as the step from the one before. Example: behind 0, the ids 7, 9, 8 are 14, 4, 1.
+-- ids as bytes: each as the step from the one before. Example: after 0, the ids 7, 9, 8 are 14, 4,
+-- 1.
 unfoldable pub ids_written : ℕ → List ℕ → List ℕ
 ids_written last [] = []
 ids_written last (id ∷ ids) = written (step last id) ++ ids_written id ids
@@ -27,7 +28,7 @@ ids_from last (n ∷ ns) = stepped last n ∷ ids_from (stepped last n) ns
 abbrev pub ids_of : List ℕ → List ℕ
 ids_of bytes = ids_from 0 (numbers_from 0 bytes)
 
--- a variable from 1 to 2147483647, that is n where n is one
+-- n clamped to a variable, from 1 to 2147483647
 unfoldable pub variable_at : ℕ → ℕ
 variable_at n = max 1 (min n 2147483647)
 

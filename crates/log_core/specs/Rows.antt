@@ -1,7 +1,8 @@
--- The lines of a log in one row of bytes, one behind another. A head tells of each line its kind, its id and how many
--- bytes of the row its lists take, so that where the row is cut doesn't depend on what stands in it. Example: the heads
--- Add 5 1 2 and Delete 6 1 cut the row 6, 14, 4, 8 into the line that adds 3 by the hints 7, 9 under the id 5, and the
--- line that deletes 4.
+-- The lines of a log in one row of bytes, one after another. A head has the kind and the id of a
+-- line and how many bytes of the row each of its lists takes, so where the row is cut doesn't
+-- depend on its bytes.
+-- Example: the heads Add 5 1 2 and Delete 6 1 cut the row 6, 14, 4, 8 into the line that adds 3 by
+-- the hints 7, 9 under the id 5, and the line that deletes 4.
 use Rattle.std.specs.Prelude.{◌≡◌, ℕ, ◌+◌, List, [], ◌∷◌, ◌++◌, length, take, drop}
 use Rattle.sat_theory.specs.Line as theory
 use Rattle.log_core.specs.declared.head.Head.{Head}
@@ -13,7 +14,7 @@ abbrev pub size_of : Head → ℕ
 size_of (Add id lits hints) = lits + hints
 size_of (Delete id ids) = ids
 
--- the line of a head and its bytes: of an addition first the literals, then the hints
+-- the line that a head and its bytes spell: of an addition first the literals, then the hints
 abbrev pub line_in : Head → List ℕ → theory.Line
 line_in (Add id lits hints) bytes = theory.Add id (literals_of (take lits bytes)) (ids_of (drop lits bytes))
 line_in (Delete id ids) bytes = theory.Delete id (ids_of bytes)
@@ -28,15 +29,15 @@ unfoldable pub sizes_of : List Head → ℕ
 sizes_of [] = 0
 sizes_of (h ∷ hs) = size_of h + sizes_of hs
 
--- the lines take all bytes of a row
+-- the lines take exactly the bytes of the row
 abbrev pub IsCut : List Head → List ℕ → Type 0
 IsCut heads bytes = sizes_of heads ≡ length bytes
 
--- a row that begins as another
+-- the old row is a prefix of the new one
 abbrev pub BeginsAs : List ℕ → List ℕ → Type 0
 BeginsAs old new = take (length old) new ≡ old
 
--- a line was packed behind a row, and this is its head
+-- a line was appended to a row, and this is its head
 pub record IsPacked (old new : List ℕ) (line : theory.Line) (h : Head) : Type 0 where
   pub more : List ℕ
   pub row : new ≡ old ++ more

@@ -2,17 +2,18 @@
 ghost use Rattle.std.specs.Prelude.{◌≡◌};
 ghost use Rattle.log_core.specs.Rows.{size_of};
 
-/// What the row of bytes has of a line: the lists take so many bytes.
+/// What the log keeps of a line outside its row of bytes: kind, id, and the number of bytes that
+/// each list takes.
 #[derive(Clone, Copy)]
 pub(crate) enum Head {
-    /// An addition: its literals, and behind them its hints.
+    /// An addition: its literals are followed by its hints.
     Add { id: u32, lits: u32, hints: u32 },
     /// A deletion.
     Delete { id: u32, ids: u32 },
 }
 
 impl Head {
-    /// How many bytes the line takes.
+    /// How many bytes of the row the line takes.
     pub(crate) fn size(self) -> usize
         ensures { result ≡ size_of self }
     {

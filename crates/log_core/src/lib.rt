@@ -1,6 +1,7 @@
-//! Refutation logs as the search for them leaves them: lines are put behind, and read from the front. Contracts see a
-//! log as the list of its lines, as the definitions of logs have them. It is kept as bytes: a hint mostly takes two, as
-//! the step from the one before, and a literal as many as its variable needs.
+//! Refutation logs (LRAT proofs) as a solver produces them: lines are appended, and read from the
+//! first on. Contracts see a log as the list of its lines, in the definitions of `sat_theory`. It
+//! is kept as bytes (variable-length, base 128): a hint mostly takes two, as the difference from
+//! the one before, and a literal as many as its variable needs.
 //!
 //! ```text
 //! let mut log = Log::new(alloc);

@@ -1,5 +1,6 @@
-//! Logs: heads of lines, and one row with the bytes of all lines. That the lengths in the heads add up to the length of
-//! the row is all that has to be known to put a line behind and to take the first one off; the bytes may be any.
+//! Logs: heads of lines, and one row with the bytes of all lines. That the lengths in the heads add
+//! up to the length of the row is the whole invariant, enough to append a line and to take the
+//! first one off; the bytes are arbitrary.
 ghost use Rattle.std.specs.Prelude.{◌≡◌, [], ◌∷◌, ◌++◌, length, take, OnOk, OnErr, IsOkAnd, IfOk, IfSome, IfNone};
 ghost use Rattle.sat_theory.specs.Line as theory;
 ghost use Rattle.lrat_text.specs.Values.{line_value};
@@ -13,7 +14,8 @@ use lrat_text::Line;
 use std::alloc::{AllocError, Global};
 use std::marker::Model;
 
-/// A log. A line takes 16 bytes and some two for each literal and hint, and no allocation of its own.
+/// A log. A line takes 16 bytes and about two for each literal and hint, and no allocation of its
+/// own.
 #[derive(Drop)]
 pub struct Log {
     heads: Vec<Head>,
@@ -32,7 +34,7 @@ impl Model for Log {
     ghost invariant = { λ l. IsCut l.heads.items l.bytes.items };
 }
 
-/// What is left of a log that is read.
+/// What is left of a log while it is read.
 #[derive(Drop)]
 pub struct Lines<'a> {
     heads: &'a [Head],
@@ -51,7 +53,7 @@ impl<'a> Model for Lines<'a> {
     ghost invariant = { λ l. IsCut l.heads.now l.bytes.now };
 }
 
-/// Puts the head of a line that was packed behind the others.
+/// Appends the head of a packed line.
 fn push_head(heads: &mut Vec<Head>, packed: Result<Head, AllocError>) -> Result<(), AllocError>
     ensures ok { OnOk result (IsOkAnd packed (λ head. heads.new.items ≡ heads.old.items ++ head ∷ [])) }
     ensures err { OnErr result (heads.new.items ≡ heads.old.items) }
@@ -60,7 +62,7 @@ fn push_head(heads: &mut Vec<Head>, packed: Result<Head, AllocError>) -> Result<
     Ok(())
 }
 
-/// As `push_head`, but where memory was wanting, the row of bytes is cut back to where the line began.
+/// As `push_head`; where memory runs out, the row of bytes is cut back to where the line began.
 fn push_or_cut(
     heads: &mut Vec<Head>,
     bytes: &mut Vec<u8>,
@@ -98,8 +100,8 @@ impl Log {
         self.heads.len()
     }
 
-    /// Puts an addition behind the others. Literals or hints that take more than 4,294,967,295 bytes count as want of
-    /// memory.
+    /// Appends an addition. Literals or hints that take more than 4,294,967,295 bytes count as
+    /// running out of memory.
     pub fn add(&mut self, id: u32, lits: &[Lit], hints: &[u32]) -> Result<(), AllocError>
         ensures ok { OnOk result (self.new ≡ self.old ++ theory.Add id lits.now hints.now ∷ []) }
         ensures err { OnErr result (self.new ≡ self.old) }
@@ -110,7 +112,8 @@ impl Log {
         Ok(())
     }
 
-    /// Puts a deletion behind the others. Ids that take more than 4,294,967,295 bytes count as want of memory.
+    /// Appends a deletion. Ids that take more than 4,294,967,295 bytes count as running out of
+    /// memory.
     pub fn delete(&mut self, id: u32, ids: &[u32]) -> Result<(), AllocError>
         ensures ok { OnOk result (self.new ≡ self.old ++ theory.Delete id ids.now ∷ []) }
         ensures err { OnErr result (self.new ≡ self.old) }
@@ -121,7 +124,7 @@ impl Log {
         Ok(())
     }
 
-    /// The heads of its lines, and the bytes that they cut.
+    /// The heads of its lines, and the row of bytes that they divide.
     pub(crate) fn parts(&self) -> (&[Head], &[u8])
         ensures lines { lines_in result.0.now result.1.now ≡ self.now }
         ensures cut { IsCut result.0.now result.1.now }
@@ -129,7 +132,7 @@ impl Log {
         (&self.heads, &self.bytes)
     }
 
-    /// All its lines, to be read from the front.
+    /// All its lines, to be read from the first on.
     pub fn lines(&self) -> Lines<'_>
         ensures { result ≡ self.now }
     {
@@ -142,7 +145,7 @@ impl Log {
 
 #[tactic(auto, using(crate::proofs::Shown::left))]
 impl<'a> Lines<'a> {
-    /// The next line. Where memory was wanting, it is still to be read.
+    /// The next line. Where memory runs out, it is still to be read.
     pub fn next(&mut self, alloc: Global) -> Result<Option<Line>, AllocError>
         ensures none { IfOk result (λ found. IfNone found (self.old ≡ [])) }
         ensures end { IfOk result (λ found. IfNone found (self.new ≡ [])) }

@@ -1,5 +1,5 @@
-//! Numbers as bytes, in as many as they have digits to the base 128: put behind a row, and read from the front of one.
-//! A row to which memory was wanting begins as it was, so that it can be cut back.
+//! Numbers as bytes, one byte for each digit to the base 128: appended to a row, and read from its
+//! start. Where memory runs out, a row has what it had as a prefix, so that it can be cut back.
 ghost use Rattle.std.specs.Prelude.{◌≡◌, [], ◌∷◌, ◌++◌, ◌<◌, ◌≤◌, length, OnOk, IfSome, IfNone};
 ghost use Rattle.log_core.specs.Numbers as spec;
 ghost use Rattle.log_core.specs.Numbers.{leading, far, written, numbers_from};
@@ -7,7 +7,7 @@ ghost use Rattle.log_core.specs.Rows.{BeginsAs};
 
 use std::alloc::AllocError;
 
-/// Puts the digit that a number ends with behind a row, as one that isn't the last; none for 0.
+/// Appends the last digit of a number, marked as not the last one of the whole; nothing for 0.
 #[tactic(auto, using(crate::proofs::Behind::behind), unfolding(crate::specs::Numbers::leading))]
 fn push_leading(bytes: &mut Vec<u8>, number: u64) -> Result<(), AllocError>
     ensures ok { OnOk result (bytes.new.items ≡ bytes.old.items ++ leading number) }
@@ -20,7 +20,8 @@ fn push_leading(bytes: &mut Vec<u8>, number: u64) -> Result<(), AllocError>
     Ok(())
 }
 
-/// Puts the three digits that a number ends with behind a row, none of them as the last. Few numbers have them.
+/// Appends the last three digits of a number, all marked as not the last one of the whole. Few
+/// numbers have them.
 #[tactic(auto, using(crate::proofs::Behind::behind), unfolding(crate::specs::Numbers::far))]
 fn push_far(bytes: &mut Vec<u8>, number: u64) -> Result<(), AllocError>
     ensures ok { OnOk result (bytes.new.items ≡ bytes.old.items ++ far number) }
@@ -35,7 +36,7 @@ fn push_far(bytes: &mut Vec<u8>, number: u64) -> Result<(), AllocError>
     Ok(())
 }
 
-/// Puts a number behind a row.
+/// Appends a number.
 #[tactic(auto, using(crate::proofs::Behind::behind), unfolding(crate::specs::Numbers::written))]
 pub(crate) fn push_number(bytes: &mut Vec<u8>, number: u64) -> Result<(), AllocError>
     ensures ok { OnOk result (bytes.new.items ≡ bytes.old.items ++ written number) }
@@ -47,8 +48,8 @@ pub(crate) fn push_number(bytes: &mut Vec<u8>, number: u64) -> Result<(), AllocE
     Ok(())
 }
 
-/// A number with one digit more behind it, read from a byte from 128 on. Before its last digit no
-/// number grows above 2^34.
+/// A number with one digit more, read from a byte from 128 on. Before its last digit no number
+/// grows above 2^34.
 #[tactic(auto, unfolding(crate::specs::Numbers::grown))]
 fn grown(number: u64, byte: u8) -> u64
     requires number { number ≤ 17179869184 }
@@ -59,8 +60,8 @@ fn grown(number: u64, byte: u8) -> u64
     (number * 128 + u64::from(byte - 128)).min(17_179_869_184)
 }
 
-/// The first number that bytes spell, and what stands behind it; None where none is left. Any bytes spell numbers, and
-/// digits without a last one spell none.
+/// The first number that bytes spell, and what follows it; None where none is left. Any bytes spell
+/// numbers; digits without a last one spell none.
 #[tactic(auto, using(crate::proofs::Taken::taken))]
 pub(crate) fn next_number(bytes: &[u8]) -> Option<(u64, &[u8])>
     ensures none { IfNone result (numbers_from 0 bytes.now ≡ []) }

@@ -1,4 +1,4 @@
-//! Lists put behind a row of bytes, each number at once, with no list made beside.
+//! Lists appended to a row of bytes, number by number, with no temporary list.
 ghost use Rattle.std.specs.Prelude.{◌≡◌, ◌-◌, ◌≤◌, ◌++◌, OnOk, IfOk, All};
 ghost use Rattle.sat_theory.specs.Line as theory;
 ghost use Rattle.cnf_core.specs.Bounds.{IsLit};
@@ -12,7 +12,7 @@ use crate::steps::step;
 use cnf_core::Lit;
 use std::alloc::AllocError;
 
-/// Puts ids behind a row, each as the step from the one before.
+/// Appends ids, each as the step from the one before.
 #[tactic(auto, using(crate::proofs::Behind::packed))]
 pub(crate) fn push_ids(bytes: &mut Vec<u8>, ids: &[u32]) -> Result<(), AllocError>
     ensures ok { OnOk result (bytes.new.items ≡ bytes.old.items ++ ids_written 0 ids.now) }
@@ -31,12 +31,12 @@ fn number_of(lit: Lit) -> u64
     ensures value { result ≡ code_of lit }
     ensures whole { IsLit lit }
 {
-    // That it is a literal is what `variable` tells, and not `code`.
+    // for the prover: `variable` brings in the invariant of the literal, which `code` doesn't
     let _variable = lit.variable();
     lit.code() as u64
 }
 
-/// Puts literals behind a row.
+/// Appends literals.
 #[tactic(auto, using(crate::proofs::Behind::packed))]
 pub(crate) fn push_literals(bytes: &mut Vec<u8>, lits: &[Lit]) -> Result<(), AllocError>
     ensures ok { OnOk result (bytes.new.items ≡ bytes.old.items ++ literals_written lits.now) }
@@ -49,7 +49,7 @@ pub(crate) fn push_literals(bytes: &mut Vec<u8>, lits: &[Lit]) -> Result<(), All
     Ok(())
 }
 
-/// The length of a part of a row. One above 4,294,967,295 counts as want of memory.
+/// The length of a part of a row. One above 4,294,967,295 counts as running out of memory.
 fn size(start: usize, end: usize) -> Result<u32, AllocError>
     requires { start ≤ end }
     ensures { IfOk result (λ size. size ≡ end - start) }
@@ -60,7 +60,7 @@ fn size(start: usize, end: usize) -> Result<u32, AllocError>
     Ok((end - start) as u32)
 }
 
-/// Packs an addition behind a row, and makes its head.
+/// Appends the bytes of an addition, and makes its head.
 #[tactic(auto, using(crate::proofs::Behind::behind))]
 pub(crate) fn pack_addition(
     bytes: &mut Vec<u8>,
@@ -80,7 +80,7 @@ pub(crate) fn pack_addition(
     Ok(Head::Add { id, lits, hints })
 }
 
-/// Packs a deletion behind a row, and makes its head.
+/// Appends the bytes of a deletion, and makes its head.
 #[tactic(auto, using(crate::proofs::Behind::behind))]
 pub(crate) fn pack_deletion(bytes: &mut Vec<u8>, id: u32, ids: &[u32]) -> Result<Head, AllocError>
     ensures packed { IfOk result (IsPacked bytes.old.items bytes.new.items (theory.Delete id ids.now)) }

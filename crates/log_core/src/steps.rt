@@ -1,4 +1,5 @@
-//! Steps from one id to the next, as numbers: hints mostly lie near each other, so that most steps take two bytes.
+//! Steps from one id to the next, as numbers (zigzag differences): hints are mostly close to each
+//! other, so most steps take two bytes.
 ghost use Rattle.std.specs.Prelude.{◌≡◌};
 ghost use Rattle.log_core.specs.Lists as spec;
 
@@ -10,7 +11,7 @@ pub(crate) fn step(last: u32, id: u32) -> u64
     2 * u64::from(last.abs_diff(id)) - u64::from(id < last)
 }
 
-/// The id that a step leads to, kept within 32 bits.
+/// The id that a step leads to, clamped to 32 bits.
 #[tactic(auto, unfolding(crate::specs::Lists::stepped))]
 pub(crate) fn stepped(last: u32, number: u64) -> u32
     ensures { result ≡ spec.stepped last number }

@@ -1,4 +1,4 @@
-//! Lists read from bytes. Any bytes spell a list, so that nothing has to be known of a row to read it.
+//! Lists read from bytes. Any bytes spell a list, so reading needs no invariant of the row.
 ghost use Rattle.std.specs.Prelude.{◌≡◌, length, IfOk};
 ghost use Rattle.log_core.specs.Lists as spec;
 ghost use Rattle.log_core.specs.Rows.{size_of, line_in};
@@ -27,7 +27,7 @@ fn ids_of(alloc: Global, bytes: &[u8]) -> Result<Vec<u32>, AllocError>
     Ok(ids)
 }
 
-/// The literal that a number stands for, its variable kept within 1 to 2147483647.
+/// The literal that a number stands for, its variable clamped to 1 to 2147483647.
 #[tactic(auto, unfolding(crate::specs::Lists::literal_at, crate::specs::Lists::variable_at))]
 pub(crate) fn literal_at(number: u64) -> Lit
     ensures { result ≡ spec.literal_at number }
@@ -50,7 +50,7 @@ fn literals_of(alloc: Global, bytes: &[u8]) -> Result<Vec<Lit>, AllocError>
     Ok(lits)
 }
 
-/// The line of a head and its bytes.
+/// The line that a head and its bytes spell.
 pub(crate) fn line_in(alloc: Global, head: Head, bytes: &[u8]) -> Result<Line, AllocError>
     requires { length bytes.now ≡ size_of head }
     ensures { IfOk result (λ line. line_value line ≡ line_in head bytes.now) }

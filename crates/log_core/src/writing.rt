@@ -1,5 +1,6 @@
-//! Logs as texts: their lines one behind another, as the grammar spells them. Each number is spelled as it is read,
-//! with no line made beside. A text to which memory was wanting begins as it was, and is cut back once.
+//! Logs as texts: their lines one after another, as the grammar spells them. Each number is spelled
+//! as it is read, with no line built in between. Where memory runs out, a text has what it had as a
+//! prefix, and is cut back once.
 ghost use Rattle.std.specs.Prelude.{◌≡◌, ◌++◌, length, OnOk, OnErr};
 ghost use Rattle.std.specs.List.{flat_map};
 ghost use Rattle.sat_theory.specs.Line as theory;
@@ -16,7 +17,7 @@ use cnf_core::Lit;
 use std::alloc::AllocError;
 use text_core::push_number;
 
-/// Appends an id, with a blank behind it.
+/// Appends an id, followed by a blank.
 #[tactic(auto, using(crate::proofs::Behind::behind))]
 fn push_id(out: &mut Vec<u8>, id: u32) -> Result<(), AllocError>
     ensures ok { OnOk result (out.new.items ≡ out.old.items ++ id_item id) }
@@ -27,7 +28,7 @@ fn push_id(out: &mut Vec<u8>, id: u32) -> Result<(), AllocError>
     Ok(())
 }
 
-/// Appends a literal, with a blank behind it.
+/// Appends a literal, followed by a blank.
 #[tactic(auto, using(crate::proofs::Behind::behind))]
 fn push_lit(out: &mut Vec<u8>, lit: Lit) -> Result<(), AllocError>
     ensures ok { OnOk result (out.new.items ≡ out.old.items ++ literal_item lit) }
@@ -97,7 +98,7 @@ fn push_deletion(out: &mut Vec<u8>, id: u32, ids: &[u8]) -> Result<(), AllocErro
     Ok(())
 }
 
-/// Appends the line of a head and its bytes.
+/// Appends the line that a head and its bytes spell.
 fn push_line(out: &mut Vec<u8>, head: Head, bytes: &[u8]) -> Result<(), AllocError>
     requires { length bytes.now ≡ size_of head }
     ensures ok { OnOk result (out.new.items ≡ out.old.items ++ line_text (line_in head bytes.now)) }
@@ -112,7 +113,8 @@ fn push_line(out: &mut Vec<u8>, head: Head, bytes: &[u8]) -> Result<(), AllocErr
     }
 }
 
-/// Appends the lines of a row one after another. Where memory was wanting, the first ones may stand there.
+/// Appends the lines of a row one after another. Where memory runs out, the first ones may be
+/// appended.
 #[tactic(auto, using(crate::proofs::Spelled::lines))]
 fn push_lines(out: &mut Vec<u8>, heads: &[Head], bytes: &[u8]) -> Result<(), AllocError>
     requires { IsCut heads.now bytes.now }
@@ -130,7 +132,7 @@ fn push_lines(out: &mut Vec<u8>, heads: &[Head], bytes: &[u8]) -> Result<(), All
     Ok(())
 }
 
-/// Appends the one spelling of each line of a log. On an error nothing was appended.
+/// Appends the spelling of each line of a log. On an error nothing is appended.
 pub fn write_log(log: &Log, out: &mut Vec<u8>) -> Result<(), AllocError>
     ensures ok { OnOk result (out.new.items ≡ out.old.items ++ flat_map line_text log.now) }
     ensures err { OnErr result (out.new.items ≡ out.old.items) }

@@ -1,4 +1,4 @@
--- What a checker shows.
+-- What contracts see of a checker.
 use Rattle.std.specs.Prelude.{◌≡◌, ℕ, ℤ, Bool, true, false, ◌==◌, ◌↔◌, length, refl, List}
 use Rattle.std.specs.Coded.{Coded, code_by, coded×, coded_ℕ, coded_bool}
 use Rattle.sat_theory.specs.Formula.{Formula, IsFormula}
@@ -15,7 +15,7 @@ pub record Checked : Type 0 where
   pub greatest : ℕ
   pub refuted : Bool
 
--- it is stored as the pairs of its fields
+-- encoded as the pairs of its fields
 abbrev pub checked_code : Coded Checked
 checked_code =
     code_by (Live × (ℕ × (ℕ × Bool))) (coded× live_code (coded× coded_ℕ (coded× coded_ℕ coded_bool)))
@@ -33,7 +33,7 @@ abbrev pub adds_empty : Line → Bool
 adds_empty (Add id lits hints) = is_empty lits
 adds_empty (Delete id ids) = false
 
--- A checker of a formula has accepted these lines, and no others.
+-- The checker of a formula has accepted exactly these lines.
 pub record HasAccepted (f : Formula) (lines : List Line) (c : Checked) : Type 0 where
   pub formula : IsFormula f
   pub holds : LogHolds f lines

@@ -61,7 +61,7 @@ unit_outside set (x ∷ xs) l one =
 abbrev AreDifferent : List ℤ → Type 0
 AreDifferent clause = AllPairs (λ a b. variable a ≢ variable b) clause
 
--- a literal that isn't the first is among the others
+-- a member that isn't the first is among the others
 in_others : (x l : ℤ) (xs : List ℤ) → (x ≡ l → ⊥) → Contains (x ∷ xs) l → Contains xs l
 in_others x l xs apart (zero, within, at) = absurd (apart at)
 in_others x l xs apart (suc k, within, at) = (k, (let h : suc k < suc (length xs) = within in omega arith), at)
@@ -95,8 +95,8 @@ one_outside set (x ∷ xs) l differ unit =
 abbrev Next : Type 0
 Next = (ℤ → Bool) → Option CheckError
 
--- Without a fault, the clause of a hint has nothing outside and is the last, or it has one literal
--- outside and the others go on.
+-- Without a fault, the clause of a hint has nothing outside and the hint is the last, or it has one
+-- literal outside and the other hints go on.
 record NoFault (set : ℤ → Bool) (hint : ℕ) (hs : List ℕ) (next : Next) (clause : List ℤ) : Type 0 where
   cases : ((hs ≡ []) × All (λ m. set m ≡ true) clause) ⊎ ((l : ℤ) × IsUnitOutside set clause l × (next (with_literal set (opposite l)) ≡ None))
 
@@ -181,7 +181,7 @@ addition_without_fault s id lits hints clauses holds =
 
 -- ---- deletions
 
--- ids that are live, different, and not seen
+-- ids that are live, different, and not seen before
 record AreFresh (live : ℕ → Option (List ℤ)) (seen : ℕ → Bool) (ids : List ℕ) : Type 0 where
   holds : DeletionHolds live ids
   unseen : All (λ k. seen k ≡ false) ids

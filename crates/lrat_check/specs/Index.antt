@@ -1,4 +1,4 @@
--- Where a clause is looked for by its literals.
+-- The index in which clauses are looked up by their literals.
 use Rattle.std.specs.Prelude.{◌≡◌, ℕ, ◌⊎◌, ℤ, Bool, true, not, ◌==◌, is_some, List, [], ◌∷◌, ◌++◌, slice_set, length, Any, All, Contains, slice_index_or, Option, Some}
 use Rattle.sat_theory.specs.State.{is_listed}
 use Rattle.cnf_core.specs.Codes.{code_of}
@@ -8,7 +8,7 @@ use Rattle.lrat_check.specs.declared.index.Entry.{Entry}
 abbrev pub is_live : (ℕ → Option (List ℤ)) → ℕ → Bool
 is_live live id = is_some (live id)
 
--- lists of entries by the codes of literals, and a list of ids for what stands in none of them
+-- lists of entries by the codes of literals, and a list of the ids that are in none of them
 pub record Lists : Type 0 where
   pub heads : List (List Entry)
   pub others : List ℕ
@@ -25,7 +25,7 @@ pub record IsEntryOf (id : ℕ) (clause : List ℤ) (e : Entry) : Type 0 where
   pub own : e.id ≡ id
   pub its : Contains clause e.other
 
--- one of these is an entry of a clause
+-- one of the entries is of the clause
 unfoldable pub IsListed : List Entry → ℕ → List ℤ → Type 0
 IsListed entries id clause = Any (IsEntryOf id clause) entries
 
@@ -33,24 +33,24 @@ IsListed entries id clause = Any (IsEntryOf id clause) entries
 unfoldable pub IsFound : Lists → ℕ → List ℤ → Type 0
 IsFound index id clause = Any (λ l. IsListed (entries_of index l) id clause) clause ⊎ (is_listed index.others id ≡ true)
 
--- what could be found is found
+-- every clause that was found before is found
 pub record KeepsFound (old new : Lists) : Type 0 where
   pub each : (id : ℕ) (clause : List ℤ) → IsFound old id clause → IsFound new id clause
 
--- what could be found is found, where it is live
+-- every live clause that was found before is found
 pub record KeepsLive (live : ℕ → Option (List ℤ)) (old new : Lists) : Type 0 where
   pub each : (id : ℕ) (clause : List ℤ) → is_live live id ≡ true → IsFound old id clause → IsFound new id clause
 
--- an entry isn't of an id
+-- an entry isn't of the id
 abbrev pub has_other_id : ℕ → Entry → Bool
 has_other_id id e = not (e.id == id)
 
--- no list loses an entry but those of one id
+-- no list loses an entry, except those of one id
 pub record DropsEntries (gone : ℕ) (old new : List (List Entry)) : Type 0 where
   pub each : (place id : ℕ) (clause : List ℤ) → (id ≡ gone → ⊥) → IsListed (slice_index_or old place []) id clause → IsListed (slice_index_or new place []) id clause
   pub whole : length new ≡ length old
 
--- all clauses are found
+-- all live clauses are found
 pub record IsIndexed (live : ℕ → Option (List ℤ)) (index : Lists) : Type 0 where
   pub each : (id : ℕ) (clause : List ℤ) → live id ≡ Some clause → IsFound index id clause
 
@@ -63,15 +63,15 @@ pub record IsInside (live : ℕ → Option (List ℤ)) (lits : List ℤ) (id : �
   pub is_live : live id ≡ Some clause
   pub inside : All (HasLiteral lits) clause
 
--- one of these ids does
+-- one of the ids names a live clause that has all its literals in a list
 unfoldable pub NamesInside : (ℕ → Option (List ℤ)) → List ℤ → List ℕ → Type 0
 NamesInside live lits ids = Any (IsInside live lits) ids
 
--- an entry has a literal of a list, and names a live clause with all its literals there
+-- an entry has a literal of a list, and names a live clause with all its literals in the list
 pub record IsInsideBy (live : ℕ → Option (List ℤ)) (lits : List ℤ) (e : Entry) : Type 0 where
   pub other : HasLiteral lits e.other
   pub named : IsInside live lits e.id
 
--- one of these entries does
+-- one of the entries does
 unfoldable pub EntersInside : (ℕ → Option (List ℤ)) → List ℤ → List Entry → Type 0
 EntersInside live lits entries = Any (IsInsideBy live lits) entries

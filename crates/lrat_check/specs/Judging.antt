@@ -9,7 +9,7 @@ use Rattle.lrat_check.specs.declared.error.CheckError.{CheckError}
 use Rattle.lrat_check.specs.declared.error.CheckError.TheVariants.{UnknownDelete, IdNotGreater, UnknownVariable}
 use Rattle.lrat_check.specs.Hints.{hints_fault}
 
--- the first variable of some literals that is above a number
+-- the first variable of lits that is above vars
 abbrev pub first_above : ℕ → List ℤ → Option ℕ
 first_above vars lits = find (λ v. nat_lt vars v) (map variable lits)
 
@@ -21,14 +21,14 @@ variables_then (Some v) next = Some (UnknownVariable v)
 abbrev pub addition_fault : State → ℕ → List ℤ → List ℕ → Option CheckError
 addition_fault s id lits hints = if nat_le id s.greatest then Some (IdNotGreater id) else variables_then (first_above s.vars lits) (hints_fault s.live (among lits) hints)
 
--- A set of ids is the test that tells its members.
+-- A set of ids is its membership test.
 abbrev pub no_ids : ℕ → Bool
 no_ids k = false
 
 abbrev pub with_id : (ℕ → Bool) → ℕ → ℕ → Bool
 with_id seen id k = k == id || seen k
 
--- an id that isn't live, or was seen
+-- the id isn't live, or was seen
 unfoldable pub deletion_fault : (ℕ → Option (List ℤ)) → (ℕ → Bool) → List ℕ → Option CheckError
 deletion_fault live seen [] = None
 deletion_fault live seen (id ∷ ids) = if is_none (live id) || seen id then Some (UnknownDelete id) else deletion_fault live (with_id seen id) ids

@@ -1,4 +1,4 @@
--- What a checker keeps of itself.
+-- The invariant of a checker.
 use Rattle.std.specs.Prelude.{ℕ}
 use Rattle.lrat_check.specs.Live.{Live, live_at, AreClauses, AreWithin}
 use Rattle.lrat_check.specs.Marks.{Stamped, HasRoom}

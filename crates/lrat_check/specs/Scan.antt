@@ -1,16 +1,16 @@
--- What a scan of a clause tells of the literals outside a set.
+-- What a scan of a clause reports of the literals outside a set.
 use Rattle.std.specs.Prelude.{◌≡◌, ℤ, List, [], ◌∷◌, Contains}
 use Rattle.lrat_check.specs.declared.hints.Scan.{Scan}
 use Rattle.lrat_check.specs.declared.hints.Scan.TheVariants as scans
 
--- two literals at least
+-- at least two literals
 pub record AreMany (out : List ℤ) : Type 0 where
   pub first : ℤ
   pub second : ℤ
   pub others : List ℤ
   pub is : out ≡ first ∷ second ∷ others
 
--- one alone stands in the clause
+-- the one literal outside, alone
 abbrev pub Finds : List ℤ → List ℤ → Scan → Type 0
 Finds clause out scans.Conflict = out ≡ []
 Finds clause out (scans.Unit l) = (out ≡ l ∷ []) × Contains clause l

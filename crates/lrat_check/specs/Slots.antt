@@ -1,20 +1,20 @@
--- Which literals are among those of a list, told by a table of 1024 entries.
+-- Membership in a list of literals, by a table of 1024 entries.
 use Rattle.std.specs.Prelude.{◌≡◌, ℕ, ◌+◌, ◌%◌, ◌⊎◌, ◌==◌, if◌then◌else◌, ℤ, List, length, Contains, slice_index_or, slice_set}
 use Rattle.cnf_core.specs.Codes.{code_of}
 
--- the place of a literal's slot
+-- the index of a literal's slot
 abbrev pub slot_of : ℤ → ℕ
 slot_of l = code_of l % 1024
 
 abbrev pub slot_at : List ℕ → ℤ → ℕ
 slot_at slots l = slice_index_or slots (slot_of l) 0
 
--- with one more literal: a slot has 0 where it is of no literal, 1 where it may be of several, and else
--- the code of the one and 2
+-- one literal more: a slot is 0 where no literal has it, 1 where several may have it, and else 2 +
+-- the code of the only one
 abbrev pub with_slot : List ℕ → ℤ → List ℕ
 with_slot slots l = slice_set slots (slot_of l) (if slot_at slots l == 0 then code_of l + 2 else 1)
 
--- the slots are those of these literals
+-- the table of the literals
 pub record AreSlots (slots : List ℕ) (lits : List ℤ) : Type 0 where
   pub each : (l : ℤ) → Contains lits l → (slot_at slots l ≡ code_of l + 2) ⊎ (slot_at slots l ≡ 1)
   pub only : (l : ℤ) → slot_at slots l ≡ code_of l + 2 → Contains lits l

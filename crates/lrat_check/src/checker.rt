@@ -1,6 +1,5 @@
-//! The checker: what it has is the state that a log of the definitions has come to, whether the empty clause was
-//! reached, and marks that are scratch. A line is judged first and taken only where it holds, so that a refusal leaves
-//! all as it was.
+//! The checker: the state of the log so far, whether the empty clause was reached, and scratch
+//! marks. A line is judged first and taken only where it holds, so a refusal changes nothing.
 ghost use Rattle.std.specs.Prelude.{◌≡◌, ◌↔◌, ◌||◌, ◌++◌, ◌∷◌, [], List, IsTrue, IfOk, OnOk, OnErr, IsOkUnless};
 ghost use Rattle.sat_theory.specs.Formula.{Formula, IsClause};
 ghost use Rattle.sat_theory.specs.Line as theory;
@@ -58,9 +57,9 @@ impl Checker {
         Checker::over(alloc, cnf, Index::new(alloc))
     }
 
-    /// The same, with lists of clauses by their literals, so that `is_new` is fast. They take memory for
-    /// each literal; an addition takes a step more for each of its literals, and a deletion one for each
-    /// clause in the lists of its clauses' literals.
+    /// As `new`, with lists of clauses by their literals (an occurrence index), so that `is_new` is
+    /// fast. They take memory for each literal; an addition takes one step more for each of its
+    /// literals, and a deletion one for each clause in the lists of its clauses' literals.
     pub fn indexed(alloc: Global, cnf: Cnf) -> Result<Checker, AllocError>
         ensures state { IfOk result (λ c. state_of c ≡ start cnf) }
         ensures accepted { IfOk result (HasAccepted cnf []) }
@@ -87,9 +86,9 @@ impl Checker {
         })
     }
 
-    /// Takes a line of the log, and does what it says. It costs time in the length of the line and of
-    /// the clauses that its hints name, and no memory for a hint. Its condition holds of each line that
-    /// was read from a text.
+    /// Takes a line of the log, and does what it says. It takes time linear in the length of the
+    /// line and of the clauses that its hints name, and no memory for a hint. Its condition holds
+    /// of each line that was read from a text.
     pub fn feed(&mut self, line: Line) -> Result<(), CheckError>
         requires { HasClause (line_value line) }
         // It is taken exactly where it holds.
@@ -102,7 +101,7 @@ impl Checker {
         ensures exact { Judges result (line_fault (state_of self.old) (line_value line)) }
         ensures unchanged { OnErr result (self.new ≡ self.old) }
 
-        // So a checker of a formula knows of whole logs.
+        // So the checker knows about whole logs: what was accepted is a log that holds.
         ensures accepted { (f : Formula) (lines : List theory.Line) → HasAccepted f lines self.old → IsLine (line_value line) →
             OnOk result (HasAccepted f (lines ++ line_value line ∷ []) self.new) }
     {
@@ -117,11 +116,10 @@ impl Checker {
         self.refuted
     }
 
-    /// Whether a clause is new: no live clause has all its literals among these. It goes through the live
-    /// clauses, and holds each against these literals; an `indexed` checker goes through those clauses
-    /// alone that stand in the list of one of these literals, and each stands in one list, the shortest
-    /// of its literals' when it came. There a second literal of each stands beside it, and only a clause
-    /// whose second literal is one of these is held against them.
+    /// Whether a clause is new: no live clause has all its literals among `lits` (subsumes it).
+    /// Without an index each live clause is compared; with one, only those in the lists of `lits`:
+    /// each clause is in one list, that of the literal whose list was shortest when it was added,
+    /// beside a second literal of it, and is compared only where that one is among `lits` too.
     pub fn is_new(&self, lits: &[Lit]) -> bool
         ensures { IsTrue result ↔ IsNew (live_at self.now.live) lits.now }
     {
@@ -178,7 +176,7 @@ impl Checker {
     }
 }
 
-/// Takes out the clauses of ids.
+/// Removes the clauses of `ids`.
 fn remove_all(clauses: &mut Clauses, ids: &[u32])
     ensures { live_at clauses.new ≡ without (live_at clauses.old) ids.now }
 {

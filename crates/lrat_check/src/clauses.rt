@@ -1,6 +1,6 @@
-//! The live clauses by their ids, in a hash map, with an index of literals beside it. Contracts see the map alone: that
-//! each live clause stands in one list of the index, so that a search of one of its literals' lists finds it, is the
-//! invariant of the type.
+//! The live clauses by their ids, in a hash map, with an index by literals. Contracts see the map
+//! alone; that each live clause is in one list of the index, so that a search of its literals'
+//! lists finds it, is the invariant of the type.
 ghost use Rattle.std.specs.Prelude.{◌≡◌, ◌<◌, ◌-◌, ◌^◌, ◌↔◌, length, true, false, [], ◌∷◌, IfOk, OnOk, OnErr, IsTrue, All, Any, ℤ};
 ghost use Rattle.std.specs.Option.{option_copied};
 ghost use Rattle.std.specs.FinMap as map;
@@ -41,7 +41,7 @@ impl Model for Clauses {
 }
 
 impl Clauses {
-    /// No clauses, and room for so many.
+    /// No clauses, and room for `count`.
     pub(crate) fn new(alloc: Global, index: Index, count: usize) -> Result<Clauses, AllocError>
         ensures { IfOk result (λ s. s ≡ map.empty) }
     {
@@ -65,7 +65,7 @@ impl Clauses {
         Ok(clauses)
     }
 
-    /// The clause of an id, in constant time.
+    /// The clause of an id, in expected constant time.
     pub(crate) fn get(&self, id: u32) -> Option<&Clause>
         ensures { option_copied result ≡ live_at self.now id }
     {
@@ -82,7 +82,7 @@ impl Clauses {
         Ok(())
     }
 
-    /// Takes out the clause of an id.
+    /// Removes the clause of an id.
     pub(crate) fn remove(&mut self, id: u32)
         ensures { live_at self.new ≡ without (live_at self.old) (id ∷ []) }
     {
@@ -92,9 +92,9 @@ impl Clauses {
         self.index.forget(id, clause.lits(), &self.live);
     }
 
-    /// Whether no live clause has all its literals among these. Where there are lists by literals it
-    /// looks at the clauses in those of these literals alone, since each live clause stands in the list
-    /// of one of its own; else it looks at all.
+    /// Whether no live clause has all its literals among `lits`. With an index it looks at the
+    /// clauses in the lists of `lits` alone, since each live clause is in the list of one of its
+    /// own literals; otherwise at all.
     pub(crate) fn is_new(&self, lits: &[Lit]) -> bool
         ensures new { result ≡ true → IsNew (live_at self.now) lits.now }
         ensures old { result ≡ false → IsNew (live_at self.now) lits.now → ⊥ }
@@ -103,8 +103,8 @@ impl Clauses {
         !self.has_inside(self.index.others(), &among) && !self.is_headed(&self.index, &among)
     }
 
-    /// Whether the list of one of the literals has an entry of a live clause with all its literals among
-    /// these.
+    /// Whether the list of one of the literals of `among` has an entry of a live clause inside
+    /// `among`.
     fn is_headed(&self, index: &Index, among: &Among) -> bool
         requires { AreSlots among.now.slots among.now.lits.now }
         ensures { IsTrue result ↔ Any (λ (l : ℤ). EntersInside (live_at self.now) among.now.lits.now (entries_of index.now l)) among.now.lits.now }
@@ -115,7 +115,7 @@ impl Clauses {
             .any(|lit| self.enters_inside(index.entries_of(*lit), among))
     }
 
-    /// Whether one of the entries is of a live clause with all its literals among these.
+    /// Whether one of `entries` is of a live clause with all its literals in `among`.
     #[tactic(auto, unfolding(crate::specs::Index::EntersInside))]
     fn enters_inside(&self, entries: &[Entry], among: &Among) -> bool
         requires { AreSlots among.now.slots among.now.lits.now }
@@ -124,7 +124,8 @@ impl Clauses {
         entries.iter().any(|entry| self.is_inside_by(entry, among))
     }
 
-    /// Whether an entry is so. Its own literal is looked for first, so that few clauses are looked at.
+    /// Whether `entry` is of a live clause inside `among`. Its second literal is tested first, so
+    /// that few clauses are read.
     fn is_inside_by(&self, entry: &Entry, among: &Among) -> bool
         requires { AreSlots among.now.slots among.now.lits.now }
         ensures { IsTrue result ↔ IsInsideBy (live_at self.now) among.now.lits.now entry.now }
@@ -132,7 +133,7 @@ impl Clauses {
         among.has(entry.other) && self.is_id_inside(entry.id, among)
     }
 
-    /// Whether one of the ids names a live clause with all its literals among these.
+    /// Whether one of `ids` is of a live clause with all its literals in `among`.
     #[tactic(auto, unfolding(crate::specs::Index::NamesInside))]
     fn has_inside(&self, ids: &[u32], among: &Among) -> bool
         requires { AreSlots among.now.slots among.now.lits.now }
@@ -141,7 +142,7 @@ impl Clauses {
         ids.iter().any(|id| self.is_id_inside(*id, among))
     }
 
-    /// Whether an id does so.
+    /// Whether `id` is of a live clause inside `among`.
     fn is_id_inside(&self, id: u32, among: &Among) -> bool
         requires { AreSlots among.now.slots among.now.lits.now }
         ensures { IsTrue result ↔ IsInside (live_at self.now) among.now.lits.now id }
@@ -153,7 +154,7 @@ impl Clauses {
     }
 }
 
-/// Whether all literals of a clause are among these.
+/// Whether all literals of `clause` are in `among`.
 fn is_inside(clause: &[Lit], among: &Among) -> bool
     requires { AreSlots among.now.slots among.now.lits.now }
     ensures { IsTrue result ↔ All (HasLiteral among.now.lits.now) clause.now }

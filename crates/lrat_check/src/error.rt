@@ -6,12 +6,13 @@ use std::alloc::{AllocError, AllocFailed};
 pub enum CheckError {
     /// This hint names no live clause.
     UnknownId(u32),
-    /// The clause of this hint has two or more literals outside the falsified set; or it has none, and
-    /// the hint isn't the last.
+    /// The clause of this hint has two or more literals outside the falsified set (it isn't unit);
+    /// or it has none, and the hint isn't the last.
     NotUnit(u32),
-    /// There is no hint, or the clause of the last one has one literal outside.
+    /// There is no hint, or the clause of the last one has one literal outside: the propagation
+    /// ends without a conflict.
     NoConflict,
-    /// This id of a deletion isn't live, or came before in the line.
+    /// This id of a deletion isn't live, or occurs twice in the line.
     UnknownDelete(u32),
     /// The id of an addition isn't greater than all ids before.
     IdNotGreater(u32),

@@ -1,6 +1,6 @@
-//! Hints are gone through from the left. The falsified set is a mark for each literal, and a hint is judged by how many
-//! literals of its clause are outside: the loop follows the definition `hints_fault` word for word, so that its answer
-//! is exact.
+//! Unit propagation along the hints, from the left. The falsified set is a mark for each literal,
+//! and a hint is judged by how many literals of its clause are outside: the loop follows the
+//! definition `hints_fault` step by step, so its answer is exact.
 ghost use Rattle.std.specs.Prelude.{◌≡◌};
 ghost use Rattle.lrat_check.specs.Live.{live_at, AreWithin};
 ghost use Rattle.lrat_check.specs.Marks.{marked, HasRoom};
@@ -43,7 +43,7 @@ fn scan_clause(marks: &Marks, clause: &[Lit]) -> Scan
     }
 }
 
-/// Goes through hints from the set of the marked literals, and marks what joins it.
+/// Propagates along `hints` from the set of the marked literals, and marks what joins it.
 #[tactic(auto, unfolding(crate::specs::Hints::hints_fault))]
 pub(crate) fn check_hints(
     clauses: &Clauses,

@@ -1,8 +1,9 @@
-//! Lists of clauses by their literals, for the question whether a clause is new. A clause that is contained in another
-//! one has each of its literals there, so it is found in the lists of the other one's literals, wherever it was put; and
-//! an entry has a second literal of its clause beside the id, so that most clauses that aren't contained are passed
-//! over without a look at them. A clause that goes takes its entry with it. Ids in no literal's list are swept out from
-//! time to time, so that they cost no question more than a constant factor.
+//! Lists of clauses by their literals (occurrence lists), for the question whether a clause is new.
+//! A clause that is contained in another one is in the list of one of that one's literals,
+//! whichever list it was put in; an entry has a second literal of its clause beside the id, so that
+//! most clauses that aren't contained are passed over unread. A clause that is removed takes its
+//! entry with it. Ids in no literal's list are swept from time to time, at an amortised constant
+//! cost.
 ghost use Rattle.std.specs.Prelude.{◌≡◌, ◌+◌, ◌*◌, ◌<◌, ℤ, [], ◌∷◌, ◌++◌, false, length, filter, slice_set, slice_index_or, nat_eq, OnOk, OnErr, IfSome, Any, Contains};
 ghost use Rattle.std.specs.HashMap.{get};
 ghost use Rattle.cnf_core.specs.Codes.{code_of};
@@ -64,7 +65,7 @@ impl Entries {
         &self.entries
     }
 
-    /// Takes out what has an id.
+    /// Removes the entries of an id.
     fn drop_id(&mut self, id: u32)
         ensures { self.new ≡ filter (has_other_id id) self.old }
     {
@@ -109,7 +110,7 @@ impl Ids {
         &self.ids
     }
 
-    /// Takes the ids out that aren't live.
+    /// Removes the ids that aren't live.
     fn sweep(&mut self, live: &HashMap<u32, Clause>)
         ensures { self.new ≡ filter (is_live (get nat_eq live.now)) self.old }
     {
@@ -117,8 +118,9 @@ impl Ids {
     }
 }
 
-/// Where clauses are looked for by their literals: each clause has an entry in the list of one of its
-/// literals, the one whose list was the shortest. Without lists for literals each has its id in `others`.
+/// Where clauses are looked up by their literals: each clause has an entry in the list of one of
+/// its literals, the one whose list was shortest. Without lists for literals each has its id in
+/// `others`.
 #[derive(Drop)]
 pub(crate) struct Index {
     heads: Vec<Entries>,
@@ -172,7 +174,7 @@ impl Index {
         self.others.get()
     }
 
-    /// Puts a clause's entry into a list. It takes a step for each of its literals.
+    /// Puts a clause's entry into a list. It takes one step for each of its literals.
     #[tactic(auto, using(crate::proofs::Found::finding))]
     pub(crate) fn add(&mut self, id: u32, lits: &[Lit]) -> Result<(), AllocError>
         ensures found { OnOk result (IsFound self.new id lits.now) }
@@ -188,9 +190,9 @@ impl Index {
         push_at(&mut self.heads, place, Entry { id, other })
     }
 
-    /// A clause has gone: so does its entry, for a step with each entry in the lists of its literals.
-    /// Where more have gone than are live, their ids are taken out of the others, so that this takes a
-    /// step for each of them.
+    /// Removes the entry of a clause that was removed, in one step for each entry in the lists of
+    /// its literals. Where more have been removed than are live, their ids are removed from
+    /// `others`, in one step for each of those.
     pub(crate) fn forget(&mut self, id: u32, lits: &[Lit], live: &HashMap<u32, Clause>)
         requires { is_live (get nat_eq live.now) id ≡ false }
         ensures { KeepsLive (get nat_eq live.now) self.old self.new }
@@ -204,7 +206,7 @@ impl Index {
         self.others.sweep(live);
     }
 
-    /// The place of the shortest list of a literal.
+    /// The index of the shortest list among those of the literals.
     fn shortest(&self, lits: &[Lit]) -> Option<usize>
         ensures head { IfSome result (λ place. Any (λ (l : ℤ). code_of l ≡ place) lits.now) }
         ensures within { IfSome result (λ place. place < length self.now.heads) }
@@ -226,7 +228,7 @@ impl Index {
     }
 }
 
-/// The last of some literals; where its list is the one at a place, the first.
+/// The last of `lits`; where its list is the one at `place`, the first.
 fn other_than(lits: &[Lit], place: usize) -> Option<Lit>
     ensures { IfSome result (λ l. Contains lits.now l) }
 {
@@ -238,7 +240,7 @@ fn other_than(lits: &[Lit], place: usize) -> Option<Lit>
     Some(*last)
 }
 
-/// Takes an id's entries out of the lists of literals.
+/// Removes an id's entries from the lists of literals.
 #[tactic(auto, using(crate::proofs::Swept::sweeping))]
 fn drop_entries(lists: &mut Vec<Entries>, id: u32, lits: &[Lit])
     ensures { DropsEntries id lists.old.items lists.new.items }
@@ -252,7 +254,7 @@ fn drop_entries(lists: &mut Vec<Entries>, id: u32, lits: &[Lit])
     }
 }
 
-/// Takes an id's entries out of the list at a place.
+/// Removes an id's entries from the list at `place`.
 fn drop_at(lists: &mut Vec<Entries>, place: usize, id: u32)
     requires { place < length lists.old.items }
     ensures { lists.new.items ≡ slice_set lists.old.items place (filter (has_other_id id) (slice_index_or lists.old.items place [])) }
@@ -261,7 +263,7 @@ fn drop_at(lists: &mut Vec<Entries>, place: usize, id: u32)
     entries.drop_id(id);
 }
 
-/// Puts an entry into the list at a place.
+/// Puts an entry into the list at `place`.
 fn push_at(heads: &mut Vec<Entries>, place: usize, entry: Entry) -> Result<(), AllocError>
     requires { place < length heads.old.items }
     ensures ok { OnOk result (heads.new.items ≡ with_entry heads.old.items place entry) }

@@ -17,7 +17,7 @@ use cnf_core::Lit;
 use std::alloc::{AllocError, Global};
 use std::collections::HashSet;
 
-/// Whether an addition holds. The marks are cleared first, so what they were says nothing.
+/// Whether an addition holds. The marks are cleared first, so their earlier state doesn't matter.
 #[tactic(auto, using(crate::proofs::Above::above))]
 pub(crate) fn judge_addition(
     clauses: &Clauses,
@@ -44,7 +44,7 @@ pub(crate) fn judge_addition(
     check_hints(clauses, marks, vars, hints)
 }
 
-/// The first variable above a number.
+/// The first variable of `lits` above `vars`.
 fn first_above(vars: u32, lits: &[Lit]) -> Option<u32>
     ensures { result ≡ spec.first_above vars lits.now }
 {

@@ -9,7 +9,7 @@ ghost use Rattle.lrat_check.specs.Live.{AreClauses};
 ghost use Rattle.lrat_check.specs.Judging.{line_fault};
 ghost use Rattle.lrat_check.specs.Checked.{Checked, HasAccepted};
 
-/// Where a checker of a formula has accepted some lines and is refuted, these lines refute the
+/// Where a checker of a formula has accepted some lines and is refuted, the lines refute the
 /// formula, and no assignment satisfies it.
 pub fn refuted_is_unsatisfiable()
     ensures refutes { (f : Formula) (lines : List Line) (c : Checked) → HasAccepted f lines c → c.refuted ≡ true → Refutes f lines }

@@ -1,6 +1,6 @@
-//! A checker of refutation logs (LRAT with additions by unit propagation and deletions). It stands on
-//! `sat_theory` for what it means that a line holds and that a log refutes, on `cnf_core` for formulas
-//! and on `lrat_text` for lines.
+//! A checker of refutation logs (LRAT with RUP additions and deletions). `sat_theory` says what it
+//! means that a line holds and that a log refutes, `cnf_core` has the formulas and `lrat_text` the
+//! lines.
 //!
 //! `Checker::feed` takes exactly the lines that hold, and refuses each other one with its first fault.
 //! The one theorem is that of `laws::refuted_is_unsatisfiable`: where a checker has accepted a log and

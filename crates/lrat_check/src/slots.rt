@@ -1,24 +1,25 @@
-//! Whether a literal is among those of a list, mostly in one step: a table says it by the remainder of the literal's
-//! code, and only where several of the list's literals have one remainder is the list gone over.
+//! Membership in a list of literals, mostly in one step: a table is indexed by the remainder of the
+//! literal's code, and only where several literals of the list share a remainder is the list
+//! searched.
 ghost use Rattle.std.specs.Prelude.{◌≡◌, ◌↔◌, length, IsTrue};
 ghost use Rattle.lrat_check.specs.Index.{HasLiteral};
 ghost use Rattle.lrat_check.specs.Slots.{AreSlots, with_slot};
 
 use cnf_core::Lit;
 
-/// How many entries the table has.
+/// The number of entries of the table.
 const SLOTS: usize = 1024;
 
-/// Some literals, with a table of their codes by remainders.
+/// A list of literals, with a table of their codes by remainders.
 #[derive(Drop)]
 pub(crate) struct Among<'a> {
     pub(crate) lits: &'a [Lit],
-    /// 0 for none of the literals, 1 where there may be several, else the code of the one and 2.
+    /// 0: no literal has the remainder; 1: several may have it; else 2 + the code of the only one.
     pub(crate) slots: [usize; SLOTS],
 }
 
 impl<'a> Among<'a> {
-    /// These literals.
+    /// The table of `lits`.
     pub(crate) fn of(lits: &'a [Lit]) -> Among<'a>
         ensures lits { result.lits.now ≡ lits.now }
         ensures slots { AreSlots result.slots lits.now }
@@ -30,7 +31,7 @@ impl<'a> Among<'a> {
         Among { lits, slots }
     }
 
-    /// Whether a literal is one of them.
+    /// Whether a literal is in the list.
     pub(crate) fn has(&self, lit: Lit) -> bool
         requires { AreSlots self.now.slots self.now.lits.now }
         ensures { IsTrue result ↔ HasLiteral self.now.lits.now lit }
@@ -44,7 +45,7 @@ impl<'a> Among<'a> {
     }
 }
 
-/// One more literal.
+/// Enters one literal more.
 fn put(slots: &mut [usize], lit: Lit)
     requires { length slots.old ≡ 1024 }
     ensures { slots.new ≡ with_slot slots.old lit }

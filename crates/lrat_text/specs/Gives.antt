@@ -6,7 +6,7 @@ use Rattle.lrat_text.specs.declared.error.LineError.{LineError}
 use Rattle.lrat_text.specs.declared.error.LineError.TheVariants.{Memory}
 use Rattle.lrat_text.specs.Values.{line_value}
 
--- an error is the grammar's own, and want of memory may come anywhere
+-- an error is the grammar's own, or memory ran out, which may happen anywhere
 abbrev pub Fails : LineError → Result theory.Line LineError → Type 0
 Fails Memory read = Unit {0}
 Fails e read = read ≡ Err e

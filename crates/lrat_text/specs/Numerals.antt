@@ -4,7 +4,8 @@ use Rattle.text_core.specs.Numbers.{number_up_to}
 use Rattle.text_core.specs.Items.{split_from}
 use Rattle.sat_theory.specs.Formula.{opposite}
 
--- nothing where an item is no number of its range; else the number, or nothing for the 0 that ends a list
+-- None where an item is no number of its range; else Some of the number, or Some None for the 0
+-- that ends a list
 abbrev pub or_end : Option ℕ → Option (Option ℕ)
 or_end None = None
 or_end (Some n) = Some (if n == 0 then None else Some n)
@@ -17,7 +18,7 @@ abbrev pub positive : Option ℕ → Option (Option ℤ)
 positive None = None
 positive (Some n) = Some (if n == 0 then None else Some (pos n))
 
--- behind a minus sign stands no 0
+-- no 0 follows a minus sign
 abbrev pub negative : Option ℕ → Option (Option ℤ)
 negative None = None
 negative (Some n) = if n == 0 then None else Some (Some (opposite (pos n)))
@@ -37,7 +38,7 @@ is_letter_d [] = false
 is_letter_d (b ∷ []) = b == 100
 is_letter_d (b ∷ c ∷ bs) = false
 
--- the first item of a text, and the items behind it
+-- the first item of a text, and the items after it
 abbrev pub first_of : List ℕ → List ℕ
 first_of text = (split_from [] text).first
 

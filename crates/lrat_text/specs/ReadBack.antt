@@ -29,7 +29,7 @@ nought = 48 ∷ []
 decimal_0 : decimal 0 ≡ nought
 decimal_0 = decimal_digit 0 (omega arith)
 
--- which way a choice went
+-- both cases of an if
 pub if_cases : {A : Type 0} (b : Bool) (x y z : A) → (if b then x else y) ≡ z → ((b ≡ true) × (x ≡ z)) ⊎ ((b ≡ false) × (y ≡ z))
 if_cases true x y z is = inl (refl, is)
 if_cases false x y z is = inr (refl, is)
@@ -40,7 +40,7 @@ above_0 n is = grind (arith, nat_tests)
 not_0 : (n : ℕ) → 0 < n → (n == 0) ≡ false
 not_0 n some = ne_eqb n 0 (λ e. omega arith)
 
--- the cases of an id: an end, or an id
+-- the cases of an id: the end of a list, or an id
 or_end_cases : (o : Option ℕ) (r : Option ℕ) → or_end o ≡ Some r → ((o ≡ Some 0) × (r ≡ None)) ⊎ ((n : ℕ) × (0 < n) × (o ≡ Some n) × (r ≡ Some n))
 or_end_cases None r is = absurd cc
 or_end_cases (Some n) r is =
@@ -117,7 +117,7 @@ opposite_variable : (n : ℕ) → variable (opposite (pos n)) ≡ n
 opposite_variable zero = refl
 opposite_variable (suc n) = refl
 
--- what a literal says of its item
+-- w is the item of the literal z
 record SpellsLiteral (w : List ℕ) (z : ℤ) : Type 0 where
   some : 0 < variable z
   small : variable z < 2 ^ 31
@@ -191,7 +191,7 @@ literal_end_back = ap literal_in (sym decimal_0) ∙ ap literal_in decimal_0 ∙
 abbrev pub Lines : Type 0
 Lines = Result Line LineError
 
--- where going on from an item ends well
+-- the cases in which item_then succeeds
 pub item_ok : {X : Type 0} (o : Option (Option X)) (end : Lines) (next : X → Lines) (l : Line) → item_then o end next ≡ Ok l → ((o ≡ Some None) × (end ≡ Ok l)) ⊎ ((x : X) × (o ≡ Some (Some x)) × (next x ≡ Ok l))
 item_ok None end next l is = absurd cc
 item_ok (Some None) end next l is = inl (refl, is)
@@ -201,11 +201,11 @@ end_ok : (line l : Line) (ws : List (List ℕ)) → end_of line ws ≡ Ok l → 
 end_ok line l [] is = (cc, refl)
 end_ok line l (w ∷ ws) is = absurd cc
 
--- the items of hints and what ends them
+-- the items of hints and of the 0 that ends them
 abbrev pub hint_items : List ℕ → List (List ℕ)
 hint_items hs = map decimal hs ++ nought ∷ []
 
--- the hints that a line reads behind others
+-- the line l was read from the items ws, with these hints before them
 pub record SpellsHints (id : ℕ) (lits : List ℤ) (hints : List ℕ) (ws : List (List ℕ)) (l : Line) : Type 0 where
   pub more : List ℕ
   pub line : l ≡ Add id lits (hints ++ more)
@@ -249,7 +249,7 @@ hints_back id lits hints (h ∷ hs) ids =
     ∙ hints_back id lits (hints ++ h ∷ []) hs (All-tail IsId h hs ids)
     ∙ ap (λ (js : List ℕ). Ok (Add id lits js)) (append_assoc hints (h ∷ []) hs)
 
--- the ids of a deletion
+-- as SpellsHints, for the ids of a deletion
 pub record SpellsIds (id : ℕ) (ids : List ℕ) (ws : List (List ℕ)) (l : Line) : Type 0 where
   pub more : List ℕ
   pub line : l ≡ Delete id (ids ++ more)
@@ -287,7 +287,7 @@ ids_back id ids (k ∷ ks) are =
     ∙ ids_back id (ids ++ k ∷ []) ks (All-tail IsId k ks are)
     ∙ ap (λ (js : List ℕ). Ok (Delete id js)) (append_assoc ids (k ∷ []) ks)
 
--- a literal of another variable joins a clause
+-- a literal of another variable may join a clause
 clause_pushed : (lits : List ℤ) (l : ℤ) → IsClause lits → is_repeated lits l ≡ false → 0 < variable l → IsClause (lits ++ l ∷ [])
 clause_pushed lits l clause new some = record {
   literals = All-push (λ (m : ℤ). 0 < variable m) lits l clause.literals some;
@@ -297,7 +297,7 @@ clause_pushed lits l clause new some = record {
     not_both : is_repeated lits l ≡ true → is_repeated lits l ≡ false → ⊥
     not_both again_ new_ = cc
 
--- the literals of a clause are each new
+-- in a clause no literal repeats the variable of one before it
 clause_new : (lits : List ℤ) (m : ℤ) (ms : List ℤ) → IsClause (lits ++ m ∷ ms) → is_repeated lits m ≡ false
 clause_new lits m ms clause =
     list_any_none (λ (x : ℤ). variable x == variable m) lits (λ k d within.
@@ -307,7 +307,7 @@ clause_new lits m ms clause =
     let both : variable (get_or (lits ++ m ∷ ms) k d) ≡ variable (get_or (lits ++ m ∷ ms) (length lits) d) = ap variable one ∙ same ∙ sym (ap variable two) in
     clause.differ k (length lits) d within (rw length-append (omega arith)) both))
 
--- the literals and hints of an addition
+-- the items of an addition's literals and hints
 abbrev pub addition_items : List ℤ → List ℕ → List (List ℕ)
 addition_items ms hs = map signed_decimal ms ++ nought ∷ hint_items hs
 

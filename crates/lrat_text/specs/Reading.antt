@@ -8,13 +8,13 @@ use Rattle.lrat_text.specs.declared.error.LineError.{LineError}
 use Rattle.lrat_text.specs.declared.error.LineError.TheVariants.{BadNumber, NoEnd, RatHint, RepeatedVariable}
 use Rattle.lrat_text.specs.Numerals.{id_in, literal_in, begins_minus, is_letter_d}
 
--- going on from an item of a list: it is no number, it ends the list, or it is one more
+-- the continuation after an item of a list: it is no number, it ends the list, or it is one more
 abbrev pub item_then : {X : Type 0} → Option (Option X) → Result Line LineError → (X → Result Line LineError) → Result Line LineError
 item_then None end next = Err BadNumber
 item_then (Some None) end next = end
 item_then (Some (Some x)) end next = next x
 
--- nothing stands behind the last 0
+-- nothing follows the last 0
 abbrev pub end_of : Line → List (List ℕ) → Result Line LineError
 end_of line [] = Ok line
 end_of line (w ∷ ws) = Err NoEnd
@@ -22,26 +22,26 @@ end_of line (w ∷ ws) = Err NoEnd
 abbrev pub has_variable : List ℤ → ℕ → Bool
 has_variable lits v = list_any (λ m. variable m == v) lits
 
--- whether a literal's variable is that of a literal before it
+-- whether a literal has the variable of a literal before it
 abbrev pub is_repeated : List ℤ → ℤ → Bool
 is_repeated lits l = has_variable lits (variable l)
 
--- the hints of an addition, where some were read
+-- the hints of an addition, after those in the list were read
 unfoldable pub hints_of : ℕ → List ℤ → List ℕ → List (List ℕ) → Result Line LineError
 hints_of id lits hints [] = Err NoEnd
 hints_of id lits hints (w ∷ ws) = if begins_minus w then Err RatHint else item_then (id_in w) (end_of (Add id lits hints) ws) (λ h. hints_of id lits (hints ++ h ∷ []) ws)
 
--- the literals of an addition, where some were read, and its hints
+-- the literals of an addition, after those in the list were read, and its hints
 unfoldable pub lits_of : ℕ → List ℤ → List (List ℕ) → Result Line LineError
 lits_of id lits [] = Err NoEnd
 lits_of id lits (w ∷ ws) = item_then (literal_in w) (hints_of id lits [] ws) (λ l. if is_repeated lits l then Err RepeatedVariable else lits_of id (lits ++ l ∷ []) ws)
 
--- the ids of a deletion, where some were read
+-- the ids of a deletion, after those in the list were read
 unfoldable pub ids_of : ℕ → List ℕ → List (List ℕ) → Result Line LineError
 ids_of id ids [] = Err NoEnd
 ids_of id ids (w ∷ ws) = item_then (id_in w) (end_of (Delete id ids) ws) (λ k. ids_of id (ids ++ k ∷ []) ws)
 
--- what stands behind a line's own id
+-- what follows a line's own id
 abbrev pub behind_id : ℕ → List (List ℕ) → Result Line LineError
 behind_id id [] = Err NoEnd
 behind_id id (w ∷ ws) = if is_letter_d w then ids_of id [] ws else lits_of id [] (w ∷ ws)

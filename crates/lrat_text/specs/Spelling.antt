@@ -19,7 +19,7 @@ line_body l = join_with_byte 32 (line_items l)
 abbrev pub line_text : Line → List ℕ
 line_text l = line_body l ++ 10 ∷ []
 
--- a number in a list, with the blank behind it
+-- a number in a list, followed by a blank
 abbrev pub id_item : ℕ → List ℕ
 id_item id = decimal id ++ 32 ∷ []
 

@@ -22,7 +22,7 @@ use Rattle.lrat_text.specs.ReadBack.{nought, if_cases, letter_first, literal_bac
 
 -- ---- what is read
 
--- the items of a line that was read
+-- l was read from the items ws
 record SpellsLine (ws : List (List ℕ)) (l : Line) : Type 0 where
   is_line : IsLine l
   text : ws ≡ line_items l
@@ -102,7 +102,7 @@ free_literals byte (m ∷ ms) low within =
 free_hints : (byte : ℕ) (ids : List ℕ) → byte < 45 → All IsId ids → AreFree byte (hint_items ids)
 free_hints byte ids low are = free_joined byte (map decimal ids) (nought ∷ []) (free_ids byte ids low are) (free_one byte 48 (λ e. omega (arith, e)), tt)
 
--- no item of a line has a blank or an LF
+-- no item of a line contains a blank or an LF
 free_line : (byte : ℕ) (l : Line) → byte < 45 → IsLine l → AreFree byte (line_items l)
 free_line byte (Add id lits hints) low is = (
   free_decimal byte id (omega arith) (omega (arith, is.own_id.1)),

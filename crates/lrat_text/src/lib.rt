@@ -1,10 +1,9 @@
-//! The lines of refutation logs as texts: LRAT with additions by unit propagation and deletions. It
-//! stands on `sat_theory` for what a line means, on `cnf_core` for literals and on `text_core` for
-//! items and numbers.
+//! The lines of refutation logs as texts: LRAT with RUP additions and deletions. `sat_theory` says
+//! what a line means, `cnf_core` has the literals and `text_core` the items and numbers.
 //!
-//! An addition is `ID literals 0 hints 0`, a deletion is `ID d ids 0`, and items are parted by one
-//! blank. The one theorem is that of `read_line`: what is read is spelled so, what is spelled so is
-//! read, and each refusal is the first fault from the left.
+//! An addition is `ID literals 0 hints 0`, a deletion is `ID d ids 0`, and items are separated by
+//! one blank. The one theorem is that of `read_line`: what is read is spelled so, what is spelled
+//! so is read, and each refusal is the first fault from the left.
 //!
 //! ```text
 //! let line = read_line(alloc, b"5 2 0 1 2 0")?; // clause 2 under the id 5, by the hints 1 and 2

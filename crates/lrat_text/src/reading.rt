@@ -1,5 +1,5 @@
-//! Lines are read by the grammar, which is a definition with the same parts as this code: each part answers what the
-//! definition of its name does, so that the first fault from the left is told.
+//! Lines are read by the grammar, a definition with the same parts as this code: each function
+//! answers what the definition of its name does, so the first fault from the left is reported.
 ghost use Rattle.std.specs.Prelude.{◌≡◌, [], Ok, IfOk};
 ghost use Rattle.text_core.specs.Items.{items_of, items_left};
 ghost use Rattle.sat_theory.specs.Line as theory;
@@ -17,7 +17,7 @@ use std::alloc::{AllocError, Global};
 use std::collections::HashSet;
 use text_core::next_item;
 
-/// The line, where nothing stands behind its last 0.
+/// The line, where nothing follows its last 0.
 fn finish(line: Line, rest: Option<&[u8]>) -> Result<Line, LineError>
     ensures { Gives result (spec.end_of (line_value line) (items_left rest.entry)) }
 {
@@ -27,8 +27,8 @@ fn finish(line: Line, rest: Option<&[u8]>) -> Result<Line, LineError>
     Ok(line)
 }
 
-/// No hints, with room for those of a text, so that few lines make it grow. Most hints take four bytes and
-/// more there.
+/// An empty list with room for the hints of a text: most hints take four bytes and more there, so
+/// few lines make it grow.
 fn room(alloc: Global, text: Option<&[u8]>) -> Result<Vec<u32>, AllocError>
     ensures { IfOk result (λ hints. hints.items ≡ []) }
 {
@@ -38,7 +38,7 @@ fn room(alloc: Global, text: Option<&[u8]>) -> Result<Vec<u32>, AllocError>
     }
 }
 
-/// The hints of an addition, and with them the line.
+/// Reads the hints of an addition and finishes the line.
 #[tactic(auto, unfolding(crate::specs::Reading::hints_of))]
 fn hints_of(alloc: Global, id: u32, lits: Vec<Lit>, text: Option<&[u8]>) -> Result<Line, LineError>
     ensures { Gives result (spec.hints_of id lits.items [] (items_left text.entry)) }
@@ -61,7 +61,7 @@ fn hints_of(alloc: Global, id: u32, lits: Vec<Lit>, text: Option<&[u8]>) -> Resu
     Err(LineError::NoEnd)
 }
 
-/// The literals of an addition, and with its hints the line.
+/// Reads the literals of an addition, then its hints, and finishes the line.
 #[tactic(auto, unfolding(crate::specs::Reading::lits_of))]
 fn lits_of(alloc: Global, id: u32, text: &[u8]) -> Result<Line, LineError>
     ensures { Gives result (spec.lits_of id [] (items_of text.now)) }
@@ -86,7 +86,7 @@ fn lits_of(alloc: Global, id: u32, text: &[u8]) -> Result<Line, LineError>
     Err(LineError::NoEnd)
 }
 
-/// The ids of a deletion, and with them the line.
+/// Reads the ids of a deletion and finishes the line.
 #[tactic(auto, unfolding(crate::specs::Reading::ids_of))]
 fn ids_of(alloc: Global, id: u32, text: Option<&[u8]>) -> Result<Line, LineError>
     ensures { Gives result (spec.ids_of id [] (items_left text.entry)) }
@@ -106,7 +106,7 @@ fn ids_of(alloc: Global, id: u32, text: Option<&[u8]>) -> Result<Line, LineError
     Err(LineError::NoEnd)
 }
 
-/// What stands behind a line's own id.
+/// Reads what follows a line's own id.
 fn behind_id(alloc: Global, id: u32, left: Option<&[u8]>) -> Result<Line, LineError>
     ensures { Gives result (spec.behind_id id (items_left left.entry)) }
 {
@@ -120,7 +120,7 @@ fn behind_id(alloc: Global, id: u32, left: Option<&[u8]>) -> Result<Line, LineEr
     lits_of(alloc, id, text)
 }
 
-/// Reads as the grammar says.
+/// Reads a line as the grammar says.
 fn read(alloc: Global, text: &[u8]) -> Result<Line, LineError>
     ensures { Gives result (spec.line_in text.now) }
 {
@@ -130,8 +130,8 @@ fn read(alloc: Global, text: &[u8]) -> Result<Line, LineError>
     behind_id(alloc, id, rest)
 }
 
-/// Reads one line, without its LF. An addition is `ID literals 0 hints 0`, a deletion is `ID d ids 0`;
-/// items are parted by one blank.
+/// Reads one line, without its LF. An addition is `ID literals 0 hints 0`, a deletion is `ID d ids
+/// 0`; items are separated by one blank.
 pub fn read_line(alloc: Global, line: &[u8]) -> Result<Line, LineError>
     // What is read is a line that can be written, and is spelled so.
     ensures is_line { IfOk result (λ l. IsLine (line_value l)) }

@@ -1,6 +1,6 @@
-//! Whether a variable comes again among the literals of a line. Most don't, which a table of marks tells in one step;
-//! where it doesn't tell, a short clause is gone over again, and a long one goes through a set. All are one test, the
-//! definition's.
+//! Whether a variable occurs again among the literals of a line. Mostly a table of marks, indexed
+//! by remainders, shows at once that it doesn't; where two variables share a mark, a short clause
+//! is searched, and a long one has a set. All compute one test, the definition's.
 ghost use Rattle.std.specs.Prelude.{◌≡◌, ℤ, true, false, List, [], ◌∷◌, ◌++◌, length, IfOk, OnOk};
 ghost use Rattle.lrat_text.specs.Reading as spec;
 ghost use Rattle.lrat_text.specs.Seen.{IsSeen, HasVariables, AreMarked};
@@ -9,14 +9,14 @@ use cnf_core::Lit;
 use std::alloc::AllocError;
 use std::collections::HashSet;
 
-/// How many marks there are: a variable has that of its remainder.
+/// The number of marks; a variable has the mark of its remainder.
 pub(crate) const MARKS: usize = 1024;
 
-/// Up to so many literals of a clause are searched one by one where the marks don't tell; the variables
-/// of a longer one are kept in a set, so that no clause takes more than some steps for each of its literals.
+/// The length up to which a clause is searched where its mark is set; a longer one has its
+/// variables in a set, so the time for a literal is bounded.
 const FEW: usize = 256;
 
-/// Whether a literal's variable came before; if not, it has from now on.
+/// Whether a literal's variable came before; it has from now on.
 pub(crate) fn comes_again(
     marks: &mut [bool],
     seen: &mut HashSet<u32>,
@@ -42,7 +42,7 @@ pub(crate) fn comes_again(
     Ok(!seen.insert(lit.variable())?)
 }
 
-/// Sets the mark of a literal's variable, and tells whether it wasn't set.
+/// Sets the mark of a literal's variable, and answers whether it was unset.
 #[tactic(auto, using(crate::proofs::Marked::marking))]
 fn mark(marks: &mut [bool], lit: Lit) -> bool
     requires { length marks.old ≡ 1024 }

@@ -1,5 +1,5 @@
-//! Lines are written as the grammar spells them. A line is made beside and appended at once, so that a text to which
-//! memory was wanting is as it was.
+//! Lines are written as the grammar spells them. A line is built in a buffer of its own and
+//! appended at once, so the text is unchanged where memory runs out.
 ghost use Rattle.std.specs.Prelude.{◌≡◌, ◌++◌, OnOk, OnErr};
 ghost use Rattle.std.specs.List.{flat_map};
 ghost use Rattle.sat_theory.specs.Line as theory;
@@ -12,7 +12,7 @@ use itoa::Buffer;
 use std::alloc::AllocError;
 use text_core::push_number;
 
-/// Appends ids, each with a blank behind it.
+/// Appends ids, each followed by a blank.
 fn push_ids(text: &mut Vec<u8>, ids: &[u32]) -> Result<(), AllocError>
     ensures { OnOk result (text.new.items ≡ text.old.items ++ flat_map id_item ids.now) }
 {
@@ -24,7 +24,7 @@ fn push_ids(text: &mut Vec<u8>, ids: &[u32]) -> Result<(), AllocError>
     Ok(())
 }
 
-/// Appends literals, each with a blank behind it.
+/// Appends literals, each followed by a blank.
 fn push_lits(text: &mut Vec<u8>, lits: &[Lit]) -> Result<(), AllocError>
     ensures { OnOk result (text.new.items ≡ text.old.items ++ flat_map literal_item lits.now) }
 {
@@ -70,8 +70,8 @@ fn push_line(text: &mut Vec<u8>, line: &Line) -> Result<(), AllocError>
     }
 }
 
-/// Room for a line whose numbers have seven characters at most: eight bytes for each with its blank, and 32
-/// for the id and what ends the lists. For a longer line the text grows.
+/// Room for a line whose numbers have at most seven characters: eight bytes for each with its
+/// blank, and 32 for the id and the ends of the lists. For a longer line the text grows.
 fn room(line: &Line) -> usize {
     let numbers = match line {
         Line::Add { lits, hints, .. } => lits.len().saturating_add(hints.len()),

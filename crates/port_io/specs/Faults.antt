@@ -1,4 +1,4 @@
--- Counts of faults. A count is a number of 64 bits, which stays at its last value.
+-- Counts of faults. A count is a number of 64 bits, which saturates.
 use Rattle.std.specs.Prelude.{◌≡◌, ℕ, ◌+◌, ◌-◌, ◌^◌, ◌<◌, ◌⊎◌, min}
 
 -- the last value of a count

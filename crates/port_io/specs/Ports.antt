@@ -1,4 +1,4 @@
--- What a clause reads of the ports.
+-- What a contract sees of the ports.
 use Rattle.std.specs.Prelude.{ℕ}
 use Rattle.port_io.specs.declared.ports.InputPort.{InputPort}
 use Rattle.port_io.specs.declared.ports.OutputPort.{OutputPort}

@@ -1,17 +1,17 @@
--- Texts put behind and in front of told bytes.
+-- Texts after and before known bytes.
 use Rattle.std.proofs.Common.{◌≡◌, ℕ, ◌+◌, ◌≤◌, List, [], ◌++◌, Option, None, Some, is_some, take, drop, length, refl, ap, sym, ◌∙◌, append_assoc, length-append, arith}
 use Rattle.std.proofs.Math.Seq.{take-add, take-append-add}
 use Rattle.std.proofs.lemmas.List.{take_all, take-append-le}
 use Rattle.std.proofs.lemmas.Grind.{common_steps}
 use Rattle.port_io.specs.Bytes.{appended, prepended, Consumes, Appends, AppendsFront, IsAtEnd, TakesFront}
 
--- A text and then another is both together.
+-- Appending a text and then another one appends both joined.
 pub appended-twice : (old : Option (List ℕ)) (a b : List ℕ) → appended (appended old a) b ≡ appended old (a ++ b)
 unfolding appended
 appended-twice None a b = refl
 appended-twice (Some before) a b = ap (λ x. Some x) (append_assoc before a b)
 
--- Nothing behind the bytes leaves them.
+-- Appending the empty text changes nothing.
 pub appended-none : (old : Option (List ℕ)) → appended old [] ≡ old
 unfolding appended
 appended-none None = refl
@@ -21,37 +21,37 @@ appended-none (Some before) = grind (arith, common_steps)
 pub appends_more : (old mid new : Option (List ℕ)) (text : List ℕ) (at count : ℕ) → Appends old mid (take at text) → Appends mid new (take count (drop at text)) → Appends old new (take (at + count) text)
 appends_more old mid new text at count a b = b ∙ ap (λ x. appended x (take count (drop at text))) a ∙ appended-twice old _ _ ∙ ap (λ x. appended old x) (sym (take-add at count text))
 
--- A text in front of another in front of the bytes is both together.
+-- Prepending a text to another one that was prepended prepends both joined.
 pub prepended-twice : (a b : List ℕ) (new : Option (List ℕ)) → prepended a (prepended b new) ≡ prepended (a ++ b) new
 unfolding prepended
 prepended-twice a b None = refl
 prepended-twice a b (Some after) = ap (λ x. Some x) (sym (append_assoc a b after))
 
--- Nothing in front of the bytes leaves them.
+-- Prepending the empty text changes nothing.
 pub prepended-none : (new : Option (List ℕ)) → prepended [] new ≡ new
 unfolding prepended
 prepended-none None = refl
 prepended-none (Some after) = refl
 
--- Bytes with a text in front are told where they were.
+-- Bytes with a text before them are known exactly where the bytes were.
 pub is_some-prepended : (text : List ℕ) (new : Option (List ℕ)) → is_some (prepended text new) ≡ is_some new
 unfolding prepended
 is_some-prepended text None = refl
 is_some-prepended text (Some after) = refl
 
--- Where nothing is left behind a text, the text was all.
+-- Where nothing is left after a text, the text was all.
 pub all_taken : (old new : Option (List ℕ)) (text input : List ℕ) → Consumes old new text → IsAtEnd new → old ≡ Some input → text ≡ input
 unfolding prepended
 all_taken old None text input taken end told = cc
 all_taken old (Some rest) text input taken end told = let e = end rest refl in grind (arith, common_steps)
 
--- Nothing is left behind all.
+-- Where all was taken, nothing is left.
 pub none_left : (old new : Option (List ℕ)) (text input : List ℕ) → Consumes old new text → IsAtEnd new → old ≡ Some input → new ≡ Some []
 unfolding prepended
 none_left old None text input taken end told = cc
 none_left old (Some rest) text input taken end told = ap (λ x. Some x) (end rest refl)
 
--- A text that was taken is a front.
+-- A text that was taken is a prefix of what was left.
 pub takes_front : (old new : Option (List ℕ)) (text : List ℕ) → Consumes old new text → TakesFront old new
 takes_front old new text taken = record { taken = text; consumes = taken }
 
@@ -61,19 +61,19 @@ unfolding prepended
 length_taken old None text input taken told = cc
 length_taken old (Some rest) text input taken told = grind (arith, common_steps)
 
--- Texts that go out one after the other are both together.
+-- Texts that go out one after the other are both joined.
 pub appends_two : (old mid new : Option (List ℕ)) (a b : List ℕ) → Appends old mid a → Appends mid new b → Appends old new (a ++ b)
 appends_two old mid new a b first second = second ∙ ap (λ x. appended x b) first ∙ appended-twice old a b
 
--- Where nothing has gone out, that is a front of any text.
+-- Where nothing has gone out, that is a prefix of any text.
 pub front_none : (old : Option (List ℕ)) (text : List ℕ) → AppendsFront old old text
 front_none old text = record { count = 0; within = omega arith; appends = sym (appended-none old) }
 
--- A whole text is a front of itself.
+-- A whole text is a prefix of itself.
 pub front_whole : (old new : Option (List ℕ)) (text : List ℕ) → Appends old new text → AppendsFront old new text
 front_whole old new text whole = record { count = length text; within = omega arith; appends = whole ∙ ap (λ x. appended old x) (sym (take_all (length text) text (omega arith))) }
 
--- A front of a text is a front of the text with another behind it.
+-- A prefix of a text is a prefix of the text with another one after it.
 pub front_one : (old new : Option (List ℕ)) (a b : List ℕ) → AppendsFront old new a → AppendsFront old new (a ++ b)
 front_one old new a b front = record {
   count = front.count;
@@ -81,7 +81,7 @@ front_one old new a b front = record {
   appends = front.appends ∙ ap (λ x. appended old x) (sym (take-append-le front.count a b front.within));
 }
 
--- A text and then a front of another are a front of both together.
+-- A text and then a prefix of another one are a prefix of both joined.
 pub front_two : (old mid new : Option (List ℕ)) (a b : List ℕ) → Appends old mid a → AppendsFront mid new b → AppendsFront old new (a ++ b)
 front_two old mid new a b whole front = record {
   count = length a + front.count;

@@ -1,11 +1,11 @@
-//! The calls of a source or sink in memory: counted, and failing by their numbers.
+//! The calls of a source or sink in memory: counted, and failing where their numbers are listed.
 ghost use Rattle.std.specs.Prelude.{◌≡◌, ◌≤◌, if◌then◌else◌};
 ghost use Rattle.port_io.specs.Faults.{next_count};
 ghost use Rattle.port_io.specs.Memory.{first_schedule, is_to_fail, after_success, after_failure};
 
 use std::marker::Model;
 
-/// Counts calls and faults. Both counts stay at the last value of a u64.
+/// Counts calls and faults. Both counts saturate at the last value of a u64.
 #[derive(Drop)]
 pub struct Calls {
     failing: Vec<u64>,
@@ -40,7 +40,7 @@ impl Calls {
         self.faults
     }
 
-    /// Counts a call, and answers whether it is to fail. If it is, that is a fault.
+    /// Counts a call, and answers whether it is to fail. A call that is to fail is a fault.
     #[tactic(auto, unfolding(crate::specs::Memory::is_to_fail))]
     pub fn begin(&mut self) -> bool
         ensures answer { result ≡ is_to_fail self.old }
@@ -55,7 +55,7 @@ impl Calls {
         is_to_fail
     }
 
-    /// Counts a fault that was not on the list.
+    /// Counts a fault whose call isn't on the list.
     pub fn count_fault(&mut self)
         ensures counted { self.new ≡ record self.old { faults = next_count self.old.faults } }
         ensures never_falls { self.old.faults ≤ self.new.faults }

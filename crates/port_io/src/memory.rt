@@ -1,4 +1,4 @@
-//! Sources and sinks in memory, which tell their bytes.
+//! Sources and sinks in memory, whose bytes contracts see.
 ghost use Rattle.std.specs.Prelude.{◌≡◌, ℕ, List, [], Some, Ok, IfOk, OnOk, OnErr, is_err, IsTrue, IsErr};
 ghost use Rattle.std.specs.Prelude.{length, take, drop, min, ◌<◌, ◌≤◌};
 ghost use Rattle.port_io.specs.Bytes.{Appends, Consumes, IsAtEnd};
@@ -10,7 +10,7 @@ use crate::outside::{Failed, Sink, Source};
 use std::alloc::Global;
 use std::marker::Model;
 
-/// Puts the front of `rest` into `buf`, as much as there is room for, and answers how many bytes.
+/// Copies a prefix of `rest` into `buf`, as long as there is room, and answers its length.
 fn copy_front(rest: &[u8], buf: &mut [u8]) -> usize
     ensures count { result ≡ min (length buf.old) (length rest.now) }
     ensures front { take result buf.new ≡ take result rest.now }
@@ -136,8 +136,8 @@ impl Source for MemorySource {
     }
 }
 
-/// Keeps in memory what is written. Its calls fail where their numbers are on a list, and for want of
-/// memory.
+/// Keeps in memory what is written. Its calls fail where their numbers are on a list, and where
+/// memory runs out.
 #[derive(Drop)]
 pub struct MemorySink {
     written: Vec<u8>,
@@ -186,7 +186,8 @@ impl Sink for MemorySink {
 
     #[tactic(auto, unfolding(crate::specs::Bytes::appended))]
     fn write(&mut self, piece: &[u8]) -> Result<usize, Failed>
-        // It fails where the call's number is on the list, and else only for want of memory.
+        // It fails where the call's number is on the list, and otherwise only where memory runs
+        // out.
         ensures fails { IsTrue (is_to_fail self.old.schedule) → IsErr result }
         ensures whole { IfOk result (λ count. count ≡ length piece.now) }
         ensures ok { OnOk result (self.new.schedule ≡ after_success self.old.schedule) }

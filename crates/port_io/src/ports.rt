@@ -1,4 +1,5 @@
-//! The standard library's readers and writers as sources and sinks. They tell nothing of their bytes.
+//! The standard library's readers and writers as sources and sinks, whose bytes contracts don't
+//! know.
 ghost use Rattle.std.specs.Io.KnownBytes.{ReadConsumes, WriteAppends};
 ghost use Rattle.std.specs.Prelude.{◌≡◌, ◌<◌, ◌≤◌, None, IfOk, OnErr, is_ok, if◌then◌else◌, length, take};
 ghost use Rattle.port_io.specs.Bytes.{Appends, Consumes};
@@ -24,7 +25,7 @@ impl<R: Read> InputPort<R> {
         InputPort { reader, faults: 0 }
     }
 
-    /// How many reads have failed. The count stays at the last value of a u64.
+    /// How many reads have failed. The count saturates at the last value of a u64.
     pub fn faults(&self) -> u64
         ensures { result ≡ input_faults self.now }
     {
@@ -76,8 +77,8 @@ impl<W: Write> OutputPort<W> {
         OutputPort { writer, faults: 0 }
     }
 
-    /// How many writes have failed, or have taken nothing of a piece. The count stays at the last value of
-    /// a u64.
+    /// How many writes have failed, or have taken nothing of a piece. The count saturates at the
+    /// last value of a u64.
     pub fn faults(&self) -> u64
         ensures { result ≡ output_faults self.now }
     {
@@ -92,7 +93,7 @@ impl<W: Write> Sink for OutputPort<W> {
 
     #[tactic(auto, unfolding(crate::specs::Bytes::appended))]
     fn write(&mut self, piece: &[u8]) -> Result<usize, Failed>
-        // The answer is the writer's, but that taking nothing of a piece is a fault.
+        // The answer is the writer's, except that taking nothing of a piece is a fault.
         ensures answer { WriteAppends (W.contents (writer_of self.old)) (W.contents (writer_of self.new))
             result piece.now }
         ensures counted { output_faults self.new ≡

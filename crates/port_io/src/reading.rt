@@ -13,7 +13,7 @@ pub enum ReadError {
     ReadFault,
     /// The source gave more bytes than are allowed.
     TooLong,
-    /// Want of memory.
+    /// Out of memory.
     Memory,
 }
 
@@ -30,8 +30,8 @@ impl From<AllocError> for ReadError {
 // How many bytes are asked for at a call.
 const PIECE: usize = 4096;
 
-/// Reads all bytes to the end of the input. After an error the bytes that were read are lost, and the rest
-/// is left.
+/// Reads all bytes to the end of the input. After an error the bytes read so far are lost, and the
+/// rest is left in the source.
 #[tactic(auto, using(crate::specs::TextLaws::taking))]
 pub fn read_all<S: Source>(
     alloc: Global,
@@ -56,7 +56,7 @@ pub fn read_all<S: Source>(
 {
     let mut all = Vec::new(alloc);
     let mut buf = [0u8; PIECE];
-    // Each turn but the last takes a byte at least.
+    // Each turn but the last takes at least one byte.
     for _turn in 0..=limit {
         match source.read(&mut buf) {
             Err(Failed) => return Err(ReadError::ReadFault),

@@ -12,8 +12,8 @@ pub enum WriteFault {
     WriteFault,
 }
 
-/// Writes all of `bytes`, in as many calls as the sink needs. After an error a front of them may stand
-/// written.
+/// Writes all of `bytes`, in as many calls as the sink needs. After an error a prefix of them may
+/// be written.
 #[tactic(auto, using(crate::specs::TextLaws::writing))]
 pub fn write_all<O: Sink>(sink: &mut O, bytes: &[u8]) -> Result<(), WriteFault>
     ensures all { OnOk result (Appends (O.written sink.old) (O.written sink.new) bytes.now) }
