@@ -7,7 +7,7 @@ pub use Rattle.cnf_core.specs.Codes.{code_of}
 unfoldable pub place_in : List ℕ → ℤ → ℕ
 place_in table l = slice_index_or table (code_of l) 0
 
--- the same function but for one literal
+-- the same function except at one literal
 abbrev pub with_place : (ℤ → ℕ) → ℤ → ℕ → ℤ → ℕ
 with_place places l p m = if int_eq m l then p else places m
 

@@ -8,8 +8,8 @@ use Rattle.sat_theory.specs.Log.{IsNew}
 use Rattle.sat_theory.specs.State.{with_clause}
 use Rattle.cdcl_theory.specs.Falling.{IsFallen, HasNoValue, IsClosed, IsUnitUnder, Implies, SameFallen, AllSettled}
 
--- A clause that is unit in a closed state is new, however it was found: a live clause inside it would
--- be unit or falsified there too.
+-- A clause that is unit in a closed state is new, however it was found: a live clause that subsumes
+-- it would be unit or falsified there too.
 pub unit_is_new : (live : ℕ → Option (List ℤ)) (fell : ℤ → ℕ) (p : ℕ) (lits : List ℤ) (u : ℤ) → IsClosed live fell p → IsUnitUnder fell p lits u → IsNew live lits
 unit_is_new live fell p lits u closed unit id clause is inside =
     closed.excludes u unit.free id clause is (λ k d within. All-contains (λ l. (l ≡ u) ⊎ IsFallen fell p l) lits _ unit.others (inside k d within))
@@ -38,7 +38,7 @@ free_back n p f g u same low free = record {
 all_moved : (clause : List ℤ) (u : ℤ) (P Q : ℤ → Type 0) → ((l : ℤ) → P l → Q l) → All (λ l. (l ≡ u) ⊎ P l) clause → All (λ l. (l ≡ u) ⊎ Q l) clause
 all_moved clause u P Q move all = All-weaker (λ l. (l ≡ u) ⊎ P l) (λ l. (l ≡ u) ⊎ Q l) (λ l. ⊎_elim (λ (same : l ≡ u). inl same) (λ (is : P l). inr (move l is))) clause all
 
--- what was closed stays closed, what was a reason stays a reason
+-- what was closed stays closed, and what was a reason stays a reason
 pub closed_kept : (live : ℕ → Option (List ℤ)) (n p : ℕ) (f g : ℤ → ℕ) → SameFallen n f g → p ≤ n → IsClosed live f p → IsClosed live g p
 closed_kept live n p f g same low closed = record {
   excludes = λ u free id clause is all. closed.excludes u (free_back n p f g u same low free) id clause is (all_moved clause u (IsFallen g p) (IsFallen f p) (λ l h. same.back p l low h) all);
@@ -52,7 +52,7 @@ implies_kept live n p f g l id same low implies = record {
   others = all_moved implies.clause l (IsFallen f p) (IsFallen g p) (λ m h. same.there p m low h) implies.others;
 }
 
--- fewer live clauses, and more
+-- a state stays closed with fewer live clauses, and with clauses more that aren't unit or falsified
 pub closed_less : (live less : ℕ → Option (List ℤ)) (fell : ℤ → ℕ) (p : ℕ) → ((id : ℕ) (clause : List ℤ) → less id ≡ Some clause → live id ≡ Some clause) → IsClosed live fell p → IsClosed less fell p
 closed_less live less fell p inside closed = record { excludes = λ u free id clause is all. closed.excludes u free id clause (inside id clause is) all }
 
@@ -77,7 +77,7 @@ closed_added live fell p id lits a b a_in b_in differ a_up b_up closed = record 
         (λ (down : IsFallen fell p a). a_up down)
         (All-contains (λ l. (l ≡ u) ⊎ IsFallen fell p l) lits a all a_in)
 
--- a reason is among more live clauses too
+-- a reason stays one with more live clauses
 pub implies_more : (live more : ℕ → Option (List ℤ)) (fell : ℤ → ℕ) (p : ℕ) (l : ℤ) (id : ℕ) → ((k : ℕ) (clause : List ℤ) → live k ≡ Some clause → more k ≡ Some clause) → Implies live fell p l id → Implies more fell p l id
 implies_more live more fell p l id inside implies = record {
   clause = implies.clause;

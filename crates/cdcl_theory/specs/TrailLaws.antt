@@ -13,7 +13,7 @@ use Rattle.cdcl_theory.specs.Falling.{SameFallen}
 use Rattle.cdcl_theory.specs.FallingLaws.{same_trans, same_less}
 use Rattle.cdcl_theory.specs.Trails.{Trailed, fell, ArePlaces, IsTrail, pushed, IsBack}
 
--- the literal at index p has its place
+-- the opposite of the literal at index p has the place p + 1
 pub place_at : (lits : List ℤ) (places : ℤ → ℕ) (p : ℕ) (d l : ℤ) → ArePlaces lits places → p < length lits → slice_index_or lits p d ≡ l → places (opposite l) ≡ p + 1
 place_at lits places p d l are within is = subst (λ (m : ℤ). places (opposite m) ≡ p + 1) is (are.placed p d within)
 
@@ -24,7 +24,7 @@ true_not_fallen lits places p d l are within is =
     let up : places (opposite (opposite l)) ≡ 0 = are.one_side (opposite l) (omega arith) in
     rw opposite-opposite at up
 
--- what fell at p + 1 is the opposite of the literal at index p
+-- the literal with the place p + 1 is the opposite of the one at index p
 pub fallen_at : (lits : List ℤ) (places : ℤ → ℕ) (p : ℕ) (d m : ℤ) → ArePlaces lits places → places m ≡ p + 1 → m ≡ opposite (slice_index_or lits p d)
 fallen_at lits places p d m are at =
     let found : slice_index_or lits (places m - 1) d ≡ opposite m = are.found m d (omega arith) in
@@ -32,7 +32,7 @@ fallen_at lits places p d m are at =
     let found_at : slice_index_or lits p d ≡ opposite m = rw index at found in
     sym (ap opposite found_at ∙ opposite-opposite m)
 
--- One more literal that has no value, behind the others.
+-- One literal more, without a value before, at the end.
 pub places_push : (lits : List ℤ) (places : ℤ → ℕ) (t : ℤ) → ArePlaces lits places → 0 < variable t → places t ≡ 0 → places (opposite t) ≡ 0 → ArePlaces (lits ++ t ∷ []) (with_place places (opposite t) (length lits + 1))
 places_push lits places t are some up down = record {
   placed = λ p d within. placed p d (let e : length (lits ++ t ∷ []) ≡ length lits + 1 = length_push lits t in omega arith);
@@ -89,7 +89,7 @@ places_push lits places t are some up down = record {
         with_place-other places (opposite t) (opposite l) (length lits + 1) apart_too ∙ are.one_side l here)
         (cases_literal l (opposite t))
 
--- One less, the last.
+-- The last literal taken off.
 pub places_pop : (lits all : List ℤ) (places : ℤ → ℕ) (t : ℤ) → all ≡ lits ++ t ∷ [] → ArePlaces all places → 0 < variable t → ArePlaces lits (with_place places (opposite t) 0)
 places_pop lits all places t split are some = record {
   placed = λ p d low. rw (with_place-other places (opposite t) (opposite (slice_index_or lits p d)) 0 (λ e. (let h : places (opposite (slice_index_or lits p d)) ≡ places (opposite t) = ap places e in let g : places (opposite (slice_index_or lits p d)) ≡ p + 1 = old p d low in omega (arith, h, g, last)))) (old p d low);
@@ -136,7 +136,7 @@ places_pop lits all places t split are some = record {
         let not_last : places l ≡ length lits + 1 → ⊥ = λ e. apart (fallen_at all places (length lits) t l are e ∙ ap opposite (at_last t)) in
         omega (arith, long, high, not_last)
 
--- what fell before is as it was
+-- the places up to the length of the trail are unchanged
 pub same_push : (lits : List ℤ) (places : ℤ → ℕ) (t : ℤ) → places (opposite t) ≡ 0 → SameFallen (length lits) places (with_place places (opposite t) (length lits + 1))
 same_push lits places t down = record {
   there = λ p l low is. ⊎_elim
@@ -200,7 +200,7 @@ trail_push t l reason trail some small up down =
       few = trail.few;
     }
 
--- and so is one with one less.
+-- and so is a trail without its last literal.
 pub trail_pop : (t : Trailed) (lits : List ℤ) (l : ℤ) → IsTrail t → t.lits ≡ lits ++ l ∷ [] → IsTrail (record { vars = t.vars; lits = lits; table = slice_set t.table (code_of (opposite l)) 0; reasons = t.reasons })
 trail_pop t lits l trail split =
     let long : length t.lits ≡ length lits + 1 = ap length split ∙ length_push lits l in

@@ -4,8 +4,9 @@ use Rattle.sat_theory.specs.Formula.{variable, opposite}
 use Rattle.cdcl_theory.specs.Codes.{code_of, place_in}
 use Rattle.cdcl_theory.specs.Falling.{Implies, SameFallen, IsClosed}
 
--- the variables are 1 to vars; a table has for each literal where it fell, and a list has for each
--- variable the id of the clause that made it true
+-- the variables are 1 to vars; `table` has the place of each literal (1 + the trail position of its
+-- opposite, 0 where it isn't false), and `reasons` has for each variable the id of the clause that
+-- made it true
 pub record Trailed : Type 0 where
   pub vars : ℕ
   pub lits : List ℤ
@@ -18,16 +19,18 @@ fell t = place_in t.table
 abbrev pub reason_of : Trailed → ℤ → ℕ
 reason_of t l = slice_index_or t.reasons (variable l) 0
 
--- The places are those of the row: the opposite of the literal at index p fell at p + 1, and no other did.
+-- The places are those of the trail: the literal whose opposite is at index p has the place p + 1,
+-- and all others have 0.
 pub record ArePlaces (lits : List ℤ) (places : ℤ → ℕ) : Type 0 where
   pub placed : (p : ℕ) (d : ℤ) → p < length lits → places (opposite (slice_index_or lits p d)) ≡ p + 1
   pub within : (l : ℤ) → places l ≤ length lits
   pub found : (l d : ℤ) → 0 < places l → slice_index_or lits (places l - 1) d ≡ opposite l
   pub one_side : (l : ℤ) → 0 < places l → places (opposite l) ≡ 0
 
--- A trail fits its tables: each of its literals is one of the variables 1 to vars and has its place, and
--- the tables have room for all of them. By `room` each literal of the trail has taken one entry of the
--- table that was 0, so the trail is no longer than the table, and its places are small numbers.
+-- A trail fits its tables: each of its literals is one of the variables 1 to vars and has its
+-- place, and the tables have room for all variables. By `room` each literal of the trail has taken
+-- one entry of the table that was 0, so the trail is no longer than the table, and its places fit
+-- 32 bits.
 pub record IsTrail (t : Trailed) : Type 0 where
   pub places : ArePlaces t.lits (fell t)
   pub variables : All (λ l. (0 < variable l) × (variable l ≤ t.vars)) t.lits
@@ -49,7 +52,7 @@ pushed t l reason = record {
 pub record HasReason (live : ℕ → Option (List ℤ)) (t : Trailed) (p : ℕ) : Type 0 where
   pub implied : (d : ℤ) → Implies live (fell t) p (slice_index_or t.lits p d) (reason_of t (slice_index_or t.lits p d))
 
--- The trail went on: what stood there stands there, and each new literal has its reason.
+-- The trail grew: it begins as before, and each new literal has its reason.
 pub record IsGrown (live : ℕ → Option (List ℤ)) (old new : Trailed) : Type 0 where
   pub vars : new.vars ≡ old.vars
   pub longer : length old.lits ≤ length new.lits
@@ -58,7 +61,7 @@ pub record IsGrown (live : ℕ → Option (List ℤ)) (old new : Trailed) : Type
   pub old_reasons : (p : ℕ) (d : ℤ) → p < length old.lits → reason_of new (slice_index_or old.lits p d) ≡ reason_of old (slice_index_or old.lits p d)
   pub new_reasons : (p : ℕ) → length old.lits ≤ p → p < length new.lits → HasReason live new p
 
--- The trail went back to its first n literals.
+-- The trail was cut back to its first n literals (backtracking).
 pub record IsBack (n : ℕ) (old new : Trailed) : Type 0 where
   pub vars : new.vars ≡ old.vars
   pub reasons : new.reasons ≡ old.reasons
@@ -66,8 +69,8 @@ pub record IsBack (n : ℕ) (old new : Trailed) : Type 0 where
   pub lits : (p : ℕ) (d : ℤ) → p < n → slice_index_or new.lits p d ≡ slice_index_or old.lits p d
   pub same : SameFallen n (fell old) (fell new)
 
--- The levels of a trail begin at its decisions, whose indices are the starts. Each state before a
--- decision is closed, and whatever is no decision has a reason.
+-- The decision levels of a trail begin at its decisions, whose indices are the starts. Each state
+-- before a decision is closed, and each literal that is no decision has a reason.
 pub record IsLayered (live : ℕ → Option (List ℤ)) (t : Trailed) (starts : List ℕ) : Type 0 where
   pub whole : IsTrail t
   pub inside : All (λ s. s < length t.lits) starts

@@ -1,11 +1,12 @@
-//! The ideas of a solver that learns clauses from conflicts, as definitions and laws: literals that fall
-//! one after another, reasons, states of values that are closed, levels, and how a clause follows from a
-//! conflict by going back over reasons (Marques-Silva and Sakallah, "GRASP", 1999; Knuth, TAOCP 7.2.2.2).
-//! It stands on `sat_theory`; the crates of the solver stand on it.
+//! The ideas of conflict-driven clause learning (CDCL) as definitions and laws: literals that fall
+//! (become false) one after another, reasons, closed states of values, decision levels, and how a
+//! clause follows from a conflict by resolving with reasons (Marques-Silva and Sakallah, "GRASP",
+//! 1999; Knuth, TAOCP 7.2.2.2). The definitions of `sat_theory` are below it, the crates of the
+//! solver above.
 //!
-//! The theorem in the middle is `laws::unit_clauses_are_new`: a clause that is unit in a closed state of
-//! values is new, however it was found. So it holds of clauses that were learnt, and of those that were
-//! shortened afterwards, and restarts, watches and deletions don't touch it.
+//! The central theorem is `laws::unit_clauses_are_new`: a clause that is unit in a closed state of
+//! values is new, however it was found. So it holds of learnt clauses, minimised or not, whatever
+//! restarts, watches and deletions do.
 #![tactic(auto)]
 
 pub mod laws;

@@ -45,7 +45,7 @@ has-push : (lits : List ℤ) (l m : ℤ) → has (lits ++ l ∷ []) m ≡ (has l
 unfolding has
 has-push lits l m = list_any-append (int_eq m) lits (l ∷ []) ∙ ap (λ b. list_any (int_eq m) lits || b) (or_false (int_eq m l))
 
--- ---- what is known
+-- ---- variables that occurred
 
 pub blank_seen : (seen : List (Option Bool)) → IsBlank seen → IsSeen seen []
 unfolding has
@@ -55,14 +55,14 @@ blank_seen seen blank = record {
   within = All-nil (λ l. variable l < length seen);
 }
 
--- a variable that is known: its literal is there, or the clause is true
+-- a variable that occurred: its literal is there, or the clause is true
 pub seen_again : (seen : List (Option Bool)) (lits : List ℤ) (v : ℕ) (known bit : Bool) (raws : List Raw) → IsSeen seen lits → 1 ≤ v → v < length seen → get_or seen v None ≡ Some known → simplified lits (Var v bit ∷ raws) ≡ going (same_bit known bit) lits raws
 seen_again seen lits v true true raws is some low at = simplified-again lits v true raws (is.known v false some low ∙ rw at refl) (is.known v true some low ∙ rw at refl)
 seen_again seen lits v false false raws is some low at = simplified-again lits v false raws (is.known v true some low ∙ rw at refl) (is.known v false some low ∙ rw at refl)
 seen_again seen lits v true false raws is some low at = simplified-opposite lits v false raws (is.known v true some low ∙ rw at refl)
 seen_again seen lits v false true raws is some low at = simplified-opposite lits v true raws (is.known v false some low ∙ rw at refl)
 
--- one that isn't known: its literal is new
+-- one that didn't occur: its literal is new
 pub seen_new : (seen : List (Option Bool)) (lits : List ℤ) (v : ℕ) (bit : Bool) (raws : List Raw) → IsSeen seen lits → 1 ≤ v → v < length seen → get_or seen v None ≡ None → simplified lits (Var v bit ∷ raws) ≡ simplified (lits ++ signed v bit ∷ []) raws
 seen_new seen lits v bit raws is some low at = simplified-new lits v bit raws (is.known v (not bit) some low ∙ rw at refl) (is.known v bit some low ∙ rw at refl)
 
@@ -95,18 +95,18 @@ same_is : (b : Bool) → same_bit b b ≡ true
 same_is true = refl
 same_is false = refl
 
--- a variable is forgotten, or it is as it was and none of these literals is its
+-- a variable is forgotten, or its entry is unchanged and none of the literals is its
 pub record Forgotten (lits : List ℤ) (at : ℕ) (first now : List (Option Bool)) : Type 0 where
   pub each : (v : ℕ) → (get_or now v None ≡ None) ⊎ ((get_or now v None ≡ get_or first v None) × ((k : ℕ) (d : ℤ) → k < at → variable (get_or lits k d) ≢ v))
   pub size : length now ≡ length first
 
--- behind the list nothing is known
+-- after the end of a list an entry is the default
 behind : {X : Type 0} (xs : List X) (k : ℕ) (d : X) → length xs ≤ k → get_or xs k d ≡ d
 behind {X} [] k d low = refl
 behind {X} (x ∷ xs) zero d low = absurd (omega arith)
 behind {X} (x ∷ xs) (suc k) d low = behind xs k d (omega arith)
 
--- a literal that is among some has its place there
+-- a literal that lits has is at some index, with its variable
 there : {A : Type 0} (lits : List ℤ) (l : ℤ) → has lits l ≡ true → ((k : ℕ) (d : ℤ) → k < length lits → variable (get_or lits k d) ≢ variable l) → A
 unfolding has
 there {A} lits l is none =
@@ -115,7 +115,7 @@ there {A} lits l is none =
     let same : l ≡ x = (Decides-int_eq l x).0 found.4 in
     absurd (none found.0 x found.2 (ap variable (found.3 ∙ sym same)))
 
--- a variable that none of the literals has isn't known
+-- a variable of none of the literals isn't known
 unknown : (lits : List ℤ) (at : ℕ) (seen : List (Option Bool)) → IsSeen seen lits → (v : ℕ) → ((k : ℕ) (d : ℤ) → k < at → variable (get_or lits k d) ≢ v) → length lits ≤ at → get_or seen v None ≡ None
 unknown lits at seen is zero none all = is.zero
 unknown lits at seen is (suc v) none all =
@@ -159,6 +159,6 @@ beq_is true false = refl
 beq_is false true = refl
 beq_is false false = refl
 
--- what a whole slice of a vector is after it was written
+-- a whole slice of a vector after it was written
 pub viewed : {X : Type 0} (xs ys : List X) (n : ℕ) → length xs ≡ n → take n (xs ++ ys) ≡ xs
 viewed {X} xs ys n e = rw (← e) (take-append_seam xs ys)

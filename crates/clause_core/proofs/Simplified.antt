@@ -46,19 +46,19 @@ variable-signed (suc v) false = refl
 not_both : {A : Type 0} (b : Bool) → b ≡ true → b ≡ false → A
 not_both b yes_ no_ = cc
 
--- a literal of a variable is one of the two
+-- a literal of a variable is its positive or its negative one
 of_variable : (m : ℤ) (v : ℕ) (bit : Bool) → variable m ≡ v → (m ≡ signed v bit) ⊎ (m ≡ signed v (not bit))
 of_variable (pos n) v true e = inl (ap pos e)
 of_variable (pos n) v false e = inr (ap pos e)
 of_variable (negsuc n) v true e = inr (subst (λ (w : ℕ). negsuc n ≡ neg_ℤ (pos w)) e refl)
 of_variable (negsuc n) v false e = inl (subst (λ (w : ℕ). negsuc n ≡ neg_ℤ (pos w)) e refl)
 
--- where a literal isn't among some, each of these is another
+-- where a literal isn't among lits, each of these is another
 other : (lits : List ℤ) (l : ℤ) (k : ℕ) (d : ℤ) → has lits l ≡ false → k < length lits → get_or lits k d ≡ l → ⊥
 unfolding has
 other lits l k d new within same = not_both (has lits l) (list_any_at (int_eq l) lits k d within (rw same (int_eq_equiv.refl l))) new
 
--- A clause may get a literal of a variable that it doesn't have.
+-- A clause may get a literal of a variable that neither literal of which it has.
 pub clause_push : (lits : List ℤ) (v : ℕ) (bit : Bool) → IsClause lits → 1 ≤ v → has lits (signed v (not bit)) ≡ false → has lits (signed v bit) ≡ false → IsClause (lits ++ signed v bit ∷ [])
 clause_push lits v bit clause some opposite new = record {
   literals = All-push (λ l. 0 < variable l) lits (signed v bit) clause.literals (rw variable-signed (omega arith));

@@ -1,4 +1,4 @@
--- How a listed clause is written.
+-- How a listed clause is simplified and written.
 use Rattle.std.specs.Prelude.{ℕ, ◌≤◌, ℤ, Bool, true, false, not, List, [], ◌∷◌, ◌++◌, Option, Some, None, if◌then◌else◌}
 use Rattle.std.specs.List.{list_any}
 use Rattle.std.specs.Ordering.{int_eq}
@@ -6,13 +6,13 @@ use Rattle.sat_theory.specs.Formula.{Formula, Assignment, Satisfies, signed}
 use Rattle.clause_core.specs.declared.raw.Raw.{Raw}
 use Rattle.clause_core.specs.declared.raw.Raw.TheVariants.{Fixed, Var}
 
--- the literal is among these
+-- the literal is among lits
 unfoldable pub has : List ℤ → ℤ → Bool
 has lits lit = list_any (int_eq lit) lits
 
--- These literals with the listed ones behind them, or nothing where the clause is true whatever the
--- variables are. What is false is left out, and so is a literal that is there; what is true, and a
--- literal whose opposite is there, makes the clause true.
+-- The literals of lits and then the listed ones, or None where the clause is true whatever the
+-- variables are (a tautology). What is false is left out, and so is a repeated literal; what is
+-- true, and a literal whose opposite is there, makes the clause a tautology.
 unfoldable pub simplified : List ℤ → List Raw → Option (List ℤ)
 simplified lits [] = Some lits
 simplified lits (Fixed true ∷ raws) = None

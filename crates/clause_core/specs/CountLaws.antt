@@ -1,4 +1,4 @@
--- How many elements comprehensions have at most, and how many clauses are written.
+-- Bounds for the lengths of comprehensions, and for the number of clauses that are written.
 use Rattle.std.specs.Prelude.{ℕ, zero, suc, ◌+◌, ◌*◌, ◌≤◌, ◌<◌, ℤ, List, [], ◌∷◌, All, length, Some, None, Option}
 use Rattle.std.specs.List.{range_with_len, flat_map}
 use Rattle.std.proofs.Common.{arith, length-append}
@@ -9,12 +9,12 @@ use Rattle.clause_core.specs.Clauses.{simplified, listed, written}
 
 -- ---- lists made of pieces over a range
 
--- what holds of each piece's elements holds of all
+-- what holds of the elements of each piece holds of all
 pub flat_map-each : {X : Type 0} (P : X → Type 0) (f : ℕ → List X) (a n : ℕ) → ((x : ℕ) → a ≤ x → x < a + n → All P (f x)) → All P (flat_map f (range_with_len a n))
 flat_map-each {X} P f a zero each = All-nil P
 flat_map-each {X} P f a (suc n) each = All-append P (f a) (flat_map f (range_with_len (a + 1) n)) (each a (omega arith) (omega arith)) (flat_map-each P f (a + 1) n (λ x low high. each x (omega arith) (omega arith)))
 
--- pieces of at most k elements make at most k times their number
+-- pieces of at most k elements, n of them, have at most n * k elements
 pub flat_map-few : {X : Type 0} (f : ℕ → List X) (k a n : ℕ) → ((x : ℕ) → a ≤ x → x < a + n → length (f x) ≤ k) → length (flat_map f (range_with_len a n)) ≤ n * k
 flat_map-few {X} f k a zero each = omega arith
 flat_map-few {X} f k a (suc n) each =

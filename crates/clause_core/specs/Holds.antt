@@ -1,4 +1,4 @@
--- Truth of clauses as a bit, and what it is of listed clauses and of comprehensions.
+-- Truth of clauses as a bit, and how it is that of listed clauses and of comprehensions.
 use Rattle.std.proofs.Common.{◌≡◌, ◌⊎◌, ℕ, zero, suc, ◌+◌, ◌-◌, ◌<◌, ◌≤◌, Bool, true, false, not, ◌&&◌, ◌||◌, List, [], ◌∷◌, ◌++◌, map, get_or, Option, Some, None, Contains, refl, sym, ap, ◌∙◌, subst, arith, inl, inr, ⊎_elim}
 use Rattle.std.specs.Prelude.{ℤ, if◌then◌else◌}
 use Rattle.std.specs.List.{list_any, list_all, flat_map, filter, range_with_len}
@@ -66,7 +66,7 @@ pub list_any-map : {X Y : Type 0} (p : Y → Bool) (f : X → Y) (xs : List X) �
 list_any-map p f [] = refl
 list_any-map p f (x ∷ xs) = ap (λ (b : Bool). p (f x) || b) (list_any-map p f xs)
 
--- what a filter keeps was there
+-- what a filter keeps was in the list
 kept_cases : {X : Type 0} (test : Bool) (y x : X) (xs kept : List X) → (Contains kept x → Contains xs x) → Contains (if test then y ∷ kept else kept) x → Contains (y ∷ xs) x
 kept_cases true y x xs kept more c = ⊎_elim (λ (e : y ≡ x). subst (Contains (y ∷ xs)) e (contains_head y xs)) (λ (c' : Contains kept x). contains_tail y x xs (more c')) (contains_cases y x kept c)
 kept_cases false y x xs kept more c = contains_tail y x xs (more c)
@@ -126,7 +126,7 @@ holds_both v xs ys all = and_parts (holds v xs) (holds v ys) (sym (holds-append 
 pub both_hold : (v : Assignment) (xs ys : List (List ℤ)) → holds v xs ≡ true → holds v ys ≡ true → holds v (xs ++ ys) ≡ true
 both_hold v xs ys one two = holds-append v xs ys ∙ and_from (holds v xs) (holds v ys) one two
 
--- what is written for each element of a comprehension
+-- the clauses written for an element of a comprehension are true where all are
 pub holds_each : {X : Type 0} (v : Assignment) (f : X → List (List ℤ)) (xs : List X) (x : X) → holds v (flat_map f xs) ≡ true → Contains xs x → holds v (f x) ≡ true
 holds_each v f [] x all c = absurd (omega (arith, c.1))
 holds_each v f (y ∷ ys) x all c =
@@ -192,7 +192,8 @@ pushed_bit : (v : Assignment) (lits : List ℤ) (lit : ℤ) → clause_bit v (li
 unfolding clause_bit
 pushed_bit v lits lit = list_any-append (literal_value v) lits (lit ∷ [])
 
--- what a literal adds to a clause: nothing where the clause has it, truth where it has its opposite
+-- what a literal adds to a clause: nothing where the clause has it, and truth where it has its
+-- opposite
 opposite_there : (c x bit rest : Bool) → (same x (not bit) ≡ true → c ≡ true) → true ≡ (c || (same x bit || rest))
 unfolding same
 opposite_there true x bit rest e = refl

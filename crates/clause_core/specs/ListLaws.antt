@@ -1,4 +1,4 @@
--- Lists, an element at a time.
+-- Lists, element by element.
 use Rattle.std.proofs.Common.{◌≡◌, ℕ, ◌+◌, List, [], ◌∷◌, ◌++◌, All, length, subst, ap, refl, arith, length-append, append_assoc}
 use Rattle.std.proofs.lemmas.List.Elements.{All-head, All-tail}
 

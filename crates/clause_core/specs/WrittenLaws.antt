@@ -26,7 +26,7 @@ pub are_of-map : {X : Type 0} (vars : ℕ) (f : X → Raw) (xs : List X) → ((x
 are_of-map vars f [] each = tt
 are_of-map vars f (x ∷ xs) each = (each x (contains_head x xs), are_of-map vars f xs (λ y c. each y (contains_tail x y xs c)))
 
--- a clause of a formula of so many variables
+-- a clause of a formula with the variables 1 to vars
 pub record IsClauseOf (vars : ℕ) (lits : List ℤ) : Type 0 where
   pub clause : IsClause lits
   pub within : IsWithin vars lits
@@ -50,7 +50,7 @@ sign_absent : (lits : List ℤ) (x : ℕ) (bit : Bool) → has lits (signed x bi
 sign_absent lits x true e e' = (e, e')
 sign_absent lits x false e e' = (e', e)
 
--- a variable of which neither literal is there is another than those that are
+-- a variable neither literal of which is among lits differs from those of lits
 new_variable : (lits : List ℤ) (x : ℕ) (bit : Bool) (other : ℤ) → has lits (signed x bit) ≡ false → has lits (signed x (not bit)) ≡ false → Contains lits other → variable other ≢ variable (signed x bit)
 new_variable lits x bit other e e' c = λ same.
     let is : variable other ≡ x = same ∙ signed_variable x bit in
@@ -86,7 +86,7 @@ simplified_clause vars (Var x bit ∷ raws) lits are is = ⊎_elim
     (cases_Bool (has lits (signed x bit)))))
     (cases_Bool (has lits (signed x (not bit))))
 
--- all are clauses of a formula of so many variables
+-- all are clauses of a formula with the variables 1 to vars
 pub record AreClauses (vars : ℕ) (clauses : List (List ℤ)) : Type 0 where
   pub each : (lits : List ℤ) → Contains clauses lits → IsClauseOf vars lits
 

@@ -1,7 +1,7 @@
-//! Formulas written clause by clause. A clause is listed as literals of which some may be true or false
-//! whatever the variables are, some may stand twice, and some may be opposites; what is written of it is
-//! a clause of different variables, or nothing where it is true. So who lists clauses looks at no case,
-//! and each formula is fixed literal by literal by what is listed.
+//! Formulas written clause by clause. A clause is listed as literals, some of which may be
+//! constants, repeats or opposites of others; what is written of it is a clause of different
+//! variables, or nothing where it is a tautology. So whoever lists clauses needs no case
+//! distinctions, and a formula is determined literal by literal by what is listed.
 //!
 //! ```text
 //! let mut list = ClauseList::new(alloc, 4)?;
@@ -9,13 +9,13 @@
 //! let cnf = list.into_cnf(alloc)?;
 //! ```
 //!
-//! It knows formulas alone, and neither chains nor netlists: it stands on `sat_theory` and `cnf_core`.
+//! It knows formulas alone, neither chains nor netlists: it needs `sat_theory` and `cnf_core`.
 //!
 //! - `specs/Clauses.antt`: what is written of a listed clause.
 //! - `specs/Holds.antt`: it is true exactly where the listed clause is. `specs/WrittenLaws.antt`: it is a
 //!   clause of the formula. `specs/CountLaws.antt`: how many clauses there are.
-//! - `specs/RangeLaws.antt`, `specs/ListLaws.antt`, `specs/WithinLaws.antt`: what loops that write clauses
-//!   need, a turn at a time.
+//! - `specs/RangeLaws.antt`, `specs/ListLaws.antt`, `specs/WithinLaws.antt`: what loops that write
+//! clauses need for each turn.
 #![tactic(auto)]
 
 mod list;

@@ -1,7 +1,7 @@
-//! Clauses as they are written, one at a time. While a clause is written, a table over all variables has
-//! the bit of each that is in it; a literal whose variable is there is a repeat or an opposite, by one look.
-//! When the clause is done its own literals are forgotten, so the table is blank for the next one and a
-//! clause costs time linear in what is listed of it.
+//! Clauses as they are written, one at a time. While a clause is written, a table over all
+//! variables has the sign of each that occurs in it; a literal whose variable occurs is a repeat or
+//! an opposite, by one look. After the clause its entries are cleared, so that a clause takes time
+//! linear in the number of listed literals.
 ghost use Rattle.std.specs.Prelude.{◌≡◌, ◌<◌, ◌≤◌, ◌-◌, ◌^◌, List, [], ◌∷◌, ◌++◌, length, All, IfOk, OnOk, OnErr};
 ghost use Rattle.sat_theory.specs.Formula.{IsClause};
 ghost use Rattle.clause_core.specs.declared.raw.Raw.{Raw};
@@ -14,8 +14,8 @@ use cnf_core::{Clause, Cnf, Lit};
 use std::alloc::{AllocError, Global};
 use std::marker::Model;
 
-/// Adds a variable's literal to those of a clause, of which `seen` has the bits by their variables. It
-/// gives false where the clause is true.
+/// Adds a variable's literal to those of a clause, whose signs by variable are in `seen`. Answers
+/// false where the clause is a tautology.
 fn add_literal(
     lits: &mut Vec<Lit>,
     seen: &mut [Option<bool>],
@@ -39,7 +39,7 @@ fn add_literal(
     }
 }
 
-/// Adds a listed literal to those of a clause. It gives false where the clause is true.
+/// Adds a listed literal to those of a clause. Answers false where the clause is a tautology.
 #[tactic(auto, using(crate::proofs::Simplified::constants), unfolding(crate::specs::Clauses::IsWithin))]
 fn add(lits: &mut Vec<Lit>, seen: &mut [Option<bool>], raw: Raw) -> Result<bool, AllocError>
     requires clause { IsClause lits.old.items }
@@ -56,8 +56,8 @@ fn add(lits: &mut Vec<Lit>, seen: &mut [Option<bool>], raw: Raw) -> Result<bool,
     }
 }
 
-/// Puts the literals that are written of a listed clause into an empty list. It gives false where
-/// nothing is written, because the clause is true.
+/// Writes the literals of a listed clause into an empty list. Answers false where the clause is a
+/// tautology, so that nothing is written.
 #[tactic(auto, using(crate::proofs::Simplified::constants))]
 fn gather(lits: &mut Vec<Lit>, seen: &mut [Option<bool>], raws: &[Raw]) -> Result<bool, AllocError>
     requires none { lits.old.items ≡ [] }
@@ -78,7 +78,7 @@ fn gather(lits: &mut Vec<Lit>, seen: &mut [Option<bool>], raws: &[Raw]) -> Resul
     Ok(true)
 }
 
-/// Forgets the variables of the literals.
+/// Clears the entries of the literals' variables.
 fn forget(seen: &mut [Option<bool>], lits: &[Lit])
     requires { IsSeen seen.old lits.now }
     ensures { IsBlank seen.new }
@@ -88,13 +88,13 @@ fn forget(seen: &mut [Option<bool>], lits: &[Lit])
     }
 }
 
-/// A formula that grows: the variables 1 to `vars`, and clauses over them. Each clause is written in
-/// time linear in what is listed of it.
+/// A formula that grows: the variables 1 to `vars`, and clauses over them. Each clause is written
+/// in time linear in the number of listed literals.
 #[derive(Drop)]
 pub struct ClauseList {
     vars: u32,
     clauses: Vec<Clause>,
-    // the bits of a clause's variables, while it is written
+    // the signs of a clause's variables, while it is written
     seen: Vec<Option<bool>>,
 }
 
@@ -123,8 +123,8 @@ impl ClauseList {
         })
     }
 
-    /// Writes a listed clause: what is false is left out, and so is a literal that is there already;
-    /// where something is true, or a literal and its opposite are there, nothing is written.
+    /// Writes a listed clause: what is false is left out, and so is a repeated literal; where
+    /// something is true, or a literal and its opposite are listed, nothing is written.
     #[tactic(auto, unfolding(crate::specs::Clauses::written))]
     pub fn push(&mut self, alloc: Global, raws: &[Raw]) -> Result<(), AllocError>
         requires { All (IsWithin self.old.vars) raws.now }

@@ -37,7 +37,7 @@ pub holding_taken : (r : Result (Unit {0}) CheckError) (s : State) (line : Line)
 holding_taken (Ok done) s line clauses judged holds = tt
 holding_taken (Err e) s line clauses judged holds = only_memory e (line_fault s line) (line_without_fault s line clauses holds) judged
 
--- adding the empty clause, as a test
+-- whether a line adds the empty clause, as a test
 adds_is : (line : Line) → adds_empty line ≡ true → AddsEmpty line
 adds_is (Add id lits hints) yes_ = empty_is lits yes_
 adds_is (Delete id ids) yes_ = absurd (cc)
@@ -75,7 +75,7 @@ or_right : (a b : Bool) → b ≡ true → (a || b) ≡ true
 or_right true b is = refl
 or_right false b is = is
 
--- So a checker goes on with the log.
+-- So what the checker has accepted so far, and the line, is accepted.
 pub accepted_more : (f : Formula) (lines : List Line) (line : Line) (old new : Checked) → HasAccepted f lines old → IsLine line → Holds (state_of old) line → state_of new ≡ next (state_of old) line → new.refuted ≡ (old.refuted || adds_empty line) → HasAccepted f (lines ++ line ∷ []) new
 accepted_more f lines line old new before is_line holds next_is refuted_is = record {
   formula = before.formula;

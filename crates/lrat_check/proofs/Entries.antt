@@ -17,7 +17,7 @@ find-lookup : (q : ℕ) (es : List (ℕ × List ℤ)) → map.find nat_cmp q es 
 find-lookup q [] = refl
 find-lookup q (e ∷ es) = ap (λ (b : Bool). cond b (Some e.1) (map.find nat_cmp q es)) (tie_is q e.0) ∙ ap (λ (o : Option (List ℤ)). cond (nat_eq q e.0) (Some e.1) o) (find-lookup q es)
 
--- a look-up in the one is a look-up in the other
+-- a look-up in the hash map is a look-up in the finite map
 pub live_get : {S : Type 0} (m : HashMap ℕ (List ℤ) S) (k : ℕ) → live_at (map.from_entries m.entries) k ≡ get nat_eq m k
 live_get m k = map.get-from_entries nat_cmp_total m.entries k ∙ find-lookup k m.entries
 
@@ -42,11 +42,11 @@ live-remove old new id each = λ i k. at k i
     at : (k : ℕ) → live_at (map.from_entries new.entries) k ≡ without (live_at (map.from_entries old.entries)) (id ∷ []) k
     at k = live_get new k ∙ each k ∙ ap (λ (o : Option (List ℤ)). cond (id == k) None o) (sym (live_get old k)) ∙ ap (λ (b : Bool). cond b None (live_at (map.from_entries old.entries) k)) (turned id k ∙ sym (or_false (k == id)))
 
--- what is found in the one is found in the other
+-- the index finds the same clauses for both maps
 pub indexed_view : {S : Type 0} (m : HashMap ℕ (List ℤ) S) (index : Lists) → IsIndexed (get nat_eq m) index → IsIndexed (live_at (map.from_entries m.entries)) index
 indexed_view m index indexed = record { each = λ id clause is. indexed.each id clause (sym (live_get m id) ∙ is) }
 
--- In an empty map nothing is found, so each index has it all.
+-- In an empty map nothing has to be found, so any index will do.
 pub empty_view : {S : Type 0} (m : HashMap ℕ (List ℤ) S) → m.entries ≡ [] → map.from_entries {R = nat_cmp} m.entries ≡ map.empty
 empty_view m none = rw none refl
 

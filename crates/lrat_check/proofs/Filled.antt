@@ -22,7 +22,7 @@ zeros n k =
     (λ (past : n ≤ k). let none : slice_index_or zs k 0 ≡ 0 = grind (arith, common_steps) in none)
     (cases_lt k n)
 
--- The slots of no literals,
+-- The slots of an empty list,
 pub none_filled : AreSlots (replicate 1024 0) []
 none_filled = record {
   each = λ l there. absurd (let within : there.0 < 0 = there.1 in omega arith);
@@ -42,7 +42,7 @@ fresh_entry slot code none = rw (eq-eqb slot 0 none) refl
 used_entry : (slot code : ℕ) → (slot ≡ 0 → ⊥) → cond (slot == 0) (code + 2) 1 ≡ 1
 used_entry slot code some = rw (ne_eqb slot 0 some) refl
 
--- and of one more.
+-- and of a list with one literal more.
 pub filled : (slots : List ℕ) (lits : List ℤ) (l : ℤ) → AreSlots slots lits → AreSlots (with_slot slots l) (lits ++ l ∷ [])
 filled slots lits l are = record {
   each = λ m there.
@@ -87,7 +87,7 @@ filled slots lits l are = record {
     as_before : (m : ℤ) → (slot_of m ≡ slot_of l → ⊥) → slot_at (with_slot slots l) m ≡ slot_at slots m
     as_before m apart = set_other slots (slot_of l) (slot_of m) (cond (slot_at slots l == 0) (code_of l + 2) 1) within apart
 
--- Going on by one literal of a list, and all of them.
+-- One literal further in a list, and the whole list.
 pub filled_more : (slots new : List ℕ) (lits : List ℤ) (i : ℕ) (l : ℤ) → i < length lits → l ≡ get_or lits i l → AreSlots slots (take i lits) → new ≡ with_slot slots l → AreSlots new (take (i + 1) lits)
 filled_more slots new lits i l within at are is =
     let more : take (i + 1) lits ≡ take i lits ++ l ∷ [] = take_more lits i l within ∙ ap (λ (x : ℤ). take i lits ++ x ∷ []) (sym at) in
@@ -98,7 +98,7 @@ filled_all slots lits i past are =
     let all : take i lits ≡ lits = grind (arith, common_steps, past) in
     subst (λ (ls : List ℤ). AreSlots slots ls) all are
 
--- A slot that isn't of several tells.
+-- A slot that isn't shared decides membership.
 pub slot_tells : (slots : List ℕ) (lits : List ℤ) (l : ℤ) (code : ℕ) → AreSlots slots lits → code ≡ code_of l → (slice_index_or slots (code % 1024) 0 ≡ 1 → ⊥) → IsTrue (slice_index_or slots (code % 1024) 0 == (code + 2)) ↔ HasLiteral lits l
 unfolding HasLiteral
 slot_tells slots lits l code are is one = (

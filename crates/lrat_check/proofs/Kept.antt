@@ -1,4 +1,4 @@
--- What a checker keeps over its lines.
+-- The invariant of a checker, line by line.
 use Rattle.std.proofs.Common.{◌≡◌, ℕ, ◌==◌, ◌||◌, ◌⊎◌, ℤ, Bool, true, false, cond, if◌then◌else◌, List, [], ◌∷◌, ◌++◌, Option, Some, None, refl, sym, ap, ◌∙◌, subst, inl, inr}
 use Rattle.std.proofs.Math.Logic.{⊎_elim}
 use Rattle.std.proofs.lemmas.Grind.{common_steps}
@@ -13,7 +13,7 @@ chosen : {A : Type 0} (b : Bool) (x y z : A) → (if b then x else y) ≡ z → 
 chosen true x y z is = inl is
 chosen false x y z is = inr is
 
--- other marks, with room
+-- the marks may be any others with enough room
 pub kept_marks : (vars : ℕ) (live : Live) (old new : Stamped) → IsChecker vars live old → HasRoom new vars → IsChecker vars live new
 kept_marks vars live old new is room = record { clauses = is.clauses; within = is.within; room = room }
 
@@ -28,7 +28,7 @@ kept_added vars old new marks id lits is added clause within = record {
     which : (k : ℕ) (c : List ℤ) → live_at new k ≡ Some c → (Some lits ≡ Some c) ⊎ (live_at old k ≡ Some c)
     which k c at = chosen (k == id) (Some lits) (live_at old k) (Some c) (sym (ap (λ (g : ℕ → Option (List ℤ)). g k) added) ∙ at)
 
--- some clauses less
+-- some clauses removed
 pub kept_removed : (vars : ℕ) (old new : Live) (marks : Stamped) (ids : List ℕ) → IsChecker vars old marks → live_at new ≡ without (live_at old) ids → IsChecker vars new marks
 kept_removed vars old new marks ids is removed = record {
   clauses = record { each = λ k c at. is.clauses.each k c (stayed k c at) };

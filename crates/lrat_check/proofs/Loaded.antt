@@ -12,11 +12,11 @@ use Rattle.std.specs.Ordering.{nat_cmp}
 use Rattle.sat_theory.specs.State.{by_id, with_clause}
 use Rattle.lrat_check.specs.Live.{live_at}
 
--- the clauses of a list with ids above a number
+-- the clauses of a list, by ids above a number
 unfoldable pub live_behind : ℕ → List (List ℤ) → ℕ → Option (List ℤ)
 live_behind n clauses id = if nat_le id n then None else by_id clauses id
 
--- behind the whole list stands none,
+-- above the whole list there is none,
 behind_last : (clauses : List (List ℤ)) (id : ℕ) → None ≡ live_behind (length clauses) clauses id
 unfolding live_behind
 behind_last clauses id =
@@ -31,7 +31,7 @@ behind_last clauses id =
 pub live_behind-last : (clauses : List (List ℤ)) → live_at map.empty ≡ live_behind (length clauses) clauses
 live_behind-last clauses = λ i id. (map.get-empty nat_cmp id ∙ behind_last clauses id) i
 
--- behind the first ones stand all,
+-- above 0 there are all,
 behind_first : (clauses : List (List ℤ)) (id : ℕ) → live_behind 0 clauses id ≡ by_id clauses id
 unfolding live_behind
 behind_first clauses id =
@@ -43,7 +43,7 @@ behind_first clauses id =
 pub live_behind-0 : (clauses : List (List ℤ)) → live_behind 0 clauses ≡ by_id clauses
 live_behind-0 clauses = λ i id. behind_first clauses id i
 
--- and one more is that of the next id
+-- and above a number there is one more than above the next
 behind_next : (n : ℕ) (clauses front : List (List ℤ)) (clause : List ℤ) (id : ℕ) → slice_get clauses n ≡ Some clause → with_clause (live_behind (n + 1) clauses) (n + 1) clause id ≡ live_behind n clauses id
 unfolding live_behind
 behind_next n clauses front clause id at =

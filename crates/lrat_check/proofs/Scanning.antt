@@ -6,7 +6,7 @@ use Rattle.std.proofs.lemmas.List.Elements.{filter-append}
 use Rattle.lrat_check.specs.Hints.{outside}
 use Rattle.lrat_check.specs.Scan.{AreMany}
 
--- a second literal outside
+-- a second literal outside: the scan stops with Many
 two_outside : (set : ℤ → Bool) (clause : List ℤ) (i : ℕ) (l m : ℤ) → outside set (take i clause) ≡ l ∷ [] → i < length clause → m ≡ get_or clause i m → set m ≡ false → AreMany (outside set clause)
 two_outside set clause i l m front within at out =
     let rest : List ℤ = drop (suc i) clause in

@@ -1,4 +1,4 @@
-//! The checker: which lines it takes, and which fault it tells.
+//! The checker: which lines it takes, and which fault it reports.
 use crate::building::{clause, formula};
 use lrat_check::{CheckError, Checker};
 use lrat_text::read_line;
@@ -22,7 +22,7 @@ fn checker(
 /// The variables 1 and 2, and all four clauses over both.
 const CONTRADICTION: [&[u8]; 4] = [b"1 1 2 0 0", b"2 -1 2 0 0", b"3 1 -2 0 0", b"4 -1 -2 0 0"];
 
-/// Whether a new checker of the contradiction says so to a line.
+/// Whether a new checker of the contradiction gives `answer` to a line.
 fn is_answer_of(
     alloc: Global,
     indexed: bool,
@@ -36,7 +36,7 @@ fn is_answer_of(
     }
 }
 
-/// Whether new checkers of the contradiction, with an index and without one, say so to a line.
+/// As `is_answer_of`, with an index and without one.
 fn is_answer(
     alloc: Global,
     text: &[u8],
@@ -103,8 +103,8 @@ fn faults_are_told(rt: HostRuntime) -> Result<(), AllocError> {
     Ok(())
 }
 
-/// Whether a checker of the contradiction says so to the lines of a log, one after the other, and is refuted behind
-/// those behind which it is to be.
+/// Whether a checker of the contradiction answers the lines of a log, one after another, as the
+/// rows say, and is refuted after exactly those where they say so.
 fn is_log(
     alloc: Global,
     indexed: bool,
@@ -122,7 +122,7 @@ fn is_log(
     Ok(true)
 }
 
-/// The formula is refuted, and the log goes on behind that.
+/// The formula is refuted, and the log goes on after that.
 const REFUTATION: [(&[u8], Result<(), CheckError>, bool); 8] = [
     (b"5 2 0 1 2 0", Ok(()), false),
     (b"5 1 0 1 3 0", Err(CheckError::IdNotGreater(5)), false),
@@ -134,7 +134,7 @@ const REFUTATION: [(&[u8], Result<(), CheckError>, bool); 8] = [
     (b"8 0 7 0", Ok(()), true),
 ];
 
-/// A clause that has gone is no hint, and doesn't go again.
+/// A deleted clause is no hint, and can't be deleted again.
 const DELETION: [(&[u8], Result<(), CheckError>, bool); 5] = [
     (b"5 d 1 0", Ok(()), false),
     (b"5 2 0 1 2 0", Err(CheckError::UnknownId(1)), false),
@@ -199,21 +199,22 @@ const NEW: [(&[u8], bool); 8] = [
     (b"1 0 0", true),
 ];
 
-/// The same once `2 3` has come.
+/// The same after `2 3` was added.
 const NO_LONGER_NEW: [(&[u8], bool); 3] = [
     (b"1 2 3 0 0", false),
     (b"1 3 2 -1 0 0", false),
     (b"1 1 3 0 0", true),
 ];
 
-/// The same once it and `1 2` have gone.
+/// The same after both it and `1 2` were deleted.
 const NEW_AGAIN: [(&[u8], bool); 3] = [
     (b"1 2 3 0 0", true),
     (b"1 1 2 3 0 0", true),
     (b"1 3 2 -1 0 0", false),
 ];
 
-/// Feeds a line to a checker, and tells whether it was taken and clauses are then as new as the rows say.
+/// Feeds a line to a checker, and answers whether it was taken and clauses are then as new as the
+/// rows say.
 fn goes_on(alloc: Global, checker: &mut Checker, line: &[u8], rows: &[(&[u8], bool)]) -> bool {
     match read_line(alloc, line) {
         Ok(line) => checker.feed(line).is_ok() && are_so_new(alloc, checker, rows),

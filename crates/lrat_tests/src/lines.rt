@@ -1,8 +1,8 @@
-//! Lines of logs as texts: what is read and written, and which fault is told.
+//! Lines of logs as texts: what is read and written, and which fault is reported.
 use lrat_text::{LineError, read_line, write_line};
 use std::alloc::{AllocError, Global};
 
-/// Whether a line, whose text ends with a LF, is read, and is written behind what stood there.
+/// Whether a line, whose text ends with an LF, is read, and is appended again to a text.
 fn is_written_again(alloc: Global, text: &[u8]) -> Result<bool, AllocError> {
     let Some((_, body)) = text.split_last() else {
         return Ok(false);

@@ -1,4 +1,4 @@
-//! Formulas and lines of logs, judged by the program that follows the definitions.
+//! Formulas and lines of logs, judged by `plain`, which computes the definitions.
 ghost use Rattle.std.specs.Prelude.{◌-◌, ◌^◌, IfOk};
 ghost use Rattle.sat_theory.specs.Formula.{IsWithin};
 

@@ -41,7 +41,7 @@ fn behind_minus(text: &[u8]) -> Option<&[u8]>
     Some(digits)
 }
 
-/// The literal that the first item spells, as `id_in` does for ids.
+/// The literal that the first item spells, as `next_id` reads an id.
 #[tactic(auto, using(crate::proofs::Entries::entries))]
 pub(crate) fn next_literal(text: &[u8]) -> Option<(Option<Lit>, Option<&[u8]>)>
     ensures none { IfNone result (spec.literal_in (first_of text.now) ≡ None) }

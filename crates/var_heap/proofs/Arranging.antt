@@ -1,4 +1,4 @@
--- Variables that change places, that are put into the row, and taken out.
+-- Variables that are exchanged, put into the row, and taken out.
 use Rattle.std.specs.Prelude.{◌≡◌, ℕ, ◌+◌, ◌-◌, ◌<◌, ◌≤◌, refl}
 use Rattle.std.proofs.Common.{sym, ap, ◌∙◌, subst, arith}
 use Rattle.std.proofs.Math.Logic.{⊎_elim}
@@ -7,7 +7,7 @@ use Rattle.var_heap.specs.Entries.{with_entry}
 use Rattle.var_heap.specs.Rows.{IsArranged}
 use Rattle.var_heap.proofs.Writing.{with_entry-same, with_entry-other}
 
--- an entry after two writings, of which the later counts
+-- an entry after two writes; the later one counts
 pub after_second : (f : ℕ → ℕ) (a x b y k : ℕ) → k ≡ b → with_entry (with_entry f a x) b y k ≡ y
 after_second f a x b y k e = with_entry-same (with_entry f a x) b y k e
 
@@ -86,7 +86,7 @@ arranged_swapped h s len bound a b is some_a low_a some_b low_b apart = record {
         (cases_eq v (h b)))
         (cases_eq v (h a))
 
--- One more variable, behind the others.
+-- One variable more at the end.
 pub arranged_put : (h s : ℕ → ℕ) (len bound v : ℕ) → IsArranged h s len bound → 0 < v → v < bound → s v ≡ 0 → IsArranged (with_entry h (len + 1) v) (with_entry s v (len + 1)) (len + 1) bound
 arranged_put h s len bound v is some low none = record {
   some = λ p some_p low_p. entry_at p (λ x. 0 < x) some (λ less. is.some p some_p less) low_p;
@@ -135,7 +135,7 @@ arranged_put h s len bound v is some low none = record {
         ap (with_entry h (len + 1) v) same ∙ with_entry-other h (len + 1) v (s w) (λ e. omega arith) ∙ is.found w here)
         (cases_eq w v)
 
--- The first variable goes out, and the last one takes its place.
+-- The first variable is taken out, and replaced by the last one.
 pub arranged_taken : (h s : ℕ → ℕ) (len bound : ℕ) → IsArranged h s len bound → 0 < len → IsArranged (with_entry h 1 (h len)) (with_entry (with_entry s (h len) 1) (h 1) 0) (len - 1) bound
 arranged_taken h s len bound is some = record {
   some = λ p some_p low_p. entry_at p (λ x. 0 < x) (is.some len some (omega arith)) (is.some p some_p (omega arith));

@@ -62,7 +62,7 @@ taken_at old last row some is =
     let low : old.len < length old.places.items = len_low old row some in
     entry-set old.heap.items 1 last (omega (arith, room, low, some)) ∙ ap (λ (x : ℕ). with_entry (at old) 1 x) (sym is)
 
--- of two writings the first leaves the mark as it was
+-- of two writes the first leaves the mark as it was
 pub taken_marks : (old : Row) (first last : ℕ) → IsRow old → 0 < old.len → entry old.heap.items old.len ≡ last → marks_of (slice_set (slice_set old.places.items last 1) first 0) ≡ slice_set (marks_of old.places.items) first false
 taken_marks old first last row some is =
     marks_set (slice_set old.places.items last 1) first 0 ∙ ap (λ (bs : List Bool). slice_set bs first false) (marks_kept old.places.items last 1 (omega arith) (rw (standing_at old old.len last row some (omega arith) is) some))

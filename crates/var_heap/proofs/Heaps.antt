@@ -1,4 +1,4 @@
--- How a row becomes a heap again.
+-- How the heap order of a row is restored.
 use Rattle.std.specs.Prelude.{◌≡◌, ℕ, zero, suc, ◌+◌, ◌-◌, ◌*◌, ◌/◌, ◌<◌, ◌≤◌, ◌⊎◌}
 use Rattle.std.proofs.Common.{sym, ap, ◌∙◌, subst, arith, inl, inr}
 use Rattle.std.proofs.Math.Logic.{⊎_elim}
@@ -8,7 +8,7 @@ use Rattle.var_heap.specs.Rows.{IsArranged, IsUnder, IsOrdered, IsOrderedAbove, 
 use Rattle.var_heap.proofs.Writing.{with_entry-same, with_entry-other}
 use Rattle.var_heap.proofs.Arranging.{after_second, after_first, after_none}
 
--- the score at a place after a and b have changed places
+-- the score at a place after those at a and b were exchanged
 swapped_score : (h score : ℕ → ℕ) (a b p : ℕ) → ((p ≡ b) × (score (with_entry (with_entry h a (h b)) b (h a) p) ≡ score (h a))) ⊎ (((p ≡ b → ⊥) × (p ≡ a) × (score (with_entry (with_entry h a (h b)) b (h a) p) ≡ score (h b))) ⊎ ((p ≡ b → ⊥) × (p ≡ a → ⊥) × (score (with_entry (with_entry h a (h b)) b (h a) p) ≡ score (h p))))
 swapped_score h score a b p =
     ⊎_elim
@@ -19,7 +19,7 @@ swapped_score h score a b p =
     (cases_eq p a)))
     (cases_eq p b)
 
--- A variable goes up: what was out of order at i is then at the place above.
+-- A variable moves up: the order may then fail at its new place only.
 pub ordered_up : (h score : ℕ → ℕ) (len i q : ℕ) → IsOrderedAbove h score len i → i ≤ len → IsUnder i q → score (h q) < score (h i) → IsOrderedAbove (with_entry (with_entry h i (h q)) q (h i)) score len q
 ordered_up h score len i q is low (some, left, right) greater = record {
   others = λ r p low_p (some_r, left_r, right_r) apart.
@@ -44,13 +44,13 @@ ordered_up h score len i q is low (some, left, right) greater = record {
       ];
 }
 
--- Where it has come to the top, or the one above isn't less, the row is a heap.
+-- Where it is at the top, or its parent's score isn't less, the row is a heap.
 pub ordered_above : (h score : ℕ → ℕ) (len i : ℕ) → IsOrderedAbove h score len i → ((q : ℕ) → IsUnder i q → score (h i) ≤ score (h q)) → IsOrdered h score len
 ordered_above h score len i is top = record {
   order = λ q p low under. ⊎_elim (λ (e : p ≡ i). subst (λ (x : ℕ). score (h x) ≤ score (h q)) (sym e) (top q (subst (λ (x : ℕ). IsUnder x q) e under))) (λ (apart : p ≡ i → ⊥). is.others q p low under apart) (cases_eq p i);
 }
 
--- A variable goes down: what was out of order at i is then at the place below with the greater score.
+-- A variable moves down: the order may then fail at the child with the greater score only.
 pub ordered_down : (h score : ℕ → ℕ) (len i c : ℕ) → IsOrderedBelow h score len i → IsGreaterChild h score len i c → score (h i) < score (h c) → IsOrderedBelow (with_entry (with_entry h i (h c)) c (h i)) score len c
 ordered_down h score len i c is child greater = record {
   others = λ q p low_p (some_q, left_q, right_q) apart.
@@ -94,7 +94,7 @@ ordered_below h score len i is bottom = record {
   order = λ q p low under. ⊎_elim (λ (e : q ≡ i). subst (λ (x : ℕ). score (h p) ≤ score (h x)) (sym e) (bottom p low (subst (λ (x : ℕ). IsUnder p x) e under))) (λ (apart : q ≡ i → ⊥). is.others q p low under apart) (cases_eq q i);
 }
 
--- The first has a greatest score.
+-- The first variable has a greatest score.
 pub first_greatest : (h score : ℕ → ℕ) (len : ℕ) → IsOrdered h score len → (bound p : ℕ) → p ≤ bound → 0 < p → p ≤ len → score (h p) ≤ score (h 1)
 first_greatest h score len is zero p under some low = absurd (omega arith)
 first_greatest h score len is (suc bound) p under some low =
@@ -106,7 +106,7 @@ first_greatest h score len is (suc bound) p under some low =
     (λ (one : p ≤ 1). let e : p ≡ 1 = omega arith in rw e (omega arith))
     (cases_lt 1 p)
 
--- A score that rises puts its variable out of order with the one above alone.
+-- Where the score of a variable rises, the order can fail against its parent only.
 pub ordered_risen : (h s score : ℕ → ℕ) (len bound v y : ℕ) → IsArranged h s len bound → IsOrdered h score len → 0 < s v → score v ≤ y → IsOrderedAbove h (with_entry score v y) len (s v)
 ordered_risen h s score len bound v y are is held rise = record {
   others = λ q p low (some, left, right) apart.
@@ -135,11 +135,12 @@ ordered_elsewhere h s score len bound v y are is none = record {
     not_v : (p : ℕ) → 0 < p → p ≤ len → h p ≡ v → ⊥
     not_v p some low e = (let same : p ≡ s v = sym (are.placed p some low) ∙ ap s e in omega (arith, same, some, none))
 
--- Scores that are changed in the same way keep their order.
+-- A monotone change of all scores keeps the order.
 pub ordered_alike : (h score : ℕ → ℕ) (len : ℕ) (f : ℕ → ℕ) → ((a b : ℕ) → a ≤ b → f a ≤ f b) → IsOrdered h score len → IsOrdered h (λ v. f (score v)) len
 ordered_alike h score len f rising is = record { order = λ q p low under. rising (score (h p)) (score (h q)) (is.order q p low under) }
 
--- Of the two below q the right one has the greater score, or the left one, or there is the left one alone.
+-- Of the children of q the right one has the greater score, or the left one, or there is the left
+-- one alone.
 pub greater_right : (h score : ℕ → ℕ) (len q : ℕ) → 0 < q → 2 * q + 1 ≤ len → score (h (2 * q)) < score (h (2 * q + 1)) → IsGreaterChild h score len q (2 * q + 1)
 greater_right h score len q some low less = record {
   inside = low;

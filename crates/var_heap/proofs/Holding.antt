@@ -1,4 +1,4 @@
--- What the heap shows of its variables.
+-- What contracts see of the heap's variables.
 use Rattle.std.specs.Prelude.{◌≡◌, ℕ, zero, suc, ◌+◌, ◌<◌, ◌≤◌, ◌/◌, Bool, true, List, [], ◌∷◌, map, length, slice_index_or, slice_set, replicate, refl}
 use Rattle.std.proofs.Common.{sym, ap, ◌∙◌, subst, arith}
 use Rattle.std.proofs.lemmas.Bool.{lt-ltb, ltb-true}
@@ -30,7 +30,7 @@ held_variable vars scores r v row room held =
     let below : at r (place r v) < length r.places.items = row.arranged.below (place r v) here within in
     (omega (arith, found, some), omega (arith, found, below, room))
 
--- what the heap shows is whole
+-- what contracts see is whole
 pub row_whole : (vars : ℕ) (scores : List ℕ) (r : Row) → IsRow r → length scores ≡ vars + 1 → length r.places.items ≡ vars + 1 → IsWhole (shown vars scores r)
 row_whole vars scores r row scores_room places_room = record {
   scores_room = scores_room;
@@ -60,7 +60,7 @@ none_held h vars scores r v view row none held =
     let low : place r v ≤ r.len = row.arranged.within v here in
     omega arith
 
--- a held variable that is put back stays
+-- a held variable that is put back stays held
 pub held_stays : (h : Held) (vars : ℕ) (scores : List ℕ) (r : Row) (v : ℕ) → shown vars scores r ≡ h → 0 < place r v → h ≡ record h { marks = slice_set h.marks v true }
 held_stays h vars scores r v view some =
     let same : slice_set (marks_of r.places.items) v true ≡ marks_of r.places.items = sym (marks_set r.places.items v 1) ∙ marks_kept r.places.items v 1 (omega arith) some in

@@ -1,4 +1,4 @@
--- Rows whose places are written.
+-- Rows of which places are written.
 use Rattle.std.specs.Prelude.{◌≡◌, ◌≢◌, ℕ, ◌+◌, ◌<◌, ◌≤◌, ◌==◌, List, length, count_by, slice_index_or, slice_set}
 use Rattle.std.proofs.Common.{sym, ap, ◌∙◌, subst, arith}
 use Rattle.std.proofs.Math.Logic.{⊎_elim}
@@ -38,7 +38,7 @@ place_low r p row some low = let count : r.len < length r.places.items = len_low
 pub read_standing : (r : Row) (p x : ℕ) → IsRow r → 0 < p → p ≤ r.len → x ≡ slice_index_or r.heap.items p x → entry r.heap.items p ≡ x
 read_standing r p x row some low is = read_entry r.heap.items p x (let room : length r.heap.items ≡ length r.places.items + 1 = row.room in let under : p < length r.places.items = place_low r p row some low in omega arith) is
 
--- what stands at a place is one of the variables
+-- the variable at a place is one of the variables
 pub standing_below : (r : Row) (p x : ℕ) → IsRow r → 0 < p → p ≤ r.len → entry r.heap.items p ≡ x → x < length r.places.items
 standing_below r p x row some low is = subst (λ (y : ℕ). y < length r.places.items) is (row.arranged.below p some low)
 
@@ -49,7 +49,7 @@ swapped_entries : (xs : List ℕ) (a b x y : ℕ) → a < length xs → b < leng
 swapped_entries xs a b x y first second =
     entry-set (slice_set xs a y) b x (rw length-set second) ∙ ap (λ (f : ℕ → ℕ). with_entry f b x) (entry-set xs a y first)
 
--- and can be looked up
+-- and has an entry in the table of places
 pub standing_inside : (r : Row) (p x : ℕ) → IsRow r → 0 < p → p ≤ r.len → x ≡ slice_index_or r.heap.items p x → x < length r.places.items
 standing_inside r p x row some low is = standing_below r p x row some low (read_standing r p x row some low is)
 

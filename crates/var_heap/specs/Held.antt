@@ -1,9 +1,9 @@
--- Variables with scores, of which some are held.
+-- Variables with scores, some of them held by the heap.
 use Rattle.std.specs.Prelude.{◌≡◌, ℕ, ◌+◌, ◌<◌, ◌≤◌, ◌↔◌, Bool, true, false, List, length, slice_index_or, replicate}
 
--- The variables are 1 to vars. Index v of a list is that of the variable v, and index 0 is none's.
--- Example: with the scores 0, 4, 9 and the marks false, true, false the variable 1 is held with the score
--- 4, and 2 with the score 9 is not.
+-- The variables are 1 to vars. Index v of a list is that of the variable v; index 0 is unused.
+-- Example: with the scores 0, 4, 9 and the marks false, true, false the variable 1 is held with the
+-- score 4, and 2 with the score 9 is not.
 pub record Held : Type 0 where
   pub vars : ℕ
   pub scores : List ℕ
@@ -24,7 +24,7 @@ pub record IsWhole (h : Held) : Type 0 where
   pub marks_room : length h.marks ≡ h.vars + 1
   pub variables : (v : ℕ) → IsHeld h v → IsVariable h v
 
--- v is held, and no held variable exceeds it
+-- v is held, and no held variable has a greater score
 pub record IsGreatest (h : Held) (v : ℕ) : Type 0 where
   pub held : IsHeld h v
   pub variable : IsVariable h v

@@ -10,7 +10,8 @@ at r = entry r.heap.items
 abbrev pub place : Row → ℕ → ℕ
 place r = entry r.places.items
 
--- Each place up to len has a variable below bound, whose place it is, and each variable that has a place stands there.
+-- Each place from 1 to len has a variable below bound, whose place it is, and each variable with a
+-- place is there.
 pub record IsArranged (at_place place_of : ℕ → ℕ) (len bound : ℕ) : Type 0 where
   pub some : (p : ℕ) → 0 < p → p ≤ len → 0 < at_place p
   pub below : (p : ℕ) → 0 < p → p ≤ len → at_place p < bound
@@ -27,31 +28,31 @@ pub record IsRow (r : Row) : Type 0 where
 abbrev pub HasScores : List ℕ → Row → Type 0
 HasScores scores r = length scores ≡ length r.places.items
 
--- the same variables are held, at other places
+-- the same variables are held, maybe at other places
 pub record IsMoved (old new : Row) : Type 0 where
   pub len : new.len ≡ old.len
   pub marks : marks_of new.places.items ≡ marks_of old.places.items
   pub room : length new.places.items ≡ length old.places.items
 
--- p stands right below q
+-- p is a child of q
 abbrev pub IsUnder : ℕ → ℕ → Type 0
 IsUnder p q = (0 < q) × (2 * q ≤ p) × (p ≤ 2 * q + 1)
 
--- no variable has a greater score than the one above it
+-- no variable has a greater score than its parent
 pub record IsOrdered (at_place score : ℕ → ℕ) (len : ℕ) : Type 0 where
   pub order : (q p : ℕ) → p ≤ len → IsUnder p q → score (at_place p) ≤ score (at_place q)
 
--- the same but for place i against the one above it
+-- as IsOrdered, except for place i against its parent
 pub record IsOrderedAbove (at_place score : ℕ → ℕ) (len i : ℕ) : Type 0 where
   pub others : (q p : ℕ) → p ≤ len → IsUnder p q → p ≢ i → score (at_place p) ≤ score (at_place q)
   pub over : (g p : ℕ) → p ≤ len → IsUnder i g → IsUnder p i → score (at_place p) ≤ score (at_place g)
 
--- the same but for place i against those below it
+-- as IsOrdered, except for place i against its children
 pub record IsOrderedBelow (at_place score : ℕ → ℕ) (len i : ℕ) : Type 0 where
   pub others : (q p : ℕ) → p ≤ len → IsUnder p q → q ≢ i → score (at_place p) ≤ score (at_place q)
   pub over : (g p : ℕ) → p ≤ len → IsUnder i g → IsUnder p i → score (at_place p) ≤ score (at_place g)
 
--- c stands below q, and none below q has a greater score
+-- c is a child of q, and no child of q has a greater score
 pub record IsGreaterChild (at_place score : ℕ → ℕ) (len q c : ℕ) : Type 0 where
   pub inside : c ≤ len
   pub under : IsUnder c q
@@ -64,7 +65,7 @@ pub record IsHeap (vars : ℕ) (scores : List ℕ) (r : Row) : Type 0 where
   pub places_room : length r.places.items ≡ vars + 1
   pub ordered : IsOrdered (at r) (entry scores) r.len
 
--- the variables 1 to vars stand at the places 1 to vars
+-- the variables 1 to vars are at the places 1 to vars
 pub record IsFilled (vars : ℕ) (r : Row) : Type 0 where
   pub len : r.len ≡ vars
   pub each : (v : ℕ) → v ≤ vars → place r v ≡ v

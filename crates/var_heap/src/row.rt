@@ -1,18 +1,19 @@
-//! The heap itself: a row of variables in which none scores more than the one above it, and the place of each variable.
-//! A variable moves up or down until that holds again; which one, how far and that no other leaves is told by relations
-//! on rows, so that `VarHeap` shows scores and held variables alone.
+//! The binary heap itself: a row of variables in which no variable scores more than its parent, and
+//! the place of each variable. A variable moves up or down until that holds again; relations on
+//! rows say which one, how far, and that no other leaves, so `VarHeap` shows scores and held
+//! variables alone.
 ghost use Rattle.std.specs.Prelude.{◌≡◌, ◌≢◌, ◌+◌, ◌-◌, ◌*◌, ◌<◌, ◌≤◌, true, false, length, slice_set, IfOk, IfSome, IfNone};
 ghost use Rattle.var_heap.specs.Entries.{entry, with_entry, marks_of};
 ghost use Rattle.var_heap.specs.Rows.{IsRow, at, place, HasScores, IsOrdered, IsOrderedAbove, IsOrderedBelow, IsGreaterChild, IsMoved, IsFilled};
 
 use std::alloc::{AllocError, Global};
 
-/// The held variables in a row with the places 1 to `len`: the row of a heap, in which those below place p
-/// stand at 2 p and 2 p + 1.
+/// The held variables at the places 1 to `len` of a row; the children of place p are at 2 p and 2 p
+/// + 1.
 #[derive(Drop)]
 pub(crate) struct Row {
     pub(crate) heap: Vec<u32>,
-    /// where a variable stands; 0 where it isn't held
+    /// the place of each variable; 0 where it isn't held
     pub(crate) places: Vec<u32>,
     pub(crate) len: usize,
 }
@@ -35,7 +36,7 @@ impl Row {
         Ok(row)
     }
 
-    /// Takes out the first variable, and puts the last one in its place.
+    /// Takes out the first variable, and moves the last one to its place.
     pub(crate) fn take_first(&mut self) -> u32
         requires row { IsRow self.old }
         requires some { 0 < self.old.len }
@@ -55,7 +56,7 @@ impl Row {
         first
     }
 
-    /// Puts a variable behind the others.
+    /// Appends a variable at the end of the row.
     pub(crate) fn put(&mut self, v: u32)
         requires row { IsRow self.old }
         requires variable { (0 < v) × (v < length self.old.places.items) }
@@ -72,7 +73,7 @@ impl Row {
         self.places[v as usize] = self.len as u32;
     }
 
-    /// Lets the variables at two places change places.
+    /// Exchanges the variables at two places.
     fn swap(&mut self, a: usize, b: usize)
         requires row { IsRow self.old }
         requires first { (0 < a) × (a ≤ self.old.len) }
@@ -90,7 +91,7 @@ impl Row {
         self.places[first as usize] = b as u32;
     }
 
-    /// Moves a variable up while the one above it has a smaller score.
+    /// Moves a variable up while its parent has a smaller score.
     pub(crate) fn up(&mut self, scores: &[u64], from: usize)
         requires row { IsRow self.old }
         requires scores { HasScores scores.now self.old }
@@ -111,7 +112,7 @@ impl Row {
         }
     }
 
-    /// The place below another one whose variable has the greater score.
+    /// The child of a place whose variable has the greater score.
     fn greater_below(&self, scores: &[u64], above: usize) -> Option<usize>
         requires row { IsRow self.now }
         requires scores { HasScores scores.now self.now }
@@ -132,7 +133,7 @@ impl Row {
         Some(left)
     }
 
-    /// Moves a variable down while one below it has a greater score.
+    /// Moves a variable down while a child has a greater score.
     pub(crate) fn down(&mut self, scores: &[u64], from: usize)
         requires row { IsRow self.old }
         requires scores { HasScores scores.now self.old }

@@ -1,5 +1,5 @@
-//! Variables with scores, of which some are held. That the first of the row scores most of the held ones follows from
-//! the order of the heap, level by level.
+//! Variables with scores, some of them held. That the first of the row has a greatest score follows
+//! from the heap order, level by level.
 ghost use Rattle.std.specs.Prelude.{◌≡◌, ℕ, ◌+◌, ◌-◌, ◌/◌, ◌^◌, ◌↔◌, true, false, map, min, slice_set, IsTrue, IfOk, IfSome, IfNone};
 ghost use Rattle.var_heap.specs.Held.{IsHeld, IsVariable, IsWhole, IsGreatest, IsFull, score_of};
 
@@ -7,8 +7,8 @@ use crate::row::Row;
 use std::alloc::{AllocError, Global};
 use std::marker::Model;
 
-/// Variables with scores, of which some are held. Contracts see the scores and which variables are held;
-/// the held ones stand in a row whose first has a greatest score.
+/// Variables with scores, some of them held. Contracts see the scores and which variables are held;
+/// the held ones are in a row whose first has a greatest score.
 #[derive(Drop)]
 pub struct VarHeap {
     vars: u32,
@@ -31,8 +31,7 @@ impl Model for VarHeap {
 }
 
 impl VarHeap {
-    /// Holds the variables 1 to `vars`, each with the score 0. It makes the room that every later `push`
-    /// needs.
+    /// Holds the variables 1 to `vars`, each with the score 0. No later `push` takes memory.
     pub fn new(alloc: Global, vars: u32) -> Result<VarHeap, AllocError>
         ensures full { IfOk result (IsFull vars) }
         ensures whole { IfOk result IsWhole }
@@ -60,7 +59,7 @@ impl VarHeap {
         Some(first)
     }
 
-    /// Puts a variable back; a held one stays.
+    /// Puts a variable back; one that is held stays.
     pub fn push(&mut self, v: u32)
         requires { IsVariable self.old v }
         ensures held { self.new ≡ record self.old { marks = slice_set self.old.marks v true } }
@@ -74,7 +73,7 @@ impl VarHeap {
         self.row.up(&self.scores, last);
     }
 
-    /// Adds to the score of a variable, which stays at the greatest number of 64 bits.
+    /// Adds `by` to the score of a variable, saturating at 64 bits.
     pub fn bump(&mut self, v: u32, by: u64)
         requires { IsVariable self.old v }
         ensures added { self.new ≡ record self.old { scores = slice_set self.old.scores v (min (score_of self.old v + by) (2 ^ 64 - 1)) } }
