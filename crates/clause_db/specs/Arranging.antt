@@ -1,4 +1,5 @@
--- The literals of each clause in an order of their own, so that the two that it watches stand first.
+-- The literals of each clause in an order of their own, in which the two that it watches come
+-- first.
 use Rattle.std.specs.Prelude.{◌≡◌, ℕ, ◌-◌, ◌⊎◌, ℤ, List, [], ◌∷◌, ◌++◌, map, slice_index_or, slice_set, Option, Some}
 use Rattle.std.specs.List.{swap}
 use Rattle.std.specs.List.Sorted.{IsPermutation}
@@ -7,8 +8,8 @@ use Rattle.clause_db.specs.Watching.{Watching, pair_of, with_ids}
 use Rattle.clause_db.specs.Stored.{live_at}
 use Rattle.clause_db.specs.Blocking.{with_blockers}
 
--- the literals of each id, and for each literal, by its code, the ids of the clauses that watch it, and the
--- literals beside these
+-- the literals of each id, and for each literal, by its code, the ids of the clauses that watch it
+-- and their blocking literals
 pub record Arranged : Type 0 where
   pub blocks : List (List ℤ)
   pub lists : List (List ℕ)
@@ -18,12 +19,12 @@ pub record Arranged : Type 0 where
 abbrev pub block_at : List (List ℤ) → ℕ → List ℤ
 block_at blocks id = slice_index_or blocks (id - 1) []
 
--- A clause watches the two that stand first.
+-- A clause watches its first two literals.
 -- Example: of the literals 3, 1, 2 it watches 3 and 1.
 abbrev pub watching_of : Arranged → Watching
 watching_of a = record { pairs = map pair_of a.blocks; lists = a.lists }
 
--- a clause was added, in its own order
+-- a clause was added, with its literals in their own order
 abbrev pub arranged_more : Arranged → List ℤ → ℕ → Arranged
 arranged_more a lits id = record { blocks = a.blocks ++ lits ∷ []; lists = with_ids a.lists lits id; rows = with_blockers a.rows lits }
 

@@ -1,4 +1,4 @@
--- A store stays one when a clause goes.
+-- A store stays one when a clause is deleted.
 use Rattle.std.specs.Prelude.{◌≡◌, ◌≢◌, ℕ, zero, suc, ◌+◌, ◌-◌, ◌*◌, ◌<◌, ◌≤◌, ◌⊎◌, ◌==◌, Bool, true, false, if◌then◌else◌, ℤ, List, [], ◌∷◌, length, slice_get, slice_index_or, slice_set, Contains, AllPairs, Option, Some, None, IsSome, refl}
 use Rattle.std.specs.Option.{option_flatten}
 use Rattle.std.proofs.Common.{sym, ap, ◌∙◌, subst, arith, inl, inr}
@@ -53,11 +53,11 @@ deleted_at clauses id (suc k) some = ⊎_elim
     live_suc (slice_set clauses (id - 1) None) k ∙ ap option_flatten (set_other clauses (id - 1) k (λ h. apart (omega (arith, h, some)))) ∙ sym (live_suc clauses k) ∙ sym (without_other (live_at clauses) id (suc k) apart))
     (cases_eq (suc k) id)
 
--- The id of a clause that went is no clause's, and nothing else changes.
+-- The id of a deleted clause is no clause's, and nothing else changes.
 pub live_deleted : (id : ℕ) (old new : Stored) → IsDeleted id old new → 0 < id → live_in new ≡ without (live_in old) (id ∷ [])
 live_deleted id old new deleted some = λ i k. (ap (λ (xs : List (Option (List ℤ))). live_at xs k) deleted.clauses ∙ deleted_at old.clauses id k some) i
 
--- what is live was live before, under another id
+-- what is live was live before, under another id than the deleted one
 pub was_live : (clauses : List (Option (List ℤ))) (id k : ℕ) (clause : List ℤ) → 0 < id → live_at (slice_set clauses (id - 1) None) k ≡ Some clause → (live_at clauses k ≡ Some clause) × (k ≡ id → ⊥)
 was_live clauses id k clause some is =
     let e : without (live_at clauses) (id ∷ []) k ≡ Some clause = sym (deleted_at clauses id k some) ∙ is in
@@ -69,7 +69,7 @@ was_live clauses id k clause some is =
 pub still_live : (id : ℕ) (old new : Stored) (k : ℕ) (clause : List ℤ) → IsDeleted id old new → 0 < id → live_in new k ≡ Some clause → (live_in old k ≡ Some clause) × (k ≡ id → ⊥)
 still_live id old new k clause deleted some is = was_live old.clauses id k clause some (subst (λ (xs : List (Option (List ℤ))). live_at xs k ≡ Some clause) deleted.clauses is)
 
--- and what was live is, but for that
+-- and what was live is live, except the deleted clause
 pub kept_live : (id : ℕ) (old new : Stored) (k : ℕ) (clause : List ℤ) → IsDeleted id old new → 0 < id → (k ≡ id → ⊥) → live_in old k ≡ Some clause → live_in new k ≡ Some clause
 kept_live id old new k clause deleted some apart is = ap (λ (g : ℕ → Option (List ℤ)). g k) (live_deleted id old new deleted some) ∙ without_other (live_in old) id k apart ∙ is
 
@@ -77,12 +77,12 @@ pub some_live : (o : Option (List ℤ)) → IsSome o → (clause : List ℤ) × 
 some_live (Some clause) some = (clause, refl)
 some_live None some = absurd (cc)
 
--- The pairs of other ids are what they were.
+-- The pairs of other ids are unchanged.
 pub pair_left : (id : ℕ) (old new : Stored) (k : ℕ) → IsDeleted id old new → 0 < id → 0 < k → (k ≡ id → ⊥) → pair_at new.watches k ≡ pair_at old.watches k
 pair_left id old new k deleted some some_k apart =
     ap (λ (ps : List Pair). slice_index_or ps (k - 1) no_pair) deleted.pairs ∙ get_or-set_other old.watches.pairs (id - 1) (k - 1) no_pair no_pair (λ e. apart (omega (arith, e, some, some_k)))
 
--- The same of what clauses watch.
+-- Other clauses watch what they watched.
 pub still_watches : (id : ℕ) (old new : Stored) (k : ℕ) (l : ℤ) → IsDeleted id old new → 0 < id → Watches new k l → Watches old k l × (k ≡ id → ⊥)
 still_watches id old new k l deleted some watches =
     let before : (live_in old k ≡ Some watches.clause) × (k ≡ id → ⊥) = still_live id old new k watches.clause deleted some watches.is_live in (
@@ -103,7 +103,7 @@ kept_watches id old new k l deleted some apart watches = record {
   watched = subst (λ (p : Pair). (l ≡ p.first) ⊎ (l ≡ p.second)) (sym (pair_left id old new k deleted some (live_inside old k watches.clause watches.is_live).0 apart)) watches.watched;
 }
 
--- a live clause watches a literal or doesn't
+-- a live clause watches a literal or doesn't watch it
 pub cases_watches : (s : Stored) (id : ℕ) (l : ℤ) (clause : List ℤ) → live_in s id ≡ Some clause → Watches s id l ⊎ (Watches s id l → ⊥)
 cases_watches s id l clause is = ⊎_elim
     (λ (short : length clause < 2). inr (λ watches. short_watches watches short))

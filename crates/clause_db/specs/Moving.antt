@@ -59,7 +59,7 @@ watched_in s id l clause stored watches is =
 pub watched_variable : (s : Stored) (id : ℕ) (l : ℤ) → IsStored s → Watches s id l → variable l ≤ s.vars
 watched_variable s id l stored watches = All-contains (λ m. variable m ≤ s.vars) watches.clause l (stored.variables id watches.clause watches.is_live) (watched_in s id l watches.clause stored watches watches.is_live)
 
--- the lists after a clause was added
+-- the watch lists after a clause was added
 pub added_lists : (s : Stored) (lits : List ℤ) (l : ℤ) → IsStored s → IsClause lits → IsWithin s.vars lits
     → ((2 ≤ length lits) × ((l ≡ (pair_of lits).first) ⊎ (l ≡ (pair_of lits).second)) × (list_of (added s lits).watches l ≡ list_of s.watches l ++ (length s.clauses + 1) ∷ [])) ⊎ (((2 ≤ length lits → (l ≡ (pair_of lits).first) ⊎ (l ≡ (pair_of lits).second) → ⊥)) × (list_of (added s lits).watches l ≡ list_of s.watches l))
 added_lists s lits l stored is_clause within = ⊎_elim
@@ -168,7 +168,7 @@ stored_added s lits stored is_clause within few = record {
           | inr other ↦ subst (λ (xs : List ℕ). AllPairs (λ a b. a ≢ b) xs) (sym other.1) (stored.once l)
         ]
 
--- what a clause watches in the store with one more
+-- what a clause watches in the store with one clause more
 pub added_watches : (s : Stored) (lits : List ℤ) (id : ℕ) (l : ℤ) → IsStored s → Watches (added s lits) id l → ((id ≡ length s.clauses + 1) × (2 ≤ length lits) × ((l ≡ (pair_of lits).first) ⊎ (l ≡ (pair_of lits).second))) ⊎ Watches s id l
 added_watches s lits id l stored watches = ⊎_elim
     (λ (new : (id ≡ length s.clauses + 1) × (lits ≡ watches.clause)).
@@ -232,7 +232,8 @@ replaced_differ p from to other =
     now_second : (p.first ≡ from → ⊥) → replaced p from to ≡ record { first = p.first; second = to }
     now_second apart = rw (int_eq-other p.first from apart) refl
 
--- The clause of an id, which stands in the list of `from` at an index, can watch another of its literals.
+-- The clause of an id, which is at an index in the watch list of `from`, can watch another of its
+-- literals.
 pub record IsMovable (s : Stored) (id : ℕ) (from to : ℤ) (index : ℕ) : Type 0 where
   pub inside : index < length (list_of s.watches from)
   pub at_index : slice_index_or (list_of s.watches from) index 0 ≡ id
@@ -242,7 +243,7 @@ pub record IsMovable (s : Stored) (id : ℕ) (from to : ℤ) (index : ℕ) : Typ
 pub movable_watches : (s : Stored) (id : ℕ) (from to : ℤ) (index : ℕ) → IsStored s → IsMovable s id from to index → Watches s id from
 movable_watches s id from to index stored movable = subst (λ (k : ℕ). Watches s k from) movable.at_index (stored.only from (slice_index_or (list_of s.watches from) index 0) (Contains-get_or (list_of s.watches from) index 0 movable.inside))
 
--- each watch of the new store is one of the old, but for that
+-- each watch of the new store is one of the old, except the one of `to`
 pub rewatched_old : (s : Stored) (id : ℕ) (from to : ℤ) (index k : ℕ) (l : ℤ) → IsStored s → IsMovable s id from to index → Watches (rewatched s id from to index) k l → Watches s k l ⊎ ((k ≡ id) × (l ≡ to))
 rewatched_old s id from to index k l stored movable watches =
     let of_from : Watches s id from = movable_watches s id from to index stored movable in
@@ -262,7 +263,7 @@ rewatched_old s id from to index k l stored movable watches =
     inl (record { clause = watches.clause; is_live = watches.is_live; long = watches.long; watched = subst (λ (p : Pair). (l ≡ p.first) ⊎ (l ≡ p.second)) pair watches.watched }))
     (cases_eq k id)
 
--- that clause doesn't watch `from` any more
+-- the clause doesn't watch `from` any more
 pub rewatched_gone : (s : Stored) (id : ℕ) (from to : ℤ) (index : ℕ) → IsStored s → IsMovable s id from to index → Watches (rewatched s id from to index) id from → ⊥
 rewatched_gone s id from to index stored movable watches =
     let of_from : Watches s id from = movable_watches s id from to index stored movable in

@@ -30,13 +30,13 @@ pub record Stored : Type 0 where
 abbrev pub live_in : Stored → ℕ → Option (List ℤ)
 live_in s id = live_at s.clauses id
 
--- the clause of an id is live and has two literals at least
+-- the clause of an id is live and has at least two literals
 pub record IsLong (s : Stored) (id : ℕ) : Type 0 where
   pub clause : List ℤ
   pub is_live : live_in s id ≡ Some clause
   pub long : 2 ≤ length clause
 
--- The clause of an id is live, has two literals at least, and l is one of the two that it watches.
+-- The clause of an id is live, has at least two literals, and l is one of the two that it watches.
 pub record Watches (s : Stored) (id : ℕ) (l : ℤ) : Type 0 where
   pub clause : List ℤ
   pub is_live : live_in s id ≡ Some clause
@@ -49,8 +49,8 @@ pub record IsPair (clause : List ℤ) (p : Pair) : Type 0 where
   pub second : Contains clause p.second
   pub differ : p.first ≢ p.second
 
--- All live clauses are clauses over the variables, and each of two literals and more watches two of them:
--- it stands in their lists, once, and in no other.
+-- All live clauses are clauses over the variables, and each of at least two literals watches two of
+-- them: it is in their watch lists, once, and in no other.
 pub record IsStored (s : Stored) : Type 0 where
   pub clauses : (id : ℕ) (clause : List ℤ) → live_in s id ≡ Some clause → IsClause clause
   pub variables : (id : ℕ) (clause : List ℤ) → live_in s id ≡ Some clause → IsWithin s.vars clause
@@ -66,7 +66,7 @@ pub record IsStored (s : Stored) : Type 0 where
 abbrev pub none_stored : ℕ → Stored
 none_stored vars = record { vars = vars; clauses = []; watches = record { pairs = []; lists = replicate (2 * vars + 2) [] } }
 
--- One more clause, under the id behind all others, watches its first two literals.
+-- One clause more, under the id after all others, watches its first two literals.
 abbrev pub added : Stored → List ℤ → Stored
 added s lits = record { vars = s.vars; clauses = s.clauses ++ Some lits ∷ []; watches = watching_more s.watches lits (length s.clauses + 1) }
 

@@ -1,4 +1,4 @@
--- One more clause behind the others.
+-- One clause more after the others.
 use Rattle.std.specs.Prelude.{◌≡◌, ℕ, zero, suc, ◌+◌, ◌-◌, ◌<◌, ◌≤◌, ◌⊎◌, ◌==◌, Bool, true, false, if◌then◌else◌, ℤ, List, [], ◌∷◌, ◌++◌, map, length, slice_get, Option, Some, None, refl}
 use Rattle.std.specs.Option.{option_flatten}
 use Rattle.std.proofs.Common.{sym, ap, ◌∙◌, subst, arith, inl, inr, append_assoc}
@@ -42,7 +42,7 @@ started_at : (clauses : List (List ℤ)) (id : ℕ) → live_at (map (λ (c : Li
 started_at clauses zero = refl
 started_at clauses (suc k) = let some : (suc k == 0) ≡ false = ne_eqb (suc k) 0 (λ e. omega arith) in rw some (flat_map_some clauses (suc k - 1))
 
--- what the clauses of a list come to
+-- the clauses after those of a list were added
 pub all_added-clauses : (s : Stored) (cs : List (List ℤ)) → (all_added s cs).clauses ≡ s.clauses ++ map (λ (c : List ℤ). Some c) cs
 unfolding all_added
 all_added-clauses s [] = grind (arith, common_steps)
@@ -70,7 +70,7 @@ chosen : {A : Type 0} (b : Bool) (x y z : A) → (if b then x else y) ≡ z → 
 chosen true x y z is = inl (refl, is)
 chosen false x y z is = inr is
 
--- a live clause after it is that, or an old one
+-- a clause that is then live is the new one, or an old one
 pub added_cases : (live : ℕ → Option (List ℤ)) (id : ℕ) (lits : List ℤ) (k : ℕ) (clause : List ℤ) → with_clause live id lits k ≡ Some clause → ((k ≡ id) × (lits ≡ clause)) ⊎ (live k ≡ Some clause)
 added_cases live id lits k clause is =
     ⊎_elim
@@ -100,18 +100,18 @@ live_within clauses (suc k) clause is =
 pub live_inside : (s : Stored) (id : ℕ) (clause : List ℤ) → live_in s id ≡ Some clause → (0 < id) × (id ≤ length s.clauses)
 live_inside s id clause is = live_within s.clauses id clause is
 
--- so the next id is none of a live clause
+-- so the next id is that of no live clause
 pub next_is_free : (s : Stored) (id : ℕ) (clause : List ℤ) → live_in s id ≡ Some clause → id ≡ length s.clauses + 1 → ⊥
 next_is_free s id clause is e = let low : (0 < id) × (id ≤ length s.clauses) = live_inside s id clause is in let h : id ≤ length s.clauses = low.1 in omega arith
 
--- an old clause is still there
+-- an old clause is still live
 pub added_old : (s : Stored) (lits : List ℤ) (id : ℕ) (clause : List ℤ) → live_in s id ≡ Some clause → with_clause (live_in s) (length s.clauses + 1) lits id ≡ Some clause
 added_old s lits id clause is = rw (ne_eqb id (length s.clauses + 1) (next_is_free s id clause is)) is
 
 pub added_new : (live : ℕ → Option (List ℤ)) (id : ℕ) (lits : List ℤ) → with_clause live id lits id ≡ Some lits
 added_new live id lits = rw (eq-eqb id id refl) refl
 
--- With one more clause over the variables they are entries.
+-- With one clause more over the variables the invariant of the entries holds.
 pub entries_add : (s : Entries) (lits : List ℤ) → AreEntries s → IsClause lits → IsWithin s.vars lits → length s.clauses < 4000000000 → AreEntries (record s { clauses = s.clauses ++ Some lits ∷ [] })
 entries_add s lits are is_clause within few = record {
   clauses = λ id clause is. ⊎_elim
@@ -125,6 +125,6 @@ entries_add s lits are is_clause within few = record {
   few = rw length_push (omega arith);
 }
 
--- a live clause of the store with one more, by cases
+-- a live clause of the store with one clause more, by cases
 pub live_added : (s : Stored) (lits : List ℤ) (id : ℕ) (clause : List ℤ) → live_in (added s lits) id ≡ Some clause → ((id ≡ length s.clauses + 1) × (lits ≡ clause)) ⊎ (live_in s id ≡ Some clause)
 live_added s lits id clause is = added_cases (live_in s) (length s.clauses + 1) lits id clause (sym (added_at s.clauses lits id) ∙ is)

@@ -1,4 +1,4 @@
--- How the lists of literals change.
+-- How watch lists change.
 use Rattle.std.specs.Prelude.{◌≡◌, ◌≢◌, ℕ, ◌+◌, ◌-◌, ◌<◌, ◌≤◌, ◌⊎◌, ℤ, pos, List, [], ◌∷◌, ◌++◌, length, take, slice_index_or, slice_set, replicate, Contains, AllPairs, refl}
 use Rattle.std.specs.List.{swap_remove}
 use Rattle.std.proofs.Common.{sym, ap, ◌∙◌, arith, inl, inr}
@@ -23,7 +23,7 @@ pub listed_whole : (lists : List (List ℕ)) (l : ℤ) → slice_set lists (code
 unfolding listed_in
 listed_whole lists l = set-get_or lists (code_of l) []
 
--- an id that was put at the end of a list, and taken off again
+-- an id that is appended to a list and then removed
 pub listed_back : (lists : List (List ℕ)) (l : ℤ) (id : ℕ) → slice_set (with_id lists l id) (code_of l) (take (length (listed_in (with_id lists l id) l) - 1) (listed_in (with_id lists l id) l)) ≡ lists
 listed_back lists l id = ⊎_elim
     (λ (room : code_of l < length lists).
@@ -34,7 +34,7 @@ listed_back lists l id = ⊎_elim
     ap (λ (xs : List (List ℕ)). slice_set xs (code_of l) (take (length (listed_in xs l) - 1) (listed_in xs l))) (set_past lists (code_of l) (listed_in lists l ++ id ∷ []) past) ∙ set_past lists (code_of l) _ past)
     (cases_lt (code_of l) (length lists))
 
--- numbers of which no two are the same, and the last one in the place of one of them
+-- in a list of different numbers, the last one takes the place of another: they still differ
 differ_at : (xs : List ℕ) (i j d e : ℕ) → AllPairs (λ a b. a ≢ b) xs → i < length xs → j < length xs → (i ≡ j → ⊥) → slice_index_or xs i d ≡ slice_index_or xs j e → ⊥
 differ_at xs i j d e once low_i low_j apart same =
     let at_i : slice_index_or xs i d ≡ slice_index_or xs i e = grind (arith, common_steps) in
@@ -87,7 +87,7 @@ swap_once xs i d low once a b e order within same =
     (cases_eq b i))
     (cases_eq a i)
 
--- the pair of an id after another was pushed, and after one was written
+-- the pair of an id after another one was added, and after one was replaced
 pub pair_new : (w : Watching) (lits : List ℤ) (id : ℕ) → length w.pairs + 1 ≡ id → pair_at (watching_more w lits id) id ≡ pair_of lits
 pair_new w lits id is = get_or_push w.pairs (pair_of lits) (record { first = pos 1; second = pos 1 }) (id - 1) (omega (arith, is))
 
@@ -138,7 +138,7 @@ pub listed_none : (n : ℕ) (l : ℤ) → listed_in (replicate n []) l ≡ []
 unfolding listed_in
 listed_none n l = ⊎_elim (λ (within : code_of l < n). grind (arith, common_steps)) (λ (past : n ≤ code_of l). grind (arith, common_steps)) (cases_lt (code_of l) n)
 
--- the lists after a clause was moved
+-- the lists after a watch was moved
 pub list_from : (w : Watching) (id : ℕ) (from to : ℤ) (index : ℕ) (l : ℤ) → code_of from < length w.lists → l ≡ from → list_of (watching_moved w id from to index) l ≡ swap_remove (list_of w from) index 0
 list_from w id from to index l room is = listed-same (with_id w.lists to id) from l _ (rw length-set room) is
 

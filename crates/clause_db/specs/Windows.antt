@@ -10,11 +10,11 @@ entry_of row w = if w.live then Some (slice_range row w.start w.end) else None
 abbrev pub entries_of : List ℤ → List Window → List (Option (List ℤ))
 entries_of row windows = map (entry_of row) windows
 
--- the windows lie one behind the other, from a place in the row up to another
+-- the windows lie one after another, from a position in the row up to another
 unfoldable pub AreFrom : ℕ → List Window → ℕ → Type 0
 AreFrom low [] high = low ≤ high
 AreFrom low (w ∷ windows) high = (low ≤ w.start) × (w.start ≤ w.end) × AreFrom w.end windows high
 
--- each window lies within the row, and they lie there one behind the other
+-- each window lies within the row, one after another
 abbrev pub AreInside : List ℤ → List Window → Type 0
 AreInside row windows = All (λ w. (w.start ≤ w.end) × (w.end ≤ length row)) windows × AreFrom 0 windows (length row)

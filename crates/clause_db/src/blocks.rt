@@ -1,10 +1,10 @@
-//! Lists of literals in one row, one behind another. Before the literals of each list stand its id, which is one more
-//! than its index, and its length, both as literals whose variable is one more than the number. So a list is read by
-//! the place where it begins, with no look into a table, and so is its id. That the ranges lie in the row and behind
-//! each other, with two places between at least, and that the ids are right, is the invariant. So a change of places in
-//! one list leaves the ids, the lengths and all other lists as they were. A list that becomes empty leaves the places of
-//! its literals to none, until `pack` moves the lists behind it down. That goes one list at a time, and the invariant
-//! holds after each.
+//! The clause arena: lists of literals in one row, one after another. Before the literals of each
+//! list are its id, which is 1 + its index, and its length, both as literals whose variable is 1 +
+//! the number. So a list and its id are read by the position where it begins, with no table. The
+//! invariant: the ranges lie in the row, one after another with at least two places between them,
+//! and the ids are right. An exchange of literals in one list leaves the ids, the lengths and all
+//! other lists unchanged. A list that is emptied leaves a gap until `pack` moves the lists after it
+//! down; that goes list by list, and the invariant holds after each.
 ghost use Rattle.std.specs.Prelude.{◌≡◌, [], ◌∷◌, ◌++◌, ◌<◌, ◌+◌, ◌-◌, ◌^◌, length, take, slice_index_or, slice_set, OnOk, OnErr};
 ghost use Rattle.std.specs.List.{swap};
 ghost use Rattle.sat_theory.specs.Formula.{variable as variable_of};
@@ -15,8 +15,8 @@ use cnf_core::Lit;
 use std::alloc::{AllocError, Global};
 use std::marker::Model;
 
-/// Lists of literals. They lie in one row, one behind another, without an allocation for each. Contracts
-/// see the lists, and where in the row each begins.
+/// Lists of literals, one after another in one row, without an allocation for each. Contracts see
+/// the lists, and where in the row each begins.
 #[derive(Drop)]
 pub(crate) struct Blocks {
     row: Vec<Lit>,
@@ -43,7 +43,7 @@ impl Blocks {
         }
     }
 
-    /// Puts a list behind the others. A row of more than 2,147,483,647 places is an error too; each list takes two
+    /// Appends a list. A row of more than 2,147,483,647 places is an error too; each list takes two
     /// besides its literals.
     pub(crate) fn push(&mut self, lits: &[Lit]) -> Result<(), AllocError>
         ensures ok { OnOk result (self.new.lists ≡ self.old.lists ++ lits.now ∷ []) }
@@ -62,7 +62,7 @@ impl Blocks {
         Ok(())
     }
 
-    /// Takes the last list off.
+    /// Removes the last list.
     pub(crate) fn pop(&mut self)
         ensures lists { self.new.lists ≡ take (length self.old.lists - 1) self.old.lists }
         ensures kept { KeepsIds self.old self.new (length self.old.lists - 1) }
@@ -72,7 +72,7 @@ impl Blocks {
         }
     }
 
-    /// Lets the list at an index be the empty one.
+    /// Empties the list at an index.
     pub(crate) fn empty(&mut self, index: usize)
         requires { index < length self.old.lists }
         ensures lists { self.new.lists ≡ slice_set self.old.lists index [] }
@@ -82,8 +82,8 @@ impl Blocks {
         self.row[start - 1] = written(0);
     }
 
-    /// Lets each list begin two places behind the end of the one before it, and takes back the places behind the last
-    /// one. The ids stay, and the places where lists begin change.
+    /// Moves each list to begin two places after the end of the one before it, and frees the places
+    /// after the last one. The ids stay, and the positions where lists begin change.
     pub(crate) fn pack(&mut self)
         ensures lists { self.new.lists ≡ self.old.lists }
         ensures ids { AreIds self.new }
@@ -102,8 +102,8 @@ impl Blocks {
         self.starts.len()
     }
 
-    /// Moves the list at an index, with the two places before it, down to the end of the one before it, and gives where
-    /// it ends there.
+    /// Moves the list at an index, with the two places before it, down to `end`, where the one
+    /// before it ends, and answers where it then ends.
     fn move_down(&mut self, index: usize, end: usize) -> usize
         requires inside { index < length self.old.lists }
         requires before { end ≡ end_before self.old index }
@@ -120,7 +120,7 @@ impl Blocks {
         end + 2 + (past - start)
     }
 
-    /// Takes back the places behind the last list.
+    /// Frees the places after the last list, which ends at `end`.
     fn cut(&mut self, end: usize)
         requires { end ≡ end_before self.old (length self.old.lists) }
         ensures lists { self.new.lists ≡ self.old.lists }
@@ -137,7 +137,7 @@ impl Blocks {
         self.read(self.start(index))
     }
 
-    /// Where the list at an index begins.
+    /// The position where the list at an index begins.
     pub(crate) fn start(&self, index: usize) -> u32
         requires { index < length self.now.lists }
         ensures there { slice_index_or self.now.starts index 0 ≡ result }
@@ -146,7 +146,7 @@ impl Blocks {
         self.starts[index]
     }
 
-    /// The id of the list that begins at a place.
+    /// The id of the list that begins at `start`.
     pub(crate) fn id(&self, start: u32) -> u32
         requires { IsStart self.now start }
         ensures { id_in self.now.starts start ≡ result }
@@ -154,7 +154,7 @@ impl Blocks {
         self.row[start as usize - 2].variable() - 1
     }
 
-    /// The list that begins at a place.
+    /// The list that begins at `start`.
     pub(crate) fn read(&self, start: u32) -> &[Lit]
         requires { IsStart self.now start }
         ensures { result.now ≡ block_at self.now.lists (id_in self.now.starts start) }
@@ -164,7 +164,7 @@ impl Blocks {
         &self.row[start..start + count]
     }
 
-    /// Lets two literals of the list that begins at a place change places.
+    /// Exchanges two literals of the list that begins at `start`.
     pub(crate) fn exchange(&mut self, start: u32, low: usize, high: usize)
         requires there { IsStart self.old start }
         requires order { low < high }
@@ -177,7 +177,7 @@ impl Blocks {
     }
 }
 
-/// A number as it stands in the row.
+/// A number as a literal of the row.
 fn written(number: usize) -> Lit
     requires { number < 2 ^ 31 - 1 }
     ensures { variable_of result ≡ number + 1 }

@@ -1,9 +1,10 @@
-//! Clauses with their ids and what they watch. Three things are held besides what contracts see: the literals of a
-//! clause in a second order, the watched ones in front; in each list, where its ids are shown, a literal of the clause
-//! and the place where all of them begin; and windows in a row of literals. The invariant ties the literals to the
-//! value of contracts, and that of `Watches` the places to the ids. So literals lie elsewhere in both rows after
-//! `compact`, and the value is the same. On that value every call says its effect as an equation (`added`,
-//! `rewatched`), so that what the solver needs of watches are laws over these.
+//! Clauses with their ids and what they watch. Besides what contracts see there are: the literals
+//! of each clause in a second order, the watched ones first; in each watch list, where contracts
+//! see ids, a blocking literal and the position of the clause; and the windows of the row in the
+//! original order. The invariant ties the literals to what contracts see, and that of `Watches` the
+//! positions to the ids. So `compact` moves literals in both rows, and contracts see no change.
+//! Every call states its effect as an equation on what contracts see (`added`, `rewatched`), so
+//! what the solver needs of watches are laws about these.
 ghost use Rattle.std.specs.Prelude.{◌≡◌, ◌≢◌, ℕ, ◌+◌, ◌<◌, ◌≤◌, ◌⊎◌, ◌↔◌, ◌∷◌, [], length, slice_index_or, Contains, All, AllPairs, Some, List, ℤ, IsTrue, IsSome, IfOk, OnOk, OnErr};
 ghost use Rattle.sat_theory.specs.Formula.{variable as variable_of, IsClause, IsWithin};
 ghost use Rattle.sat_theory.specs.State.{by_id, without};
@@ -20,9 +21,10 @@ use cnf_core::{Cnf, Lit};
 use std::alloc::{AllocError, Global};
 use std::marker::Model;
 
-/// Clauses by their ids, which are 1, 2 and so on, over the variables of one formula. Each clause of two
-/// literals and more watches two of them. Contracts see the variables, a list with an entry for each id that
-/// was given (its clause, where that is live), the watched pairs, and for each literal a list of ids.
+/// Clauses by their ids, which are 1, 2 and so on, over the variables of one formula. Each clause
+/// of at least two literals watches two of them. Contracts see the variables, a list with an entry
+/// for each id that was given (its clause, where that is live), the watched pairs, and for each
+/// literal a list of ids.
 #[derive(Drop)]
 pub struct ClauseDb {
     store: Store,
@@ -45,9 +47,9 @@ impl Model for ClauseDb {
 
 #[tactic(auto, using(crate::proofs::Databases::databases))]
 impl ClauseDb {
-    /// The clauses of a formula, under the ids that they have there. Each watches its first two literals. The
-    /// literals of all clauses, and two places more for each clause, are at most 2,147,483,647; more count as want
-    /// of memory.
+    /// The clauses of a formula, under the ids that they have there. Each watches its first two
+    /// literals. The literals of all clauses, and two places more for each clause, are at most
+    /// 2,147,483,647; more count as running out of memory.
     pub fn new(alloc: Global, cnf: &Cnf) -> Result<ClauseDb, AllocError>
         ensures all { IfOk result (λ c. c ≡ all_added (none_stored cnf.now.vars) cnf.now.clauses) }
         ensures clauses { IfOk result (λ c. live_in c ≡ by_id cnf.now.clauses) }
@@ -71,9 +73,10 @@ impl ClauseDb {
         })
     }
 
-    /// Adds a clause over the variables of the formula, and gives its id, the one behind all before. It
-    /// watches its first two literals. The literals of all clauses, and two places more for each id that was given, are
-    /// at most 2,147,483,647; more count as want of memory. Those of a clause that went count until `compact`.
+    /// Adds a clause over the variables of the formula, and answers its id, 1 + the last one. It
+    /// watches its first two literals. The literals of all clauses, and two places more for each id
+    /// that was given, are at most 2,147,483,647; more count as running out of memory. Those of a
+    /// deleted clause count until `compact`.
     pub fn add(&mut self, lits: &[Lit]) -> Result<u32, AllocError>
         requires clause { IsClause lits.now }
         requires variables { IsWithin self.old.vars lits.now }
@@ -103,7 +106,8 @@ impl ClauseDb {
         self.store.lits(id)
     }
 
-    /// The literals of a live clause in an order of their own: where it watches two, these stand first.
+    /// The literals of a live clause in an order of their own: the two that it watches, if any,
+    /// come first.
     pub fn arranged(&self, id: u32) -> &[Lit]
         requires live { IsSome (live_in self.now id) }
         ensures same { (clause : List ℤ) → live_in self.now id ≡ Some clause → (l : ℤ) → Contains result.now l ↔ Contains clause l }
@@ -115,8 +119,8 @@ impl ClauseDb {
         self.watches.block(id)
     }
 
-    /// The literals of the clause at an index in the list of a literal of the formula's variables, in the order of
-    /// `arranged`: the two that it watches stand first.
+    /// The literals of the clause at an index in the watch list of a literal of the formula's
+    /// variables, in the order of `arranged`: the two that it watches come first.
     pub fn arranged_at(&self, lit: Lit, index: usize) -> &[Lit]
         requires over { variable_of lit ≤ self.now.vars }
         requires inside { index < length (list_of self.now.watches lit) }
@@ -166,8 +170,8 @@ impl ClauseDb {
         (pair.first, pair.second)
     }
 
-    /// The clauses that watch a literal of the formula's variables, each once, with one literal of each. Their ids are
-    /// read by `id_at`.
+    /// The clauses that watch a literal of the formula's variables, each once, with one literal of
+    /// each. `id_at` reads their ids.
     pub fn watching(&self, lit: Lit) -> &[Watch]
         requires { variable_of lit ≤ self.now.vars }
         ensures exact { (id : ℕ) → Contains (list_of self.now.watches lit) id ↔ WatchesOf self.now id lit }
@@ -180,7 +184,7 @@ impl ClauseDb {
         self.watches.list(lit)
     }
 
-    /// The id at an index in the list of a literal of the formula's variables.
+    /// The id at an index in the watch list of a literal of the formula's variables.
     pub fn id_at(&self, lit: Lit, index: usize) -> u32
         requires over { variable_of lit ≤ self.now.vars }
         requires inside { index < length (list_of self.now.watches lit) }
@@ -190,8 +194,8 @@ impl ClauseDb {
         self.watches.id_at(lit, index)
     }
 
-    /// Lets a literal of the clause at an index in a literal's list be the one that stands beside its id. Nothing
-    /// else is changed.
+    /// Makes `by`, a literal of the clause at an index in the watch list of `lit`, the blocking
+    /// literal of that entry. Nothing else changes.
     pub fn block(&mut self, lit: Lit, index: usize, by: Lit)
         requires over { variable_of lit ≤ self.old.vars }
         requires inside { index < length (list_of self.old.watches lit) }
@@ -202,10 +206,11 @@ impl ClauseDb {
         self.watches.set(lit, index, by);
     }
 
-    /// Lets the clause at an index in the list of `from` watch `to`, another one of its literals, in place of
-    /// `from`. In that list the last entry takes its place, and the list of `to` gets it at the end.
+    /// Makes the clause at an index in the watch list of `from` watch `to`, another one of its
+    /// literals, in place of `from`. In that list the last entry takes its place, and the list of
+    /// `to` gets it at the end.
     ///
-    /// place: where `to` stands in `arranged`; with another number it is searched for.
+    /// place: the index of `to` in `arranged`; with another number it is searched for.
     pub fn rewatch_at(
         &mut self,
         from: Lit,
@@ -222,8 +227,8 @@ impl ClauseDb {
         Ok(())
     }
 
-    /// Lets a live clause go. Its id is no clause's any more, and is never given again. In the lists of the literals
-    /// that the clause watched the last entry takes its place. The room of its literals is taken back by `compact`.
+    /// Deletes a live clause. Its id is never given again. In the watch lists of the clause the
+    /// last entry takes its place. `compact` frees the room of its literals.
     pub fn delete(&mut self, id: u32)
         requires { IsSome (live_in self.old id) }
         ensures live { live_in self.new ≡ without (live_in self.old) (id ∷ []) }
@@ -242,8 +247,8 @@ impl ClauseDb {
         self.store.delete(id);
     }
 
-    /// Takes back the room of clauses that went, in both rows of literals and in place. Nothing that contracts see
-    /// changes.
+    /// Frees the room of deleted clauses, in both rows of literals, in place. Contracts see no
+    /// change.
     pub fn compact(&mut self)
         ensures same { self.new ≡ self.old }
         ensures whole { IsStored self.new }
@@ -252,8 +257,8 @@ impl ClauseDb {
         self.watches.compact();
     }
 
-    /// Lets a clause that watches `from` watch `to`, another one of its literals, in place of it: as
-    /// `rewatch_at` does, where the index isn't known.
+    /// As `rewatch_at`, where the index isn't known: makes a clause that watches `from` watch `to`,
+    /// another one of its literals, in place of it.
     pub fn rewatch(&mut self, id: u32, from: Lit, to: Lit) -> Result<(), AllocError>
         requires from { WatchesOf self.old id from }
         requires there { (clause : List ℤ) → live_in self.old id ≡ Some clause → Contains clause to }
@@ -267,13 +272,13 @@ impl ClauseDb {
         Ok(())
     }
 
-    /// The index of a clause in the list of a literal that it watches.
+    /// The index of a clause in the watch list of a literal that it watches.
     fn find(&self, lit: Lit, id: u32) -> usize
         requires { WatchesOf self.now id lit }
         ensures inside { result < length (list_of self.now.watches lit) }
         ensures there { slice_index_or (list_of self.now.watches lit) result 0 ≡ id }
     {
-        // brings what the type says of the lists
+        // for the prover: brings in the invariant of the lists
         let _last = self.last();
         let count = self.watching(lit).len();
         let mut index = 0;

@@ -1,18 +1,19 @@
-//! The clauses of a solver by their ids: those of a formula, and those that are added. It stands on
-//! `cnf_core` for formulas and literals, on `sat_theory` for what a clause is, and on `cdcl_theory` for the
-//! codes of literals.
+//! The clause database of a solver: the clauses of a formula and those that are added, by their
+//! ids. `cnf_core` has the formulas and literals, `sat_theory` says what a clause is, and
+//! `cdcl_theory` has the codes of literals. The words of the solver: see the table in `cdcl_core`.
 //!
-//! Contracts see a list with an entry for each id that was given, the clause where it is live; `add`
-//! appends one entry, `delete` empties one, and `lits` and `live` read. Each clause of two literals and more watches two of them:
-//! `watched` tells which, `watching` and `id_at` give the clauses that watch a literal, and `rewatch` lets a clause
-//! watch another one (Moskewicz and others, "Chaff", 2001).
+//! Contracts see a list with an entry for each id that was given, the clause where it is live;
+//! `add` appends one entry, `delete` empties one, and `lits` and `live` read. Each clause of at
+//! least two literals watches two of them: `watched` answers which, `watching` and `id_at` give the
+//! clauses that watch a literal, and `rewatch` makes a clause watch another one (Moskewicz and
+//! others, "Chaff", 2001).
 //!
-//! The literals of each clause stand twice: `lits` gives them as they were added, and `arranged` with the
-//! watched two in front, where propagation finds all that it reads of a clause side by side. A clause that
-//! watches another literal puts it in front, and the one that it gives up goes to that literal's place.
+//! The literals of each clause are kept twice: `lits` gives them as they were added, and `arranged`
+//! with the watched two first, where propagation finds all that it reads of a clause side by side.
+//! A clause that watches another literal exchanges it with the one that it gives up.
 //!
-//! A list has beside each id one of the clause's literals, its blocking literal, and `block` puts another one
-//! there (Sörensson and Eén, "MiniSat 2.1", 2008).
+//! An entry of a watch list has a literal of its clause, the blocking literal, which `block`
+//! replaces by another one (Sörensson and Eén, "MiniSat 2.1", 2008).
 //!
 //! ```text
 //! let mut clauses = ClauseDb::new(alloc, &cnf)?;     // the clauses 1 to 4

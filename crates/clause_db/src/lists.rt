@@ -1,6 +1,7 @@
-//! The list of a literal: for each clause that watches it a literal of the clause, and where its literals begin. Both
-//! stand in one struct, so that nothing has to be as long as anything else, and a visit reads no table of starts. While
-//! clauses move to other places, entries have their ids in place of the starts.
+//! The watch list of a literal: for each clause that watches it a blocking literal, and the
+//! position where its literals begin. Both are in one struct, so no two lists have to be equally
+//! long, and a visit reads no table of starts. While clauses are moved, entries have ids in place
+//! of the starts.
 ghost use Rattle.std.specs.Prelude.{◌≡◌, ◌-◌, ◌<◌, ◌∷◌, [], ◌++◌, length, take, map, slice_index_or, slice_set, All, OnOk, OnErr};
 ghost use Rattle.std.specs.List.{swap_remove};
 ghost use Rattle.clause_db.specs.Lists.{no_watch, blocked_by, named, placed, IsDirect, IsNamed};
@@ -10,16 +11,16 @@ use cnf_core::Lit;
 use std::alloc::{AllocError, Global};
 use std::marker::Model;
 
-/// A clause in the list of a literal that it watches.
+/// An entry of a watch list: a clause that watches the literal.
 #[derive(Clone, Copy)]
 pub struct Watch {
-    /// One of its literals: while that is true, the clause is.
+    /// The blocking literal: one of the clause, so while it is true, the clause is.
     pub blocker: Lit,
-    /// where all of them begin
+    /// the position where its literals begin
     pub(crate) start: u32,
 }
 
-/// The clauses that watch a literal. Contracts see the entries.
+/// The watch list of a literal. Contracts see the entries.
 #[derive(Drop)]
 pub(crate) struct WatchList {
     entries: Vec<Watch>,
@@ -65,14 +66,14 @@ impl WatchList {
         Ok(())
     }
 
-    /// Takes the last entry off.
+    /// Removes the last entry.
     pub(crate) fn take_last(&mut self)
         ensures { self.new ≡ take (length self.old - 1) self.old }
     {
         self.entries.pop();
     }
 
-    /// Takes the entry at an index out, and puts the last one there.
+    /// Removes the entry at an index; the last one takes its place.
     pub(crate) fn take_out(&mut self, index: usize)
         requires { index < length self.old }
         ensures { self.new ≡ swap_remove self.old index no_watch }
@@ -80,7 +81,7 @@ impl WatchList {
         self.entries.swap_remove(index);
     }
 
-    /// Puts another literal into the entry at an index.
+    /// Replaces the blocking literal of the entry at an index.
     pub(crate) fn set(&mut self, index: usize, blocker: Lit)
         requires { index < length self.old }
         ensures { self.new ≡ slice_set self.old index (blocked_by (slice_index_or self.old index no_watch) blocker) }
@@ -88,7 +89,7 @@ impl WatchList {
         self.entries[index].blocker = blocker;
     }
 
-    /// Puts the id of each clause where its start stands.
+    /// Replaces the start of each clause by its id.
     pub(crate) fn put_ids(&mut self, blocks: &Blocks)
         requires { All (IsDirect blocks.now) self.old }
         ensures { self.new ≡ map (named blocks.now.starts) self.old }
@@ -96,7 +97,7 @@ impl WatchList {
         ids_for_starts(&mut self.entries, blocks);
     }
 
-    /// Puts the start of each clause where its id stands.
+    /// Replaces the id of each clause by its start.
     pub(crate) fn put_starts(&mut self, blocks: &Blocks)
         requires { All (IsNamed blocks.now) self.old }
         ensures { self.new ≡ map (placed blocks.now.starts) self.old }

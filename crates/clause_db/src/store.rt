@@ -1,8 +1,8 @@
-//! The literals of clauses as they were added, in one row, and a window for each id that was ever given. An id is the
-//! number of windows when it was given, so that none is given again, whatever becomes of its clause. The windows lie
-//! one behind the other in the row, so the literals of live clauses can be moved down over those of clauses that went:
-//! each move changes only places below the end of its own window, and none below where the last move ended
-//! (`packed_more`).
+//! The literals of clauses as they were added, in one row, and a window for each id that was ever
+//! given. An id is the number of windows when it was given, so none is given again. The windows lie
+//! one after another in the row, so the literals of live clauses can be moved down over those of
+//! deleted clauses: each move changes only places below the end of its own window, and none below
+//! where the last move ended (`packed_more`).
 ghost use Rattle.std.specs.Prelude.{◌≡◌, ◌+◌, ◌<◌, ◌≤◌, ◌↔◌, ◌∷◌, [], ◌++◌, length, take, drop, slice_set, ◌-◌, Some, None, true, IsTrue, IsSome, IfOk, OnOk, OnErr};
 ghost use Rattle.sat_theory.specs.Formula.{IsClause, IsWithin};
 ghost use Rattle.clause_db.specs.Stored.{live_at};
@@ -13,8 +13,8 @@ use cnf_core::Lit;
 use std::alloc::{AllocError, Global};
 use std::marker::Model;
 
-/// Moves the literals of a window down to a place in the row, and gives the window that they have there. Those of a
-/// clause that went are left behind.
+/// Moves the literals of a live window down to position `to` of the row, and answers their new
+/// window. Those of a deleted clause aren't moved.
 fn move_down(row: &mut [Lit], window: Window, to: u32) -> Window
     requires before { to ≤ window.start }
     requires rises { window.start ≤ window.end }
@@ -45,7 +45,7 @@ fn move_down(row: &mut [Lit], window: Window, to: u32) -> Window
     }
 }
 
-/// Lets the literals of live clauses lie close together at the front of the row, and gives where they end.
+/// Moves the literals of live clauses together at the start of the row, and answers where they end.
 fn pack(row: &mut [Lit], windows: &mut [Window]) -> u32
     requires { AreInside row.old windows.old }
     ensures entries { entries_of row.new windows.new ≡ entries_of row.old windows.old }
@@ -63,7 +63,8 @@ fn pack(row: &mut [Lit], windows: &mut [Window]) -> u32
     end
 }
 
-/// The window of so many literals behind a row. A row of more than 4,294,967,295 literals counts as want of memory.
+/// The window of `count` literals after a row of length `row`. A row of more than 4,294,967,295
+/// literals counts as running out of memory.
 fn window_behind(row: usize, count: usize) -> Result<Window, AllocError>
     ensures start { IfOk result (λ w. w.start ≡ row) }
     ensures end { IfOk result (λ w. w.end ≡ row + count) }
@@ -80,8 +81,9 @@ fn window_behind(row: usize, count: usize) -> Result<Window, AllocError>
     })
 }
 
-/// Clauses by their ids, over the variables of one formula. The literals of all clauses lie in one row,
-/// without an allocation for each clause. Contracts see the variables and an entry for each id.
+/// Clauses by their ids, over the variables of one formula. The literals of all clauses are in one
+/// row, without an allocation for each clause. Contracts see the variables and an entry for each
+/// id.
 #[derive(Drop)]
 pub(crate) struct Store {
     vars: u32,
@@ -111,7 +113,8 @@ impl Store {
         }
     }
 
-    /// Adds a clause, and gives its id. A row of more than 4,294,967,295 literals counts as want of memory.
+    /// Adds a clause, and answers its id. A row of more than 4,294,967,295 literals counts as
+    /// running out of memory.
     pub(crate) fn add(&mut self, lits: &[Lit]) -> Result<u32, AllocError>
         requires clause { IsClause lits.now }
         requires variables { IsWithin self.old.vars lits.now }
@@ -126,7 +129,7 @@ impl Store {
         Ok(self.windows.len() as u32)
     }
 
-    /// Takes the last clause off.
+    /// Removes the last clause; its id is free again.
     pub(crate) fn take_last(&mut self)
         requires { 0 < length self.old.clauses }
         ensures vars { self.new.vars ≡ self.old.vars }
@@ -135,7 +138,7 @@ impl Store {
         self.windows.pop();
     }
 
-    /// Lets the clause of a live id go.
+    /// Deletes the clause of a live id.
     pub(crate) fn delete(&mut self, id: u32)
         requires { IsSome (live_at self.old.clauses id) }
         ensures { self.new ≡ record self.old { clauses = slice_set self.old.clauses (id - 1) None } }
@@ -143,7 +146,7 @@ impl Store {
         self.windows[id as usize - 1].live = false;
     }
 
-    /// Takes back the room of clauses that went.
+    /// Frees the room of deleted clauses.
     pub(crate) fn compact(&mut self)
         ensures { self.new ≡ self.old }
     {

@@ -1,9 +1,9 @@
-//! Which clauses watch a literal. What a clause watches are the first two of its literals in an order of their own, so
-//! no pair is kept, and an entry of a list says where they begin, which the invariant ties to the table of starts.
-//! Moving a watch is a push to one list, a change of two places, and a taking out of another list. The push comes
-//! first, since it alone can want memory; the change is made by the start in the entry, before that is taken out.
-//! While the literals of all clauses move, entries have ids in place of starts: the old starts are read for the last
-//! time before, and the new ones after it.
+//! Which clauses watch a literal. A clause watches the first two of its literals in an order of
+//! their own, so no pair is kept, and an entry of a watch list has the position where they begin,
+//! which the invariant ties to the table of starts. Moving a watch is a push to one list, an
+//! exchange of two literals, and a removal from another list. The push comes first, since it alone
+//! can run out of memory; the exchange uses the start in the entry, before that is removed. While
+//! the literals of all clauses move, entries have ids in place of starts.
 ghost use Rattle.std.specs.Prelude.{◌≡◌, ◌≢◌, ◌⊎◌, ◌↔◌, ℤ, IsTrue, ◌+◌, ◌-◌, ◌*◌, ◌<◌, ◌≤◌, [], length, take, map, All, Contains, pos, slice_index_or, slice_set, replicate, IfOk, OnOk, OnErr};
 ghost use Rattle.std.specs.List.{swap_remove};
 ghost use Rattle.cdcl_theory.specs.Codes.{code_of};
@@ -19,15 +19,16 @@ use cnf_core::Lit;
 use std::alloc::{AllocError, Global};
 use std::marker::Model;
 
-/// The two literals that a clause watches; where it has fewer, the literal 1 stands for what is missing.
+/// The two literals that a clause watches; where it has fewer, the literal 1 is in place of a
+/// missing one.
 #[derive(Clone, Copy)]
 pub(crate) struct Pair {
     pub(crate) first: Lit,
     pub(crate) second: Lit,
 }
 
-/// The literals of each clause, by its id, of which it watches the first two, and for each literal, by its
-/// code, which clauses watch it.
+/// The literals of each clause, by its id, of which it watches the first two, and for each literal,
+/// by its code, its watch list.
 #[derive(Drop)]
 pub(crate) struct Watches {
     blocks: Blocks,
@@ -63,7 +64,7 @@ impl Watches {
         })
     }
 
-    /// The literals of an id: those that it watches stand first.
+    /// The literals of an id: those that it watches come first.
     pub(crate) fn block(&self, id: u32) -> &[Lit]
         requires some { 0 < id }
         requires given { id ≤ length self.now.blocks }
@@ -81,7 +82,7 @@ impl Watches {
         first_two(self.block(id))
     }
 
-    /// The entries of a literal's list: how many they are, and the literals beside the ids.
+    /// The watch list of a literal. Contracts see its length and the blocking literals.
     pub(crate) fn list(&self, lit: Lit) -> &[Watch]
         requires { code_of lit < length self.now.lists }
         ensures long { length result.now ≡ length (listed_in self.now.lists lit) }
@@ -90,7 +91,7 @@ impl Watches {
         self.lists[lit.code()].entries()
     }
 
-    /// The id at an index in a literal's list.
+    /// The id at an index in a watch list.
     pub(crate) fn id_at(&self, lit: Lit, index: usize) -> u32
         requires room { code_of lit < length self.now.lists }
         requires inside { index < length (listed_in self.now.lists lit) }
@@ -100,8 +101,7 @@ impl Watches {
         self.blocks.id(watch.start)
     }
 
-    /// Whether an id stands at an index in a literal's list. The entry tells it by where the literals begin, so that no
-    /// clause is read.
+    /// Whether an id is at an index in a watch list. The starts are compared, so no clause is read.
     pub(crate) fn stands_at(&self, lit: Lit, index: usize, id: u32) -> bool
         requires room { code_of lit < length self.now.lists }
         requires inside { index < length (listed_in self.now.lists lit) }
@@ -113,7 +113,7 @@ impl Watches {
         watch.start == self.blocks.start(id as usize - 1)
     }
 
-    /// The literals of the clause at an index in a literal's list.
+    /// The literals of the clause at an index in a watch list.
     pub(crate) fn entry_block(&self, lit: Lit, index: usize) -> &[Lit]
         requires room { code_of lit < length self.now.lists }
         requires inside { index < length (listed_in self.now.lists lit) }
@@ -123,7 +123,8 @@ impl Watches {
         self.blocks.read(watch.start)
     }
 
-    /// Puts the entry at an index in a literal's list at the end of another one's, with another literal beside its id.
+    /// Appends the entry at an index in the watch list of `from` to that of `to`, with `blocker` as
+    /// its blocking literal.
     fn hand_on(&mut self, from: Lit, index: usize, to: Lit, blocker: Lit) -> Result<(), AllocError>
         requires rooms { (code_of from < length self.old.lists) × (code_of to < length self.old.lists) }
         requires inside { index < length (listed_in self.old.lists from) }
@@ -135,7 +136,7 @@ impl Watches {
         Ok(())
     }
 
-    /// Puts an id at the end of a literal's list, and a literal beside it.
+    /// Appends an id to a watch list, with a blocking literal.
     fn push(&mut self, lit: Lit, id: u32, blocker: Lit) -> Result<(), AllocError>
         requires room { code_of lit < length self.old.lists }
         requires some { 0 < id }
@@ -148,7 +149,7 @@ impl Watches {
         Ok(())
     }
 
-    /// Takes the last id off a literal's list, and what stands beside it.
+    /// Removes the last entry of a watch list.
     fn take_last(&mut self, lit: Lit)
         requires { code_of lit < length self.old.lists }
         ensures { self.new ≡ record self.old { lists = slice_set self.old.lists (code_of lit) (take (length (listed_in self.old.lists lit) - 1) (listed_in self.old.lists lit)); rows = with_row self.old.rows lit (take (length (row_of self.old.rows lit) - 1) (row_of self.old.rows lit)) } }
@@ -206,9 +207,9 @@ impl Watches {
         self.lists[lit.code()].set(index, by);
     }
 
-    /// Lets a clause watch `to`, another one of its literals, in place of `from`, in whose list it stands at an
-    /// index. The two change places, and `place` is where `to` is looked for first. Beside the clause's id in
-    /// the list of `to` stands the literal that it goes on watching.
+    /// Makes a clause watch `to`, another one of its literals, in place of `from`, in whose watch
+    /// list it is at an index. The two are exchanged; `to` is looked for at `place` first. Its
+    /// blocking literal in the list of `to` is the literal that it goes on watching.
     pub(crate) fn move_to(
         &mut self,
         from: Lit,
@@ -238,7 +239,8 @@ impl Watches {
         Ok(())
     }
 
-    /// Takes an id out of the lists of two literals, where it stands at two places, and lets its literals go.
+    /// Removes an id from two watch lists, at the indices `index` and `place`, and empties its
+    /// literals.
     pub(crate) fn leave(&mut self, id: u32, one: Lit, index: usize, other: Lit, place: usize)
         requires some { 0 < id }
         requires given { id ≤ length self.old.blocks }
@@ -252,7 +254,7 @@ impl Watches {
         self.empty(id);
     }
 
-    /// Lets the literals of an id go.
+    /// Empties the literals of an id.
     pub(crate) fn empty(&mut self, id: u32)
         requires some { 0 < id }
         requires given { id ≤ length self.old.blocks }
@@ -261,8 +263,8 @@ impl Watches {
         self.blocks.empty(id as usize - 1);
     }
 
-    /// Takes back the room of literals that went. Those of each clause may begin elsewhere then, so each entry gets the
-    /// id of its clause before, and the new start after it.
+    /// Frees the room of emptied literals. Those of each clause may begin elsewhere afterwards, so
+    /// each entry has the id of its clause meanwhile, and then its new start.
     pub(crate) fn compact(&mut self)
         ensures { self.new ≡ self.old }
     {
@@ -271,7 +273,7 @@ impl Watches {
         all_starts_for_ids(&mut self.lists, &self.blocks);
     }
 
-    /// Takes the id at an index out of a literal's list, with what stands beside it.
+    /// Removes the entry at an index from a watch list.
     fn take_out(&mut self, lit: Lit, index: usize)
         requires room { code_of lit < length self.old.lists }
         requires inside { index < length (listed_in self.old.lists lit) }
@@ -280,7 +282,7 @@ impl Watches {
         self.lists[lit.code()].take_out(index);
     }
 
-    /// Lets two literals of the clause at an index in a literal's list change places.
+    /// Exchanges two literals of the clause at an index in a watch list.
     fn exchange(&mut self, lit: Lit, index: usize, low: usize, high: usize)
         requires room { code_of lit < length self.old.lists }
         requires inside { index < length (listed_in self.old.lists lit) }
@@ -293,7 +295,7 @@ impl Watches {
     }
 }
 
-/// Puts the id of its clause where the start stands, in each entry of all lists.
+/// Replaces starts by ids, in each entry of all watch lists.
 fn all_ids_for_starts(lists: &mut [WatchList], blocks: &Blocks)
     requires { AreDirect blocks.now lists.old }
     ensures { lists.new ≡ map (map (named blocks.now.starts)) lists.old }
@@ -303,7 +305,7 @@ fn all_ids_for_starts(lists: &mut [WatchList], blocks: &Blocks)
     }
 }
 
-/// Puts the start of its clause where the id stands, in each entry of all lists.
+/// Replaces ids by starts, in each entry of all watch lists.
 fn all_starts_for_ids(lists: &mut [WatchList], blocks: &Blocks)
     requires { AreNamed blocks.now lists.old }
     ensures { lists.new ≡ map (map (placed blocks.now.starts)) lists.old }
@@ -313,7 +315,7 @@ fn all_starts_for_ids(lists: &mut [WatchList], blocks: &Blocks)
     }
 }
 
-/// The first two literals; 1 stands for what is missing.
+/// The first two literals; 1 is in place of a missing one.
 fn first_two(lits: &[Lit]) -> Pair
     ensures { result ≡ pair_of lits.now }
 {
@@ -332,7 +334,7 @@ fn literal_at(lits: &[Lit], index: usize) -> Lit
     }
 }
 
-/// The place of the watched literal that is a given one: 1, if the first is another one.
+/// The index of a watched literal: 0 where it is the first, else 1.
 fn place_of_watch(lits: &[Lit], lit: Lit) -> usize
     requires { 0 < length lits.now }
     ensures front { result < 2 }
@@ -341,7 +343,7 @@ fn place_of_watch(lits: &[Lit], lit: Lit) -> usize
     usize::from(lits[0] != lit)
 }
 
-/// The place of a literal in a list that has it. It is looked for at `hint` first.
+/// The index of a literal in a list that has it. It is looked for at `hint` first.
 fn place_of(lits: &[Lit], lit: Lit, hint: usize) -> usize
     requires { Contains lits.now lit }
     ensures inside { result < length lits.now }
@@ -353,7 +355,7 @@ fn place_of(lits: &[Lit], lit: Lit, hint: usize) -> usize
     find(lits, lit)
 }
 
-/// The first place of a literal in a list that has it.
+/// The first index of a literal in a list that has it.
 fn find(lits: &[Lit], lit: Lit) -> usize
     requires { Contains lits.now lit }
     ensures inside { result < length lits.now }

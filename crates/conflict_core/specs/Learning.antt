@@ -9,7 +9,7 @@ use Rattle.conflict_core.specs.declared.analysis.Analysis.{Analysis}
 use Rattle.conflict_core.specs.declared.walk.Walk.{Walk}
 use Rattle.conflict_core.specs.Walking.{IsClear, IsWalk}
 
--- the walk with the marks and lists of a value
+-- the invariant of the walk, on the fields of a `Walk`
 abbrev pub IsWalkOf : (ℕ → Option (List ℤ)) → Trailed → Walk → Type 0
 IsWalkOf live t w = IsWalk live t w.marks w.touched.items w.hints.items
 
@@ -19,21 +19,22 @@ pub record IsReady (vars : ℕ) (a : Analysis) : Type 0 where
   pub touched : IsWithin vars a.walk.touched.items
   pub verdicts : length a.redundancy.verdicts.items ≡ vars + 1
 
--- each literal from an index on has its reason
+-- each literal from a trail index on has its reason
 abbrev pub HaveReasons : (ℕ → Option (List ℤ)) → Trailed → ℕ → Type 0
 HaveReasons live t from = (p : ℕ) → from ≤ p → p < length t.lits → HasReason live t p
 
--- the literal of a learnt clause that fell last
+-- the asserting literal of a learnt clause, which fell last
 abbrev pub asserting : List ℤ → ℤ
 asserting lits = slice_index_or lits 0 (pos 0)
 
--- One that fell at `back` stands first, if there is one, and else all stay.
+-- A literal that fell at `back`, if there is one, was exchanged with the first of all; else all stay.
 abbrev pub IsRaised : (ℤ → ℕ) → ℕ → List ℤ → List ℤ → Type 0
 IsRaised places back old new = ((i : ℕ) × (i < length old) × (new ≡ swap old 0 i) × ((d : ℤ) → places (slice_index_or old i d) ≡ back)) ⊎ ((new ≡ old) × All (λ l. places l ≢ back) old)
 
--- The clause that is learnt from a conflict in the level that begins at index `start`: its first literal
--- fell in the level, and all others up to `back`, where the second one fell; back is 0 where there is no
--- other. Going back to a place from `back` to `start` makes the clause unit.
+-- The clause that is learnt from a conflict in the level that begins at trail index `start`: its
+-- first literal fell in the level, all others at places up to `back`, where the second one fell;
+-- back is 0 where there is no other. Backtracking to a length from `back` to `start` makes the
+-- clause unit.
 pub record IsLearnt (live : ℕ → Option (List ℤ)) (t : Trailed) (start : ℕ) (lits : List ℤ) (back : ℕ) (hints : List ℕ) : Type 0 where
   pub some : 0 < length lits
   pub after : start < fell t (asserting lits)

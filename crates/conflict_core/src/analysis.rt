@@ -1,7 +1,8 @@
-//! What is learnt from a conflict, and why it is a clause that a log may add. A walk back over the conflict's level
-//! leaves one literal of the level; minimising and shortening take others off by the same kind of step; and what is
-//! left marked is gathered. That it follows by the hints is the invariant of the walk (`IsWalk`); that one literal of
-//! the level is left, and where the others fell, is what the search goes back by (`IsLearnt`).
+//! What is learnt from a conflict, and why it is a clause that a log may add. A walk back over the
+//! conflict's level ends at its first unique implication point (first UIP); minimisation and
+//! shortening remove other literals by the same kind of resolution; and what is left marked is
+//! gathered. That it follows by the hints is the invariant of the walk (`IsWalk`); that one literal
+//! of the level is left, and where the others fell, is what the search backjumps by (`IsLearnt`).
 ghost use Rattle.std.specs.Prelude.{◌≡◌, ℕ, ◌+◌, ◌<◌, ◌≤◌, ◌∷◌, [], length, reverse, All, IfOk, OnOk};
 ghost use Rattle.sat_theory.specs.Formula.{IsWithin};
 ghost use Rattle.sat_theory.specs.Holding.{among, HintsHold};
@@ -19,7 +20,7 @@ use cnf_core::Lit;
 use std::alloc::{AllocError, Global};
 use trail_core::Trail;
 
-/// The room that the analysis of conflicts takes, used again for each conflict.
+/// The memory of the conflict analysis, used again for each conflict.
 #[derive(Drop)]
 pub struct Analysis {
     walk: Walk,
@@ -40,15 +41,16 @@ impl Analysis {
         })
     }
 
-    /// The literals that the last call of `learn` marked on its way back, those of the learnt clause among
-    /// them.
+    /// The literals that the last call of `learn` marked on its walk, those of the learnt clause
+    /// among them.
     pub fn touched(&self) -> &[Lit]
         ensures within { (vars : ℕ) → IsReady vars self.now → IsWithin vars result.now }
     {
         &self.walk.touched
     }
 
-    /// Resolves away what follows from the other literals of the clause, of those that fell up to `start`.
+    /// Resolves away the literals that follow from others of the clause, of those falsified before
+    /// trail index `start` (clause minimisation).
     fn minimise(
         &mut self,
         trail: &Trail,
@@ -72,7 +74,7 @@ impl Analysis {
         Ok(())
     }
 
-    /// Takes off what marks are left over.
+    /// Unmarks what an earlier walk left marked.
     fn clear(&mut self)
         ensures { (vars : ℕ) → HasRoom vars self.old.walk.marks → length self.old.redundancy.verdicts.items ≡ vars + 1 → IsReady vars self.new }
     {
@@ -80,8 +82,8 @@ impl Analysis {
         self.walk.marks.clear();
     }
 
-    /// Goes back from a conflict to the first unique implication point of its level, and gathers the clause that is
-    /// left. Marks are left over where memory is wanting.
+    /// Walks back from a conflict to the first UIP of its level, and gathers the clause that is
+    /// left. Where memory runs out, marks are left over.
     fn walk_back(
         &mut self,
         alloc: Global,
@@ -117,9 +119,9 @@ impl Analysis {
         Ok(Learnt { lits, back, hints })
     }
 
-    /// Learns a clause from one that is falsified in the level that begins at index `start`, by going
-    /// back to the first unique implication point of the level. It is ready for the next conflict, whether or
-    /// not there was memory.
+    /// Learns a clause from one that is falsified in the level that begins at trail index `start`:
+    /// the first UIP clause, minimised. It is ready for the next conflict, even where memory runs
+    /// out.
     pub fn learn(
         &mut self,
         alloc: Global,
@@ -146,7 +148,8 @@ impl Analysis {
         learnt
     }
 
-    /// Goes back over the whole trail from a conflict, and gathers the hints. Marks may be left over.
+    /// Walks back over the whole trail from a conflict, and gathers the hints. Where memory runs
+    /// out, marks are left over.
     fn walk_down(
         &mut self,
         alloc: Global,
@@ -168,7 +171,7 @@ impl Analysis {
         turned(alloc, &self.walk.hints)
     }
 
-    /// The hints of the empty clause, from a clause that is falsified while no decision stands.
+    /// The hints of the empty clause, from a clause that is falsified at level 0.
     pub fn refute(
         &mut self,
         alloc: Global,
@@ -189,7 +192,7 @@ impl Analysis {
     }
 }
 
-/// Where the last of some literals fell; 0 where there is none.
+/// The greatest `fell` of some literals: where the last one fell; 0 where there is none.
 fn last_fallen(trail: &Trail, lits: &[Lit]) -> u32
     requires { IsWithin trail.now.vars lits.now }
     ensures all { All (λ m. fell_of trail.now m ≤ result) lits.now }
@@ -202,7 +205,7 @@ fn last_fallen(trail: &Trail, lits: &[Lit]) -> u32
     back
 }
 
-/// Lets the first literal that fell at `back` change places with the first of all, if there is one.
+/// Exchanges the first literal that fell at `back`, if there is one, with the first of all.
 fn raise(trail: &Trail, lits: &mut Vec<Lit>, back: u32)
     requires { IsWithin trail.now.vars lits.old.items }
     ensures { IsRaised (fell_of trail.now) back lits.old.items lits.new.items }
@@ -215,7 +218,7 @@ fn raise(trail: &Trail, lits: &mut Vec<Lit>, back: u32)
     }
 }
 
-/// A literal and others behind it.
+/// A literal followed by others.
 fn joined(alloc: Global, first: Lit, others: &[Lit]) -> Result<Vec<Lit>, AllocError>
     ensures { IfOk result (λ v. v.items ≡ first ∷ others.now) }
 {
@@ -225,7 +228,7 @@ fn joined(alloc: Global, first: Lit, others: &[Lit]) -> Result<Vec<Lit>, AllocEr
     Ok(lits)
 }
 
-/// Ids the other way round.
+/// Ids in reverse.
 fn turned(alloc: Global, ids: &[u32]) -> Result<Vec<u32>, AllocError>
     ensures { IfOk result (λ v. v.items ≡ reverse ids.now) }
 {

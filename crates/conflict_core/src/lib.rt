@@ -1,18 +1,19 @@
-//! What a solver learns from a conflict: a clause with one literal of the conflict's level, the first
-//! unique implication point, and the hints by which a checker accepts it. It stands on the definitions
-//! of `cdcl_theory`, on the trail and on the clauses.
+//! Conflict analysis: the clause that a solver learns from a conflict, at the first unique
+//! implication point (first UIP) of its level, and the hints by which a checker accepts it. It uses
+//! the definitions of `cdcl_theory`, the trail and the clauses. The words of the solver: see the
+//! table in `cdcl_core`.
 //!
-//! The analysis marks the literals of the falsified clause and walks back over the trail. At a marked
-//! literal of the level it takes the others of its reason in its place, until one of the level is left.
-//! Then it resolves away the literals below the level that follow from the others of the clause by reasons,
-//! also by several behind one another (Sörensson and Biere, "Minimizing learned clauses", 2009). Which
-//! these are is guessed beforehand; each goes by the same step as those of the level, with its hint, so
-//! that a wrong guess makes a longer clause and no wrong one. Last, it resolves with the clauses of two
-//! literals of which one is that of the level: where the opposite of the other one is in the learnt clause,
-//! that opposite is taken out (as Audemard and Simon's Glucose does for short clauses). All this takes time
-//! linear in the literals of the level, in those of the reasons that it goes over, and in the length of one list
-//! of blocking literals, but for a search by halves among the levels for each literal that goes. The marks are
-//! taken off as they came.
+//! The analysis marks the literals of the falsified clause and walks back over the trail. A marked
+//! literal of the level is resolved away with its reason, until one of the level is left. Then
+//! literals below the level that follow from others of the clause by reasons, over any number of
+//! steps, are resolved away (Sörensson and Biere, "Minimizing learned clauses", 2009). Which these
+//! are is guessed first; each goes by the same step as those of the level, with its hint, so a
+//! wrong guess makes a longer clause and no wrong one. Last, it resolves with binary clauses that
+//! have the literal of the level: where the opposite of the other literal is in the learnt clause,
+//! that opposite goes (as in Audemard and Simon's Glucose for short clauses). All this takes time
+//! linear in the literals of the level, in those of the reasons read, and in the length of one list
+//! of blocking literals, besides a binary search among the levels for each literal that goes. The
+//! marks are cleared in time linear in their number.
 //!
 //! ```text
 //! let learnt = analysis.learn(alloc, &trail, &clauses, conflict, &starts, start)?;

@@ -1,5 +1,6 @@
-//! The set of literals of the clause that is left on a walk, as a mark for each. Every change is told as an equation of
-//! sets, so that the walk is a proof about sets of literals and not about tables.
+//! The set of literals of the clause that a walk has come to, as a mark for each (`seen`). Every
+//! change is stated as an equation of sets, so the walk is proved about sets of literals and not
+//! about tables.
 ghost use Rattle.std.specs.Prelude.{◌≡◌, ℕ, ◌<◌, [], length, All, IfOk, OnOk};
 ghost use Rattle.sat_theory.specs.Holding.{with_literal};
 ghost use Rattle.cdcl_theory.specs.Codes.{code_of, marked_in, without_literal};
@@ -52,7 +53,7 @@ impl Marks {
         self.marks[lit.code()] = true;
     }
 
-    /// Takes a literal out of the set.
+    /// Removes a literal from the set.
     pub(crate) fn unset(&mut self, lit: Lit)
         requires { code_of lit < length self.old }
         ensures set { marked_in self.new ≡ without_literal (marked_in self.old) lit }
@@ -61,14 +62,14 @@ impl Marks {
         self.marks[lit.code()] = false;
     }
 
-    /// Takes all literals out of the set.
+    /// Removes all literals.
     pub(crate) fn clear(&mut self)
         ensures { (vars : ℕ) → HasRoom vars self.old → IsClear vars self.new }
     {
         self.marks.fill(false);
     }
 
-    /// Takes the literals of a list out of the set, and gathers those that were in it.
+    /// Removes the literals of a list from the set, and gathers those that were in it.
     #[tactic(auto, using(crate::proofs::Marking::taking))]
     pub(crate) fn take(&mut self, lits: &[Lit], taken: &mut Vec<Lit>) -> Result<(), AllocError>
         requires inside { All (λ l. code_of l < length self.old) lits.now }

@@ -1,5 +1,6 @@
-//! Which literals of a clause follow from its others, as a guess: the recursion has no contract but that it stays in
-//! bounds. Each literal that it names is then resolved away by a step of the walk, which is right whatever was guessed.
+//! Which literals of a clause follow from its others (are redundant), as a guess: the recursion
+//! promises only to stay in bounds. Each literal that it names is then resolved away by a step of
+//! the walk, which is right whatever was guessed.
 ghost use Rattle.std.specs.Prelude.{◌≡◌, ◌+◌, ◌<◌, ◌≤◌, length, All, IfOk, IfSome};
 ghost use Rattle.sat_theory.specs.Formula.{variable as variable_of, IsWithin};
 ghost use Rattle.conflict_core.specs.Walking.{HasRoom};
@@ -10,7 +11,7 @@ use cnf_core::Lit;
 use std::alloc::{AllocError, Global};
 use trail_core::Trail;
 
-/// So many reasons behind one another are gone over.
+/// The greatest depth of the recursion over reasons.
 const DEPTH: u32 = 1000;
 
 /// What is known of a fallen literal.
@@ -19,19 +20,19 @@ enum Verdict {
     Open,
     /// it follows from the literals of a clause
     Follows,
-    /// that isn't so, or was too far to see
+    /// it doesn't, or the recursion was too deep to see it
     Stands,
 }
 
-/// Which literals of a clause follow from its others, and may be resolved away. It is found by going back
-/// over reasons from each of them, and nothing rests on it but how short the clause gets.
+/// Which literals of a clause follow from its others, and may be resolved away. It is found by a
+/// search over reasons from each of them, and determines nothing but how short the clause gets.
 #[derive(Drop)]
 pub(crate) struct Redundancy {
     /// by variable
     verdicts: Vec<Verdict>,
     /// the literals that have a verdict
     judged: Vec<Lit>,
-    /// those that follow, each behind all that it follows from
+    /// those that follow, each after all that it follows from
     redundant: Vec<Lit>,
     ghost judged_inside: { All (λ l. variable_of l < length verdicts.items) judged.items },
     ghost redundant_inside: { All (λ l. variable_of l < length verdicts.items) redundant.items },
@@ -67,7 +68,8 @@ impl Redundancy {
         Ok(())
     }
 
-    /// Judges a fallen literal without a verdict: whether it follows from the marked ones, as far as is seen.
+    /// Judges a fallen literal without a verdict: whether it follows from the marked ones, within
+    /// the depth.
     fn judge(
         &mut self,
         trail: &Trail,
@@ -107,7 +109,7 @@ impl Redundancy {
         Ok(true)
     }
 
-    /// Judges the marked literals of a list that fell up to `start`.
+    /// Judges the marked literals of a list that were falsified before trail index `start`.
     pub(crate) fn find(
         &mut self,
         trail: &Trail,

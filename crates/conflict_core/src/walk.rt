@@ -1,8 +1,9 @@
-//! The walk back over the trail from a conflict. What is marked is the clause that is left, and each step of the walk
-//! resolves it with the reason of one of its literals: `IsWalk` says that the marked literals have all fallen, and that
-//! their clause follows by the ids that were gone over. No step breaks that, wherever it is made, and so the order of
-//! the steps, which literals are tried and when the walk ends are for other facts to say. The literals that were
-//! touched are listed besides, so that the marks are taken off in time linear in the walk.
+//! The walk back over the trail from a conflict. The marked literals are the clause that it has
+//! come to, and each step resolves it with the reason of one of its literals: `IsWalk` says that
+//! the marked literals have all fallen, and that their clause follows by the ids that were used. No
+//! step breaks that, wherever it is made; the order of the steps, which literals are tried and when
+//! the walk ends are the subject of other facts. The literals that were touched are listed too, so
+//! that the marks are cleared in time linear in the walk.
 ghost use Rattle.std.specs.Prelude.{◌≡◌, ℤ, ◌+◌, ◌<◌, ◌≤◌, ◌∷◌, [], false, length, slice_index_or, Contains, AllPairs, IsSome, IfOk, OnOk, IfSome, IfNone};
 ghost use Rattle.sat_theory.specs.Formula.{variable as variable_of, opposite as opposite_of, IsClause, IsWithin};
 ghost use Rattle.cdcl_theory.specs.Falling.{IsFalsified};
@@ -18,13 +19,14 @@ use cnf_core::Lit;
 use std::alloc::{AllocError, Global};
 use trail_core::Trail;
 
-/// A walk back over the trail from a conflict. The marked literals are the clause that is left.
+/// A walk back over the trail from a conflict. The marked literals are the clause that it has come
+/// to.
 #[derive(Drop)]
 pub(crate) struct Walk {
     pub(crate) marks: Marks,
     /// the literals that were marked since the walk began
     pub(crate) touched: Vec<Lit>,
-    /// the ids of the clauses that were gone over, from the conflict on
+    /// the ids of the clauses that were used, from the conflict on
     pub(crate) hints: Vec<u32>,
 }
 
@@ -76,8 +78,8 @@ impl Walk {
         Ok(())
     }
 
-    /// Marks the literals of a live clause that have fallen. They are read in the order in which propagation reads
-    /// them, so from where it has just been.
+    /// Marks the literals of a live clause that have fallen. They are read in the order of
+    /// propagation, so from memory that it has just read.
     #[tactic(auto, using(crate::proofs::Gathering::marking_clause))]
     fn mark_clause(&mut self, trail: &Trail, clauses: &ClauseDb, id: u32) -> Result<(), AllocError>
         requires vars { clauses.now.vars ≡ trail.now.vars }
@@ -114,7 +116,8 @@ impl Walk {
         Ok(())
     }
 
-    /// Puts the other literals of its reason in the place of the literal that fell at an index.
+    /// Resolves with the reason of the literal that fell at a trail index: its other literals
+    /// replace it.
     pub(crate) fn resolve(
         &mut self,
         trail: &Trail,
@@ -137,7 +140,7 @@ impl Walk {
         Ok(())
     }
 
-    /// Goes back over all marked literals with the indices from `low` to `high`.
+    /// Resolves with the reasons of all marked literals at the trail indices from `low` to `high`.
     pub(crate) fn resolve_down(
         &mut self,
         trail: &Trail,
@@ -184,8 +187,8 @@ impl Walk {
         None
     }
 
-    /// Goes back until one literal of the level that begins at `start` is left, and gives its index.
-    /// Each index of the level is looked at twice at most.
+    /// Resolves until one literal of the level that begins at `start` is left (the first UIP), and
+    /// answers its index. Each index of the level is read at most twice.
     pub(crate) fn reduce(
         &mut self,
         trail: &Trail,
@@ -211,7 +214,8 @@ impl Walk {
         Ok(top)
     }
 
-    /// Resolves a literal away if it is marked, fell up to `start`, and isn't the opposite of a decision.
+    /// Resolves a literal away if it is marked, was falsified before trail index `start`, and isn't
+    /// the opposite of a decision.
     pub(crate) fn resolve_away(
         &mut self,
         trail: &Trail,
@@ -238,10 +242,10 @@ impl Walk {
         self.resolve(trail, clauses, place)
     }
 
-    /// Takes off each marked literal that is false by a clause of two literals of which the other one is
-    /// `first`; that clause is the hint. Only clauses are read whose blocking literal is the opposite of a
-    /// marked one. In a clause of two it is the other literal. No contract says so, so that one could be
-    /// missed; none is taken off wrongly.
+    /// Removes each marked literal that is false by a binary clause whose other literal is `first`;
+    /// that clause is the hint. Only clauses whose blocking literal is the opposite of a marked one
+    /// are read, and in a binary clause it is the other literal. No contract says that, so one
+    /// could be missed; none is removed wrongly.
     pub(crate) fn shorten(&mut self, clauses: &ClauseDb, first: Lit) -> Result<(), AllocError>
         requires over { variable_of first ≤ clauses.now.vars }
         requires room { HasRoom clauses.now.vars self.old.marks }
@@ -249,7 +253,7 @@ impl Walk {
         ensures fewer { OnOk result (AreFewer self.old.marks self.new.marks) }
         ensures room { length self.new.marks ≡ length self.old.marks }
     {
-        // it is marked whenever a walk is reduced
+        // for the prover: always true where a walk was reduced
         if !self.marks.has(first) {
             return Ok(());
         }
@@ -270,8 +274,8 @@ impl Walk {
         Ok(())
     }
 
-    /// Takes all marks off, and gathers the marked literals but for the one that fell at an index, which is
-    /// the answer.
+    /// Clears all marks, and gathers the marked literals except the one that fell at an index,
+    /// which is the answer.
     pub(crate) fn take_others(
         &mut self,
         trail: &Trail,

@@ -1,4 +1,4 @@
--- Where the entries of a trail's tables stand, and what they say of assignments.
+-- The entries of a trail's tables, and what they say of assignments.
 use Rattle.std.proofs.Common.{◌≡◌, ℕ, zero, suc, ◌+◌, ◌-◌, ◌<◌, ◌≤◌, ◌⊎◌, ◌==◌, ℤ, pos, negsuc, Bool, true, false, nat_lt, List, [], ◌∷◌, ◌++◌, length, slice_set, slice_index_or, subst, sym, ap, ◌∙◌, arith, inl, inr, refl}
 use Rattle.std.proofs.Math.Logic.{⊎_elim}
 use Rattle.std.proofs.lemmas.Bool.{cases_lt, ne_eqb, lt-ltb, le-ltb}
@@ -10,7 +10,7 @@ use Rattle.cdcl_theory.specs.Trails.{Trailed, fell, IsTrail, IsBack}
 use Rattle.cdcl_theory.specs.TrailLaws.{trail_push, trail_pop, back_pop, back_trans, trail_none}
 use Rattle.trail_core.specs.Values.{IsFree, HaveValues, Follows}
 
--- the tables as the code writes them
+-- the tables as the code writes them are those of `pushed`
 pub trail_pushed : (t now : Trailed) (l : ℤ) (lits : List ℤ) (reason code place v : ℕ) → t ≡ now → IsTrail t → lits ≡ t.lits ++ l ∷ [] → code ≡ code_of (opposite l) → place ≡ length lits → v ≡ variable l → 0 < v → variable l ≤ now.vars → IsFree now l → IsTrail (record { vars = t.vars; lits = lits; table = slice_set t.table code place; reasons = slice_set t.reasons v reason })
 trail_pushed t now l lits reason code place v view trail is at long var some small free =
     let same : place ≡ length t.lits + 1 = long ∙ grind (arith, common_steps) in
@@ -53,7 +53,7 @@ values_more t i have taken l some low =
         (λ (none_a : a ≤ 0). ⊎_elim (λ (some_b : 0 < b). inr some_b) (λ (none_b : b ≤ 0). absurd (no_both (omega arith) (omega arith))) (cases_lt 0 b))
         (cases_lt 0 a)
 
--- bits that tell which negative literals have fallen
+-- bits that are true exactly where the negative literal has fallen follow the trail
 pub follows : (t : Trailed) (bits : List Bool) → IsTrail t → length bits ≡ t.vars → ((k : ℕ) (d : Bool) → k < t.vars → slice_index_or bits k d ≡ nat_lt 0 (fell t (negsuc k))) → Follows t bits
 follows t bits trail long told = record { long = long; values = λ l over fallen. value l over.0 over.1 fallen; others = λ v some low free. other v some low free }
   where

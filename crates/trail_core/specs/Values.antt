@@ -7,7 +7,7 @@ use Rattle.cdcl_theory.specs.Trails.{Trailed, fell}
 abbrev pub IsOver : ℕ → ℤ → Type 0
 IsOver vars l = (0 < variable l) × (variable l ≤ vars)
 
--- neither l nor its opposite has fallen
+-- the variable of l has no value
 abbrev pub IsFree : Trailed → ℤ → Type 0
 IsFree t l = (fell t l ≡ 0) × (fell t (opposite l) ≡ 0)
 

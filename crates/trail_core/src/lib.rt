@@ -1,8 +1,10 @@
-//! The trail of a solver: the literals that are true in the order in which they came, each with the id
-//! of the clause that made it true. It stands on the definitions of `cdcl_theory`.
+//! The trail of a solver: the literals that are true, in the order in which they were assigned,
+//! each with its reason (the id of the clause that made it true). Its invariant is that of
+//! `cdcl_theory`. The words of the solver: see the table in `cdcl_core`.
 //!
-//! A literal falls where its opposite is pushed: `fell` answers 1 + the index of that one, and 0 for a
-//! literal that hasn't fallen. Going back takes the last literals off, and what fell before stays.
+//! A literal falls (becomes false) where its opposite is pushed: `fell` answers 1 + the trail
+//! position of that one, and 0 for a literal that isn't false. Backtracking takes the last literals
+//! off, and earlier positions stay.
 //!
 //! ```text
 //! let mut trail = Trail::new(alloc, 3)?;

@@ -1,6 +1,6 @@
-//! The trail as a row of literals, with two tables beside it: where each literal fell, and the reason of each variable.
-//! That the tables and the row tell the same is the invariant `IsTrail`; going back takes the last literals off one by
-//! one, and their entries with them, so that what fell before stays where it was.
+//! The trail as a row of literals, with two tables: the trail position at which each literal fell,
+//! and the reason of each variable. The invariant `IsTrail` says that tables and row agree;
+//! backtracking takes the last literals off one by one, with their entries.
 ghost use Rattle.std.specs.Prelude.{◌≡◌, ℤ, pos, negsuc, ◌<ℤ◌, ◌+◌, ◌-◌, ◌<◌, ◌≤◌, ◌↔◌, [], length, slice_index_or, IsTrue, IfOk, OnOk, OnErr, IfSome, IfNone};
 ghost use Rattle.sat_theory.specs.Formula.{variable as variable_of};
 ghost use Rattle.cdcl_theory.specs.Trails.{IsTrail, IsBack, pushed, fell as fell_of, reason_of};
@@ -10,8 +10,8 @@ use cnf_core::{Assign, Lit};
 use std::alloc::{AllocError, Global};
 use std::marker::Model;
 
-/// The literals that are true, in the order in which they came, with their reasons. Contracts see the
-/// row of literals, and the tables that tell where each literal fell and which clause is the reason.
+/// The literals that are true, in the order in which they were assigned, with their reasons.
+/// Contracts see the row of literals, the table of positions and the table of reasons.
 #[derive(Drop)]
 pub struct Trail {
     vars: u32,
@@ -57,7 +57,7 @@ impl Trail {
         self.vars
     }
 
-    /// How many literals are true.
+    /// The number of true literals.
     pub fn len(&self) -> usize
         ensures value { result ≡ length self.now.lits }
         ensures whole { IsTrail self.now }
@@ -75,7 +75,7 @@ impl Trail {
         self.lits[index]
     }
 
-    /// Where a literal fell: 1 + the index of its opposite, or 0.
+    /// 1 + the trail position of its opposite where the literal is false, else 0.
     #[tactic(auto, using(crate::proofs::Reading::reading), unfolding(cdcl_theory::specs::Codes::place_in))]
     pub fn fell(&self, lit: Lit) -> u32
         requires { variable_of lit ≤ self.now.vars }
@@ -93,7 +93,7 @@ impl Trail {
         self.reasons[lit.variable() as usize]
     }
 
-    /// Makes a literal true whose variable has no value.
+    /// Assigns a variable without a value: `lit` becomes true.
     pub fn push(&mut self, lit: Lit, reason: u32) -> Result<(), AllocError>
         requires over { variable_of lit ≤ self.old.vars }
         requires free { IsFree self.old lit }
@@ -107,7 +107,7 @@ impl Trail {
         Ok(())
     }
 
-    /// Goes back to the first `len` literals.
+    /// Backtracks to the first `len` literals.
     pub fn back_to(&mut self, len: usize)
         requires { len ≤ length self.old.lits }
         ensures back { IsBack len self.old self.new }
@@ -154,7 +154,8 @@ impl Trail {
         None
     }
 
-    /// The assignment in which the literals of the trail are true; a variable without a value is false.
+    /// The assignment in which the literals of the trail are true; a variable without a value is
+    /// false.
     pub fn assignment(&self, alloc: Global) -> Result<Assign, AllocError>
         ensures { IfOk result (Follows self.now) }
     {
@@ -166,7 +167,7 @@ impl Trail {
     }
 }
 
-/// The negative literal of the variable behind so many others.
+/// The negative literal of the variable `index` + 1.
 fn negative(index: u32) -> Lit
     requires { index < 1000000000 }
     ensures { result ≡ negsuc index }
