@@ -35,7 +35,7 @@ free_before t new l trail same free = (up l free.0, up (opposite l) free.1)
         (λ (low : fell t m ≤ 0). omega (arith, low))
         (cases_lt 0 (fell t m))
 
--- So the heap may stay as it is when more becomes true.
+-- So the heap may stay unchanged when more literals become true.
 pub choosing_more : (t new : Trailed) (c : Choice) → IsTrail t → new.vars ≡ t.vars → SameFallen (length t.lits) (fell t) (fell new) → IsChoosing t c → IsChoosing new c
 choosing_more t new c trail vars same choosing = record {
   vars = choosing.vars ∙ sym vars;
@@ -72,11 +72,11 @@ choosing_decided t c d x v r trail choosing var over free_x heap signs = record 
     not_x : (l : ℤ) → variable l ≡ variable x → IsFree (pushed t x r) l → ⊥
     not_x l same free = (let here : IsFree (pushed t x r) x = free_same (pushed t x r) l x same free in let none : fell (pushed t x r) (opposite x) ≡ 0 = here.1 in omega (arith, none, on.0))
 
--- the variables of the literals from an index on, and before another, are held
+-- the variables of the literals at trail indices in a range are held
 pub record AreReleased (t : Trailed) (from end : ℕ) (c : Choice) : Type 0 where
   pub held : (p : ℕ) (d : ℤ) → from ≤ p → p < end → p < length t.lits → IsHeld c.heap (variable (slice_index_or t.lits p d))
 
--- When all from an index on are released, the trail may go back to there.
+-- When all from an index on are released, the trail may be cut back to there.
 pub choosing_back : (t back : Trailed) (from end : ℕ) (c : Choice) → IsTrail t → length t.lits ≤ end → IsChoosing t c → AreReleased t from end c → IsBack from t back → IsChoosing back c
 choosing_back t back from end c trail all choosing released is_back = record {
   vars = choosing.vars ∙ sym is_back.vars;

@@ -1,11 +1,11 @@
--- Levels that are taken off.
+-- Levels that are dropped.
 use Rattle.std.proofs.Common.{◌≡◌, ℕ, ◌-◌, ◌<◌, ◌≤◌, List, length, take, slice_index_or, AllPairs, ap, arith}
 use Rattle.std.proofs.Math.Logic.{⊎_elim}
 use Rattle.std.proofs.lemmas.Bool.{cases_eq}
 use Rattle.std.proofs.lemmas.List.{length-take-le, get_or-take}
 use Rattle.cdcl_core.specs.Levels.{IsDropped}
 
--- the first `keep` stay, of which the last is below, if there is one
+-- the first `keep` starts stay; the last of them, if any, is below `back`
 pub dropped_from : (back keep end : ℕ) (old new : List ℕ) → new ≡ take keep old → keep < length old → ((d : ℕ) → slice_index_or old keep d ≡ end) → back ≤ end → AllPairs (λ a b. a < b) old → (0 < keep → (d : ℕ) → slice_index_or old (keep - 1) d < back) → IsDropped back old new end
 dropped_from back keep end old new is inside at high rising low = rw is (record {
   fewer = rw long inside;

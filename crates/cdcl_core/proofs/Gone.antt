@@ -1,4 +1,4 @@
--- The log when clauses go.
+-- The log when clauses are deleted.
 use Rattle.std.proofs.Common.{◌⊎◌, ◌≡◌, ◌≢◌, ℕ, zero, suc, ◌+◌, ◌-◌, ◌*◌, ◌<◌, ◌≤◌, ◌==◌, ◌||◌, ℤ, Bool, true, false, if◌then◌else◌, List, [], ◌∷◌, ◌++◌, length, slice_index_or, slice_get, Contains, All, Any, Option, Some, None, IsSome, is_some, count_by, subst, sym, ap, ◌∙◌, arith, inl, inr, refl}
 use Rattle.std.proofs.Math.Logic.{⊎_elim}
 use Rattle.std.proofs.lemmas.Bool.{cases_lt, ne_eqb, eq-eqb}
@@ -32,7 +32,7 @@ one_of_two true false o = refl
 one_of_two false true o = refl
 one_of_two false false o = refl
 
--- one more id
+-- one id more
 without_more : (live : ℕ → Option (List ℤ)) (ids : List ℕ) (id k : ℕ) → without live (ids ++ id ∷ []) k ≡ without (without live ids) (id ∷ []) k
 without_more live ids id k = ap (λ (b : Bool). (let o : Option (List ℤ) = if b then None else live k in o)) (list_any-append (λ j. k == j) ids (id ∷ [])) ∙ one_of_two (is_listed ids k) (is_listed (id ∷ []) k) (live k)
 
@@ -107,7 +107,7 @@ log_nothing f a lines deleted least log some few = record {
     line : Line
     line = Delete (length a.clauses) []
 
--- The last line deletes one more.
+-- The last line deletes one id more.
 log_extended : (f : Formula) (a b : Stored) (lines : List Line) (own : ℕ) (ids : List ℕ) (id : ℕ) (clause : List ℤ) (deleted least : ℕ) → IsLog f a (lines ++ Delete own ids ∷ []) deleted least → IsStored a → live_in a id ≡ Some clause → length f.clauses < id → IsDeleted id a b → (2 * (deleted + 1) ≤ least) ⊎ (2 * (deleted + 1) + length f.clauses ≤ length a.clauses) → IsLog f b (lines ++ Delete own (ids ++ id ∷ []) ∷ []) (deleted + 1) least
 log_extended f a b lines own ids id clause deleted least log stored is learnt gone room = record {
   vars = gone.vars ∙ log.vars;
@@ -199,7 +199,7 @@ log_extended f a b lines own ids id clause deleted least log stored is learnt go
         (none_now (live_in b id) (λ c live. (still_live id a b id c gone some live).1 refl))
         others
 
--- One more clause goes.
+-- One clause more is deleted.
 pub log_lost : (f : Formula) (a b : Stored) (lines : List Line) (ids : List ℕ) (id : ℕ) (clause : List ℤ) (deleted least : ℕ) → IsLog f a (with_gone lines (length a.clauses) ids) deleted least → IsStored a → live_in a id ≡ Some clause → length f.clauses < id → IsDeleted id a b → (2 * (deleted + 1) ≤ least) ⊎ (2 * (deleted + 1) + length f.clauses ≤ length a.clauses) → IsLog f b (with_gone lines (length b.clauses) (ids ++ id ∷ [])) (deleted + 1) least
 log_lost f a b lines [] id clause deleted least log stored is learnt gone room =
     let long : length b.clauses ≡ length a.clauses = ap length gone.clauses ∙ length-set a.clauses (id - 1) None in
@@ -233,14 +233,14 @@ reaches_gone f lines own (x ∷ xs) has = ⊎_elim (λ (there : Contains f.claus
 live_are : (f : Formula) (s : Stored) (lines : List Line) (deleted least : ℕ) → IsLog f s lines deleted least → live_additions (after (start f) lines) lines + deleted ≡ additions lines
 live_are f s lines deleted least log = subst (λ (st : State). live_additions st lines + deleted ≡ additions lines) (sym log.state) log.gone
 
--- Where it has come to so many additions, at least half of them are live.
+-- A log with at least `least` additions has at least half of them live.
 pub log_kept : (f : Formula) (s : Stored) (lines : List Line) (deleted least : ℕ) → IsLog f s lines deleted least → least ≤ additions lines → IsKept f lines
 log_kept f s lines deleted least log enough =
     let all : live_additions (after (start f) lines) lines + deleted ≡ additions lines = live_are f s lines deleted least log in
     let half : 2 * deleted ≤ additions lines = ⊎_elim (λ (low : 2 * deleted ≤ least). omega (arith, low, enough)) (λ (half : 2 * deleted ≤ additions lines). half) log.half in
     omega (arith, all, half)
 
--- A log of which enough is gone is thinned.
+-- A log that isn't thick is thinned.
 pub log_thinned : (f : Formula) (s : Stored) (lines : List Line) (deleted least : ℕ) → IsLog f s lines deleted least → (length f.clauses + 4 * (deleted + s.vars + 2000) < length s.clauses → ⊥) → IsThinned f lines
 log_thinned f s lines deleted least log thin = record {
   spares = log.spares;
@@ -255,7 +255,7 @@ log_thinned f s lines deleted least log thin = record {
     not_less : (m n : ℕ) → (m < n → ⊥) → n ≤ m
     not_less m n not = ⊎_elim (λ (less : m < n). absurd (not less)) (λ (more : n ≤ m). more) (cases_lt m n)
 
--- Where no addition is live, all are gone.
+-- Where no addition is live, all are deleted.
 pub log_all_gone : (f : Formula) (s : Stored) (lines : List Line) (deleted least : ℕ) → IsLog f s lines deleted least → ((id : ℕ) (clause : List ℤ) → length f.clauses < id → live_in s id ≡ Some clause → ⊥) → length s.clauses ≡ length f.clauses + deleted
 log_all_gone f s lines deleted least log none =
     let dead : All (λ id. is_some (live_in s id) ≡ false) (added_ids lines) = λ k d low. none_now (live_in s (slice_index_or (added_ids lines) k d)) (λ c live. none (slice_index_or (added_ids lines) k d) c (let at : slice_index_or (added_ids lines) k d ≡ length f.clauses + 1 + k = log.ids k d low in omega (arith, at)) live) in

@@ -1,4 +1,4 @@
--- How the promise of the watched literals lasts.
+-- How the watch invariant lasts.
 use Rattle.std.proofs.Common.{◌≡◌, ℕ, ◌+◌, ◌<◌, ◌≤◌, ◌⊎◌, ℤ, pos, List, [], ◌∷◌, ◌++◌, length, slice_index_or, Contains, All, Some, subst, sym, ap, ◌∙◌, arith, inl, inr, refl}
 use Rattle.std.proofs.Math.Logic.{⊎_elim}
 use Rattle.std.proofs.lemmas.Bool.{cases_lt, cases_eq}
@@ -15,14 +15,14 @@ use Rattle.clause_db.specs.Moving.{added_watches}
 use Rattle.cdcl_core.specs.Guarding.{HasTrue, IsBacked, IsTrueForGood, IsGuarded, HasTrueAt}
 use Rattle.cdcl_core.proofs.Judging.{settled_by_true}
 
--- fewer visited literals ask for less
+-- with fewer propagated literals less is asked
 pub guarded_less : (s : Stored) (places : ℤ → ℕ) (starts : List ℕ) (low high : ℕ) → low ≤ high → IsGuarded s places starts high → IsGuarded s places starts low
 guarded_less s places starts low high order guarded = record {
   long = λ id w clause watches is fallen. guarded.long id w clause watches is (fallen.0, (let h : places w ≤ low = fallen.1 in omega (arith, h, order)));
   short = guarded.short;
 }
 
--- what backs a literal does so when more has fallen,
+-- what backs a literal still does when more have fallen,
 backed_more : (f g : ℤ → ℕ) (starts : List ℕ) (n : ℕ) (clause : List ℤ) (w : ℤ) → SameFallen n f g → ((l : ℤ) → f l ≤ n) → All (λ s. s ≤ n) starts → 0 < f w → IsBacked f starts clause w → IsBacked g starts clause w
 backed_more f g starts n clause w same within low some backed = record {
   lit = backed.lit;
@@ -46,7 +46,7 @@ good_more f g starts n clause same within low good = record {
       (same.there (slice_index_or starts k d) (opposite good.lit) under (good.on, good.bottom k d inside)).1;
 }
 
--- The promise lasts when literals become true and clauses watch others that haven't fallen.
+-- The invariant lasts when literals become true and clauses watch others that aren't false.
 pub guarded_moved : (a b : Stored) (f g : ℤ → ℕ) (starts : List ℕ) (n head : ℕ) → SameFallen n f g → ((l : ℤ) → f l ≤ n) → head ≤ n → All (λ s. s ≤ head) starts → b.clauses ≡ a.clauses → ((id : ℕ) (w : ℤ) → Watches b id w → Watches a id w ⊎ (f w ≡ 0)) → IsGuarded a f starts head → IsGuarded b g starts head
 guarded_moved a b f g starts n head same within high low clauses moved guarded = record {
   long = λ id w clause watches is fallen.
@@ -67,7 +67,7 @@ guarded_moved a b f g starts n head same within high low clauses moved guarded =
         same_live : record a { clauses = b.clauses } ≡ a
         same_live = rw clauses refl
 
--- One more literal is visited.
+-- One trail literal more is propagated.
 pub guarded_visited : (s : Stored) (t : Trailed) (starts : List ℕ) (head : ℕ) (l : ℤ) → IsTrail t → All (λ x. x ≤ head) starts → head < length t.lits → opposite (slice_index_or t.lits head l) ≡ l → ((id : ℕ) → Watches s id l → HasTrueAt s (fell t) id) → IsGuarded s (fell t) starts head → IsGuarded s (fell t) starts (head + 1)
 guarded_visited s t starts head l trail low inside at visited guarded = record {
   long = λ id w clause watches is fallen. ⊎_elim
@@ -84,7 +84,7 @@ guarded_visited s t starts head l trail low inside at visited guarded = record {
 true_up : (t : Trailed) (l : ℤ) → IsTrail t → 0 < fell t (opposite l) → fell t l ≡ 0
 true_up t l trail on = ap (fell t) (sym (opposite-opposite l)) ∙ trail.places.one_side (opposite l) on
 
--- When all are visited, all clauses are settled.
+-- When all are propagated, all clauses are settled.
 pub guarded_settled : (s : Stored) (t : Trailed) (starts : List ℕ) → IsStored s → IsTrail t → IsGuarded s (fell t) starts (length t.lits) → AllSettled (live_in s) (fell t)
 guarded_settled s t starts stored trail guarded = record { each = λ id clause is. ⊎_elim (λ (short : length clause < 2). settled_short id clause is short) (λ (long : 2 ≤ length clause). settled_long id clause is long) (cases_lt (length clause) 2) }
   where
@@ -117,7 +117,7 @@ guarded_settled s t starts stored trail guarded = record { each = λ id clause i
         (cases_lt 0 (fell t (pair_at s.watches id).second)))
         (cases_lt 0 (fell t (pair_at s.watches id).first))
 
--- Going back to where a level began keeps the promise, with all that is left visited.
+-- Backtracking to the start of a level keeps the invariant, with all that is left propagated.
 pub guarded_back : (s : Stored) (t back : Trailed) (starts fewer : List ℕ) (head n : ℕ) → n ≤ head → Contains starts n → All (λ x. x < n) fewer → ((k d : ℕ) → k < length fewer → Contains starts (slice_index_or fewer k d)) → IsBack n t back → IsGuarded s (fell t) starts head → IsGuarded s (fell back) fewer n
 guarded_back s t back starts fewer head n low there under front is_back guarded = record {
   long = λ id w clause watches is fallen.
@@ -149,7 +149,7 @@ guarded_back s t back starts fewer head n low there under front is_back guarded 
       };
 }
 
--- A level may begin where all is visited.
+-- A level may begin where all is propagated.
 pub guarded_decided : (s : Stored) (t : Trailed) (starts : List ℕ) → IsTrail t → IsGuarded s (fell t) starts (length t.lits) → IsGuarded s (fell t) (starts ++ length t.lits ∷ []) (length t.lits)
 guarded_decided s t starts trail guarded = record {
   long = λ id w clause watches is fallen.
@@ -160,7 +160,8 @@ guarded_decided s t starts trail guarded = record {
       record { lit = good.lit; there = good.there; on = good.on; bottom = All-push (λ x. fell t (opposite good.lit) ≤ x) starts (length t.lits) good.bottom (trail.places.within (opposite good.lit)) };
 }
 
--- A clause is added that has a true literal where it is first, and a second one that fell last.
+-- A learnt clause keeps the invariant: its first literal is true, and its second one fell last of
+-- the others.
 pub guarded_added : (s : Stored) (places : ℤ → ℕ) (starts : List ℕ) (head : ℕ) (lits : List ℤ) → IsStored s → 0 < length lits → 0 < places (opposite (slice_index_or lits 0 (pos 1))) → places (slice_index_or lits 0 (pos 1)) ≡ 0 → (length lits < 2 → All (λ x. places (opposite (slice_index_or lits 0 (pos 1))) ≤ x) starts) → (2 ≤ length lits → All (λ x. x < places (slice_index_or lits 1 (pos 1))) starts) → IsGuarded s places starts head → IsGuarded (added s lits) places starts head
 guarded_added s places starts head lits stored some on up bottom late guarded = record {
   long = λ id w clause watches is fallen. ⊎_elim

@@ -1,4 +1,4 @@
--- What the watched literals promise after a jump and after a decision.
+-- The watch invariant after a backjump and after a decision.
 use Rattle.std.proofs.Common.{◌≡◌, ℕ, ◌+◌, ◌<◌, ◌≤◌, ℤ, pos, List, [], ◌∷◌, ◌++◌, length, slice_index_or, Contains, All, Option, subst, sym, ap, ◌∙◌, arith, inl, refl}
 use Rattle.std.proofs.Math.Logic.{⊎_elim}
 use Rattle.std.proofs.lemmas.Bool.{cases_lt}
@@ -17,7 +17,7 @@ use Rattle.cdcl_core.specs.Guarding.{IsGuarded}
 use Rattle.cdcl_core.proofs.Growing.{same_pushed}
 use Rattle.cdcl_core.proofs.Guards.{guarded_moved, guarded_back, guarded_added, guarded_decided}
 
--- where the pushed literal stands
+-- the trail position of the pushed literal
 pub pushed_on : (t : Trailed) (l : ℤ) (r : ℕ) → IsTrail t → IsOver t.vars l → IsFree t l → (fell (pushed t l r) (opposite l) ≡ length t.lits + 1) × (fell (pushed t l r) l ≡ 0)
 pushed_on t l r trail over free =
     let whole : IsTrail (pushed t l r) = trail_push t l r trail over.0 over.1 free.0 free.1 in
@@ -27,12 +27,12 @@ pushed_on t l r trail over free =
       true_not_fallen (t.lits ++ l ∷ []) (fell (pushed t l r)) (length t.lits) l l whole.places (omega (arith, long)) at,
     )
 
--- The promise lasts when a literal is made true.
+-- The invariant lasts when a literal is made true.
 pub guarded_pushed : (s : Stored) (t : Trailed) (starts : List ℕ) (head : ℕ) (l : ℤ) (r : ℕ) → IsTrail t → IsOver t.vars l → IsFree t l → head ≤ length t.lits → All (λ x. x ≤ head) starts → IsGuarded s (fell t) starts head → IsGuarded s (fell (pushed t l r)) starts head
 guarded_pushed s t starts head l r trail over free low begun guarded =
     guarded_moved s s (fell t) (fell (pushed t l r)) starts (length t.lits) head (same_pushed t l r trail over.1 free.1) trail.places.within low begun refl (λ id w watches. inl watches) guarded
 
--- After a decision all before it is visited.
+-- After a decision all before it is propagated.
 pub guarded_started : (s : Stored) (t : Trailed) (starts more : List ℕ) (head : ℕ) (l : ℤ) (r : ℕ) → IsTrail t → IsOver t.vars l → IsFree t l → head ≡ length t.lits → All (λ x. x ≤ head) starts → more ≡ starts ++ length t.lits ∷ [] → IsGuarded s (fell t) starts head → IsGuarded s (fell (pushed t l r)) more head
 guarded_started s t starts more head l r trail over free all begun is guarded =
     rw (is, all) (guarded_pushed s t (starts ++ length t.lits ∷ []) (length t.lits) l r trail over free (omega arith)
@@ -42,7 +42,7 @@ guarded_started s t starts more head l r trail over free all begun is guarded =
 first_default : (lits : List ℤ) → 0 < length lits → slice_index_or lits 0 (pos 1) ≡ asserting lits
 first_default lits some = grind (arith, common_steps)
 
--- a learnt clause with no second literal goes back to the bottom
+-- a learnt unit clause backjumps to level 0
 alone_back : (live : ℕ → Option (List ℤ)) (t : Trailed) (start place : ℕ) (lits : List ℤ) (hints : List ℕ) → IsLearnt live t start lits place hints → length lits < 2 → place ≡ 0
 alone_back live t start place lits hints learnt short =
     ⊎_elim
@@ -60,7 +60,7 @@ alone_back live t start place lits hints learnt short =
     only_one : (m : ℤ) → Contains lits m → m ≡ asserting lits
     only_one m (k, within, at) = (let zero_ : k ≡ 0 = omega (arith, within, short) in let here : slice_index_or lits k m ≡ slice_index_or lits 0 (pos 0) = ap (λ (j : ℕ). slice_index_or lits j m) zero_ ∙ (let some : 0 < length lits = learnt.some in grind (arith, common_steps)) in sym at ∙ here)
 
--- After a jump all before the learnt literal is visited.
+-- After a backjump all before the learnt literal is propagated.
 pub guarded_jumped : (s : Stored) (t back : Trailed) (starts fewer : List ℕ) (start end place id head : ℕ) (lits : List ℤ) (hints : List ℕ) (u : ℤ) → IsStored s → IsGuarded s (fell t) starts head → All (λ x. x ≤ head) starts → IsLearnt (live_in s) t start lits place hints → IsDropped place starts fewer end → IsTrail back → IsBack end t back → IsOver back.vars u → IsFree back u → u ≡ asserting lits → IsGuarded (added s lits) (fell (pushed back u id)) fewer end
 guarded_jumped s t back starts fewer start end place id head lits hints u stored guarded begun learnt dropped trail_back is_back over free u_is =
     guarded_added s (fell (pushed back u id)) fewer end lits stored learnt.some

@@ -1,4 +1,4 @@
--- How the levels of a trail last: through propagation, a decision, and a jump back.
+-- How the decision levels of a trail last: through propagation, a decision, and a backjump.
 use Rattle.std.proofs.Common.{◌≡◌, ℕ, ◌+◌, ◌-◌, ◌<◌, ◌≤◌, ◌⊎◌, ℤ, pos, List, [], ◌∷◌, ◌++◌, length, slice_index_or, Contains, AllPairs, Option, Some, subst, sym, ap, ◌∙◌, arith, inl, inr}
 use Rattle.std.proofs.Math.Logic.{⊎_elim}
 use Rattle.std.proofs.lemmas.Bool.{cases_lt, cases_eq}
@@ -56,7 +56,7 @@ layered_decided live t starts more l r layered settled over free is = rw is (rec
     same : SameFallen (length t.lits) (fell t) (fell (pushed t l r))
     same = same_pushed t l r layered.whole over.1 free.1
 
--- what fell after a place doesn't stand there any more when the trail has gone back to it
+-- what fell after a place isn't false any more when the trail was cut back to it
 pub back_gone : (n : ℕ) (t new : Trailed) (l : ℤ) → IsTrail new → IsBack n t new → n < fell t l → fell new l ≡ 0
 back_gone n t new l trail back late =
     ⊎_elim
@@ -81,7 +81,7 @@ back_up n t new l trail back up =
     (λ (none : fell new l ≤ 0). omega arith)
     (cases_lt 0 (fell new l))
 
--- After the jump the learnt literal is free,
+-- After the backjump the learnt literal is free,
 pub jumped_free : (live : ℕ → Option (List ℤ)) (t back : Trailed) (start end place : ℕ) (lits : List ℤ) (hints : List ℕ) → IsTrail t → IsTrail back → IsLearnt live t start lits place hints → end ≤ start → IsBack end t back → IsFree back (asserting lits)
 jumped_free live t back start end place lits hints trail trail_back learnt low is_back =
     let after : start < fell t (asserting lits) = learnt.after in
@@ -99,7 +99,7 @@ jumped_reason live more t back start end place id lits hints learnt low is_back 
       (learnt.others k d less);
 }
 
--- the first level that was taken off begins no later than the last
+-- the first level that was dropped begins no later than the last
 pub dropped_low : (starts fewer : List ℕ) (start place end : ℕ) → AllPairs (λ a b. a < b) starts → ((d : ℕ) → slice_index_or starts (length starts - 1) d ≡ start) → IsDropped place starts fewer end → end ≤ start
 dropped_low starts fewer start place end rising last dropped =
     let f : length fewer < length starts = dropped.fewer in
@@ -110,7 +110,7 @@ dropped_low starts fewer start place end rising last dropped =
     (λ (apart : length fewer ≡ length starts - 1 → ⊥). (let less : slice_index_or starts (length fewer) 0 < slice_index_or starts (length starts - 1) 0 = rising (length fewer) (length starts - 1) 0 (omega arith) (omega arith) in omega arith))
     (cases_eq (length fewer) (length starts - 1))
 
--- the state before the last level is closed, and behind its decision all literals have reasons
+-- the state before the last level is closed, and after its decision all literals have reasons
 pub closed_last : (live : ℕ → Option (List ℤ)) (t : Trailed) (starts : List ℕ) (start : ℕ) → IsLayered live t starts → IsLastStart starts start → IsClosed live (fell t) start
 closed_last live t starts start layered level = subst (IsClosed live (fell t)) (level.last 0) (layered.closed (length starts - 1) 0 (let some : 0 < length starts = level.some in omega arith))
 
@@ -129,7 +129,8 @@ reasons_last live t starts start layered level p after within =
         (λ (apart : k ≡ length starts - 1 → ⊥). (let less : slice_index_or starts k p < slice_index_or starts (length starts - 1) p = layered.rising k (length starts - 1) p (omega arith) (omega arith) in omega (arith, less, at, at_last, after)))
         (cases_eq k (length starts - 1))
 
--- The levels after a jump: the learnt clause is live, the trail has gone back, and the learnt literal stands on it.
+-- The levels after a backjump: the learnt clause is live, the trail was cut back, and the learnt
+-- literal is on it.
 pub layered_jumped : (live more : ℕ → Option (List ℤ)) (t back : Trailed) (starts fewer : List ℕ) (start end place id : ℕ) (lits : List ℤ) (hints : List ℕ) → more ≡ with_clause live id lits → ((k : ℕ) (clause : List ℤ) → live k ≡ Some clause → more k ≡ Some clause) → more id ≡ Some lits → IsLayered live t starts → IsLearnt live t start lits place hints → ((d : ℕ) → slice_index_or starts (length starts - 1) d ≡ start) → IsDropped place starts fewer end → IsTrail back → IsBack end t back → IsOver t.vars (asserting lits) → IsLayered more (pushed back (asserting lits) id) fewer
 layered_jumped live more t back starts fewer start end place id lits hints is_more kept there layered learnt last dropped trail_back is_back over =
     record {
@@ -213,11 +214,11 @@ layered_jumped live more t back starts fewer start end place id lits hints is_mo
         (λ (reason : HasReason live t p). inr (reason_pushed more back u id p trail_back small free early (reason_still p early reason)))
         (layered.reasons p (in_old p early))
 
--- the literal that is learnt is one of the variables
+-- the asserting literal is one of the variables
 pub learnt_over : (live : ℕ → Option (List ℤ)) (t : Trailed) (start place : ℕ) (lits : List ℤ) (hints : List ℕ) → IsLearnt live t start lits place hints → IsOver t.vars (asserting lits)
 learnt_over live t start place lits hints learnt = (learnt.clause.literals 0 (pos 0) learnt.some, learnt.variables 0 (pos 0) learnt.some)
 
--- So the levels last through a jump, over the clauses of a store.
+-- So the levels last through a backjump, over the clauses of a store.
 pub jumped_layers : (s : Stored) (t back : Trailed) (starts fewer : List ℕ) (start end place id : ℕ) (lits : List ℤ) (hints : List ℕ) (u : ℤ) → IsLayered (live_in s) t starts → IsLearnt (live_in s) t start lits place hints → IsLastStart starts start → IsDropped place starts fewer end → IsTrail back → IsBack end t back → id ≡ length s.clauses + 1 → u ≡ asserting lits → IsLayered (live_in (added s lits)) (pushed back u id) fewer
 jumped_layers s t back starts fewer start end place id lits hints u layered learnt level dropped trail_back is_back id_is u_is =
     rw u_is (layered_jumped (live_in s) (live_in (added s lits)) t back starts fewer start end place id lits hints

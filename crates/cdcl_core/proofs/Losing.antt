@@ -1,4 +1,4 @@
--- A search whose clauses go.
+-- A search whose clauses are deleted.
 use Rattle.std.proofs.Common.{◌≡◌, ℕ, ◌+◌, ◌-◌, ◌*◌, ◌<◌, ◌≤◌, ℤ, List, [], ◌∷◌, ◌++◌, length, slice_index_or, Contains, All, Option, Some, None, subst, sym, ap, ◌∙◌, arith, inl, inr, refl}
 use Rattle.std.proofs.Math.Logic.{⊎_elim}
 use Rattle.std.proofs.lemmas.List.{length-set}
@@ -17,7 +17,7 @@ use Rattle.cdcl_core.specs.Searching.{IsSearching, IsVisited}
 use Rattle.cdcl_core.specs.Forgetting.{IsPending, IsNoReason, IsImplied, NoneImplied, HasHalf, HasLost, HasForgotten}
 use Rattle.cdcl_core.proofs.Gone.{log_lost}
 
--- A clause of which no literal is true by it is no reason.
+-- A clause of which no literal is implied by it is no reason.
 pub no_reason : (s : Search) (id : ℕ) (clause : List ℤ) → IsSearching s → live_in s.clauses id ≡ Some clause → NoneImplied s.trail clause (length clause) id → IsNoReason s id
 no_reason s id clause searching is none = record {
   none = λ p d low reason at.
@@ -36,7 +36,7 @@ no_reason s id clause searching is none = record {
 fewer_closed : (live less : ℕ → Option (List ℤ)) (places : ℤ → ℕ) (starts : List ℕ) → ((id : ℕ) (clause : List ℤ) → less id ≡ Some clause → live id ≡ Some clause) → All (λ s. IsClosed live places s) starts → All (λ s. IsClosed less places s) starts
 fewer_closed live less places starts inside all = All-weaker (λ s. IsClosed live places s) (λ s. IsClosed less places s) (λ s closed. closed_less live less places s inside closed) starts all
 
--- Without a clause that is no reason the levels are as they were.
+-- Without a clause that is no reason the levels are unchanged.
 layered_lost : (s : Search) (b : Stored) (id : ℕ) → IsLayered (live_in s.clauses) s.trail s.starts.items → 0 < id → IsDeleted id s.clauses b → IsNoReason s id → IsLayered (live_in b) s.trail s.starts.items
 layered_lost s b id layered some gone free = record {
   whole = layered.whole;
@@ -70,7 +70,7 @@ searching_lost s b id n clause searching stored is gone free = record {
   choosing = searching.choosing;
 }
 
--- The watched literals keep their promise.
+-- The watch invariant lasts.
 pub visited_lost : (s : Search) (b : Stored) (id n : ℕ) → 0 < id → IsVisited s → IsDeleted id s.clauses b → IsVisited (record s { clauses = b; deleted = n })
 visited_lost s b id n some visited gone = record {
   guarded = record {
@@ -88,7 +88,7 @@ pending_lost f s b ids id clause pending stored is learnt gone room = record {
   given = pending.given;
 }
 
--- one more clause is forgotten
+-- one clause more is deleted
 pub forgotten_lost : (a b c : Search) (id : ℕ) → 0 < id → HasForgotten a b → HasLost id b c → HasForgotten a c
 forgotten_lost a b c id some forgotten lost = record {
   trail = ap (λ (s : Search). s.trail) lost.rest ∙ forgotten.trail;

@@ -1,4 +1,4 @@
--- Going back to the bottom.
+-- Backtracking to level 0.
 use Rattle.std.proofs.Common.{◌≡◌, ℕ, zero, suc, ◌<◌, ◌≤◌, ℤ, List, [], length, slice_index_or, Contains, All, Option, ap, ◌∙◌, arith, inr}
 use Rattle.std.proofs.Math.Logic.{⊎_elim}
 use Rattle.std.proofs.lemmas.List.Elements.{All-contains}
@@ -21,7 +21,7 @@ first_least live t starts first p layered begins (suc k, inside, at) = (let less
 pub first_inside : (live : ℕ → Option (List ℤ)) (t : Trailed) (starts : List ℕ) (first : ℕ) → IsLayered live t starts → IsFirstStart starts first → first < length t.lits
 first_inside live t starts first layered begins = (let low : slice_index_or starts 0 0 < length t.lits = layered.inside 0 0 begins.some in omega (arith, low, begins.begins 0))
 
--- What stands below all levels has its reasons.
+-- What is below all levels has its reasons.
 pub layered_bottom : (live : ℕ → Option (List ℤ)) (t back : Trailed) (starts none : List ℕ) (first : ℕ) → IsLayered live t starts → IsFirstStart starts first → none ≡ [] → IsTrail back → IsBack first t back → IsLayered live back none
 layered_bottom live t back starts none first layered begins is trail is_back = rw is (record {
   whole = trail;
@@ -47,13 +47,13 @@ layered_bottom live t back starts none first layered begins is trail is_back = r
         (λ (reason : HasReason live t p). still p low reason)
         (layered.reasons p (let within : first < length t.lits = first_inside live t starts first layered begins in omega (arith, low, within)))
 
--- The watched literals keep their promise there.
+-- The watch invariant holds there.
 pub guarded_bottom : (s : Stored) (t back : Trailed) (starts none : List ℕ) (head first : ℕ) → IsFirstStart starts first → All (λ x. x ≤ head) starts → none ≡ [] → IsBack first t back → IsGuarded s (fell t) starts head → IsGuarded s (fell back) none first
 guarded_bottom s t back starts none head first begins begun is is_back guarded =
     let there : Contains starts first = (0, begins.some, begins.begins first) in
     rw is (guarded_back s t back starts [] head first (All-contains (λ x. x ≤ head) starts first begun there) there (λ k d (low : k < 0). absurd (omega (arith, low))) (λ k d (low : k < 0). absurd (omega (arith, low))) is_back guarded)
 
--- What is counted doesn't matter.
+-- The counters don't matter.
 pub searching_counted : (s : Search) (r : Restarts) → IsSearching s → IsSearching (record s { restarts = r })
 searching_counted s r searching = record {
   stored = searching.stored;
@@ -70,7 +70,7 @@ visited_counted s r visited = record {
   begun = visited.begun;
 }
 
--- The log of a restart is that before it.
+-- The log of a restart is the one before it.
 pub logged_restarted : (f : Formula) (b c : Search) → IsLogged f b → HasRestarted b c → IsLogged f c
 logged_restarted f b c logged restarted = record {
   log = rw (restarted.clauses, restarted.lines, restarted.deleted, restarted.least) logged.log;
@@ -78,7 +78,7 @@ logged_restarted f b c logged restarted = record {
   given = restarted.given ∙ logged.given;
 }
 
--- A jump with a restart behind it is a jump.
+-- A backjump followed by a restart is a backjump.
 pub jumped_restarted : (a b c : Search) → HasJumped a b → HasRestarted b c → HasJumped a c
 jumped_restarted a b c jumped restarted =
     let clauses : length c.clauses.clauses ≡ length b.clauses.clauses = ap (λ (x : Stored). length x.clauses) restarted.clauses in

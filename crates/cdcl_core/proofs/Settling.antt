@@ -1,4 +1,4 @@
--- Propagations and jumps, one after another.
+-- Propagations and backjumps, one after another.
 use Rattle.std.proofs.Common.{◌≡◌, ℕ, ◌+◌, ◌-◌, ◌*◌, ◌<◌, ◌≤◌, ℤ, List, length, slice_index_or, All, Option, subst, sym, ap, ◌∙◌, arith}
 use Rattle.std.proofs.Math.Logic.{⊎_elim}
 use Rattle.std.proofs.Math.Nat.{mul-le-mul_right}
@@ -29,7 +29,7 @@ searching_grown s t searching grown trail = record {
   choosing = choosing_grown (live_in s.clauses) s.trail t s.choice searching.layered.whole grown searching.choosing;
 }
 
--- the same with clauses that watch others
+-- the same for clauses that watch other literals
 pub searching_rest : (s : Search) (b : Stored) (t : Trailed) (head : ℕ) → IsSearching s → IsRest s.clauses b s.trail t → IsStored b → IsTrail t → IsSearching (record s { clauses = b; trail = t; head = head })
 searching_rest s b t head searching rest stored trail = record {
   stored = stored;
@@ -39,11 +39,11 @@ searching_rest s b t head searching rest stored trail = record {
   choosing = choosing_grown (live_in b) s.trail t s.choice searching.layered.whole rest.grown searching.choosing;
 }
 
--- where all is visited, all is settled
+-- where all is propagated, all is settled
 pub settled_visited : (s : Search) → IsSearching s → IsVisited s → s.head ≡ length s.trail.lits → AllSettled (live_in s.clauses) (fell s.trail)
 settled_visited s searching visited all = guarded_settled s.clauses s.trail s.starts.items searching.stored searching.layered.whole (subst (λ (n : ℕ). IsGuarded s.clauses (fell s.trail) s.starts.items n) all visited.guarded)
 
--- what is visited when watched literals have made more true
+-- what is propagated when watched literals have made more true
 pub visited_some : (s : Search) (b : Stored) (t : Trailed) → IsVisited s → IsRest s.clauses b s.trail t → ((starts : List ℕ) → All (λ x. x ≤ s.head) starts → IsGuarded s.clauses (fell s.trail) starts s.head → IsGuarded b (fell t) starts s.head) → IsVisited (record s { clauses = b; trail = t })
 visited_some s b t visited rest kept = record {
   guarded = kept s.starts.items visited.begun visited.guarded;
@@ -93,7 +93,7 @@ settled_jumped a b c settled jumped =
       longer = λ same. absurd (omega arith);
     }
 
--- Forgetting takes nothing of that back.
+-- Forgetting keeps all of that.
 pub settled_forgotten : (a b c : Search) → HasSettled a b → HasForgotten b c → HasSettled a c
 settled_forgotten a b c settled forgotten =
     let clauses : length c.clauses.clauses ≡ length b.clauses.clauses = forgotten.clauses in
@@ -155,7 +155,7 @@ logged_decided f b c logged decided = record {
   given = decided.given ∙ logged.given;
 }
 
--- With each decision the search comes closer to its end.
+-- Each decision makes progress.
 pub measure_falls : (limit vars : ℕ) (a b c : Search) → HasSettled a b → length b.clauses.clauses < limit → HasDecided b c → length b.trail.lits ≤ vars + 1 → (limit - length c.clauses.clauses) * (vars + 2) + (vars + 2 - length c.trail.lits) < (limit - length a.clauses.clauses) * (vars + 2) + (vars + 2 - length a.trail.lits)
 measure_falls limit vars a b c settled under decided short =
     falls limit vars (length a.clauses.clauses) (length b.clauses.clauses) (length c.clauses.clauses) (length a.trail.lits) (length b.trail.lits) (length c.trail.lits) settled.more settled.longer (ap (λ (s : Stored). length s.clauses) decided.clauses) decided.lits under short

@@ -70,7 +70,7 @@ not_both : (line : Line) → AddsSome line → AddsEmpty line → ⊥
 not_both (Add id lits hints) some empty = (let e : length lits ≡ 0 = ap length empty in let h : 0 < length lits = some in omega arith)
 not_both (Delete id ids) some empty = empty
 
--- A log of so many additions has spent the budget.
+-- A log of at least `budget` additions has spent the budget.
 pub log_spent : (f : Formula) (s : Stored) (lines : List Line) (deleted least budget : ℕ) → IsLog f s lines deleted least → AreNew f lines → (Contains f.clauses [] → ⊥) → budget ≤ additions lines → IsSpent f lines budget
 log_spent f s lines deleted least budget log new none enough = record {
   holds = log.holds;
@@ -79,7 +79,7 @@ log_spent f s lines deleted least budget log new none enough = record {
   fresh = new.fresh;
 }
 
--- a log that reaches the empty clause owes nothing more
+-- a log that reaches the empty clause is thrifty
 pub refuted_thrifty : (f : Formula) (lines : List Line) → Refutes f lines → IsThrifty f lines
 refuted_thrifty f lines refutes = record { kept = λ open_yet. absurd (open_yet refutes.reaches) }
 

@@ -1,4 +1,4 @@
--- The clauses of one literal, before the first decision.
+-- Unit clauses, before the first decision.
 use Rattle.std.proofs.Common.{◌≡◌, ℕ, suc, zero, ◌+◌, ◌<◌, ◌≤◌, ◌⊎◌, ℤ, List, [], ◌∷◌, ◌++◌, length, Contains, All, Option, Some, subst, arith, inl, refl}
 use Rattle.std.proofs.Math.Logic.{⊎_elim}
 use Rattle.std.proofs.lemmas.Bool.{cases_eq, cases_lt}
@@ -26,7 +26,7 @@ true_grown live s t clause trail grown on = record {
 pub units_grown : (live : ℕ → Option (List ℤ)) (s t : Trailed) (n : ℕ) → IsTrail s → IsGrown live s t → AreUnitsTrue live (fell s) n → AreUnitsTrue live (fell t) n
 units_grown live s t n trail grown units = record { each = λ id clause low is short. true_grown live s t clause trail grown (units.each id clause low is short) }
 
--- one more id
+-- one id more
 pub units_more : (live : ℕ → Option (List ℤ)) (places : ℤ → ℕ) (n : ℕ) → AreUnitsTrue live places n → ((clause : List ℤ) → live (n + 1) ≡ Some clause → length clause < 2 → HasTrue places clause) → AreUnitsTrue live places (n + 1)
 units_more live places n units new = record {
   each = λ id clause low is short. ⊎_elim
@@ -62,7 +62,7 @@ units_pushed live t n id lits l at after trail there grown units = units_more li
     let place : fell (pushed t l id) (opposite l) ≡ length t.lits + 1 = place_at (t.lits ++ l ∷ []) (fell (pushed t l id)) (length t.lits) l l after.places (rw length_push (omega arith)) (get_or_push t.lits l l (length t.lits) refl) in
     record { lit = l; there = subst (λ (c : List ℤ). Contains c l) same there; on = omega (arith, place) })
 
--- With all ids gone through the watched literals keep their promise, as nothing is visited and no level begun.
+-- With all ids done the watch invariant holds, as nothing is propagated and no level begun.
 pub units_guarded : (s : Stored) (places : ℤ → ℕ) (n : ℕ) → length s.clauses ≤ n → AreUnitsTrue (live_in s) places n → IsGuarded s places [] 0
 units_guarded s places n all units = record {
   long = λ id w clause watches is fallen. absurd (let some : 0 < places w = fallen.0 in let low : places w ≤ 0 = fallen.1 in omega (arith, some, low));

@@ -35,7 +35,7 @@ watches_long s id l watches = record { clause = watches.clause; is_live = watche
 pub true_at : (s : Stored) (places : ℤ → ℕ) (id : ℕ) (l : ℤ) → IsStored s → Watches s id l → 0 < places (opposite l) → HasTrueAt s places id
 true_at s places id l stored watches on clause is = record { lit = l; there = watched_in s id l clause stored watches is; on = on }
 
--- the literals of a clause that watches l, the watched two in front
+-- the literals of a clause that watches l, the watched two first
 pub record IsFront (s : Stored) (id : ℕ) (l : ℤ) (lits : List ℤ) : Type 0 where
   pub watches : Watches s id l
   pub same : (clause : List ℤ) → live_in s id ≡ Some clause → (m : ℤ) → Contains lits m ↔ Contains clause m
@@ -65,14 +65,14 @@ other_watches s id l other lits front is = record {
   watched = subst (λ p. (other ≡ p.first) ⊎ (other ≡ p.second)) front.pair is.watched;
 }
 
--- a literal behind the two isn't watched
+-- a literal after the first two isn't watched
 behind_two : (s : Stored) (id : ℕ) (l to : ℤ) (lits : List ℤ) (place : ℕ) → IsFront s id l lits → 2 ≤ place → place < length lits → ((d : ℤ) → slice_index_or lits place d ≡ to) → Watches s id to → ⊥
 behind_two s id l to lits place front behind inside at watches = ⊎_elim
     (λ (e : to ≡ (pair_of lits).first). front.is_clause.differ 0 place (pos 1) (omega (arith, behind)) inside (ap variable (sym e ∙ sym (at (pos 1)))))
     (λ (e : to ≡ (pair_of lits).second). front.is_clause.differ 1 place (pos 1) (omega (arith, behind)) inside (ap variable (sym e ∙ sym (at (pos 1)))))
     (subst (λ p. (to ≡ p.first) ⊎ (to ≡ p.second)) (sym front.pair) watches.watched)
 
--- A literal behind the two can be watched in place of one of them.
+-- A literal after the first two can be watched in place of one of them.
 pub movable_to : (s : Stored) (l to : ℤ) (index id : ℕ) (lits : List ℤ) (place : ℕ) → index < length (list_of s.watches l) → id ≡ id_at s l index → IsFront s id l lits → 2 ≤ place → place < length lits → ((d : ℤ) → slice_index_or lits place d ≡ to) → IsMovable s (id_at s l index) l to index
 movable_to s l to index id lits place inside id_is front behind within at = record {
   inside = inside;
@@ -84,7 +84,7 @@ movable_to s l to index id lits place inside id_is front behind within at = reco
 same_default : (xs : List ℤ) (j : ℕ) (a b : ℤ) → j < length xs → slice_index_or xs j a ≡ slice_index_or xs j b
 same_default xs j a b within = grind (arith, common_steps)
 
--- a literal is one of the first two, or stands behind them
+-- a literal is one of the first two, or comes after them
 first_or_behind : (xs : List ℤ) (m : ℤ) (j : ℕ) → j < length xs → slice_index_or xs j m ≡ m → ((m ≡ (pair_of xs).first) ⊎ (m ≡ (pair_of xs).second)) ⊎ (2 ≤ j)
 first_or_behind xs m j within at =
     let here : m ≡ slice_index_or xs j (pos 1) = sym at ∙ same_default xs j m (pos 1) within in
@@ -96,7 +96,7 @@ first_or_behind xs m j within at =
     (λ (high : 2 ≤ j). inr high)
     (cases_lt j 2)
 
--- Where all behind the two have fallen, and one of these too, all but the other one have.
+-- Where all after the first two have fallen, and one of these too, all but the other one have.
 pub all_but : (s : Stored) (t : Trailed) (id : ℕ) (l other : ℤ) (lits clause : List ℤ) → IsFront s id l lits → IsOther lits l other → 0 < fell t l → AreDown t lits 2 (length lits) → live_in s id ≡ Some clause → All (λ m. (m ≡ other) ⊎ (0 < fell t m)) clause
 all_but s t id l other lits clause front is fallen down live k d low =
     let m : ℤ = slice_index_or clause k d in
@@ -241,7 +241,7 @@ rest_trans a b c r s t trail first second = record {
   moved = λ id w watches. ⊎_elim (λ (old : Watches b id w). first.moved id w old) (λ (up : fell s w ≡ 0). inr (up_before (live_in b) r s w trail first.grown up)) (second.moved id w watches);
 }
 
--- The promise lasts over visits,
+-- The invariant lasts over visits,
 pub guarded_rest : (a b : Stored) (s t : Trailed) (starts : List ℕ) (head : ℕ) → IsTrail s → head ≤ length s.lits → All (λ x. x ≤ head) starts → IsRest a b s t → IsGuarded a (fell s) starts head → IsGuarded b (fell t) starts head
 guarded_rest a b s t starts head trail low begun rest guarded =
     guarded_moved a b (fell s) (fell t) starts (length s.lits) head rest.grown.same trail.places.within low begun rest.clauses rest.moved guarded

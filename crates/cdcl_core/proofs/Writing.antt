@@ -1,4 +1,4 @@
--- A search whose log gets a line that deletes what is gone.
+-- A search whose log gets a line of deletions.
 use Rattle.std.proofs.Common.{◌≡◌, ℕ, ◌+◌, ◌<◌, ◌∙◌, ℤ, List, [], length, Some, subst, sym, ap, arith}
 use Rattle.sat_theory.specs.Formula.{Formula}
 use Rattle.sat_theory.specs.Line.{Line}
@@ -9,7 +9,7 @@ use Rattle.cdcl_core.specs.Searching.{IsSearching, IsVisited, IsLog, AreNew, IsA
 use Rattle.cdcl_core.specs.Forgetting.{with_gone, IsPending, IsThick, HasForgotten}
 use Rattle.cdcl_core.proofs.Gone.{new_gone, log_thinned, log_all_gone}
 
--- nothing is gone yet
+-- nothing is deleted yet
 pub pending_none : (f : Formula) (s : Search) (ids : List ℕ) → ids ≡ [] → IsAccounted f s → IsPending f s ids
 pending_none f s ids none accounted = rw none (record { log = accounted.log; given = accounted.given })
 
@@ -70,7 +70,7 @@ thinned_written f s t thin same accounted =
     let still : IsThick t → ⊥ = subst (λ (x : Search). IsThick x → ⊥) (sym same) thin in
     log_thinned f t.clauses t.lines t.deleted t.least accounted.log (λ less. still (omega (arith, less, accounted.given)))
 
--- Where all learnt clauses are gone, the log isn't thick.
+-- Where all learnt clauses are deleted, the log isn't thick.
 pub thin_at_end : (f : Formula) (s : Search) (ids : List ℕ) → IsPending f s ids → ((id : ℕ) (clause : List ℤ) → s.given < id → live_in s.clauses id ≡ Some clause → ⊥) → IsThick s → ⊥
 thin_at_end f s ids pending none thick =
     let all : length s.clauses.clauses ≡ length f.clauses + s.deleted = log_all_gone f s.clauses (with_gone s.lines (length s.clauses.clauses) ids) s.deleted s.least pending.log (λ id clause low live. none id clause (omega (arith, low, pending.given)) live) in

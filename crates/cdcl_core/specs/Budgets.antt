@@ -1,5 +1,5 @@
--- How many clauses a search may be asked to learn before it leaves a formula open: so few that all ids have
--- room in 32 bits.
+-- The bound of a budget: the number of additions before a search leaves a formula open, so that all
+-- ids fit 32 bits.
 use Rattle.std.specs.Prelude.{ℕ}
 
 abbrev pub most_budget : ℕ

@@ -23,7 +23,7 @@ pub record HasRefuted (f : Formula) (s : Search) : Type 0 where
   pub accounted : IsAccounted f s
   pub reaches : HasEmpty f s.lines
 
--- the log holds, and adds so many clauses, no fewer than what was reckoned with
+-- the log holds, and has at least `budget` additions, where `budget` is at least `least`
 pub record HasSpent (f : Formula) (budget : ℕ) (s : Search) : Type 0 where
   pub logged : IsLogged f s
   pub enough : budget ≤ additions s.lines

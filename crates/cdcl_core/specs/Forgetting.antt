@@ -1,4 +1,4 @@
--- What a search forgets.
+-- What a search forgets (deletion of learnt clauses).
 use Rattle.std.specs.Prelude.{◌≡◌, ◌⊎◌, ℕ, ◌+◌, ◌*◌, ◌<◌, ◌≤◌, ℤ, List, [], ◌∷◌, ◌++◌, length, slice_index_or, Some, IsSome}
 use Rattle.sat_theory.specs.Formula.{Formula, opposite}
 use Rattle.sat_theory.specs.Line as theory
@@ -8,12 +8,12 @@ use Rattle.clause_db.specs.Deleting.{IsDeleted}
 use Rattle.cdcl_core.specs.declared.search.Search.{Search}
 use Rattle.cdcl_core.specs.Searching.{IsLog}
 
--- the lines with one more that deletes these ids, if there are any
+-- the lines with one more that deletes the ids, if there are any
 abbrev pub with_gone : List theory.Line → ℕ → List ℕ → List theory.Line
 with_gone lines own [] = lines
 with_gone lines own (id ∷ ids) = lines ++ theory.Delete own (id ∷ ids) ∷ []
 
--- The log is one of the clauses as they are, with a line more that deletes what is gone since.
+-- With a line that deletes the ids of `gone`, the log is that of the live clauses.
 pub record IsPending (f : Formula) (s : Search) (gone : List ℕ) : Type 0 where
   pub log : IsLog f s.clauses (with_gone s.lines (length s.clauses.clauses) gone) s.deleted s.least
   pub given : s.given ≡ length f.clauses
@@ -22,7 +22,7 @@ pub record IsPending (f : Formula) (s : Search) (gone : List ℕ) : Type 0 where
 abbrev pub IsImplied : Trailed → ℕ → ℤ → Type 0
 IsImplied t id l = (0 < fell t (opposite l)) × (reason_of t l ≡ id)
 
--- none of the first n literals is
+-- none of the first n literals is true by the clause of an id
 abbrev pub NoneImplied : Trailed → List ℤ → ℕ → ℕ → Type 0
 NoneImplied t lits n id = (k : ℕ) (d : ℤ) → k < n → k < length lits → IsImplied t id (slice_index_or lits k d) → ⊥
 
@@ -30,27 +30,27 @@ NoneImplied t lits n id = (k : ℕ) (d : ℤ) → k < n → k < length lits → 
 pub record IsNoReason (s : Search) (id : ℕ) : Type 0 where
   pub none : (p : ℕ) (d : ℤ) → p < length s.trail.lits → HasReason (live_in s.clauses) s.trail p → reason_of s.trail (slice_index_or s.trail.lits p d) ≡ id → ⊥
 
--- With one more deletion half of the additions stay, or half of those that the log has at least where it ends open.
+-- Another deletion keeps at least half of all additions, or of `least`.
 abbrev pub HasHalf : Search → Type 0
 HasHalf s = (2 * (s.deleted + 1) ≤ s.least) ⊎ (2 * (s.deleted + 1) + s.given ≤ length s.clauses.clauses)
 
--- The clause of an id is live and was learnt, it is no reason, and half stay without it.
+-- The clause of an id is live, was learnt, is no reason, and its deletion keeps half.
 pub record MayGo (s : Search) (id : ℕ) : Type 0 where
   pub learnt : s.given < id
   pub half : HasHalf s
   pub is_live : IsSome (live_in s.clauses id)
   pub reason : IsNoReason s id
 
--- of the additions, fewer than a quarter are gone, but for as many as there are variables and 2000 more
+-- the log has too many live additions: fewer than a quarter are deleted, with vars + 2000 to spare
 abbrev pub IsThick : Search → Type 0
 IsThick s = s.given + 4 * (s.deleted + s.clauses.vars + 2000) < length s.clauses.clauses
 
--- one clause is gone, and nothing else changed
+-- one clause was deleted, and nothing else changed
 pub record HasLost (id : ℕ) (old new : Search) : Type 0 where
   pub deleted : IsDeleted id old.clauses new.clauses
   pub rest : new ≡ record old { clauses = new.clauses; deleted = old.deleted + 1 }
 
--- Clauses may be gone, and nothing else changed but the log.
+-- Clauses may be deleted, and nothing else changed but the log.
 pub record HasForgotten (old new : Search) : Type 0 where
   pub trail : new.trail ≡ old.trail
   pub starts : new.starts ≡ old.starts
@@ -60,7 +60,7 @@ pub record HasForgotten (old new : Search) : Type 0 where
   pub clauses : length new.clauses.clauses ≡ length old.clauses.clauses
   pub fewer : (id : ℕ) (clause : List ℤ) → live_in new.clauses id ≡ Some clause → live_in old.clauses id ≡ Some clause
 
--- a line more may delete clauses
+-- one line more may delete clauses
 pub record MoreGone (old new : List theory.Line) : Type 0 where
   pub own : ℕ
   pub ids : List ℕ

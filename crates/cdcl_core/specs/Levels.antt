@@ -1,7 +1,7 @@
--- Levels that are taken off.
+-- Decision levels that are dropped (backtracking).
 use Rattle.std.specs.Prelude.{◌≡◌, ℕ, ◌<◌, ◌≤◌, ◌-◌, List, length, slice_index_or, All}
 
--- The starts from `back` on were taken off, and the first of them was `end`.
+-- The starts from `back` on were dropped, and the first of them was `end`.
 pub record IsDropped (back : ℕ) (old new : List ℕ) (end : ℕ) : Type 0 where
   pub fewer : length new < length old
   pub front : (p d : ℕ) → p < length new → slice_index_or new p d ≡ slice_index_or old p d

@@ -1,4 +1,4 @@
--- What holds all through a search.
+-- What holds throughout a search.
 use Rattle.std.specs.Prelude.{◌≡◌, ◌⊎◌, ℕ, ◌+◌, ◌*◌, ◌<◌, ◌≤◌, ℤ, List, length, slice_index_or, All, count_by, Some, is_some}
 use Rattle.sat_theory.specs.Formula.{Formula}
 use Rattle.sat_theory.specs.Line as theory
@@ -21,10 +21,10 @@ pub record IsSearching (s : Search) : Type 0 where
   pub ready : IsReady s.trail.vars s.analysis
   pub choosing : IsChoosing s.trail s.choice
 
--- The lines are a log over the formula that has come to these clauses: each line holds, all clauses of the formula are
--- live, and deletions name additions alone. Ids are given one after another, so the ids behind the formula's are those of
--- the additions. So many of these are gone, half of them at most; or half of those that the log has at least where it ends
--- open, though there are fewer yet.
+-- The lines are a log over the formula whose state is the live clauses: each line holds, all
+-- clauses of the formula are live, and deletions name additions alone. Ids are given one after
+-- another, so those above the formula's are the additions'. Of the additions `deleted` are deleted,
+-- at most half of all, or of `least`, the number that an open log has at least.
 pub record IsLog (f : Formula) (clauses : Stored) (lines : List theory.Line) (deleted least : ℕ) : Type 0 where
   pub vars : clauses.vars ≡ f.vars
   pub holds : EachLine IsStep (start f) lines
@@ -41,24 +41,24 @@ pub record AreNew (f : Formula) (lines : List theory.Line) : Type 0 where
   pub fresh : EachLine IsFresh (start f) lines
   pub some : All AddsSome lines
 
--- the search's lines and clauses are such a log
+-- IsLog of the search's lines and clauses
 pub record IsAccounted (f : Formula) (s : Search) : Type 0 where
   pub log : IsLog f s.clauses s.lines s.deleted s.least
   pub given : s.given ≡ length f.clauses
 
--- and it hasn't come to the empty clause
+-- and the log hasn't added the empty clause
 pub record IsLogged (f : Formula) (s : Search) : Type 0 where
   pub log : IsLog f s.clauses s.lines s.deleted s.least
   pub new : AreNew f s.lines
   pub given : s.given ≡ length f.clauses
 
--- The watched literals keep their promise for the literals that are visited.
+-- The watch invariant holds for the trail literals before `head`.
 pub record IsVisited (s : Search) : Type 0 where
   pub guarded : IsGuarded s.clauses (fell s.trail) s.starts.items s.head
   pub low : s.head ≤ length s.trail.lits
   pub begun : All (λ x. x ≤ s.head) s.starts.items
 
--- The trail went on, and nothing else changed.
+-- The trail grew, and nothing else changed.
 pub record HasBegun (old new : Search) : Type 0 where
   pub vars : new.trail.vars ≡ old.trail.vars
   pub given : new.given ≡ old.given
@@ -68,7 +68,7 @@ pub record HasBegun (old new : Search) : Type 0 where
   pub clauses : new.clauses ≡ old.clauses
   pub starts : new.starts ≡ old.starts
 
--- The trail went on, and clauses may watch other literals.
+-- The trail grew, and clauses may watch other literals.
 pub record HasPropagated (old new : Search) : Type 0 where
   pub rest : IsRest old.clauses new.clauses old.trail new.trail
   pub given : new.given ≡ old.given
@@ -77,7 +77,7 @@ pub record HasPropagated (old new : Search) : Type 0 where
   pub deleted : new.deleted ≡ old.deleted
   pub starts : new.starts ≡ old.starts
 
--- One clause was learnt, for which a level at least was taken off.
+-- One clause was learnt, and at least one level was dropped.
 pub record HasJumped (old new : Search) : Type 0 where
   pub vars : new.trail.vars ≡ old.trail.vars
   pub given : new.given ≡ old.given
@@ -85,7 +85,7 @@ pub record HasJumped (old new : Search) : Type 0 where
   pub clauses : length new.clauses.clauses ≡ length old.clauses.clauses + 1
   pub starts : length new.starts.items < length old.starts.items
 
--- Levels may have been taken off, and the clauses and the log are the same.
+-- Levels may have been dropped; the clauses and the log are the same.
 pub record HasRestarted (old new : Search) : Type 0 where
   pub vars : new.trail.vars ≡ old.trail.vars
   pub given : new.given ≡ old.given
@@ -95,7 +95,8 @@ pub record HasRestarted (old new : Search) : Type 0 where
   pub clauses : new.clauses ≡ old.clauses
   pub starts : length new.starts.items ≤ length old.starts.items
 
--- For each clause that was learnt a level at least was taken off, and where none was learnt the trail is no shorter.
+-- For each learnt clause at least one level was dropped, and where none was learnt the trail is no
+-- shorter.
 pub record HasSettled (old new : Search) : Type 0 where
   pub vars : new.trail.vars ≡ old.trail.vars
   pub given : new.given ≡ old.given

@@ -1,4 +1,4 @@
--- What a visit of a clause leaves.
+-- The outcomes of a visit of a clause.
 use Rattle.std.specs.Prelude.{◌≡◌, ℕ, ◌<◌, ◌≤◌, ◌⊎◌, ℤ, List, slice_index_or}
 use Rattle.sat_theory.specs.Formula.{opposite}
 use Rattle.cdcl_theory.specs.Falling.{IsFalsified}
@@ -11,15 +11,15 @@ use Rattle.cdcl_core.specs.Guarding.{HasTrueAt}
 use Rattle.cdcl_core.specs.declared.visiting.Fate.{Fate}
 use Rattle.cdcl_core.specs.declared.visiting.Fate.TheVariants.{Kept, Moved, Falsified}
 
--- the id at an index in a literal's list
+-- the id at an index in the watch list of a literal
 abbrev pub id_at : Stored → ℤ → ℕ → ℕ
 id_at s l index = slice_index_or (list_of s.watches l) index 0
 
--- the literals in a range of places have fallen
+-- the literals at the indices from low to high have fallen
 abbrev pub AreDown : Trailed → List ℤ → ℕ → ℕ → Type 0
 AreDown t lits low high = (k : ℕ) (d : ℤ) → low ≤ k → k < high → 0 < fell t (slice_index_or lits k d)
 
--- the blocking literals in a range of places are true
+-- the blocking literals at the indices from low to high are true
 abbrev pub AreTrue : Trailed → List Watch → ℕ → ℕ → Type 0
 AreTrue t watches low high = (k : ℕ) (d : Watch) → low ≤ k → k < high → 0 < fell t (opposite (slice_index_or watches k d).blocker)
 
@@ -29,7 +29,7 @@ pub record IsKept (a b : Stored) (s t : Trailed) (l : ℤ) (index : ℕ) : Type 
   pub grown : IsGrown (live_in b) s t
   pub on : HasTrueAt b (fell t) (id_at b l index)
 
--- The clause watches another literal, which hasn't fallen.
+-- The clause watches another literal, which isn't false.
 pub record IsMoved (a b : Stored) (s t : Trailed) (l : ℤ) (index : ℕ) : Type 0 where
   pub same : t ≡ s
   pub to : ℤ
@@ -48,7 +48,8 @@ IsFate a b s t l index Kept = IsKept a b s t l index
 IsFate a b s t l index Moved = IsMoved a b s t l index
 IsFate a b s t l index (Falsified id) = IsFound a b s t id
 
--- The clauses are as they were, the trail went on, and what a clause watches it watched before, or it hadn't fallen.
+-- The clauses are unchanged, the trail grew, and each watch is an old one, or its literal wasn't
+-- false before.
 pub record IsRest (a b : Stored) (s t : Trailed) : Type 0 where
   pub clauses : b.clauses ≡ a.clauses
   pub vars : b.vars ≡ a.vars

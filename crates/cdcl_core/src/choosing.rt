@@ -1,13 +1,14 @@
-//! Which variable a search decides on, and with which sign. It is a variable without a value whose score is
-//! greatest, where the variables of late conflicts score high (Moskewicz and others, "Chaff", 2001; Eén and
-//! Sörensson, "An extensible SAT-solver", 2003), and it gets the value that it had last (Pipatsrisawat and
-//! Darwiche, "A lightweight component caching scheme for satisfiability solvers", 2007). Half of
-//! what a conflict adds goes besides to the variables of the reasons of the learnt clause's other literals, once
-//! for each reason (after the reason side rate of Liang, Ganesh, Poupart and Czarnecki, "Learning rate based
+//! Decisions: which variable a search decides on, and with which sign. It is a variable without a
+//! value with the greatest score, where a conflict bumps its variables and late conflicts count
+//! more (VSIDS: Moskewicz and others, "Chaff", 2001; Eén and Sörensson, "An extensible SAT-solver",
+//! 2003), and it gets the value that it had last (phase saving: Pipatsrisawat and Darwiche, "A
+//! lightweight component caching scheme for satisfiability solvers", 2007). The variables in the
+//! reasons of the learnt clause's other literals are bumped by half of the step, once for each
+//! reason (after the reason side rate of Liang, Ganesh, Poupart and Czarnecki, "Learning rate based
 //! branching heuristic for SAT solvers", 2016).
 //!
-//! Going back puts the variables that lose their values into the heap again, and only decisions take out
-//! any. So a heap that is empty says that all variables have values.
+//! Backtracking puts the variables that lose their values back into the heap, and only decisions
+//! take any out. So where the heap is empty, all variables have values.
 ghost use Rattle.std.specs.Prelude.{◌≡◌, ℕ, ℤ, ◌+◌, ◌<◌, ◌≤◌, IfOk, IfSome, IfNone};
 ghost use Rattle.sat_theory.specs.Formula.{variable as variable_of, IsWithin};
 ghost use Rattle.cdcl_theory.specs.Trails.{Trailed, IsTrail, IsBack, pushed};
@@ -20,32 +21,32 @@ use std::alloc::{AllocError, Global};
 use trail_core::Trail;
 use var_heap::VarHeap;
 
-/// What the first conflict adds to the scores of the variables that it marks.
+/// What the first conflict adds to the scores of its variables.
 const FIRST_STEP: u64 = 1 << 40;
 
-/// Where all scores are halved, and the step with them.
+/// The step above which all scores are halved, and the step with them (rescaling).
 const GREATEST_STEP: u64 = 1 << 56;
 
-/// With each conflict the step grows by this part of itself.
+/// Each conflict makes the step greater by this part of it (the decay of older bumps).
 const STEP_PART: u64 = 16;
 
-/// The variables of a reason score the step divided by this.
+/// The variables of a reason are bumped by the step divided by this.
 const REASON_PART: u64 = 2;
 
-/// The variables to decide on, with their scores and signs.
+/// The decision variables, with their scores and saved phases.
 #[derive(Drop)]
 pub(crate) struct Choice {
     pub(crate) heap: VarHeap,
-    /// by variable: whether it was true when it last had a value
+    /// by variable, the saved phase: whether it was true when it last had a value
     pub(crate) signs: Vec<bool>,
-    /// what a conflict adds to the scores of its variables
+    /// what a conflict adds to the scores of its variables (the activity increment)
     pub(crate) step: u64,
 }
 
 impl Choice {
     ghost use Rattle.cdcl_core.specs.Choosing.{IsChoosing};
 
-    /// All variables with the same score; each is to be true first.
+    /// All variables with the same score; each is decided to be true first.
     pub(crate) fn new(alloc: Global, vars: u32) -> Result<Choice, AllocError>
         ensures { IfOk result (λ c. (t : Trailed) → t.vars ≡ vars → IsChoosing t c) }
     {
@@ -56,7 +57,8 @@ impl Choice {
         })
     }
 
-    /// Takes out a variable without a value, whose score is greatest, and gives the literal to decide on.
+    /// Takes out a variable without a value of greatest score, and answers the literal to decide
+    /// on.
     pub(crate) fn take_free(&mut self, trail: &Trail) -> Option<Lit>
         requires whole { IsTrail trail.now }
         requires choosing { IsChoosing trail.now self.old }
@@ -75,8 +77,8 @@ impl Choice {
         None
     }
 
-    /// Puts the variables of the literals behind the first `from` in again, and notes their signs, before
-    /// the trail goes back to there.
+    /// Puts the variables of the trail from index `from` on back into the heap, and saves their
+    /// phases, before the trail is cut back to there.
     pub(crate) fn release(&mut self, trail: &Trail, from: usize)
         requires whole { IsTrail trail.now }
         requires choosing { IsChoosing trail.now self.old }
@@ -89,7 +91,7 @@ impl Choice {
         }
     }
 
-    /// Adds `score` to the scores of the variables of literals.
+    /// Adds `score` to the scores of the variables of `lits`.
     fn add(&mut self, lits: &[Lit], score: u64)
         requires { IsWithin self.old.heap.vars lits.now }
         ensures { (t : Trailed) → IsChoosing t self.old → IsChoosing t self.new }
@@ -99,7 +101,7 @@ impl Choice {
         }
     }
 
-    /// Adds the step to the scores of the variables of literals.
+    /// Bumps the variables of `lits`: adds the step to their scores.
     pub(crate) fn bump(&mut self, lits: &[Lit])
         requires { IsWithin self.old.heap.vars lits.now }
         ensures { (t : Trailed) → IsChoosing t self.old → IsChoosing t self.new }
@@ -108,7 +110,7 @@ impl Choice {
         self.add(lits, step);
     }
 
-    /// Adds a part of the step to the scores of the variables of the reasons of fallen literals.
+    /// Bumps the variables in the reasons of fallen literals by a part of the step.
     pub(crate) fn bump_reasons(&mut self, trail: &Trail, clauses: &ClauseDb, lits: &[Lit])
         requires vars { clauses.now.vars ≡ trail.now.vars }
         requires within { IsWithin trail.now.vars lits.now }
@@ -125,7 +127,7 @@ impl Choice {
         }
     }
 
-    /// Lets the next conflict count more than those before.
+    /// Makes the step greater, so that the next conflict counts more than those before.
     pub(crate) fn grow(&mut self)
         ensures { (t : Trailed) → IsChoosing t self.old → IsChoosing t self.new }
     {

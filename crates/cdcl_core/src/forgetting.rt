@@ -1,8 +1,8 @@
-//! How a search forgets learnt clauses: they go from the clauses, and the log says so. A clause that is the reason of a
-//! true literal stays, so that all that is learnt later can be shown; and never more than half of what was learnt is
-//! gone, or of what has to be learnt before a log may end open, so that such a log keeps half of its additions (`half` of
-//! `IsLog`). Which clauses go is chosen in `merits`. When a search has ended, no reason is needed any more, and what a log
-//! has too much of goes in the order of ids.
+//! How a search forgets learnt clauses (reduceDB): they go from the clauses, and the log gets a
+//! deletion. The reason of a true literal stays, so that all that is learnt later can be derived;
+//! and at most half of the learnt clauses, or of `least`, are ever deleted, so a log that ends open
+//! keeps half of its additions (`half` of `IsLog`). Which clauses go is chosen in `merits`. When a
+//! search has ended, no reason is needed any more, and the log is thinned in the order of ids.
 ghost use Rattle.std.specs.Prelude.{◌≡◌, ◌<◌, ◌↔◌, length, IsTrue, IsFalse, IsSome, OnOk};
 ghost use Rattle.sat_theory.specs.Formula.{Formula, IsWithin};
 ghost use Rattle.sat_theory.specs.Log.{IsThinned};
@@ -14,10 +14,10 @@ use cnf_core::Lit;
 use std::alloc::AllocError;
 use trail_core::Trail;
 
-/// A log may have so many live additions without any deletion.
+/// The number of live additions that a log may have without any deletion.
 const SLACK: u64 = 2000;
 
-/// Whether one of these literals is true by the clause of an id.
+/// Whether one of `lits` is true with the clause of `id` as its reason.
 fn has_implied(trail: &Trail, lits: &[Lit], id: u32) -> bool
     requires { IsWithin trail.now.vars lits.now }
     ensures { IsFalse result → NoneImplied trail.now lits.now (length lits.now) id }
@@ -35,7 +35,7 @@ impl Search {
     ghost use Rattle.cdcl_core.specs.Searching.{IsSearching, IsVisited, IsAccounted, IsLogged};
     ghost use Rattle.cdcl_core.specs.Forgetting.{with_gone, IsPending, IsNoReason, HasHalf, MayGo, IsThick, HasLost, HasForgotten, MoreGone};
 
-    /// Whether a live clause is the reason of a true literal.
+    /// Whether a live clause is the reason of a true literal (is locked).
     fn is_reason(&self, id: u32) -> bool
         requires searching { IsSearching self.now }
         requires live { IsSome (live_in self.now.clauses id) }
@@ -44,7 +44,7 @@ impl Search {
         has_implied(&self.trail, self.clauses.lits(id), id)
     }
 
-    /// Whether one more learnt clause may go, so that half of them stay, or of those that an open log has at least.
+    /// Whether another deletion keeps at least half of all additions, or of `least`.
     fn has_half(&self) -> bool
         ensures { IsTrue result ↔ HasHalf self.now }
     {
@@ -53,7 +53,7 @@ impl Search {
             || u64::from(self.clauses.last()) >= u64::from(self.given) + both
     }
 
-    /// Whether a clause may go.
+    /// Whether a clause may be deleted.
     fn may_go(&self, id: u32) -> bool
         requires searching { IsSearching self.now }
         ensures { IsTrue result → MayGo self.now id }
@@ -64,7 +64,7 @@ impl Search {
         !self.is_reason(id)
     }
 
-    /// Lets a learnt clause go, and puts its id to those that the next line deletes.
+    /// Deletes a learnt clause, and adds its id to `gone`, those that the next line deletes.
     fn let_go(&mut self, id: u32, gone: &mut Vec<u32>) -> Result<(), AllocError>
         requires live { IsSome (live_in self.old.clauses id) }
         requires learnt { self.old.given < id }
@@ -80,7 +80,7 @@ impl Search {
         Ok(())
     }
 
-    /// Writes the line that deletes ids, if there are any.
+    /// Writes the line that deletes the ids of `gone`, if there are any.
     fn write_gone(&mut self, gone: &[u32]) -> Result<(), AllocError>
         ensures lines { OnOk result (self.new.lines ≡ with_gone self.old.lines (length self.old.clauses.clauses) gone.now) }
         ensures same { OnOk result (self.new ≡ record self.old { lines = self.new.lines }) }
@@ -92,7 +92,7 @@ impl Search {
         Ok(())
     }
 
-    /// Lets those of the clauses of some ids go that may go.
+    /// Deletes the clauses of `ids` that may be deleted.
     pub(crate) fn forget(&mut self, ids: &[u32]) -> Result<(), AllocError>
         requires searching { IsSearching self.old }
         requires visited { IsVisited self.old }
@@ -112,7 +112,7 @@ impl Search {
         Ok(())
     }
 
-    /// Notes the clause that was learnt last, and forgets those before it that contain it.
+    /// Notes the clause that was learnt last, and deletes recent ones that it subsumes.
     pub(crate) fn review(&mut self) -> Result<(), AllocError>
         requires searching { IsSearching self.old }
         requires visited { IsVisited self.old }
@@ -126,7 +126,7 @@ impl Search {
         Ok(())
     }
 
-    /// Notes the clause that was learnt last, and gives the ids of the few before it that contain it.
+    /// Notes the clause that was learnt last, and answers the ids of recent ones that it subsumes.
     fn note_last(&mut self) -> Result<Vec<u32>, AllocError>
         requires searching { IsSearching self.old }
         ensures { self.new ≡ record self.old { merits = self.new.merits } }
@@ -141,7 +141,7 @@ impl Search {
         self.merits.containing(alloc, &self.clauses, lits)
     }
 
-    /// Forgets idle clauses, where it is time for that, and takes back their room.
+    /// Deletes idle clauses when that is due, and frees their room.
     pub(crate) fn tidy(&mut self) -> Result<(), AllocError>
         requires searching { IsSearching self.old }
         requires visited { IsVisited self.old }
@@ -159,7 +159,7 @@ impl Search {
         Ok(())
     }
 
-    /// The ids of idle clauses, where it is time for them to go.
+    /// The ids of the idle clauses that are to be deleted, when that is due.
     fn due_ones(&mut self) -> Result<Vec<u32>, AllocError>
         ensures { self.new ≡ record self.old { merits = self.new.merits } }
     {
@@ -179,7 +179,7 @@ impl Search {
                 + 4 * (u64::from(self.deleted) + u64::from(self.clauses.vars()) + SLACK)
     }
 
-    /// Lets learnt clauses go, the first ones first, until few enough are live.
+    /// Deletes learnt clauses, the first ones first, until few enough are live.
     fn thin_out(&mut self, gone: &mut Vec<u32>) -> Result<(), AllocError>
         requires stored { IsStored self.old.clauses }
         ensures lines { OnOk result (self.new.lines ≡ self.old.lines) }
@@ -200,8 +200,8 @@ impl Search {
         Ok(())
     }
 
-    /// Lets learnt clauses go until the log has few enough of them. They may be reasons, so this is the end of a
-    /// search.
+    /// Deletes learnt clauses until the log has few enough live ones. They may be reasons, so this
+    /// is the end of a search.
     pub(crate) fn thin(&mut self) -> Result<(), AllocError>
         requires stored { IsStored self.old.clauses }
         ensures gone { OnOk result (MoreGone self.old.lines self.new.lines) }

@@ -1,5 +1,5 @@
-//! What a clause says under the values of a trail. The search asks this of the clauses of one literal alone, since
-//! the others are watched; the definitions are those that watched propagation has to meet.
+//! What a clause says under the values of a trail. The search judges only clauses of one literal,
+//! since the others are watched; the definitions are those that watched propagation has to meet.
 ghost use Rattle.sat_theory.specs.Formula.{IsClause, IsWithin};
 ghost use Rattle.cdcl_theory.specs.Trails.{fell as fell_of};
 ghost use Rattle.cdcl_core.specs.Verdicts.{IsVerdict};

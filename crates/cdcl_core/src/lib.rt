@@ -1,9 +1,10 @@
-//! The solver: it decides a formula in conjunctive normal form by learning clauses from conflicts, and
-//! writes a log that a checker of refutations accepts (Marques-Silva and Sakallah, "GRASP", 1999; Moskewicz
-//! and others, "Chaff", 2001; Knuth, TAOCP 7.2.2.2). It stands on `sat_theory` for what an answer means.
+//! A solver by conflict-driven clause learning (CDCL): it decides a formula in conjunctive normal form,
+//! and writes a log that a checker of refutations accepts (Marques-Silva and Sakallah, "GRASP", 1999;
+//! Moskewicz and others, "Chaff", 2001; Knuth, TAOCP 7.2.2.2). `sat_theory` says what an answer means.
 //!
-//! The theorem is that of `solve`: Sat comes only with an assignment that satisfies the formula, Unsat only
-//! with a log that refutes it, and Open only with a log that holds and has spent the budget on new clauses.
+//! The theorem is that of `solve`: Sat comes only with an assignment that satisfies the formula, Unsat
+//! only with a log that refutes it, and Open only with a log that holds and has spent the budget on
+//! new clauses.
 //!
 //! ```text
 //! match solve(alloc, &cnf, 100000)? {
@@ -12,6 +13,36 @@
 //!     Solved::Open(log) => ..,     // at least 100000 additions, each of a new clause
 //! }
 //! ```
+//!
+//! The words of the solver, and those of MiniSat and CaDiCaL:
+//!
+//! | Here | MiniSat, CaDiCaL |
+//! |---|---|
+//! | a literal has fallen, stands | its value is false, isn't false |
+//! | `fell(lit)`, place | 1 + the trail position where `lit` became false; 0 where it isn't |
+//! | `starts` | `trail_lim`, `control`: where decision levels begin on the trail |
+//! | `head` | `qhead`, `propagated` |
+//! | `given` | the number of original (irredundant) clauses |
+//! | `Choice`: `take_free` | decision heap: `pickBranchLit`, `decide` |
+//! | `signs` | saved phases |
+//! | `step`, `bump`, `grow` | `var_inc`, `varBumpActivity`, `varDecayActivity` with rescaling |
+//! | `release`, then `back_to` | `cancelUntil`, `backtrack` |
+//! | `go_down` | backtrack to level 0, a restart |
+//! | `begin`, `push_units` | assignment of the unit clauses at level 0 |
+//! | `visit`, `first_standing`, `besides` | inner loop of `propagate`, replacement watch, other watch |
+//! | `blocker` | blocking literal |
+//! | `jump` | `analyze`, backjump, assignment of the asserting literal |
+//! | `settle` | propagate, and learn until there is no conflict |
+//! | `Walk`, `touched`, `reduce` | `analyze`, the literals marked `seen`, up to the first UIP |
+//! | `Redundancy`, `resolve_away`, `shorten` | `litRedundant`, minimisation, by binary clauses (Glucose) |
+//! | `Merits`: activity, `levels`, `shape` | clause activity, LBD (glue), signature |
+//! | `tidy`, `idle`, `forget` | `reduceDB`, its candidates, deletion |
+//! | `review`, `containing` | eager subsumption of recent learnt clauses |
+//! | log, line, hint | LRAT proof, its step, antecedent id |
+//! | kept, thrifty | at least half of the additions are live at the end |
+//! | thinned, `thin` | at most about three quarters are; the deletions at the end for that |
+//! | `Ending`: `Valued`, `Refuted`, `Spent` | SAT, UNSAT, limit reached |
+//! | `IsGuarded`, `IsVisited`, `IsSettled` | watch invariant, it up to `head`, neither unit nor falsified |
 #![tactic(auto)]
 
 mod answering;

@@ -1,12 +1,13 @@
-//! What the learnt clauses were good for so far, and which of them a search may as well forget. Nothing is promised
-//! here: the search asks of each clause that is named whether it may go, so that a bad choice costs time and never an
-//! answer.
+//! What is known of the learnt clauses' use, and which of them are candidates for deletion. Nothing
+//! is promised here: the search checks of each candidate whether it may be deleted, so a bad choice
+//! costs time and never an answer.
 //!
-//! A clause is idle where it has three literals or more, was learnt over five levels or more (Audemard and Simon,
-//! "Predicting learnt clauses quality in modern SAT solvers", 2009) and had no part in late conflicts. From time to
-//! time half of the idle ones go: those that had a part in fewer conflicts, of which late ones count more (Eén and
-//! Sörensson, "An extensible SAT-solver", 2003). And where the clause that was learnt last is contained in one of the
-//! few before it, that one says less and goes at once (Biere and others, "CaDiCaL", 2020).
+//! A clause is idle (a candidate) where it has at least three literals, was learnt over at least
+//! five levels (its LBD or glue: Audemard and Simon, "Predicting learnt clauses quality in modern
+//! SAT solvers", 2009) and had no part in recent conflicts. From time to time the less active half
+//! of the idle ones goes, where late conflicts count more for the activity (Eén and Sörensson, "An
+//! extensible SAT-solver", 2003). And where the clause that was learnt last subsumes one of the few
+//! before it, that one goes at once (Biere and others, "CaDiCaL", 2020).
 ghost use Rattle.sat_theory.specs.Formula.{IsWithin};
 
 use clause_db::ClauseDb;
@@ -14,38 +15,38 @@ use cnf_core::Lit;
 use std::alloc::{AllocError, Global};
 use trail_core::Trail;
 
-/// What a part in the first conflict counts.
+/// What a part in the first conflict adds to the activity of a clause.
 const FIRST_STEP: u64 = 1 << 20;
 
-/// Where the step is greater, all activities are made smaller, and the step with them.
+/// The step above which all activities are divided, and the step with them (rescaling).
 const GREATEST_STEP: u64 = 1 << 60;
 
-/// By how much they are made smaller.
+/// The divisor of that.
 const SCALE: u64 = 1 << 40;
 
-/// With each conflict the step grows by this part of itself.
+/// Each conflict makes the step greater by this part of it.
 const STEP_PART: u64 = 1000;
 
-/// Clauses over so many levels at most stay.
+/// Clauses over at most this number of levels (LBD) stay.
 const FEW_LEVELS: u32 = 4;
 
-/// Clauses that had a part in one of so many last conflicts stay.
+/// Clauses that had a part in one of this number of last conflicts stay.
 const RECENT: usize = 2000;
 
-/// So many conflicts are to come before the first clauses go: short searches gain nothing by it.
+/// The number of conflicts before the first deletion: short searches gain nothing by one.
 const FIRST_DUE: usize = 2000;
 
-/// So many and the next number are to come before the second time.
+/// With `LONGER_WAIT` added, the number of conflicts from the first deletion to the second.
 const FIRST_WAIT: usize = 2000;
 
-/// And so many more each time.
+/// How much longer each wait is than the one before.
 const LONGER_WAIT: usize = 75;
 
-/// So many clauses before the one that was learnt last are looked at whether they contain it.
+/// The number of clauses before the last one that are tested for being subsumed by it.
 const LAST_ONES: usize = 20;
 
-/// The shapes of so many last clauses are known: more than `LAST_ONES`, since the last clause is one of them besides
-/// those that are looked at.
+/// The number of last clauses whose signatures are kept: more than `LAST_ONES`, since the last
+/// clause is one of them too.
 const RING: usize = 32;
 
 /// What is known of a learnt clause.
@@ -54,29 +55,30 @@ struct Merit {
     activity: u64,
     /// the number of the last conflict that it had a part in
     used: u32,
-    /// over how many levels its literals stood
+    /// the number of levels of its literals when it was learnt (LBD)
     levels: u32,
 }
 
 /// What is known of the learnt clauses, in the order of their ids.
 #[derive(Drop)]
 pub(crate) struct Merits {
-    /// the ids behind this are of learnt clauses
+    /// ids above this are those of learnt clauses
     given: u32,
     merits: Vec<Merit>,
-    /// of the last clauses, by the last digits of their index: a bit for each of the literals, which others may share
+    /// the signatures of the last clauses, by index modulo `RING`: a bit for each literal, maybe
+    /// shared
     shapes: [u64; RING],
     /// what a part in the next conflict counts
     step: u64,
-    /// by level: the number of the last conflict that was counted there
+    /// by level, the number of the last conflict that counted it
     counted: Vec<usize>,
-    /// the number of the conflict behind which clauses go next
+    /// the number of the conflict after which clauses are deleted next
     due: usize,
     wait: usize,
 }
 
 impl Merits {
-    /// No learnt clause yet, behind so many clauses over so many variables.
+    /// No learnt clause yet, after `given` clauses over `vars` variables.
     pub(crate) fn new(alloc: Global, given: u32, vars: u32) -> Result<Merits, AllocError> {
         Ok(Merits {
             given,
@@ -89,7 +91,7 @@ impl Merits {
         })
     }
 
-    /// Lets the learnt clauses among these count for the conflict that they had a part in.
+    /// Bumps the learnt clauses among those that a conflict was derived from.
     pub(crate) fn count_parts(&mut self, ids: &[u32]) {
         let number = self.merits.len();
         let used = short(number);
@@ -109,7 +111,7 @@ impl Merits {
         }
     }
 
-    /// Makes all activities smaller, where the step has become great.
+    /// Makes the step greater; above the bound all activities are rescaled.
     fn grow(&mut self) {
         self.step = self.step.saturating_add(self.step / STEP_PART);
         if self.step <= GREATEST_STEP {
@@ -125,8 +127,8 @@ impl Merits {
         }
     }
 
-    /// Over how many levels the literals of a learnt clause stand that have fallen, and one more for that of the
-    /// conflict.
+    /// The number of levels of a learnt clause (LBD): those of its fallen literals, and one for the
+    /// level of the conflict.
     fn levels(&mut self, trail: &Trail, starts: &[usize], lits: &[Lit]) -> u32
         requires { IsWithin trail.now.vars lits.now }
     {
@@ -164,7 +166,7 @@ impl Merits {
         Ok(())
     }
 
-    /// The ids of those of the few clauses before the last one that contain it.
+    /// The ids of recent clauses that the last one subsumes.
     pub(crate) fn containing(
         &self,
         alloc: Global,
@@ -194,7 +196,7 @@ impl Merits {
         self.given.saturating_add(1).saturating_add(short(index))
     }
 
-    /// Whether it is time for idle clauses to go. If so, the next time is set.
+    /// Whether a deletion is due. If so, the next one is scheduled.
     pub(crate) fn is_due(&mut self) -> bool {
         if self.merits.len() < self.due {
             return false;
@@ -204,7 +206,7 @@ impl Merits {
         true
     }
 
-    /// Whether the clause at an index is idle.
+    /// Whether the clause at an index is idle: a candidate for deletion.
     fn is_idle(&self, clauses: &ClauseDb, index: usize) -> bool {
         if index >= self.merits.len() {
             return false;
@@ -228,7 +230,7 @@ impl Merits {
         Ok(activities)
     }
 
-    /// The ids of the idle clauses of which half are more active.
+    /// The ids of the less active half of the idle clauses.
     pub(crate) fn idle(&self, alloc: Global, clauses: &ClauseDb) -> Result<Vec<u32>, AllocError> {
         let mut ids = Vec::new(alloc);
         let mut activities = self.activities(alloc, clauses)?;
@@ -245,12 +247,12 @@ impl Merits {
     }
 }
 
-/// A number in 32 bits; a greater one is the greatest of these.
+/// A number in 32 bits, saturating.
 fn short(number: usize) -> u32 {
     number.min(u32::MAX as usize) as u32
 }
 
-/// A bit for each literal, by the last digits of its place in tables.
+/// The signature of a clause: a bit for each literal, by its code modulo 64.
 fn shape(lits: &[Lit]) -> u64 {
     let mut bits = 0;
     for lit in lits {
@@ -259,7 +261,7 @@ fn shape(lits: &[Lit]) -> u64 {
     bits
 }
 
-/// Whether a literal is one of these.
+/// Whether `lit` is one of `lits`.
 fn has(lits: &[Lit], lit: Lit) -> bool {
     for other in lits {
         if *other == lit {
@@ -269,7 +271,7 @@ fn has(lits: &[Lit], lit: Lit) -> bool {
     false
 }
 
-/// Whether literals are all among others.
+/// Whether all literals of `inside` are among `lits`.
 fn contains_all(lits: &[Lit], inside: &[Lit]) -> bool {
     for lit in inside {
         if !has(lits, *lit) {

@@ -1,19 +1,20 @@
-//! When a search goes back to the bottom and decides anew: after runs of conflicts whose lengths follow Luby's
-//! sequence (Luby, Sinclair and Zuckerman, "Optimal speedup of Las Vegas algorithms", 1993). The clauses, the
-//! scores and the signs stay, so a restart loses little, and no answer rests on when it comes.
+//! Restarts: a search goes back to level 0 and decides anew after runs of conflicts whose lengths
+//! follow Luby's sequence (Luby, Sinclair and Zuckerman, "Optimal speedup of Las Vegas algorithms",
+//! 1993). The clauses, the scores and the saved phases stay, so a restart loses little, and no
+//! answer depends on when it comes.
 ghost use Rattle.std.specs.Prelude.{◌≡◌, ℕ, ◌+◌, ◌-◌, ◌*◌, ◌%◌, ◌^◌, ◌<◌, ◌≤◌, IsTrue, IsFalse};
 ghost use Rattle.cdcl_core.specs.Luby.{IsLuby, IsPowerUpTo};
 
-/// How many conflicts the shortest runs have.
+/// The number of conflicts of the shortest runs.
 const SHORTEST_RUN: u64 = 80;
 
-/// Behind so many runs the sequence begins anew.
+/// The number of runs after which the sequence begins anew.
 const RUNS: u32 = 2147483647;
 
-/// The run of conflicts that is going on.
+/// The current run of conflicts.
 #[derive(Drop)]
 pub(crate) struct Restarts {
-    /// its place in the sequence, from 1 on
+    /// its index in the sequence, from 1 on
     pub(crate) run: u32,
     /// how many of its conflicts are still to come
     pub(crate) left: u64,
@@ -28,7 +29,7 @@ impl Restarts {
         }
     }
 
-    /// Counts a conflict, and tells whether a run ended with it.
+    /// Counts a conflict, and answers whether a run ended with it.
     pub(crate) fn count(&mut self) -> bool
         ensures goes_on { IsFalse result → self.new ≡ record self.old { left = self.old.left - 1 } }
         ensures due { IsTrue result → self.old.left ≤ 1 }
@@ -60,7 +61,7 @@ fn luby(index: u32) -> u32
     power
 }
 
-/// The greatest power of 2 up to a number.
+/// The greatest power of 2 that isn't above `number`.
 fn greatest_power(number: u32) -> u32
     requires some { 0 < number }
     requires small { number < 2 ^ 31 }

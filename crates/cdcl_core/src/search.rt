@@ -1,6 +1,7 @@
-//! The search: it propagates, learns a clause from each conflict and goes back to where that is unit, and begins
-//! a level with a decision where none is left, until all variables have values, the empty clause follows, or the
-//! budget is spent. What holds all through is `IsSearching`, and what the watches promise is `IsVisited`.
+//! The search (CDCL): it propagates, learns a clause from each conflict and backjumps to where that
+//! is unit, and begins a level with a decision where there is no conflict, until all variables have
+//! values, the empty clause follows, or the budget is spent. The invariant of the whole is
+//! `IsSearching`, that of the watches `IsVisited`.
 ghost use Rattle.std.specs.Prelude.{◌≡◌, ◌+◌, ◌<◌, ◌≤◌, ◌↔◌, [], length, IsTrue, IfOk, OnOk, IfSome, IfNone};
 ghost use Rattle.sat_theory.specs.Formula.{Formula};
 ghost use Rattle.cdcl_theory.specs.Falling.{AllSettled, IsFalsified};
@@ -22,8 +23,8 @@ use log_core::Log;
 use std::alloc::{AllocError, Global};
 use trail_core::Trail;
 
-/// The state of a search: the clauses of the formula and those that were learnt, the literals that are
-/// true, where the levels of decisions begin, and the log so far.
+/// The state of a search: the clauses of the formula and the learnt ones, the trail, where the
+/// decision levels begin, and the log so far.
 #[derive(Drop)]
 pub(crate) struct Search {
     pub(crate) clauses: ClauseDb,
@@ -31,16 +32,16 @@ pub(crate) struct Search {
     pub(crate) starts: Vec<usize>,
     pub(crate) analysis: Analysis,
     pub(crate) lines: Log,
-    /// how many clauses the formula has: the ids behind these are of additions
+    /// the number of clauses of the formula: greater ids are those of additions
     pub(crate) given: u32,
-    /// how many literals of the trail are visited
+    /// the number of trail literals that are propagated
     pub(crate) head: usize,
     pub(crate) choice: Choice,
     pub(crate) restarts: Restarts,
     pub(crate) merits: Merits,
-    /// how many learnt clauses are gone
+    /// the number of learnt clauses that are deleted
     pub(crate) deleted: u32,
-    /// so many additions the log has at least where it ends open
+    /// the least number of additions of the log where it ends open
     pub(crate) least: u32,
 }
 
@@ -58,7 +59,8 @@ impl Search {
     ghost use Rattle.cdcl_core.specs.Searching.{IsSearching, IsVisited, IsLogged, HasBegun, HasPropagated, HasJumped, HasRestarted, HasSettled, HasDecided};
     ghost use Rattle.cdcl_core.specs.Endings.{Ends, HasRefuted};
 
-    /// A search over a formula, before its first step. Where its log ends open, it is to have `least` additions or more.
+    /// A search over a formula, before its first step. Where its log ends open, it has at least
+    /// `least` additions.
     pub(crate) fn new(alloc: Global, cnf: &Cnf, least: u32) -> Result<Search, AllocError>
         ensures searching { IfOk result IsSearching }
         ensures logged { IfOk result (IsLogged cnf.now) }
@@ -70,7 +72,8 @@ impl Search {
     {
         let vars = cnf.vars();
         let given = cnf.clauses().len() as u32;
-        // The greatest parts come last, so that the fewest have to go where memory gives out.
+        // The greatest parts come last, so that where memory runs out the fewest have to be
+        // dropped.
         let merits = Merits::new(alloc, given, vars)?;
         let trail = Trail::new(alloc, vars)?;
         let choice = Choice::new(alloc, vars)?;
@@ -92,8 +95,8 @@ impl Search {
         })
     }
 
-    /// Makes the clauses of one literal true, which watch nothing. What follows from them comes by the watched
-    /// literals.
+    /// Assigns the literals of unit clauses, which aren't watched, at level 0. What follows from
+    /// them is found by propagation.
     #[tactic(auto, using(crate::proofs::Settling::searching_grown))]
     fn begin(&mut self) -> Result<Option<u32>, AllocError>
         requires searching { IsSearching self.old }
@@ -107,7 +110,7 @@ impl Search {
         push_units(&mut self.trail, &self.clauses)
     }
 
-    /// Makes true what follows, by the watched literals.
+    /// Unit propagation by watched literals.
     fn propagate(&mut self) -> Result<Option<u32>, AllocError>
         requires searching { IsSearching self.old }
         requires visited { IsVisited self.old }
@@ -126,8 +129,8 @@ impl Search {
         }
     }
 
-    /// Learns a clause from a conflict in the last level, which begins at index `start`, goes back to
-    /// where the clause is unit, and makes its literal true.
+    /// Learns a clause from a conflict in the last level, which begins at trail index `start`,
+    /// backjumps to where the clause is unit, and assigns its literal.
     fn jump(&mut self, conflict: u32, start: usize) -> Result<(), AllocError>
         requires searching { IsSearching self.old }
         requires level { IsLastStart self.old.starts.items start }
@@ -164,7 +167,7 @@ impl Search {
         Ok(())
     }
 
-    /// Takes off all levels, of which the first begins at index `first`.
+    /// Backtracks to level 0; the first level begins at trail index `first`.
     fn go_down(&mut self, first: usize)
         requires searching { IsSearching self.old }
         requires visited { IsVisited self.old }
@@ -180,7 +183,7 @@ impl Search {
         self.head = first;
     }
 
-    /// Counts a conflict, and takes off all levels where a run of conflicts ends with it.
+    /// Counts a conflict, and restarts where a run of conflicts ends with it.
     fn restart(&mut self)
         requires searching { IsSearching self.old }
         requires visited { IsVisited self.old }
@@ -198,7 +201,7 @@ impl Search {
         self.go_down(first);
     }
 
-    /// Propagates, and learns from each conflict, until none is left, or one with no decision standing.
+    /// Propagates, and learns from each conflict, until there is none, or one at level 0.
     fn settle(&mut self) -> Result<Option<u32>, AllocError>
         requires searching { IsSearching self.old }
         requires visited { IsVisited self.old }
@@ -224,15 +227,15 @@ impl Search {
         Ok(None)
     }
 
-    /// Whether the log has so many additions.
+    /// Whether the log has at least `budget` additions.
     fn has_spent(&self, budget: u32) -> bool
         ensures { IsTrue result ↔ (self.now.given + budget ≤ length self.now.clauses.clauses) }
     {
         u64::from(self.clauses.last()) >= u64::from(self.given) + u64::from(budget)
     }
 
-    /// Begins a level with a literal of a variable without a value. There is no such variable at the end of
-    /// a search that shows values, and none is decided on when the budget is spent.
+    /// Begins a level with a decision. Where all variables have values the search ends with them,
+    /// and where the budget is spent it ends open.
     fn decide(&mut self, budget: u32) -> Result<Option<Ending>, AllocError>
         requires searching { IsSearching self.old }
         requires settled { AllSettled (live_in self.old.clauses) (fell_of self.old.trail) }
@@ -257,7 +260,7 @@ impl Search {
         Ok(None)
     }
 
-    /// Adds the empty clause.
+    /// Adds the empty clause to the log.
     fn refute(&mut self, conflict: u32) -> Result<(), AllocError>
         requires searching { IsSearching self.old }
         requires few { length self.old.clauses.clauses < 4000000000 }
@@ -275,7 +278,8 @@ impl Search {
         Ok(())
     }
 
-    /// Searches until the formula is decided, or a decision is due after `budget` additions.
+    /// Searches until the formula is decided, or a decision is due after at least `budget`
+    /// additions.
     pub(crate) fn run(&mut self, budget: u32) -> Result<Ending, AllocError>
         requires searching { IsSearching self.old }
         requires budget { budget ≤ most_budget }

@@ -1,5 +1,5 @@
-//! The first step of a search. A clause of one literal watches nothing, so that no visit finds it: its literal is
-//! made true here, once and for good.
+//! The first step of a search: unit clauses aren't watched, so they are assigned once, at level 0,
+//! and stay.
 ghost use Rattle.std.specs.Prelude.{◌≡◌, [], IfOk, IfSome, IfNone};
 ghost use Rattle.cdcl_theory.specs.Falling.{IsFalsified};
 ghost use Rattle.cdcl_theory.specs.Trails.{IsTrail, IsGrown, fell as fell_of};
@@ -11,8 +11,8 @@ use clause_db::ClauseDb;
 use std::alloc::AllocError;
 use trail_core::Trail;
 
-/// Goes over the live clauses once, and makes true the literals of those of one literal alone. It stops at one
-/// that is falsified, whose id is answered.
+/// Assigns the literals of all live unit clauses. It stops at one that is falsified, and answers
+/// its id.
 pub(crate) fn push_units(trail: &mut Trail, clauses: &ClauseDb) -> Result<Option<u32>, AllocError>
     requires whole { IsTrail trail.old }
     requires vars { clauses.now.vars ≡ trail.old.vars }

@@ -1,9 +1,10 @@
-//! Propagation by watched literals: only the clauses that watch a literal which falls are visited
-//! (Moskewicz and others, "Chaff", 2001). A visited clause keeps its watch where its other watched literal is
-//! true or becomes so, and else watches another literal that hasn't fallen. Its literals are read as
-//! `ClauseDb::arranged_at` gives them: the two that it watches stand first, and the search for another one goes
-//! over the rest. Beside each clause in a list stands one of its literals, its blocking literal: while that is
-//! true the clause isn't even read (Sörensson and Eén, "MiniSat 2.1", 2008).
+//! Propagation by watched literals: only the clauses that watch a falsified literal are visited
+//! (Moskewicz and others, "Chaff", 2001). A visited clause keeps its watch where its other watched
+//! literal is true or becomes so, and else watches another literal that isn't false. Its literals
+//! are read as `ClauseDb::arranged_at` gives them: the two that it watches come first, and the
+//! search for a replacement goes over the rest. Each entry of a watch list has a blocking literal
+//! of its clause: while that is true, the clause isn't even read (Sörensson and Eén, "MiniSat 2.1",
+//! 2008).
 ghost use Rattle.std.specs.Prelude.{◌≡◌, ℕ, ℤ, ◌<◌, ◌≤◌, ◌⊎◌, List, [], length, slice_index_or, All, IfOk, IfSome, IfNone};
 ghost use Rattle.sat_theory.specs.Formula.{variable as variable_of, IsWithin};
 ghost use Rattle.cdcl_theory.specs.Falling.{AllSettled, IsFalsified};
@@ -18,7 +19,7 @@ use cnf_core::Lit;
 use std::alloc::AllocError;
 use trail_core::Trail;
 
-/// What became of a clause that was visited.
+/// What became of a visited clause.
 pub(crate) enum Fate {
     /// It has a true literal, and its watch stays.
     Kept,
@@ -28,14 +29,14 @@ pub(crate) enum Fate {
     Falsified(u32),
 }
 
-/// A literal that a clause can watch, and its place in `arranged_at`.
+/// A literal that a clause can watch, and its index in `arranged_at`.
 #[derive(Clone, Copy)]
 struct Standing {
     place: usize,
     lit: Lit,
 }
 
-/// The other one of a clause's first two literals.
+/// The other one of a clause's two watched literals.
 fn besides(lits: &[Lit], lit: Lit) -> Lit
     requires two { 2 ≤ length lits.now }
     requires one { (lit ≡ (pair_of lits.now).first) ⊎ (lit ≡ (pair_of lits.now).second) }
@@ -45,7 +46,7 @@ fn besides(lits: &[Lit], lit: Lit) -> Lit
     lits[usize::from(lits[0] == lit)]
 }
 
-/// The first literal from a place on that hasn't fallen, with its place.
+/// The first literal from index `low` on that isn't false, with its index.
 fn first_standing(trail: &Trail, lits: &[Lit], low: usize) -> Option<Standing>
     requires within { IsWithin trail.now.vars lits.now }
     requires inside { low ≤ length lits.now }
@@ -63,7 +64,7 @@ fn first_standing(trail: &Trail, lits: &[Lit], low: usize) -> Option<Standing>
     None
 }
 
-/// Visits the clause at an index in the list of a literal that fell.
+/// Visits the clause at an index in the watch list of a falsified literal.
 fn visit(
     trail: &mut Trail,
     clauses: &mut ClauseDb,
@@ -98,7 +99,7 @@ fn visit(
     Ok(Fate::Kept)
 }
 
-/// The first index from one on at which the blocking literal isn't true.
+/// The first index from `from` on at which the blocking literal isn't true.
 fn first_open(trail: &Trail, watches: &[Watch], from: usize) -> Option<usize>
     requires within { All (λ w. variable_of w.blocker ≤ trail.now.vars) watches.now }
     ensures some { IfSome result (λ k. (from ≤ k) × (k < length watches.now) × AreTrue trail.now watches.now from k) }
@@ -112,8 +113,8 @@ fn first_open(trail: &Trail, watches: &[Watch], from: usize) -> Option<usize>
     None
 }
 
-/// Visits all clauses that watch a literal that fell, but those whose blocking literal is true. It stops at a
-/// falsified clause.
+/// Visits all clauses that watch a falsified literal, except those whose blocking literal is true.
+/// It stops at a falsified clause.
 fn visit_watching(
     trail: &mut Trail,
     clauses: &mut ClauseDb,
@@ -144,8 +145,8 @@ fn visit_watching(
     Ok(None)
 }
 
-/// Makes true what follows from the literals of the trail, of which those before `from` are visited, until
-/// a live clause is falsified, whose id is answered, or all are visited.
+/// Propagates the trail literals from index `from` on, until all are visited or a live clause is
+/// falsified, whose id is answered.
 pub(crate) fn propagate_watched(
     trail: &mut Trail,
     clauses: &mut ClauseDb,
