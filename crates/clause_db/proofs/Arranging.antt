@@ -24,7 +24,7 @@ use Rattle.clause_db.proofs.Beside.{row-other, row_back}
 use Rattle.clause_db.specs.Arranging.{Arranged, block_at, watching_of, arranged_more, exchanged_at, ArePermuted, AreArranged, IsNoneOf}
 use Rattle.clause_db.specs.Deleting.{arranged_left}
 
--- an id that was put into a list, and taken off when the next one failed
+-- an id that was put into a list, and removed when the next push failed
 pub both_back : (w a b : Arranged) (l m : ℤ) (id : ℕ) → a ≡ record w { lists = with_id w.lists l id; rows = with_blocker w.rows l m }
     → b ≡ record a { lists = slice_set a.lists (code_of l) (take (length (listed_in a.lists l) - 1) (listed_in a.lists l)); rows = with_row a.rows l (take (length (row_of a.rows l) - 1) (row_of a.rows l)) } → b ≡ w
 both_back w a b l m id pushed taken =
@@ -136,7 +136,7 @@ besides_is lits from m low found two is = ⊎_elim
     rw (int_eq-other (pair_of lits).first from second.1) at)
     found
 
--- What stands in the list that the clause leaves is as it was.
+-- The blocking literals of the list that the clause leaves are unchanged.
 pub pushed_list : (w a : Arranged) (from to m : ℤ) (id : ℕ) → a ≡ record w { lists = with_id w.lists to id; rows = with_blocker w.rows to m } → (from ≡ to → ⊥) → listed_in a.lists from ≡ listed_in w.lists from
 pushed_list w a from to m id pushed apart = ap (λ (x : Arranged). listed_in x.lists from) pushed ∙ listed-other w.lists to from _ apart
 

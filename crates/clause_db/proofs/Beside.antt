@@ -1,4 +1,4 @@
--- The rows of literals that stand beside the lists.
+-- The rows of blocking literals beside the watch lists.
 use Rattle.std.proofs.Common.{◌≡◌, ℕ, ◌+◌, ◌-◌, ◌*◌, ◌<◌, ◌≤◌, ◌⊎◌, ℤ, pos, List, [], ◌∷◌, ◌++◌, length, take, slice_index_or, slice_set, replicate, Contains, Some, refl, sym, ap, ◌∙◌, subst, arith, inl, inr}
 use Rattle.std.specs.List.{swap_remove}
 use Rattle.std.proofs.Math.Logic.{⊎_elim}
@@ -30,7 +30,7 @@ row_whole : (rows : List (List ℤ)) (l : ℤ) → with_row rows l (row_of rows 
 unfolding row_of
 row_whole rows l = set-get_or rows (code_of l) []
 
--- a literal that was put at the end of a row, and taken off again
+-- a literal that was appended to a row, and removed again
 pub row_back : (rows : List (List ℤ)) (l m : ℤ) → with_row (with_blocker rows l m) l (take (length (row_of (with_blocker rows l m) l) - 1) (row_of (with_blocker rows l m) l)) ≡ rows
 row_back rows l m = ⊎_elim
     (λ (room : code_of l < length rows).
@@ -45,7 +45,7 @@ row_none : (n : ℕ) (l : ℤ) → row_of (replicate n []) l ≡ []
 unfolding row_of
 row_none n l = ⊎_elim (λ (within : code_of l < n). grind (arith, common_steps)) (λ (past : n ≤ code_of l). grind (arith, common_steps)) (cases_lt (code_of l) n)
 
--- Beside each id of a list stands a literal that has to do with it.
+-- Each blocking literal of a list has a relation to the id of its entry.
 record IsBeside (P : ℕ → ℤ → Type 0) (ids : List ℕ) (row : List ℤ) : Type 0 where
   long : length row ≡ length ids
   there : (k : ℕ) → k < length ids → P (slice_index_or ids k 0) (slice_index_or row k (pos 1))
@@ -110,7 +110,7 @@ blockers_none vars = blockers_from (none_stored vars) (replicate (2 * vars + 2) 
     each l = subst (λ (xs : List ℕ). IsBeside (λ (id : ℕ) (m : ℤ). IsOf (none_stored vars) id m) xs (row_of (replicate (2 * vars + 2) []) l)) (sym (listed_none (2 * vars + 2) l))
         (subst (λ (ys : List ℤ). IsBeside (λ (id : ℕ) (m : ℤ). IsOf (none_stored vars) id m) [] ys) (sym (row_none (2 * vars + 2) l)) (beside_none (λ (id : ℕ) (m : ℤ). IsOf (none_stored vars) id m)))
 
--- A literal is put beside an entry.
+-- A blocking literal is replaced.
 pub blockers_set : (s : Stored) (rows : List (List ℤ)) (l m : ℤ) (index : ℕ) → AreBlockers s rows → code_of l < length rows → index < length (list_of s.watches l) → IsOf s (slice_index_or (list_of s.watches l) index 0) m → AreBlockers s (with_row rows l (slice_set (row_of rows l) index m))
 blockers_set s rows l m index are room inside of = blockers_from s (with_row rows l row) (length-set rows (code_of l) row ∙ are.room) each
   where
@@ -154,7 +154,8 @@ rows_more_room rows lits = ⊎_elim
     (λ (long : 2 ≤ length lits). rw (le-ltb (length lits) 2 long) (length-set (with_blocker rows (pair_of lits).first (pair_of lits).second) (code_of (pair_of lits).second) _ ∙ length-set rows (code_of (pair_of lits).first) _))
     (cases_lt (length lits) 2)
 
--- A clause is added, and each of its first two literals stands in the row of the other one.
+-- A clause is added, and each of its first two literals is the blocking one in the row of the
+-- other.
 pub blockers_added : (s : Stored) (lits : List ℤ) (rows : List (List ℤ)) → IsStored s → IsClause lits → IsWithin s.vars lits → AreBlockers s rows → AreBlockers (added s lits) (with_blockers rows lits)
 blockers_added s lits rows stored is_clause within are = blockers_from (added s lits) (with_blockers rows lits) (rows_more_room rows lits ∙ are.room) each
   where
@@ -197,7 +198,7 @@ blockers_added s lits rows stored is_clause within are = blockers_from (added s 
               (subst (λ (ys : List ℤ). IsBeside (λ (id : ℕ) (m : ℤ). IsOf (added s lits) id m) (list_of s.watches l) ys) (sym (row_rest rows lits l other.0)) (old_at l))
         ]
 
--- A clause is moved, and a literal of it stands in the row of the literal that it watches now.
+-- A watch is moved, with a blocking literal of the clause.
 pub blockers_moved : (s : Stored) (rows : List (List ℤ)) (id : ℕ) (from to m : ℤ) (index : ℕ) → IsStored s → IsMovable s id from to index → AreBlockers s rows → code_of from < length rows → code_of to < length rows → code_of to < length s.watches.lists → IsOf s id m → AreBlockers (rewatched s id from to index) (rows_moved rows from to index m)
 blockers_moved s rows id from to m index stored movable are room room_to list_room of = blockers_from new (rows_moved rows from to index m) (length-set (with_blocker rows to m) (code_of from) row ∙ length-set rows (code_of to) _ ∙ are.room) each
   where
@@ -224,11 +225,11 @@ blockers_moved s rows id from to m index stored movable are room room_to list_ro
         (cases_literal l to))
         (cases_literal l from)
 
--- what has to do with one thing has to do with another
+-- one relation implies another
 beside_weaker : (P Q : ℕ → ℤ → Type 0) (ids : List ℕ) (row : List ℤ) → ((id : ℕ) (m : ℤ) → P id m → Q id m) → IsBeside P ids row → IsBeside Q ids row
 beside_weaker P Q ids row weaker old = record { long = old.long; there = λ k low. weaker (slice_index_or ids k 0) (slice_index_or row k (pos 1)) (old.there k low) }
 
--- An id leaves a literal's list, and what stands beside it leaves the row.
+-- An id leaves a watch list, and its blocking literal leaves the row.
 beside_left : (P : ℕ → ℤ → Type 0) (lists : List (List ℕ)) (rows : List (List ℤ)) (l : ℤ) (index : ℕ) → code_of l < length lists → code_of l < length rows → index < length (listed_in lists l) → ((m : ℤ) → IsBeside P (listed_in lists m) (row_of rows m)) → (m : ℤ) → IsBeside P (listed_in (lists_left lists l index) m) (row_of (rows_left rows l index) m)
 beside_left P lists rows l index room room_row inside each m = ⊎_elim
     (λ (e : m ≡ l). subst (λ (xs : List ℕ). IsBeside P xs (row_of (rows_left rows l index) m)) (sym (listed-same lists l m (swap_remove (listed_in lists l) index 0) room e))
@@ -237,7 +238,7 @@ beside_left P lists rows l index room room_row inside each m = ⊎_elim
     (subst (λ (ys : List ℤ). IsBeside P (listed_in lists m) ys) (sym (row-other rows l m (swap_remove (row_of rows l) index (pos 1)) apart)) (each m)))
     (cases_literal m l)
 
--- A clause goes that two literals watch.
+-- A clause that two literals watch is deleted.
 pub blockers_left : (s new : Stored) (rows : List (List ℤ)) (one other : ℤ) (index place : ℕ) → length s.watches.lists ≡ 2 * s.vars + 2 → AreBlockers s rows → new.vars ≡ s.vars → new.watches.lists ≡ lists_left (lists_left s.watches.lists one index) other place → ((k : ℕ) (m : ℤ) → IsOf s k m → IsOf new k m)
     → code_of one < length s.watches.lists → code_of other < length s.watches.lists → (other ≡ one → ⊥) → index < length (list_of s.watches one) → place < length (list_of s.watches other) → AreBlockers new (rows_left (rows_left rows one index) other place)
 blockers_left s new rows one other index place lists_room are vars lists of room_one room_other apart inside_one inside_other = blockers_from new (rows_left (rows_left rows one index) other place)

@@ -153,7 +153,7 @@ entries_beside s now rows l entries view are is index d low =
     subst (λ (x : Stored). IsOf x (slice_index_or (list_of x.watches l) index 0) (slice_index_or entries index d).blocker) view
     (subst (λ (m : ℤ). IsOf s (slice_index_or (list_of s.watches l) index 0) m) same (are.there l index (omega (arith, low, long))))
 
--- What stands in a list is a live clause of two literals or more.
+-- What is in a watch list is a live clause of at least two literals.
 pub listed_long : (s : Stored) (l : ℤ) (index : ℕ) → IsStored s → index < length (list_of s.watches l) → IsLong s (slice_index_or (list_of s.watches l) index 0)
 listed_long s l index stored inside =
     let watches : Watches s (slice_index_or (list_of s.watches l) index 0) l = stored.only l (slice_index_or (list_of s.watches l) index 0) (Contains-get_or (list_of s.watches l) index 0 inside) in
@@ -165,7 +165,7 @@ listed_live s l index stored inside =
     let live : live_in s (slice_index_or (list_of s.watches l) index 0) ≡ Some long.clause = long.is_live in
     rw live refl
 
--- A clause that was found in a list can be moved from there.
+-- A clause that is found in a watch list can be moved from there.
 pub found_movable : (s : Stored) (from to : ℤ) (id index : ℕ) → index < length (list_of s.watches from) → slice_index_or (list_of s.watches from) index 0 ≡ id → ((clause : List ℤ) → live_in s id ≡ Some clause → Contains clause to) → (Watches s id to → ⊥) → IsMovable s id from to index
 found_movable s from to id index inside at there other = record { inside = inside; at_index = at; there = there; other = other }
 

@@ -97,7 +97,7 @@ kept_lists b new (e ∷ es) n kept are =
     let tail : lists_of new.starts es ≡ lists_of b.starts es = kept_lists b new es n kept (All-tail (All (IsKept b n)) e es are) in
     ap (λ (xs : List ℕ). xs ∷ lists_of new.starts es) head ∙ ap (λ (ls : List (List ℕ)). ids_of b.starts e ∷ ls) tail
 
--- So it is while a clause is put behind the others,
+-- So they stay while a clause is appended,
 all_kept : (b : Blocked) (all : List Listed) → AreDirect b all → AreKept b (length b.lists) all
 all_kept b all are = All-weaker (All (IsDirect b)) (All (IsKept b (length b.lists))) (λ e. All-weaker (IsDirect b) (IsKept b (length b.lists)) (λ w is. (is, is.given)) e) all are
 
@@ -116,7 +116,7 @@ shown_more b new all a lits kept are more view =
     ∙ ap (λ (ls : List (List ℤ)). shown_of ls (lists_of b.starts all) (rows_of all)) more
     ∙ ap (λ (x : Arranged). shown_of (x.blocks ++ lits ∷ []) x.lists x.rows) view
 
--- and taken off again, while the ids are those of before.
+-- and removed again, where the ids are those of before.
 back_kept : (old new : Blocked) (lits : List ℤ) (before all : List Listed) → new.lists ≡ old.lists ++ lits ∷ [] → lists_of new.starts all ≡ lists_of old.starts before → AreDirect old before → AreDirect new all → AreKept new (length new.lists - 1) all
 unfolding lists_of
 back_kept old new lits before all more same was are k d low i e inside = (is, omega (arith, low_id, count_new))

@@ -48,7 +48,7 @@ its_start b new w long ids is =
       is = ap (λ (n : ℕ). slice_index_or new.starts (n - 1) 0) id;
     }
 
--- The ids, and what stands beside them, are what they were.
+-- The ids, and the blocking literals, are what they were.
 ids_again : (b new : Blocked) (e : Listed) → length new.lists ≡ length b.lists → AreIds new → All (IsDirect b) e → ids_of new.starts (map (placed new.starts) (map (named b.starts) e)) ≡ ids_of b.starts e
 ids_again b new [] long ids are = refl
 ids_again b new (w ∷ ws) long ids are =
@@ -83,7 +83,7 @@ direct_again b new all long ids are =
     list : (e : Listed) → All (IsDirect b) e → All (IsDirect new) (map (placed new.starts) (map (named b.starts) e))
     list e direct = All-map (IsDirect new) (placed new.starts) (map (named b.starts) e) (All-map (λ w. IsDirect new (placed new.starts w)) (named b.starts) e (All-weaker (IsDirect b) (λ w. IsDirect new (placed new.starts (named b.starts w))) (λ w is. its_start b new w long ids is) e direct))
 
--- So all is shown as before when the row is packed.
+-- So contracts see the same after the row was packed.
 pub all_named : (b new : Blocked) (all names : List Listed) → new.lists ≡ b.lists → AreDirect b all → names ≡ map (map (named b.starts)) all → AreNamed new names
 all_named b new all names same are is = subst (AreNamed new) (sym is) (named_all b new all (ap length same) are)
 

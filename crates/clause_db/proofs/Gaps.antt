@@ -1,4 +1,5 @@
--- Lists in one row between which places may lie: one becomes empty, they move down, and the row is cut behind the last.
+-- Lists in one row, with gaps between them: one is emptied, they move down, and the row is cut
+-- after the last.
 use Rattle.std.proofs.Common.{◌≡◌, ℕ, zero, suc, ◌+◌, ◌-◌, ◌<◌, ◌≤◌, ◌==◌, false, ℤ, pos, List, [], length, slice_index_or, slice_set, refl, ap, ◌∙◌, sym, subst, arith, take}
 use Rattle.std.specs.List.{slice_range, CopiedTo, SameBelow, SameFrom}
 use Rattle.std.proofs.Math.Logic.{⊎_elim}
@@ -143,7 +144,7 @@ is_end b row starts (suc n) end view are low is =
       inside = (let fine : start_at starts n + count_at row (start_at starts n) ≤ length row = inside_at row starts n are within in omega (arith, fine, end_is));
     }
 
--- The row is cut behind the last list.
+-- The row is cut after the last list.
 cut_moved : (row : List ℤ) (starts : List ℕ) (end : ℕ) → AreRanges row (ranges_of row starts) → IsEnd row starts (length starts) end → AreMoved row (take end row) starts starts
 cut_moved row starts end are last = record {
   long = refl;
@@ -302,7 +303,7 @@ down_end row new starts news index end s count laid read news_is long copied =
     let next : end_before (shown new news) (index + 1) ≡ start_at news index + count_at new (start_at news index) = end_next (shown new news) new news index refl now.0 (omega (arith, within, moved.long)) in
     omega (arith, at, kept, next, read.counted)
 
--- The row is cut behind the last list.
+-- The row is cut after the last list.
 pub cut_laid : (b : Blocked) (row new : List ℤ) (starts : List ℕ) (end : ℕ) → shown row starts ≡ b → AreLaid row starts → end ≡ end_before b (length b.lists) → new ≡ take end row → AreLaid new starts × (lists_in new (ranges_of new starts) ≡ b.lists)
 cut_laid b row new starts end view laid is new_is =
     let all : length b.lists ≡ length starts = lists_room b row starts view in
@@ -316,7 +317,7 @@ ids_laid row starts laid k low =
     let within : k < length starts = omega (arith, low, lists_room (shown row starts) row starts refl) in
     id_at_start (shown row starts) row starts k (start_at starts k) refl laid.0 low (sym (get_or_default starts k (start_at starts k) 0 within))
 
--- A list becomes empty: where its length stood is that of none.
+-- A list is emptied: its length becomes 0.
 record IsEmptied (row new : List ℤ) (starts : List ℕ) (index : ℕ) : Type 0 where
   long : length new ≡ length row
   none : count_at new (start_at starts index) ≡ 0

@@ -24,7 +24,7 @@ id_some x xs s = ⊎_elim
     (λ (apart : x ≡ s → ⊥). omega (arith, id_behind x xs s apart))
     (cases_eq x s)
 
--- More places behind change no id that is one,
+-- More starts at the end change no id,
 pub id_front : (xs ys : List ℕ) (s : ℕ) → 0 < id_in xs s → slice_index_or xs (id_in xs s - 1) 0 ≡ s → id_in (xs ++ ys) s ≡ id_in xs s
 id_front [] ys s some is = absurd (omega (arith, some, id_none s))
 id_front (x ∷ xs) ys s some is = ⊎_elim
@@ -52,7 +52,7 @@ id_cut (x ∷ xs) (suc n) s low = ⊎_elim
     id_behind x (take n xs) s apart ∙ ap (λ (m : ℕ). m + 1) (id_cut xs n s (omega (arith, low, at))) ∙ sym at)
     (cases_eq x s)
 
--- The first index of a place tells its id.
+-- The first index of a start determines its id.
 pub id_found : (xs : List ℕ) (k s : ℕ) → k < length xs → slice_index_or xs k 0 ≡ s → ((i : ℕ) → i < k → slice_index_or xs i 0 ≡ s → ⊥) → id_in xs s ≡ k + 1
 id_found [] k s low at first = absurd (omega (arith, low))
 id_found (x ∷ xs) zero s low at first = id_first x xs s at

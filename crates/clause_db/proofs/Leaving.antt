@@ -1,4 +1,4 @@
--- A clause that goes, and what its store and lists are then.
+-- A clause that is deleted, and what its store and lists are then.
 use Rattle.std.proofs.Common.{◌≡◌, ℕ, ◌-◌, ◌<◌, ◌≤◌, ◌⊎◌, ℤ, List, [], length, slice_index_or, Some, sym, ap, ◌∙◌, subst, arith, refl}
 use Rattle.std.specs.List.{swap_remove}
 use Rattle.std.specs.List.Sorted.{IsPermutation}
@@ -68,7 +68,7 @@ arranged_deleted e a id some are = record {
       subst (IsPermutation clause) (sym (get_or-set_other a.blocks (id - 1) (k - 1) [] [] (λ e. was.1 (omega (arith, e, low, some))))) (are.same k clause was.0);
 }
 
--- All that the type says holds of what is left.
+-- The invariant holds of what is left.
 pub whole_left : (e : Entries) (a : Arranged) (id : ℕ) (clause : List ℤ) (one other : ℤ) (index place : ℕ) → AreWhole e a → live_in (joined e a) id ≡ Some clause → Watches (joined e a) id one → Watches (joined e a) id other → (one ≡ other → ⊥)
     → index < length (listed_in a.lists one) → place < length (listed_in a.lists other) → IsDeleted id (joined e a) (joined (entries_without e id) (arranged_without (arranged_left (arranged_left a one index) other place) id))
     → AreWhole (entries_without e id) (arranged_without (arranged_left (arranged_left a one index) other place) id)

@@ -1,4 +1,4 @@
--- Lists and rows of literals, as they lie together.
+-- Watch lists as ids and as blocking literals.
 use Rattle.std.proofs.Common.{◌≡◌, ℕ, zero, suc, ◌+◌, ◌-◌, ◌<◌, ◌≤◌, ℤ, Contains, pos, List, [], ◌∷◌, ◌++◌, map, length, take, slice_index_or, slice_set, replicate, refl, sym, ap, ◌∙◌, subst, arith}
 use Rattle.std.specs.List.{swap_remove}
 use Rattle.std.proofs.lemmas.List.{length-map, map-append, map-set, get_or-map, take-map, set-get_or, get_or_default}
@@ -21,7 +21,7 @@ map_swap f xs i d e low =
     let last : slice_index_or (map f xs) (length xs - 1) e ≡ f (slice_index_or xs (length xs - 1) d) = get_or-map f xs (length xs - 1) d e (omega (arith, low)) in
     sym (take-map f (length xs - 1) (slice_set xs i (slice_index_or xs (length xs - 1) d))) ∙ ap (take (length xs - 1)) (map-set f xs i (slice_index_or xs (length xs - 1) d)) ∙ sym (rw (long, last) refl)
 
--- what stands for a missing entry doesn't matter
+-- the default entry doesn't matter
 pub swap_default : (entries : Listed) (i : ℕ) (d : Watch) → i < length entries → swap_remove entries i d ≡ swap_remove entries i no_watch
 swap_default entries i d low = ap (λ (w : Watch). take (length entries - 1) (slice_set entries i w)) (get_or_default entries (length entries - 1) d no_watch (omega (arith, low)))
 

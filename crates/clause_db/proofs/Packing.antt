@@ -8,7 +8,7 @@ use Rattle.clause_db.specs.Windows.{entry_of, entries_of, AreFrom, AreInside}
 use Rattle.clause_db.specs.Stored.{AreEntries}
 use Rattle.clause_db.proofs.Rows.{IsLaid, shown, inside_from, drop_past, from_under, from_ends, range_before, entry_same, entries_before, entries_past}
 
--- what lies behind a window whose literals moved down
+-- what follows a window whose literals moved down
 pub moved_behind : (row new : List ℤ) (a b to : ℕ) → new ≡ copy_within row a b to → to ≤ a → a ≤ b → b ≤ length row → drop b new ≡ drop b row
 moved_behind row new a b to is down rises inside =
     let room : b - a ≤ length (drop a row) = rw length-drop (omega (arith, rises, inside)) in
@@ -60,7 +60,7 @@ packed_none row windows inside = record { entries = refl; below = omega arith; a
 pub packed_all : (first row : List ℤ) (windows now : List Window) (index end : ℕ) → IsPacked first windows row now index end → length now ≤ index → AreFrom 0 now end × (end ≤ length row)
 packed_all first row windows now index end packed all = (subst (λ (ws : List Window). AreFrom 0 ws end) (take_all index now all) packed.below, from_ends end (drop index now) (length row) packed.above)
 
--- what lies behind the windows goes
+-- what follows the windows goes
 pub packed_cut : (row : List ℤ) (windows : List Window) (end : ℕ) → AreFrom 0 windows end → end ≤ length row → (entries_of (take end row) windows ≡ entries_of row windows) × AreInside (take end row) windows
 packed_cut row windows end from inside = (entries_before row (take end row) 0 windows end from (take-take end end row (omega arith)), inside_from (take end row) windows (subst (λ (n : ℕ). AreFrom 0 windows n) (sym (length-take-le end row inside)) from))
 

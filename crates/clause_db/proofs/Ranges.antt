@@ -104,7 +104,7 @@ lists_same row new (r ∷ rs) same =
     let tail : lists_in new rs ≡ lists_in row rs = lists_same row new rs (λ k d low. same (suc k) d (omega arith)) in
     ap (λ (xs : List ℤ). xs ∷ lists_in new rs) (same 0 r (omega arith)) ∙ ap (λ (ls : List (List ℤ)). list_in row r ∷ ls) tail
 
--- More literals are written behind the row.
+-- More literals are appended to the row.
 pub lists_written : (row new more : List ℤ) (ranges : List Range) → new ≡ row ++ more → AreRanges row ranges → lists_in new ranges ≡ lists_in row ranges
 lists_written row new more ranges is are = rw is (lists_same row (row ++ more) ranges (λ k d low. let fine = are.inside k d low in range_front row more (slice_index_or ranges k d).start (slice_index_or ranges k d).end fine.0 fine.1))
 
@@ -115,7 +115,7 @@ ranges_written row new more ranges is are = record {
   behind = are.behind;
 }
 
--- And the range of what was written behind two first places is put behind the others.
+-- And the range of what was appended, after two places for id and length, becomes the last one.
 heads_long : (row : List ℤ) (id head : ℤ) → length (row ++ id ∷ head ∷ []) ≡ length row + 2
 heads_long row id head = length-append row (id ∷ head ∷ [])
 

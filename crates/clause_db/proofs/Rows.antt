@@ -1,4 +1,4 @@
--- One more clause behind the row of literals.
+-- One clause more at the end of the row of literals.
 use Rattle.std.proofs.Common.{slice_index_or, slice_set, IsSome, ◌≡◌, ℕ, zero, suc, ◌+◌, ◌-◌, ◌<◌, ◌≤◌, ◌==◌, ℤ, Bool, true, false, if◌then◌else◌, List, [], ◌∷◌, ◌++◌, length, slice_get, All, Option, Some, None, refl, ap, ◌∙◌, sym, subst, arith, take, drop, length-append}
 use Rattle.std.specs.List.{slice_range}
 use Rattle.std.specs.Option.{option_flatten}
@@ -12,7 +12,7 @@ use Rattle.clause_db.specs.DeletingLaws.{was_live, some_live}
 use Rattle.clause_db.specs.declared.windows.Window.{Window}
 use Rattle.clause_db.specs.Windows.{entry_of, entries_of, AreFrom, AreInside}
 
--- a window within the front of a row
+-- a window within a prefix of a row
 pub range_front : (row more : List ℤ) (a b : ℕ) → a ≤ b → b ≤ length row → slice_range (row ++ more) a b ≡ slice_range row a b
 range_front row more a b low high =
     let room : b - a ≤ length (drop a row) = rw length-drop (omega arith) in
@@ -61,7 +61,7 @@ from_each low (w ∷ ws) high from = All-cons (λ (v : Window). (v.start ≤ v.e
 pub inside_from : (row : List ℤ) (windows : List Window) → AreFrom 0 windows (length row) → AreInside row windows
 inside_from row windows from = (from_each 0 windows (length row) from, from)
 
--- a window gives way to one of the same place
+-- a window is replaced by one of the same place
 pub from_set : (low : ℕ) (windows : List Window) (high index : ℕ) (v w : Window) → v ≡ slice_index_or windows index v → w.start ≡ v.start → w.end ≡ v.end → AreFrom low windows high → AreFrom low (slice_set windows index w) high
 unfolding AreFrom
 from_set low [] high zero v w at start end from = from
@@ -93,7 +93,7 @@ entries_before row new low (w ∷ ws) high from same =
     let tail : entries_of new ws ≡ entries_of row ws = entries_before row new w.end ws high from.2 same in
     ap (λ (e : Option (List ℤ)). e ∷ entries_of new ws) head ∙ ap (λ (es : List (Option (List ℤ))). entry_of row w ∷ es) tail
 
--- and windows behind a place of two that are the same behind it
+-- and windows after a place show the same of two rows that are the same after it
 pub drop_past : {A : Type 0} (xs ys : List A) (a c : ℕ) → c ≤ a → drop c xs ≡ drop c ys → drop a xs ≡ drop a ys
 drop_past xs ys a c past same =
     let place : c + (a - c) ≡ a = omega (arith, past) in
@@ -118,7 +118,7 @@ entries_kept row more windows inside = entries_before row (row ++ more) 0 window
 pub inside_kept : (row more : List ℤ) (windows : List Window) → AreInside row windows → AreInside (row ++ more) windows
 inside_kept row more windows inside = inside_from (row ++ more) windows (from_over 0 windows (length row) (length (row ++ more)) (rw length-append (omega arith)) inside.1)
 
--- the entries of a row that was written behind, at the windows as they were
+-- the entries of a row to which literals were appended, at the windows as they were
 pub entries_written : (row new lits : List ℤ) (windows : List Window) → new ≡ row ++ lits → AreInside row windows → entries_of new windows ≡ entries_of row windows
 entries_written row new lits windows is inside = rw is (entries_kept row lits windows inside)
 
@@ -149,7 +149,7 @@ laid_none vars row windows none empty =
     let entries : AreEntries (record { vars = vars; clauses = [] }) = record { clauses = λ id clause live. absurd (never id clause live); variables = λ id clause live. absurd (never id clause live); few = omega arith } in
     rw (none, empty) ((inside_from [] [] (omega arith), entries))
 
--- where the window couldn't be kept, the literals behind the row don't show
+-- where the window couldn't be kept, the literals appended to the row don't show
 pub laid_same : (vars : ℕ) (row new lits : List ℤ) (windows same : List Window) → new ≡ row ++ lits → same ≡ windows → IsLaid vars row windows → IsLaid vars new same
 laid_same vars row new lits windows same is kept laid = rw (kept) ((inside_written row new lits windows is laid.0, subst (λ (es : List (Option (List ℤ))). AreEntries (record { vars = vars; clauses = es })) (sym (entries_written row new lits windows is laid.0)) laid.1))
 
@@ -176,7 +176,7 @@ shown_more s vars row new lits windows more w view is kept live at ends inside =
     let all : entries_of new (windows ++ w ∷ []) ≡ s.clauses ++ Some lits ∷ [] = entries_added row new lits windows w is inside live at end ∙ ap (λ (es : List (Option (List ℤ))). es ++ Some lits ∷ []) entries in
     rw (kept, all, vars_same) refl
 
--- The last window is taken off.
+-- The last window is removed.
 pub inside_front : (row : List ℤ) (windows front : List Window) (n : ℕ) → front ≡ take n windows → n ≤ length windows → AreInside row windows → AreInside row front
 inside_front row windows front n is low inside = rw is (inside_from row (take n windows) (from_take 0 windows (length row) n inside.1))
 
@@ -224,7 +224,7 @@ window_deleted row windows more index w is dead =
     let none : entry_of row w ≡ None = rw dead refl in
     ap (entries_of row) is ∙ map-set (entry_of row) windows index w ∙ ap (λ (x : Option (List ℤ)). slice_set (entries_of row windows) index x) none
 
--- A window isn't live any more.
+-- A window isn't live any more: its clause was deleted.
 pub laid_deleted : (s : Entries) (vars : ℕ) (row : List ℤ) (windows more : List Window) (id : ℕ) (v w : Window) → shown vars row windows ≡ s → IsSome (live_at s.clauses id) → v ≡ slice_index_or windows (id - 1) v → w.start ≡ v.start → w.end ≡ v.end → w.live ≡ false → more ≡ slice_set windows (id - 1) w → IsLaid vars row windows → IsLaid vars row more
 laid_deleted s vars row windows more id v w view live at start end dead is laid =
     let x = some_live (live_at s.clauses id) live in

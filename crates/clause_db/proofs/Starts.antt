@@ -25,7 +25,7 @@ range_of row starts k d low = get_or-map (range_at row) starts k 0 d low
 pub room_of : (row : List ℤ) (starts : List ℕ) → length (ranges_of row starts) ≡ length starts
 room_of row starts = length-map starts (range_at row)
 
--- What stands before a list lies in the row, and behind the lists before it.
+-- What is before a list lies in the row, and after the lists before it.
 pub headed_at : (row : List ℤ) (starts : List ℕ) (k : ℕ) → AreRanges row (ranges_of row starts) → k < length starts → 1 < start_at starts k
 headed_at row starts k are low = subst (λ (r : Range). 1 < r.start) (range_of row starts k (range_at row 0) low) (are.headed k (range_at row 0) (rw (room_of row starts) low))
 
@@ -74,7 +74,7 @@ ranges_same row new (s ∷ rest) same =
 numbers_same : (row new : List ℤ) (starts : List ℕ) → AgreeBefore row new starts → AreNumbered row starts → AreNumbered new starts
 numbers_same row new starts same are k low = ap (λ (l : ℤ). variable l - 1) (same k 2 low (omega arith) (omega arith)) ∙ are k low
 
--- More literals are written behind the row.
+-- More literals are appended to the row.
 agree_written : (row new more : List ℤ) (starts : List ℕ) → new ≡ row ++ more → AreRanges row (ranges_of row starts) → AgreeBefore row new starts
 agree_written row new more starts is are k j low some few =
     let head : 1 < start_at starts k = headed_at row starts k are low in
@@ -102,7 +102,7 @@ are_written row new more starts same is kept laid = rw kept (
 pub written_twice : (row headed new more lits : List ℤ) → headed ≡ row ++ more → new ≡ headed ++ lits → new ≡ row ++ (more ++ lits)
 written_twice row headed new more lits first is = is ∙ ap (λ (xs : List ℤ). xs ++ lits) first ∙ append_assoc row more lits
 
--- A list is written behind the row, and its id and its length before it.
+-- A list is appended to the row, with its id and its length before it.
 heads_long : (row : List ℤ) (id head : ℤ) → length (row ++ id ∷ head ∷ []) ≡ length row + 2
 heads_long row id head = length-append row (id ∷ head ∷ [])
 
@@ -157,7 +157,7 @@ shown_added lists row new lits id head starts more s view is kept count at are =
 pub lists_room : (b : Blocked) (row : List ℤ) (starts : List ℕ) → shown row starts ≡ b → length b.lists ≡ length starts
 lists_room b row starts view = ap (λ (x : Blocked). length x.lists) (sym view) ∙ length-map (ranges_of row starts) (list_in row) ∙ room_of row starts
 
--- The lists before one that is put behind them keep their places and ids,
+-- The lists before one that is appended keep their starts and ids,
 pub kept_added : (b new : Blocked) (row now : List ℤ) (starts more : List ℕ) (s : ℕ) → shown row starts ≡ b → shown now more ≡ new → more ≡ starts ++ s ∷ [] → KeepsIds b new (length b.lists)
 kept_added b new row now starts more s view view_new is t start low =
     let same_starts : starts ≡ b.starts = ap (λ (x : Blocked). x.starts) view in
@@ -176,7 +176,7 @@ kept_added b new row now starts more s view view_new is t start low =
       same,
     )
 
--- and those before the last one, which is taken off with its id and its length.
+-- and so do those before the last one, which is removed with its id and its length.
 pub kept_front : (b new : Blocked) (row now : List ℤ) (starts front : List ℕ) (n : ℕ) → shown row starts ≡ b → shown now front ≡ new → front ≡ take n starts → n + 1 ≡ length starts → KeepsIds b new (length b.lists - 1)
 kept_front b new row now starts front n view view_new is all t start low =
     let same_starts : starts ≡ b.starts = ap (λ (x : Blocked). x.starts) view in

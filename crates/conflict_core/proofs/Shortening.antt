@@ -1,4 +1,4 @@
--- A marked literal goes by a clause of two, of which the other literal is marked.
+-- A marked literal goes by a binary clause whose other literal is marked.
 use Rattle.std.proofs.Common.{◌≡◌, ℕ, ◌<◌, ◌≤◌, ◌⊎◌, ◌↔◌, ℤ, pos, Bool, true, List, [], ◌∷◌, ◌++◌, length, reverse, slice_index_or, Contains, All, Option, Some, subst, sym, ap, ◌∙◌, arith, inl, inr}
 use Rattle.std.proofs.Math.Logic.{⊎_elim}
 use Rattle.std.proofs.lemmas.Bool.{both_ways, cases_eq, cases_lt}

@@ -22,7 +22,7 @@ reason_at live t p l reason at = subst (λ (x : ℤ). Implies live (fell t) p x 
 pub opposite_fell : (t : Trailed) (p : ℕ) (l : ℤ) → IsTrail t → p < length t.lits → slice_index_or t.lits p l ≡ l → fell t (opposite l) ≡ p + 1
 opposite_fell t p l trail within at = place_at t.lits (fell t) p l l trail.places within at
 
--- The clause at any place below, resolved: the literal that fell there goes, and the others of its reason come.
+-- Resolution with the reason of any literal: that one goes, and the others of its reason come.
 resolved_below : (live : ℕ → Option (List ℤ)) (lits : List ℤ) (places : ℤ → ℕ) (high p id : ℕ) (l : ℤ) (kept less : ℤ → Bool) (ids : List ℕ) → ArePlaces lits places → p < length lits → p ≤ high → slice_index_or lits p l ≡ l → IsResolvent live places high kept ids → (implies : Implies live places p l id) → ((m : ℤ) → kept m ≡ true → (m ≡ opposite l) ⊎ (less m ≡ true)) → All (λ m. (m ≡ l) ⊎ (less m ≡ true)) implies.clause → ((m : ℤ) → less m ≡ true → (kept m ≡ true) ⊎ (Contains implies.clause m × (m ≡ l → ⊥))) → IsResolvent live places high less (ids ++ id ∷ [])
 resolved_below live lits places high p id l kept less ids are within low at before implies moved others only =
     let down : places (opposite l) ≡ p + 1 = place_at lits places p l l are within at in
@@ -110,11 +110,11 @@ marks_replaced live t p id l lits old off new trail within at reason id_is is un
     still m was (inl e) = absurd (both_ways (marked_in off m) (off_at m ∙ without_literal-same (marked_in old) (opposite l) m e) was)
     still m was (inr apart) = (sym (off_at m ∙ without_literal-other (marked_in old) (opposite l) m apart) ∙ was, λ e. apart (fallen_at t.lits (fell t) p l m trail.places e ∙ ap opposite at))
 
--- what was marked below stays so
+-- what was marked at lower places stays marked
 pub stay_replaced : (t : Trailed) (low p : ℕ) (a b c : List Bool) → low ≤ p → StayBelow t low a b → IsReplaced t p b c → StayBelow t low a c
 stay_replaced t low p a b c order before replaced m is was = ⊎_elim (λ (e : fell t m ≡ p + 1). absurd (omega arith)) (λ (still : marked_in c m ≡ true). still) (replaced.stay m (before m is was))
 
--- others were marked among the first that fell alone
+-- only literals at lower places were marked anew
 pub replaced_below : (t : Trailed) (start p : ℕ) (old new : List Bool) → p < start → IsReplaced t p old new → OnlyBelow t start old new
 replaced_below t start p old new early replaced m is = ⊎_elim (λ (low : fell t m ≤ p). inr (omega arith)) (λ (was : (marked_in old m ≡ true) × (fell t m ≡ p + 1 → ⊥)). inl was.0) (replaced.only m is)
 

@@ -1,4 +1,4 @@
--- Rows of lines: one line more behind the others, and the first one taken off.
+-- Rows of lines: one line appended, and the first one taken off.
 use Rattle.std.proofs.Common.{◌≡◌, ℕ, suc, ◌-◌, ◌≤◌, ℤ, List, [], ◌∷◌, ◌++◌, length, take, drop, refl, ap, sym, ◌∙◌, arith, append_assoc, length-append, length-drop}
 use Rattle.std.specs.Prelude.{All, Result, Ok, Err, IfOk, IsOkAnd}
 use Rattle.std.proofs.Math.Seq.{take-append_seam, drop-append_seam, take-length}
@@ -101,7 +101,7 @@ deletion_packed old new id n start end ids all at_start at_end is_n are =
     let size_n : n ≡ length id_bytes = omega (arith, is_n, at_start, at_end, ap length all, length-append old id_bytes) in
     record { more = id_bytes; row = all; size = size_n; spells = deletion_read id ids are }
 
--- a packed line whose head was put behind the others
+-- a packed line whose head was appended
 pub line_put : (heads more : List Head) (old new : List ℕ) (line : theory.Line) (h : Head) → IsCut heads old → IsPacked old new line h → more ≡ heads ++ h ∷ [] → IsCut more new × (lines_in more new ≡ lines_in heads old ++ line ∷ [])
 line_put heads more old new line h cut packed is = (
   rw (is, packed.row) (cut-push heads old h packed.more cut packed.size),

@@ -9,13 +9,13 @@ use Rattle.lrat_text.specs.Spelling.{id_item, literal_item, line_text}
 use Rattle.log_core.proofs.ReadRows.{begins-same, begins-more, begins-on, lines-none, lines-first, first-size, cut-first}
 use Rattle.log_core.proofs.Taken.{ids_from-more, ids_from-none, literals_from-more, literals_from-none}
 
--- items with a blank behind each, in front of others
+-- items, each followed by a blank, before others
 items_front : {X : Type 0} (f : X → List ℕ) (xs : List X) (y : List ℕ) (ys : List (List ℕ)) → join_with_byte 32 (map f xs ++ y ∷ ys) ≡ flat_map (λ x. f x ++ 32 ∷ []) xs ++ join_with_byte 32 (y ∷ ys)
 items_front f [] y ys = refl
 items_front f (x ∷ []) y ys = simp append_assoc
 items_front f (x ∷ z ∷ xs) y ys = ap (λ (t : List ℕ). f x ++ 32 ∷ t) (items_front f (z ∷ xs) y ys) ∙ simp append_assoc
 
--- the same behind a first item
+-- the same after a first item
 items_behind : {X : Type 0} (x : List ℕ) (f : X → List ℕ) (xs : List X) (y : List ℕ) (ys : List (List ℕ)) → join_with_byte 32 (x ∷ (map f xs ++ y ∷ ys)) ≡ x ++ 32 ∷ (flat_map (λ z. f z ++ 32 ∷ []) xs ++ join_with_byte 32 (y ∷ ys))
 items_behind x f [] y ys = refl
 items_behind x f (z ∷ zs) y ys = ap (λ (t : List ℕ). x ++ 32 ∷ t) (items_front f (z ∷ zs) y ys)

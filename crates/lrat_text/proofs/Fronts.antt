@@ -7,7 +7,7 @@ use Rattle.text_core.specs.Items.{split_from, items_of}
 use Rattle.text_core.specs.Numbers.{number_from, number_up_to}
 use Rattle.lrat_text.specs.Numerals.{first_of, behind_first}
 
--- what was gone over stands in front of the first item
+-- what was read already is the start of the first item
 first_front : (front bs : List ℕ) → (split_from front bs).first ≡ front ++ first_of bs
 unfolding split_from
 first_front front [] = grind (arith, common_steps)

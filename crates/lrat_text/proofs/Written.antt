@@ -7,13 +7,13 @@ use Rattle.std.proofs.lemmas.Grind.{common_steps}
 use Rattle.sat_theory.specs.Line.{Add, Delete}
 use Rattle.lrat_text.specs.Spelling.{id_item, literal_item, line_body, line_text}
 
--- a list of items in front of others
+-- a list of items before others
 joined_front : {X : Type 0} (f : X → List ℕ) (xs : List X) (y : List ℕ) (ys : List (List ℕ)) → join_with_byte 32 (map f xs ++ y ∷ ys) ≡ flat_map (λ x. f x ++ 32 ∷ []) xs ++ join_with_byte 32 (y ∷ ys)
 joined_front f [] y ys = refl
 joined_front f (x ∷ []) y ys = simp append_assoc
 joined_front f (x ∷ z ∷ xs) y ys = ap (λ (t : List ℕ). f x ++ 32 ∷ t) (joined_front f (z ∷ xs) y ys) ∙ simp append_assoc
 
--- one item in front of others
+-- one item before others
 joined_more : (x : List ℕ) (zs : List (List ℕ)) (y : List ℕ) (ys : List (List ℕ)) → join_with_byte 32 (x ∷ (zs ++ y ∷ ys)) ≡ x ++ 32 ∷ join_with_byte 32 (zs ++ y ∷ ys)
 joined_more x [] y ys = refl
 joined_more x (z ∷ zs) y ys = refl

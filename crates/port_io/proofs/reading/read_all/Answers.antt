@@ -8,15 +8,15 @@ use Rattle.port_io.proofs.reading.read_all.Goals as goal
 unmoved : (old mid new : Option (List ℕ)) (text : List ℕ) → Consumes old mid text → new ≡ mid → Consumes old new text
 unmoved old mid new text taken same = taken ∙ ap (prepended text) (sym same)
 
--- where it takes an empty front,
+-- where it takes nothing,
 ended : (old mid new : Option (List ℕ)) (text buf : List ℕ) (count : ℕ) → Consumes old mid text → count ≡ 0 → Consumes mid new (take count buf) → Consumes old new text
 ended old mid new text buf count taken none last = taken ∙ ap (prepended text) ((rw none at last) ∙ prepended-none new)
 
--- and where it takes a piece, that stands behind it.
+-- and where it takes a piece, which is appended.
 onward : (old mid new : Option (List ℕ)) (text piece : List ℕ) → Consumes old mid text → Consumes mid new piece → Consumes old new (text ++ piece)
 onward old mid new text piece taken last = taken ∙ ap (prepended text) last ∙ prepended-twice text piece new
 
--- Bytes are told where they were.
+-- Bytes are known where they were.
 still_told : (old new : Option (List ℕ)) (text : List ℕ) → Consumes old new text → is_some new ≡ is_some old
 still_told old new text taken = sym (ap is_some taken ∙ is_some-prepended text new)
 
