@@ -1,4 +1,4 @@
--- Loops that look for a number that passes, and loops that count.
+-- Loops that search for a number that passes a test, and loops that count those.
 use Rattle.std.proofs.Common.{◌≡◌, ℕ, suc, ◌+◌, ◌*◌, ◌%◌, ◌<◌, ◌≤◌, ◌^◌, Bool, true, false, length, cond, refl, arith, add-one, sym}
 use Rattle.std.specs.Prelude.{max}
 use Rattle.std.proofs.lemmas.Grind.{common_steps}
@@ -12,7 +12,7 @@ use Rattle.bound_core.specs.Used.{are_opposite}
 use Rattle.bound_core.specs.Counts.{some_below, count_below, uses, live_uses, is_in_use, parts_on, differ, live_like, is_new}
 use Rattle.bound_core.specs.CountLaws.{passes_some}
 
--- no number yet
+-- no number below 0 passes
 pub some_none : (test : ℕ → Bool) → some_below test 0 ≡ false
 unfolding some_below
 some_none test = refl

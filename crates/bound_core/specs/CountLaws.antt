@@ -1,5 +1,5 @@
--- What the counts say: the inputs and the outputs that are counted are used and differ, so that no chain
--- of fewer steps agrees.
+-- What the counts mean: the inputs and the outputs that are counted are used and differ, so no
+-- chain of fewer steps agrees.
 use Rattle.std.proofs.Common.{◌≡◌, ◌≢◌, ◌⊎◌, ℕ, zero, suc, ◌+◌, ◌-◌, ◌*◌, ◌<◌, ◌≤◌, ◌^◌, ◌==◌, Bool, true, false, ◌&&◌, ◌||◌, not, List, [], ◌∷◌, length, Contains, All, refl, sym, ap, ◌∙◌, subst, arith, inl, inr}
 use Rattle.std.specs.Prelude.{if◌then◌else◌, AllPairs, slice_index_or, bit_or, max}
 use Rattle.std.specs.Int.{bit_at}
@@ -45,7 +45,7 @@ no_digit zero low e = refl
 no_digit (suc zero) low e = absurd cc
 no_digit (suc (suc x)) low e = absurd (omega arith)
 
--- one that passes, where some number does
+-- a number that passes, where `some_below` says that there is one
 pub some_passes : (test : ℕ → Bool) (k : ℕ) → some_below test k ≡ true → (t : ℕ) × (t < k) × (test t ≡ true)
 unfolding some_below
 some_passes test zero e = absurd cc
@@ -54,7 +54,7 @@ some_passes test (suc k) e = elim (or_parts (some_below test k) (test k) e) [
   | inr last ↦ (k, omega arith, last)
 ]
 
--- some number passes where this one does
+-- where a number passes, `some_below` says so
 pub passes_some : (test : ℕ → Bool) (k t : ℕ) → t < k → test t ≡ true → some_below test k ≡ true
 unfolding some_below
 passes_some test zero t low e = absurd (omega arith)
@@ -66,12 +66,12 @@ passes_some test (suc k) t low e = elim (cases_lt t k) [
       grind (arith, common_steps)
 ]
 
--- one more than each number below k that passes, the greatest one first
+-- 1 + each number below k that passes, the greatest one first
 unfoldable pub those : (ℕ → Bool) → ℕ → List ℕ
 those test zero = []
 those test (suc k) = if test k then suc k ∷ those test k else those test k
 
--- there are as many as are counted
+-- the list is as long as the count
 pub those_count : (test : ℕ → Bool) (k : ℕ) → length (those test k) ≡ count_below test k
 unfolding those count_below
 those_count test zero = refl
@@ -89,7 +89,7 @@ added_cases true x y xs c = first c.0 c.1 c.2
     first (suc i) low e = inl (i, omega arith, e)
 added_cases false x y xs c = inl c
 
--- what the list has
+-- each of its numbers is from 1 to k, and 1 less passes
 pub those_have : (test : ℕ → Bool) (k x : ℕ) → Contains (those test k) x → (1 ≤ x) × (x ≤ k) × (test (x - 1) ≡ true)
 unfolding those
 those_have test zero x c = absurd (omega (arith, c.1))
@@ -100,7 +100,7 @@ those_have test (suc k) x c = elim (added_cases (test k) x (suc k) (those test k
       (omega (arith, first.1), omega (arith, first.1), ap test same ∙ first.0)
 ]
 
--- and what it has to have
+-- and each number that passes is there, with 1 added
 pub those_has : (test : ℕ → Bool) (k i : ℕ) → i < k → test i ≡ true → Contains (those test k) (i + 1)
 unfolding those
 those_has test zero i low passes = absurd (omega arith)
@@ -116,7 +116,7 @@ those_has test (suc k) i low passes = elim (cases_lt i k) [
     keeps true c = Contains-append_right (suc k ∷ []) (those test k) (i + 1) c
     keeps false c = c
 
--- each of its numbers has a relation to each smaller one, where numbers that pass have it
+-- a relation that holds between numbers that pass holds between each two in the list
 pub those_pairs : (R : ℕ → ℕ → Type 0) (test : ℕ → Bool) (k : ℕ) → ((h g : ℕ) → 1 ≤ g → g < h → h ≤ k → test (h - 1) ≡ true → test (g - 1) ≡ true → R h g) → AllPairs R (those test k)
 unfolding those
 those_pairs R test zero each = λ i j d less within. absurd (omega arith)
@@ -130,14 +130,14 @@ those_pairs R test (suc k) each =
         let same : suc k - 1 ≡ k = omega arith in
         each (suc k) (slice_index_or (those test k) i d) found.0 (omega (arith, found.1)) (omega arith) (ap test same ∙ passes) found.2
 
--- ---- rows with an input turned
+-- ---- rows with one input flipped
 
 pub less_power : (k n : ℕ) → k < n → 2 ^ k < 2 ^ n
 less_power k n less =
     let wide : 2 ^ suc k ≤ 2 ^ n = pow_mono less in
     omega (arith, two-pow-succ k, pow_pos k)
 
--- a row whose digit of 2 ^ k is 0, and that digit set
+-- a row whose digit of weight 2 ^ k is 0, with that digit set
 pub raised_or : (t k : ℕ) → digit t k ≡ false → t + 2 ^ k ≡ bit_or t (2 ^ k)
 raised_or t k none =
     let bit : bit_at t k ≡ 0 = no_digit (bit_at t k) (bit_at-lt t k) none in
@@ -150,7 +150,7 @@ raised_other t k i none apart =
     let rest : max (bit_at t i) (bit_at (2 ^ k) i) ≡ bit_at t i = omega (arith, bit_at-pow_other k i apart) in
     ap (λ (x : ℕ). digit x i) (raised_or t k none) ∙ ap (λ (x : ℕ). x == 1) (bit_at_or t (2 ^ k) i ∙ rest)
 
--- and it is a row
+-- and it is one of the rows
 pub raised_low : (n j t : ℕ) → 1 ≤ j → j ≤ n → t < 2 ^ n → input n t j ≡ false → t + 2 ^ (n - j) < 2 ^ n
 raised_low n j t some low inside none = rw (raised_or t (n - j) none) (or_lt n t (2 ^ (n - j)) inside (less_power (n - j) n (omega arith)))
 
@@ -257,7 +257,7 @@ apart_new s = record {
 
 -- ---- the bound
 
--- a bound of each number is one of the greatest
+-- where a number bounds all, it bounds the greatest
 greatest_least : (f : ℕ → ℕ) (k d : ℕ) → ((i : ℕ) → i < k → f i ≤ d) → greatest f k ≤ d
 unfolding greatest
 greatest_least f zero d each = omega arith
@@ -283,6 +283,6 @@ fewest_few s basis r chain =
 pub none_below : (s : Specification) (basis : Basis) (q : ℕ) → q < fewest s → HasChain s basis q → ⊥
 none_below s basis q low chain = omega (arith, fewest_few s basis q chain)
 
--- the same of a number that is the bound
+-- the same for a number that equals the bound
 pub none_below_is : (s : Specification) (bound : ℕ) → bound ≡ fewest s → (basis : Basis) (q : ℕ) → q < bound → HasChain s basis q → ⊥
 none_below_is s bound is basis q low chain = none_below s basis q (omega (arith, is, low)) chain

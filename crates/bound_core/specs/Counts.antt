@@ -1,5 +1,5 @@
--- How many steps a specification asks for at least, by counts of the inputs that are used and of the
--- outputs that differ.
+-- A lower bound for the number of steps, by counts of the inputs that are used and of the outputs
+-- that differ.
 use Rattle.std.specs.Prelude.{ℕ, zero, suc, ◌+◌, ◌-◌, ◌^◌, Bool, false, ◌&&◌, ◌||◌, not, max, if◌then◌else◌}
 use Rattle.chain_theory.specs.Specification.{Specification, input}
 use Rattle.chain_theory.specs.Levels.{greatest}
@@ -16,8 +16,8 @@ unfoldable pub count_below : (ℕ → Bool) → ℕ → ℕ
 count_below test zero = 0
 count_below test (suc k) = count_below test k + (if test k then 1 else 0)
 
--- Row t gives input j the bit 0, and output h is asked for 0 and for 1 on it and on the row that gives
--- input j the bit 1 and each other input the same bit.
+-- Row t gives input j the bit 0, and output h has the cells 0 and 1, in either order, on it and on
+-- the row with input j flipped.
 -- Example: of three inputs, row 1 (001) and row 5 (101) are such a pair of rows for x1.
 unfoldable pub turns_on : Specification → ℕ → ℕ → ℕ → Bool
 turns_on s h j t = are_opposite (s.cell h t) (s.cell h (t + 2 ^ (s.inputs - j))) && not (input s.inputs t j)
@@ -47,7 +47,7 @@ live_uses s j i = uses s (i + 1) j && is_live s (i + 1)
 unfoldable pub is_in_use : Specification → ℕ → Bool
 is_in_use s i = some_below (live_uses s (i + 1)) s.outputs
 
--- outputs g and h are asked for 0 and for 1 on row t
+-- outputs g and h have the cells 0 and 1 on row t, in either order
 unfoldable pub parts_on : Specification → ℕ → ℕ → ℕ → Bool
 parts_on s g h t = are_opposite (s.cell g t) (s.cell h t)
 
@@ -67,9 +67,10 @@ is_new s i = not (some_below (live_like s (i + 1)) i) && is_live s (i + 1)
 unfoldable pub single : Specification → ℕ → ℕ
 single s i = inputs_of s (i + 1) - 1
 
--- The most of: the live outputs that differ from those before them; for each output the inputs that
--- it uses, less 1; the inputs that live outputs use, less the number of live outputs.
--- Example: the exclusive or of four inputs asks for 3 steps at least. Of the tables 0110 and 0001 of
+-- The greatest of: the number of live outputs that differ from those before them; for each output
+-- the number of inputs that it uses, less 1; the number of inputs that live outputs use, less that
+-- of live outputs.
+-- Example: the exclusive or of four inputs needs at least 3 steps. Of the tables 0110 and 0001 of
 -- two inputs both are live and differ, which makes 2.
 abbrev pub fewest : Specification → ℕ
 fewest s = max (count_below (is_new s) s.outputs) (max (greatest (single s) s.outputs) (count_below (is_in_use s) s.inputs - count_below (live_next s) s.outputs))

@@ -1,5 +1,6 @@
--- A chain has at least as many steps as there are live outputs that differ: each of them sits on a step of
--- its own, since a live output is no constant and no input, and two that differ are no one place.
+-- A chain has at least as many steps as there are live outputs that differ: each of them is the
+-- value of a step of its own, since a live output is no constant and no input, and two that differ
+-- aren't at one place.
 use Rattle.std.proofs.Common.{◌≡◌, ℕ, zero, suc, ◌+◌, ◌-◌, ◌<◌, ◌≤◌, ◌^◌, true, false, List, [], ◌∷◌, length, Contains, Option, Some, None, refl, sym, ap, ◌∙◌, arith, inl, inr}
 use Rattle.std.specs.Prelude.{slice_index_or, AllPairs}
 use Rattle.std.proofs.lemmas.List.Elements.{Contains-get_or}
@@ -47,7 +48,7 @@ none_is : (o : Option Out) → is_none o ≡ true → o ≡ None
 none_is None e = refl
 none_is (Some out) e = absurd cc
 
--- no trivial out is met by a live output's cells on all rows
+-- a live output misses some cell with each trivial out
 live_misses : (s : Specification) (h : ℕ) (out : Out) → is_live s h ≡ true → IsTrivial s.inputs out → ((t : ℕ) → t < 2 ^ s.inputs → is_met (s.cell h t) (trivial_value s.inputs t out) ≡ true) → ⊥
 unfolding is_live
 live_misses s h out live trivial met =
@@ -55,7 +56,7 @@ live_misses s h out live trivial met =
     let fit : fits s h out ≡ true = meets_fits s h out met in
     absurd cc
 
--- an out of these values that is no constant and no input is a step's place
+-- the out of a live output is a step's place
 live_place : (s : Specification) (c : Chain) (h : ℕ) (out : Out) (last : ℕ) → c.n ≡ s.inputs → is_live s h ≡ true → NamesPlace last out → ((t : ℕ) → t < 2 ^ s.inputs → is_met (s.cell h t) (out_value c t out) ≡ true) → (c.n < place_of out) × (place_of out ≤ last) × (out ≡ kinds.Place (place_of out))
 unfolding place_of
 live_place s c h kinds.Zero last same live names met = absurd (live_misses s h kinds.Zero live tt met)

@@ -1,6 +1,6 @@
--- A chain has at least as many steps as there are inputs in use by a list of outputs, less the number of
--- those outputs: from the last step to the first, each step's place is exchanged for its two operands,
--- which makes a list of places longer by one at most; inputs alone are left, and the outs depend on
+-- A chain has at least as many steps as a list of outputs uses inputs, less the number of those
+-- outputs: from the last step to the first, each step's place is replaced by its two operands,
+-- which makes a list of places longer by at most one; inputs alone are left, and the outs depend on
 -- nothing else.
 use Rattle.std.proofs.Common.{◌≡◌, ℕ, zero, suc, ◌+◌, ◌-◌, ◌<◌, ◌≤◌, Bool, true, false, List, [], ◌∷◌, length, Contains, Some, refl, sym, ap, ap₂, ◌∙◌, subst, arith, inl, inr}
 use Rattle.std.specs.Prelude.{slice_get, slice_index_or}
@@ -23,24 +23,24 @@ use Rattle.bound_core.specs.Places.{has, without, has_cases, has_first, has_late
 true_false : true ≡ false → ⊥
 true_false e = cc
 
--- two rows give each place of a list the same value
+-- each place of a list has the same value on two rows
 abbrev pub AreSame : Chain → List ℕ → ℕ → ℕ → Type 0
 AreSame c places t u = (p : ℕ) → has p places ≡ true → value c t p ≡ value c u p
 
--- Inputs on which the values of these places rest, by a chain's first i steps.
+-- The inputs on which the values of some places depend, by a chain's first i steps.
 pub record Rests (c : Chain) (places : List ℕ) (i : ℕ) : Type 0 where
   pub base : List ℕ
   pub inputs : (p : ℕ) → has p base ≡ true → (1 ≤ p) × (p ≤ c.n)
   pub few : length base ≤ length places + i
   pub follow : (t u : ℕ) → AreSame c base t u → AreSame c places t u
 
--- the step at a place below the end
+-- the step at an index below the number of steps
 step_there : (steps : List Step) (i : ℕ) → i < length steps → (s : Step) × (slice_get steps i ≡ Some s)
 step_there [] i low = absurd (omega arith)
 step_there (s ∷ steps) zero low = (s, refl)
 step_there (s ∷ steps) (suc i) low = step_there steps i (omega arith)
 
--- places with a step's place exchanged for its operands
+-- places with a step's place replaced by its operands
 abbrev exchanged : ℕ → Step → List ℕ → List ℕ
 exchanged place s places = s.j ∷ s.k ∷ without place places
 
@@ -75,7 +75,7 @@ exchanged_same c i place s places t u e is at same p h = elim (cases_Bool (has p
       | inr apart ↦ absurd (true_false (sym (without_keeps place p places apart h) ∙ gone))
     ]
 
--- The values of places rest on as many inputs as there are places and steps below them, at most.
+-- The values of places depend on at most as many inputs as there are places and steps below them.
 pub rests : (c : Chain) → IsChain c → (i : ℕ) (places : List ℕ) → i ≤ length c.steps → ((p : ℕ) → has p places ≡ true → (1 ≤ p) × (p ≤ c.n + i)) → Rests c places i
 rests c is zero places within low = record {
   base = places;
@@ -152,7 +152,7 @@ unfolding out_places
 places_low last outs [] names = λ p h. absurd (has_none p h)
 places_low last outs (g ∷ hs) names = with_low last (out_of outs g) (out_places outs hs) (names g (0, omega arith, refl)) (places_low last outs hs (λ h c. names h (Contains-append_right (g ∷ []) hs h c)))
 
--- an out has the same value where the places have
+-- an out has the same value on two rows on which its place has
 with_first : (c : Chain) (out : Out) (places : List ℕ) (t u : ℕ) → AreSame c (with_place out places) t u → out_value c t out ≡ out_value c u out
 unfolding with_place
 with_first c kinds.Zero places t u same = refl
@@ -173,7 +173,7 @@ outs_same c outs (h ∷ hs) t u same (suc k) low = outs_same c outs hs t u (with
 
 -- ---- inputs in use
 
--- cells that ask for 0 and for 1 aren't met by one value
+-- opposite cells aren't met by one value
 pub opposite_met : (a b : Cell) (x y : Bool) → are_opposite a b ≡ true → is_met a x ≡ true → is_met b y ≡ true → x ≡ y → ⊥
 opposite_met Zero Zero x y o m n e = absurd cc
 opposite_met Zero One true y o m n e = absurd cc
@@ -185,13 +185,13 @@ opposite_met One One x y o m n e = absurd cc
 opposite_met One Free x y o m n e = absurd cc
 opposite_met Free b x y o m n e = absurd cc
 
--- the out of an output that the specification numbers names a place of the chain
+-- the out of an output of the specification is a constant or a place of the chain
 pub out_names : (s : Specification) (basis : Basis) (r : ℕ) (has : HasChain s basis r) (h : ℕ) → (1 ≤ h) × (h ≤ s.outputs) → NamesPlace (has.chain.n + r) (out_of has.chain.outs h)
 out_names s basis r has h within =
     let inside : h - 1 < length has.chain.outs = omega (arith, has.agrees.outputs, within.0, within.1) in
     subst (λ (k : ℕ). NamesPlace (has.chain.n + k) (out_of has.chain.outs h)) has.size (has.is_chain.outs (h - 1) kinds.Zero inside)
 
--- Each input that is used is one of those on which the outs rest.
+-- Each input that is used is one of those on which the outs depend.
 is_needed : (s : Specification) (basis : Basis) (r : ℕ) (chain : HasChain s basis r) (outputs : List ℕ) (rest : Rests chain.chain (out_places chain.chain.outs outputs) r) (j h : ℕ) → (1 ≤ h) × (h ≤ s.outputs) → Contains outputs h → IsUsed s j h → has j rest.base ≡ true
 is_needed s basis r chain outputs rest j h within c used = elim (cases_Bool (has j rest.base)) [
   | inl needed ↦ needed
@@ -208,7 +208,8 @@ is_needed s basis r chain outputs rest j h within c used = elim (cases_Bool (has
     same_out free =
         subst (λ (g : ℕ). out_value chain.chain used.row (out_of chain.chain.outs g) ≡ out_value chain.chain used.other (out_of chain.chain.outs g)) (get_or_default outputs c.0 0 h c.1 ∙ c.2) (outs_same chain.chain chain.chain.outs outputs used.row used.other (rest.follow used.row used.other (same_base free)) c.0 c.1)
 
--- The inputs that a list of outputs uses are at most the outputs of the list and the steps together.
+-- The inputs that a list of outputs uses are at most as many as the outputs of the list and the
+-- steps together.
 pub inputs_few : (s : Specification) (basis : Basis) (r : ℕ) (inputs outputs : List ℕ) → AreUsed s inputs outputs → HasChain s basis r → length inputs ≤ length outputs + r
 inputs_few s basis r inputs outputs used chain =
     let c : Chain = chain.chain in

@@ -1,5 +1,5 @@
--- Lists of places: what they have, one place left out, and that no list of different places in another
--- is longer.
+-- Lists of places: membership, removal, and that no list of different places inside another is
+-- longer.
 use Rattle.std.proofs.Common.{◌≡◌, ◌≢◌, ◌⊎◌, ℕ, suc, ◌<◌, ◌≤◌, ◌==◌, Bool, true, false, ◌||◌, List, [], ◌∷◌, length, Contains, refl, sym, ap, ◌∙◌, arith, inl, inr}
 use Rattle.std.specs.Prelude.{if◌then◌else◌, AllPairs}
 use Rattle.std.proofs.lemmas.Grind.{common_steps}
@@ -53,7 +53,7 @@ without_other : (p x : ℕ) (xs : List ℕ) → p ≢ x → without p (x ∷ xs)
 unfolding without
 without_other p x xs other = grind (arith, common_steps, nat_tests)
 
--- it isn't longer
+-- removal makes no list longer
 without_short : (p : ℕ) (xs : List ℕ) → length (without p xs) ≤ length xs
 unfolding without
 without_short p [] = omega arith
@@ -73,7 +73,7 @@ without_less p (x ∷ xs) e = elim (cases_eq p x) [
   ]
 ]
 
--- it has the other places
+-- the other places stay
 pub without_keeps : (p q : ℕ) (xs : List ℕ) → q ≢ p → has q xs ≡ true → has q (without p xs) ≡ true
 without_keeps p q [] apart e = absurd (has_none q e)
 without_keeps p q (x ∷ xs) apart e = elim (cases_eq p x) [
@@ -87,7 +87,7 @@ without_keeps p q (x ∷ xs) apart e = elim (cases_eq p x) [
   ]
 ]
 
--- and none but those
+-- and nothing comes in
 pub without_from : (p q : ℕ) (xs : List ℕ) → has q (without p xs) ≡ true → (q ≢ p) × (has q xs ≡ true)
 unfolding without
 without_from p q [] e = absurd (has_none q e)
@@ -105,7 +105,8 @@ without_from p q (x ∷ xs) e = elim (cases_eq p x) [
 first_apart : (f : ℕ → ℕ) (h : ℕ) (hs : List ℕ) → AllPairs (λ (g k : ℕ). f g ≡ f k → ⊥) (h ∷ hs) → (g : ℕ) → Contains hs g → f h ≡ f g → ⊥
 first_apart f h hs apart g c e = apart 0 (suc c.0) g (omega arith) (omega (arith, c.1)) (e ∙ ap f (sym c.2))
 
--- Where each element of a list has a place of its own in a second list, the second is as long at least.
+-- Where the elements of a list have different places, all in a second list, the second is at least
+-- as long.
 pub no_longer : (f : ℕ → ℕ) (hs room : List ℕ) → AllPairs (λ (g k : ℕ). f g ≡ f k → ⊥) hs → ((h : ℕ) → Contains hs h → has (f h) room ≡ true) → length hs ≤ length room
 no_longer f [] room apart inside = omega arith
 no_longer f (h ∷ hs) room apart inside =

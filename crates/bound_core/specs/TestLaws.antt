@@ -1,4 +1,4 @@
--- The tests of use and of difference pass exactly where there are such rows.
+-- The tests of use and of difference pass exactly where rows show it.
 use Rattle.std.proofs.Common.{◌≡◌, ℕ, zero, suc, ◌+◌, ◌-◌, ◌<◌, ◌≤◌, ◌^◌, ◌==◌, true, false, refl, sym, ap, ◌∙◌, arith, inl, inr}
 use Rattle.std.specs.Prelude.{max}
 use Rattle.std.specs.Int.{bit_at}
@@ -47,7 +47,7 @@ same_row n t u low_t low_u same = same_from_bits t u (λ k. by k)
       | inr past ↦ bit_at_above t n k low_t past ∙ sym (bit_at_above u n k low_u past)
     ]
 
--- a row with the bit 0 of input j, and another that differs in that input alone
+-- a row with the bit 0 of input j, and the other row that differs in that input alone
 raised_is : (n j t u : ℕ) → 1 ≤ j → j ≤ n → t < 2 ^ n → u < 2 ^ n → input n t j ≡ false → input n u j ≡ true → ((i : ℕ) → 1 ≤ i → i ≤ n → (i ≡ j → ⊥) → input n t i ≡ input n u i) → t + 2 ^ (n - j) ≡ u
 raised_is n j t u some low low_t low_u none one alone = same_row n (t + 2 ^ (n - j)) u (raised_low n j t some low low_t none) low_u (λ i from to. by i from to)
   where

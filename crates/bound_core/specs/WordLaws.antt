@@ -1,5 +1,5 @@
--- Whether an output uses an input, by the words of its values and of its specified rows: rows t and
--- t + 2 ^ k are compared all at once, by a word and the same word shifted.
+-- Whether an output uses an input, by the words of its values and of its care set: rows t and t + 2
+-- ^ k are compared all at once, by a word and the same word shifted.
 use Rattle.std.proofs.Common.{◌≡◌, ℕ, zero, suc, ◌+◌, ◌-◌, ◌/◌, ◌%◌, ◌^◌, ◌<◌, ◌≤◌, ◌==◌, Bool, true, false, ◌&&◌, not, refl, sym, ap, ap₂, ◌∙◌, arith, inl, inr}
 use Rattle.std.specs.Prelude.{if◌then◌else◌, slice_index, bit_and, bit_xor, min}
 use Rattle.std.specs.Int.{bit_at}
@@ -68,7 +68,7 @@ same_bit_is true false e = absurd cc
 same_bit_is false true e = absurd cc
 same_bit_is false false e = refl
 
--- the word has these digits on the first rows
+-- the word has the digits of f on the first rows
 are_low : ℕ → ℕ → ℕ → Bool
 are_low word k zero = true
 are_low word k (suc t) = same_bit (digit word t) (not (digit t k)) && are_low word k t
@@ -93,7 +93,7 @@ low_is (suc (suc (suc (suc zero)))) low = refl
 low_is (suc (suc (suc (suc (suc zero))))) low = refl
 low_is (suc (suc (suc (suc (suc (suc k)))))) low = absurd (omega arith)
 
--- ---- rows on which the value turns
+-- ---- rows on which the value changes with the input
 
 -- the rows t whose digit of 2 ^ k is 0, where rows t and t + 2 ^ k are specified and have different values
 abbrev pub turning_rows : ℕ → ℕ → ℕ → ℕ
@@ -112,7 +112,7 @@ turning_digit : (on care k t : ℕ) → digit (turning_rows on care k) t ≡ (((
 turning_digit on care k t =
     rw (digit_and (bit_and (bit_and care (care / 2 ^ 2 ^ k)) (bit_xor on (on / 2 ^ 2 ^ k))) (low_rows k) t, digit_and (bit_and care (care / 2 ^ 2 ^ k)) (bit_xor on (on / 2 ^ 2 ^ k)) t, digit_and care (care / 2 ^ 2 ^ k) t, digit_xor on (on / 2 ^ 2 ^ k) t, digit_shifted care (2 ^ k) t, digit_shifted on (2 ^ k) t) refl
 
--- a row's digit says whether the output turns on it
+-- a row's digit says whether the output's value changes with the input there
 turning_at : (w : Words) (h j t : ℕ) → w.n ≤ 6 → 1 ≤ j → j ≤ w.n → t < 2 ^ w.n → digit (turning_rows (slice_index w.on (h - 1)) (slice_index w.care (h - 1)) (w.n - j)) t ≡ turns_on (specification w) h j t
 unfolding turns_on
 turning_at w h j t few some low inside =
@@ -123,7 +123,7 @@ turning_at w h j t few some low inside =
     let mask : digit (low_rows k) t ≡ not (digit t k) = low_at (low_rows k) k 64 t (low_is k (omega arith)) (omega arith) in
     turning_digit on care k t ∙ ap₂ (λ (a b : Bool). a && b) (opposite_bits (digit care t) (digit care (t + 2 ^ k)) (digit on t) (digit on (t + 2 ^ k))) mask
 
--- no row that isn't specified has a digit
+-- rows that aren't specified have no digit
 turning_past : (on care k t : ℕ) → digit care t ≡ false → digit (turning_rows on care k) t ≡ false
 turning_past on care k t e = turning_digit on care k t ∙ rw e refl
 

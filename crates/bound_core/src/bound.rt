@@ -1,5 +1,6 @@
-//! The counts, by going over inputs, outputs and rows; each function is its definition. Whether an output
-//! uses an input is seen for all rows at once, by its words and the same words shifted.
+//! The counts, by loops over inputs, outputs and rows; each function computes its definition.
+//! Whether an output uses an input is decided for all rows at once, by its words and the same words
+//! shifted.
 ghost use Rattle.std.specs.Prelude.{◌≡◌, ℕ, ◌+◌, ◌^◌, ◌<◌, ◌≤◌, length};
 ghost use Rattle.chain_theory.specs.Operator.{Basis};
 ghost use Rattle.chain_theory.specs.Levels.{greatest};
@@ -14,7 +15,7 @@ ghost use Rattle.bound_core.specs.Counts.{live_next, differ as differ_of, is_new
 
 use tt_core::{Cell, Spec, row, trivial};
 
-/// Whether one cell asks for 0 and the other for 1.
+/// Whether one cell is 0 and the other 1.
 fn are_opposite(a: Cell, b: Cell) -> bool
     ensures { result ≡ are_opposite_of a b }
 {
@@ -75,7 +76,7 @@ fn inputs_of_output(spec: &Spec, h: u32) -> u32
     count
 }
 
-/// Whether no trivial out will do for output `h`.
+/// Whether output `h` is live.
 #[tactic(auto, unfolding(tt_core::specs::Live::is_live))]
 fn is_live(spec: &Spec, h: u32) -> bool
     requires { (1 ≤ h) × (h ≤ length spec.now.on) }
@@ -184,9 +185,9 @@ fn most_of_one(spec: &Spec) -> u32
     most
 }
 
-/// A number of steps that every chain has that agrees, over any basis: the most of the live outputs
-/// that differ, the inputs that one output uses less 1, and the inputs that live outputs use less
-/// their number.
+/// A lower bound for the number of steps of every chain that agrees, over any basis: the greatest
+/// of the number of live outputs that differ, the support size of one output less 1, and the number
+/// of inputs that live outputs use less that of live outputs.
 #[tactic(auto)]
 pub fn lower_bound(spec: &Spec) -> u32
     ensures none_below { (basis : Basis) (q : ℕ) → q < result → HasChain (specification spec.now) basis q → ⊥ }

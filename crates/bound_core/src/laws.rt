@@ -1,4 +1,5 @@
-//! The laws of counting, and what its tests say. Each law is the contract of a function that does nothing.
+//! The laws of counting, and what its tests mean. Each law is the contract of a function that does
+//! nothing.
 ghost use Rattle.std.specs.Prelude.{◌≡◌, ◌↔◌, true, ℕ, ◌+◌, ◌≤◌, List, length};
 ghost use Rattle.chain_theory.specs.Operator.{Basis};
 ghost use Rattle.chain_theory.specs.Specification.{Specification};
@@ -6,8 +7,8 @@ ghost use Rattle.chain_theory.specs.Agreement.{HasChain};
 ghost use Rattle.bound_core.specs.Counts.{uses, differ};
 ghost use Rattle.bound_core.specs.Used.{IsUsed, AreUsed, Differ, AreLiveApart};
 
-/// A chain has at least as many steps as there are inputs in use by a list of outputs, less the
-/// number of those outputs.
+/// A chain has at least as many steps as a list of outputs uses inputs, less the number of those
+/// outputs.
 pub fn inputs_in_use_ask_for_steps()
     ensures { (s : Specification) (basis : Basis) (r : ℕ) (inputs outputs : List ℕ) →
         AreUsed s inputs outputs →
@@ -15,7 +16,7 @@ pub fn inputs_in_use_ask_for_steps()
         length inputs ≤ length outputs + r }
 {}
 
-/// A chain has at least as many steps as there are live outputs each two of which differ.
+/// A chain has at least as many steps as there are live outputs that differ pairwise.
 pub fn live_outputs_ask_for_steps()
     ensures { (s : Specification) (basis : Basis) (r : ℕ) (outputs : List ℕ) →
         AreLiveApart s outputs →
@@ -23,8 +24,9 @@ pub fn live_outputs_ask_for_steps()
         length outputs ≤ r }
 {}
 
-/// An output uses an input by the test that is counted exactly where two rows that differ in that
-/// input alone ask for 0 and for 1, and outputs differ by their test exactly where one row does.
+/// An output uses an input by the test of the counts exactly where two rows that differ in that
+/// input alone have the cells 0 and 1, and outputs differ by their test exactly where they do on
+/// some row.
 pub fn tests_are_rows()
     ensures uses { (s : Specification) (h j : ℕ) →
         1 ≤ j →

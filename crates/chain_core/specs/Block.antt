@@ -1,14 +1,14 @@
--- The chain block of a text, line by line, with the first fault where the lines are none. Lines are
--- judged in their order. Where they end too early, the fault has the number of the line that would
--- come next. Example:
+-- The grammar of chain blocks, line by line, with the first fault where the lines are none. Lines
+-- are judged in their order; where they end too early, the fault has the number of the line that
+-- would come next. Example:
 --
 --     chain 1
 --     x3 x1 x2 0110
 --     out x3
 --
--- The first line tells the number of steps. Then comes a line for each step: its own place, the
+-- The first line says the number of steps. Then comes a line for each step: its own place, the
 -- places of its operands and its operator's word. Then comes a line for each output. A number is
--- decimal digits with no sign and no 0 in front of others.
+-- decimal digits with no sign and no leading 0.
 use Rattle.std.specs.Prelude.{ℕ, ◌+◌, Bool, true, false, ◌&&◌, ◌==◌, nat_lt, nat_le, if◌then◌else◌, List, [], ◌∷◌, ◌++◌, length, Option, Some, None, Result, Ok, Err, codes, option_and_then}
 use Rattle.std.specs.Option.{option_map}
 use Rattle.text_core.specs.Lines.{Line}
@@ -54,28 +54,28 @@ abbrev pub step_from : Option ℕ → Option ℕ → Option ℕ → Option ℕ �
 step_from (Some i) (Some j) (Some k) (Some op) = Some (i, record { j = j; k = k; op = op })
 step_from i j k op = None
 
--- the place that a step's line gives the step, and the step
+-- the place that a step's line names for the step, and the step
 unfoldable pub step_in : List (List ℕ) → Option (ℕ × Step)
 step_in (i ∷ j ∷ k ∷ op ∷ []) = step_from (place_in i) (place_in j) (place_in k) (operator_in op)
 step_in other = None
 
--- The step has to name its own place and no operand 0, and then operands that are places below it.
+-- The step has to name its own place and no operand 0, and then operands that are lower places.
 abbrev pub judged_step : ℕ → ℕ → Option (ℕ × Step) → Result Step ChainError
 judged_step place number None = Err (BadStep number)
 judged_step place number (Some x) = if x.0 == place && nat_lt 0 x.1.j && nat_lt 0 x.1.k then (if nat_lt x.1.j place && nat_lt x.1.k place then Ok x.1 else Err (ForwardPlace number)) else Err (BadStep number)
 
--- the line of the step behind done others
+-- the line of the step after `done` others
 unfoldable pub step_at : Frame → ℕ → Line → Result Step ChainError
 step_at f done l = if l.ended then judged_step (f.n + 1 + done) (f.first_line + 1 + done) (step_in (items_of l.text)) else Err (BadStep (f.first_line + 1 + done))
 
--- the steps that were read and those of the lines, and the lines behind them
+-- the steps that were read followed by those of the lines, and the lines after them
 unfoldable pub steps_from : Frame → List Step → List Line → Result (List Step × List Line) ChainError
 steps_from f steps [] = if length steps == f.steps then Ok (steps, []) else Err (BadStep (f.first_line + 1 + length steps))
 steps_from f steps (l ∷ ls) = if length steps == f.steps then Ok (steps, l ∷ ls) else (step_at f (length steps) l >>= λ s. steps_from f (steps ++ s ∷ []) ls)
 
 -- ---- outs
 
--- whether a text is this one byte
+-- whether a text is exactly this byte
 abbrev pub is_byte : ℕ → List ℕ → Bool
 is_byte byte (b ∷ []) = b == byte
 is_byte byte other = false
@@ -98,18 +98,18 @@ abbrev pub judged_out : ℕ → ℕ → Option Out → Result Out ChainError
 judged_out last number None = Err (BadOut number)
 judged_out last number (Some o) = if is_named last o then Ok o else Err (BadOut number)
 
--- the line of the output behind done others
+-- the line of the output after `done` others
 unfoldable pub out_at : Frame → ℕ → Line → Result Out ChainError
 out_at f done l = if l.ended then judged_out (f.n + f.steps) (f.first_line + 1 + f.steps + done) (out_in l.text) else Err (BadOut (f.first_line + 1 + f.steps + done))
 
--- the outs that were read and those of the lines, and the lines behind them
+-- the outs that were read followed by those of the lines, and the lines after them
 unfoldable pub outs_from : Frame → List Out → List Line → Result (List Out × List Line) ChainError
 outs_from f os [] = if length os == f.outputs then Ok (os, []) else Err (BadOut (f.first_line + 1 + f.steps + length os))
 outs_from f os (l ∷ ls) = if length os == f.outputs then Ok (os, l ∷ ls) else (out_at f (length os) l >>= λ o. outs_from f (os ++ o ∷ []) ls)
 
 -- ---- the block
 
--- a chain that was read, and the lines behind it
+-- a chain that was read, and the lines after it
 pub record Read : Type 0 where
   pub chain : Chain
   pub rest : List Line
@@ -121,8 +121,8 @@ body_from f ls = do
   os ← outs_from f [] steps.1
   Ok (record { chain = record { n = f.n; steps = steps.0; outs = os.0 }; rest = os.1 })
 
--- The chain of n inputs and this number of outputs whose block the lines begin with. The first of
--- them has the number first.
+-- The chain of n inputs and m outputs whose block the lines begin with; the first line has the
+-- number `first`.
 unfoldable pub chain_of : ℕ → ℕ → ℕ → List Line → Result Read ChainError
 chain_of first n outputs [] = Err (BadCount first)
 chain_of first n outputs (l ∷ ls) = do

@@ -1,4 +1,4 @@
--- Reading the lines of a block, one after the other.
+-- Reading the lines of a block, one after another.
 use Rattle.std.proofs.Common.{◌≡◌, List, [], ◌∷◌, length, Ok, arith}
 use Rattle.std.proofs.lemmas.Grind.{common_steps}
 use Rattle.text_core.specs.Lines.{Line}

@@ -4,8 +4,8 @@ use Rattle.chain_theory.specs.Operator.{Basis}
 use Rattle.chain_theory.specs.Chain.{Step, Chain}
 use Rattle.chain_theory.specs.Agreement.{IsOver}
 
--- The step at the place has an operator outside the basis, and no step in front of it has one.
--- Example: over the basis of XOR alone the full adder's first such step is x5, an AND.
+-- The step at the place has an operator outside the basis, and no step before it has one.
+-- Example: over the basis of XOR alone the first such step of the full adder is x5, an AND.
 pub record IsFirstOutside (basis : Basis) (c : Chain) (place : ℕ) : Type 0 where
   pub front : List Step
   pub step : Step
@@ -15,12 +15,12 @@ pub record IsFirstOutside (basis : Basis) (c : Chain) (place : ℕ) : Type 0 whe
   pub inside : All (λ (s : Step). basis s.op ≡ true) front
   pub outside : basis step.op ≡ false
 
--- nothing where the chain is over the basis, else the place of the first step that is outside
+-- None where the chain is over the basis, else the place of the first step that is outside
 abbrev pub IsJudged : Basis → Chain → Option ℕ → Type 0
 IsJudged basis c None = IsOver basis c
 IsJudged basis c (Some place) = IsFirstOutside basis c place
 
--- the first place outside the basis among steps from a place on
+-- the first place outside the basis among the steps from a place on
 unfoldable pub outside_from : Basis → ℕ → List Step → Option ℕ
 outside_from basis place [] = None
 outside_from basis place (s ∷ ss) = if basis s.op then outside_from basis (place + 1) ss else Some place

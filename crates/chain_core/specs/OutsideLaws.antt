@@ -1,4 +1,4 @@
--- What a search along the steps tells of a chain.
+-- What a search along the steps says of a chain.
 use Rattle.std.proofs.Common.{◌≡◌, ℕ, ◌+◌, Bool, true, false, List, [], ◌∷◌, ◌++◌, length, Option, Some, None, refl, ap, arith}
 use Rattle.std.specs.Prelude.{if◌then◌else◌}
 use Rattle.std.specs.List.{AllByRecursion}
@@ -34,7 +34,7 @@ found_here basis place found s ss out same = record {
   outside = out;
 }
 
--- a step behind the first one is outside
+-- a step after the first one is outside
 found_behind : (basis : Basis) (place found : ℕ) (s : Step) (ss : List Step) → basis s.op ≡ true → Found basis (place + 1) ss found → Found basis place (s ∷ ss) found
 found_behind basis place found s ss in' more = record {
   front = s ∷ more.front;
@@ -46,7 +46,7 @@ found_behind basis place found s ss in' more = record {
   outside = more.outside;
 }
 
--- what a step and the search behind it tell where nothing is found
+-- nothing is found exactly by a step inside and a search after it that finds nothing
 none_by : (basis : Basis) (s : Step) (ss : List Step) (test : Bool) (place : ℕ) (more : Option ℕ) → basis s.op ≡ test → (more ≡ None → AllByRecursion (IsInside basis) ss) → (if test then more else Some place) ≡ None → AllByRecursion (IsInside basis) (s ∷ ss)
 none_by basis s ss true place more is onward e = (is, onward e)
 none_by basis s ss false place more is onward e = absurd cc
@@ -61,7 +61,7 @@ none_outside basis place (s ∷ ss) e = none_by basis s ss (basis s.op) place (o
 same_place : (x y : ℕ) → Some x ≡ Some y → x ≡ y
 same_place x y e = cc
 
--- what a step and the search behind it tell where a place is found
+-- a place is found at the first step or by the search after it
 some_by : (basis : Basis) (s : Step) (ss : List Step) (test : Bool) (place found : ℕ) (more : Option ℕ) → basis s.op ≡ test → (more ≡ Some found → Found basis (place + 1) ss found) → (if test then more else Some place) ≡ Some found → Found basis place (s ∷ ss) found
 some_by basis s ss true place found more is onward e = found_behind basis place found s ss is (onward e)
 some_by basis s ss false place found more is onward e = found_here basis place found s ss is (same_place place found e)

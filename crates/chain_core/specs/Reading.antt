@@ -3,7 +3,7 @@ use Rattle.std.specs.Prelude.{◌≡◌, Result, Ok, Err}
 use Rattle.chain_core.specs.declared.error.ChainError.{ChainError}
 use Rattle.chain_core.specs.declared.error.ChainError.TheVariants.{Memory}
 
--- Each refusal is that of the grammar, with its line. Want of memory may come anywhere.
+-- Each refusal is that of the grammar, with its line, or memory ran out, which may happen anywhere.
 abbrev pub Fails : {Y : Type 0} → ChainError → Result Y ChainError → Type 0
 Fails Memory read = Unit {0}
 Fails e read = read ≡ Err e

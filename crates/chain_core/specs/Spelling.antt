@@ -23,7 +23,7 @@ place_text place = codes "x" ++ decimal place
 unfoldable pub step_text : ℕ → Step → List ℕ
 step_text place s = join_with_byte 32 (place_text place ∷ place_text s.j ∷ place_text s.k ∷ word_text s.op ∷ [])
 
--- steps from a place on, a line for each
+-- steps from a place on, one line for each
 unfoldable pub step_lines : ℕ → List Step → List Line
 step_lines place [] = []
 step_lines place (s ∷ ss) = line (step_text place s) ∷ step_lines (place + 1) ss
@@ -50,8 +50,8 @@ chain_lines c = line (count_text (length c.steps)) ∷ (step_lines (c.n + 1) c.s
 abbrev pub chain_text : Chain → List ℕ
 chain_text c = flat_map line_bytes (chain_lines c)
 
--- What was read off the front of the bytes: a chain of these numbers of inputs and outputs and of at
--- most 16 steps. The bytes are its block and then the lines behind it, each byte of them.
+-- What was read from the start of the bytes: a chain of n inputs, m outputs and at most 16 steps.
+-- The bytes are its block followed by the lines after it, each byte of them.
 pub record Spells (n m : ℕ) (bytes : List ℕ) (x : Read) : Type 0 where
   pub chain : IsChain x.chain
   pub inputs : x.chain.n ≡ n

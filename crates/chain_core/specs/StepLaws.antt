@@ -1,4 +1,4 @@
--- Steps that stand at their places, from the first on and up to the last.
+-- Steps at their places, first to last.
 use Rattle.std.proofs.Common.{◌≡◌, ℕ, zero, suc, ◌+◌, List, [], ◌∷◌, ◌++◌, length, Some, refl, ap, ◌∙◌, arith, subst}
 use Rattle.std.specs.Prelude.{slice_get}
 use Rattle.std.proofs.lemmas.List.{length-map, map-append}
@@ -8,11 +8,11 @@ use Rattle.chain_theory.specs.Chain.{AreSteps, IsStepAt}
 use Rattle.chain_core.specs.declared.step.Step.{Step}
 use Rattle.chain_core.specs.Steps.{step_of, steps_of}
 
--- the first step stands at the first place behind the inputs
+-- the first step is at the first place after the inputs
 pub first_step : (n : ℕ) (s : chain.Step) (ss : List chain.Step) → AreSteps n (s ∷ ss) → IsStepAt (n + 1) s
 first_step n s ss are = let e : n + 1 + 0 ≡ n + 1 = omega arith in subst (λ (place : ℕ). IsStepAt place s) e (are.each 0 s refl)
 
--- the others stand behind it
+-- the others follow it
 pub other_steps : (n : ℕ) (s : chain.Step) (ss : List chain.Step) → AreSteps n (s ∷ ss) → AreSteps (n + 1) ss
 other_steps n s ss are = record { each = λ i t is. let e : n + 1 + suc i ≡ n + 1 + 1 + i = omega arith in subst (λ (place : ℕ). IsStepAt place t) e (are.each (suc i) t is) }
 
@@ -22,7 +22,7 @@ pub ruleset standing = (common_steps, first_step)
 pub no_steps : (n : ℕ) → AreSteps n []
 no_steps n = record { each = λ i t is. absurd cc }
 
--- each step of a list with one more in front stands at its place
+-- each step of a list with one more at the head is at its place
 each_of_more : (n : ℕ) (s : chain.Step) (ss : List chain.Step) → IsStepAt (n + 1) s → AreSteps (n + 1) ss → (i : ℕ) (t : chain.Step) → slice_get (s ∷ ss) i ≡ Some t → IsStepAt (n + 1 + i) t
 each_of_more n s ss at are zero t is =
     let same : s ≡ t = cc in
@@ -32,11 +32,11 @@ each_of_more n s ss at are (suc i) t is =
     let e : n + 1 + 1 + i ≡ n + 1 + suc i = omega arith in
     subst (λ (place : ℕ). IsStepAt place t) e (are.each i t is)
 
--- a step in front of others
+-- a step before others
 pub more_in_front : (n : ℕ) (s : chain.Step) (ss : List chain.Step) → IsStepAt (n + 1) s → AreSteps (n + 1) ss → AreSteps n (s ∷ ss)
 more_in_front n s ss at are = record { each = each_of_more n s ss at are }
 
--- a step behind others
+-- a step after others
 pub more_behind : (n : ℕ) (ss : List chain.Step) (s : chain.Step) → AreSteps n ss → IsStepAt (n + 1 + length ss) s → AreSteps n (ss ++ s ∷ [])
 more_behind n [] s are at =
     let e : n + 1 + 0 ≡ n + 1 = omega arith in
@@ -45,7 +45,7 @@ more_behind n (r ∷ ss) s are at =
     let e : n + 1 + suc (length ss) ≡ n + 1 + 1 + length ss = omega arith in
     more_in_front n r (ss ++ s ∷ []) (first_step n r ss are) (more_behind (n + 1) ss s (other_steps n r ss are) (subst (λ (place : ℕ). IsStepAt place s) e at))
 
--- the same of the program's steps
+-- the same for steps as the program holds them
 pub steps_push : (n : ℕ) (xs more : List Step) (x : Step) → more ≡ xs ++ x ∷ [] → AreSteps n (steps_of xs) → IsStepAt (n + 1 + length xs) (step_of x) → AreSteps n (steps_of more)
 steps_push n xs more x e are at =
     let mapped : steps_of more ≡ steps_of xs ++ step_of x ∷ [] = ap steps_of e ∙ map-append step_of xs (x ∷ []) in

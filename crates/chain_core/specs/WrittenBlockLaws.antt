@@ -1,4 +1,4 @@
--- A block that is written is read, and what is read as a block was written, byte for byte.
+-- A spelled block is read, and what is read as a block was spelled so, byte for byte.
 use Rattle.std.proofs.Common.{◌≡◌, ℕ, ◌+◌, ◌≤◌, ◌<◌, true, List, [], ◌∷◌, ◌++◌, length, map, Option, Some, None, Ok, refl, sym, ap, ◌∙◌, arith, subst, append_assoc}
 use Rattle.std.specs.Prelude.{option_and_then, codes}
 use Rattle.std.specs.List.{flat_map, AllByRecursion}
@@ -25,7 +25,7 @@ pub count_at_back : (first r : ℕ) → r ≤ 16 → count_at first (line (count
 unfolding count_at
 count_at_back first r few = rw (count_back r few) (grind (arith, common_steps))
 
--- a number of steps that was let through was read, and is at most 16
+-- a number of steps that passes was read, and is at most 16
 counted_spells : (first : ℕ) (x : Option ℕ) (r : ℕ) → counted first x ≡ Ok r → (x ≡ Some r) × (r ≤ 16)
 counted_spells first None r e = absurd cc
 counted_spells first (Some s) r e = grind (arith, common_steps)
@@ -40,7 +40,7 @@ count_at_spells first l r e =
 
 -- ---- the lines of a block
 
--- what a chain's own block is judged by
+-- the frame of a chain's own block
 abbrev frame : ℕ → Chain → Frame
 frame first c = record { first_line = first; n = c.n; outputs = length c.outs; steps = length c.steps }
 
@@ -60,7 +60,7 @@ pub lines_read : (first : ℕ) (c : Chain) (rest : List Line) → IsSmallChain c
 unfolding chain_of
 lines_read first c rest small = rw (count_at_back first (length c.steps) small.steps) (body_back first c rest small)
 
--- what lines are read as
+-- what the lines of a block are read as
 pub record ReadLines (n m : ℕ) (ls : List Line) (x : Read) : Type 0 where
   pub chain : IsChain x.chain
   pub inputs : x.chain.n ≡ n
@@ -68,7 +68,7 @@ pub record ReadLines (n m : ℕ) (ls : List Line) (x : Read) : Type 0 where
   pub steps : length x.chain.steps ≤ 16
   pub lines : ls ≡ chain_lines x.chain ++ x.rest
 
--- what is read behind a first line that was written was written too
+-- what is read after a spelled first line was spelled so, too
 body_spells : (f : Frame) (l : Line) (ls : List Line) (x : Read) → l ≡ line (count_text f.steps) → f.steps ≤ 16 → body_from f ls ≡ Ok x → ReadLines f.n f.outputs (l ∷ ls) x
 unfolding body_from
 body_spells f l ls x first few e =
@@ -100,7 +100,7 @@ lines_spelled first n m (l ∷ ls) x e =
 
 -- ---- the bytes
 
--- a line that an LF ends, and that has no other
+-- a line that an LF ends, with no LF inside
 pub record IsWritten (l : Line) : Type 0 where
   pub ended : l.ended ≡ true
   pub free : is_free 10 l.text ≡ true
@@ -114,7 +114,7 @@ lines_back (l ∷ ls) rest written =
     let whole : line l.text ≡ l = sym (line_is l l.text written.0.ended refl) in
     ap lines_of bytes ∙ line_back l.text behind written.0.free ∙ (λ i. whole i ∷ lines_back ls rest written.1 i)
 
--- lines that are written, one list after the other
+-- two lists of such lines, one after the other
 pub both_written : (ls more : List Line) → AllByRecursion IsWritten ls → AllByRecursion IsWritten more → AllByRecursion IsWritten (ls ++ more)
 both_written [] more one two = two
 both_written (l ∷ ls) more one two = (one.0, both_written ls more one.1 two)

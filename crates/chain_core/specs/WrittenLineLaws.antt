@@ -1,4 +1,4 @@
--- What is written in a line of a block, and what is read of it.
+-- How a line of a block is spelled, and what is read of it.
 use Rattle.std.proofs.Common.{◌≡◌, ℕ, ◌≤◌, ◌<◌, Bool, true, false, List, [], ◌∷◌, ◌++◌, Option, Some, None, refl, sym, ap, ◌∙◌, arith, subst}
 use Rattle.std.specs.Prelude.{codes, decimal, option_and_then, ◌&&◌, if◌then◌else◌}
 use Rattle.std.specs.Option.{option_map}
@@ -33,12 +33,12 @@ place_spells item p e =
     let parts = number_spells 999999999 p digits (omega arith) is in
     (omega (arith, parts.0), word_spells (codes "x") item digits behind ∙ ap (λ (ds : List ℕ). codes "x" ++ ds) parts.1))
 
--- nothing below the digits stands in the word before a place
+-- nothing below the digits is in the word before a place
 free_x : (byte : ℕ) → byte < 48 → is_free byte (codes "x") ≡ true
 unfolding is_free
 free_x byte low = grind (arith, common_steps)
 
--- a blank or an LF stands in no place
+-- no blank or LF is in a place
 pub free_place : (byte p : ℕ) → byte < 48 → p < 1000000000 → is_free byte (place_text p) ≡ true
 free_place byte p low fits = free_both byte (codes "x") (decimal p) (free_x byte low) (free_decimal byte p low (omega arith))
 
@@ -54,7 +54,7 @@ both_true false b e = absurd cc
 pub operator_spells : (item : List ℕ) (op : ℕ) → operator_in item ≡ Some op → (op < 16) × (item ≡ word_text op)
 operator_spells item op e = let is = item_spelled item op e in (is.low, is.word)
 
--- a blank or an LF stands in no operator
+-- no blank or LF is in an operator
 pub free_operator : (byte op : ℕ) → byte < 48 → is_free byte (word_text op) ≡ true
 unfolding is_free word_text
 free_operator byte op low = grind (arith, common_steps)
@@ -69,12 +69,12 @@ four_items a b c d fa fb fc fd =
     let three = item_back b (c ++ 32 ∷ d) fb ∙ ap (λ (items : List (List ℕ)). b ∷ items) two in
     item_back a (b ++ 32 ∷ (c ++ 32 ∷ d)) fa ∙ ap (λ (items : List (List ℕ)). a ∷ items) three
 
--- no LF stands in two parts with a blank between them
+-- no LF is in two parts with a blank between them
 free_line : (item rest : List ℕ) → is_free 10 item ≡ true → is_free 10 rest ≡ true → is_free 10 (item ++ 32 ∷ rest) ≡ true
 unfolding is_free
 free_line item rest front behind = free_both 10 item (32 ∷ rest) front behind
 
--- no LF stands in four items with a blank between each two
+-- no LF is in four items with a blank between each two
 four_free : (a b c d : List ℕ) → is_free 10 a ≡ true → is_free 10 b ≡ true → is_free 10 c ≡ true → is_free 10 d ≡ true → is_free 10 (join_with_byte 32 (a ∷ b ∷ c ∷ d ∷ [])) ≡ true
 four_free a b c d fa fb fc fd = free_line a (b ++ 32 ∷ (c ++ 32 ∷ d)) fa (free_line b (c ++ 32 ∷ d) fb (free_line c d fc fd))
 
@@ -92,7 +92,7 @@ step_back place s fits at =
     let low : 32 < 48 = omega arith in
     ap step_in (four_items (place_text place) (place_text s.j) (place_text s.k) (word_text s.op) (free_place 32 place low fits) (free_place 32 s.j low j) (free_place 32 s.k low k) (free_operator 32 s.op low)) ∙ step_in_four (place_text place) (place_text s.j) (place_text s.k) (word_text s.op) place s (place_back place fits) (place_back s.j j) (place_back s.k k) (operator_back s.op at.op_below)
 
--- an LF stands in no step
+-- no LF is in a step
 pub free_step : (place : ℕ) (s : Step) → place < 1000000000 → IsStepAt place s → is_free 10 (step_text place s) ≡ true
 unfolding step_text
 free_step place s fits at =
@@ -101,14 +101,14 @@ free_step place s fits at =
     let low : 10 < 48 = omega arith in
     four_free (place_text place) (place_text s.j) (place_text s.k) (word_text s.op) (free_place 10 place low fits) (free_place 10 s.j low j) (free_place 10 s.k low k) (free_operator 10 s.op low)
 
--- what the items of a step are
+-- what the items of a step name
 record Names (i j k o : Option ℕ) (place : ℕ) (s : Step) : Type 0 where
   own : i ≡ Some place
   first : j ≡ Some s.j
   second : k ≡ Some s.k
   operator : o ≡ Some s.op
 
--- what two equal answers hold is equal
+-- equal answers have equal contents
 pub some_is : {A : Type 0} (x y : A) → Some x ≡ Some y → x ≡ y
 some_is x y e = cc
 
@@ -199,7 +199,7 @@ out_spells text o e =
     option_and_then_some named_in (after (codes "out ") text) o e (λ item behind is.
     word_spells (codes "out ") text item behind ∙ ap (λ (rest : List ℕ). codes "out " ++ rest) (named_spells item o is))
 
--- an LF stands in no name of an out
+-- no LF is in the name of an out
 free_named : (o : Out) (last : ℕ) → last < 1000000000 → NamesPlace last o → is_free 10 (named_text o) ≡ true
 unfolding is_free
 free_named outs.Zero last fits named = refl
@@ -211,7 +211,7 @@ free_out_word : is_free 10 (codes "out ") ≡ true
 unfolding is_free
 free_out_word = refl
 
--- an LF stands in no out
+-- no LF is in the line of an out
 pub free_out : (o : Out) (last : ℕ) → last < 1000000000 → NamesPlace last o → is_free 10 (out_text o) ≡ true
 unfolding out_text
 free_out o last fits named = free_both 10 (codes "out ") (named_text o) free_out_word (free_named o last fits named)
@@ -230,12 +230,12 @@ count_spells text r e =
     option_and_then_some number_in (after (codes "chain ") text) r e (λ digits behind is.
     word_spells (codes "chain ") text digits behind ∙ ap (λ (rest : List ℕ). codes "chain " ++ rest) (number_spells 999999999 r digits (omega arith) is).1)
 
--- an LF stands in no word before a number of steps
+-- no LF is in the word before a number of steps
 free_chain_word : is_free 10 (codes "chain ") ≡ true
 unfolding is_free
 free_chain_word = refl
 
--- an LF stands in no number of steps
+-- no LF is in the line of a number of steps
 pub free_count : (r : ℕ) → r ≤ 16 → is_free 10 (count_text r) ≡ true
 unfolding count_text
 free_count r few = free_both 10 (codes "chain ") (decimal r) free_chain_word (free_decimal 10 r (omega arith) (omega arith))

@@ -1,4 +1,4 @@
--- The lines of a block that is written are read, and what is read was written.
+-- The lines of a spelled block are read, and what is read was spelled so.
 use Rattle.std.proofs.Common.{◌≡◌, ℕ, ◌+◌, ◌≤◌, ◌<◌, Bool, true, false, List, [], ◌∷◌, ◌++◌, length, map, Option, Some, None, Result, Ok, Err, refl, sym, ap, ◌∙◌, arith, subst, append_assoc, length-append, ◌⊎◌, inl, inr}
 use Rattle.std.specs.Prelude.{◌&&◌, ◌==◌, nat_lt, nat_le, if◌then◌else◌}
 use Rattle.std.specs.List.{AllByRecursion}
@@ -20,7 +20,7 @@ use Rattle.chain_core.specs.WrittenLineLaws.{both_true, step_back, step_spells, 
 
 -- ---- tests and steps that did not fail
 
--- what was read, and the lines behind it
+-- what was read, and the lines after it
 abbrev read_as : {A : Type 0} → A → List Line → Result (A × List Line) ChainError
 read_as x ls = Ok (x, ls)
 
@@ -28,16 +28,16 @@ read_as x ls = Ok (x, ls)
 abbrev pub done : {A : Type 0} → A → Result A ChainError
 done x = Ok x
 
--- what two equal answers without a fault hold is equal
+-- equal answers without a fault have equal contents
 pub ok_is : {A : Type 0} (x y : A) → done x ≡ done y → x ≡ y
 ok_is x y e = cc
 
--- a test before what was read without a fault is true
+-- where an answer has no fault, the test before it is true
 pub test_ok : {A : Type 0} (b : Bool) (r : Result A ChainError) (d : ChainError) (y : A) → (if b then r else Err d) ≡ Ok y → (b ≡ true) × (r ≡ Ok y)
 test_ok true r d y e = (refl, e)
 test_ok false r d y e = absurd cc
 
--- the first of two parts that were read without a fault was read without one
+-- where two parts were read without a fault, the first one was
 pub bind_ok : {A B : Type 0} (r : Result A ChainError) (f : A → Result B ChainError) (y : B) → (r >>= f) ≡ Ok y → (x : A) × (r ≡ Ok x) × (f x ≡ Ok y)
 bind_ok (Ok x) f y e = (x, refl, e)
 bind_ok (Err d) f y e = absurd cc
@@ -51,13 +51,13 @@ chosen false x y z e = inr (refl, e)
 pub line_is : (l : Line) (text : List ℕ) → l.ended ≡ true → l.text ≡ text → l ≡ line text
 line_is l text ended same = λ i. record { text = same i; ended = ended i }
 
--- fewer are not as many
+-- fewer is not as many
 not_yet : (m n : ℕ) → m < n → (m == n) ≡ false
 not_yet m n less = grind (arith, common_steps)
 
 -- ---- one step
 
--- a step that stands at its place is let through
+-- a step at its place passes
 judged_back : (place number : ℕ) (s : Step) → IsStepAt place s → judged_step place number (Some (place, s)) ≡ Ok s
 judged_back place number s at = grind (arith, common_steps)
 
@@ -69,7 +69,7 @@ record Judged (place : ℕ) (x : Option (ℕ × Step)) (s : Step) : Type 0 where
   k_from : 1 ≤ s.k
   k_below : s.k < place
 
--- a step that was let through names its own place and places below it
+-- a step that passes names its own place and lower places
 judged_spells : (place number : ℕ) (x : Option (ℕ × Step)) (s : Step) → judged_step place number x ≡ Ok s → Judged place x s
 judged_spells place number None s e = absurd cc
 judged_spells place number (Some x) s e =
@@ -113,7 +113,7 @@ steps_back f n old (s ∷ ss) rest place are count fits =
     let onward = steps_back f (n + 1) (old ++ s ∷ []) ss rest (rw length-append (omega arith)) (other_steps n s ss are) (rw length-append (omega arith)) fits in
     rw (not_yet (length old) f.steps (omega arith), read) (onward ∙ ap (λ (xs : List Step). read_as xs rest) (append_assoc old (s ∷ []) ss))
 
--- the steps that were read behind old ones, from the place n + 1 on
+-- the steps that were read after the old ones, from the place n + 1 on
 pub record ReadSteps (f : Frame) (n : ℕ) (old : List Step) (ls : List Line) (y : List Step × List Line) : Type 0 where
   pub steps : List Step
   pub are : AreSteps n steps
@@ -163,7 +163,7 @@ steps_spell f (l ∷ ls) n old y place e =
 
 -- ---- outs
 
--- an out that names a constant or a place is let through
+-- an out that names a constant or a place passes
 judged_out_back : (last number : ℕ) (o : Out) → NamesPlace last o → judged_out last number (Some o) ≡ Ok o
 judged_out_back last number outs.Zero named = refl
 judged_out_back last number outs.One named = refl
@@ -175,7 +175,7 @@ is_named_spells last outs.Zero e = tt
 is_named_spells last outs.One e = tt
 is_named_spells last (outs.Place p) e = let parts = both_true (nat_lt 0 p) (nat_le p last) e in (ltb-true 0 p parts.0, leb-true p last parts.1)
 
--- an out that was let through was read, and names a constant or a place
+-- an out that passes was read, and names a constant or a place
 judged_out_spells : (last number : ℕ) (x : Option Out) (o : Out) → judged_out last number x ≡ Ok o → (x ≡ Some o) × NamesPlace last o
 judged_out_spells last number None o e = absurd cc
 judged_out_spells last number (Some x) o e =
@@ -204,7 +204,7 @@ outs_back f old (o ∷ os) rest named count fits =
     let onward = outs_back f (old ++ o ∷ []) os rest named.1 (rw length-append (omega arith)) fits in
     rw (not_yet (length old) f.outputs (omega arith), out_at_back f (length old) o fits named.0) (onward ∙ ap (λ (xs : List Out). read_as xs rest) (append_assoc old (o ∷ []) os))
 
--- the outs that were read behind old ones
+-- the outs that were read after the old ones
 pub record ReadOuts (f : Frame) (old : List Out) (ls : List Line) (y : List Out × List Line) : Type 0 where
   pub outs : List Out
   pub named : AllByRecursion (NamesPlace (f.n + f.steps)) outs

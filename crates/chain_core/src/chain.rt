@@ -1,4 +1,4 @@
-//! A chain as the program holds it. From outside it is the chain of the definitions.
+//! A chain of bounded size. Contracts see it as the chain of the definitions.
 ghost use Rattle.std.specs.Prelude.{◌≡◌};
 ghost use Rattle.chain_core.specs.Steps.{steps_of, IsSmallChain};
 

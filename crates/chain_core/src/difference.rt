@@ -39,8 +39,7 @@ fn first_row(chain: &Chain, spec: &Spec, h: u32) -> Option<u32>
 }
 
 /// Where a chain first misses a specification: the least output, numbered from 1, and for it the
-/// least row. None where the chain agrees. The chain and the specification have the same number of
-/// inputs and the same number of outputs.
+/// least row. None where the chain agrees. Both have the same number of inputs and of outputs.
 pub fn first_difference(chain: &Chain, spec: &Spec) -> Option<(u32, u32)>
     requires inputs { chain.now.n ≡ spec.now.n }
     requires outputs { length chain.now.outs ≡ length spec.now.on }

@@ -1,6 +1,6 @@
-//! Boolean chains as the program holds them: at most 6 inputs, 16 steps and 8 outputs. It stands on
-//! `chain_theory` for what a chain means, on `op_basis` for operators, on `tt_core` for
-//! specifications and on `text_core` for lines and items of texts.
+//! Boolean chains of bounded size: at most 6 inputs, 16 steps and 8 outputs. `chain_theory` says
+//! what a chain means; the crate uses `op_basis` for operators, `tt_core` for specifications and
+//! `text_core` for lines and items of texts.
 //!
 //! What each call promises:
 //!
@@ -10,11 +10,11 @@
 //!   specification, and None exactly where the chain agrees.
 //! - `first_outside` is the first place whose operator isn't in a basis, and None exactly where the
 //!   chain is over the basis.
-//! - `read_chain` reads a chain block off the front of a text exactly where the grammar of
-//!   `specs/Block.antt` gives a chain, and else tells the first fault with its line. `count_at`,
-//!   `step_at`, `add_step` and `out_at` are its lines, for texts that are read a line at a time.
-//! - `write_chain` appends a chain's one spelling, which `read_chain` takes back (`laws_of_blocks`),
-//!   or leaves what stood there as it was where memory runs out.
+//! - `read_chain` reads a chain block from the start of a text exactly where the grammar of
+//!   `specs/Block.antt` gives a chain, and else reports the first fault with its line. `count_at`,
+//!   `step_at`, `add_step` and `out_at` read its lines, for texts that are read line by line.
+//! - `write_chain` appends a chain's one spelling, which `read_chain` reads again
+//!   (`laws_of_blocks`); where memory runs out the text is unchanged.
 //!
 //! ```text
 //! let (chain, used) = read_chain(alloc, b"chain 1\nx3 x1 x2 0110\nout x3\n", 1, 2, 1)?; // XOR

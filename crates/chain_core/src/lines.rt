@@ -1,6 +1,6 @@
-//! The lines of a chain block, each by itself. A line is judged in three layers, each equal to the
-//! definition of its name: the words of its items, the step or out that they spell, and whether that
-//! may stand there.
+//! The lines of a chain block, one by one. A line is judged in three layers, each equal to the
+//! definition of its name: the words of its items, the step or out that they spell, and whether
+//! that is allowed there.
 
 ghost use Rattle.std.specs.Prelude.{◌≡◌, ◌+◌, ◌-◌, ◌<◌, ◌≤◌, ◌^◌, IfSome, IfOk};
 ghost use Rattle.std.specs.Option.{option_map};
@@ -28,7 +28,7 @@ fn place_in(item: &[u8]) -> Option<u32>
     number_up_to(GREATEST, after(b"x", item)?)
 }
 
-/// The place that a step's line gives the step, and the step.
+/// The place that a step's line names for the step, and the step.
 #[tactic(auto, unfolding(crate::specs::Block::step_in))]
 fn step_in(text: &[u8]) -> Option<(u32, Step)>
     ensures line { option_map (λ x. (x.0, step_of x.1)) result ≡ block.step_in (items_of text.now) }
@@ -67,7 +67,7 @@ fn out_in(text: &[u8]) -> Option<Out>
     }
 }
 
-/// The number of steps that the first line of a block tells.
+/// The number of steps that the first line of a block says.
 #[tactic(auto, unfolding(crate::specs::Block::count_at))]
 pub fn count_at(first_line: u32, text: &[u8], ended: bool) -> Result<u32, ChainError>
     ensures exact { Gives (λ r. r) result (block.count_at first_line (record { text = text.now; ended = ended })) }

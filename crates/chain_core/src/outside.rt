@@ -9,7 +9,7 @@ use crate::chain::Chain;
 use crate::step::Step;
 use op_basis::Basis;
 
-/// The first place outside a basis among steps from a place on.
+/// The first place outside a basis among steps from `place` on.
 #[tactic(auto, unfolding(crate::specs::Outside::outside_from))]
 fn outside_from(first: u32, steps: &[Step], basis: Basis) -> Option<u32>
     requires { first + length steps.now < 2 ^ 32 }

@@ -1,5 +1,5 @@
-//! Chain blocks, line after line. Each loop keeps the equation that the definition, over what was read
-//! and what is left, gives what it gives of the whole, so that its fault is the first one.
+//! Chain blocks, line by line. Each loop keeps one equation: the definition of what is left, given
+//! what was read, is the definition of the whole; so its fault is the first one.
 
 ghost use Rattle.std.specs.Prelude.{◌≡◌, ℕ, ◌+◌, ◌^◌, ◌<◌, ◌≤◌, [], ◌∷◌, ◌++◌, length, drop, All, OnOk, OnErr, IfOk};
 ghost use Rattle.text_core.specs.Lines.{lines_of};
@@ -18,8 +18,8 @@ use chain_theory::Out;
 use std::alloc::{AllocError, Global};
 use text_core::next_line;
 
-/// Adds a step that stands at the next place to the steps before it. An error is want of memory, and
-/// then nothing is added.
+/// Adds a step at the next place to the steps before it. An error means that memory ran out, and
+/// nothing was added.
 #[tactic(auto, using(crate::specs::BlockLaws::more_steps))]
 pub fn add_step(steps: &mut Vec<Step>, step: Step) -> Result<(), AllocError>
     ensures added { OnOk result (steps.new.items ≡ steps.old.items ++ step ∷ []) }
@@ -31,7 +31,7 @@ pub fn add_step(steps: &mut Vec<Step>, step: Step) -> Result<(), AllocError>
     Ok(())
 }
 
-/// The steps of the lines, and what stands behind them.
+/// The steps of the lines, and what follows them.
 #[tactic(auto, using(crate::specs::BlockLaws::steps_loop), unfolding(crate::specs::Block::steps_from))]
 fn steps_from<'a>(
     alloc: Global,
@@ -59,7 +59,7 @@ fn steps_from<'a>(
     Ok((steps, left))
 }
 
-/// The outs of the lines, and what stands behind them.
+/// The outs of the lines, and what follows them.
 #[tactic(auto, using(crate::specs::BlockLaws::outs_loop), unfolding(crate::specs::Block::outs_from))]
 fn outs_from<'a>(
     alloc: Global,
@@ -88,7 +88,7 @@ fn outs_from<'a>(
     Ok((outs, left))
 }
 
-/// The chain of all lines but the first, and what stands behind them.
+/// The chain of all lines but the first, and what follows them.
 #[tactic(auto, using(crate::specs::BlockLaws::resting), unfolding(crate::specs::Block::body_from))]
 fn body_from<'a>(
     alloc: Global,
@@ -110,11 +110,11 @@ fn body_from<'a>(
     Ok((Chain::new(frame.n, steps, outs), rest))
 }
 
-/// Reads a chain block off the front of a text: the chain of `n` inputs and this number of outputs,
-/// and how many bytes its lines take. What stands behind them isn't looked at. `first_line` is the
-/// number that the block's first line has in the whole text.
+/// Reads a chain block from the start of a text: the chain of `n` inputs and `outputs` outputs, and
+/// how many bytes its lines take. What follows them isn't judged. `first_line` is the number of the
+/// block's first line in the whole text.
 ///
-/// Lines are judged in their order, and the first fault is told with its line.
+/// Lines are judged in their order, and the first fault is reported with its line.
 #[tactic(auto, using(crate::specs::BlockLaws::resting), unfolding(crate::specs::Block::chain_of))]
 pub fn read_chain(
     alloc: Global,

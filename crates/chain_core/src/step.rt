@@ -1,4 +1,4 @@
-//! A step as the program holds it.
+//! A step with its operator.
 use op_basis::Op;
 
 /// A step of a chain: an operator on the values of the places `j` and `k`, which may be equal.

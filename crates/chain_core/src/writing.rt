@@ -1,5 +1,5 @@
-//! Chain blocks as they are written: into a text of their own, which goes out whole at the end, so that
-//! nothing is left where memory runs out.
+//! Chain blocks are written into a buffer of their own, which is appended whole at the end, so that
+//! the text is unchanged where memory runs out.
 
 ghost use Rattle.std.specs.Prelude.{◌≡◌, ◌+◌, ◌^◌, ◌<◌, ◌++◌, length, map, OnOk, OnErr};
 ghost use Rattle.std.specs.List.{flat_map};
@@ -14,7 +14,7 @@ use op_basis::write_operator;
 use std::alloc::AllocError;
 use text_core::push_number;
 
-/// Writes a place at the end of a text.
+/// Appends the name of a place.
 fn push_place(text: &mut Vec<u8>, place: u32) -> Result<(), AllocError>
     ensures { OnOk result (text.new.items ≡ text.old.items ++ spelling.place_text place) }
 {
@@ -22,7 +22,7 @@ fn push_place(text: &mut Vec<u8>, place: u32) -> Result<(), AllocError>
     push_number(text, place)
 }
 
-/// Writes the line of the step at a place at the end of a text.
+/// Appends the line of the step at a place.
 #[tactic(auto, unfolding(crate::specs::Spelling::step_text))]
 fn push_step(text: &mut Vec<u8>, place: u32, step: Step) -> Result<(), AllocError>
     ensures { OnOk result (text.new.items ≡ text.old.items ++ line_bytes (spelling.line (spelling.step_text place (step_of step)))) }
@@ -37,7 +37,7 @@ fn push_step(text: &mut Vec<u8>, place: u32, step: Step) -> Result<(), AllocErro
     text.extend_from_slice(b"\n")
 }
 
-/// Writes the lines of steps from a place on at the end of a text.
+/// Appends the lines of steps from a place on.
 #[tactic(auto, unfolding(crate::specs::Spelling::step_lines))]
 fn push_steps(text: &mut Vec<u8>, first: u32, steps: &[Step]) -> Result<(), AllocError>
     requires { first + length steps.now < 2 ^ 32 }
@@ -53,7 +53,7 @@ fn push_steps(text: &mut Vec<u8>, first: u32, steps: &[Step]) -> Result<(), Allo
     Ok(())
 }
 
-/// Writes the line of an output at the end of a text.
+/// Appends the line of an output.
 #[tactic(auto, unfolding(crate::specs::Spelling::out_text))]
 fn push_out(text: &mut Vec<u8>, out: Out) -> Result<(), AllocError>
     ensures { OnOk result (text.new.items ≡ text.old.items ++ line_bytes (spelling.out_line out)) }
@@ -67,7 +67,7 @@ fn push_out(text: &mut Vec<u8>, out: Out) -> Result<(), AllocError>
     text.extend_from_slice(b"\n")
 }
 
-/// Writes the lines of outputs at the end of a text.
+/// Appends the lines of outputs.
 fn push_outs(text: &mut Vec<u8>, outs: &[Out]) -> Result<(), AllocError>
     ensures { OnOk result (text.new.items ≡ text.old.items ++ flat_map line_bytes (map spelling.out_line outs.now)) }
 {
@@ -79,8 +79,8 @@ fn push_outs(text: &mut Vec<u8>, outs: &[Out]) -> Result<(), AllocError>
     Ok(())
 }
 
-/// Writes a chain's block at the end of a text. It has one spelling, and `read_chain` gives the chain
-/// back from it, whatever follows. On an error nothing was written.
+/// Appends a chain's block. It has one spelling, and `read_chain` reads the chain from it, whatever
+/// follows. On an error nothing was appended.
 #[tactic(auto, unfolding(crate::specs::Spelling::count_text))]
 pub fn write_chain(chain: &Chain, out: &mut Vec<u8>) -> Result<(), AllocError>
     ensures ok { OnOk result (out.new.items ≡ out.old.items ++ spelling.chain_text chain.now) }

@@ -1,4 +1,4 @@
--- Levels by the steps of the plain program, one step at a time from the end.
+-- Levels as `plain` computes them, step by step from the last.
 use Rattle.std.proofs.Common.{◌≡◌, ◌≢◌, ℕ, ◌+◌, List, [], ◌∷◌, ◌++◌, length, refl, ◌∙◌, ap, arith}
 use Rattle.std.proofs.lemmas.List.{map-append, length-map}
 use Rattle.chain_theory.specs.Chain.{Step}

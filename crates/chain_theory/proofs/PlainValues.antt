@@ -1,4 +1,4 @@
--- Values by the steps of the plain program, one step at a time from the end.
+-- Values as `plain` computes them, step by step from the last.
 use Rattle.std.proofs.Common.{◌≡◌, ◌≢◌, ℕ, ◌+◌, Bool, List, [], ◌∷◌, ◌++◌, length, refl, ◌∙◌, ap, arith}
 use Rattle.std.proofs.lemmas.List.{map-append, length-map}
 use Rattle.chain_theory.specs.Specification.{input}

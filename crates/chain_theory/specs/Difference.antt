@@ -1,11 +1,11 @@
--- The first place at which a chain misses a specification.
+-- The first cell that a chain misses.
 use Rattle.std.specs.Prelude.{◌≡◌, ℕ, ◌≤◌, ◌<◌, ◌^◌, true, false, Option, Some, None}
 use Rattle.chain_theory.specs.Specification.{Specification}
 use Rattle.chain_theory.specs.Chain.{Chain}
 use Rattle.chain_theory.specs.Agreement.{is_met, output_value, Agrees}
 
--- Output h on row t has a cell that isn't free and that the chain misses. No output below h misses a
--- cell, and output h misses none on a row below t.
+-- Output h misses its cell on row t, which isn't free. No output below h misses a cell, and output
+-- h misses none on a row below t.
 -- Example: OR in place of XOR differs first at output 1 and row 3.
 pub record IsFirstDifference (c : Chain) (s : Specification) (h t : ℕ) : Type 0 where
   pub output_from : 1 ≤ h
@@ -15,7 +15,7 @@ pub record IsFirstDifference (c : Chain) (s : Specification) (h t : ℕ) : Type 
   pub outputs_before : (g u : ℕ) → 1 ≤ g → g < h → u < 2 ^ s.inputs → is_met (s.cell g u) (output_value c g u) ≡ true
   pub rows_before : (u : ℕ) → u < t → is_met (s.cell h u) (output_value c h u) ≡ true
 
--- nothing where the chain agrees, else the output and the row of the first difference
+-- None where the chain agrees, else the output and the row of the first difference
 abbrev pub IsComparison : Chain → Specification → Option (ℕ × ℕ) → Type 0
 IsComparison c s None = Agrees c s
 IsComparison c s (Some at) = IsFirstDifference c s at.0 at.1

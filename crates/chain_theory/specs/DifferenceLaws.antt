@@ -1,4 +1,4 @@
--- A first difference is one.
+-- The first difference is unique.
 use Rattle.std.specs.Prelude.{◌≡◌, ℕ, ◌<◌, true, false, Option, Some, None, refl}
 use Rattle.std.proofs.Common.{sym, ◌∙◌, ap, subst, Bool}
 use Rattle.std.proofs.Math.Logic.{⊎_elim}

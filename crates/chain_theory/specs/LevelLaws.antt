@@ -1,4 +1,4 @@
--- What levels are, without the recursion.
+-- What levels are, without recursion.
 use Rattle.std.specs.Prelude.{◌≡◌, ℕ, zero, suc, ◌+◌, ◌-◌, ◌≤◌, ◌<◌, List, [], ◌∷◌, ◌++◌, length, slice_get, Some, refl}
 use Rattle.std.proofs.Common.{add-zero, arith, sym, ◌∙◌, ap, ◌≢◌, inl, inr}
 use Rattle.std.proofs.lemmas.Bool.{cases_lt}
@@ -6,7 +6,7 @@ use Rattle.std.proofs.lemmas.Bool.Decides.{nat_tests}
 use Rattle.chain_theory.specs.Chain.{Step, Chain, IsStepAt, AreSteps}
 use Rattle.chain_theory.specs.Levels.{placed, step_level, levels_after, level_in, level, HasLevels, greatest, depth}
 
--- the level that was set, and any other
+-- the level of the place that was set, and those of the others
 pub placed-same : (levels : ℕ → ℕ) (place p level : ℕ) → p ≡ place → placed levels place level p ≡ level
 placed-same levels place p level e = grind (arith, nat_tests)
 
@@ -21,7 +21,7 @@ levels_after-push levels place (r ∷ ss) s =
     let e : (place + 1) + length ss ≡ place + suc (length ss) = omega arith in
     rw (← e) (levels_after-push (placed levels place (step_level levels r)) (place + 1) ss s)
 
--- Steps leave the levels of the places below them.
+-- Steps don't change the levels of lower places.
 pub levels_after-below : (levels : ℕ → ℕ) (place p : ℕ) (ss : List Step) → p < place → levels_after levels place ss p ≡ levels p
 unfolding levels_after
 levels_after-below levels place p [] low = refl
@@ -30,7 +30,7 @@ levels_after-below levels place p (s ∷ ss) low =
     let other : p ≢ place = omega arith in
     levels_after-below (placed levels place (step_level levels s)) (place + 1) p ss next ∙ placed-other levels place p (step_level levels s) other
 
--- operands at equal levels
+-- a step with operands at equal levels has the same level
 step_level-same : (f g : ℕ → ℕ) (s : Step) → f s.j ≡ g s.j → f s.k ≡ g s.k → step_level f s ≡ step_level g s
 step_level-same f g s ej ek = rw (ej, ek) refl
 
@@ -80,7 +80,7 @@ level_rises n steps are i s at = let own = level_step n steps are i s at in (ome
 
 -- ---- the greatest level
 
--- none of the numbers is above the greatest
+-- no number is above the greatest
 greatest-bound : (f : ℕ → ℕ) (k i : ℕ) → i < k → f i ≤ greatest f k
 unfolding greatest
 greatest-bound f zero i low = absurd (omega arith)
@@ -89,13 +89,13 @@ greatest-bound f (suc k) i low = elim (cases_lt i k) [
   | inr past ↦ let same : i ≡ k = omega arith in omega (arith, ap f same)
 ]
 
--- and what is above none of them isn't below the greatest
+-- and a bound of all numbers is at least the greatest
 greatest-least : (f : ℕ → ℕ) (k d : ℕ) → ((i : ℕ) → i < k → f i ≤ d) → greatest f k ≤ d
 unfolding greatest
 greatest-least f zero d each = omega arith
 greatest-least f (suc k) d each = omega (arith, each k (omega arith), greatest-least f k d (λ i low. each i (omega arith)))
 
--- No place has a level above the depth, ..
+-- No place has a level above the depth,
 pub depth-bound : (c : Chain) → HasLevels (depth c) c
 depth-bound c p from to = elim (cases_lt p (c.n + 1)) [
   | inl is_input ↦ omega (arith, input_level c.n p c.steps (omega arith))
@@ -106,6 +106,6 @@ depth-bound c p from to = elim (cases_lt p (c.n + 1)) [
       omega (arith, greatest-bound (λ (k : ℕ). level c (c.n + 1 + k)) (length c.steps) i inside, ap (level c) here)
 ]
 
--- .. and the depth is the least such number.
+-- and the depth is the least number that bounds all levels.
 pub depth-least : (c : Chain) (d : ℕ) → HasLevels d c → depth c ≤ d
 depth-least c d has = greatest-least (λ (k : ℕ). level c (c.n + 1 + k)) (length c.steps) d (λ i low. has (c.n + 1 + i) (omega arith) (omega arith))

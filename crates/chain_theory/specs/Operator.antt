@@ -2,7 +2,7 @@
 use Rattle.std.specs.Prelude.{ℕ, Bool, true, false, ◌==◌}
 use Rattle.std.specs.Int.{bit_at}
 
--- the binary digit of a number that stands for 2 ^ k
+-- the binary digit of weight 2 ^ k of a number
 -- Example: the digits 3, 2, 1, 0 of 6 are 0, 1, 1, 0.
 abbrev pub digit : ℕ → ℕ → Bool
 digit number k = bit_at number k == 1
@@ -17,7 +17,7 @@ apply op false true = digit op 2
 apply op true false = digit op 1
 apply op true true = digit op 0
 
--- A basis is a set of operators, given by the test that tells its members.
+-- A basis is a set of operators (a gate set), given by its membership test.
 -- Example: the basis of NAND alone is λ op. op == 14.
 abbrev pub Basis : Type 0
 Basis = ℕ → Bool

@@ -1,4 +1,4 @@
--- How the plain program holds its data.
+-- How `plain` holds its data.
 use Rattle.std.specs.Prelude.{◌≡◌, ℕ, ◌<◌, ◌^◌, ◌+◌, ◌-◌, ◌*◌, true, List, map, slice_index_or, []}
 use Rattle.chain_theory.specs.Specification.{Specification}
 use Rattle.chain_theory.specs.Chain.{Step, Chain}
@@ -22,8 +22,8 @@ chain_of n steps outs = record { n = n; steps = steps_of steps; outs = outs }
 abbrev pub MeetsRows : ℕ → List PlainStep → Out → List Cell → Type 0
 MeetsRows n steps out cells = (t : ℕ) → t < 2 ^ n → is_met (slice_index_or cells t Free) (out_value (chain_of n steps []) t out) ≡ true
 
--- What a list of cells asks for: first all cells of output 1, row 0 first, then all of output 2, and
--- so on.
+-- A specification as one list of cells: first all cells of output 1, row 0 first, then all of
+-- output 2, and so on.
 -- Example: XOR and AND of two inputs are the eight cells 0, 1, 1, 0, 0, 0, 0, 1.
 abbrev pub flat_specification : ℕ → ℕ → List Cell → Specification
 flat_specification n m cells = record { inputs = n; outputs = m; cell = λ h t. slice_index_or cells ((h - 1) * 2 ^ n + t) Free }

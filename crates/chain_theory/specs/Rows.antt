@@ -20,14 +20,14 @@ higher_bit : (r i : ℕ) (b : Bool) → digit (2 * r + cond b 1 0) (suc i) ≡ d
 higher_bit r i true = let half : (2 * r + 1) / 2 ≡ r = omega arith in ap (λ (x : ℕ). x == 1) (bit_at-suc (2 * r + 1) i ∙ ap (λ (x : ℕ). bit_at x i) half)
 higher_bit r i false = let half : (2 * r + 0) / 2 ≡ r = omega arith in ap (λ (x : ℕ). x == 1) (bit_at-suc (2 * r + 0) i ∙ ap (λ (x : ℕ). bit_at x i) half)
 
--- its digit of bit j
+-- the digit of weight 2 ^ i of the row is the bit of its input
 pub row_digit : (bits : ℕ → Bool) (k i j : ℕ) → i + j ≡ k → 1 ≤ j → digit (row_of k bits) i ≡ bits j
 unfolding row_of
 row_digit bits zero i j e some = absurd (omega arith)
 row_digit bits (suc k) zero j e some = let last : suc k ≡ j = omega arith in lowest_bit (row_of k bits) (bits (suc k)) ∙ ap bits last
 row_digit bits (suc k) (suc i) j e some = higher_bit (row_of k bits) i (bits (suc k)) ∙ row_digit bits k i j (omega arith) some
 
--- it is a row
+-- it is one of the 2 ^ k rows
 pub row_low : (bits : ℕ → Bool) (k : ℕ) → row_of k bits < 2 ^ k
 unfolding row_of
 row_low bits zero = omega arith

@@ -6,7 +6,7 @@ use Rattle.chain_theory.specs.Chain.{Step, Chain}
 use Rattle.chain_theory.specs.declared.data.Out.{Out}
 use Rattle.chain_theory.specs.declared.data.Out.TheVariants.{Zero, One, Place}
 
--- the bits of the places, with that of one place set
+-- the bits of the places, changed at one place
 abbrev pub extended : (ℕ → Bool) → ℕ → Bool → ℕ → Bool
 extended bits place bit p = if p == place then bit else bits p
 
@@ -14,17 +14,17 @@ extended bits place bit p = if p == place then bit else bits p
 abbrev pub step_value : (ℕ → Bool) → Step → Bool
 step_value bits s = apply s.op (bits s.j) (bits s.k)
 
--- Each step in turn gives its place a bit, the first the place that is given.
+-- Each step in turn gives its place a bit; the first one is at the given place.
 unfoldable pub values_after : (ℕ → Bool) → ℕ → List Step → ℕ → Bool
 values_after bits place [] = bits
 values_after bits place (s ∷ ss) = values_after (extended bits place (step_value bits s)) (place + 1) ss
 
--- the value of a place on row t, by these steps over n inputs
+-- the value of a place on row t, by a list of steps over n inputs
 abbrev pub values_on : ℕ → ℕ → List Step → ℕ → Bool
 values_on n t steps = values_after (input n t) (n + 1) steps
 
 -- The value of an input's place is the input's bit. The value of a step's place is its operator on
--- the values of its operands (the laws of this crate say so in these words).
+-- the values of its operands (`values_of_places` says so without recursion).
 -- Example: the XOR chain has on row 1, which is 01, the values 0, 1 and 1 at the places 1, 2 and 3.
 abbrev pub value : Chain → ℕ → ℕ → Bool
 value c t place = values_on c.n t c.steps place

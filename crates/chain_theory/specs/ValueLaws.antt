@@ -1,4 +1,4 @@
--- What values are, without the recursion.
+-- What values are, without recursion.
 use Rattle.std.specs.Prelude.{◌≡◌, ℕ, zero, ◌+◌, ◌≤◌, ◌<◌, Bool, List, [], ◌∷◌, ◌++◌, length, slice_get, Some, refl}
 use Rattle.std.proofs.Common.{add-zero, arith, sym, ◌∙◌, ap, suc, ◌≢◌}
 use Rattle.std.proofs.lemmas.Bool.Decides.{nat_tests}
@@ -7,14 +7,14 @@ use Rattle.chain_theory.specs.Specification.{input}
 use Rattle.chain_theory.specs.Chain.{Step, Chain, IsStepAt, AreSteps}
 use Rattle.chain_theory.specs.Value.{extended, step_value, values_after, value}
 
--- the bit that was set, and any other
+-- the bit of the place that was set, and those of the others
 pub extended-same : (bits : ℕ → Bool) (place p : ℕ) (bit : Bool) → p ≡ place → extended bits place bit p ≡ bit
 extended-same bits place p bit e = grind (arith, nat_tests)
 
 pub extended-other : (bits : ℕ → Bool) (place p : ℕ) (bit : Bool) → p ≢ place → extended bits place bit p ≡ bits p
 extended-other bits place p bit other = grind (arith, nat_tests)
 
--- One more step at the end sets the bit of its own place, from the bits that the others left.
+-- One more step at the end sets the bit of its own place, from the bits after the others.
 pub values_after-push : (bits : ℕ → Bool) (place : ℕ) (ss : List Step) (s : Step) → values_after bits place (ss ++ s ∷ []) ≡ extended (values_after bits place ss) (place + length ss) (step_value (values_after bits place ss) s)
 unfolding values_after
 values_after-push bits place [] s = rw add-zero refl
@@ -22,7 +22,7 @@ values_after-push bits place (r ∷ ss) s =
     let e : (place + 1) + length ss ≡ place + suc (length ss) = omega arith in
     rw (← e) (values_after-push (extended bits place (step_value bits r)) (place + 1) ss s)
 
--- Steps leave the bits of the places below them.
+-- Steps don't change the bits of lower places.
 pub values_after-below : (bits : ℕ → Bool) (place p : ℕ) (ss : List Step) → p < place → values_after bits place ss p ≡ bits p
 unfolding values_after
 values_after-below bits place p [] low = refl
@@ -31,7 +31,7 @@ values_after-below bits place p (s ∷ ss) low =
     let other : p ≢ place = omega arith in
     values_after-below (extended bits place (step_value bits s)) (place + 1) p ss next ∙ extended-other bits place p (step_value bits s) other
 
--- operators at equal bits
+-- a step with operands of equal bits has the same value
 step_value-same : (f g : ℕ → Bool) (s : Step) → f s.j ≡ g s.j → f s.k ≡ g s.k → step_value f s ≡ step_value g s
 step_value-same f g s ej ek = rw (ej, ek) refl
 

@@ -1,6 +1,6 @@
-//! Cells and outs, the two enums on which the definitions stand.
+//! Cells and outs, the two enums that the definitions use.
 
-/// What a specification asks of an output on a row.
+/// What a specification asks of an output on a row: an entry of its truth table.
 #[derive(Clone, Copy)]
 pub enum Cell {
     /// The output is 0 there.

@@ -1,5 +1,5 @@
-//! What the definitions come to, said without their recursion. Each law is the contract of a
-//! function that does nothing.
+//! What the definitions come to, said without recursion. Each law is the contract of a function
+//! that does nothing.
 ghost use Rattle.std.specs.Prelude.{◌≡◌, ℕ, ◌+◌, ◌≤◌, Some, Option, slice_get, max};
 ghost use Rattle.chain_theory.specs.Operator.{apply};
 ghost use Rattle.chain_theory.specs.Specification.{Specification, input};
@@ -18,8 +18,7 @@ pub fn values_of_places()
         value c t (c.n + 1 + i) ≡ apply s.op (value c t s.j) (value c t s.k) }
 {}
 
-/// The level of a place: an input's is 0, a step's is one more than the larger level of its two
-/// operands.
+/// The level of a place: an input's is 0, a step's is 1 + the larger level of its two operands.
 pub fn levels_of_places()
     ensures input { (c : Chain) (p : ℕ) → p ≤ c.n → level c p ≡ 0 }
     ensures step { (c : Chain) (i : ℕ) (s : Step) →
@@ -28,14 +27,14 @@ pub fn levels_of_places()
         level c (c.n + 1 + i) ≡ 1 + max (level c s.j) (level c s.k) }
 {}
 
-/// The depth of a chain is its greatest level: no place has a level above it, and it is the least such
-/// number.
+/// The depth of a chain is its greatest level: no place has a level above it, and no smaller number
+/// bounds all levels.
 pub fn depth_is_the_greatest_level()
     ensures bound { (c : Chain) → HasLevels (depth c) c }
     ensures least { (c : Chain) (d : ℕ) → HasLevels d c → depth c ≤ d }
 {}
 
-/// A chain and a specification have one first difference, or none.
+/// The first difference of a chain and a specification is unique, if there is one.
 pub fn comparison_is_one()
     ensures { (c : Chain) (s : Specification) (a b : Option (ℕ × ℕ)) →
         IsComparison c s a →

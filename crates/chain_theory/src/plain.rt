@@ -1,5 +1,5 @@
-//! The definitions, computed as they stand: recursion over the steps, one place at a time. It is
-//! meant for reading and for small inputs, and takes exponential time.
+//! The definitions, computed literally: recursion over the steps, one place at a time. For reading
+//! and for small inputs; it takes exponential time.
 ghost use Rattle.std.specs.Prelude.{◌≡◌, ◌*◌, ◌^◌, ◌<◌, ◌≤◌, length, [], true, false};
 ghost use Rattle.chain_theory.specs.Operator.{apply as apply_of};
 ghost use Rattle.chain_theory.specs.Specification.{input as input_of};
@@ -18,7 +18,7 @@ pub struct PlainStep {
     pub op: u8,
 }
 
-/// The value of an operator, given as the number of its word, at two bits.
+/// The value of an operator, given by the number of its word, at two bits.
 pub fn apply(op: u8, a: bool, b: bool) -> bool
     ensures { result ≡ apply_of op a b }
 {
@@ -31,7 +31,8 @@ pub fn apply(op: u8, a: bool, b: bool) -> bool
     (op >> place) & 1 == 1
 }
 
-/// The bit that row `t` gives input `j` of `n`. As in the definitions, `n - j` stops at 0.
+/// The bit that row `t` gives input `j` of `n`. As in the definitions, `n - j` is 0 where `j` is
+/// greater.
 pub fn input(n: u32, t: u32, j: u32) -> bool
     requires { n < 32 }
     ensures { result ≡ input_of n t j }
@@ -100,7 +101,7 @@ pub fn is_met(cell: Cell, bit: bool) -> bool
     }
 }
 
-/// Whether an out meets the cells of its rows, row 0 first.
+/// Whether an out meets the cells of an output, row 0 first.
 pub fn meets_rows(n: u32, steps: &[PlainStep], out: Out, cells: &[Cell]) -> bool
     requires inputs { n < 32 }
     requires steps { length steps.now < 2 ^ 31 }
@@ -118,8 +119,8 @@ pub fn meets_rows(n: u32, steps: &[PlainStep], out: Out, cells: &[Cell]) -> bool
     true
 }
 
-/// Whether a chain with these outs agrees with tables: `cells` holds all cells of output 1, row 0
-/// first, then all of output 2, and so on.
+/// Whether a chain agrees with truth tables: `cells` has all cells of output 1, row 0 first, then
+/// all of output 2, and so on.
 pub fn agrees(n: u32, steps: &[PlainStep], outs: &[Out], cells: &[Cell]) -> bool
     requires inputs { n < 32 }
     requires steps { length steps.now < 2 ^ 31 }

@@ -9,11 +9,11 @@ is_cell c = (c == 48 || c == 49) || c == 45
 abbrev pub on_bit : ℕ → ℕ
 on_bit c = if c == 49 then 1 else 0
 
--- `-` is a row that is not specified
+-- `-` is a row that isn't specified
 abbrev pub care_bit : ℕ → ℕ
 care_bit c = if c == 45 then 0 else 1
 
--- the number whose binary digits are the characters' bits, the first one the least
+-- the number whose binary digits are the characters' bits, the first one the least significant
 unfoldable pub word_of : (ℕ → ℕ) → List ℕ → ℕ
 word_of bit [] = 0
 word_of bit (c ∷ cs) = bit c + 2 * word_of bit cs

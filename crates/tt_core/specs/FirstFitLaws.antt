@@ -8,22 +8,22 @@ use Rattle.chain_theory.specs.declared.data.Out.{Out}
 use Rattle.chain_theory.specs.declared.data.Out.TheVariants.{Zero, One, Place}
 use Rattle.tt_core.specs.Live.{fits, inputs_from, first_fit, trivial_of, IsTrivial, turn, IsFirstFit}
 
--- where nothing is found, the out in front doesn't fit and nothing is found behind it
+-- where nothing is found, the first out doesn't fit and nothing is found after it
 none_found : (test : Bool) (out : Out) (more : Option Out) → (if test then Some out else more) ≡ None → (test ≡ false) × (more ≡ None)
 none_found true out more e = absurd cc
 none_found false out more e = (refl, e)
 
--- what is found is the out in front where that fits, and is found behind it where it doesn't
+-- what is found is the first out where that fits, and is found after it where it doesn't
 one_found : (test : Bool) (out found : Out) (more : Option Out) → (if test then Some out else more) ≡ Some found → ((test ≡ true) × (out ≡ found)) ⊎ ((test ≡ false) × (more ≡ Some found))
 one_found true out found more e = inl (refl, same_Some out found e)
 one_found false out found more e = inr (refl, e)
 
--- an out in front that doesn't fit is passed over
+-- a first out that doesn't fit is passed over
 passed_over : (test : Bool) (out : Out) (more : Option Out) → test ≡ false → (if test then Some out else more) ≡ more
 passed_over true out more e = absurd cc
 passed_over false out more e = refl
 
--- where none of these inputs is found, none of them fits
+-- where none of k inputs from j on is found, none of them fits
 no_input : (s : Specification) (h j k : ℕ) → first_fit s h (inputs_from j k) ≡ None → (i : ℕ) → j ≤ i → i < j + k → fits s h (Place i) ≡ false
 unfolding first_fit inputs_from
 no_input s h j zero e i from to = absurd (omega arith)
@@ -118,7 +118,7 @@ one_first s h zero_fails fit = record {
     before_one One is before = absurd (omega (arith, before))
     before_one (Place i) is before = absurd (omega (arith, before, is.0))
 
--- before an input 0 and 1 are tried, and the inputs in front of it
+-- before an input 0 and 1 are tried, and the inputs before it
 input_first : (s : Specification) (h : ℕ) → fits s h Zero ≡ false → fits s h One ≡ false → (out : Out) → FirstInput s h 1 s.inputs out → IsFirstFit s h out
 input_first s h zero_fails one_fails out first = subst (IsFirstFit s h) first.is record {
   trivial = (first.from, omega (arith, first.to));

@@ -3,7 +3,7 @@ use Rattle.std.specs.Prelude.{◌≡◌, Result, Ok, Err}
 use Rattle.tt_core.specs.declared.error.SpecError.{SpecError}
 use Rattle.tt_core.specs.declared.error.SpecError.TheVariants.{Memory}
 
--- an error is the grammar's own, and want of memory may come anywhere
+-- an error is the grammar's own, or memory ran out, which may happen anywhere
 abbrev pub Fails : {Y : Type 0} → SpecError → Result Y SpecError → Type 0
 Fails Memory read = Unit {0}
 Fails e read = read ≡ Err e

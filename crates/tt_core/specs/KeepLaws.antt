@@ -1,4 +1,4 @@
--- A table line more keeps a specification.
+-- One table line more keeps the invariant of a specification.
 use Rattle.std.proofs.Common.{◌≡◌, ℕ, zero, suc, ◌+◌, ◌*◌, ◌^◌, ◌/◌, ◌<◌, ◌≤◌, true, false, List, [], ◌∷◌, ◌++◌, length, get_or, refl, sym, ◌∙◌, arith, inl, inr, length-append, eq-eqb}
 use Rattle.std.proofs.lemmas.Grind.{common_steps}
 use Rattle.std.proofs.lemmas.Bool.{cases_lt, eqb-true}
@@ -22,7 +22,7 @@ word_bit bit small (x ∷ xs) (suc t) d within =
 on_care : (c : ℕ) → on_bit c ≡ 1 → care_bit c ≡ 1
 on_care c one = grind (arith, common_steps)
 
--- and behind them it has none
+-- and after the last character it has no digit
 pub word_none : (bit : ℕ → ℕ) → IsBit bit → (xs : List ℕ) (t : ℕ) → length xs ≤ t → bit_at (word_of bit xs) t ≡ 0
 unfolding word_of
 word_none bit small [] t past = bit_at-zero t
@@ -31,7 +31,7 @@ word_none bit small (x ∷ xs) (suc t) past =
     let halved : (bit x + 2 * word_of bit xs) / 2 ≡ word_of bit xs = omega (arith, small x) in
     bit_at-suc (bit x + 2 * word_of bit xs) t ∙ rw halved (word_none bit small xs t (omega arith))
 
--- the digit of a value of 1 stands only at a specified row
+-- a digit of the values is 1 only at a specified row
 on_inside : (xs : List ℕ) (t : ℕ) → digit (word_of on_bit xs) t ≡ true → digit (word_of care_bit xs) t ≡ true
 on_inside xs t one =
     let is_one : bit_at (word_of on_bit xs) t ≡ 1 = eqb-true _ _ one in
@@ -40,11 +40,11 @@ on_inside xs t one =
       | inr past ↦ absurd (omega (arith, word_none on_bit on_is_bit xs t past))
     ]
 
--- behind the characters no row is specified
+-- after the last character no row is specified
 care_ends : (xs : List ℕ) (t : ℕ) → length xs ≤ t → digit (word_of care_bit xs) t ≡ false
 care_ends xs t past = rw (word_none care_bit care_is_bit xs t past) refl
 
--- what holds of each two numbers at one place holds also behind a push to both lists
+-- a relation between the numbers at each index of two lists holds after a push to both lists
 pub pairs_push : (R : ℕ → ℕ → Type 0) (xs ys : List ℕ) (x y i : ℕ) → length ys ≡ length xs → ((k : ℕ) → R (get_or xs k 0) (get_or ys k 0)) → R x y → R (get_or (xs ++ x ∷ []) i 0) (get_or (ys ++ y ∷ []) i 0)
 pairs_push R [] [] x y zero same each last = last
 pairs_push R [] [] x y (suc i) same each last = each 0
@@ -53,7 +53,7 @@ pairs_push R (a ∷ xs) [] x y i same each last = absurd (omega arith)
 pairs_push R (a ∷ xs) (b ∷ ys) x y zero same each last = each 0
 pairs_push R (a ∷ xs) (b ∷ ys) x y (suc i) same each last = pairs_push R xs ys x y i (omega arith) (λ k. each (suc k)) last
 
--- A table line more keeps a specification.
+-- One table line more keeps the invariant of a specification.
 pub kept : (n : ℕ) (on care on' care' text : List ℕ) → IsSpec (record { n = n; on = on; care = care }) → length on < 8 → length text ≡ 2 ^ n → on' ≡ on ++ word_of on_bit text ∷ [] → care' ≡ care ++ word_of care_bit text ∷ [] → IsSpec (record { n = n; on = on'; care = care' })
 kept n on care on' care' text spec room rows on-is care-is =
     rw (on-is, care-is) record {

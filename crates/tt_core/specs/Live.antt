@@ -1,4 +1,4 @@
--- Outputs that cost nothing, and the others, which are live.
+-- Trivial outputs, which cost nothing, and the others, which are live.
 use Rattle.std.specs.Prelude.{◌≡◌, ℕ, zero, suc, ◌+◌, ◌-◌, ◌^◌, ◌<◌, ◌≤◌, ⊤, Bool, true, false, ◌&&◌, List, [], ◌∷◌, ◌++◌, Option, Some, None, map, slice_index, if◌then◌else◌}
 use Rattle.chain_theory.specs.Specification.{Specification, input}
 use Rattle.chain_theory.specs.Agreement.{is_met}
@@ -12,21 +12,21 @@ trivial_value n t Zero = false
 trivial_value n t One = true
 trivial_value n t (Place j) = input n t j
 
--- the out meets the cells of output h on the first rows
+-- the out meets the first cells of output h
 unfoldable pub fits_rows : Specification → ℕ → Out → ℕ → Bool
 fits_rows s h out zero = true
 fits_rows s h out (suc t) = fits_rows s h out t && is_met (s.cell h t) (trivial_value s.inputs t out)
 
--- the out meets all cells of output h: it agrees with those that are specified
+-- the out meets all cells of output h
 abbrev pub fits : Specification → ℕ → Out → Bool
 fits s h out = fits_rows s h out (2 ^ s.inputs)
 
--- so many inputs from input j on
+-- the inputs j, j + 1, .. as outs, as many as the second number says
 unfoldable pub inputs_from : ℕ → ℕ → List Out
 inputs_from j zero = []
 inputs_from j (suc k) = Place j ∷ inputs_from (j + 1) k
 
--- the outs that cost nothing: 0, 1, x1, .., xn
+-- the trivial outs, which cost nothing: 0, 1, x1, .., xn
 abbrev pub trivial_outs : ℕ → List Out
 trivial_outs n = Zero ∷ One ∷ inputs_from 1 n
 
@@ -40,26 +40,26 @@ first_fit s h (out ∷ outs) = if fits s h out then Some out else first_fit s h 
 abbrev pub trivial_of : Specification → ℕ → Option Out
 trivial_of s h = first_fit s h (trivial_outs s.inputs)
 
--- an out that costs nothing with n inputs: 0, 1 or one of x1, .., xn
+-- the out costs nothing with n inputs: 0, 1 or one of x1, .., xn
 abbrev pub IsTrivial : ℕ → Out → Type 0
 IsTrivial n Zero = ⊤
 IsTrivial n One = ⊤
 IsTrivial n (Place j) = (1 ≤ j) × (j ≤ n)
 
--- the turn at which an out is tried, in the order 0, 1, x1, x2, ..
+-- the turn in which an out is tried, in the order 0, 1, x1, x2, ..
 abbrev pub turn : Out → ℕ
 turn Zero = 0
 turn One = 1
 turn (Place j) = 1 + j
 
 -- The out costs nothing and meets all cells of output h, and none that is tried before it does.
--- Example: of the outs that meet the table ---- the first is 0, and x1, which meets it too, is not.
+-- Example: of the outs that meet the table ---- the first is 0, not x1, which meets it too.
 pub record IsFirstFit (s : Specification) (h : ℕ) (out : Out) : Type 0 where
   pub trivial : IsTrivial s.inputs out
   pub fitting : fits s h out ≡ true
   pub earlier : (other : Out) → IsTrivial s.inputs other → turn other < turn out → fits s h other ≡ false
 
--- an output is live where no trivial out will do
+-- an output is live where no trivial out meets its cells
 abbrev pub is_none : Option Out → Bool
 is_none None = true
 is_none (Some out) = false
@@ -77,7 +77,7 @@ live_among s (suc k) = if is_live s (suc k) then live_among s k ++ suc k ∷ [] 
 abbrev pub live_outputs : Specification → List ℕ
 live_outputs s = live_among s s.outputs
 
--- the words of these outputs
+-- the words at the numbers of some outputs
 unfoldable pub words_of : List ℕ → List ℕ → List ℕ
 words_of words outputs = map (λ h. slice_index words (h - 1)) outputs
 

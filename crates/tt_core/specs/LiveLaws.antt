@@ -14,12 +14,12 @@ use Rattle.tt_core.specs.Live.{trivial_value, fits_rows, inputs_from, is_live, l
 use Rattle.tt_core.specs.KeepLaws.{pairs_push}
 use Rattle.tt_core.specs.RowLaws.{row_below}
 
--- no row yet
+-- before the first row every out fits
 pub fits_none : (s : Specification) (h : ℕ) (out : Out) → fits_rows s h out 0 ≡ true
 unfolding fits_rows
 fits_none s h out = refl
 
--- one row more
+-- one row more that is met
 pub fits_more : (w : Words) (h : ℕ) (out : Out) (t : ℕ) → fits_rows (specification w) h out t ≡ true → is_met (cell_of w h t) (trivial_value w.n t out) ≡ true → fits_rows (specification w) h out (t + 1) ≡ true
 unfolding fits_rows
 fits_more w h out t before met = rw (add-one, before, met) refl
@@ -38,7 +38,7 @@ fits_fails w h out t k missed low = fits_missed (specification w) h out t k low 
 
 pub ruleset meeting = (common_steps, fits_none, fits_more, fits_fails, row_below)
 
--- the inputs that are left
+-- the inputs from j on are j and those from j + 1 on
 pub inputs_more : (n j : ℕ) → j ≤ n → inputs_from j (n + 1 - j) ≡ Place j ∷ inputs_from (j + 1) (n + 1 - (j + 1))
 unfolding inputs_from
 inputs_more n j within = let e : n + 1 - j ≡ suc (n + 1 - (j + 1)) = omega arith in rw e refl
@@ -49,7 +49,7 @@ inputs_done n j past = let e : n + 1 - j ≡ 0 = omega arith in rw e refl
 
 pub ruleset inputs = (common_steps, inputs_more, inputs_done)
 
--- no output yet
+-- without outputs there are no live ones
 pub live_none : (s : Specification) (words : List ℕ) → words_of words (live_among s 0) ≡ []
 unfolding live_among words_of
 live_none s words = refl
@@ -71,7 +71,7 @@ live_same s words k live =
 
 pub ruleset living = (common_steps, live_none, live_more, live_same)
 
--- the words at a place
+-- the word at an index
 word_at : (words outputs : List ℕ) (i : ℕ) → i < length outputs → slice_index (words_of words outputs) i ≡ slice_index words (slice_index outputs i - 1)
 unfolding words_of
 word_at words [] i within = absurd (omega arith)
@@ -90,14 +90,14 @@ live_cells w h t some low =
     let within : h - 1 < length outputs = omega arith in
     rw (word_at w.care outputs (h - 1) within, word_at w.on outputs (h - 1) within) refl
 
--- both, of a specification that is the live outputs'
+-- the outputs and cells of a specification that is the live part
 pub part_count : (w part : Words) → part ≡ live_words w → length part.on ≡ length (live_outputs (specification w))
 part_count w part is = ap (λ (x : Words). length x.on) is ∙ words_count w.on (live_outputs (specification w))
 
 pub part_cells : (w part : Words) → part ≡ live_words w → (h t : ℕ) → 1 ≤ h → h ≤ length part.on → cell_of part h t ≡ cell_of w (slice_index (live_outputs (specification w)) (h - 1)) t
 part_cells w part is h t some low = ap (λ (x : Words). cell_of x h t) is ∙ live_cells w h t some (omega (arith, part_count w part is))
 
--- A copy of an output more keeps a specification.
+-- One output more, copied from another, keeps the invariant of a specification.
 pub kept_copy : (w : Words) (on care on' care' : List ℕ) (h : ℕ) → IsSpec w → IsSpec (record { n = w.n; on = on; care = care }) → length on < 8 → on' ≡ on ++ slice_index w.on (h - 1) ∷ [] → care' ≡ care ++ slice_index w.care (h - 1) ∷ [] → IsSpec (record { n = w.n; on = on'; care = care' })
 kept_copy w on care on' care' h whole spec room on-is care-is =
     rw (on-is, care-is) record {

@@ -16,12 +16,12 @@ added_cases true xs y x c = elim (Contains-push_cases xs y x c) [
 ]
 added_cases false xs y x c = inl c
 
--- such a list keeps its elements
+-- the list keeps its elements
 added_keeps : (test : Bool) (xs : List ℕ) (y x : ℕ) → Contains xs x → Contains (if test then xs ++ y ∷ [] else xs) x
 added_keeps true xs y x c = Contains-append_left xs (y ∷ []) x c
 added_keeps false xs y x c = c
 
--- and has the number where the test holds
+-- and gets the number where the test holds
 added_has : (test : Bool) (xs : List ℕ) (y : ℕ) → test ≡ true → Contains (if test then xs ++ y ∷ [] else xs) y
 added_has true xs y e = Contains-push xs y
 added_has false xs y e = absurd cc
@@ -47,7 +47,7 @@ live_is_among s (suc k) h some low live = elim (cases_lt h (suc k)) [
       subst (Contains (live_among s (suc k))) (sym same) (added_has (is_live s (suc k)) (live_among s k) (suc k) is)
 ]
 
--- a rising list with a greater number behind it rises
+-- a rising list followed by a greater number rises
 rising_push : (xs : List ℕ) (y : ℕ) → IsStrictlyIncreasing xs → All (λ x. x < y) xs → IsStrictlyIncreasing (xs ++ y ∷ [])
 rising_push xs y rising low k within =
     let long = length_push xs y in

@@ -1,4 +1,4 @@
--- What spells a specification is read as it.
+-- A text that spells a specification is read as it.
 use Rattle.std.proofs.Common.{◌≡◌, ℕ, suc, ◌+◌, ◌-◌, ◌^◌, ◌<◌, ◌≤◌, ◌==◌, Bool, true, false, cond, List, [], ◌∷◌, ◌++◌, length, get_or, drop, Some, None, Result, Ok, length-append, refl, sym, ap, ap₂, ◌∙◌, arith, append_assoc, append-nil, inl, inr, eqb-true, eq-eqb, nat_lt, ltb-true}
 use Rattle.std.specs.Prelude.{codes, decimal, slice_get, slice_index}
 use Rattle.std.specs.List.{list_all}
@@ -29,7 +29,7 @@ same_digit a b low_a low_b same = grind (arith, common_steps)
 same_from_digits : (a b : ℕ) → ((t : ℕ) → digit a t ≡ digit b t) → a ≡ b
 same_from_digits a b same = same_from_bits a b (λ t. same_digit (bit_at a t) (bit_at b t) (bit_at-lt a t) (bit_at-lt b t) (same t))
 
--- what holds at each place holds of all
+-- what holds at each index holds of all
 all_pass : (p : ℕ → Bool) (xs : List ℕ) → ((t : ℕ) → t < length xs → p (get_or xs t 0) ≡ true) → list_all p xs ≡ true
 all_pass p [] each = refl
 all_pass p (x ∷ xs) each = grind (arith, common_steps, each 0, all_pass p xs (λ t within. each (suc t) (omega arith)))
@@ -58,11 +58,11 @@ not_true : (b : Bool) → (b ≡ true → ⊥) → b ≡ false
 not_true true never = absurd (never refl)
 not_true false never = refl
 
--- a digit of the values stands only where the row is specified, and there are no rows but 2 ^ n
+-- a digit of the values is 1 only where the row is specified, and there are 2 ^ n rows
 on_ends : (w : Words) (i t : ℕ) → IsSpec w → 2 ^ w.n ≤ t → digit (slice_index w.on i) t ≡ false
 on_ends w i t spec past = not_true _ (λ one. not_both _ (spec.inside i t one) (spec.rows i t past))
 
--- the cell of the output at a place of the lists
+-- the cell of the output at an index of the lists
 cell_at : (w : Words) (i t : ℕ) → cell_of w (suc i) t ≡ cond (digit (slice_index w.care i) t) (cond (digit (slice_index w.on i) t) One Zero) Free
 cell_at w i t = let place : suc i - 1 ≡ i = omega arith in rw place refl
 
@@ -87,11 +87,11 @@ row_back w h l table = record {
   cells = all_pass is_cell l.text (λ t within. rw (table.cells t (omega (arith, table.rows))) (character_is_cell (cell_of w h t)));
 }
 
--- lines of which each has its place's words, up to the rest
+-- lines that spell the words of their index, up to the rest
 pub record AreRows (n : ℕ) (ls : List Line) (us vs : List ℕ) : Type 0 where
   pub each : (i : ℕ) → i < length us → (l : Line) × (slice_get ls i ≡ Some l) × IsRow n l × (on_word l ≡ get_or us i 0) × (care_word l ≡ get_or vs i 0)
 
--- a cell begins no word
+-- a line of cells doesn't begin with a lower-case letter
 cell_not_lower : (xs : List ℕ) → 0 < length xs → list_all is_cell xs ≡ true → begins_lower xs ≡ false
 cell_not_lower [] some good = absurd (omega arith)
 cell_not_lower (x ∷ xs) some good = grind (arith, common_steps)
@@ -102,7 +102,7 @@ not_zero k some = not_true _ (λ is. let e : k ≡ 0 = eqb-true k 0 is in omega 
 not_eight : (k : ℕ) → k < 8 → (k == 8) ≡ false
 not_eight k room = not_true _ (λ is. let e : k ≡ 8 = eqb-true k 8 is in omega arith)
 
--- a table has a row
+-- a table line has at least one cell
 has_row : (n : ℕ) (l : Line) → IsRow n l → 0 < length l.text
 has_row n l good = omega (arith, good.rows, pow_pos n)
 
@@ -138,11 +138,11 @@ first_row n l ls u v us vs rows =
 other_rows : (n : ℕ) (l : Line) (ls : List Line) (u v : ℕ) (us vs : List ℕ) → AreRows n (l ∷ ls) (u ∷ us) (v ∷ vs) → AreRows n ls us vs
 other_rows n l ls u v us vs rows = record { each = λ i within. rows.each (suc i) (omega arith) }
 
--- a list in front, and one more before the others
+-- an element moves from the second list to the end of the first
 regroup : (xs : List ℕ) (x y : ℕ) (ys : List ℕ) → x ≡ y → (xs ++ x ∷ []) ++ ys ≡ xs ++ y ∷ ys
 regroup xs x y ys e = append_assoc xs (x ∷ []) ys ∙ ap (λ (z : ℕ). xs ++ z ∷ ys) e
 
--- lines of words that are still to be read
+-- lines that spell the words still to be read
 rows_back : (n : ℕ) (on care us vs : List ℕ) (ls rest : List Line) → length vs ≡ length us → AreRows n ls us vs → rest ≡ drop (length us) ls → EndsTables rest → 0 < length on + length us → length on + length us ≤ 8 → rows_of (record { n = n; on = on; care = care }) ls ≡ Ok (record { words = record { n = n; on = on ++ us; care = care ++ vs }; rest = rest })
 rows_back n on care [] [] ls rest same rows behind end some few = rw (append-nil on, append-nil care, ← behind) (end_back (record { n = n; on = on; care = care }) rest end (omega arith))
 rows_back n on care [] (v ∷ vs) ls rest same rows behind end some few = absurd (omega arith)
@@ -160,7 +160,7 @@ header_back n few = rw (word_back (codes "inputs ") (decimal n)) (number_back 99
 not_over : (n : ℕ) → n ≤ 6 → nat_lt 6 n ≡ false
 not_over n few = not_true _ (λ is. let e : 6 < n = ltb-true 6 n is in omega arith)
 
--- the table lines behind a header
+-- the table lines after a header
 rows_spelled : (w : Words) (l : Line) (ls rest : List Line) → IsSpec w → SpellsTables (specification w) (l ∷ ls) rest → AreRows w.n ls w.on w.care
 rows_spelled w l ls rest spec spells = record {
   each = λ i within.
@@ -171,7 +171,7 @@ rows_spelled w l ls rest spec spells = record {
 rest_is : (l : Line) (ls rest : List Line) (k : ℕ) → rest ≡ drop (1 + k) (l ∷ ls) → rest ≡ drop k ls
 rest_is l ls rest k e = let more : 1 + k ≡ suc k = omega arith in rw more at e
 
--- Where lines spell a specification, it is read, and the rest behind it.
+-- Where lines spell a specification, it is read, followed by the rest.
 pub tables_again : (w : Words) (ls rest : List Line) → IsSpec w → SpellsTables (specification w) ls rest → tables_of ls ≡ Ok (record { words = w; rest = rest })
 tables_again w [] rest spec spells = absurd cc
 tables_again w (l ∷ ls) rest spec spells =

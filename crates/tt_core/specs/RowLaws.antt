@@ -1,7 +1,7 @@
--- How many rows there are.
+-- How many rows there are at most.
 use Rattle.std.proofs.Common.{ℕ, ◌^◌, ◌≤◌, arith}
 use Rattle.std.proofs.Math.Pow.{pow_mono}
 
--- six inputs have 64 rows
+-- with at most six inputs there are at most 64 rows
 pub row_below : (n : ℕ) → n ≤ 6 → 2 ^ n ≤ 64
 row_below n few = let wide : 2 ^ n ≤ 2 ^ 6 = pow_mono few in omega arith

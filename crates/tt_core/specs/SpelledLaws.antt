@@ -18,7 +18,7 @@ use Rattle.tt_core.specs.Spelling.{character, header_line, IsTableLine, EndsTabl
 use Rattle.tt_core.specs.CellWordLaws.{on_is_bit, care_is_bit}
 use Rattle.tt_core.specs.KeepLaws.{word_bit}
 
--- a good table line
+-- a good table line: cells alone, as many as there are rows, and an LF
 pub record IsRow (n : ℕ) (l : Line) : Type 0 where
   pub ended : l.ended ≡ true
   pub rows : length l.text ≡ 2 ^ n
@@ -31,7 +31,7 @@ on_word l = word_of on_bit l.text
 abbrev pub care_word : Line → ℕ
 care_word l = word_of care_bit l.text
 
--- the table lines that were read behind those of w
+-- the table lines that were read after those of w
 pub record ReadsRows (w : Words) (ls : List Line) (r : Read) : Type 0 where
   pub tables : List Line
   pub lines : ls ≡ tables ++ r.rest
@@ -42,7 +42,7 @@ pub record ReadsRows (w : Words) (ls : List Line) (r : Read) : Type 0 where
   pub output : 0 < length r.words.on
   pub end : EndsTables r.rest
 
--- an end that is no fault
+-- the tables end without a fault
 end_ok : (w : Words) (ls : List Line) (r : Read) → end_of w ls ≡ Ok r → (0 < length w.on) × (r ≡ record { words = w; rest = ls })
 end_ok w ls r e = (grind (arith, common_steps), grind (arith, common_steps))
 
@@ -50,7 +50,7 @@ end_ok w ls r e = (grind (arith, common_steps), grind (arith, common_steps))
 row_ok : (n number : ℕ) (l : Line) (read : Result Read SpecError) (r : Read) → unless_fault (row_fault n number l) read ≡ Ok r → IsRow n l × (read ≡ Ok r)
 row_ok n number l read r e = (record { ended = grind (arith, common_steps); rows = grind (arith, common_steps); cells = grind (arith, common_steps) }, grind (arith, common_steps))
 
--- a table line in front of those that were read
+-- one table line before those that were read
 row_front : (w : Words) (l : Line) (ls : List Line) (r : Read) → IsRow w.n l → ReadsRows (with_row w l.text) ls r → ReadsRows w (l ∷ ls) r
 row_front w l ls r good reads = record {
   tables = l ∷ reads.tables;
@@ -63,13 +63,13 @@ row_front w l ls r good reads = record {
   end = reads.end;
 }
 
--- no table line more
+-- no further table line
 no_row : (w : Words) (ls : List Line) (r : Read) → EndsTables ls → end_of w ls ≡ Ok r → ReadsRows w ls r
 no_row w ls r end e =
     let done = end_ok w ls r e in
     rw done.1 record { tables = []; lines = refl; inputs = refl; on = sym (append-nil w.on); care = sym (append-nil w.care); good = tt; output = done.0; end = end }
 
--- a test that went this way or that
+-- a test that went one way or the other
 chosen : {A : Type 0} (b : Bool) (x y z : A) → cond b x y ≡ z → ((b ≡ true) × (x ≡ z)) ⊎ ((b ≡ false) × (y ≡ z))
 chosen true x y z e = inl (refl, e)
 chosen false x y z e = inr (refl, e)
@@ -89,7 +89,7 @@ rows_read w (l ∷ ls) r e =
           row_front w l ls r step.0 (rows_read (with_row w l.text) ls r step.1)
     ]
 
--- the value that a step of two gave
+-- the value that a chain of two options gave
 and_then_ok : {A : Type 0} (o : Option A) (f : A → Option ℕ) (n : ℕ) → option_and_then f o ≡ Some n → (x : A) × (o ≡ Some x) × (f x ≡ Some n)
 and_then_ok None f n e = absurd cc
 and_then_ok (Some x) f n e = (x, refl, e)
@@ -97,7 +97,7 @@ and_then_ok (Some x) f n e = (x, refl, e)
 line_is : (l : Line) (text : List ℕ) → l.text ≡ text → l.ended ≡ true → l ≡ record { text = text; ended = true }
 line_is l text e ended = let line : List ℕ → Bool → Line = λ t b. record { text = t; ended = b } in ap₂ line e ended
 
--- what a header says is how it is written
+-- a header that is read is spelled so
 header_read : (l : Line) (n : ℕ) → inputs_of l ≡ Some n → l ≡ header_line n
 header_read l n e =
     elim (chosen l.ended _ _ _ e) [
@@ -108,7 +108,7 @@ header_read l n e =
       | inr (_, none) ↦ absurd cc
     ]
 
--- a table line at its place: its words stand at the same place
+-- the table line at an index: its words are at the same index
 record TableAt (n i : ℕ) (tables rest : List Line) : Type 0 where
   line : Line
   found : slice_get (tables ++ rest) i ≡ Some line
@@ -123,16 +123,16 @@ table_at n (suc i) (l ∷ tables) rest good within =
     let inner = table_at n i tables rest good.1 (omega arith) in
     record { line = inner.line; found = inner.found; good = inner.good; on = inner.on; care = inner.care }
 
--- a cell has its character
+-- the character of a cell gives the cell
 cell_back : (c : ℕ) → is_cell c ≡ true → character (cond (care_bit c == 1) (cond (on_bit c == 1) One Zero) Free) ≡ c
 cell_back c good = grind (arith, common_steps)
 
--- what a good header and good lines behind it give
+-- what a good header and the good lines after it give
 header_ok : (o : Option ℕ) (ls : List Line) (r : Read) → behind_inputs o ls ≡ Ok r → (n : ℕ) × (o ≡ Some n) × ReadsRows (record { n = n; on = []; care = [] }) ls r
 header_ok None ls r e = absurd cc
 header_ok (Some n) ls r e = (n, refl, rows_read (record { n = n; on = []; care = [] }) ls r (not_full _ _ _ _ e))
 
--- what holds of all holds at a place
+-- what holds of all holds at an index
 pass_at : (p : ℕ → Bool) (xs : List ℕ) (i : ℕ) → i < length xs → list_all p xs ≡ true → p (get_or xs i 0) ≡ true
 pass_at p [] i within all = absurd (omega arith)
 pass_at p (x ∷ xs) zero within all = grind (arith, common_steps)

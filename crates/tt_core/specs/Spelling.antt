@@ -1,4 +1,4 @@
--- Texts of tables, said of the specification that they spell: which character stands where.
+-- Texts of tables, as a relation to the specification that they spell: which character is where.
 use Rattle.std.specs.Prelude.{◌≡◌, ℕ, ◌+◌, ◌^◌, ◌<◌, ◌≤◌, true, List, [], ◌∷◌, ◌++◌, length, Some, slice_get, slice_index, codes, decimal}
 use Rattle.std.proofs.Common.{drop}
 use Rattle.chain_theory.specs.Specification.{Specification}
@@ -23,12 +23,12 @@ pub record IsTableLine (s : Specification) (h : ℕ) (l : Line) : Type 0 where
   pub rows : length l.text ≡ 2 ^ s.inputs
   pub cells : (t : ℕ) → t < 2 ^ s.inputs → slice_index l.text t ≡ character (s.cell h t)
 
--- what may stand behind tables: nothing, or a line that begins with a lower-case letter
+-- what may follow tables: nothing, or a line that begins with a lower-case letter
 abbrev pub EndsTables : List Line → Type 0
 EndsTables [] = Unit {0}
 EndsTables (l ∷ ls) = begins_lower l.text ≡ true
 
--- Lines are the text of a specification, with the rest behind it: a header, the table of output h as
+-- Lines are the text of a specification, followed by the rest: a header, the table of output h as
 -- line h + 1, and at least one table.
 pub record SpellsTables (s : Specification) (ls rest : List Line) : Type 0 where
   pub header : slice_get ls 0 ≡ Some (header_line s.inputs)

@@ -1,9 +1,9 @@
--- Inputs that may be exchanged.
+-- Inputs that may be exchanged (symmetric variables).
 use Rattle.std.specs.Prelude.{◌≡◌, ℕ, ◌^◌, ◌≤◌, ◌<◌, Bool, ◌==◌, if◌then◌else◌}
 use Rattle.chain_theory.specs.Specification.{Specification, input}
 use Rattle.chain_theory.specs.Rows.{row_of}
 
--- p and q exchange their names
+-- the names p and q exchanged
 abbrev pub renamed : ℕ → ℕ → ℕ → ℕ
 renamed p q j = if j == p then q else (if j == q then p else j)
 

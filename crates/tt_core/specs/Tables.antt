@@ -1,4 +1,4 @@
--- The grammar of tables: what a list of lines says, and the first fault from the top where it says nothing.
+-- The grammar of tables: what a list of lines spells, or else the first fault from the top.
 use Rattle.std.specs.Prelude.{ℕ, ◌+◌, ◌^◌, ◌&&◌, List, [], ◌∷◌, ◌++◌, length, codes, Option, Some, None, Result, Ok, Err, nat_lt, not, ◌==◌, if◌then◌else◌}
 use Rattle.std.specs.List.{list_all}
 use Rattle.std.specs.Option.{option_and_then}
@@ -10,12 +10,12 @@ use Rattle.tt_core.specs.declared.error.SpecError.TheVariants.{BadHeader, BadRow
 use Rattle.tt_core.specs.Cells.{is_cell, on_bit, care_bit, word_of}
 use Rattle.tt_core.specs.Words.{Words}
 
--- what was read: the specification's words, and the lines behind the tables
+-- what was read: the specification's words, and the lines after the tables
 pub record Read : Type 0 where
   pub words : Words
   pub rest : List Line
 
--- the number of inputs that the first line says
+-- the number of inputs that the first line names
 abbrev pub inputs_of : Line → Option ℕ
 inputs_of l = if l.ended then option_and_then (number_up_to 999999999) (after (codes "inputs ") l.text) else None
 
@@ -23,7 +23,7 @@ inputs_of l = if l.ended then option_and_then (number_up_to 999999999) (after (c
 abbrev pub row_fault : ℕ → ℕ → Line → Option SpecError
 row_fault n number l = if (l.ended && not (length l.text == 0)) && list_all is_cell l.text then (if length l.text == 2 ^ n then None else Some (WrongLength number)) else Some (BadRow number)
 
--- the words with the output of one table line more
+-- the words with one output more, that of a table line
 abbrev pub with_row : Words → List ℕ → Words
 with_row w text = record { n = w.n; on = w.on ++ word_of on_bit text ∷ []; care = w.care ++ word_of care_bit text ∷ [] }
 
@@ -36,7 +36,7 @@ abbrev pub unless_fault : Option SpecError → Result Read SpecError → Result 
 unless_fault None read = read
 unless_fault (Some fault) read = Err fault
 
--- the table lines, of which those of w have been read
+-- the table lines, after those of w were read
 unfoldable pub rows_of : Words → List Line → Result Read SpecError
 rows_of w [] = end_of w []
 rows_of w (l ∷ ls) = if begins_lower l.text then end_of w (l ∷ ls) else (if length w.on == 8 then Err TooManyOutputs else unless_fault (row_fault w.n (2 + length w.on) l) (rows_of (with_row w l.text) ls))

@@ -1,4 +1,4 @@
--- What was read of a text, with what stands behind the bytes that were used.
+-- What was read of a text, with what follows the bytes that were used.
 use Rattle.std.specs.Prelude.{ℕ, List}
 use Rattle.std.proofs.Common.{drop}
 use Rattle.text_core.specs.Lines.{lines_of}

@@ -1,12 +1,12 @@
--- A specification in words of 64 bits.
+-- A specification in words of 64 bits: bit-parallel truth tables.
 use Rattle.std.specs.Prelude.{◌≡◌, ℕ, ◌-◌, ◌^◌, ◌≤◌, true, false, List, length, slice_index, if◌then◌else◌}
 use Rattle.chain_theory.specs.Operator.{digit}
 use Rattle.chain_theory.specs.Specification.{Specification}
 use Rattle.chain_theory.specs.declared.data.Cell.{Cell}
 use Rattle.chain_theory.specs.declared.data.Cell.TheVariants.{Zero, One, Free}
 
--- n inputs, and for each output a word of its values and a word of the rows that are specified:
--- row t is the binary digit that stands for 2 ^ t.
+-- n inputs, and for each output a word of its values and a word of the rows that are specified (its
+-- care set): row t is the binary digit of weight 2 ^ t.
 -- Example: XOR of two inputs has n = 2, on = 6 ∷ [] and care = 15 ∷ [].
 pub record Words : Type 0 where
   pub n : ℕ
@@ -14,7 +14,7 @@ pub record Words : Type 0 where
   pub care : List ℕ
 
 -- The words are a specification: at most six inputs and eight outputs, both lists of one length, a
--- value of 1 only on a specified row, and no specified row but the 2 ^ n.
+-- value of 1 only on a specified row, and specified rows only among the 2 ^ n.
 pub record IsSpec (w : Words) : Type 0 where
   pub inputs : w.n ≤ 6
   pub outputs : length w.on ≤ 8

@@ -11,7 +11,7 @@ pub enum SpecError {
     BadRow(u32),
     /// This table line is good but for the number of its cells, which isn't 2^N.
     WrongLength(u32),
-    /// The header is good and says more than six inputs.
+    /// The header is good and names more than six inputs.
     TooManyInputs,
     /// There is a ninth table line, whatever its characters.
     TooManyOutputs,

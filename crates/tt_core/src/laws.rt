@@ -1,5 +1,5 @@
-//! What the definitions come to, said without their recursion. Each law is the contract of a
-//! function that does nothing.
+//! What the definitions come to, said without recursion. Each law is the contract of a function
+//! that does nothing.
 ghost use Rattle.std.specs.Prelude.{◌≡◌, ◌↔◌, ℕ, ◌^◌, ◌<◌, ◌≤◌, true, false, Some, None, Contains};
 ghost use Rattle.tt_core.specs.Agreement.{is_met};
 ghost use Rattle.tt_core.specs.Specification.{Specification, input};
@@ -31,7 +31,7 @@ pub fn trivial_is_first_fit()
     ensures first { (s : Specification) (h : ℕ) (out : Out) → trivial_of s h ≡ Some out → IsFirstFit s h out }
 {}
 
-/// The list of live outputs rises, and contains the number of each live output and no other.
+/// The list of live outputs rises, and contains exactly the numbers of the live outputs.
 pub fn live_outputs_are_listed()
     ensures rising { (s : Specification) → IsStrictlyIncreasing (live_outputs s) }
     ensures live { (s : Specification) (h : ℕ) → Contains (live_outputs s) h ↔ ((1 ≤ h) × (h ≤ s.outputs) × (is_live s h ≡ true)) }

@@ -1,6 +1,6 @@
-//! Outputs that are a constant or an input at no cost, and the others, which are live. An output's
-//! trivial out is the first of 0, 1, x1, .., xn that meets all its cells, found by trying them in this
-//! order; what is found is therefore the definition's, and nothing is found where none fits.
+//! Trivial outputs, which a constant or an input implements at no cost, and the others, which are
+//! live. An output's trivial out is the first of 0, 1, x1, .., xn that meets all its cells; the
+//! code tries them in the order of the definition.
 ghost use Rattle.std.specs.Prelude.{◌≡◌, ℕ, ◌+◌, ◌-◌, ◌<◌, ◌≤◌, [], ◌∷◌, ◌++◌, length, slice_index, IfOk, OnOk};
 ghost use Rattle.tt_core.specs.Live.{trivial_value as trivial_value_of, fits as fits_of, trivial_of};
 ghost use Rattle.tt_core.specs.Live.{is_live as is_live_of, live_outputs, live_words};
@@ -39,8 +39,8 @@ fn fits(spec: &Spec, h: u32, out: Out) -> bool
     true
 }
 
-/// The first of the outs 0, 1, x1, .., xn that agrees with output `h` wherever it is specified; no
-/// such out where the output is live. Outputs are numbered from 1.
+/// The first of the outs 0, 1, x1, .., xn that agrees with output `h` wherever it is specified;
+/// None where the output is live. Outputs are numbered from 1.
 #[tactic(auto, unfolding(crate::specs::Live::first_fit), using(crate::specs::LiveLaws::inputs))]
 pub fn trivial(spec: &Spec, h: u32) -> Option<Out>
     requires { (1 ≤ h) × (h ≤ length spec.now.on) }
@@ -60,7 +60,7 @@ pub fn trivial(spec: &Spec, h: u32) -> Option<Out>
     None
 }
 
-/// Whether no trivial out will do for output `h`.
+/// Whether output `h` is live: no trivial out meets its cells.
 #[tactic(auto, unfolding(crate::specs::Live::is_live))]
 fn is_live(spec: &Spec, h: u32) -> bool
     requires { (1 ≤ h) × (h ≤ length spec.now.on) }
@@ -92,7 +92,7 @@ fn push_output(
     Ok(())
 }
 
-/// The specification of the live outputs alone, those that are no trivial out, in their order.
+/// The specification of the live outputs alone, in their order.
 #[tactic(auto, using(crate::specs::LiveLaws::living))]
 pub fn live_part(alloc: Global, spec: &Spec) -> Result<Spec, AllocError>
     ensures words { IfOk result (λ part. part ≡ live_words spec.now) }

@@ -1,6 +1,7 @@
-//! Tables are read line by line: the header, and then rows until the text ends or a line begins with a
-//! lower-case letter. The loop keeps one equation, that the grammar of what is left, given the words of
-//! the rows that were read, is the grammar of the whole; so each refusal is the grammar's first fault.
+//! Tables are read line by line: the header, and then rows until the text ends or a line begins
+//! with a lower-case letter. The loop keeps one equation: the grammar of what is left, given the
+//! words of the rows already read, is the grammar of the whole; so each refusal is the grammar's
+//! first fault.
 ghost use Rattle.std.specs.Prelude.{◌≡◌, ◌+◌, ◌^◌, ◌<◌, ◌≤◌, List, [], ◌∷◌, ◌++◌, length, IfOk, OnOk, OnErr};
 ghost use Rattle.std.proofs.Common.{drop};
 ghost use Rattle.text_core.specs.Lines.{Line, lines_of};
@@ -21,14 +22,14 @@ use text_core::{after, begins_lower, next_line, number_up_to};
 pub struct Tables {
     /// The specification.
     pub spec: Spec,
-    /// How many bytes were read; what stands behind them is not judged.
+    /// How many bytes were read; what follows them isn't judged.
     pub used: usize,
     /// How many lines were read, each with its LF.
     pub lines: u32,
 }
 
-/// The number of inputs that the first line says; None where it isn't `inputs ` and a number of at most
-/// nine digits, or has no LF.
+/// The number of inputs that the first line names; None where it isn't `inputs ` and a number of at
+/// most nine digits, or has no LF.
 pub fn inputs(text: &[u8], ended: bool) -> Option<u32>
     ensures { result ≡ inputs_of (record { text = text.now; ended = ended }) }
 {
@@ -38,8 +39,8 @@ pub fn inputs(text: &[u8], ended: bool) -> Option<u32>
     number_up_to(999_999_999, after(b"inputs ", text)?)
 }
 
-/// Adds the output that a table line of `0`, `1` and `-` spells to the words of the outputs before it.
-/// An error is want of memory, and then nothing is added.
+/// Adds the output that a table line of `0`, `1` and `-` spells to the words of the outputs before
+/// it. An error means that memory ran out, and nothing was added.
 #[tactic(auto, using(crate::specs::RowLaws::row_below))]
 pub fn push_row(
     n: u32,
@@ -61,7 +62,7 @@ pub fn push_row(
     Ok(())
 }
 
-/// The tables, where there is one at least.
+/// The tables, where there is at least one.
 fn finish(n: u32, on: Vec<u64>, care: Vec<u64>, used: usize) -> Result<Tables, SpecError>
     requires { IsSpec (record { n = n; on = on.items; care = care.items }) }
     ensures exact { (ls : List Line) → Gives (λ x. record { words = x.spec; rest = ls }) result
@@ -77,7 +78,7 @@ fn finish(n: u32, on: Vec<u64>, care: Vec<u64>, used: usize) -> Result<Tables, S
     Ok(Tables { spec, used, lines })
 }
 
-/// Reads as the grammar says.
+/// Reads the table lines as the grammar says.
 #[tactic(auto, unfolding(crate::specs::Tables::rows_of), using(crate::specs::RowLaws::row_below))]
 fn read(alloc: Global, bytes: &[u8]) -> Result<Tables, SpecError>
     ensures exact { Gives (read_of bytes.now) result (tables_of (lines_of bytes.now)) }
@@ -117,10 +118,10 @@ fn read(alloc: Global, bytes: &[u8]) -> Result<Tables, SpecError>
     finish(n, on, care, bytes.len() - left.len())
 }
 
-/// Reads a specification from the front of a text: the line `inputs N`, and a line for each output
-/// with its cells for rows 0 to 2^N - 1, each `0`, `1` or `-` for a free one. The tables end with the
-/// text, or before the first line that begins with a lower-case letter. Each line ends with LF. There
-/// are at most six inputs and from one to eight outputs.
+/// Reads a specification from the start of a text: the line `inputs N`, and a line for each output
+/// with its cells for rows 0 to 2^N - 1, each `0`, `1` or `-` for a don't-care. The tables end with
+/// the text, or before the first line that begins with a lower-case letter. Each line ends with LF.
+/// There are at most six inputs and from one to eight outputs.
 pub fn read_tables(alloc: Global, bytes: &[u8]) -> Result<Tables, SpecError>
     requires { length bytes.now < 2 ^ 31 }
     // What is read is spelled so, each character of it, and what is spelled so is read.

@@ -1,5 +1,5 @@
-//! The tables of a specification as the program holds them: two words for each output, one with its
-//! values and one with the rows on which it is specified.
+//! The truth tables of a specification: two words of 64 bits for each output, one with its values
+//! and one with its care set, the rows on which it is specified.
 ghost use Rattle.std.specs.Prelude.{◌≡◌, ◌^◌, ◌<◌, ◌≤◌, length};
 ghost use Rattle.tt_core.specs.Words.{IsSpec, specification};
 
@@ -8,9 +8,9 @@ use std::marker::Model;
 
 /// The tables of up to eight outputs over up to six inputs, with don't-cares.
 ///
-/// Bit t of `on[h - 1]` is the value of output h on row t, and bit t of `care[h - 1]` tells whether
-/// that row is specified. Row t gives input x(j) of n the bit `(t >> (n - j)) & 1`, so x1 is its most
-/// significant bit.
+/// Bit t of `on[h - 1]` is the value of output h on row t, and bit t of `care[h - 1]` is 1 where
+/// that row is specified. Row t gives input x(j) of n the bit `(t >> (n - j)) & 1`, so x1 is its
+/// most significant bit.
 #[derive(Drop)]
 pub struct Spec {
     n: u32,
@@ -59,7 +59,7 @@ impl Spec {
         &self.on
     }
 
-    /// The specified rows of the outputs, a word for each.
+    /// The specified rows of the outputs (their care sets), a word for each.
     pub fn care(&self) -> &[u64]
         ensures { result.now ≡ self.now.care }
     {

@@ -1,5 +1,5 @@
-//! Whether two inputs may be exchanged: the row with their bits exchanged has the same cell, for every
-//! row and every output. The exchanged row is built bit by bit from its first input on.
+//! Whether two inputs are symmetric variables: the row with their bits exchanged has the same cell,
+//! for every row and every output. The exchanged row is built bit by bit from its first input on.
 ghost use Rattle.std.specs.Prelude.{◌≡◌, ◌^◌, ◌<◌, ◌≤◌, length, true, false};
 ghost use Rattle.tt_core.specs.Symmetry.{exchanged as exchanged_of, exchanged_bit as exchanged_bit_of};
 ghost use Rattle.tt_core.specs.Symmetry.{renamed as renamed_of, IsSymmetricOutput, IsSymmetric};
@@ -61,8 +61,8 @@ fn is_symmetric_output(spec: &Spec, p: u32, q: u32, h: u32) -> bool
     true
 }
 
-/// Whether exchanging inputs `p` and `q`, numbered from 1, leaves every cell of every output the
-/// same.
+/// Whether inputs `p` and `q`, numbered from 1, are symmetric: exchanging them leaves every cell of
+/// every output the same.
 pub fn symmetric(spec: &Spec, p: u32, q: u32) -> bool
     requires { (1 ≤ p) × (p < q) × (q ≤ spec.now.n) }
     ensures symmetric { result ≡ true → IsSymmetric (specification spec.now) p q }
