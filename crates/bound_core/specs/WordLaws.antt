@@ -95,7 +95,8 @@ low_is (suc (suc (suc (suc (suc (suc k)))))) low = absurd (omega arith)
 
 -- ---- rows on which the value changes with the input
 
--- the rows t whose digit of 2 ^ k is 0, where rows t and t + 2 ^ k are specified and have different values
+-- the rows t whose digit of weight 2 ^ k is 0, where rows t and t + 2 ^ k are specified and have
+-- different values
 abbrev pub turning_rows : ℕ → ℕ → ℕ → ℕ
 turning_rows on care k = bit_and (bit_and (bit_and care (care / 2 ^ 2 ^ k)) (bit_xor on (on / 2 ^ 2 ^ k))) (low_rows k)
 

@@ -246,7 +246,7 @@ fence_is_low c is d levels =
     (λ (none : last ≤ 0). omega (arith, count, input_level c.n last c.steps (omega arith)))
     (cases_lt 0 last)
 
--- a reduced chain of r steps and at most d levels that stands in a listed fence of at most d levels
+-- a reduced chain of r steps and at most d levels in a listed fence of at most d levels
 pub record HasFencedChain (s : Specification) (basis : Basis) (r d : ℕ) : Type 0 where
   pub reduced : HasReducedChain s basis r d
   pub fence : List ℕ
@@ -254,8 +254,8 @@ pub record HasFencedChain (s : Specification) (basis : Basis) (r d : ℕ) : Type
   pub listed : IsListed s.outputs fence
   pub low : length fence ≤ d
 
--- Where a chain of r steps and at most d levels agrees, and none of fewer steps does, a reduced one in a
--- listed fence of at most d levels does.
+-- Where a chain of r steps and at most d levels agrees, and none of fewer steps does, a reduced one
+-- in a listed fence of at most d levels does.
 pub least_in_fence : (s : Specification) (basis : Basis) (r d : ℕ) → HasChainOfLevels s basis r d → ((q : ℕ) → q < r → HasChain s basis q → ⊥) → HasFencedChain s basis r d
 least_in_fence s basis r d has none_fewer =
     let is : HasReducedChain s basis r d = least s basis r d has none_fewer in

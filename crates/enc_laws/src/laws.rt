@@ -1,4 +1,4 @@
-//! What the formulas of the four methods mean, whatever the tables, the size and the basis. Each law is the
+//! What the formulas of the four methods mean, for all tables, sizes and bases. Each law is the
 //! contract of a function that does nothing.
 ghost use Rattle.std.specs.Prelude.{ℕ, ◌<◌, List, length};
 ghost use Rattle.chain_theory.specs.Agreement.{HasChain, IsMinimum};
