@@ -71,16 +71,14 @@ IsRead c p = (i : ℕ) × (a : Step) × IsStep c i a × Reads a p
 -- - operands rise, if the basis has each operator with its operands exchanged;
 -- - all steps are used: each is an out or is read;
 -- - operators are non-trivial: no step is a copy of an operand, and none is a constant, if
--- constants can be
---   left out;
+--   constants can be left out;
 -- - a step whose operands are equal is no copy, and, if constants can be left out, a negation;
 -- - a negation of an operand has that operand twice;
 -- - steps are in co-lexicographic order: no pair of operands comes before that of the step below
--- it;
+--   it;
 -- - there is no re-application to an operand, if the basis is closed under that;
 -- - of two symmetric inputs, the later one is read without the earlier one only after the earlier
--- one was
---   read without the later one;
+--   one was read without the later one;
 -- - a step that is no out is normal (0 on row 0), if the basis is closed under complements.
 -- Example: over all operators x3 = x1 XOR x2 with the out Place 3 is reduced for the table 0110;
 -- with the operands x2, x1 it isn't.

@@ -4,19 +4,14 @@
 //! here equals them literal by literal.
 //!
 //! - `Encoding` promises that a formula is exactly its definition, that a decoded chain has the
-//! size,
-//!   is over the basis, agrees and is as its part asks, and two laws: where some assignment
-//! satisfies a
-//!   formula of size r, a chain of r steps over the basis agrees (`sound`); and where r is the
-//! least
-//!   size of such a chain, some formula of size r is satisfiable (`complete`).
+//!   size, is over the basis, agrees and is as its part asks, and two laws: where some assignment
+//!   satisfies a formula of size r, a chain of r steps over the basis agrees (`sound`); and where r
+//!   is the least size of such a chain, some formula of size r is satisfiable (`complete`).
 //! - `Layout::new` gives each step its pairs with their variables, in their order.
 //! - `push_common` writes the clauses of any encoding whose steps choose among pairs. Its families
-//! of
-//!   outputs and operators, which have no pairs, can be called alone, for other encodings.
+//!   of outputs and operators, which have no pairs, can be called alone, for other encodings.
 //! - `decode` decodes the chain of an assignment, and `with_outs` adds outs to steps that were
-//! decoded
-//!   in another way.
+//!   decoded in another way.
 //! - `cuts` answers which cuts a basis allows; that they lose nothing is a law of `chain_laws`.
 //!
 //! A call that writes several clauses into a list, or several pairs, may have written some of them
