@@ -1,5 +1,5 @@
--- Whether an output uses an input, by the words of its values and of its care set: rows t and t + 2
--- ^ k are compared all at once, by a word and the same word shifted.
+-- Whether an output uses an input, by the words of its values and of its specified rows: rows t and
+-- t + 2 ^ k are compared all at once, by a word and the same word shifted.
 use Rattle.std.proofs.Common.{◌≡◌, ℕ, zero, suc, ◌+◌, ◌-◌, ◌/◌, ◌%◌, ◌^◌, ◌<◌, ◌≤◌, ◌==◌, Bool, true, false, ◌&&◌, not, refl, sym, ap, ap₂, ◌∙◌, arith, inl, inr}
 use Rattle.std.specs.Prelude.{if◌then◌else◌, slice_index, bit_and, bit_xor, min}
 use Rattle.std.specs.Int.{bit_at}

@@ -1,5 +1,4 @@
-//! A cache of results for specifications over a basis: a lower bound for the number of steps, and a
-//! chain.
+//! A cache of results by specification, over a basis: a lower bound of the steps of a chain that agrees, and a chain.
 //!
 //! The words of `tt_core`'s specifications are the keys. What a memory claims is true whatever its
 //! user asks: the `fewest` of a key is a lower bound, below which no chain over the memory's basis
