@@ -31,7 +31,7 @@ unary_line output name true true = constant_line output name true
 unary_line output name false true = record { output = output; key = key_by And true true; first = name; second = None }
 unary_line output name true false = record { output = output; key = key_by And false true; first = name; second = None }
 
--- the key of two operands by their truth table; a table without a key isn't written
+-- the key of two operands by their truth table: AND, NAND, OR, NOR or XOR, and XNOR for any other
 unfoldable pub binary_key : ℕ → GateKey
 binary_key word = if word == 1 then key_by And true false else (if word == 14 then key_by And false false else (if word == 7 then key_by Or true false else (if word == 8 then key_by Or false false else (if word == 6 then key_by Xor true false else key_by Xor false false))))
 
