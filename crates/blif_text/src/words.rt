@@ -38,7 +38,7 @@ pub fn next_word(text: &[u8]) -> Option<(&[u8], &[u8])>
     Some((start, left))
 }
 
-/// Whether `word` is `this`.
+/// for the prover: `word == this`, as `is_same` is defined.
 pub fn is_word(word: &[u8], this: &[u8]) -> bool
     ensures { result ≡ is_same word.now this.now }
 {

@@ -59,7 +59,7 @@ added_from P seen (t ∷ ts) old more =
     (λ was. added_from P seen ts old (λ u h. more u (or_right (nat_eq u t) (has_ended ts u) h)))
     (λ fresh. added_from P (seen ++ t ∷ []) ts (λ u h. ⊎_elim (λ l. old u l) (λ r. subst P (sym r) here) (ended_cases seen t u h)) (λ u h. more u (or_right (nat_eq u t) (has_ended ts u) h)))
 
--- what stands at a place stays there
+-- an element keeps its index
 added_at : (seen ts : List ℕ) (k t : ℕ) → slice_get seen k ≡ Some t → slice_get (added seen ts) k ≡ Some t
 unfolding added
 added_at seen [] k t e = e

@@ -10,7 +10,7 @@ abbrev pub byte_if : Bool → ℕ → List (List ℕ)
 byte_if true b = (b ∷ []) ∷ []
 byte_if false b = []
 
--- the cover of one input with these values at 0 and 1
+-- the cover of one input, by its values at 0 and 1
 abbrev pub unary_cover : Bool → Bool → Cover
 unary_cover at_zero at_one = record { width = 1; cubes = byte_if at_zero 48 ++ byte_if at_one 49; on = true; parity = false }
 

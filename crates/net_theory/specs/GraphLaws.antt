@@ -112,7 +112,7 @@ some_at [] i low = absurd (omega arith)
 some_at (x ∷ xs) zero low = (x, refl)
 some_at (x ∷ xs) (suc i) low = some_at xs i (omega arith)
 
--- what the graph says is read is read
+-- a fanin in the graph is one in the document
 pub reads_from : (d : Document) (i j : ℕ) → has_ended (reads_of (graph_of d.tables) i) j ≡ true → Reads d i j
 reads_from d i j e =
     let low : i < length d.tables = omega (arith, none_past (graph_of d.tables) i j e, length-graph_of d.tables) in

@@ -11,7 +11,7 @@ use Rattle.net_theory.specs.Cost.{merged_table}
 use Rattle.net_theory.specs.Expansion.{Built, expanded}
 use Rattle.graph_core.specs.Visit.{Graph, order_of}
 
--- ---- who reads whom
+-- ---- fanins of tables
 
 -- the index of the first table that drives a name, where the tables are numbered from the number
 -- given

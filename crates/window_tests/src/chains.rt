@@ -61,6 +61,7 @@ fn is_spliced(alloc: Global, net: &Net, pair: &Pair, left: &Plan) -> bool
     requires fits { Fits pair.now.window pair.now.chain }
     requires few { length pair.now.chain.steps ≤ length pair.now.window.gates }
 {
+    // for the prover: brings the invariant of the net
     let _sources = net.sources();
     let lists = WindowLists {
         gates: pair.window.gates(),
@@ -92,6 +93,7 @@ fn is_substituted(alloc: Global, net: &Net, pair: &Pair, left: &Plan, live: &Pla
     let Ok(true) = agrees(alloc, net, pair) else {
         return false;
     };
+    // for the prover: brings the invariant of the net
     let _sources = net.sources();
     let lists = WindowLists {
         gates: pair.window.gates(),

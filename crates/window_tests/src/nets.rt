@@ -36,6 +36,7 @@ fn is_below(place: u32, sig: Sig) -> bool
 fn is_gate_at(place: u32, gate: &Gate) -> bool
     ensures { IsTrue result → IsGateAt place gate.now }
 {
+    // for the prover: brings the invariant of the operator
     let _word = gate.op.get();
     is_below(place, gate.a) && is_below(place, gate.b)
 }

@@ -21,6 +21,7 @@ fn is_gate(net: &Net, place: u32) -> bool
 pub fn alone(alloc: Global, net: &Net, root: u32, count: u32) -> Result<Option<Window>, AllocError>
     ensures { IfOk result (λ answer. IfSome answer (λ w. Belongs net.now w)) }
 {
+    // for the prover: brings the invariant of the net
     let _sources = net.sources();
     if count == 0 || count > 8 || !is_gate(net, root) {
         return Ok(None);
