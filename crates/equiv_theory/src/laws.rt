@@ -1,4 +1,4 @@
-//! What the definitions come to. Each law is the contract of a function that does nothing.
+//! Laws of the definitions, each the contract of a function that does nothing.
 ghost use Rattle.std.specs.Prelude.{ℕ, List};
 ghost use Rattle.sat_theory.specs.Formula.{Assignment, Satisfies, IsFormula};
 ghost use Rattle.sat_theory.specs.Line.{Line};

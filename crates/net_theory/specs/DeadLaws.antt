@@ -123,7 +123,7 @@ dropped_reached n j h net at set closed =
     let parts = and_parts (live n (n.sources + 1 + made.index)) (set_at set ((kept_gates n).places (n.sources + 1 + made.index))) reached in
     subst (λ (s : Sig). set_at set s ≡ true) made.went parts.1
 
--- sources and constants keep their places
+-- sources keep their places
 source_kept : (n : Net) (p : ℕ) → p ≤ n.sources → (kept_gates n).places p ≡ Place p
 source_kept n p low =
     places_low (live n) n.sources (nothing_kept n.sources) (n.sources + 1) n.gates p (omega arith) ∙ source_stays n.sources p low

@@ -93,7 +93,7 @@ source_names d = d.inputs ++ map latch_output (latches_of d)
 abbrev pub sink_names : Document → List Name
 sink_names d = d.outputs ++ map latch_input d.latches
 
--- each name that something drives; a clock's name is no driver
+-- each name that is driven; a clock's name alone isn't
 abbrev pub driven_names : Document → List Name
 driven_names d = source_names d ++ map table_output d.tables
 

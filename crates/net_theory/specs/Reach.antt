@@ -16,8 +16,8 @@ pub record IsClosedFrom (n : Net) (roots set : ℕ → Bool) : Type 0 where
   pub starts : (p : ℕ) → roots p ≡ true → set p ≡ true
   pub gates : (i p : ℕ) (g : Gate) → slice_get n.gates i ≡ Some g → ReadsPlace g p → set (n.sources + 1 + i) ≡ true → set p ≡ true
 
--- p is in the transitive fanin of the roots: a root, or read by one, directly or through gates. It
--- is in each closed set.
+-- p is in the transitive fanin of the roots: a root, or read by one, directly or through gates.
+-- That is, each closed set has it.
 abbrev pub IsReachedFrom : Net → (ℕ → Bool) → ℕ → Type 0
 IsReachedFrom n roots p = (set : ℕ → Bool) → IsClosedFrom n roots set → set p ≡ true
 

@@ -1,4 +1,4 @@
-//! What the definitions come to. Each law is the contract of a function that does nothing.
+//! Laws of the definitions, each the contract of a function that does nothing.
 ghost use Rattle.std.specs.Prelude.{◌≡◌, ℕ, ◌+◌, ◌-◌, ◌≤◌, ◌<◌, ◌^◌, ◌↔◌, Bool, true, map, length, slice_get, Some, List};
 ghost use Rattle.std.specs.List.{list_any, list_all};
 ghost use Rattle.net_theory.specs.declared.data.Gate.{Gate};

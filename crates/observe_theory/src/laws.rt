@@ -1,4 +1,4 @@
-//! What the definitions come to. Each law is the contract of a function that does nothing.
+//! Laws of the definitions, each the contract of a function that does nothing.
 ghost use Rattle.std.specs.Prelude.{◌≡◌, ℕ, ◌<◌, Bool, true, ◌++◌, List, map, slice_get, Some};
 ghost use Rattle.chain_theory.specs.Specification.{Specification};
 ghost use Rattle.chain_theory.specs.Chain.{Chain, IsChain};

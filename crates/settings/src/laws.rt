@@ -1,4 +1,4 @@
-//! What the definitions come to. Each law is the contract of a function that does nothing.
+//! Laws of the definitions, each the contract of a function that does nothing.
 ghost use Rattle.std.specs.Prelude.{◌≡◌, ◌↔◌, ℕ, List, Some};
 ghost use Rattle.settings.specs.declared.methods.Method.{Method};
 ghost use Rattle.settings.specs.Methods.{method_text, method_named};

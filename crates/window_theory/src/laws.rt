@@ -1,4 +1,4 @@
-//! What the definitions come to. Each law is the contract of a function that does nothing.
+//! Laws of the definitions, each the contract of a function that does nothing.
 ghost use Rattle.std.specs.Prelude.{◌≡◌, ℕ, ◌+◌, ◌^◌, ◌≤◌, ◌<◌, Bool, true, false, Option, List, length};
 ghost use Rattle.chain_theory.specs.Operator.{Basis};
 ghost use Rattle.chain_theory.specs.Specification.{Specification};
