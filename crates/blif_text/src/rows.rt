@@ -13,7 +13,7 @@ use crate::words::next_word;
 use net_document::{Cube, NetError};
 use std::alloc::Global;
 
-/// The one byte `0` or `1`.
+/// The byte 0 or 1 alone.
 #[tactic(auto, unfolding(crate::specs::Rows::bit_in))]
 fn bit_in(word: &[u8]) -> Option<bool>
     ensures { result ≡ bit_in_of word.now }
@@ -34,14 +34,14 @@ fn are_cube_bytes(bytes: &[u8]) -> bool
         .all(|byte| *byte == b'0' || *byte == b'1' || *byte == b'-')
 }
 
-/// Whether `bytes` are a cube of `width` inputs.
+/// Whether the bytes are a cube of `width` inputs.
 fn is_cube(width: u32, bytes: &[u8]) -> bool
     ensures { result ≡ is_cube_of width bytes.now }
 {
     bytes.len() == width as usize && are_cube_bytes(bytes)
 }
 
-/// The cube and the output value of a cover line in a table of `width` inputs.
+/// The cube and the value of a cover line in a table of `width` inputs.
 #[tactic(auto, unfolding(crate::specs::Rows::row_in))]
 fn row_in(width: u32, text: &[u8]) -> Option<(&[u8], bool)>
     ensures { row_found result ≡ row_in_of width (words_of text.now) }
@@ -59,7 +59,7 @@ fn row_in(width: u32, text: &[u8]) -> Option<(&[u8], bool)>
     Some((first, bit_in(value)?))
 }
 
-/// for the prover: `one == other`.
+/// For the prover: `one == other`, by cases as the definition has it.
 fn agrees(one: bool, other: bool) -> bool
     ensures { result ≡ agrees_of one other }
 {

@@ -23,7 +23,7 @@ use net_document::{Cover, LatchLine, Name, NetError, Trigger, add_copies};
 use net_text::{is_long_line, is_name};
 use std::alloc::{AllocError, Global};
 
-/// `.model` and the name of the model, which may be missing.
+/// The name of the model, which may be missing.
 #[tactic(auto, unfolding(crate::specs::Statements::with_model))]
 fn name_model(alloc: Global, line: u32, reading: &mut Reading, text: &[u8]) -> Result<(), NetError>
     ensures { Gives (λ _. reading.new) result (with_model line reading.old (words_of text.now)) }
