@@ -27,14 +27,14 @@ document_refused bytes l e said h = inr (l, said, h)
 pub text_circuit : (bytes : List ℕ) (l : Listed) (c : Circuit) → listed_of bytes ≡ Ok l → fault_of l ≡ None → IsWellFormed l.document → IsCircuitOf l.document c → IsCircuitOfText bench_format bytes c
 text_circuit bytes l c said good well circuit = record { listed = l; said = said; good = good; well = well; circuit = circuit }
 
--- so a netlist is refused for want of memory alone
+-- so a netlist is refused for lack of memory alone
 pub line_memory : (bytes : List ℕ) (e : NetError) → Fails e (listed_of bytes) → IsNetlist bench_format bytes → e ≡ Memory
 line_memory bytes e h is = refused_memory bench_format bytes e texts_list is (line_refused bytes e h)
 
 pub document_memory : (bytes : List ℕ) (l : Listed) (e : NetError) → listed_of bytes ≡ Ok l → IsRefused l e → IsNetlist bench_format bytes → e ≡ Memory
 document_memory bytes l e said h is = refused_memory bench_format bytes e texts_list is (document_refused bytes l e said h)
 
--- an error that is handed on
+-- an error that is passed on
 pub err_memory : {A : Type 0} (bytes : List ℕ) (l : Listed) (r : Result A NetError) (e : NetError) → IsErrAnd r (λ d. d ≡ e) → listed_of bytes ≡ Ok l → IsRefused l e → IfErr r (λ d. IsNetlist bench_format bytes → d ≡ Memory)
 err_memory bytes l (Ok x) e is said refused = absurd is
 err_memory bytes l (Err d) e is said refused = λ netlist. is ∙ document_memory bytes l e said refused netlist

@@ -9,7 +9,7 @@ use Rattle.bench_core.specs.Spelling.{circuit_text}
 unfoldable pub is_gate_word : ℕ → Bool
 is_gate_word op = op == 1 || op == 6 || op == 7 || op == 8 || op == 9 || op == 14
 
--- what a text lists, the document as which a circuit is written, the text of a circuit, and the operators
--- that gates may have
+-- what a text lists, the document that the writer makes of a circuit, the text of a circuit, and
+-- the operators that gates may have
 abbrev pub bench_format : Format
 bench_format = record { listed = listed_of; written = bench_written; text = circuit_text; operators = is_gate_word }

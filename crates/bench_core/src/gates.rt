@@ -1,4 +1,4 @@
-//! Gates as they are written: what a table of at most two inputs is as a gate.
+//! Tables of at most two inputs, written as gates.
 
 ghost use Rattle.std.specs.Prelude.{◌≡◌, ◌++◌, OnOk};
 ghost use Rattle.std.specs.Option.{option_copied};
@@ -63,7 +63,7 @@ fn push_gate(
     Ok(())
 }
 
-/// Adds a constant, of a name.
+/// Adds a constant, as a gate over `name`.
 fn push_constant(
     text: &mut Vec<u8>,
     output: &[u8],
@@ -81,7 +81,7 @@ fn push_constant(
     )
 }
 
-/// Adds a function of one name, by its values at 0 and 1.
+/// Adds a function of one input, by its values at 0 and 1.
 fn push_unary(
     text: &mut Vec<u8>,
     output: &[u8],
@@ -99,7 +99,7 @@ fn push_unary(
     }
 }
 
-/// The key of two operands, by its word.
+/// The key of two operands, by their truth table `word`.
 #[tactic(auto, unfolding(crate::specs::Gates::binary_key))]
 fn binary_key(word: u8) -> GateKey
     ensures { result ≡ binary_key_of word }
@@ -114,7 +114,7 @@ fn binary_key(word: u8) -> GateKey
     }
 }
 
-/// The word of the values at (0,0), (0,1), (1,0) and (1,1).
+/// The truth table of two inputs: the values at (0,0), (0,1), (1,0) and (1,1).
 fn binary_word(body: &Body) -> u8
     requires body { IsBody body.now }
     requires width { (cover_of body.now).width ≡ 2 }
@@ -127,7 +127,7 @@ fn binary_word(body: &Body) -> u8
     8 * first + 4 * second + 2 * third + fourth
 }
 
-/// Adds a table of at most two inputs as a gate; one without inputs is made of a source.
+/// Adds a table of at most two inputs as a gate; a constant is a gate over `source`.
 #[tactic(auto, unfolding(crate::specs::Gates::line_of))]
 pub fn push_table(text: &mut Vec<u8>, source: &[u8], table: &Table) -> Result<(), AllocError>
     requires { IsSmallTable table.now }

@@ -1,5 +1,5 @@
-//! The one reader: lines first, then the document. Each half has its refusals, and a text is refused with
-//! those of the half that refuses it.
+//! The one reader: first the lines, then the document. The text is refused with the error of the
+//! part that refuses it.
 
 ghost use Rattle.std.specs.Prelude.{◌≡◌, ◌<◌, ◌^◌, length, IfOk, IfErr};
 ghost use Rattle.net_core.specs.declared.error.NetError.TheVariants.{Memory};
@@ -11,13 +11,13 @@ use net_build::circuit_of;
 use net_core::{Circuit, NetError};
 use std::alloc::Global;
 
-/// Reads the circuit of a BENCH text (the ISCAS benchmark files), or tells why it is refused.
+/// Reads the circuit of a BENCH text (the ISCAS benchmark files), or reports why it is refused.
 ///
-/// Lines are judged in their order, and the first at fault is told; then more than 100,000 gates, a name
-/// that is driven twice, one that is used and not driven, and a table that depends on itself. A text that
-/// lists a well-formed document is refused for want of memory alone. The circuit has the document's names
-/// and does what the document does; its model's name is `top`. It takes time linear in the text, but for
-/// tables on cycles.
+/// Lines are checked in their order, and the first fault is reported; then more than 100,000 gates,
+/// a name that is driven twice, one that is used and not driven, and a combinational loop. A text
+/// that lists a well-formed document is refused for lack of memory alone. The circuit has the
+/// document's names and computes what the document says; its model's name is `top`. The time is
+/// linear in the text, but for combinational loops.
 #[tactic(auto, using(crate::proofs::Refused::refusals))]
 pub fn read_bench(alloc: Global, bytes: &[u8]) -> Result<Circuit, NetError>
     requires { length bytes.now < 2 ^ 31 }

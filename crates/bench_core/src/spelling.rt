@@ -1,4 +1,4 @@
-//! Documents as texts.
+//! The text of a document.
 
 ghost use Rattle.std.specs.Prelude.{◌≡◌, ◌++◌, All, OnOk};
 ghost use Rattle.std.specs.List.{flat_map};
@@ -10,7 +10,7 @@ use net_core::Name;
 use net_document::{Document, LatchLine, Table};
 use std::alloc::AllocError;
 
-/// Adds names, each on a line with a keyword.
+/// Adds names, each on a line with `keyword`.
 fn push_ports(text: &mut Vec<u8>, keyword: &[u8], names: &[Name]) -> Result<(), AllocError>
     ensures { OnOk result (text.new.items ≡ text.old.items ++ flat_map (spelling.port_text keyword.now) names.now) }
 {
@@ -53,8 +53,8 @@ fn push_tables(text: &mut Vec<u8>, source: &[u8], tables: &[Table]) -> Result<()
 }
 
 /// Adds the BENCH text of a document whose tables have at most two inputs: the inputs, the outputs,
-/// the latches without their controls and first values, and the tables as gates. A table without inputs
-/// is made of a source.
+/// the latches without their controls and initial values, and the tables as gates. A table without
+/// inputs is a gate over `source`.
 #[tactic(auto, unfolding(crate::specs::Spelling::spelled))]
 pub(crate) fn write_document(
     text: &mut Vec<u8>,

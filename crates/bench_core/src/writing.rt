@@ -1,5 +1,5 @@
-//! The one writer: the document as which BLIF would write a circuit, spelled as gates and appended at once,
-//! so that nothing is appended where memory is wanting.
+//! The one writer: the BLIF document of a circuit, written as gates and appended at once, so that
+//! nothing is appended where memory runs out.
 
 ghost use Rattle.std.specs.Prelude.{◌≡◌, ◌++◌, OnOk, OnErr};
 ghost use Rattle.net_theory.specs.Circuit.{IsProper};
@@ -29,8 +29,8 @@ pub fn first_source(circuit: &Circuit) -> &[u8]
     }
 }
 
-/// Appends the BENCH text of a circuit, by the document as which BLIF would write it: made in a text of its own
-/// and appended at once, so that nothing is appended where memory is wanting.
+/// Appends the BENCH text of a circuit whose BLIF document is `document`. The text is made apart
+/// and appended at once, so that nothing is appended where memory runs out.
 #[tactic(auto, using(crate::proofs::Small::smalls))]
 pub fn write_gates(
     text: &mut Vec<u8>,
@@ -46,13 +46,13 @@ pub fn write_gates(
     text.extend_from_slice(&whole)
 }
 
-/// Appends the BENCH text of a circuit: the inputs, the outputs, the latches, the gates in the order of
-/// their places under the names that `gate_names` tells, the constants that latches need, and the outputs
-/// whose names weren't written.
+/// Appends the BENCH text of a circuit: the inputs, the outputs, the latches, the gates in the
+/// order of their places with the names of `gate_names`, the constants that latches need, and the
+/// outputs whose names neither a source nor a gate has.
 ///
-/// The text has no model, no clocks, and no controls and first values of latches. A gate that reads two
-/// different places has a key where its operator is AND, OR, XOR or the complement of one, and is written
-/// as XNOR else. A constant is made of the first source.
+/// The text has no model, no clocks, and no controls and initial values of latches. A gate that
+/// reads two different places has a key where its operator is AND, OR, XOR or the complement of
+/// one, and is written as XNOR else. A constant is a gate over the first source.
 pub fn write_bench(circuit: &Circuit, out: &mut Vec<u8>) -> Result<(), AllocError>
     requires { IsProper circuit.now }
     ensures ok { OnOk result (out.new.items ≡ out.old.items ++ circuit_text circuit.now) }

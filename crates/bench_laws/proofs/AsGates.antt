@@ -1,4 +1,4 @@
--- A document whose tables are exchanged for others of the same functions does the same.
+-- A document whose tables are replaced by others of the same functions computes the same.
 use Rattle.std.proofs.Common.{◌≡◌, ℕ, Bool, true, List, [], ◌∷◌, ◌++◌, map, Some, refl, ap, ◌∙◌, sym, subst, arith, inl, inr, ⊎_elim}
 use Rattle.std.specs.Prelude.{All, slice_get, sum_by, ◌⊎◌}
 use Rattle.std.specs.List.{flat_map}
@@ -14,11 +14,12 @@ use Rattle.net_theory.specs.Dependence.{Reads, DependsOn, at_once, by_way_of}
 use Rattle.net_theory.specs.Behaviour.{HoldsIn, IsMapOf}
 use Rattle.net_theory.specs.Circuit.{Circuit, Describes}
 
--- a document with other tables
+-- the document with each table replaced
 abbrev pub with_tables : Document → (Table → Table) → Document
 with_tables d f = record { model = d.model; inputs = d.inputs; outputs = d.outputs; clocks = d.clocks; latches = d.latches; tables = map f d.tables }
 
--- u does what t does: it has the same output, its inputs are t's or a source, and so are its values and cost
+-- u can stand in the place of t: it has the same output, value and cost, and its inputs are those
+-- of t or the source
 pub record DoesLike (source : Name) (t u : Table) : Type 0 where
   pub table : IsTable u
   pub output : u.output ≡ t.output
@@ -58,7 +59,7 @@ driven_same source f d are = ap (λ (ns : List Name). source_names d ++ ns) (out
 
 -- ---- reading and depending
 
--- a source is the output of no table
+-- a source is no table's output
 no_output : (d : Document) (n : Name) (k : ℕ) (t : Table) → are_distinct (driven_names d) ≡ true → has (source_names d) n ≡ true → slice_get d.tables k ≡ Some t → t.output ≡ n → ⊥
 no_output d n k t distinct source at same =
     both_ways (has (map table_output d.tables) n)
@@ -85,7 +86,7 @@ depends_like : (source : Name) (f : Table → Table) (d : Document) (i j : ℕ) 
 depends_like source f d _ _ are distinct is (at_once i j r) = at_once i j (reads_like source f d i j are distinct is r)
 depends_like source f d _ _ are distinct is (by_way_of i j k r on) = by_way_of i j k (reads_like source f d i j are distinct is r) (depends_like source f d j k are distinct is on)
 
--- ---- well formed
+-- ---- well-formedness
 
 used_like : (source : Name) (f : Table → Table) (d : Document) (n : Name) → DoLike source f d → has (used_names (with_tables d f)) n ≡ true → (has (used_names d) n ≡ true) ⊎ (n ≡ source)
 used_like source f d n are there =

@@ -37,7 +37,7 @@ source_plain c can some = all_has IsPlainName (sources_of c) (first_source c) (A
 pub interface_sources : (d : Document) (c : Circuit) → Describes d c → source_names d ≡ sources_of c
 interface_sources d c is = ap (λ (ns : List Name). ns ++ map latch_output (latches_of d)) is.inputs ∙ ap (λ (ls : List Latch). c.inputs ++ map latch_output ls) is.latches
 
--- what the document of gates has to be
+-- what is needed of the document `e` of gates
 record IsGood (c : Circuit) (d e : Document) : Type 0 where
   well : IsWellFormed e
   describes : Describes e c

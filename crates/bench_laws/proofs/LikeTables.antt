@@ -1,4 +1,4 @@
--- The gate as which a table is written does what the table does.
+-- The gate of a table can stand in the table's place.
 use Rattle.std.proofs.Common.{◌≡◌, ℕ, ◌+◌, ◌*◌, ◌<◌, ◌≤◌, Bool, true, false, List, [], ◌∷◌, length, map, refl, ap, ◌∙◌, sym, subst, arith, inl, inr, ⊎_elim}
 use Rattle.std.specs.Prelude.{not, ◌==◌, ◌||◌, if◌then◌else◌, All}
 use Rattle.std.proofs.lemmas.Bool.{cond-true, eqb-true}
@@ -197,7 +197,7 @@ word_14 = refl
 word_at : (word k : ℕ) → HasWord k → (word == k) ≡ true → HasWord word
 word_at word k h f = subst HasWord (sym (eqb-true word k f)) h
 
--- a key has its word
+-- the truth table of a key
 key_word : (word : ℕ) → is_gate_word word ≡ true → HasWord word
 unfolding is_gate_word
 key_word word e =
@@ -228,7 +228,7 @@ two_cost t u a b e f same word =
     ∙ cost_by t u a b (is_same a b) e f same word
     ∙ sym (ap (λ (ns : List Name). cost_of (merged t ns)) e)
 
--- covers with one word have the same values
+-- covers with one truth table have the same values
 word_values : (c k : Cover) (x y : Bool) → binary_word c ≡ binary_word k → cover_value c (x ∷ y ∷ []) ≡ cover_value k (x ∷ y ∷ [])
 word_values c k x y e = sym (binary_word_value c x y) ∙ ap (λ (w : ℕ). apply w x y) e ∙ binary_word_value k x y
 

@@ -1,4 +1,4 @@
--- Each kind of line that was written is read as what it says.
+-- Lines of each kind are parsed as what they were written for.
 use Rattle.std.proofs.Common.{◌≡◌, ℕ, ◌+◌, ◌≤◌, Bool, true, false, List, [], ◌∷◌, ◌++◌, length, Option, Some, None, refl, ap, ◌∙◌, sym, arith, append_assoc, length-append}
 use Rattle.std.specs.Prelude.{◌==◌, ◌&&◌, not, nat_lt, All, Result, Ok, codes, option_to_list}
 use Rattle.std.specs.List.{list_all}
@@ -23,7 +23,7 @@ use Rattle.bench_core.specs.Spelling.{port_text, latch_text, key_by_text, key_te
 use Rattle.bench_laws.specs.Spelled.{IsPlainLine}
 use Rattle.bench_laws.proofs.Lines.{AreWordBytes, AreClean, clean_both, IsText, name_text, plain_clean, plain_item, word_mark, word_blank, mark_first, blank_first, no_items, line_on}
 
--- ---- words that are written out
+-- ---- fixed words
 
 abbrev is_plain_byte : ℕ → Bool
 is_plain_byte b = not (is_blank b) && not (is_mark b)
@@ -206,7 +206,7 @@ key_short Or false single = omega arith
 key_short Xor true single = omega arith
 key_short Xor false single = omega arith
 
--- the items of the operands behind the opening bracket
+-- the items of the operands after the opening bracket
 abbrev operand_items : Name → Option Name → List (List ℕ)
 operand_items a None = a ∷ (41 ∷ []) ∷ []
 operand_items a (Some b) = a ∷ (44 ∷ []) ∷ b ∷ (41 ∷ []) ∷ []

@@ -1,4 +1,4 @@
--- The gates of a BENCH text's net have operators of gates.
+-- The gates of the net of a BENCH text have operators of the format.
 use Rattle.std.proofs.Common.{◌≡◌, ℕ, ◌<◌, Bool, true, false, List, [], ◌∷◌, length, map, Option, Some, None, refl, ap, ◌∙◌, sym, subst, arith}
 use Rattle.std.specs.Prelude.{◌-◌, ◌==◌, ◌||◌, not, if◌then◌else◌, All, slice_get}
 use Rattle.std.specs.Option.{option_map}
@@ -25,7 +25,7 @@ use Rattle.bench_core.specs.Bench.{is_gate_word}
 abbrev pub IsGateWord : Gate → Type 0
 IsGateWord g = is_gate_word g.op ≡ true
 
--- ---- words
+-- ---- truth tables
 
 pub either : (P : Type 0) (a b : Bool) → (a || b) ≡ true → (a ≡ true → P) → (b ≡ true → P) → P
 either P true b e f g = f refl

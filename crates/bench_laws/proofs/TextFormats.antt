@@ -82,7 +82,7 @@ sinks_none d well empty none =
     (λ table. has_none n (subst (λ (ts : List Table). has (map table_output ts) n ≡ true) empty table))
     (has_either (source_names d) (map table_output d.tables) n driven))
 
--- ---- what is read can be written
+-- ---- a circuit that was read can be written
 
 states_of : (ls : List LatchLine) → All IsPlainLatch ls → All IsPlainState (map latch_of ls)
 states_of [] all = All-nil IsPlainState

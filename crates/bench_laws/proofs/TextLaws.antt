@@ -1,4 +1,4 @@
--- What the circuits of texts are like.
+-- The circuits of texts.
 use Rattle.std.proofs.Common.{◌≡◌, ℕ, true, List}
 use Rattle.std.specs.Prelude.{slice_get, Some}
 use Rattle.net_theory.specs.declared.data.Gate.{Gate}

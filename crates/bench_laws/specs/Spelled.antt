@@ -1,4 +1,4 @@
--- Tables that have a gate of the same function.
+-- Tables that can be written as a gate of the same function.
 use Rattle.std.specs.Prelude.{◌≡◌, ◌<◌, ◌⊎◌, true, false, List, [], ◌∷◌, All, None, option_to_list, codes}
 use Rattle.std.specs.List.{list_any}
 use Rattle.net_theory.specs.declared.data.Gate.{Gate}
@@ -22,11 +22,11 @@ CanSpellBy t (a ∷ []) = Unit {0}
 CanSpellBy t (a ∷ b ∷ []) = is_gate_word (binary_word t.cover) ≡ true
 CanSpellBy t (a ∷ b ∷ c ∷ ns) = ⊥
 
--- A table of at most two inputs, and where it has two it is AND, OR, XOR or the complement of one.
+-- A table of at most two inputs; one of two is AND, OR, XOR or the complement of one.
 abbrev pub CanSpell : Table → Type 0
 CanSpell t = CanSpellBy t t.inputs
 
--- a line of plain names, whose key is read as it is written
+-- a line of plain names, whose key is parsed as it is written
 pub record IsPlainLine (l : GateLine) : Type 0 where
   pub output : IsPlainName l.output
   pub first : IsPlainName l.first
@@ -34,8 +34,8 @@ pub record IsPlainLine (l : GateLine) : Type 0 where
   pub key : keyword_of (key_text l.key) ≡ GateWord l.key
   pub counted : is_counted l.key (l.first ∷ option_to_list l.second) ≡ true
 
--- A document that can be spelled: it is called `top` and has no clocks, its names have no marks in them, its
--- latches have no controls and first values, and its tables are small.
+-- A document that can be spelled: it is called `top` and has no clocks, its names have no marks in
+-- them, its latches have no controls and initial values, and its tables have at most two inputs.
 pub record IsSpelled (source : Name) (d : Document) : Type 0 where
   pub model : d.model ≡ codes "top"
   pub inputs : All IsPlainName d.inputs
@@ -44,19 +44,19 @@ pub record IsSpelled (source : Name) (d : Document) : Type 0 where
   pub latches : All IsPlainLatch d.latches
   pub tables : All (λ (t : Table). IsPlainLine (line_of source t)) d.tables
 
--- no mark stands in a name
+-- a name without a mark in it
 abbrev pub IsFree : Name → Type 0
 IsFree n = list_any is_mark n ≡ false
 
--- a latch without a control and a first value
+-- a latch without a control and an initial value
 pub record IsPlainState (l : Latch) : Type 0 where
   pub output : IsPlainName l.output
   pub control : l.control ≡ None
   pub init : l.init ≡ None
 
--- A circuit whose text says what it is: it is called `top` and has no clocks, its names have no marks in them,
--- its latches have no controls and first values, and its gates are AND, OR, XOR and their complements. It has a
--- source, of which constants can be made, or there is nothing that could be one.
+-- A circuit that can be written: it is called `top` and has no clocks, its names have no marks in
+-- them, its latches have no controls and initial values, and its gates are AND, OR, XOR and their
+-- complements. It has a source, over which constants are written, or it is empty.
 pub record CanWrite (c : Circuit) : Type 0 where
   pub proper : IsProper c
   pub room : HasRoom c
@@ -68,7 +68,7 @@ pub record CanWrite (c : Circuit) : Type 0 where
   pub operators : All (λ (g : Gate). is_gate_word g.op ≡ true) c.net.gates
   pub source : (0 < c.net.sources) ⊎ ((c.net.gates ≡ []) × (c.net.sinks ≡ []))
 
--- the faults that lines of BENCH have; there is no cover whose lines could be mixed or too many
+-- the faults of lines; there are no cover lines that could be mixed or too many
 abbrev pub IsLineFault : NetError → Type 0
 IsLineFault (Syntax line) = Unit {0}
 IsLineFault (NotSupported line word) = Unit {0}

@@ -1,5 +1,5 @@
-//! Laws of BENCH texts, each of them the contract of a function that does nothing. The definitions that they
-//! speak of stand in `net_theory`, `net_document`, `bench_text` and `bench_core`.
+//! Laws of BENCH texts, each the contract of a function that does nothing. The definitions are
+//! those of `net_theory`, `net_document`, `bench_text` and `bench_core`.
 #![tactic(auto)]
 
 ghost use Rattle.std.specs.Prelude.{◌≡◌, ℕ, List, All, true, slice_get, Some, IfErr};
@@ -18,13 +18,14 @@ ghost use Rattle.bench_core.specs.Bench.{bench_format, is_gate_word};
 
 use blif_laws::blif_is_a_format;
 
-/// Each gate of the circuit of a BENCH text has the operator of a gate: AND, OR, XOR or the complement of one.
+/// Each gate of the circuit of a BENCH text has an operator of the format: AND, OR, XOR or the
+/// complement of one.
 pub fn gates_have_operators_of_gates()
     ensures { (bytes : List ℕ) (c : Circuit) (i : ℕ) (g : Gate) → IsCircuitOfText bench_format bytes c → slice_get c.net.gates i ≡ Some g → is_gate_word g.op ≡ true }
 {}
 
-/// A well-formed document of small tables, each of which has a gate of its function, does the same and costs the
-/// same with its tables as gates, where tables without inputs are made of one of its sources.
+/// A well-formed document of tables that can each be written as a gate computes the same and costs
+/// the same with its tables as gates, where constants are gates over one of its sources.
 pub fn documents_of_gates_do_the_same()
     ensures well { (source : Name) (d : Document) → IsWellFormed d → All CanSpell d.tables → has (source_names d) source ≡ true → IsWellFormed (as_gates source d) }
     ensures describes { (source : Name) (d : Document) (c : Circuit) → IsWellFormed d → All CanSpell d.tables → has (source_names d) source ≡ true → Describes d c → Describes (as_gates source d) c }
@@ -36,8 +37,8 @@ pub fn documents_are_read_back()
     ensures { (source : Name) (d : Document) → IsSpelled source d → IsReadBack bench_format (spelled source d) (as_gates source d) }
 {}
 
-/// The text of a circuit that can be written lists a well-formed document that does what the circuit does, under
-/// every assignment, and costs no more than the circuit has gates.
+/// The text of a circuit that can be written lists a well-formed document that computes what the
+/// circuit does, under every assignment, and costs no more than the circuit has gates.
 pub fn circuits_are_read_back()
     ensures { (c : Circuit) → CanWrite c → IsTextOf bench_format (circuit_text c) c }
 {
@@ -51,8 +52,9 @@ pub fn circuits_cost_the_same()
     blif_is_a_format();
 }
 
-/// BENCH is a format: its texts list documents of gates, what is written of a circuit that can be written is read
-/// back, and the circuit of each text can be written, also with another net of such gates that answers the same.
+/// BENCH is a format: its texts list documents of gates, the text of a circuit that can be written
+/// is read back, and the circuit of each text can be written, also with another net of gates of the
+/// format that answers the same.
 pub fn bench_is_a_format()
     ensures { IsFormat bench_format CanWrite }
 {

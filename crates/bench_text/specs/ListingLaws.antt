@@ -1,5 +1,5 @@
--- What a text lists is a document of gates and of latches without control and first value, no larger than
--- the text.
+-- What a text lists is a document of gates and of latches without control and initial value, no
+-- larger than the text.
 use Rattle.std.proofs.Common.{◌≡◌, ℕ, suc, ◌+◌, ◌*◌, ◌≤◌, Bool, true, false, List, [], ◌∷◌, ◌++◌, length, map, refl, ap, ◌∙◌, sym, subst, arith, length-append}
 use Rattle.std.specs.Prelude.{◌==◌, ◌||◌, nat_lt, if◌then◌else◌, Result, Ok, Err, IfOk, All, sum_by, codes}
 use Rattle.std.specs.List.{list_any, flat_map}

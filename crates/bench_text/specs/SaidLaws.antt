@@ -1,4 +1,4 @@
--- What lines say is made of names, latches without control and first value, and gates.
+-- Lines list names, latches without control and initial value, and gates.
 use Rattle.std.proofs.Common.{◌≡◌, ℕ, suc, ◌+◌, ◌*◌, ◌≤◌, ◌<◌, Bool, true, false, List, [], ◌∷◌, ◌++◌, length, map, Option, Some, None, refl, ap, ◌∙◌, sym, subst, arith, length-append, append-nil}
 use Rattle.std.specs.Prelude.{◌&&◌, nat_lt, if◌then◌else◌, Result, Ok, Err, IfOk, All, sum_by, codes}
 use Rattle.std.specs.List.{list_any, list_all, flat_map}
@@ -26,12 +26,12 @@ use Rattle.bench_text.specs.Statements.{nothing, with_input, with_output, with_l
 
 -- ---- items, names, latches and gates
 
--- a word of a text: not too long, and without a mark in it
+-- a word: within the limit of length, and without a mark in it
 pub record IsWord (w : List ℕ) : Type 0 where
   pub short : length w ≤ 1024
   pub plain : list_any is_mark w ≡ false
 
--- an item that is no mark is a word
+-- an item that isn't a mark is a word
 pub record IsItem (w : List ℕ) : Type 0 where
   pub short : length w ≤ 1024
   pub plain : is_mark_item w ≡ false → list_any is_mark w ≡ false
@@ -40,19 +40,19 @@ abbrev pub AreItems : List (List ℕ) → Type 0
 AreItems [] = Unit {0}
 AreItems (w ∷ ws) = IsItem w × AreItems ws
 
--- a name that has no mark in it
+-- a name without a mark in it
 pub record IsPlainName (n : Name) : Type 0 where
   pub name : IsName n
   pub plain : list_any is_mark n ≡ false
 
--- a latch without a control and a first value
+-- a latch without a control and an initial value
 pub record IsPlainLatch (l : LatchLine) : Type 0 where
   pub input : IsPlainName l.input
   pub output : IsPlainName l.latch.output
   pub control : l.latch.control ≡ None
   pub init : l.latch.init ≡ None
 
--- a table that joins its inputs, of which it has some
+-- a table that joins its inputs, at least one
 pub record IsGateTable (t : Table) : Type 0 where
   pub inputs : All IsPlainName t.inputs
   pub output : IsPlainName t.output
@@ -78,7 +78,7 @@ gate_is_table t is =
       few = omega (arith, is.narrow, whole_few whole is.some, ap (λ (c : Cover). length c.cubes) is.cover);
     }
 
--- ---- what was listed
+-- ---- what is listed so far
 
 unfoldable pub table_width : Table → ℕ
 table_width t = length t.inputs
@@ -179,7 +179,7 @@ table_fine s size more t is gate h =
 
 -- ---- operands
 
--- words, of which there are some, and at most half of the items
+-- words, at least one, and at most half as many as there are items
 pub record AreWords (ns : List Name) (room : ℕ) : Type 0 where
   pub words : All IsWord ns
   pub some : 0 < length ns

@@ -1,5 +1,5 @@
--- The lines of a BENCH text (the ISCAS benchmark files), in their order, and the first fault where they
--- are none. On one line the order of faults is that of the tests. A line without items is passed over.
+-- The lines of a BENCH text (the ISCAS benchmark files), in their order, or the first fault. One
+-- line is checked in the order of the tests below. A line without items is skipped.
 use Rattle.std.specs.Prelude.{ℕ, ◌+◌, Bool, true, false, not, ◌&&◌, ◌||◌, ◌==◌, nat_lt, nat_le, if◌then◌else◌, List, [], ◌∷◌, ◌++◌, length, map, Option, Some, None, Result, Ok, Err, codes}
 use Rattle.std.specs.List.{list_all}
 use Rattle.text_core.specs.Lines.{Line, lines_of}
@@ -19,7 +19,7 @@ use Rattle.bench_text.specs.declared.keywords.Keyword.{Keyword}
 use Rattle.bench_text.specs.declared.keywords.Keyword.TheVariants.{Input, Output, Gate, Dff, Lut, Constant, Unknown}
 use Rattle.bench_text.specs.Items.{is_mark_item, items_of}
 
--- ---- what was listed so far
+-- ---- what is listed so far
 
 -- The model's name is `top`. A BENCH text has no clocks.
 abbrev pub nothing : Listed
@@ -39,18 +39,18 @@ with_table s t = record s { document = record s.document { tables = s.document.t
 
 -- ---- keywords
 
--- a capital letter as a small one
+-- a capital letter as a lower-case one
 abbrev pub lower : ℕ → ℕ
 lower b = if nat_le 65 b && nat_le b 90 then b + 32 else b
 
--- Whether a word is a key, which is given in small letters: keys are read without regard to case.
+-- Whether a word is the key given in lower case: keys are read without regard to case.
 unfoldable pub is_key : List ℕ → List ℕ → Bool
 is_key word key = is_same (map lower word) key
 
 abbrev pub gate_key : Connective → Bool → Bool → Keyword
 gate_key connective on is_single = Gate (record { connective = connective; on = on; is_single = is_single })
 
--- The key of each gate is AND, OR or XOR of its operands, or the complement. NOT is the complement of
+-- The key of a gate is AND, OR or XOR of its operands, or the complement. NOT is the complement of
 -- AND of one operand, and BUFF is AND of one.
 unfoldable pub gate_key_of : List ℕ → Keyword
 gate_key_of w = if is_key w (codes "and") then gate_key And true false else (if is_key w (codes "nand") then gate_key And false false else (if is_key w (codes "or") then gate_key Or true false else (if is_key w (codes "nor") then gate_key Or false false else (if is_key w (codes "xor") then gate_key Xor true false else (if is_key w (codes "xnor") then gate_key Xor false false else (if is_key w (codes "not") then gate_key And false true else (if is_key w (codes "buff") || is_key w (codes "buf") then gate_key And true true else Unknown)))))))
@@ -60,7 +60,8 @@ keyword_of w = if is_key w (codes "input") then Input else (if is_key w (codes "
 
 -- ---- operands
 
--- names ++ the words up to the closing bracket, parted by commas; nothing stands behind the bracket
+-- `names` ++ the words up to the closing bracket, separated by commas; nothing may follow the
+-- bracket
 unfoldable pub operands_from : List Name → List (List ℕ) → Option (List Name)
 operands_from names [] = None
 operands_from names (w ∷ []) = None
@@ -71,7 +72,7 @@ unfoldable pub operands_of : List (List ℕ) → Option (List Name)
 operands_of [] = None
 operands_of (m ∷ rest) = if is_same m (codes "(") then operands_from [] rest else None
 
--- too many operands are told before words that aren't names
+-- too many operands are the first fault, then a word that isn't a name
 abbrev pub names_by : ℕ → Option (List Name) → Result (List Name) NetError
 names_by line None = Err (Syntax line)
 names_by line (Some names) = if nat_lt 256 (length names) then Err (TooWide line) else (if list_all is_name names then Ok names else Err (Syntax line))
@@ -95,7 +96,7 @@ gate_table key output inputs = record { inputs = inputs; output = output; cover 
 unfoldable pub table_of : ℕ → GateKey → Name → List Name → Result Table NetError
 table_of line key output inputs = if is_name output && is_counted key inputs then Ok (gate_table key output inputs) else Err (Syntax line)
 
--- a latch without a control and a first value
+-- a latch without a control and an initial value
 abbrev pub plain_latch : Name → Name → LatchLine
 plain_latch output input = record { input = input; latch = record { output = output; control = None; init = None } }
 
@@ -104,7 +105,7 @@ latch_of line output inputs = alone line inputs >>= λ n. (if is_name output the
 
 -- ---- lines
 
--- `INPUT(a)` and `OUTPUT(a)`, where more than one name is no such line
+-- `INPUT(a)` and `OUTPUT(a)`; with more than one name the line is malformed
 abbrev pub port_by : ℕ → Option (List Name) → Result Name NetError
 port_by line None = Err (Syntax line)
 port_by line (Some names) = alone line names >>= λ n. (if is_name n then Ok n else Err (Syntax line))
@@ -121,7 +122,8 @@ ported line s items Lut = Err (Syntax line)
 ported line s items Constant = Err (Syntax line)
 ported line s items Unknown = Err (Syntax line)
 
--- A line `output = word ..`. A LUT isn't supported, whatever follows it; `vdd` and `gnd` stand alone.
+-- A line `output = word ..`. A LUT isn't supported, whatever follows it, and neither is `vdd` or
+-- `gnd` where nothing does.
 unfoldable pub driven : ℕ → Listed → Name → Name → List (List ℕ) → Keyword → Result Listed NetError
 driven line s output word items (Gate key) = names_of line items >>= λ inputs. table_of line key output inputs >>= λ t. Ok (with_table s t)
 driven line s output word items Dff = names_of line items >>= λ inputs. latch_of line output inputs >>= λ l. Ok (with_latch s l)
@@ -143,12 +145,12 @@ stated line s (w ∷ m ∷ items) = if is_mark_item w then Err (Syntax line) els
 unfoldable pub step : ℕ → Listed → Line → Result Listed NetError
 step line s l = if is_long_line (length l.text) then Err (LineTooLong line) else (if has_long (items_of (content_of l)) then Err (NameTooLong line) else stated line s (items_of (content_of l)))
 
--- the first of these lines has the number given
+-- the first line has the number given
 unfoldable pub steps : ℕ → Listed → List Line → Result Listed NetError
 steps line s [] = Ok s
 steps line s (l ∷ ls) = step line s l >>= λ t. steps (line + 1) t ls
 
--- The document of a text, or the first fault of its lines. That the document is well formed isn't said
--- here.
+-- The document of a text, or the first fault of its lines. Whether the document is well formed
+-- isn't checked here.
 unfoldable pub listed_of : List ℕ → Result Listed NetError
 listed_of bytes = steps 1 nothing (lines_of bytes)

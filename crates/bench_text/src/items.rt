@@ -1,4 +1,4 @@
-//! Items of a line. A line is passed over several times, and no index of its items is kept.
+//! Items (tokens) of a line. A line is scanned several times, without an index of its items.
 
 ghost use Rattle.std.specs.Prelude.{◌≡◌, ◌<◌, [], ◌∷◌, length, IfSome};
 ghost use Rattle.net_theory.specs.Document.{is_same};
@@ -15,7 +15,7 @@ fn is_mark(byte: u8) -> bool
     byte == b'(' || byte == b')' || byte == b',' || byte == b'='
 }
 
-/// The first item of a text, and what stands behind it; None where the text has no item.
+/// The first item of a text, and the rest after it; None where the text has no item.
 #[tactic(auto, using(text_core::specs::Cuts::cuts), unfolding(crate::specs::Items::items_from))]
 pub fn next_item(text: &[u8]) -> Option<(&[u8], &[u8])>
     ensures items { items_of text.now ≡ items_in result }
@@ -57,7 +57,7 @@ pub fn is_mark_item(item: &[u8]) -> bool
     }
 }
 
-/// Whether an item is this mark.
+/// Whether `item` is the mark `mark`.
 pub fn is_item(item: &[u8], mark: u8) -> bool
     ensures { result ≡ is_same item.now (mark ∷ []) }
 {

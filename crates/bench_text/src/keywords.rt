@@ -5,8 +5,8 @@ ghost use Rattle.bench_text.specs.Statements.{gate_key, lower as lower_of, is_ke
 
 use net_core::Connective;
 
-/// The function of a gate: AND, OR or XOR of its operands, or the complement where `on` is false. A single
-/// one has one operand.
+/// The function of a gate: AND, OR or XOR of its operands, or the complement where `on` is false.
+/// With `is_single` it has one operand.
 #[derive(Clone, Copy)]
 pub struct GateKey {
     pub connective: Connective,
@@ -14,7 +14,7 @@ pub struct GateKey {
     pub is_single: bool,
 }
 
-/// What a word asks for at the place of a key.
+/// The keyword of a word.
 #[derive(Clone, Copy)]
 pub enum Keyword {
     /// `INPUT`
@@ -33,7 +33,7 @@ pub enum Keyword {
     Unknown,
 }
 
-/// A capital letter as a small one.
+/// A capital letter as a lower-case one.
 fn lower(byte: u8) -> u8
     ensures { result ≡ lower_of byte }
 {
@@ -44,7 +44,7 @@ fn lower(byte: u8) -> u8
     }
 }
 
-/// Whether a word is a key, which is given in small letters.
+/// Whether `word` is `key`, which is in lower case.
 #[tactic(auto, unfolding(crate::specs::Statements::is_key))]
 fn is_key(word: &[u8], key: &[u8]) -> bool
     ensures { result ≡ is_key_of word.now key.now }
@@ -75,7 +75,7 @@ fn gate(connective: Connective, on: bool, is_single: bool) -> Keyword
     })
 }
 
-/// What a word asks for as the key of a gate.
+/// The keyword of a word that is the key of a gate.
 #[tactic(auto, unfolding(crate::specs::Statements::gate_key_of))]
 fn gate_key_of(word: &[u8]) -> Keyword
     ensures { result ≡ gate_key_of_word word.now }

@@ -1,4 +1,4 @@
-//! Lines, one after the other.
+//! The parser's loop over the lines of a text.
 
 ghost use Rattle.std.specs.Prelude.{◌≡◌, ◌+◌, ◌*◌, ◌≤◌, ◌<◌, ◌^◌, length, IfOk};
 ghost use Rattle.blif_text.specs.Reading.{Gives};
@@ -12,7 +12,7 @@ use net_document::{Document, Listed, Name, NetError};
 use std::alloc::{AllocError, Global};
 use text_core::next_line;
 
-/// Nothing was listed.
+/// The document before the first line.
 fn nothing(alloc: Global) -> Result<Listed, AllocError>
     ensures { IfOk result (λ l. l ≡ nothing_of) }
 {
@@ -49,8 +49,8 @@ fn read_lines(alloc: Global, bytes: &[u8]) -> Result<Listed, NetError>
 
 /// The document of a text, with the names that the text drives and uses in its order.
 ///
-/// Lines are judged in their order, and the first fault is told with its line. That the document is well
-/// formed isn't asked here.
+/// Lines are checked in their order, and the first fault is reported with its line. Whether the
+/// document is well formed isn't checked here.
 #[tactic(auto, using(crate::specs::ListingLaws::listings))]
 pub fn read_listed(alloc: Global, bytes: &[u8]) -> Result<Listed, NetError>
     requires { length bytes.now < 2 ^ 31 }

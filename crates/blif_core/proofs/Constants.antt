@@ -1,4 +1,4 @@
--- Constants of latches, names that are written, and first values.
+-- Constants that latches need, names that are written, and initial values.
 use Rattle.std.proofs.Common.{◌≡◌, List, [], ◌∷◌, ◌++◌, refl}
 use Rattle.std.specs.Prelude.{if◌then◌else◌}
 use Rattle.std.proofs.lemmas.Grind.{common_steps}

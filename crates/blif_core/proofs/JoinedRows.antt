@@ -5,7 +5,7 @@ use Rattle.std.specs.List.{flat_map}
 use Rattle.std.proofs.lemmas.Grind.{common_steps}
 use Rattle.net_theory.specs.Whole.{ones, dashes, single_ones}
 
--- cubes of one byte, and with one place set
+-- cubes of equal bytes, and with one byte changed
 pub same-ones : (width : ℕ) → replicate width 49 ≡ ones width
 same-ones zero = refl
 same-ones (suc width) = ap (λ (xs : List ℕ). 49 ∷ xs) (same-ones width)
@@ -32,7 +32,7 @@ dashes-push i cube =
     let e : suc i ≡ i + 1 = omega arith in
     sym (append_assoc (dashes i) (45 ∷ []) cube) ∙ ap (λ (xs : List ℕ). xs ++ cube) (dashes-last i ∙ ap dashes e)
 
--- the cubes behind so many dashes
+-- the cubes, each after n dashes
 abbrev pub behind : ℕ → List (List ℕ) → List (List ℕ)
 behind i cubes = map (λ (cube : List ℕ). dashes i ++ cube) cubes
 
@@ -44,7 +44,7 @@ behind-zero : (cubes : List (List ℕ)) → behind 0 cubes ≡ cubes
 behind-zero [] = refl
 behind-zero (c ∷ cubes) = ap (λ (cs : List (List ℕ)). c ∷ cs) (behind-zero cubes)
 
--- the lines that are left of OR
+-- the cover lines of OR that are left to write
 abbrev pub lines_left : (List ℕ → List ℕ) → ℕ → ℕ → List ℕ
 lines_left line width i = flat_map line (behind i (single_ones (width - i)))
 

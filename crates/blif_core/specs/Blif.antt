@@ -7,12 +7,12 @@ use Rattle.blif_text.specs.Statements.{listed_of}
 use Rattle.blif_core.specs.Written.{written}
 use Rattle.blif_core.specs.Spelling.{circuit_text}
 
--- what a text lists, the document as which a circuit is written, and the text of a circuit; gates may
--- have any operator
+-- what a text lists, the document that the writer makes of a circuit, and the text of a circuit;
+-- gates may have any operator
 abbrev pub blif_format : Format
 blif_format = record { listed = listed_of; written = written; text = circuit_text; operators = λ op. true }
 
--- Proper circuits can be written. That there are numbers for the names that are taken is so of every
--- circuit in a memory.
+-- Proper circuits can be written. Their names are fewer than 2^63, as in every circuit that fits
+-- into a memory.
 abbrev pub CanWrite : Circuit → Type 0
 CanWrite c = IsProper c × HasRoom c

@@ -1,4 +1,4 @@
--- How a document is spelled in BLIF.
+-- The text of a document in BLIF.
 use Rattle.std.specs.Prelude.{ℕ, ◌+◌, Bool, true, false, ◌==◌, if◌then◌else◌, List, [], ◌∷◌, ◌++◌, codes, Option, Some, None}
 use Rattle.std.specs.List.{flat_map}
 use Rattle.net_theory.specs.declared.data.Trigger.{Trigger}
@@ -15,7 +15,7 @@ word_text name = 32 ∷ name
 abbrev pub words_text : List Name → List ℕ
 words_text names = flat_map word_text names
 
--- Names under a keyword, 16 on a line; count of them stand on the line already.
+-- Names after a keyword, 16 on a line; the line has `count` of them already.
 unfoldable pub rest_text : List ℕ → ℕ → List Name → List ℕ
 rest_text keyword count [] = 10 ∷ []
 rest_text keyword count (n ∷ ns) = if count == 16 then 10 ∷ (keyword ++ word_text n ++ rest_text keyword 1 ns) else word_text n ++ rest_text keyword (count + 1) ns
@@ -43,7 +43,7 @@ abbrev pub init_text : Option ℕ → List ℕ
 init_text None = []
 init_text (Some init) = 32 ∷ (48 + init) ∷ []
 
--- a first value of one digit
+-- an initial value of one digit
 abbrev pub HasInit : LatchLine → Type 0
 HasInit l = IsInit l.latch.init
 
@@ -55,7 +55,7 @@ abbrev pub digit_text : Bool → ℕ
 digit_text true = 49
 digit_text false = 48
 
--- a cube and a blank, where it isn't empty
+-- a cube and a blank, or nothing where the table has no inputs
 abbrev pub cube_text : List ℕ → List ℕ
 cube_text [] = []
 cube_text (b ∷ bs) = (b ∷ bs) ++ 32 ∷ []

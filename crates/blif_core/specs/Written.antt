@@ -1,4 +1,4 @@
--- The document that stands for a circuit where it is written.
+-- The document that the writer makes of a circuit.
 use Rattle.std.specs.Prelude.{ℕ, Bool, true, false, ◌==◌, if◌then◌else◌, List, [], ◌∷◌, ◌++◌, length}
 use Rattle.std.specs.List.{list_any}
 use Rattle.std.proofs.Common.{drop}
@@ -10,7 +10,7 @@ use Rattle.net_theory.specs.Document.{Name, has, Table, Latch, LatchLine, Docume
 use Rattle.net_theory.specs.Circuit.{Circuit, sources_of}
 use Rattle.net_theory.specs.Naming.{each_once, gate_names, first_spare, second_spare, place_name}
 
--- ---- covers by values
+-- ---- covers from values
 
 abbrev pub row_if : Bool → List ℕ → List (List ℕ)
 row_if true row = row ∷ []
@@ -23,7 +23,7 @@ table_with inputs cubes output = record { inputs = inputs; output = output; cove
 abbrev pub constant_table : Bool → Name → Table
 constant_table bit output = table_with [] (row_if bit []) output
 
--- a table of one input with these values at 0 and 1
+-- a table of one input, by its values at 0 and 1
 abbrev pub unary_table : Bool → Bool → Name → Name → Table
 unary_table at_zero at_one input output = table_with (input ∷ []) (row_if at_zero (48 ∷ []) ++ row_if at_one (49 ∷ [])) output
 
@@ -53,17 +53,18 @@ table_by name output op (Place p) b = with_place name output op p b
 table_by name output op Zero b = with_bit name output op false b
 table_by name output op One b = with_bit name output op true b
 
--- A gate is written as a function of its different operand places, in the order of its operands.
+-- A gate is written as a function of the different places that it reads, in the order of its
+-- operands.
 unfoldable pub gate_table : (ℕ → Name) → Name → Gate → Table
 gate_table name output g = table_by name output g.op g.a g.b
 
--- gates and their names, in the order of their places
+-- the tables of gates, with their names, in the order of their places
 unfoldable pub gate_tables : (ℕ → Name) → List Gate → List Name → List Table
 gate_tables name [] ns = []
 gate_tables name (g ∷ gs) [] = []
 gate_tables name (g ∷ gs) (n ∷ ns) = gate_table name n g ∷ gate_tables name gs ns
 
--- ---- constants of latches
+-- ---- constants that latches need
 
 abbrev pub is_zero : Sig → Bool
 is_zero Zero = true
@@ -75,11 +76,11 @@ is_one Zero = false
 is_one One = true
 is_one (Place p) = false
 
--- the sinks of the latches
+-- the sinks that are the latches' inputs
 abbrev pub next_states : Circuit → List Sig
 next_states c = drop (length c.outputs) c.net.sinks
 
--- the names of the constants: 0 comes before 1, where it is needed
+-- the name of the constant 1; that of 0, where a latch needs it, comes first
 abbrev pub one_name : Circuit → Name
 one_name c = if list_any is_zero (next_states c) then second_spare c else first_spare c
 
@@ -102,13 +103,13 @@ latch_lines name (l ∷ ls) (s ∷ sinks) = record { input = name s; latch = l }
 
 -- ---- outputs
 
--- a constant, or a copy of a place
+-- the table of an output: a constant, or a copy of a place
 abbrev pub output_table : (ℕ → Name) → Name → Sig → Table
 output_table name output Zero = constant_table false output
 output_table name output One = constant_table true output
 output_table name output (Place p) = unary_table false true (name p) output
 
--- the outputs whose names weren't written
+-- the tables of the outputs whose names aren't in `written`
 unfoldable pub output_tables : (ℕ → Name) → List Name → List Name → List Sig → List Table
 output_tables name written [] sinks = []
 output_tables name written (o ∷ os) [] = []
@@ -116,7 +117,7 @@ output_tables name written (o ∷ os) (s ∷ sinks) = if has written o then outp
 
 -- ---- the document
 
--- the names that the lines of sources and gates drive
+-- the names that sources and gates drive
 abbrev pub driven_before : Circuit → List Name
 driven_before c = each_once [] (sources_of c ++ gate_names c)
 
@@ -127,10 +128,11 @@ tables_of c = gate_tables (place_name c) c.net.gates (gate_names c) ++ constant_
 abbrev pub heading : Circuit → Document
 heading c = record { model = c.model; inputs = c.inputs; outputs = c.outputs; clocks = c.clocks; latches = []; tables = [] }
 
--- The gates in the order of their places, then the constants that latches need, then the outputs whose
--- names weren't written. A gate on which an output sits has the first such output's name.
--- Example: of XOR of a and b with the outputs y and z it is `.names a b y` with `01 1` and `10 1`, and
--- `.names y z` with `1 1`.
+-- The gates in the order of their places, then the constants that latches need, then the outputs
+-- whose names neither a source nor a gate has. A gate that is an output has the first such output's
+-- name.
+-- Example: for XOR of a and b with the outputs y and z it is `.names a b y` with `01 1` and `10 1`,
+-- and `.names y z` with `1 1`.
 unfoldable pub written : Circuit → Document
 written c = record (heading c) {
   latches = latch_lines (sig_name c) c.latches (next_states c);

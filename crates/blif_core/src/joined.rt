@@ -1,5 +1,5 @@
-//! The cover lines of tables that join all their inputs: one for AND, and one for each input for OR. A
-//! parity has none.
+//! The cover lines of tables that join all their inputs: one for AND, and one for each input for
+//! OR. A parity has none here.
 
 ghost use Rattle.std.specs.Prelude.{◌≡◌, ◌-◌, ◌<◌, ◌∷◌, ◌++◌, OnOk, IfOk};
 ghost use Rattle.std.specs.List.{flat_map};
@@ -19,7 +19,7 @@ fn ones(alloc: Global, width: u32) -> Result<Vec<u8>, AllocError>
     Ok(vec![in alloc; b'1'; width as usize]?)
 }
 
-/// The cube that asks one input for 1, the first at 0.
+/// The cube that asks the input `place`, counted from 0, for 1, and no other.
 #[tactic(auto, using(crate::proofs::JoinedRows::cubes))]
 fn single(alloc: Global, width: u32, place: u32) -> Result<Vec<u8>, AllocError>
     requires { place < width }
@@ -30,7 +30,7 @@ fn single(alloc: Global, width: u32, place: u32) -> Result<Vec<u8>, AllocError>
     Ok(cube)
 }
 
-/// Adds the line of AND.
+/// Adds the cover line of AND.
 fn push_ones(text: &mut Vec<u8>, on: bool, width: u32) -> Result<(), AllocError>
     ensures { OnOk result (text.new.items ≡ text.old.items ++ spelling.row_text on (ones_of width)) }
 {
@@ -38,7 +38,7 @@ fn push_ones(text: &mut Vec<u8>, on: bool, width: u32) -> Result<(), AllocError>
     push_row(text, on, &cube)
 }
 
-/// Adds the lines of OR.
+/// Adds the cover lines of OR.
 #[tactic(auto, using(crate::proofs::JoinedRows::rows))]
 fn push_singles(text: &mut Vec<u8>, on: bool, width: u32) -> Result<(), AllocError>
     ensures { OnOk result (text.new.items ≡ text.old.items ++ flat_map (spelling.row_text on) (single_ones width)) }

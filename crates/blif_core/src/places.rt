@@ -18,7 +18,7 @@ fn name_at(names: &[Name], at: usize) -> &[u8]
     }
 }
 
-/// The name of a source, the first at 0.
+/// The name of the source at index `at`.
 #[tactic(auto, using(crate::proofs::Sources::sources))]
 fn source_name(circuit: &Circuit, at: usize) -> &[u8]
     ensures { result.now ≡ slice_index_or (sources_of circuit.now) at [] }
@@ -36,7 +36,7 @@ fn source_name(circuit: &Circuit, at: usize) -> &[u8]
     }
 }
 
-/// The name of a place, where the gates have these names.
+/// The name of a place, where the gates have the names `names`.
 #[tactic(auto, unfolding(net_theory::specs::Naming::place_name))]
 pub fn place_name<'a>(circuit: &'a Circuit, names: &'a [Name], place: u32) -> &'a [u8]
     requires { names.now ≡ gate_names circuit.now }

@@ -1,4 +1,4 @@
-//! Documents as texts.
+//! The text of a document.
 
 ghost use Rattle.std.specs.Prelude.{◌≡◌, ◌+◌, ◌≤◌, ◌∷◌, ◌++◌, List, All, IfOk, OnOk, OnErr};
 ghost use Rattle.std.specs.List.{flat_map};
@@ -21,7 +21,7 @@ fn push_word(text: &mut Vec<u8>, word: &[u8]) -> Result<(), AllocError>
     Ok(())
 }
 
-/// Adds names, each behind a blank.
+/// Adds names, each after a blank.
 fn push_words(text: &mut Vec<u8>, names: &[Name]) -> Result<(), AllocError>
     ensures { OnOk result (text.new.items ≡ text.old.items ++ spelling.words_text names.now) }
 {
@@ -33,7 +33,7 @@ fn push_words(text: &mut Vec<u8>, names: &[Name]) -> Result<(), AllocError>
     Ok(())
 }
 
-/// Adds a name to a line of so many, or to another one behind 16, and tells how many the line has then.
+/// Adds a name to a line of `count` names, or to a new line after 16, and answers the new count.
 #[tactic(auto, unfolding(crate::specs::Spelling::rest_text))]
 fn push_name(
     text: &mut Vec<u8>,
@@ -73,7 +73,7 @@ fn push_list(text: &mut Vec<u8>, keyword: &[u8], names: &[Name]) -> Result<(), A
     Ok(())
 }
 
-/// Adds the clocks, where there are some.
+/// Adds the clocks, where there are any.
 fn push_clocks(text: &mut Vec<u8>, clocks: &[Name]) -> Result<(), AllocError>
     ensures { OnOk result (text.new.items ≡ text.old.items ++ spelling.clocks_text clocks.now) }
 {
@@ -83,7 +83,7 @@ fn push_clocks(text: &mut Vec<u8>, clocks: &[Name]) -> Result<(), AllocError>
     }
 }
 
-/// The word of a trigger.
+/// The keyword of a trigger.
 fn trigger_word(trigger: Trigger) -> &'static [u8]
     ensures { result.now ≡ spelling.trigger_text trigger }
 {
@@ -107,7 +107,7 @@ fn push_control(text: &mut Vec<u8>, control: &Option<(Trigger, Name)>) -> Result
     Ok(())
 }
 
-/// Adds a first value, where there is one.
+/// Adds an initial value, where there is one.
 fn push_init(text: &mut Vec<u8>, init: Option<u8>) -> Result<(), AllocError>
     requires { IsInit init }
     ensures { OnOk result (text.new.items ≡ text.old.items ++ spelling.init_text init) }
@@ -141,7 +141,7 @@ fn digit(on: bool) -> u8
     if on { b'1' } else { b'0' }
 }
 
-/// Adds a cube and a blank; nothing where the cube is empty.
+/// Adds a cube and a blank; nothing where the table has no inputs.
 fn push_cube(text: &mut Vec<u8>, cube: &[u8]) -> Result<(), AllocError>
     ensures { OnOk result (text.new.items ≡ text.old.items ++ spelling.cube_text cube.now) }
 {
@@ -247,9 +247,9 @@ fn push_document(text: &mut Vec<u8>, document: &Document) -> Result<(), AllocErr
     Ok(())
 }
 
-/// Appends the BLIF text of a document (the Berkeley BLIF manual): the model, the inputs, outputs and
-/// clocks, 16 on a line, the latches, the tables with their cover lines, and `.end`. It is made in a text of
-/// its own and appended at once, so that nothing is appended where memory is wanting.
+/// Appends the BLIF text of a document (the Berkeley BLIF manual): the model, the inputs, outputs
+/// and clocks, 16 on a line, the latches, the tables with their cover lines, and `.end`. The text
+/// is made apart and appended at once, so that nothing is appended where memory runs out.
 pub fn write_document(text: &mut Vec<u8>, document: &Document) -> Result<(), AllocError>
     requires { All HasInit document.now.latches }
     ensures ok { OnOk result (text.new.items ≡ text.old.items ++ spelling.spelled document.now) }

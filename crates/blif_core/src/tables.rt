@@ -10,7 +10,7 @@ use net_core::{Body, Circuit, Cover, Cube, Gate, Name, Op, Sig};
 use net_document::Table;
 use std::alloc::{AllocError, Global};
 
-/// Adds a cube where it is wanted.
+/// Adds the cube `row`, where `is_wanted`.
 fn push_row(
     alloc: Global,
     cubes: &mut Vec<Cube>,
@@ -42,7 +42,7 @@ pub fn constant_table(alloc: Global, bit: bool, output: &[u8]) -> Result<Table, 
     })
 }
 
-/// A table of one input with these values at 0 and 1.
+/// A table of one input, by its values at 0 and 1.
 pub fn unary_table(
     alloc: Global,
     at_zero: bool,
@@ -106,7 +106,7 @@ fn binary_table(
     })
 }
 
-/// A gate whose first operand is a place.
+/// The table of a gate whose first operand is a place.
 fn with_place(
     alloc: Global,
     circuit: &Circuit,
@@ -139,7 +139,7 @@ fn with_place(
     }
 }
 
-/// A gate whose first operand is a constant.
+/// The table of a gate whose first operand is a constant.
 fn with_bit(
     alloc: Global,
     circuit: &Circuit,
@@ -168,7 +168,7 @@ fn with_bit(
     }
 }
 
-/// A gate as a function of its different operand places.
+/// The table of a gate: a function of the different places that it reads.
 #[tactic(auto, unfolding(crate::specs::Written::gate_table))]
 pub fn gate_table(
     alloc: Global,

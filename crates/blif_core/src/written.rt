@@ -1,4 +1,4 @@
-//! The document that stands for a circuit where it is written.
+//! The document that the writer makes of a circuit.
 
 ghost use Rattle.std.specs.Prelude.{◌≡◌, ◌∷◌, ◌++◌, if◌then◌else◌, List, OnOk, IfOk};
 ghost use Rattle.std.specs.List.{list_any};
@@ -63,7 +63,7 @@ fn copies(alloc: Global, names: &[Name]) -> Result<Vec<Name>, AllocError>
     Ok(copies)
 }
 
-/// Adds the tables of gates.
+/// Adds the tables of `gates`, with the names `outputs`.
 #[tactic(auto, unfolding(crate::specs::Written::gate_tables))]
 fn push_gates(
     alloc: Global,
@@ -89,7 +89,7 @@ fn push_gates(
     Ok(())
 }
 
-/// The sinks of the latches.
+/// The sinks that are the latches' inputs.
 fn latch_sinks(circuit: &Circuit) -> &[Sig]
     requires { IsProper circuit.now }
     ensures { result.now ≡ next_states circuit.now }
@@ -98,7 +98,7 @@ fn latch_sinks(circuit: &Circuit) -> &[Sig]
     &circuit.net.sinks()[outputs..]
 }
 
-/// The name of a signal: a place's own, or that of a constant.
+/// The name of a signal: a place or a constant.
 #[tactic(auto, using(crate::proofs::Constants::names))]
 fn sig_name<'a>(
     circuit: &'a Circuit,
@@ -119,7 +119,7 @@ fn sig_name<'a>(
     }
 }
 
-/// The name of the constant 1.
+/// The name of the constant 1, which comes after that of 0.
 fn one_name(names: &GateNames, is_zero_needed: bool) -> &[u8]
     ensures { result.now ≡ (if is_zero_needed then names.now.second_spare else names.now.first_spare) }
 {
@@ -186,7 +186,7 @@ fn push_latches(
     Ok(())
 }
 
-/// Adds a constant, where it is needed.
+/// Adds the table of a constant, where `is_needed`.
 fn push_constant(
     alloc: Global,
     is_needed: bool,
@@ -202,7 +202,7 @@ fn push_constant(
     Ok(())
 }
 
-/// Adds the constants that latches need.
+/// Adds the tables of the constants that latches need.
 #[tactic(auto, unfolding(crate::specs::Written::constant_tables))]
 fn push_constants(
     alloc: Global,
@@ -228,7 +228,7 @@ fn push_constants(
     push_constant(alloc, has_one(sinks), true, one, tables)
 }
 
-/// An output as a constant or a copy of a place.
+/// The table of an output: a constant, or a copy of a place.
 fn output_table(
     alloc: Global,
     circuit: &Circuit,
@@ -254,7 +254,7 @@ fn output_table(
     }
 }
 
-/// Adds an output, unless its name was written.
+/// Adds the table of an output, unless its name is in `done`.
 #[tactic(auto, unfolding(crate::specs::Written::output_tables, net_theory::specs::Document::has))]
 fn push_output(
     alloc: Global,
@@ -278,7 +278,7 @@ fn push_output(
     Ok(())
 }
 
-/// Adds the outputs whose names weren't written.
+/// Adds the tables of the outputs whose names aren't in `done`.
 #[tactic(auto, unfolding(crate::specs::Written::output_tables))]
 fn push_outputs(
     alloc: Global,
@@ -306,7 +306,7 @@ fn push_outputs(
     Ok(())
 }
 
-/// Takes the names of the sources and of the gates.
+/// Adds the names of the sources and of the gates to `written`.
 #[tactic(auto, using(crate::proofs::Constants::sets))]
 fn take_written(
     circuit: &Circuit,
@@ -322,7 +322,7 @@ fn take_written(
     Ok(())
 }
 
-/// Adds the outputs whose names neither a source nor a gate has.
+/// Adds the tables of the outputs whose names neither a source nor a gate has.
 fn push_others(
     alloc: Global,
     circuit: &Circuit,
@@ -348,7 +348,8 @@ fn push_others(
     )
 }
 
-/// Adds the tables of a circuit: gates, constants that latches need, and outputs whose names weren't written.
+/// Adds the tables of a circuit: gates, constants that latches need, and outputs whose names
+/// neither a source nor a gate has.
 fn push_tables(
     alloc: Global,
     circuit: &Circuit,
@@ -367,7 +368,7 @@ fn push_tables(
     push_others(alloc, circuit, gates, tables)
 }
 
-/// Adds the latches and the tables of a circuit, under the names that `gate_names` tells.
+/// Adds the latches and the tables of a circuit, with the names of `gate_names`.
 fn push_lists(
     alloc: Global,
     circuit: &Circuit,
@@ -400,8 +401,9 @@ fn heading(alloc: Global, circuit: &Circuit) -> Result<Document, AllocError>
     })
 }
 
-/// The document as which a circuit is written: the gates in the order of their places under the names
-/// that `gate_names` tells, the constants that latches need, and the outputs whose names weren't written.
+/// The document that the writer makes of a circuit: the gates in the order of their places with the
+/// names of `gate_names`, the constants that latches need, and the outputs whose names neither a
+/// source nor a gate has.
 #[tactic(auto, unfolding(crate::specs::Written::written))]
 pub fn document_of(alloc: Global, circuit: &Circuit) -> Result<Document, AllocError>
     requires { IsProper circuit.now }

@@ -1,4 +1,4 @@
--- The names of a circuit's places where it is written: they are names, and differ.
+-- The names of a circuit's places where it is written: they are valid, and differ.
 use Rattle.std.specs.Prelude.{◌≡◌, ℕ, zero, suc, ◌+◌, ◌-◌, ◌^◌, ◌≤◌, ◌<◌, true, false, nat_le, List, [], ◌∷◌, ◌++◌, length, map, slice_get, slice_index_or, Option, Some, ◌⊎◌, refl}
 use Rattle.std.specs.List.{filter_map}
 use Rattle.std.proofs.Common.{arith, sym, ◌∙◌, ap, subst, inl, inr, ⊎_elim, length-append}
@@ -18,14 +18,14 @@ use Rattle.net_core.specs.Names.{HasRoom}
 use Rattle.blif_laws.proofs.FreeNames.{AreFree, free_are, free_enough}
 use Rattle.blif_laws.proofs.GivenNames.{AreSeated, Given, given_all}
 
--- ---- outputs on places
+-- ---- outputs at places
 
 is_at_place : (s : Sig) (p : ℕ) → is_at s p ≡ true → s ≡ Place p
 is_at_place Zero p e = absurd cc
 is_at_place One p e = absurd cc
 is_at_place (Place q) p e = ap Place (eqb-true q p e)
 
--- an output that sits on a place is one of the outputs, and its sink is that place
+-- an output at a place is one of the outputs, and its sink is that place
 pub output_found : (outs : List Name) (sinks : List Sig) (p : ℕ) (o : Name) → output_on outs sinks p ≡ Some o → (i : ℕ) × (slice_get outs i ≡ Some o) × (slice_get sinks i ≡ Some (Place p))
 unfolding output_on
 output_found [] sinks p o e = absurd cc
@@ -46,7 +46,7 @@ outputs_same c i j o s t is at_i at_j sink_i sink_j =
     ∙ is.equal_outputs i j (slice_get_within c.outputs i o at_i) (slice_get_within c.outputs j o at_j) (index_at c.outputs i o [] at_i ∙ sym (index_at c.outputs j o [] at_j))
     ∙ index_at c.net.sinks j t Zero sink_j
 
--- an output that bears a source's name is that source
+-- an output with a source's name is that source
 pub output_source : (c : Circuit) (i j : ℕ) (o : Name) (s : Sig) → IsProper c → slice_get c.outputs i ≡ Some o → slice_get (sources_of c) j ≡ Some o → slice_get c.net.sinks i ≡ Some s → s ≡ Place (j + 1)
 output_source c i j o s is at_i at_j sink_i =
     sym (index_at c.net.sinks i s Zero sink_i)
@@ -55,7 +55,7 @@ output_source c i j o s is at_i at_j sink_i =
 place_same : (p q : ℕ) → Place p ≡ Place q → p ≡ q
 place_same p q e = cc
 
--- ---- names that are taken
+-- ---- names to avoid
 
 abbrev controls_of : Circuit → List Name
 controls_of c = filter_map control_of c.latches
@@ -87,7 +87,7 @@ seated c is = record {
       place_same p q (outputs_same c r.0 s.0 o (Place p) (Place q) is r.1 s.1 r.2 s.2);
 }
 
--- ---- gates and spares
+-- ---- gates and constants
 
 abbrev free_of : Circuit → List Name
 free_of c = free_names (taken_set c) 1 (enough (taken_set c) c.net)
@@ -124,7 +124,7 @@ pub record AreNamed (c : Circuit) : Type 0 where
   pub second : IsSpare c (second_spare c)
   pub spares : first_spare c ≡ second_spare c → ⊥
 
--- a list of two and more
+-- a list of two or more
 record HasTwo (xs : List Name) : Type 0 where
   first : Name
   second : Name
@@ -139,7 +139,7 @@ two_in (x ∷ y ∷ xs) low = record { first = x; second = y; more = xs; is = re
 not_taken : (c : Circuit) (n : Name) → has (taken_set c) n ≡ false → has (taken_names c) n ≡ false
 not_taken c n e = sym (has_all_once (taken_names c) n) ∙ e
 
--- what is left is free, and no gate has it
+-- the free names that are left are no gate's
 left_spare : (c : Circuit) (n : Name) (is : IsProper c) (small : HasRoom c) → has (all_named c).free n ≡ true → IsSpare c n
 left_spare c n is small left =
     let free = free_is c is small in
@@ -249,7 +249,7 @@ place_gate c i n at =
     ∙ ap (λ (k : ℕ). slice_index_or (gate_names c) k []) same
     ∙ index_at (gate_names c) i n [] at
 
--- a source's name is a name
+-- a source's name is valid
 pub source_name : (c : Circuit) (n : Name) → IsProper c → has (sources_of c) n ≡ true → IsName n
 source_name c n is e =
     ⊎_elim

@@ -1,4 +1,4 @@
--- The numbered names that aren't taken are names, differ, and suffice.
+-- The free numbered names are valid, differ, and are enough.
 use Rattle.std.specs.Prelude.{◌≡◌, ℕ, zero, suc, ◌+◌, ◌^◌, ◌≤◌, ◌<◌, Bool, true, false, not, if◌then◌else◌, List, [], ◌∷◌, length, map, filter, count_by, refl}
 use Rattle.std.specs.List.{range_with_len}
 use Rattle.std.proofs.Common.{arith, sym, ◌∙◌, ap, subst, ⊎_elim}
@@ -13,7 +13,7 @@ use Rattle.net_document.specs.Listed.{times}
 use Rattle.net_document.specs.TimesLaws.{distinct_times}
 use Rattle.blif_laws.specs.LetterNames.{letter_name, letters_same}
 
--- ---- numbered names are names
+-- ---- numbered names are valid
 
 pub numbered_name : (k : ℕ) → k < 2 ^ 64 → IsName (numbered k)
 numbered_name k low = letter_name 103 k (omega arith) (omega arith) low
@@ -63,7 +63,7 @@ kept_distinct test (m ∷ ns) e =
     (λ kept. cons_distinct m (filter test ns) (false_from_ne_true (has (filter test ns) m) (λ there. both_ways (has ns m) parts.0 (kept_had test ns m there))) (kept_distinct test ns parts.1))
     (λ passed. kept_distinct test ns parts.1)
 
--- ---- names in a list are few
+-- ---- how many names of a list are in another
 
 count_cons : (p : Name → Bool) (n : Name) (ns : List Name) → count_by p (n ∷ ns) ≡ (if p n then 1 else 0) + count_by p ns
 count_cons p n ns = sum_by-cons (λ (x : Name). if p x then 1 else 0) n ns
@@ -86,7 +86,7 @@ times_is : (m : Name) (ns : List Name) → count_by (is_same m) ns ≡ times m n
 unfolding times
 times_is m ns = refl
 
--- one name more among those that are asked for
+-- one more name among those that are counted
 count_more : (m : Name) (ms ns : List Name) → count_by (has (m ∷ ms)) ns ≤ count_by (has ms) ns + count_by (is_same m) ns
 count_more m ms [] = omega arith
 count_more m ms (n ∷ ns) =
@@ -105,7 +105,7 @@ no_count : (ns : List Name) → count_by (has []) ns ≡ 0
 no_count [] = refl
 no_count (n ∷ ns) = omega (arith, count_no (has []) n ns (false_from_ne_true (has [] n) (λ e. has_none n e)), no_count ns)
 
--- of names that differ no more stand in a list than it has
+-- of names that differ at most as many are in a list as it has
 count_few : (ms ns : List Name) → are_distinct ns ≡ true → count_by (has ms) ns ≤ length ms
 count_few [] ns e = omega (arith, no_count ns)
 count_few (m ∷ ms) ns e = omega (arith, count_more m ms ns, times_is m ns, distinct_times ns m e, count_few ms ns e)
@@ -116,7 +116,7 @@ range_length : (from count : ℕ) → length (range_with_len from count) ≡ cou
 range_length from zero = refl
 range_length from (suc count) = ap suc (range_length (from + 1) count)
 
--- the free names
+-- free names: they are valid, differ, and none is taken
 pub record AreFree (taken free : List Name) : Type 0 where
   pub names : (n : Name) → has free n ≡ true → IsName n
   pub apart : (n : Name) → has free n ≡ true → has taken n ≡ false

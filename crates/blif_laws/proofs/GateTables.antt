@@ -1,4 +1,4 @@
--- A gate and an output as tables: what they read, cost and are worth.
+-- A gate and an output as tables: their inputs, costs and values.
 use Rattle.std.specs.Prelude.{◌≡◌, ℕ, ◌≤◌, ◌<◌, Bool, true, false, ◌&&◌, ◌||◌, ◌==◌, if◌then◌else◌, List, [], ◌∷◌, ◌++◌, length, map, All, refl}
 use Rattle.std.specs.List.{list_any}
 use Rattle.std.proofs.Common.{arith, sym, ◌∙◌, ap, ⊎_elim, length-append}
@@ -37,7 +37,7 @@ unary_value true false true input output = refl
 unary_value true true false input output = refl
 unary_value true true true input output = refl
 
--- a cover of which the cubes say where it is 1
+-- a cover of the on-set
 value_any : (cubes : List (List ℕ)) (bits : List Bool) → value_by true cubes bits ≡ list_any (λ cube. matches cube bits) cubes
 value_any [] bits = refl
 value_any (c ∷ cs) bits = refl
@@ -63,7 +63,7 @@ any_four test a b c d p q r s =
     ∙ ap (λ x. (((a && test p) || (b && test q)) || x) || list_any test (row_if d s)) (any_row test c r)
     ∙ ap (λ x. (((a && test p) || (b && test q)) || (c && test r)) || x) (any_row test d s)
 
--- one of four rows is matched
+-- one of four rows is covered
 picked : (a b c d : Bool) (x y : Bool) →
     ((((a && matches (48 ∷ 48 ∷ []) (x ∷ y ∷ [])) || (b && matches (48 ∷ 49 ∷ []) (x ∷ y ∷ []))) || (c && matches (49 ∷ 48 ∷ []) (x ∷ y ∷ []))) || (d && matches (49 ∷ 49 ∷ []) (x ∷ y ∷ []))) ≡ (if x then (if y then d else c) else (if y then b else a))
 unfolding matches
@@ -199,7 +199,7 @@ binary_table_cost op first second output =
 
 -- ---- a gate
 
--- what a table that stands for a gate is
+-- t has the value of the gate g, reads places below `place`, and costs at most a gate
 pub record IsGateTable (name : ℕ → Name) (place : ℕ) (output : Name) (g : Gate) (t : Table) : Type 0 where
   pub drives : t.output ≡ output
   pub table : IsSpelledTable t
@@ -289,7 +289,7 @@ gate_is name place output g names is at = gate_by name place output g.op g.a g.b
 
 -- ---- an output
 
--- what a table that stands for an output is
+-- t has the value of the signal s, reads places below `place`, and costs nothing
 pub record IsOutputTable (name : ℕ → Name) (place : ℕ) (output : Name) (s : Sig) (t : Table) : Type 0 where
   pub drives : t.output ≡ output
   pub table : IsSpelledTable t
@@ -321,6 +321,6 @@ output_is name place output (Place p) names is below = record {
   value = λ v. unary_value false true (v (name p)) (name p) output ∙ pick_copy (v (name p));
 }
 
--- a constant that latches need
+-- a constant that a latch needs
 pub constant_hold : (v : Name → Bool) (bit : Bool) (output : Name) → v output ≡ cover_value (constant_table bit output).cover (map v []) → v output ≡ bit
 constant_hold v bit output holds = holds ∙ constant_value bit output

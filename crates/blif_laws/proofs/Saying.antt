@@ -1,4 +1,4 @@
--- What lines of names say, one after the other.
+-- Lines of words change the parser state one after the other.
 use Rattle.std.specs.Prelude.{◌≡◌, ℕ, zero, suc, ◌+◌, ◌≤◌, ◌<◌, Bool, true, false, not, ◌&&◌, ◌||◌, ◌==◌, nat_le, nat_lt, if◌then◌else◌, List, [], ◌∷◌, ◌++◌, length, map, All, Option, Some, None, Result, Ok, Err, codes, refl}
 use Rattle.std.specs.List.{flat_map, list_all}
 use Rattle.std.proofs.Common.{arith, sym, ◌∙◌, ap, subst, append_assoc, append-nil, length-append}
@@ -38,7 +38,7 @@ pub record IsLine (l : WordLine) : Type 0 where
   pub names : All IsName (l.first ∷ l.rest)
   pub few : length l.rest ≤ 1000
 
--- what they say, where the first one has the number given
+-- the state after lines, the first of which has the number given
 unfoldable pub said_by : ℕ → Said → List WordLine → Result Said NetError
 said_by n s [] = Ok (closed s)
 said_by n s (l ∷ ls) = stated n s (l.first ∷ l.rest) >>= λ t. said_by (n + 1) t ls
@@ -51,7 +51,7 @@ no_lines : (n : ℕ) → logical_of n [] ≡ []
 unfolding logical_from lines_from
 no_lines n = cond-true (n == n) _ _ (eq-eqb n n refl)
 
--- lines that were written say what their words say
+-- lines that were written are parsed as their words
 pub lines_said : (n : ℕ) (s : Said) (ls : List WordLine) → All IsLine ls → steps s (logical_of n (flat_map line_text ls)) ≡ said_by n s ls
 unfolding steps said_by
 lines_said n s [] all = ap (steps s) (no_lines n)
@@ -62,7 +62,7 @@ lines_said n s (l ∷ ls) all =
     ∙ ap (λ (r : Result Said NetError). r >>= λ t. steps t (logical_of (n + 1) (flat_map line_text ls))) (step_line s n l.first l.rest is.names is.few)
     ∙ bind_same (stated n s (l.first ∷ l.rest)) (λ t. steps t (logical_of (n + 1) (flat_map line_text ls))) (λ t. said_by (n + 1) t ls) (λ t. lines_said (n + 1) t ls (All-tail IsLine l ls all))
 
--- Lines lead from one state to another.
+-- lines lead from the state `s` to one with the property P
 pub record Says (n : ℕ) (lines : List WordLine) (s : Said) (P : Said → Type 0) : Type 0 where
   pub next : ℕ
   pub end : Said
@@ -88,7 +88,8 @@ says_then n first second s P Q a b =
 
 -- ---- states
 
--- Once its last table is whole, the state has this document, and more may be said.
+-- Once the last table is complete, the state `s` has the document `d`, and further lines may
+-- follow.
 pub record Has (d : Document) (s : Said) : Type 0 where
   pub document : (listed_by (closed s)).document ≡ d
   pub begun : s.is_begun ≡ true
@@ -99,7 +100,7 @@ unfolding are_names
 names_are [] all = refl
 names_are (w ∷ ws) all = and_from (is_name w) (list_all is_name ws) (All-head IsName w ws all).spelled (names_are ws (All-tail IsName w ws all))
 
--- a statement, once something was said
+-- a statement, once the text has begun
 directs : (n : ℕ) (s : Said) (word : Name) (ws : List Name) → s.is_ended ≡ false → begins_dot word ≡ true → s.is_begun ≡ true → stated n s (word ∷ ws) ≡ directed n (closed s) false word ws (keyword_of word)
 directs n s word ws going dot begun =
     cond-false s.is_ended _ _ going
@@ -123,12 +124,12 @@ model_said model is =
 
 -- ---- lists
 
--- names under a keyword, 16 on a line, of which some stand there already
+-- names after a keyword, 16 on a line; the line has some already
 unfoldable pub rest_lines : Name → List Name → ℕ → List Name → List WordLine
 rest_lines keyword names count [] = line keyword names ∷ []
 rest_lines keyword names count (n ∷ ns) = if count == 16 then line keyword names ∷ rest_lines keyword (n ∷ []) 1 ns else rest_lines keyword (names ++ n ∷ []) (count + 1) ns
 
--- A line under a keyword adds names to a document.
+-- a line with the keyword adds names to a document
 pub record Adds (keyword : Name) (add : List Name → Document → Document) : Type 0 where
   pub once : (n : ℕ) (ws : List Name) (d : Document) (s : Said) → All IsName ws → Has d s → Says n (line keyword ws ∷ []) s (Has (add ws d))
   pub twice : (xs ys : List Name) (d : Document) → add ys (add xs d) ≡ add (xs ++ ys) d
@@ -164,7 +165,7 @@ add_outputs ws d = record d { outputs = d.outputs ++ ws }
 abbrev pub add_clocks : List Name → Document → Document
 add_clocks ws d = record d { clocks = d.clocks ++ ws }
 
--- the document of a state whose last table is whole, with its tables as they are read once more
+-- the document of a state whose last table is complete, with its tables as they are parsed again
 abbrev behind : Said → Document
 behind s = record (listed_by (closed s)).document { tables = (closed s).tables ++ [] }
 
@@ -271,7 +272,7 @@ latches_said n (l ∷ ls) d s all has =
 abbrev pub names_line : Table → WordLine
 names_line t = line (codes ".names") (t.inputs ++ t.output ∷ [])
 
--- the value alone in a table without inputs
+-- a cover line: the output value alone in a table without inputs
 abbrev pub row_line : List ℕ → WordLine
 row_line [] = line (49 ∷ []) []
 row_line (b ∷ bs) = line (b ∷ bs) ((49 ∷ []) ∷ [])
@@ -279,7 +280,7 @@ row_line (b ∷ bs) = line (b ∷ bs) ((49 ∷ []) ∷ [])
 abbrev pub table_lines : Table → List WordLine
 table_lines t = names_line t ∷ map row_line t.cover.cubes
 
--- a table with these cubes, on which it is 1
+-- a table with the cubes given, for the on-set
 abbrev with_cubes : Table → List (List ℕ) → Table
 with_cubes t cubes = record { inputs = t.inputs; output = t.output; cover = record { width = t.cover.width; cubes = cubes; on = true; parity = false } }
 

@@ -1,4 +1,4 @@
--- What was written is read as the document that it spells.
+-- The text of a document is parsed as that document.
 use Rattle.std.specs.Prelude.{◌≡◌, ℕ, zero, suc, ◌+◌, ◌≤◌, Bool, true, false, not, ◌||◌, ◌==◌, if◌then◌else◌, List, [], ◌∷◌, ◌++◌, length, map, All, Option, Some, None, Result, Ok, codes, refl}
 use Rattle.std.specs.List.{flat_map, filter_map, cons_option, list_all}
 use Rattle.std.specs.Option.{option_map}
@@ -62,7 +62,7 @@ lines_text ls = flat_map line_text ls
 words_push : (ws : List Name) (n : Name) → words_text (ws ++ n ∷ []) ≡ words_text ws ++ word_text n
 words_push ws n = flat_map-append word_text ws (n ∷ []) ∙ ap (λ (xs : List ℕ). words_text ws ++ xs) (append-nil (word_text n))
 
--- a line that begins, and one that goes on
+-- a line that begins, and one that continues
 first_word : (keyword n : Name) (rest : List ℕ) → line_of keyword (n ∷ []) ++ rest ≡ (keyword ++ word_text n) ++ rest
 first_word keyword n rest = ap (λ (xs : List ℕ). (keyword ++ xs) ++ rest) (append-nil (word_text n))
 
@@ -72,7 +72,7 @@ next_word keyword names n rest =
     ∙ ap (λ (xs : List ℕ). xs ++ rest) (sym (append_assoc keyword (words_text names) (word_text n)))
     ∙ append_assoc (line_of keyword names) (word_text n) rest
 
--- one more name, on a line of its own or not
+-- one more name, on a new line or not
 rest_by : (keyword : Name) (names : List Name) (count : ℕ) (n : Name) (ns : List Name) (full : Bool) →
     line_of keyword (n ∷ []) ++ rest_text keyword 1 ns ≡ lines_text (rest_lines keyword (n ∷ []) 1 ns) →
     line_of keyword (names ++ n ∷ []) ++ rest_text keyword (count + 1) ns ≡ lines_text (rest_lines keyword (names ++ n ∷ []) (count + 1) ns) →
@@ -168,7 +168,7 @@ document_spelled d is =
     (tables_spelled d.tables is.tables))
     refl
 
--- ---- each is a line of names
+-- ---- each is a line of words
 
 keyword_name : (keyword : Name) → is_name keyword ≡ true → length keyword ≤ 1024 → IsName keyword
 keyword_name keyword e short = record { spelled = e; short = short }
@@ -302,7 +302,7 @@ document_are d is =
     (tables_are d.tables is.tables))
     end_are
 
--- ---- what they say
+-- ---- the state after them
 
 clocks_said : (n : ℕ) (clocks : List Name) (d : Document) (s : Said) → All IsName clocks → Has d s → Says n (clock_lines clocks) s (Has (add_clocks clocks d))
 clocks_said n [] d s all has =
@@ -366,7 +366,7 @@ controls_free : (s : Said) (size : ℕ) → IsWhole s size → AreFree (listed_b
 controls_free s size is free =
     no_fault (map table_output s.tables) s.controls (subst (λ (ms : List Name). AreNone (map table_output s.tables) ms) (sym is.said.controls) (free_all (map table_output s.tables) s.latches free))
 
--- a document that is spelled is listed again
+-- a document that can be spelled is read back
 pub read_back : (d : Document) → IsSpelled d → AreFree d → IsReadBack blif_format (spelled d) d
 unfolding listed_of
 read_back d is free =

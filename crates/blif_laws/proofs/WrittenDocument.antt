@@ -1,4 +1,5 @@
--- A written circuit is a well-formed document that does what the circuit does, at no greater cost.
+-- The document that the writer makes of a circuit is well formed and computes what the circuit
+-- does, at no greater cost.
 use Rattle.std.specs.Prelude.{◌≡◌, ℕ, zero, suc, ◌+◌, ◌-◌, ◌≤◌, ◌<◌, Bool, true, false, List, [], ◌∷◌, ◌++◌, length, map, slice_get, slice_index_or, sum_by, All, Option, Some, None, ◌⊎◌, refl}
 use Rattle.std.specs.List.{list_any, flat_map, filter_map, cons_option}
 use Rattle.std.specs.Option.{option_map}
@@ -62,7 +63,7 @@ pub tables_are : (c : Circuit) → (written c).tables ≡ all_tables c
 unfolding written
 tables_are c = ap (λ (ts : List Table). (gate_part c ++ ts) ++ output_part c) (constants_are c)
 
--- ---- what is known of them
+-- ---- their properties
 
 pub states_count : (c : Circuit) → IsProper c → length c.latches ≡ length (next_states c)
 states_count c is = omega (arith, is.sink_count, length-drop (length c.outputs) c.net.sinks)
@@ -118,7 +119,7 @@ place_had c p is named low high = has_at (placed c) (p - 1) (place_name c p) (pl
 abbrev before_outputs : Circuit → List Name
 before_outputs c = sources_of c ++ map table_output (fixed_part c)
 
--- what stands before the outputs has a place, or is a constant
+-- a name that comes before the outputs is that of a place, or of a constant
 before_cases : (c : Circuit) (n : Name) → IsProper c → AreNamed c → has (before_outputs c) n ≡ true → (has (placed c) n ≡ true) ⊎ (IsSpare c n)
 before_cases c n is named e =
     ⊎_elim

@@ -1,4 +1,5 @@
--- The parts of a written document: tables of gates, of constants and of outputs, and latches.
+-- The parts of a document that the writer makes: tables of gates, of constants and of outputs, and
+-- latches.
 use Rattle.std.specs.Prelude.{◌≡◌, ℕ, zero, suc, ◌+◌, ◌≤◌, ◌<◌, Bool, true, false, if◌then◌else◌, List, [], ◌∷◌, ◌++◌, length, map, slice_get, sum_by, All, Some, ◌⊎◌, refl}
 use Rattle.std.specs.List.{list_any}
 use Rattle.std.proofs.Common.{add-zero, arith, sym, ◌∙◌, ap, subst, inl, inr, ⊎_elim, drop}
@@ -20,7 +21,7 @@ use Rattle.blif_laws.proofs.GateTables.{AreNamesBelow, IsGateTable, gate_is, IsO
 
 -- ---- gates
 
--- gates, the first at the place, and their names
+-- gates, the first at `place`, and their names
 pub record AreToBeWritten (name : ℕ → Name) (place : ℕ) (gs : List Gate) (ns : List Name) : Type 0 where
   pub below : AreNamesBelow name place
   pub gates : (i : ℕ) (g : Gate) → slice_get gs i ≡ Some g → IsGateAt (place + i) g
@@ -114,7 +115,7 @@ one_of z first second = if z then second else first
 abbrev pub constants : Bool → Bool → Name → Name → List Table
 constants z o first second = table_if z (constant_table false first) ++ table_if o (constant_table true (one_of z first second))
 
--- two names that differ from all before them, and from one another
+-- two names that differ from all before, and from one another
 pub record AreSpare (before : List Name) (first second : Name) : Type 0 where
   pub first_name : IsName first
   pub second_name : IsName second
@@ -186,7 +187,7 @@ one_driven true true first second e = has_later first (second ∷ []) second (ha
 
 -- ---- outputs
 
--- outputs and sinks, and the names of places
+-- outputs and their sinks, with the names of places
 pub record AreOutputs (name : ℕ → Name) (place : ℕ) (outs : List Name) (sinks : List Sig) : Type 0 where
   pub names : (n : Name) → has outs n ≡ true → IsName n
   pub below : (i : ℕ) (s : Sig) → slice_get sinks i ≡ Some s → IsSigBelow place s
@@ -241,7 +242,7 @@ outputs_cost name place written (o ∷ os) (s ∷ ss) are =
     (λ there. outputs_cost name place written os ss (next_outputs name place o os s ss are))
     (λ new. omega (arith, sum_by-cons table_cost (output_table name o s) (output_tables name (written ++ o ∷ []) os ss), (first_output name place o os s ss are).cost, outputs_cost name place (written ++ o ∷ []) os ss (next_outputs name place o os s ss are)))
 
--- each of these tables drives an output that wasn't written
+-- each of the tables drives an output that wasn't written yet
 pub outputs_new : (name : ℕ → Name) (place : ℕ) (written outs : List Name) (sinks : List Sig) (n : Name) → AreOutputs name place outs sinks → has (map table_output (output_tables name written outs sinks)) n ≡ true → (has outs n ≡ true) × (has written n ≡ false)
 unfolding output_tables
 outputs_new name place written [] sinks n are e = absurd (has_none n e)
@@ -259,7 +260,7 @@ outputs_new name place written (o ∷ os) (s ∷ ss) n are e =
     (has_cases (output_table name o s).output (map table_output (output_tables name (written ++ o ∷ []) os ss)) n f))
     e
 
--- an output was written, or one of these tables drives it
+-- each output was written, or one of the tables drives it
 pub outputs_driven : (name : ℕ → Name) (place : ℕ) (written outs : List Name) (sinks : List Sig) (n : Name) → AreOutputs name place outs sinks → length outs ≤ length sinks → has outs n ≡ true → (has written n ≡ true) ⊎ (has (map table_output (output_tables name written outs sinks)) n ≡ true)
 unfolding output_tables
 outputs_driven name place written [] sinks n are few e = absurd (has_none n e)
@@ -288,7 +289,7 @@ outputs_driven name place written (o ∷ os) (s ∷ ss) n are few e =
 abbrev pub HaveOneSink : List Name → List Sig → Type 0
 HaveOneSink outs sinks = (i j : ℕ) (o : Name) (s t : Sig) → slice_get outs i ≡ Some o → slice_get outs j ≡ Some o → slice_get sinks i ≡ Some s → slice_get sinks j ≡ Some t → s ≡ t
 
--- the value of a sink, by the values of names
+-- the value of a sink, from the values of names
 abbrev pub named_value : (ℕ → Name) → (Name → Bool) → Sig → Bool
 named_value name v s = sig_value (λ p. v (name p)) s
 
@@ -297,7 +298,7 @@ first_holds name place o os s ss v are hold =
     let table = first_output name place o os s ss are in
     ap v (sym table.drives) ∙ hold ∙ table.value v
 
--- Each output has its sink's value, where those that were written have it.
+-- Each output has its sink's value, where the outputs that were written before have it.
 pub outputs_hold : (name : ℕ → Name) (place : ℕ) (written outs : List Name) (sinks : List Sig) (v : Name → Bool) → AreOutputs name place outs sinks → All (HoldsIn v) (output_tables name written outs sinks) → HaveOneSink outs sinks →
     ((i : ℕ) (o : Name) (s : Sig) → slice_get outs i ≡ Some o → slice_get sinks i ≡ Some s → has written o ≡ true → v o ≡ named_value name v s) →
     (i : ℕ) (o : Name) (s : Sig) → slice_get outs i ≡ Some o → slice_get sinks i ≡ Some s → v o ≡ named_value name v s
@@ -339,7 +340,7 @@ lines_latches name [] ss low = refl
 lines_latches name (l ∷ ls) [] low = absurd (omega (arith, low))
 lines_latches name (l ∷ ls) (s ∷ ss) low = ap (λ (xs : List Latch). l ∷ xs) (lines_latches name ls ss (omega (arith, low)))
 
--- what a line of latches is made of
+-- the line of the latch at index `i`
 pub record IsLineOf (name : Sig → Name) (ls : List Latch) (ss : List Sig) (i : ℕ) (l : LatchLine) : Type 0 where
   pub latch : slice_get ls i ≡ Some l.latch
   pub sink : Sig
@@ -366,7 +367,7 @@ lines_values name (l ∷ ls) (s ∷ ss) v f same each =
     ap (λ b. b ∷ map v (map latch_input (latch_lines name ls ss))) (each 0 s refl)
     ∙ ap (λ bs. f s ∷ bs) (lines_values name ls ss v f (omega (arith, same)) (λ i x at. each (suc i) x at))
 
--- the values of the outputs, and then of the others
+-- the values of the outputs, and of the other sinks
 pub sinks_split : (outs : List Name) (sinks : List Sig) (v : Name → Bool) (f : Sig → Bool) → length outs ≤ length sinks → ((i : ℕ) (o : Name) (s : Sig) → slice_get outs i ≡ Some o → slice_get sinks i ≡ Some s → v o ≡ f s) → map v outs ++ map f (drop (length outs) sinks) ≡ map f sinks
 sinks_split [] sinks v f low each = refl
 sinks_split (o ∷ os) [] v f low each = absurd (omega (arith, low))

@@ -1,4 +1,4 @@
--- The document of a circuit has the circuit's values.
+-- The document that the writer makes of a circuit has the circuit's values.
 use Rattle.std.specs.Prelude.{◌≡◌, ℕ, zero, suc, ◌+◌, ◌-◌, ◌≤◌, ◌<◌, Bool, true, List, [], ◌∷◌, ◌++◌, length, map, slice_get, All, Some, refl}
 use Rattle.std.proofs.Common.{arith, sym, ◌∙◌, ap, subst, ⊎_elim}
 use Rattle.std.proofs.lemmas.Bool.{both_ways, cases_eq}
@@ -85,14 +85,14 @@ place_value c given v (suc k) p is named maps low from to =
     (λ other. place_value c given v k p is named maps (omega (arith, low)) from (omega (arith, to, other)))
     (cases_eq p (c.net.sources + 1 + k))
 
--- a signal by the names of places has its value
+-- a signal has the value that the names of places give it
 sink_value : (c : Circuit) (given v : Name → Bool) (s : Sig) → IsProper c → AreNamed c → IsMap c given v → IsSigBelow (end_of c.net) s → named_value (place_name c) v s ≡ sig_value (values_in c given) s
 sink_value c given v s is named maps below =
     sig_same (λ p. v (place_name c p)) (values_in c given) s (end_of c.net) below (λ p one high. place_value c given v (length c.net.gates) p is named maps (omega arith) one (omega (arith, high)))
 
 -- ---- the values of sinks
 
--- an output that stands among the places sits on the place of its name
+-- an output whose name is that of a place has that place as sink
 output_old : (c : Circuit) (v : Name → Bool) (i : ℕ) (o : Name) (s : Sig) → IsProper c → AreNamed c → slice_get c.outputs i ≡ Some o → slice_get c.net.sinks i ≡ Some s → has (names_written c) o ≡ true → v o ≡ named_value (place_name c) v s
 output_old c v i o s is named at_o at_s old =
     ⊎_elim

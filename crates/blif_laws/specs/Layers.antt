@@ -1,4 +1,5 @@
--- Tables of which each reads only what stands before it: they have one map, and none depends on itself.
+-- Tables in topological order, each of which reads only names before it: they have one map, and
+-- none depends on itself.
 use Rattle.std.specs.Prelude.{◌≡◌, ℕ, zero, suc, ◌<◌, Bool, true, false, if◌then◌else◌, List, [], ◌∷◌, ◌++◌, map, slice_get, All, Some, refl}
 use Rattle.std.specs.List.{flat_map}
 use Rattle.std.proofs.Common.{arith, sym, ◌∙◌, ap, subst, ⊎_elim, append_assoc, append-nil}
@@ -11,7 +12,7 @@ use Rattle.net_theory.specs.NetLaws.{map_same}
 use Rattle.net_theory.specs.Behaviour.{HoldsIn, HasOneMap}
 use Rattle.net_theory.specs.Dependence.{Reads, DependsOn, at_once, by_way_of, IsAcyclic}
 
--- a table that reads names before it, and drives another
+-- a table that reads names of `before`, and drives another
 pub record IsLayer (before : List Name) (t : Table) : Type 0 where
   pub fresh : has before t.output ≡ false
   pub inputs : (n : Name) → has t.inputs n ≡ true → has before n ≡ true
@@ -33,7 +34,7 @@ no_name : (n : Name) → has [] n ≡ false
 unfolding has
 no_name n = refl
 
--- one more name that differs from those before it
+-- one more name that differs from all before
 pub distinct_push : (before : List Name) (n : Name) → are_distinct before ≡ true → has before n ≡ false → are_distinct (before ++ n ∷ []) ≡ true
 distinct_push before n d apart =
     append_distinct before (n ∷ []) d (cons_distinct n [] (no_name n) no_names)

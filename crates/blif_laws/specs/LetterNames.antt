@@ -1,4 +1,4 @@
--- A letter and a number behind it are a name, and there is one letter and one number of each.
+-- A letter followed by a number is a valid name, and each such name has one letter and one number.
 use Rattle.std.specs.Prelude.{◌≡◌, ℕ, ◌+◌, ◌%◌, ◌^◌, ◌≤◌, ◌<◌, true, false, not, ◌&&◌, ◌==◌, nat_le, List, [], ◌∷◌, ◌++◌, length, decimal}
 use Rattle.std.proofs.Common.{arith}
 use Rattle.std.proofs.lemmas.Bool.{and_parts, and_from, not_from_false, le-leb, ne_eqb}
@@ -15,7 +15,7 @@ name_push (c ∷ d ∷ bs) b e good other =
     let p = and_parts (is_name_byte c) (is_name (d ∷ bs)) e in
     and_from (is_name_byte c) (is_name (d ∷ bs ++ b ∷ [])) p.0 (name_push (d ∷ bs) b p.1 good other)
 
--- a byte from 36 on that isn't `\`
+-- a byte from 36 to 126 that isn't `\`
 byte_good : (b : ℕ) → 36 ≤ b → b ≤ 126 → is_name_byte b ≡ true
 byte_good b low high =
     and_from (nat_le 33 b && nat_le b 126) (not (b == 35))

@@ -3,13 +3,13 @@ use Rattle.std.specs.Prelude.{◌≡◌, true, false, All}
 use Rattle.net_theory.specs.Document.{IsName, Table, Document}
 use Rattle.net_theory.specs.WellFormed.{IsTable, IsLatchLine}
 
--- a table whose cubes say where it is 1
+-- a table by cubes of the on-set
 pub record IsSpelledTable (t : Table) : Type 0 where
   pub table : IsTable t
   pub on : t.cover.on ≡ true
   pub cubes : t.cover.parity ≡ false
 
--- each name, latch and table is one
+-- names, latches and tables are within their limits
 pub record IsSpelled (d : Document) : Type 0 where
   pub model : IsName d.model
   pub inputs : All IsName d.inputs

@@ -8,7 +8,7 @@ use Rattle.net_core.specs.declared.error.NetError.TheVariants.{NotSupported}
 use Rattle.net_document.specs.OnceLaws.{has_all_once}
 use Rattle.blif_text.specs.Statements.{Control, control_fault}
 
--- what is driven is asked for names alone
+-- only whether a name is driven counts, not how often
 pub control_fault-once : (ns : List Name) (cs : List Control) → control_fault (each_once [] ns) cs ≡ control_fault ns cs
 unfolding control_fault
 control_fault-once ns [] = refl

@@ -1,4 +1,4 @@
--- What the readers of the parts of a line answer.
+-- The answers of the readers of the parts of a line, as values of the definitions.
 use Rattle.std.specs.Prelude.{ℕ, Bool, List, Option, Some, None}
 use Rattle.std.specs.Borrow.{Bor}
 use Rattle.net_theory.specs.declared.data.Trigger.{Trigger}

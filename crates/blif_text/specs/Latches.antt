@@ -6,16 +6,16 @@ use Rattle.net_theory.specs.Document.{Name, is_name, is_same, LatchLine}
 use Rattle.net_core.specs.declared.error.NetError.{NetError}
 use Rattle.net_core.specs.declared.error.NetError.TheVariants.{Syntax}
 
--- how a latch follows its control
+-- the trigger of a word
 unfoldable pub trigger_in : List ℕ → Option Trigger
 trigger_in word = if is_same word (codes "fe") then Some Fe else (if is_same word (codes "re") then Some Re else (if is_same word (codes "ah") then Some Ah else (if is_same word (codes "al") then Some Al else (if is_same word (codes "as") then Some As else None))))
 
--- a first value, `0` to `3`
+-- an initial value, `0` to `3`
 unfoldable pub init_in : List ℕ → Option ℕ
 init_in (b ∷ []) = if nat_le 48 b && nat_le b 51 then Some (b - 48) else None
 init_in other = None
 
--- what stands behind the two names of a latch line
+-- the end of a latch line, after its two names
 pub record Tail : Type 0 where
   pub control : Option (Trigger × Name)
   pub init : Option ℕ
@@ -36,7 +36,7 @@ abbrev pub tail_by_both : Option (Trigger × Name) → Option ℕ → Option Tai
 tail_by_both None init = None
 tail_by_both (Some control) init = tail_with (Some control) init
 
--- nothing, a first value, a control, or both
+-- nothing, an initial value, a control, or both
 unfoldable pub tail_in : List (List ℕ) → Option Tail
 tail_in [] = Some (record { control = None; init = None })
 tail_in (init ∷ []) = tail_with None (init_in init)

@@ -1,4 +1,4 @@
--- What a text lists.
+-- What a text lists is well made.
 use Rattle.std.proofs.Common.{◌≡◌, ℕ, ◌+◌, ◌*◌, ◌≤◌, true, false, List, [], ◌∷◌, ◌++◌, length, map, Option, Some, None, refl, ap, ◌∙◌, sym, subst, arith, length-append, inl, inr}
 use Rattle.std.specs.Prelude.{◌-◌, ◌==◌, Result, Ok, Err, IfOk, All, sum_by}
 use Rattle.std.specs.List.{flat_map, filter_map, cons_option}
@@ -27,7 +27,7 @@ use Rattle.blif_text.specs.SizeLaws.{said_size, text_short}
 use Rattle.blif_text.specs.SaidLaws.{IsCubeTable, control_name, table_size, nothing_said, tables_none}
 use Rattle.blif_text.specs.StepLaws.{IsWhole, steps_fine}
 
--- ---- what was said is a listed document
+-- ---- the parser state as a listed document
 
 list_said : (s : Said) (size : ℕ) → IsWhole s size → IsListed (listed_by s)
 list_said s size is = record {
@@ -173,7 +173,7 @@ text_named bytes s e = omega (arith, (said_whole bytes s e).said.named, text_sho
 
 -- ---- what a text lists
 
--- what is listed was said
+-- `l` is the document of a final parser state
 pub record IsSaidBy (bytes : List ℕ) (l : Listed) : Type 0 where
   pub state : Said
   pub said : said_of bytes ≡ Ok state
@@ -191,6 +191,6 @@ listed_said : (bytes : List ℕ) (l : Listed) → listed_of bytes ≡ Ok l → I
 unfolding listed_of
 listed_said bytes l e = said_by_parts bytes l (said_of bytes) refl e
 
--- each of its names, latches and tables is one
+-- its names, latches and tables are within their limits
 pub texts_list : (bytes : List ℕ) (l : Listed) → listed_of bytes ≡ Ok l → IsListed l
 texts_list bytes l e = let s = listed_said bytes l e in subst IsListed s.same (text_listed bytes s.state s.said)

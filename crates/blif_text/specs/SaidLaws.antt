@@ -1,4 +1,4 @@
--- What a text says is made of names, tables and latches, and is no longer than the text.
+-- The parser state is made of names, tables and latches, and is no larger than the text.
 use Rattle.std.proofs.Common.{◌≡◌, ℕ, suc, ◌+◌, ◌*◌, ◌≤◌, Bool, true, false, List, [], ◌∷◌, ◌++◌, length, map, Option, Some, None, refl, ap, ◌∙◌, sym, subst, arith, length-append, append-nil}
 use Rattle.std.specs.Prelude.{nat_lt, ◌||◌, Result, Ok, Err, IfOk, All, option_to_list, sum_by}
 use Rattle.std.specs.List.{list_any, flat_map, filter_map, cons_option}
@@ -24,14 +24,14 @@ use Rattle.blif_text.specs.Statements.{Control, Said, nothing, closed, with_tabl
 abbrev pub control_name : Control → Name
 control_name c = c.name
 
--- how much of a text a table takes at least
+-- the fewest bytes of text that a table takes
 unfoldable pub table_size : Table → ℕ
 table_size t = 1 + literal_sum t.cover.cubes
 
 abbrev pub tables_of : Said → List Table
 tables_of s = s.tables ++ option_to_list s.current
 
--- a table of cubes, as BLIF has them alone
+-- a table by cubes, the only ones of BLIF
 pub record IsCubeTable (t : Table) : Type 0 where
   pub table : IsTable t
   pub parity : t.cover.parity ≡ false
@@ -50,7 +50,7 @@ pub record IsSaid (s : Said) (size : ℕ) : Type 0 where
   pub small : 2 * (length s.inputs + length s.latches) + sum_by table_size (tables_of s) ≤ size
   pub named : length s.outputs + length s.clocks ≤ size
 
--- ---- answers
+-- ---- results
 
 pub bind_fine : {A B : Type 0} (r : Result A NetError) (f : A → Result B NetError) (P : A → Type 0) (Q : B → Type 0) → IfOk r P → ((x : A) → P x → IfOk (f x) Q) → IfOk (r >>= f) Q
 bind_fine (Ok x) f P Q h next = next x h

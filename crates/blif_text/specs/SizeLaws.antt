@@ -1,4 +1,4 @@
--- What a text says is no longer than the text.
+-- What a text lists is no larger than the text.
 use Rattle.std.proofs.Common.{◌≡◌, ℕ, suc, ◌+◌, ◌≤◌, true, false, List, [], ◌∷◌, ◌++◌, length, Option, Some, None, refl, arith, length-append}
 use Rattle.std.specs.Prelude.{◌==◌}
 use Rattle.std.specs.List.{sum_by}
@@ -56,7 +56,7 @@ said_size-cons l ls = said_cons l ls
 
 -- ---- words
 
--- words with a blank each
+-- the bytes of words, with a blank each
 abbrev pub words_size : List (List ℕ) → ℕ
 words_size ws = sum_by (λ (w : List ℕ). length w + 1) ws
 

@@ -1,5 +1,6 @@
--- The statements of a BLIF text, in the order of its logical lines, and the first fault where they are
--- none. Lines are judged in their order; on one line the order is that of the tests. A line without
+-- The statements of a BLIF text, in the order of its logical lines, or the first fault. Lines are
+-- checked in their order, and one line in the order of the tests below. A line without words is
+-- skipped.
 -- words is passed over.
 use Rattle.std.specs.Prelude.{ℕ, Bool, true, false, not, ◌&&◌, ◌==◌, nat_lt, if◌then◌else◌, List, [], ◌∷◌, ◌++◌, length, map, Option, Some, None, Result, Ok, Err, codes, option_to_list}
 use Rattle.std.specs.List.{list_all}
@@ -18,12 +19,13 @@ use Rattle.blif_text.specs.Rows.{row_of}
 use Rattle.blif_text.specs.Latches.{latch_of}
 use Rattle.blif_text.specs.Reading.{◌>>=◌}
 
--- the control of a latch, with the latch's line
+-- the control of a latch, with the line of the latch
 pub record Control : Type 0 where
   pub line : ℕ
   pub name : Name
 
--- What was said so far. The last table is kept apart as long as cover lines of it may follow.
+-- The parser state: what the lines so far list. The last table is kept apart as long as its cover
+-- lines may follow.
 pub record Said : Type 0 where
   pub model : Name
   pub inputs : List Name
@@ -39,11 +41,11 @@ pub record Said : Type 0 where
   pub is_begun : Bool
   pub is_ended : Bool
 
--- The model's name is `top` where no name is said.
+-- The model's name is `top` where the text names none.
 abbrev pub nothing : Said
 nothing = record { model = codes "top"; inputs = []; outputs = []; clocks = []; latches = []; tables = []; current = None; driven = []; used = []; controls = []; has_model = false; is_begun = false; is_ended = false }
 
--- a statement begins, and so the cover of the last table is whole
+-- a statement begins, so that the cover of the last table is complete
 abbrev pub closed : Said → Said
 closed s = record s { tables = s.tables ++ option_to_list s.current; current = None; is_begun = true }
 
@@ -65,7 +67,7 @@ with_model line s [] = Ok (record s { has_model = true })
 with_model line s (w ∷ []) = if is_name w then Ok (record s { model = w; has_model = true }) else Err (Syntax line)
 with_model line s (w ∷ v ∷ ws) = Err (Syntax line)
 
--- the words before the last one, where w is the first
+-- the words before the last one; `w` is the first word
 unfoldable pub front_of : List ℕ → List (List ℕ) → List (List ℕ)
 front_of w [] = []
 front_of w (v ∷ ws) = w ∷ front_of v ws
@@ -82,11 +84,11 @@ unfoldable pub table_of : ℕ → List (List ℕ) → Result Table NetError
 table_of line [] = Err (Syntax line)
 table_of line (w ∷ ws) = if nat_lt 256 (length ws) then Err (TooWide line) else (if are_names (w ∷ ws) then Ok (empty_table (front_of w ws) (last_of w ws)) else Err (Syntax line))
 
--- what a table drives and uses
+-- the names that a table drives and uses
 abbrev pub with_table_names : Said → Table → Said
 with_table_names s t = record s { driven = s.driven ++ t.output ∷ []; used = s.used ++ t.inputs }
 
--- and its rows are to come
+-- and its cover lines may follow
 abbrev pub with_table : Said → Table → Said
 with_table s t = record (with_table_names s t) { current = Some t }
 
@@ -94,7 +96,7 @@ abbrev pub control_at : ℕ → Option (Trigger × Name) → List Control
 control_at line None = []
 control_at line (Some c) = record { line = line; name = c.1 } ∷ []
 
--- what a latch drives and uses, and its control
+-- the names that a latch drives and uses, and its control
 abbrev pub with_latch_names : ℕ → Said → LatchLine → Said
 with_latch_names line s l = record s { driven = s.driven ++ l.latch.output ∷ []; used = s.used ++ l.input ∷ []; controls = s.controls ++ control_at line l.latch.control }
 
@@ -122,7 +124,7 @@ with_latch_line line s ws = latch_of line ws >>= λ l. Ok (with_latch line s l)
 abbrev pub with_end : ℕ → Said → List (List ℕ) → Result Said NetError
 with_end line s ws = if is_nothing ws then Ok (record s { is_ended = true }) else Err (Syntax line)
 
--- a line that begins with a dot; first tells whether nothing was said before it
+-- a line that begins with a dot; `first` where it is the first statement
 unfoldable pub directed : ℕ → Said → Bool → List ℕ → List (List ℕ) → Keyword → Result Said NetError
 directed line s first word ws Model = if s.has_model then Err (NotSupported line word) else (if first then with_model line s ws else Err (Syntax line))
 directed line s first word ws Inputs = with_inputs line s ws
@@ -133,12 +135,12 @@ directed line s first word ws Latch = with_latch_line line s ws
 directed line s first word ws End = with_end line s ws
 directed line s first word ws Unknown = Err (NotSupported line word)
 
--- a cover line: the last statement has to be a table
+-- a cover line: the last statement must be a table
 abbrev pub covered : ℕ → Said → Option Table → List (List ℕ) → Result Said NetError
 covered line s None words = Err (Syntax line)
 covered line s (Some t) words = row_of line t words >>= λ u. Ok (record s { current = Some u })
 
--- behind `.end` nothing follows; a second model is told as such
+-- nothing may follow `.end`; a second model is reported as unsupported
 abbrev pub behind_end : ℕ → Said → List ℕ → Result Said NetError
 behind_end line s word = if is_same word (codes ".model") && s.has_model then Err (NotSupported line word) else Err (Syntax line)
 
@@ -154,7 +156,7 @@ unfoldable pub steps : Said → List Logical → Result Said NetError
 steps s [] = Ok (closed s)
 steps s (l ∷ ls) = step s l >>= λ t. steps t ls
 
--- what a text says
+-- the parser state at the end of a text
 unfoldable pub said_of : List ℕ → Result Said NetError
 said_of bytes = steps nothing (logical_of 1 bytes)
 
@@ -163,7 +165,7 @@ said_of bytes = steps nothing (logical_of 1 bytes)
 abbrev pub listed_by : Said → Listed
 listed_by s = record { document = record { model = s.model; inputs = s.inputs; outputs = s.outputs; clocks = s.clocks; latches = s.latches; tables = s.tables }; driven = s.driven; used = s.used }
 
--- the first control among these names, which tables drive
+-- the first control whose name is among those of a list, the outputs of tables
 unfoldable pub control_fault : List Name → List Control → Option NetError
 control_fault driven [] = None
 control_fault driven (c ∷ cs) = if has driven c.name then Some (NotSupported c.line c.name) else control_fault driven cs
@@ -172,7 +174,7 @@ abbrev pub unless : {A : Type 0} → Option NetError → A → Result A NetError
 unless None x = Ok x
 unless (Some e) x = Err e
 
--- The document of a text, or the first fault of its lines. A control that a table drives is told
--- behind them. That the document is well formed isn't said here.
+-- The document of a text, or the first fault of its lines, or else the first control that a table
+-- drives. Whether the document is well formed isn't checked here.
 unfoldable pub listed_of : List ℕ → Result Listed NetError
 listed_of bytes = said_of bytes >>= λ s. unless (control_fault (map table_output s.tables) s.controls) (listed_by s)

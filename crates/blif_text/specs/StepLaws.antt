@@ -1,4 +1,4 @@
--- What each statement says is made of names, tables and latches.
+-- Each statement adds names, tables and latches within their limits.
 use Rattle.std.proofs.Common.{◌≡◌, ℕ, suc, ◌+◌, ◌-◌, ◌*◌, ◌≤◌, ◌<◌, Bool, true, false, List, [], ◌∷◌, ◌++◌, length, Option, Some, None, refl, ap, sym, subst, arith, length-append}
 use Rattle.std.specs.Prelude.{◌==◌, ◌&&◌, ◌||◌, not, if◌then◌else◌, nat_lt, nat_le, Result, Ok, Err, IfOk, All, option_to_list, codes}
 use Rattle.std.specs.List.{list_all}
@@ -126,7 +126,7 @@ row_fits width (c ∷ v ∷ []) row e =
     e
 row_fits width (c ∷ v ∷ w ∷ ws) row e = absurd cc
 
--- a table with one more cover line
+-- `u` is `t` with one more cover line
 pub record IsMore (t : Table) (words : List (List ℕ)) (u : Table) : Type 0 where
   pub table : IsCubeTable u
   pub inputs : u.inputs ≡ t.inputs
@@ -336,7 +336,7 @@ step_fine s l size is =
     (λ f. tt)
     (λ f. stated_fine l.first s (words_of l.text) size (size + length l.text) is (short_words (words_of l.text) f) (omega arith) (omega (arith, words_fit l.text))))
 
--- all that a text says is fine, and its last table is whole
+-- the state is valid, and its last table is complete
 pub record IsWhole (s : Said) (size : ℕ) : Type 0 where
   pub said : IsSaid s size
   pub whole : s.current ≡ None

@@ -1,4 +1,4 @@
-//! Keywords: the words with which statements begin, and one more for all others.
+//! Keywords, with which statements begin, and a variant for all other words.
 
 ghost use Rattle.std.specs.Prelude.{◌≡◌};
 ghost use Rattle.blif_text.specs.Statements.{keyword_of as keyword_of_word};
@@ -22,11 +22,11 @@ pub enum Keyword {
     Latch,
     /// `.end`
     End,
-    /// Another one, which isn't supported.
+    /// Any other word, which isn't supported.
     Unknown,
 }
 
-/// What a word that begins with a dot asks for.
+/// The keyword of a word that begins with a dot.
 #[tactic(auto, unfolding(crate::specs::Statements::keyword_of))]
 pub fn keyword_of(word: &[u8]) -> Keyword
     ensures { result ≡ keyword_of_word word.now }

@@ -12,7 +12,7 @@ use net_document::{Latch, LatchLine, Name, NetError, Trigger};
 use net_text::is_name;
 use std::alloc::{AllocError, Global};
 
-/// How a latch follows its control.
+/// The trigger of a word.
 #[tactic(auto, unfolding(crate::specs::Latches::trigger_in))]
 fn trigger_in(word: &[u8]) -> Option<Trigger>
     ensures { result ≡ trigger_in_of word.now }
@@ -32,7 +32,7 @@ fn trigger_in(word: &[u8]) -> Option<Trigger>
     }
 }
 
-/// A first value.
+/// An initial value.
 #[tactic(auto, unfolding(crate::specs::Latches::init_in))]
 fn init_in(word: &[u8]) -> Option<u8>
     ensures { result ≡ init_in_of word.now }
@@ -47,7 +47,7 @@ fn init_in(word: &[u8]) -> Option<u8>
     }
 }
 
-/// A control: how it is followed, and its name.
+/// A control: its trigger and its name.
 fn control_in<'a>(trigger: &[u8], name: &'a [u8]) -> Option<(Trigger, &'a [u8])>
     ensures { control_found result ≡ with_control (trigger_in_of trigger.now) name.now }
 {
@@ -59,7 +59,7 @@ fn control_in<'a>(trigger: &[u8], name: &'a [u8]) -> Option<(Trigger, &'a [u8])>
     }
 }
 
-/// What stands behind the two names of a latch line: nothing, a first value, a control, or both.
+/// The end of a latch line, after its two names: nothing, an initial value, a control, or both.
 #[tactic(auto, unfolding(crate::specs::Latches::tail_in))]
 fn tail_in(text: &[u8]) -> Option<(Option<(Trigger, &[u8])>, Option<u8>)>
     ensures { tail_found result ≡ tail_in_of (words_of text.now) }
@@ -80,7 +80,7 @@ fn tail_in(text: &[u8]) -> Option<(Option<(Trigger, &[u8])>, Option<u8>)>
     Some((Some(control), Some(init_in(third)?)))
 }
 
-/// A control of its own.
+/// A control with a name of its own.
 fn owned_control(
     alloc: Global,
     control: Option<(Trigger, &[u8])>,

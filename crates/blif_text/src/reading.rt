@@ -1,4 +1,4 @@
-//! What was said so far, as a value: each statement is a change of it.
+//! The parser state, which each statement changes.
 
 ghost use Rattle.std.specs.Prelude.{◌≡◌, OnOk, IfOk};
 ghost use Rattle.blif_text.specs.Statements.{nothing, closed as closed_of};
@@ -7,7 +7,7 @@ use net_document::{Body, Cover, LatchLine, Name, Table};
 use std::alloc::{AllocError, Global};
 use std::marker::Model;
 
-/// The control of a latch, with the latch's line.
+/// The control of a latch, with the line of the latch.
 #[derive(Drop)]
 pub struct Control {
     pub line: u32,
@@ -22,7 +22,7 @@ impl Model for Control {
     ghost view = { λ c. record { line = c.line; name = c.name } };
 }
 
-/// A table by its cover, as long as cover lines of it may follow.
+/// A table with its cover, as long as cover lines of it may follow.
 #[derive(Drop)]
 pub struct CoverTable {
     pub inputs: Vec<Name>,
@@ -39,7 +39,7 @@ impl Model for CoverTable {
 }
 
 impl CoverTable {
-    /// The table, to which no line follows.
+    /// The table, complete.
     fn closed(self) -> Table
         ensures { result ≡ self }
     {
@@ -56,7 +56,8 @@ impl CoverTable {
     }
 }
 
-/// What was said so far. The last table is kept apart as long as cover lines of it may follow.
+/// The parser state: what the lines so far list. The last table is kept apart as long as its cover
+/// lines may follow.
 #[derive(Drop)]
 pub struct Reading {
     pub model: Name,
@@ -97,7 +98,7 @@ impl Model for Reading {
 }
 
 impl Reading {
-    /// Nothing was said.
+    /// The state before the first line.
     pub fn new(alloc: Global) -> Result<Reading, AllocError>
         ensures { IfOk result (λ r. r ≡ nothing) }
     {
@@ -118,7 +119,7 @@ impl Reading {
         })
     }
 
-    /// A statement begins, and so the cover of the last table is whole.
+    /// A statement begins, so that the cover of the last table is complete.
     pub fn close(&mut self) -> Result<(), AllocError>
         ensures { OnOk result (self.new ≡ closed_of self.old) }
     {

@@ -25,7 +25,7 @@ fn bit_in(word: &[u8]) -> Option<bool>
     }
 }
 
-/// Whether all bytes can stand in a cube.
+/// Whether all bytes may be part of a cube.
 fn are_cube_bytes(bytes: &[u8]) -> bool
     ensures { result ≡ list_all is_cube_byte bytes.now }
 {
@@ -34,14 +34,14 @@ fn are_cube_bytes(bytes: &[u8]) -> bool
         .all(|byte| *byte == b'0' || *byte == b'1' || *byte == b'-')
 }
 
-/// Whether these bytes are a cube of so many inputs.
+/// Whether the bytes are a cube of `width` inputs.
 fn is_cube(width: u32, bytes: &[u8]) -> bool
     ensures { result ≡ is_cube_of width bytes.now }
 {
     bytes.len() == width as usize && are_cube_bytes(bytes)
 }
 
-/// The cube and the value of a cover line in a table of so many inputs.
+/// The cube and the value of a cover line in a table of `width` inputs.
 #[tactic(auto, unfolding(crate::specs::Rows::row_in))]
 fn row_in(width: u32, text: &[u8]) -> Option<(&[u8], bool)>
     ensures { row_found result ≡ row_in_of width (words_of text.now) }
@@ -59,7 +59,7 @@ fn row_in(width: u32, text: &[u8]) -> Option<(&[u8], bool)>
     Some((first, bit_in(value)?))
 }
 
-/// Whether two values are one.
+/// For the prover: `one == other`, by cases as the definition has it.
 fn agrees(one: bool, other: bool) -> bool
     ensures { result ≡ agrees_of one other }
 {

@@ -1,5 +1,5 @@
-//! Statements, one function each: what it does to what was said is the right side of the definition for its
-//! keyword, and nothing is said by a line that is refused.
+//! Statements, one function each. Each changes the parser state as the definition for its keyword
+//! says, and not at all where the line is refused.
 
 ghost use Rattle.std.specs.Prelude.{◌≡◌, ◌++◌, length, OnOk, IfOk};
 ghost use Rattle.blif_text.specs.Reading.{Gives};
@@ -95,7 +95,7 @@ fn take_clocks(line: u32, reading: &mut Reading, text: &[u8]) -> Result<(), NetE
     Ok(())
 }
 
-/// All words but the last one, and that one.
+/// All words but the last one, and that one; `first` is the first word and `text` has the others.
 #[tactic(auto, unfolding(crate::specs::Statements::front_of, crate::specs::Statements::last_of))]
 fn split_last_word(
     alloc: Global,
@@ -255,7 +255,7 @@ fn begins_dot(word: &[u8]) -> bool
     }
 }
 
-/// The fault of a line behind `.end`.
+/// The fault of a line after `.end`.
 fn behind_end(alloc: Global, line: u32, reading: &Reading, word: &[u8]) -> Result<(), NetError>
     ensures { Gives (λ _. reading.now) result (behind_end_of line reading.now word.now) }
 {
@@ -265,7 +265,7 @@ fn behind_end(alloc: Global, line: u32, reading: &Reading, word: &[u8]) -> Resul
     Err(NetError::Syntax(line))
 }
 
-/// A statement or a cover line, by its words.
+/// A statement or a cover line, from its words.
 fn state(alloc: Global, line: u32, reading: &mut Reading, text: &[u8]) -> Result<(), NetError>
     ensures { Gives (λ _. reading.new) result (stated line reading.old (words_of text.now)) }
 {

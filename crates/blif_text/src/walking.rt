@@ -1,4 +1,4 @@
-//! Logical lines, one after the other.
+//! The parser's loop over the logical lines of a text.
 
 ghost use Rattle.std.specs.Prelude.{◌≡◌, ◌+◌, ◌*◌, ◌≤◌, ◌<◌, ◌^◌, length, map, None, OnOk, IfOk, IfErr};
 ghost use Rattle.net_theory.specs.Document.{table_output};
@@ -18,7 +18,7 @@ use indexmap::IndexSet;
 use net_document::{Document, Listed, Name, NetError, Table};
 use std::alloc::{AllocError, Global};
 
-/// Takes the lines of a text, one after the other.
+/// Takes the logical lines of a text, one after the other.
 #[tactic(auto, unfolding(crate::specs::Statements::steps))]
 fn take_lines(alloc: Global, reading: &mut Reading, bytes: &[u8]) -> Result<(), NetError>
     requires { length bytes.now < 2 ^ 31 }
@@ -35,7 +35,7 @@ fn take_lines(alloc: Global, reading: &mut Reading, bytes: &[u8]) -> Result<(), 
     Ok(())
 }
 
-/// What a text says.
+/// The parser state at the end of a text.
 #[tactic(auto, unfolding(crate::specs::Statements::said_of))]
 pub fn read_said(alloc: Global, bytes: &[u8]) -> Result<Reading, NetError>
     requires { length bytes.now < 2 ^ 31 }
@@ -46,7 +46,7 @@ pub fn read_said(alloc: Global, bytes: &[u8]) -> Result<Reading, NetError>
     Ok(reading)
 }
 
-/// Adds what tables drive.
+/// Adds the outputs of `tables`.
 #[tactic(auto, unfolding(net_theory::specs::Naming::each_once, net_theory::specs::Document::has))]
 fn add_driven(driven: &mut IndexSet<Name>, tables: &[Table]) -> Result<(), AllocError>
     ensures { OnOk result (driven.new.keys ≡ each_once driven.old.keys (map table_output tables.now)) }
@@ -59,7 +59,7 @@ fn add_driven(driven: &mut IndexSet<Name>, tables: &[Table]) -> Result<(), Alloc
     Ok(())
 }
 
-/// Refuses the first control among these names.
+/// Refuses the first of `controls` whose name is in `driven`.
 #[tactic(auto, unfolding(crate::specs::Statements::control_fault, net_theory::specs::Document::has))]
 fn refuse_driven(driven: &IndexSet<Name>, controls: &[Control]) -> Result<(), NetError>
     ensures good { IfOk result (λ _. control_fault_of driven.now.keys controls.now ≡ None) }
@@ -86,7 +86,7 @@ fn check_controls(alloc: Global, reading: &Reading) -> Result<(), NetError>
     refuse_driven(&driven, &reading.controls)
 }
 
-/// The document of what was said.
+/// The document of a final parser state.
 fn listed_by(reading: Reading) -> Listed
     ensures { result ≡ listed_by_said reading }
 {
@@ -121,8 +121,8 @@ fn listed_by(reading: Reading) -> Listed
 
 /// The document of a text, with the names that the text drives and uses in its order.
 ///
-/// Lines are judged in their order, and the first fault is told with its line. That the document is well
-/// formed isn't asked here, but for controls, which no table may drive.
+/// Lines are checked in their order, and the first fault is reported with its line. Whether the
+/// document is well formed isn't checked here, but for controls, which no table may drive.
 #[tactic(auto, unfolding(crate::specs::Statements::listed_of))]
 pub fn read_listed(alloc: Global, bytes: &[u8]) -> Result<Listed, NetError>
     requires { length bytes.now < 2 ^ 31 }

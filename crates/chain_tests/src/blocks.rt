@@ -1,4 +1,4 @@
-//! Chain blocks read, refused and written, and what their chains compute.
+//! Chain blocks read, refused and written, and the values of their chains.
 use chain_core::{
     Basis, Chain, ChainError, first_difference, first_outside, read_chain, write_chain,
 };
@@ -28,7 +28,8 @@ const SEVENTEEN_STEPS: &[u8] = b"chain 17\n\
     x19 x1 x18 0110\n\
     out x19\n";
 
-/// Whether the chain of a block differs from tables first at this output and row, or nowhere.
+/// Whether `difference` is the first output and row on which the chain of `block` differs from
+/// `spec`; None: it implements `spec`.
 fn is_difference(alloc: Global, spec: &Spec, block: &[u8], difference: Option<(u32, u32)>) -> bool {
     let (inputs, outputs) = (spec.n(), spec.outputs());
     if block.len() > 1000 || inputs > 6 || outputs > 8 {
@@ -40,7 +41,7 @@ fn is_difference(alloc: Global, spec: &Spec, block: &[u8], difference: Option<(u
     }
 }
 
-/// The same of the text of tables.
+/// The same for the text of truth tables.
 fn differs_at(alloc: Global, tables: &[u8], block: &[u8], difference: Option<(u32, u32)>) -> bool {
     if tables.len() > 1000 {
         return false;
@@ -57,7 +58,7 @@ const ONE_OR: &[u8] = b"chain 1\nx3 x1 x2 0111\nout x3\n";
 
 const XOR_TWICE: &[u8] = b"chain 1\nx3 x1 x2 0110\nout x3\nout x3\n";
 
-/// Tables, blocks, and the first output and row on which they differ.
+/// Truth tables, blocks, and the first output and row on which they differ.
 const DIFFERENCES: &[(&[u8], &[u8], Option<(u32, u32)>)] = &[
     (b"inputs 2\n0110\n", ONE_XOR, None),
     (b"inputs 2\n0110\n", ONE_OR, Some((1, 3))),
@@ -67,7 +68,7 @@ const DIFFERENCES: &[(&[u8], &[u8], Option<(u32, u32)>)] = &[
     (b"inputs 2\n0111\n0010\n", XOR_TWICE, Some((1, 3))),
     // the sum and the carry of three bits
     (b"inputs 3\n01101001\n00010111\n", FULL_ADDER, None),
-    // a constant, AND NOT behind a negation, a constant, and the input
+    // a constant, AND NOT over a negation, a constant, and the input
     (b"inputs 1\n11\n10\n00\n01\n", MIXED, None),
 ];
 
@@ -78,7 +79,7 @@ fn the_first_difference_is_found(rt: HostRuntime) {
     }
 }
 
-/// How many bytes of a text are a block that begins at line 4, for two inputs and one output.
+/// The number of bytes of a block for two inputs and one output that begins at line 4 of `text`.
 fn taken(alloc: Global, text: &[u8]) -> Result<usize, ChainError> {
     if text.len() > 1000 {
         return Err(ChainError::Memory);
@@ -87,7 +88,8 @@ fn taken(alloc: Global, text: &[u8]) -> Result<usize, ChainError> {
     Ok(used)
 }
 
-/// Texts for two inputs and one output, where the first line has the number 4: how many bytes are taken, or the refusal.
+/// Texts for two inputs and one output, with the first line numbered 4: the number of bytes read,
+/// or the refusal.
 const READ: &[(&[u8], Result<usize, ChainError>)] = &[
     (b"chain 1\nx3 x1 x2 0110\nout x3\nend\n", Ok(29)),
     (b"chain 1\nx3 x2 x2 1110\nout x2\n", Ok(29)),
@@ -207,7 +209,7 @@ fn blocks_are_read_or_refused_at_the_first_fault(rt: HostRuntime) {
     }
 }
 
-/// Whether a chain is written as this block, behind what stood there.
+/// Whether a chain is written as `block`, after what was there.
 fn is_written(alloc: Global, chain: &Chain, block: &[u8]) -> bool {
     let Ok(mut text) = Vec::from_slice(alloc, b"x") else {
         return false;
@@ -221,7 +223,7 @@ fn is_written(alloc: Global, chain: &Chain, block: &[u8]) -> bool {
     }
 }
 
-/// Whether the chain of a block is written as that block.
+/// Whether the chain of `block` is written as `block`.
 fn is_written_again(alloc: Global, block: &[u8], n: u32, outputs: u32) -> bool {
     if block.len() > 1000 || n > 6 || outputs > 8 {
         return false;
@@ -232,7 +234,7 @@ fn is_written_again(alloc: Global, block: &[u8], n: u32, outputs: u32) -> bool {
     }
 }
 
-/// Blocks with their inputs and outputs.
+/// Blocks with their numbers of inputs and outputs.
 const WRITTEN: &[(&[u8], u32, u32)] = &[(FULL_ADDER, 3, 2), (MIXED, 1, 4), (b"chain 0\n", 6, 0)];
 
 #[test]
@@ -242,7 +244,8 @@ fn blocks_are_written(rt: HostRuntime) {
     }
 }
 
-/// Whether the first place of a block's chain whose operator isn't in a basis is this one; with its inputs and outputs.
+/// Whether `place` is the first of a block's chain whose operator isn't in the basis `bits`;
+/// `widths` are its inputs and outputs.
 fn is_outside_at(
     alloc: Global,
     block: &[u8],
@@ -260,8 +263,8 @@ fn is_outside_at(
     }
 }
 
-/// Blocks with their inputs and outputs, bases by their bits, and the first places outside them. The full adder has the
-/// operators 6, 1, 6, 1 and 7, and the mixed chain 14 and 2.
+/// Blocks with their numbers of inputs and outputs, bases by their bits, and the first places
+/// outside them. The full adder has the operators 6, 1, 6, 1 and 7, and the mixed chain 14 and 2.
 const OUTSIDE: &[(&[u8], (u32, u32), u16, Option<u32>)] = &[
     (FULL_ADDER, (3, 2), 65535, None),
     (FULL_ADDER, (3, 2), 2 + 64 + 128, None),

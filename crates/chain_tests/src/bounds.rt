@@ -1,4 +1,4 @@
-//! How many steps tables ask for at least.
+//! Lower bounds on the steps of truth tables.
 use bound_core::lower_bound;
 use std::alloc::Global;
 use tt_core::read_tables;
@@ -15,7 +15,7 @@ const APART_3: &[u8] =
 const ROW_6: &[u8] =
     b"inputs 6\n0000000000000000000000000000000000000000000000000000000010000000\n";
 
-/// How many steps tables ask for at least; None where the text is refused.
+/// The lower bound of the tables of `text`; None where the text is refused.
 fn bound_of(alloc: Global, text: &[u8]) -> Option<u32> {
     if text.len() > 1000 {
         return None;
@@ -24,7 +24,7 @@ fn bound_of(alloc: Global, text: &[u8]) -> Option<u32> {
     Some(lower_bound(&tables.spec))
 }
 
-/// Tables, and how many steps they ask for at least.
+/// Truth tables, and their lower bounds.
 const BOUNDS: &[(&[u8], u32)] = &[
     // the exclusive or of 2 to 6 inputs: one step less than inputs
     (b"inputs 2\n0110\n", 1),
@@ -32,17 +32,17 @@ const BOUNDS: &[(&[u8], u32)] = &[
     (b"inputs 4\n0110100110010110\n", 3),
     (b"inputs 5\n01101001100101101001011001101001\n", 4),
     (XOR_6, 5),
-    // constants and inputs ask for nothing, a complement for a step
+    // constants and inputs need no step, a complement needs one
     (b"inputs 2\n0000\n1111\n0011\n0101\n", 0),
     (b"inputs 0\n1\n0\n", 0),
     (b"inputs 1\n10\n", 1),
-    // an output twice is counted once, two that differ are counted both
+    // equal outputs are counted once, different ones both
     (b"inputs 2\n0110\n0110\n", 1),
     (b"inputs 2\n0110\n1001\n", 2),
     (b"inputs 2\n0110\n0011\n0001\n", 2),
     // the sum and the carry of three bits
     (b"inputs 3\n01101001\n00010111\n", 2),
-    // two outputs over three inputs of their own each: six inputs less two outputs
+    // two outputs over three inputs of their own each: six inputs minus two outputs
     (APART_3, 4),
     // one row of six inputs
     (ROW_6, 5),

@@ -1,14 +1,15 @@
-//! Operators by their words, and bases: their tests and their texts.
+//! Operators by their truth tables (words of four digits), and bases: their properties and their
+//! texts.
 use op_basis::{Basis, BasisError, Op, read_basis, read_operator, write_basis, write_operator};
 use std::alloc::Global;
 
-/// Whether an operator is written as this word.
+/// Whether an operator is written as `word`.
 fn is_written(alloc: Global, op: Op, word: &[u8]) -> bool {
     let mut out = Vec::new(alloc);
     write_operator(op, &mut out).is_ok() && out.as_slice() == word
 }
 
-/// Whether an operator has these values at (0,0), (0,1), (1,0), (1,1).
+/// Whether an operator has the values `values` at (0,0), (0,1), (1,0), (1,1).
 fn has_values(op: Op, values: [bool; 4]) -> bool {
     let [at_00, at_01, at_10, at_11] = values;
     op.apply(false, false) == at_00
@@ -17,8 +18,8 @@ fn has_values(op: Op, values: [bool; 4]) -> bool {
         && op.apply(true, true) == at_11
 }
 
-/// Whether a word is read as the operator of this number, which has these values and is written as the word; or is
-/// refused.
+/// Whether `word` is read as the operator `number`, which has the values `values` and is written as
+/// `word`; None: it is refused.
 fn is_operator(alloc: Global, word: &[u8], number: Option<u8>, values: [bool; 4]) -> bool {
     match read_operator(word) {
         Some(op) => {
@@ -28,7 +29,7 @@ fn is_operator(alloc: Global, word: &[u8], number: Option<u8>, values: [bool; 4]
     }
 }
 
-/// Words with their operators and their values, written as the words.
+/// Words with their operators and their values.
 const OPERATORS: &[(&[u8], Option<u8>, [bool; 4])] = &[
     (b"0001", Some(1), [false, false, false, true]),
     (b"0010", Some(2), [false, false, true, false]),
@@ -51,7 +52,7 @@ fn operators_have_the_values_of_their_words(rt: HostRuntime) {
     }
 }
 
-/// Whether a basis is written as this text.
+/// Whether a basis is written as `text`.
 fn is_text(alloc: Global, basis: Basis, text: &[u8]) -> bool {
     if basis.get() == 0 {
         return false;
@@ -60,8 +61,8 @@ fn is_text(alloc: Global, basis: Basis, text: &[u8]) -> bool {
     write_basis(basis, &mut out).is_ok() && out.as_slice() == text
 }
 
-/// Whether a basis that is read from the word passes the tests for exchanged operands, negation,
-/// constants, polarity and reapplication as they are given, and is written as the text.
+/// Whether the basis that `word` names has the properties `tests` (closed under exchanged operands,
+/// negation, constants, polarity and reapplication), and is written as `text`.
 fn is_basis(alloc: Global, word: &[u8], tests: [bool; 5], text: &[u8]) -> bool {
     let Ok(basis) = read_basis(word) else {
         return false;
@@ -75,7 +76,7 @@ fn is_basis(alloc: Global, word: &[u8], tests: [bool; 5], text: &[u8]) -> bool {
         && basis.reapply_closed() == reapply
 }
 
-/// Bases by their words, what the five tests say of them, and their texts.
+/// Bases by their words, their five properties, and their texts.
 const BASES: &[(&[u8], [bool; 5], &[u8])] = &[
     (b"all", [true; 5], b"all"),
     (b"u2", [true; 5], b"u2"),
@@ -113,8 +114,8 @@ const BASES: &[(&[u8], [bool; 5], &[u8])] = &[
     (b"1110", [true, true, true, false, false], b"nand"),
 ];
 
-/// One basis at least for each of the fourteen patterns that the five tests have together; an
-/// independent program found them by going over all 65535 bases.
+/// At least one basis for each of the fourteen patterns of the five properties; an independent
+/// program found them among all 65535 bases.
 #[test]
 fn bases_are_closed(rt: HostRuntime) {
     for &(word, tests, text) in BASES {

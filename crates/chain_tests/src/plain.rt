@@ -38,7 +38,7 @@ fn cell(character: u8) -> Cell {
     }
 }
 
-/// The cells of two tables of three inputs.
+/// The cells of two truth tables of three inputs.
 fn cells(tables: &[u8; 16]) -> [Cell; 16] {
     let mut cells = [Cell::Free; 16];
     for (at, character) in tables.iter().enumerate() {
@@ -47,7 +47,7 @@ fn cells(tables: &[u8; 16]) -> [Cell; 16] {
     cells
 }
 
-/// Whether the full adder has the sum and the carry of a row, and its first input.
+/// Whether the full adder has the sum and the carry of `row`, and its first input.
 fn is_row(row: u32) -> bool {
     let sum = (row & 1) + ((row >> 1) & 1) + ((row >> 2) & 1);
     place_value(3, FULL_ADDER, row, 5) == (sum & 1 == 1)
@@ -76,8 +76,8 @@ const BOTH: [Out; 2] = [Out::Place(5), Out::Place(8)];
 
 const CONSTANTS: [Out; 2] = [Out::Zero, Out::One];
 
-/// Two outputs, their tables, and whether the chain agrees: sum and carry; one cell changed; that cell free; the tables
-/// exchanged; constants.
+/// Two outputs, their tables, and whether the chain implements them: sum and carry; one cell
+/// changed; that cell a don't-care; the tables exchanged; constants.
 const TABLES: &[([Out; 2], &[u8; 16], bool)] = &[
     (BOTH, b"0110100100010111", true),
     (BOTH, b"0110100100010110", false),

@@ -1,4 +1,4 @@
-//! Faults in mid-stream and limits, over each kind of source and sink.
+//! Faults in mid-stream and limits, over each kind of source and sink of bytes.
 use port_io::{
     InputPort, MemorySink, MemorySource, OutputPort, ReadError, SteadySource, read_all, write_all,
 };
@@ -6,7 +6,7 @@ use std::alloc::{AllocError, Global};
 use std::io;
 use std::io::{ErrorKind, Read, Write};
 
-/// The byte at a place of a source.
+/// The byte at the index `place` of a source.
 fn byte_at(place: usize) -> u8 {
     (place % 251) as u8
 }
@@ -19,7 +19,7 @@ fn bytes_of(alloc: Global, length: usize) -> Result<Vec<u8>, AllocError> {
     Ok(bytes)
 }
 
-/// Whether these are all bytes of a source of this length.
+/// Whether `bytes` are all bytes of a source of `length` bytes.
 fn are_all(bytes: &[u8], length: usize) -> bool {
     for (place, byte) in bytes.iter().enumerate() {
         if *byte != byte_at(place) {
@@ -29,7 +29,7 @@ fn are_all(bytes: &[u8], length: usize) -> bool {
     bytes.len() == length
 }
 
-/// Whether what was read is this error, or a source of this length where there is none.
+/// Whether the outcome `read` is `error`, or a source of `length` bytes where that is None.
 fn came_to(read: &Result<Vec<u8>, ReadError>, length: usize, error: Option<ReadError>) -> bool {
     match read {
         Ok(bytes) => error.is_none() && are_all(bytes, length),
@@ -37,14 +37,14 @@ fn came_to(read: &Result<Vec<u8>, ReadError>, length: usize, error: Option<ReadE
     }
 }
 
-/// A source of so many bytes that fails at one call.
+/// A source of `length` bytes that fails at the call `failing`.
 fn source(alloc: Global, length: usize, failing: u64) -> Result<MemorySource, AllocError> {
     let bytes = bytes_of(alloc, length)?;
     Ok(MemorySource::new(bytes, vec![in alloc; failing]?))
 }
 
-/// Whether a source of so many bytes that fails at one call is read with this error, or whole, and with so many
-/// faults.
+/// Whether a source of `length` bytes that fails at the call `failing` is read with `error`, or
+/// whole, and with `faults` faults.
 fn is_read(
     alloc: Global,
     length: usize,
@@ -59,7 +59,8 @@ fn is_read(
     came_to(&read_all(alloc, &mut source, limit), length, error) && source.faults() == faults
 }
 
-/// Whether a source that never fails is read to its end, where the limit allows it, and has no fault.
+/// Whether a source that never fails is read to its end, where the limit allows it, without a
+/// fault.
 fn is_read_steadily(alloc: Global, length: usize, limit: usize) -> bool {
     let Ok(bytes) = bytes_of(alloc, length) else {
         return false;
@@ -68,7 +69,8 @@ fn is_read_steadily(alloc: Global, length: usize, limit: usize) -> bool {
     read_all(alloc, &mut steady, limit).is_ok() == (length <= limit) && steady.faults() == 0
 }
 
-/// How many bytes a source has, the number of the call that fails, the limit, the error, and the number of faults.
+/// The length of a source, the number of the call that fails, the limit, the error, and the number
+/// of faults.
 const READ: &[(usize, u64, usize, Option<ReadError>, u64)] = &[
     (0, 0, 0, None, 0),
     (3, 0, 3, None, 0),
@@ -91,14 +93,15 @@ fn reads_memory(rt: HostRuntime) {
     }
 }
 
-/// Whether the first or the second write fails, where that call is to fail, and no other.
+/// Whether the first or the second write fails exactly where `failing` says so.
 fn is_told(sink: &mut MemorySink, failing: u64) -> bool {
     let first = write_all(sink, b"abc").is_err();
     let second = write_all(sink, b"def").is_err();
     first == (failing == 1) && second == (failing == 2)
 }
 
-/// Whether a sink that fails at one call has this text after two calls, and so many faults.
+/// Whether a sink that fails at the call `failing` has `text` after two calls, and `faults`
+/// faults.
 fn is_written(alloc: Global, failing: u64, text: &[u8], faults: u64) -> bool {
     let Ok(calls) = Vec::from_slice(alloc, &[failing]) else {
         return false;
@@ -108,7 +111,7 @@ fn is_written(alloc: Global, failing: u64, text: &[u8], faults: u64) -> bool {
     told && sink.written() == text && sink.faults() == faults
 }
 
-/// The number of the call that fails, what then stands written after two calls, and the number of faults.
+/// The number of the call that fails, the text after two calls, and the number of faults.
 const WRITTEN: &[(u64, &[u8], u64)] = &[
     (0, b"abcdef", 0),
     (1, b"def", 1),
@@ -149,7 +152,7 @@ impl<'a> Read for Dripping<'a> {
     }
 }
 
-/// Whether what was read is this text.
+/// Whether what was read is `text`.
 fn is_text(read: Result<Vec<u8>, ReadError>, text: &[u8]) -> bool {
     match read {
         Ok(bytes) => bytes.as_slice() == text,
@@ -157,7 +160,7 @@ fn is_text(read: Result<Vec<u8>, ReadError>, text: &[u8]) -> bool {
     }
 }
 
-/// Whether a port fails once, and is read to its end by the next call.
+/// Whether a port fails once, and the next call reads it to its end.
 fn is_read_behind_a_fault(alloc: Global) -> bool {
     let mut port = InputPort::new(Dripping {
         rest: b"abcde",
@@ -201,7 +204,8 @@ impl Write for Taking {
     }
 }
 
-/// Whether a port takes so many bytes a call, fails at this call, and has this text and so many faults in the end.
+/// Whether a port that takes `most` bytes a call and fails at the call `failing` has `text` and
+/// `faults` faults in the end.
 fn is_taken(alloc: Global, most: usize, failing: u8, text: &[u8], faults: u64) -> bool {
     let mut writer = Taking {
         bytes: Vec::new(alloc),
@@ -215,7 +219,8 @@ fn is_taken(alloc: Global, most: usize, failing: u8, text: &[u8], faults: u64) -
     failed && told && writer.bytes.as_slice() == text
 }
 
-/// How many bytes a port takes a call, the number of the call that fails, what has gone out, and the number of faults.
+/// How many bytes a port takes a call, the number of the call that fails, the text in the end, and
+/// the number of faults.
 const TAKEN: &[(usize, u8, &[u8], u64)] = &[
     (2, 0, b"abcde", 0),
     (2, 3, b"abcd", 1),

@@ -1,17 +1,17 @@
-//! Tables, and the chains of at most one step that they have.
+//! Truth tables that a chain of at most one step implements.
 use chain_core::{Chain, write_chain};
 use op_basis::read_basis;
 use std::alloc::Global;
 use step_core::one_step;
 use tt_core::read_tables;
 
-/// Whether a chain is written as this text.
+/// Whether a chain is written as `text`.
 fn is_written(alloc: Global, chain: &Chain, text: &[u8]) -> bool {
     let mut told = Vec::new(alloc);
     write_chain(chain, &mut told).is_ok() && told.as_slice() == text
 }
 
-/// Whether tables have this chain over a basis; an empty text stands for none.
+/// Whether the answer for tables over a basis is the chain `wanted`; an empty text stands for none.
 fn has(alloc: Global, basis: &[u8], tables: &[u8], wanted: &[u8]) -> bool {
     if tables.len() > 100_000 {
         return false;
@@ -29,9 +29,9 @@ fn has(alloc: Global, basis: &[u8], tables: &[u8], wanted: &[u8]) -> bool {
     }
 }
 
-/// Bases, tables, and their chains of at most one step; nothing where they have none.
+/// Bases, truth tables, and their chains of at most one step; an empty text where they have none.
 const ONE_STEP: &[(&[u8], &[u8], &[u8])] = &[
-    // no step: constants and inputs, and what don't-cares let be one
+    // no step: constants and inputs, also by don't-cares
     (
         b"nand",
         b"inputs 2\n0000\n1111\n0101\n0--1\n",
@@ -43,13 +43,13 @@ const ONE_STEP: &[(&[u8], &[u8], &[u8])] = &[
         b"inputs 2\n0110\n0011\n",
         b"chain 1\nx3 x1 x2 0110\nout x3\nout x1\n",
     ),
-    // a negation stands on one input
+    // a negation reads one input
     (
         b"nand",
         b"inputs 2\n1010\n",
         b"chain 1\nx3 x2 x2 1110\nout x3\n",
     ),
-    // also where two inputs would serve
+    // also where two inputs would do
     (
         b"all",
         b"inputs 2\n1010\n",
@@ -67,7 +67,7 @@ const ONE_STEP: &[(&[u8], &[u8], &[u8])] = &[
         b"inputs 3\n0-0001-1\n0000-101\n",
         b"chain 1\nx4 x1 x3 0001\nout x4\nout x4\n",
     ),
-    // none over this basis, and two steps
+    // more than one step: over this basis, for two outputs, for three inputs
     (b"nand", b"inputs 2\n0110\n", b""),
     (b"all", b"inputs 2\n0110\n0111\n", b""),
     (b"all", b"inputs 3\n01101001\n", b""),

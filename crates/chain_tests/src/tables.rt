@@ -1,4 +1,4 @@
-//! Tables read and refused; their symmetric inputs and their live outputs.
+//! Truth tables read and refused; their symmetric inputs and their non-trivial (live) outputs.
 use std::alloc::Global;
 use tt_core::{
     Cell, Out, Spec, SpecError, Tables, are_cells, inputs, live_part, push_row, read_tables, row,
@@ -17,7 +17,7 @@ fn character(tables: &Tables, h: u32, t: u32) -> u8 {
     }
 }
 
-/// Whether the first cells of output `h` are these.
+/// Whether the first cells of output `h` are `cells`.
 fn has_cells(tables: &Tables, h: u32, cells: &[u8]) -> bool {
     for (t, cell) in cells.iter().enumerate() {
         if t >= 64 || character(tables, h, t as u32) != *cell {
@@ -27,14 +27,15 @@ fn has_cells(tables: &Tables, h: u32, cells: &[u8]) -> bool {
     true
 }
 
-/// Whether tables have these numbers of inputs and outputs, and end behind this byte.
+/// Whether tables have `widths` inputs and outputs, and end after `used` bytes.
 fn has_widths(tables: &Tables, widths: (u32, u32), used: usize) -> bool {
     let (n, outputs) = widths;
     let spec = tables.spec.n() == n && tables.spec.outputs() == outputs;
     spec && tables.used == used && tables.lines.checked_sub(1) == Some(outputs)
 }
 
-/// Whether a text is read, up to this byte, with these numbers of inputs and outputs and these cells of output `h`.
+/// Whether `used` bytes of `text` are read, with `widths` inputs and outputs and the cells `cells`
+/// of output `h`.
 fn is_read(
     alloc: Global,
     text: &[u8],
@@ -135,7 +136,7 @@ fn refusals_have_their_lines(rt: HostRuntime) {
     }
 }
 
-/// Whether there are two inputs, and these words.
+/// Whether there are two inputs, and the words `on` and `care`.
 fn has_words(spec: &Spec, on: &[u64], care: &[u64]) -> bool {
     spec.n() == 2 && spec.on() == on && spec.care() == care
 }
@@ -146,7 +147,7 @@ fn are_kept(alloc: Global) -> bool {
     has_words(&spec, &[], &[]) && spec.outputs() == 0
 }
 
-/// Whether headings and rows are told from what isn't one.
+/// Whether headings and rows are distinguished from other lines.
 fn are_told() -> bool {
     inputs(b"inputs 2", true) == Some(2)
         && inputs(b"inputs 2", false).is_none()
@@ -154,7 +155,7 @@ fn are_told() -> bool {
         && !are_cells(b"01x1")
 }
 
-/// Whether a row of two inputs is kept as these words.
+/// Whether a row of two inputs is stored as the words `on` and `care`.
 fn is_row(alloc: Global, text: &[u8; 4], on: u64, care: u64) -> bool {
     let mut values = Vec::new(alloc);
     let mut cares = Vec::new(alloc);
@@ -168,7 +169,8 @@ fn lines_are_read_by_themselves(rt: HostRuntime) {
     assert!(rt; are_told() && are_kept(rt.alloc()) && is_row(rt.alloc(), b"01-1", 10, 11));
 }
 
-/// Whether tables are read, and whether they are symmetric in two inputs is told so.
+/// Whether the tables of `text` are reported as symmetric in the inputs p and q exactly where
+/// `wanted`.
 fn is_symmetric(alloc: Global, text: &[u8], p: u32, q: u32, wanted: bool) -> bool {
     if text.len() > 1000 {
         return false;
@@ -181,7 +183,7 @@ fn is_symmetric(alloc: Global, text: &[u8], p: u32, q: u32, wanted: bool) -> boo
     }
 }
 
-/// Tables, two inputs, and whether these may be exchanged.
+/// Truth tables, two inputs, and whether these may be exchanged.
 const EXCHANGES: &[(&[u8], u32, u32, bool)] = &[
     (b"inputs 2\n0110\n", 1, 2, true),
     (b"inputs 2\n0010\n", 1, 2, false),
@@ -203,7 +205,7 @@ fn inputs_are_exchanged(rt: HostRuntime) {
     }
 }
 
-/// Whether the live part of tables has as many inputs as they, and these words.
+/// Whether the live part of tables has as many inputs as they, and the words `on` and `care`.
 fn is_part(alloc: Global, spec: &Spec, on: &[u64], care: &[u64]) -> bool {
     match live_part(alloc, spec) {
         Ok(live) => live.on() == on && live.care() == care && live.n() == spec.n(),
@@ -211,7 +213,7 @@ fn is_part(alloc: Global, spec: &Spec, on: &[u64], care: &[u64]) -> bool {
     }
 }
 
-/// Whether tables of four outputs have these trivial ones.
+/// Whether `outs` are the trivial outputs among four.
 fn are_trivial(spec: &Spec, outs: &[Option<Out>; 4]) -> bool {
     spec.outputs() == 4
         && trivial(spec, 1) == outs[0]
@@ -220,7 +222,8 @@ fn are_trivial(spec: &Spec, outs: &[Option<Out>; 4]) -> bool {
         && trivial(spec, 4) == outs[3]
 }
 
-/// Whether tables of four outputs have these trivial ones, and these words are left of them.
+/// Whether `outs` are the trivial outputs among four, and the others have the words `on` and
+/// `care`.
 fn is_live_part(
     alloc: Global,
     text: &[u8],
@@ -237,7 +240,7 @@ fn is_live_part(
     }
 }
 
-/// Tables of four outputs, their trivial outputs, and the words of the others.
+/// Truth tables of four outputs, their trivial outputs, and the words of the others.
 const LIVE: &[(&[u8], [Option<Out>; 4], &[u64], &[u64])] = &[
     (
         b"inputs 2\n0--1\n0110\n----\n0001\n",

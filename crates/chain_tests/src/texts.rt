@@ -2,7 +2,7 @@
 use std::alloc::Global;
 use text_core::{after, begins_lower, next_item, next_line, number_up_to, push_number};
 
-/// Texts with their first lines, whether these have ends, and what is left.
+/// Texts with their first lines, whether these end with an LF, and the rest.
 const LINES: &[(&[u8], Option<(&[u8], bool, &[u8])>)] = &[
     (b"inputs 3\n01\n", Some((b"inputs 3", true, b"01\n"))),
     (b"\n\n", Some((b"", true, b"\n"))),
@@ -11,7 +11,7 @@ const LINES: &[(&[u8], Option<(&[u8], bool, &[u8])>)] = &[
     (b"", None),
 ];
 
-/// Texts with their first items, and what stands behind the blank.
+/// Texts with their first items, and what comes after the blank.
 const ITEMS: &[(&[u8], &[u8], Option<&[u8]>)] = &[
     (b"x3 x1 x2", b"x3", Some(b"x1 x2")),
     (b"x3", b"x3", None),
@@ -20,7 +20,7 @@ const ITEMS: &[(&[u8], &[u8], Option<&[u8]>)] = &[
     (b"1\t2 ", b"1\t2", Some(b"")),
 ];
 
-/// Words, texts, and what stands behind the word where the text begins with it.
+/// Words, texts, and the rest of the text after the word where it begins with it.
 const AFTER: &[(&[u8], &[u8], Option<&[u8]>)] = &[
     (b"x", b"x10", Some(b"10")),
     (b"inputs ", b"inputs 3", Some(b"3")),
@@ -74,7 +74,7 @@ fn texts_are_read(rt: HostRuntime) {
     }
 }
 
-/// Greatest numbers, texts, and the numbers that they are.
+/// The greatest number allowed, texts, and their numbers.
 const NUMBERS: &[(u32, &[u8], Option<u32>)] = &[
     (999_999_999, b"0", Some(0)),
     (999_999_999, b"3", Some(3)),
@@ -93,7 +93,7 @@ const NUMBERS: &[(u32, &[u8], Option<u32>)] = &[
     (0, b"1", None),
 ];
 
-/// Whether two numbers stand behind what stood there.
+/// Whether two numbers are appended to what was there.
 fn are_pushed(alloc: Global) -> bool {
     let Ok(mut out) = Vec::from_slice(alloc, b"x") else {
         return false;

@@ -1,4 +1,4 @@
--- What the miter says of circuits: where nothing satisfies it, circuits of one interface do the same.
+-- The miter of circuits: where it is unsatisfiable, circuits of one interface are equivalent.
 use Rattle.std.proofs.Common.{◌≡◌, ◌≢◌, ℕ, ◌<◌, Bool, true, false, List, [], ◌∷◌, ◌++◌, suc, length, map, refl, sym, ap, ◌∙◌, arith}
 use Rattle.std.specs.Prelude.{slice_index_or}
 use Rattle.std.proofs.lemmas.List.{length-map}
@@ -23,7 +23,7 @@ comparable c k of_c of_k same = record {
   sinks = let outputs : length c.outputs ≡ length k.outputs = ap length same.outputs in let latches : length c.latches ≡ length k.latches = ap length same.latches in omega (arith, of_c.sink_count, of_k.sink_count);
 }
 
--- lists of one length without a place at which they differ are equal
+-- lists of one length that differ nowhere are equal
 same_bits : (xs ys : List Bool) → length xs ≡ length ys → ((i : ℕ) → i < length xs → slice_index_or xs i false ≡ slice_index_or ys i false) → xs ≡ ys
 same_bits [] [] long each = refl
 same_bits [] (y ∷ ys) long each = absurd (omega arith)
@@ -45,7 +45,7 @@ values_same first second given sinks never =
     same_bits (sink_values first given) (sink_values second given) (first_long ∙ sinks ∙ sym (second_long))
     (λ i low. same_or_other (sink_bit first given i) (sink_bit second given i) (λ apart. never (given, i, record { below = omega (arith, low, first_long); differ = apart })))
 
--- Where nothing satisfies the miter of two circuits of one interface, they do the same.
+-- Where the miter of two circuits of one interface is unsatisfiable, they are equivalent.
 pub refuted_alike : (c k : Circuit) → IsProper c → IsProper k → HaveSameInterface c k → (IsSatisfiable (miter c.net k.net) → ⊥) → AreAlike c k
 refuted_alike c k of_c of_k same none =
     let are : AreComparable c.net k.net = comparable c k of_c of_k same in

@@ -1,4 +1,5 @@
--- The miter is a formula: its variables are within, and there are few clauses for each gate and sink.
+-- The miter is a formula: its variables are within bounds, and there are few clauses for each gate
+-- and sink.
 use Rattle.std.proofs.Common.{◌≡◌, ℕ, suc, ◌+◌, ◌*◌, ◌≤◌, ◌<◌, Bool, true, false, not, List, [], ◌∷◌, ◌++◌, All, length, slice_get, Some, Contains, refl, subst, arith, add-zero, length-append, ⊎_elim}
 use Rattle.std.specs.List.{flat_map, range_with_len}
 use Rattle.std.proofs.lemmas.Bool.{le-leb, lt-leb, cases_lt}
@@ -28,7 +29,7 @@ pub variable_at-gate : (sources before p : ℕ) → sources < p → variable_at 
 unfolding variable_at
 variable_at-gate sources before p high = rw (lt-leb p sources high) refl
 
--- the places from 1 on and below a bound have variables from 1 to vars
+-- the places from 1 on and below a bound have variables from 1 to `vars`
 abbrev pub VariablesWithin : ℕ → (ℕ → ℕ) → ℕ → Type 0
 VariablesWithin vars var bound = (p : ℕ) → 1 ≤ p → p < bound → (1 ≤ var p) × (var p ≤ vars)
 
@@ -39,9 +40,9 @@ variables_within vars sources before bound room p some low =
     (λ (low' : p ≤ sources). rw (variable_at-source sources before p low') (some, omega arith))
     (cases_lt sources p)
 
--- ---- rows within
+-- ---- clauses within bounds
 
--- the listed clauses have variables of 1 to vars
+-- the listed clauses have variables from 1 to `vars`
 abbrev pub RowsWithin : ℕ → List (List Raw) → Type 0
 RowsWithin vars rows = (row : List Raw) → Contains rows row → AreOf vars row
 
@@ -69,7 +70,7 @@ gate_row_of vars var place bound g a b some low within is = (
   ),
 )
 
--- the four rows of a gate, and the two of a sink
+-- the four clauses of a gate, and the two of a sink
 gate_rows_of : (vars : ℕ) (var : ℕ → ℕ) (place : ℕ) (g : Gate) → ((a b : Bool) → AreOf vars (gate_row var place g a b)) → RowsWithin vars (gate_rows var place g)
 gate_rows_of vars var place g row =
     more_rows vars (gate_row var place g false false) (gate_row var place g false true ∷ gate_row var place g true false ∷ gate_row var place g true true ∷ []) (row false false)

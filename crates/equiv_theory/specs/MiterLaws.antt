@@ -1,5 +1,5 @@
--- What the miter asks: some assignment satisfies it exactly where some assignment of the sources gives some
--- sink two different values.
+-- The miter is satisfiable exactly where some assignment of the sources gives some sink two
+-- different values.
 use Rattle.std.proofs.Common.{◌≡◌, ◌≢◌, ℕ, ◌+◌, ◌-◌, ◌≤◌, ◌<◌, Bool, true, false, [], length, slice_get, Some, refl, sym, ap, ◌∙◌, arith, ⊎_elim}
 use Rattle.std.specs.Prelude.{nat_lt, if◌then◌else◌, slice_index_or}
 use Rattle.std.specs.List.{flat_map, range_with_len}
@@ -36,7 +36,7 @@ sink_at n i = slice_index_or n.sinks i Zero
 sink_there : (n : Net) (i : ℕ) → i < length n.sinks → slice_get n.sinks i ≡ Some (sink_at n i)
 sink_there n i low = slice_get-get_or n.sinks i Zero low
 
--- ---- a solution of the miter shows a difference
+-- ---- a model of the miter shows a difference
 
 -- some sink's variable is true
 record IsTold (v : Assignment) (d count : ℕ) : Type 0 where
@@ -56,7 +56,7 @@ some_told v d count is =
     let e : d + (found.element - d) ≡ found.element = omega (arith, inside.0) in
     record { at = found.element - d; below = omega (arith, inside.0, inside.1); is = ap v e ∙ sym (var_true v found.element) ∙ found.passes }
 
--- what the rows of the miter say, in its four parts
+-- the four parts of the miter are true
 record AreParts (v : Assignment) (first second : Net) : Type 0 where
   ones : are_true v (gates_rows (first_variable first) (first.sources + 1) first.gates) ≡ true
   twos : are_true v (gates_rows (second_variable first second) (second.sources + 1) second.gates) ≡ true
@@ -87,12 +87,12 @@ unfolding miter
 true_miter v first second are parts =
     satisfied_holds v (record { vars = variables first second; clauses = flat_map written (miter_rows first second) }) (written_true v (miter_rows first second) (miter_positive first second are) ∙ made_of v first second parts)
 
--- a sink's value by the variables
+-- a sink's value from the variables
 seen_sink : (n : Net) (given bits : ℕ → Bool) (i : ℕ) (u : Sig) → IsNet n → ((p : ℕ) → p < end_of n → value n given p ≡ bits p) → slice_get n.sinks i ≡ Some u → sink_bit n given i ≡ sig_value bits u
 seen_sink n given bits i u is agree at =
     sink_bit_is n given i u at ∙ sig_value-same (value n given) bits u (end_of n) (all_at (IsSigBelow (end_of n)) n.sinks i u is.sinks at) agree
 
--- Where an assignment satisfies the miter, the nets differ at some sink under the bits that it gives to the
+-- Where an assignment satisfies the miter, the nets differ at some sink under its bits of the
 -- sources.
 pub satisfied_differ : (first second : Net) (v : Assignment) → AreComparable first second → Satisfies v (miter first second) → (i : ℕ) × DifferAt first second v i
 satisfied_differ first second v are satisfied =
@@ -107,7 +107,7 @@ satisfied_differ first second v are satisfied =
     let apart = sinks_true v (first_variable first) (second_variable first second) (first_difference first second) first.sinks second.sinks parts.sinks told.at (sink_at first told.at) (sink_at second told.at) here there told.is in
     (told.at, record { below = told.below; differ = λ same. apart (sym one ∙ same ∙ two) })
 
--- ---- a difference gives a solution
+-- ---- a difference gives a model
 
 -- the values of the places of both nets, and where sinks differ
 unfoldable pub assigned : Net → Net → (ℕ → Bool) → Assignment

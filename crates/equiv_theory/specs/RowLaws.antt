@@ -1,4 +1,5 @@
--- Listed clauses that are true together, and what the rows of a gate and of a sink say of the bits.
+-- Listed clauses that are true together, and what the clauses of a gate and of a sink mean for
+-- bits.
 use Rattle.std.proofs.Common.{◌≡◌, ◌≢◌, ◌⊎◌, ℕ, Bool, true, false, not, ◌&&◌, ◌||◌, if◌then◌else◌, List, [], ◌∷◌, ◌++◌, Contains, refl, sym, ap, ◌∙◌, inl, inr, ⊎_elim}
 use Rattle.std.specs.List.{list_all, flat_map}
 use Rattle.std.proofs.lemmas.Bool.{and_from, and_parts, or_left, or_right}
@@ -15,13 +16,13 @@ use Rattle.net_theory.specs.declared.data.Gate.{Gate}
 use Rattle.net_theory.specs.Net.{sig_value, gate_value}
 use Rattle.equiv_theory.specs.Miter.{signal_is, gate_row, gate_rows, sink_row, sink_rows}
 
--- ---- rows
+-- ---- listed clauses
 
 -- each listed clause is true
 unfoldable pub are_true : Assignment → List (List Raw) → Bool
 are_true v rows = list_all (raws_bit v) rows
 
--- what is written of clauses is true exactly where they are
+-- the clauses that are written are true exactly where the listed ones are
 pub written_true : (v : Assignment) (rows : List (List Raw)) → ((row : List Raw) → Contains rows row → ArePositive row) → holds v (flat_map written rows) ≡ are_true v rows
 unfolding are_true holds
 written_true v [] positive = refl
@@ -76,7 +77,7 @@ which true false = inr refl
 which false true = inr refl
 which false false = inl refl
 
--- an assignment seen through a numbering of places
+-- the bits of places in an assignment, by the variables of the places
 abbrev pub seen_by : Assignment → (ℕ → ℕ) → ℕ → Bool
 seen_by v var place = v (var place)
 
@@ -92,7 +93,7 @@ variable_bit : (v : Assignment) (x : ℕ) (bit : Bool) → raw_value v (Var x bi
 unfolding raw_value
 variable_bit v x bit = refl
 
--- ---- the rows of a gate
+-- ---- the clauses of a gate
 
 abbrev row_bit : ℕ → Bool → Bool → Bool → Bool → Bool → Bool
 row_bit op x y value a b = same x (not a) || (same y (not b) || (same value (apply op a b) || false))
@@ -115,7 +116,7 @@ row_made op x y value a b is =
     (λ (p : same x (not a) ≡ true). or_left (same x (not a)) _ p)
     (which x a)
 
--- all four rows of a gate
+-- all four clauses of a gate
 four_rows : (v : Assignment) (var : ℕ → ℕ) (place : ℕ) (g : Gate) → are_true v (gate_rows var place g) ≡ true → (a b : Bool) → raws_bit v (gate_row var place g a b) ≡ true
 four_rows v var place g all a b =
     let one = true_first v (gate_row var place g false false) (gate_row var place g false true ∷ gate_row var place g true false ∷ gate_row var place g true true ∷ []) all in
@@ -129,7 +130,7 @@ four_rows v var place g all a b =
       choose true false p q r s = r
       choose true true p q r s = s
 
--- The rows of a gate are true exactly where its variable has its operator's value.
+-- The clauses of a gate are true exactly where its variable has its operator's value.
 pub gate_true : (v : Assignment) (var : ℕ → ℕ) (place : ℕ) (g : Gate) → are_true v (gate_rows var place g) ≡ true → v (var place) ≡ gate_value (seen_by v var) g
 gate_true v var place g all =
     let x : Bool = sig_value (seen_by v var) g.a in
@@ -145,7 +146,7 @@ gate_made v var place g is =
       row : (a b : Bool) → raws_bit v (gate_row var place g a b) ≡ true
       row a b = gate_row_bit v var place g a b ∙ row_made g.op (sig_value (seen_by v var) g.a) (sig_value (seen_by v var) g.b) (v (var place)) a b is
 
--- ---- the rows of a sink
+-- ---- the clauses of a sink
 
 abbrev pair_bit : Bool → Bool → Bool → Bool → Bool
 pair_bit d x y bit = same d false || (same x bit || (same y bit || false))
@@ -176,7 +177,8 @@ pair_made true false true false is = refl
 pair_made true false false bit is = absurd cc
 pair_made false x y bit is = refl
 
--- Where the variable of a sink is true the two signals differ, and the rows are true where it says so.
+-- Where the clauses and the variable of a sink are true the two signals differ; and the clauses are
+-- true where the variable is true only if they do.
 pub sink_true : (v : Assignment) (var other : ℕ → ℕ) (d : ℕ) (u w : Sig) → are_true v (sink_rows var other d u w) ≡ true → v d ≡ true → sig_value (seen_by v var) u ≢ sig_value (seen_by v other) w
 sink_true v var other d u w all is =
     let one = true_first v (sink_row var other d u w false) (sink_row var other d u w true ∷ []) all in

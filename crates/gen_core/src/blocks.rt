@@ -1,4 +1,4 @@
-//! Blocks: the names and the tables of one.
+//! Blocks: the names and the tables of each.
 
 ghost use Rattle.std.specs.Prelude.{◌≡◌, ◌<◌, ◌^◌, [], ◌∷◌, ◌++◌, IfOk, OnOk, length, option_to_list};
 ghost use Rattle.std.specs.Option.{option_copied};
@@ -8,7 +8,7 @@ use net_document::{Body, Cover, Cube, Name, Table};
 use std::alloc::{AllocError, Global};
 use text_core::push_number;
 
-/// The name of a letter in a block.
+/// The name of `letter` in `block`.
 pub fn name_of(alloc: Global, block: u32, letter: u8) -> Result<Name, AllocError>
     ensures { IfOk result (λ name. name ≡ name_of_letter block letter) }
 {
@@ -31,7 +31,7 @@ fn names_of(alloc: Global, block: u32, letters: &[u8]) -> Result<Vec<Name>, Allo
     Ok(names)
 }
 
-/// Adds names to others.
+/// Appends `more` to `names`.
 pub fn append_names(names: &mut Vec<Name>, more: Vec<Name>) -> Result<(), AllocError>
     ensures { OnOk result (names.new.items ≡ names.old.items ++ more.items) }
 {
@@ -40,7 +40,7 @@ pub fn append_names(names: &mut Vec<Name>, more: Vec<Name>) -> Result<(), AllocE
     Ok(())
 }
 
-/// One cube or two.
+/// A cube, and a second one where it is given.
 fn cubes_of(alloc: Global, first: &[u8], second: Option<&[u8]>) -> Result<Vec<Cube>, AllocError>
     ensures { IfOk result (λ cubes. cubes.items ≡ first.now ∷ option_to_list (option_copied second.entry)) }
 {
@@ -52,7 +52,7 @@ fn cubes_of(alloc: Global, first: &[u8], second: Option<&[u8]>) -> Result<Vec<Cu
     Ok(cubes)
 }
 
-/// A table by its letters.
+/// A table by the letters of its inputs and its output.
 fn table_of(
     alloc: Global,
     block: u32,
@@ -77,7 +77,7 @@ fn table_of(
     })
 }
 
-/// Adds a table by its letters.
+/// Adds a table by the letters of its inputs and its output.
 fn add_table(
     block: u32,
     tables: &mut Vec<Table>,
@@ -114,7 +114,7 @@ fn push_conjunction(block: u32, tables: &mut Vec<Table>) -> Result<(), AllocErro
     Ok(())
 }
 
-/// Adds the tables of the choice by a.
+/// Adds the tables of the multiplexer that a controls.
 fn push_choice(block: u32, tables: &mut Vec<Table>) -> Result<(), AllocError>
     ensures { OnOk result (tables.new.items ≡ tables.old.items ++ choice block) }
 {

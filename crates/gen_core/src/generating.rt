@@ -1,4 +1,4 @@
-//! The netlist of so many blocks.
+//! The netlist of `blocks` blocks.
 
 ghost use Rattle.std.specs.Prelude.{◌≡◌, ◌++◌, IfOk, OnOk, OnErr};
 ghost use Rattle.gen_core.specs.Generated.{block_inputs, block_outputs, block_tables, of_blocks, generated, generated_text};
@@ -8,7 +8,7 @@ use blif_core::write_document;
 use net_document::{Document, Name, Table};
 use std::alloc::{AllocError, Global};
 
-/// The inputs of so many blocks.
+/// The inputs of `blocks` blocks.
 #[tactic(auto, using(crate::proofs::Counting::blocks))]
 fn inputs(alloc: Global, blocks: u32) -> Result<Vec<Name>, AllocError>
     ensures { IfOk result (λ names. names.items ≡ of_blocks block_inputs blocks) }
@@ -20,7 +20,7 @@ fn inputs(alloc: Global, blocks: u32) -> Result<Vec<Name>, AllocError>
     Ok(names)
 }
 
-/// The outputs of so many blocks.
+/// The outputs of `blocks` blocks.
 #[tactic(auto, using(crate::proofs::Counting::blocks))]
 fn outputs(alloc: Global, blocks: u32) -> Result<Vec<Name>, AllocError>
     ensures { IfOk result (λ names. names.items ≡ of_blocks block_outputs blocks) }
@@ -32,7 +32,7 @@ fn outputs(alloc: Global, blocks: u32) -> Result<Vec<Name>, AllocError>
     Ok(names)
 }
 
-/// The tables of so many blocks.
+/// The tables of `blocks` blocks.
 #[tactic(auto, using(crate::proofs::Counting::blocks))]
 fn tables(alloc: Global, blocks: u32) -> Result<Vec<Table>, AllocError>
     ensures { IfOk result (λ tables. tables.items ≡ of_blocks block_tables blocks) }
@@ -44,7 +44,7 @@ fn tables(alloc: Global, blocks: u32) -> Result<Vec<Table>, AllocError>
     Ok(tables)
 }
 
-/// The netlist of so many blocks.
+/// The netlist of `blocks` blocks.
 #[tactic(auto, unfolding(crate::specs::Generated::generated))]
 fn document(alloc: Global, blocks: u32) -> Result<Document, AllocError>
     ensures { IfOk result (λ d. d ≡ generated blocks) }
@@ -59,8 +59,8 @@ fn document(alloc: Global, blocks: u32) -> Result<Document, AllocError>
     })
 }
 
-/// Appends the BLIF text of the netlist of so many blocks, of three kinds in turn: XOR of two inputs, AND of
-/// three, and a choice between two inputs by a third.
+/// Appends the BLIF text of the netlist of `blocks` blocks, of three kinds in turn: XOR of two
+/// inputs, AND of three, and a multiplexer of two inputs and a third that controls it.
 #[tactic(auto, using(crate::proofs::Counting::texts))]
 pub fn generate(blocks: u32, out: &mut Vec<u8>) -> Result<(), AllocError>
     ensures ok { OnOk result (out.new.items ≡ out.old.items ++ generated_text blocks) }

@@ -1,4 +1,4 @@
-//! A netlist from a number: blocks of three kinds in turn, each with fewer gates than it is written with.
+//! A test netlist of any size: blocks of three kinds in turn, each with more gates than it needs.
 //! It stands on `blif_core` for the text.
 //!
 //! The one theorem is that of `generate`: it appends exactly the BLIF text of the netlist that

@@ -1,4 +1,5 @@
--- Lists of blocks: what holds of each block's part holds of all, and what stands in one of them.
+-- Lists that are joined from blocks: what holds of each block's part holds of all, and elements by
+-- their blocks.
 use Rattle.std.specs.Prelude.{◌≡◌, ℕ, zero, suc, ◌*◌, ◌≤◌, ◌<◌, true, List, length, map, All}
 use Rattle.std.proofs.Common.{arith, sym, subst, inl, inr, ⊎_elim, length-append}
 use Rattle.std.proofs.lemmas.Bool.{cases_lt}
@@ -13,13 +14,13 @@ unfolding of_blocks
 of_all P f zero each = All-nil P
 of_all P f (suc n) each = All-append P (of_blocks f n) (f n) (of_all P f n (λ k low. each k (omega (arith, low)))) (each n (omega arith))
 
--- each block's part has at most so many items
+-- each block's part has at most `most` elements
 pub of_length : {A : Type 0} (f : ℕ → List A) (most n : ℕ) → ((k : ℕ) → length (f k) ≤ most) → length (of_blocks f n) ≤ n * most
 unfolding of_blocks
 of_length f most zero each = omega arith
 of_length f most (suc n) each = omega (arith, length-append (of_blocks f n) (f n), of_length f most n each, each n)
 
--- a name that stands in one block's part, told by a function of its items
+-- a name in the part of block k, where `name` maps elements to names
 pub of_has : {A : Type 0} (name : A → Name) (f : ℕ → List A) (n k : ℕ) (m : Name) → k < n → has (map name (f k)) m ≡ true → has (map name (of_blocks f n)) m ≡ true
 unfolding of_blocks
 of_has name f zero k m low there = absurd (omega (arith, low))
@@ -38,7 +39,7 @@ of_has_name f (suc n) k m low there = elim (cases_lt k n) [
   | inr past ↦ let same : k ≡ n = omega (arith, low, past) in has_right (of_blocks f n) (f n) m (subst (λ (j : ℕ). has (f j) m ≡ true) same there)
 ]
 
--- the block in whose part a name stands
+-- the block in whose part a name is
 pub of_found : (f : ℕ → List Name) (n : ℕ) (m : Name) → has (of_blocks f n) m ≡ true → (k : ℕ) × (k < n) × (has (f k) m ≡ true)
 unfolding of_blocks
 of_found f zero m there = absurd (has_none m there)

@@ -1,4 +1,5 @@
--- Tables of a block by their letters: each reads letters that are known, and drives a letter beyond all of them.
+-- The tables of a block by their letters: each reads known letters, and drives one after all of
+-- them.
 use Rattle.std.specs.Prelude.{◌≡◌, ℕ, suc, ◌^◌, ◌≤◌, ◌<◌, ◌⊎◌, Bool, true, false, ◌&&◌, ◌||◌, ◌==◌, nat_le, List, [], ◌∷◌, ◌++◌, map, All, Option, refl}
 use Rattle.std.proofs.Common.{arith, sym, ◌∙◌, ap, subst, inl, inr, ⊎_elim, append_assoc, append-nil}
 use Rattle.std.proofs.lemmas.Bool.{and_parts, false_from_ne_true, leb-true, eqb-true}
@@ -19,7 +20,7 @@ abbrev pub all_known : List ℕ → List ℕ → Bool
 all_known known [] = true
 all_known known (l ∷ ls) = is_known known l && all_known known ls
 
--- a table but for its block
+-- a table without its block
 pub record Row : Type 0 where
   pub inputs : List ℕ
   pub output : ℕ
@@ -29,12 +30,13 @@ pub record Row : Type 0 where
 abbrev pub row_table : ℕ → Row → Table
 row_table block r = table_of block r.inputs r.output r.first r.second
 
--- each reads known letters and letters that were driven before, and drives one from `least` on and beyond those
+-- each table reads known letters and letters driven before, and drives one from `least` on and
+-- after those
 abbrev pub are_rows : List ℕ → ℕ → List Row → Bool
 are_rows known least [] = true
 are_rows known least (r ∷ rs) = (all_known known r.inputs && nat_le least r.output) && are_rows (r.output ∷ known) (suc r.output) rs
 
--- ---- names of older blocks, or of smaller letters
+-- ---- names of earlier blocks, or of smaller letters
 
 -- p is 112, the first letter of a table
 pub record IsOlder (k least : ℕ) (m : Name) : Type 0 where
@@ -81,7 +83,7 @@ pushed k l least before low up older =
 
 -- ---- known letters
 
--- known letters have names before
+-- the names of the letters `known` are in `before`
 abbrev pub Knows : ℕ → List ℕ → List Name → Type 0
 Knows k known before = (l : ℕ) → is_known known l ≡ true → has before (name_of k l) ≡ true
 
@@ -105,7 +107,8 @@ knows_more k o known before knows l e = known_by k o known before l (l == o) ref
 
 -- ---- layers
 
--- The tables are layered behind the names before, and what is driven then is older for the next block.
+-- The tables are in topological order after the names `before`, and the names they drive are older
+-- for the next block.
 pub record Layered (k : ℕ) (before : List Name) (ts : List Table) : Type 0 where
   pub layers : AreLayered before ts
   pub older : All (IsOlder (suc k) 112) (before ++ map table_output ts)

@@ -1,4 +1,4 @@
--- How long a generated netlist's text is at most.
+-- A bound on the length of a generated netlist's text.
 use Rattle.std.specs.Prelude.{◌≡◌, ℕ, ◌+◌, ◌*◌, ◌^◌, ◌≤◌, Bool, ◌==◌, List, [], ◌∷◌, ◌++◌, length, All, codes}
 use Rattle.std.specs.List.{flat_map}
 use Rattle.std.proofs.Common.{arith, ◌∙◌, ap, length-append}
@@ -47,7 +47,7 @@ list_short keyword ns word short = omega (arith, length-append keyword (rest_tex
 
 -- ---- their texts
 
--- a text of pieces that are at most so long
+-- a text of pieces of at most `most` bytes
 pieces : {A : Type 0} (text : A → List ℕ) (most : ℕ) (P : A → Type 0) → ((x : A) → P x → length (text x) ≤ most) → (xs : List A) → All P xs → length (flat_map text xs) ≤ length xs * most
 pieces text most P each [] all = omega arith
 pieces text most P each (x ∷ xs) all =

@@ -1,4 +1,5 @@
--- The tables of blocks: they are tables of cubes, layered behind the inputs, and cost at most a gate each.
+-- The tables of blocks: they are tables of cubes, in topological order after the inputs, and cost
+-- at most a gate each.
 use Rattle.std.specs.Prelude.{◌≡◌, ℕ, zero, suc, ◌%◌, ◌^◌, ◌≤◌, ◌<◌, Bool, true, false, ◌&&◌, ◌||◌, ◌==◌, nat_le, List, [], ◌∷◌, ◌++◌, length, map, All, Option, Some, None, option_to_list, codes, if◌then◌else◌, sum_by, refl}
 use Rattle.std.proofs.Common.{arith, sym, ◌∙◌, ap, subst, append_assoc, append-nil}
 use Rattle.std.proofs.lemmas.Bool.{cond_both, both_ways, and_parts, leb-true, eqb-true}
@@ -54,7 +55,7 @@ two_inputs k m e there = cond_both (k % 3 == 0) (names_of k (codes "ab")) (names
 three_inputs : (k : ℕ) (m : Name) → (k % 3 == 0) ≡ false → has (names_of k (codes "abc")) m ≡ true → has (block_inputs k) m ≡ true
 three_inputs k m e there = cond_both (k % 3 == 0) (names_of k (codes "ab")) (names_of k (codes "abc")) (λ (ns : List Name). has ns m ≡ true) (λ is. absurd (both_ways (k % 3 == 0) e is)) (λ no. there)
 
--- a block's tables behind names in which its inputs are known
+-- a block's tables after names that have its inputs
 kind_layered : (k : ℕ) (before : List Name) → k < 2 ^ 64 → All (IsOlder k 112) before → ((m : Name) → has (block_inputs k) m ≡ true → has before m ≡ true) → Layered k before (block_tables k)
 kind_layered k before low older here =
     of_kind (λ (ts : List Table). Layered k before ts) k
@@ -62,7 +63,7 @@ kind_layered k before low older here =
     (λ e. rows_layered k before (codes "abc") 112 conjunction_rows low (omega arith) refl older (knows_names k (codes "abc") before (λ m there. here m (three_inputs k m e there))))
     (λ e. rows_layered k before (codes "abc") 112 choice_rows low (omega arith) refl older (knows_names k (codes "abc") before (λ m there. here m (three_inputs k m e there))))
 
--- the tables of k blocks behind the inputs of n
+-- the tables of k blocks after the inputs of n
 pub record AllLayered (n k : ℕ) : Type 0 where
   pub layers : AreLayered (of_blocks block_inputs n) (of_blocks block_tables k)
   pub older : All (IsOlder k 112) (of_blocks block_inputs n ++ map table_output (of_blocks block_tables k))

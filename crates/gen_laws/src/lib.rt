@@ -1,6 +1,6 @@
-//! Laws of generated netlists, each of them the contract of a function that does nothing. The definitions that they
-//! speak of stand in `gen_core` and `net_document`. Lemmas on blocks: which names a block has, that each table
-//! reads only what stands before it, what the tables cost and how long they are written.
+//! Laws of generated netlists, each the contract of a function that does nothing. The definitions
+//! are those of `gen_core` and `net_document`. The lemmas are on blocks: the names of a block, that
+//! its tables are in topological order, their costs and the length of their text.
 #![tactic(auto)]
 
 ghost use Rattle.std.specs.Prelude.{ℕ, ◌≤◌, length};
@@ -10,15 +10,15 @@ ghost use Rattle.gen_core.specs.Generated.{generated_text};
 
 use blif_laws::documents_are_read_back;
 
-/// A netlist of at most 10,000 blocks is a netlist: no name is driven twice, each that is used is driven, no table
-/// depends on itself, and there are at most 100,000 gates.
+/// A netlist of at most 10,000 blocks is well formed: no name is driven twice, each used name is
+/// driven, there is no combinational loop, and there are at most 100,000 gates.
 pub fn generated_netlists_are_netlists()
     ensures { (blocks : ℕ) → blocks ≤ 10000 → IsNetlist blif_format (generated_text blocks) }
 {
     documents_are_read_back();
 }
 
-/// It has at most 16,777,216 bytes.
+/// Its text has at most 16,777,216 bytes.
 pub fn generated_netlists_are_small()
     ensures { (blocks : ℕ) → blocks ≤ 10000 → length (generated_text blocks) ≤ 16777216 }
 {}

@@ -1,4 +1,4 @@
--- Numbers that fall show that a node doesn't lead to itself.
+-- Where the numbers fall from a node to what it reads, the node is on no cycle.
 use Rattle.std.proofs.Common.{◌≡◌, ℕ, zero, suc, ◌+◌, ◌≤◌, ◌<◌, true, List, [], ◌∷◌, ◌++◌, length, refl, ap, ◌∙◌, sym, subst, arith, ⊎_elim, eqb, inl, inr, get_or, length-append}
 use Rattle.std.specs.Prelude.{slice_index, slice_get, Option, Some, unwrap_or, if◌then◌else◌, nat_eq, ◌⊎◌}
 use Rattle.std.specs.List.{IsDistinct}
@@ -14,7 +14,7 @@ leads_fall : (g : Graph) (numbers : List ℕ) (t u : ℕ) → Fall g numbers →
 leads_fall g numbers _ _ fall (at_once t u r) = fall.within t u r
 leads_fall g numbers _ _ fall (by_way_of t u v r more) = omega (arith, leads_fall g numbers u v fall more, fall.within t u r)
 
--- what stands at a place of a list stands there with more behind it
+-- an element of a list is at the same index of the list with more appended
 at_front : {A : Type 0} (xs ys : List A) (i : ℕ) (x : A) → slice_get xs i ≡ Some x → slice_get (xs ++ ys) i ≡ Some x
 at_front [] ys i x e = absurd cc
 at_front (z ∷ xs) ys zero x e = e
@@ -59,7 +59,7 @@ added_from P seen (t ∷ ts) old more =
     (λ was. added_from P seen ts old (λ u h. more u (or_right (nat_eq u t) (has_ended ts u) h)))
     (λ fresh. added_from P (seen ++ t ∷ []) ts (λ u h. ⊎_elim (λ l. old u l) (λ r. subst P (sym r) here) (ended_cases seen t u h)) (λ u h. more u (or_right (nat_eq u t) (has_ended ts u) h)))
 
--- what stands at a place stays there
+-- an element keeps its index
 added_at : (seen ts : List ℕ) (k t : ℕ) → slice_get seen k ≡ Some t → slice_get (added seen ts) k ≡ Some t
 unfolding added
 added_at seen [] k t e = e
@@ -70,7 +70,7 @@ added_at seen (u ∷ ts) k t e =
 
 -- ---- all to which a node leads
 
--- Some nodes to which one leads, and what the first of them read is among them.
+-- `set` has some of the nodes to which `node` leads, and all that its first `at` elements read.
 pub record Reaches (g : Graph) (node at : ℕ) (set : List ℕ) : Type 0 where
   pub low : at ≤ length set
   pub leads : (u : ℕ) → has_ended set u ≡ true → LeadsTo g node u
@@ -100,7 +100,7 @@ place_stays seen ts k t low e = let here : slice_get seen k ≡ Some (get_or see
 same_some : (x y : ℕ) → Some x ≡ Some y → x ≡ y
 same_some x y e = ap (λ (o : Option ℕ). unwrap_or o 0) e
 
--- a node is among those where it stands
+-- an element is in the set
 among : (set : List ℕ) (k t : ℕ) → slice_get set k ≡ Some t → has_ended set t ≡ true
 among [] k t e = absurd cc
 among (x ∷ set) zero t e = or_left (nat_eq t x) (has_ended set t) (eq-eqb t x (sym (same_some x t e)))
@@ -129,7 +129,7 @@ reaches_next g node at t set r here = record {
       (below_cases k at below);
 }
 
--- where a node stands
+-- the index of an element
 place_of : (set : List ℕ) (t : ℕ) → has_ended set t ≡ true → (k : ℕ) × ((k < length set) × (slice_get set k ≡ Some t))
 place_of [] t h = absurd cc
 place_of (x ∷ set) t h =
@@ -162,7 +162,7 @@ pub ruleset searches = (common_steps, reaches_start, reaches_next, reaches_end)
 
 -- ---- the first node that leads to itself
 
--- no node below this one leads to itself
+-- no node below `node` is on a cycle
 pub record AreApart (g : Graph) (node : ℕ) : Type 0 where
   pub apart : (u : ℕ) → u < node → LeadsTo g u u → ⊥
 

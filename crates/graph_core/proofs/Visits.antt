@@ -1,4 +1,4 @@
--- Steps of a visit.
+-- Steps of a depth-first search.
 use Rattle.std.proofs.Common.{◌≡◌, ℕ, zero, suc, ◌+◌, ◌-◌, ◌≤◌, ◌<◌, ◌≢◌, true, false, List, [], ◌∷◌, ◌++◌, length, Option, Some, None, refl, ap, ◌∙◌, sym, subst, arith}
 use Rattle.std.specs.Prelude.{sum_by}
 use Rattle.std.specs.List.{range_with_len}
@@ -10,19 +10,19 @@ use Rattle.graph_core.specs.Frames.{Entered, ended, all_ended, turns, frame_turn
 
 -- ---- one node
 
--- one that has ended
+-- a node that has ended
 pub visit_seen : (g : Graph) (depth : ℕ) (order : List ℕ) (t : ℕ) → has_ended order t ≡ true → visit g depth order t ≡ Some order
 unfolding visit
 visit_seen g zero order t e = cond-true (has_ended order t) (Some order) None e
 visit_seen g (suc depth) order t e = cond-true (has_ended order t) (Some order) _ e
 
--- one that may not be entered any more
+-- a node that may not be entered, since the depth is used up
 pub visit_deep : (g : Graph) (depth : ℕ) (order : List ℕ) (t : ℕ) → has_ended order t ≡ false → depth ≡ 0 → visit g depth order t ≡ None
 unfolding visit
 visit_deep g zero order t e none = cond-false (has_ended order t) (Some order) None e
 visit_deep g (suc depth) order t e none = absurd (omega arith)
 
--- one that is entered
+-- a node that is entered
 pub visit_new : (g : Graph) (depth : ℕ) (order : List ℕ) (t : ℕ) → has_ended order t ≡ false → depth ≢ 0 → visit g depth order t ≡ ended g (record { node = t; left = reads_of g t; depth = depth - 1 }) (Some order)
 unfolding visit ended
 visit_new g zero order t e some = absurd (some refl)
@@ -66,7 +66,7 @@ pub ended-next : (g : Graph) (node depth next : ℕ) (left rest order : List ℕ
 unfolding ended each
 ended-next g node depth next left rest order e = ap (λ (xs : List ℕ). put_last node (each (visit g depth) (Some order) xs)) e
 
--- ---- turns
+-- ---- counting steps
 
 pub all_turns-push : (g : Graph) (fs : List Entered) (f : Entered) → all_turns g (fs ++ f ∷ []) ≡ all_turns g fs + frame_turns g f
 unfolding all_turns
@@ -92,12 +92,12 @@ pub frame_turns-some : (g : Graph) (f : Entered) → 0 < frame_turns g f
 unfolding frame_turns
 frame_turns-some g f = omega arith
 
--- ---- the frame that stands last
+-- ---- the frame on top of the stack
 
 abbrev pub entered : ℕ → List ℕ → ℕ → Entered
 entered node left depth = record { node = node; left = left; depth = depth }
 
--- its next input is visited
+-- its next fanin is visited
 pub last_next : (g : Graph) (stack fs : List Entered) (node depth next : ℕ) (left rest order : List ℕ) → stack ≡ fs ++ entered node left depth ∷ [] → left ≡ next ∷ rest → all_ended g stack (Some order) ≡ all_ended g (fs ++ entered node rest depth ∷ []) (visit g depth order next)
 last_next g stack fs node depth next left rest order e l =
     ap (λ (xs : List Entered). all_ended g xs (Some order)) e
@@ -105,23 +105,23 @@ last_next g stack fs node depth next left rest order e l =
     ∙ ap (all_ended g fs) (ended-next g node depth next left rest order l)
     ∙ sym (all_ended-push g fs (entered node rest depth) (visit g depth order next))
 
--- it has ended
+-- its next fanin has ended
 pub last_seen : (g : Graph) (stack fs : List Entered) (node depth next : ℕ) (left rest order : List ℕ) → stack ≡ fs ++ entered node left depth ∷ [] → left ≡ next ∷ rest → has_ended order next ≡ true → all_ended g (fs ++ entered node rest depth ∷ []) (Some order) ≡ all_ended g stack (Some order)
 last_seen g stack fs node depth next left rest order e l seen =
     sym (last_next g stack fs node depth next left rest order e l ∙ ap (all_ended g (fs ++ entered node rest depth ∷ [])) (visit_seen g depth order next seen))
 
--- it may not be entered any more
+-- its next fanin may not be entered
 pub last_deep : (g : Graph) (stack fs : List Entered) (node depth next : ℕ) (left rest order : List ℕ) → stack ≡ fs ++ entered node left depth ∷ [] → left ≡ next ∷ rest → has_ended order next ≡ false → depth ≡ 0 → None ≡ all_ended g stack (Some order)
 last_deep g stack fs node depth next left rest order e l new none =
     sym (last_next g stack fs node depth next left rest order e l ∙ ap (all_ended g (fs ++ entered node rest depth ∷ [])) (visit_deep g depth order next new none) ∙ all_ended-none g (fs ++ entered node rest depth ∷ []))
 
--- it is entered
+-- its next fanin is entered
 pub last_new : (g : Graph) (stack fs : List Entered) (node depth next : ℕ) (left rest order : List ℕ) → stack ≡ fs ++ entered node left depth ∷ [] → left ≡ next ∷ rest → has_ended order next ≡ false → depth ≢ 0 → all_ended g ((fs ++ entered node rest depth ∷ []) ++ entered next (reads_of g next) (depth - 1) ∷ []) (Some order) ≡ all_ended g stack (Some order)
 last_new g stack fs node depth next left rest order e l new some =
     all_ended-push g (fs ++ entered node rest depth ∷ []) (entered next (reads_of g next) (depth - 1)) (Some order)
     ∙ sym (last_next g stack fs node depth next left rest order e l ∙ ap (all_ended g (fs ++ entered node rest depth ∷ [])) (visit_new g depth order next new some))
 
--- a turn less
+-- one step less is left
 pub last_turns : (g : Graph) (stack fs : List Entered) (node depth next : ℕ) (left rest : List ℕ) → stack ≡ fs ++ entered node left depth ∷ [] → left ≡ next ∷ rest → all_turns g (fs ++ entered node rest depth ∷ []) < all_turns g stack
 last_turns g stack fs node depth next left rest e l =
     omega (arith, ap (all_turns g) e, all_turns-push g fs (entered node left depth), all_turns-push g fs (entered node rest depth), frame_turns-next g node depth next left rest l, turns-some g depth next)
@@ -141,7 +141,7 @@ each-end : (g : Graph) (n node : ℕ) (order : List ℕ) → n ≤ node → each
 unfolding each
 each-end g n node order high = let none : n - node ≡ 0 = omega arith in ap (λ k. each (visit g n) (Some order) (range_with_len node k)) none
 
--- what the loop over the nodes comes to
+-- the order of the nodes from an index on: the loop invariant
 abbrev pub order_from : Graph → ℕ → List ℕ → Option (List ℕ)
 order_from g node order = each (visit g (length g)) (Some order) (range_with_len node (length g - node))
 
@@ -153,7 +153,7 @@ order_start g = let whole : length g - 0 ≡ length g = omega arith in ap (λ k.
 pub order_next : (g : Graph) (node : ℕ) (old new : List ℕ) → node < length g → Some new ≡ visit g (length g) old node → order_from g (node + 1) new ≡ order_from g node old
 order_next g node old new low e = ap (λ o. each (visit g (length g)) o (range_with_len (node + 1) (length g - (node + 1)))) e ∙ sym (each-next g (length g) node old low)
 
--- a visit had no end
+-- a visit failed
 pub order_fails : (g : Graph) (node : ℕ) (old : List ℕ) → node < length g → None ≡ visit g (length g) old node → None ≡ order_from g node old
 order_fails g node old low e =
     sym (each-next g (length g) node old low ∙ ap (λ o. each (visit g (length g)) o (range_with_len (node + 1) (length g - (node + 1)))) (sym e) ∙ each-none (visit g (length g)) (range_with_len (node + 1) (length g - (node + 1))))

@@ -1,9 +1,9 @@
--- Nodes that lead to themselves, and numbers that fall.
+-- Nodes that lead to themselves (are on a cycle), and numbers that fall.
 use Rattle.std.specs.Prelude.{◌≡◌, ℕ, ◌≤◌, ◌<◌, true, if◌then◌else◌, List, [], ◌∷◌, ◌++◌, Option, Some, None, slice_index}
 use Rattle.graph_core.specs.Visit.{Graph, reads_of, has_ended}
 use Rattle.graph_core.specs.VisitLaws.{LeadsTo}
 
--- nodes that were seen and others, each once
+-- `seen` with the nodes of a list appended, each once
 unfoldable pub added : List ℕ → List ℕ → List ℕ
 added seen [] = seen
 added seen (t ∷ ts) = added (if has_ended seen t then seen else seen ++ t ∷ []) ts
@@ -12,12 +12,12 @@ added seen (t ∷ ts) = added (if has_ended seen t then seen else seen ++ t ∷ 
 pub record Fall (g : Graph) (numbers : List ℕ) : Type 0 where
   pub within : (t u : ℕ) → has_ended (reads_of g t) u ≡ true → slice_index numbers u ≤ slice_index numbers t
 
--- the first node that leads to itself, or none where no node does
+-- the first node on a cycle, or none where the graph is acyclic
 abbrev pub IsFirstLeading : Graph → Option ℕ → Type 0
 IsFirstLeading g None = (t : ℕ) → LeadsTo g t t → ⊥
 IsFirstLeading g (Some t) = LeadsTo g t t × ((u : ℕ) → u < t → LeadsTo g u u → ⊥)
 
--- these are the nodes to which one leads
+-- `set` has the nodes to which `node` leads, and no others
 pub record AreLedTo (g : Graph) (node : ℕ) (set : List ℕ) : Type 0 where
   pub leads : (u : ℕ) → has_ended set u ≡ true → LeadsTo g node u
   pub all : (u : ℕ) → LeadsTo g node u → has_ended set u ≡ true

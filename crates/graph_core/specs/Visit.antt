@@ -1,8 +1,8 @@
--- The order in which a depth-first visit ends the nodes.
+-- The order in which a depth-first search ends the nodes.
 use Rattle.std.specs.Prelude.{ℕ, zero, suc, Bool, nat_eq, if◌then◌else◌, List, [], ◌∷◌, ◌++◌, length, Option, Some, None}
 use Rattle.std.specs.List.{list_any, range_with_len, slice_index_or}
 
--- For each node the nodes that it reads, in the order of its inputs.
+-- For each node its fanins: the nodes that it reads, in the order of its inputs.
 abbrev pub Graph : Type 0
 Graph = List (List ℕ)
 
@@ -23,14 +23,14 @@ abbrev pub put_last : ℕ → Option (List ℕ) → Option (List ℕ)
 put_last t None = None
 put_last t (Some order) = Some (if has_ended order t then order else order ++ t ∷ [])
 
--- Visiting a node visits the nodes that it reads, from the left, and then ends it; one that has ended
--- is passed over. None where a path of more nodes than depth has no end, so that a node depends on
--- itself where depth is the number of nodes.
+-- Visiting a node visits the nodes that it reads, from the left, and then ends it; one that has
+-- ended is passed over. None where a path of more than `depth` nodes is met; where `depth` is the
+-- number of nodes that means a cycle.
 unfoldable pub visit : Graph → ℕ → List ℕ → ℕ → Option (List ℕ)
 visit g zero order t = if has_ended order t then Some order else None
 visit g (suc depth) order t = if has_ended order t then Some order else put_last t (each (visit g depth) (Some order) (reads_of g t))
 
--- all nodes in the order of the text
+-- all nodes, visited in their order
 -- Example: where node 0 reads node 2 and then node 1, and these read nothing, it is 2, 1, 0.
 unfoldable pub order_of : Graph → Option (List ℕ)
 order_of g = each (visit g (length g)) (Some []) (range_with_len 0 (length g))

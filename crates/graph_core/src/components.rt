@@ -1,18 +1,18 @@
-//! Numbers for nodes that fall from a node to those that it reads, and stay equal round a cycle: the
-//! strongly connected components in the order in which Tarjan's search ends them. Nothing is promised of
-//! them: whoever uses them checks that they fall.
+//! Strongly connected components, numbered in the order in which Tarjan's algorithm ends them: the
+//! numbers fall from a node to those that it reads, and are equal on a cycle. Nothing is proved of
+//! them; whoever uses them checks that they fall.
 
 use crate::visiting::{Reads, reads_of};
 use std::alloc::{AllocError, Global};
 
-/// A node that was entered, and which of its reads comes next.
+/// A node that was entered, and the index of its next fanin.
 #[derive(Clone, Copy)]
 struct Call {
     node: u32,
     at: usize,
 }
 
-/// The state of the search. An index or a number of 0 says that none was given.
+/// The state of Tarjan's algorithm. An index or a number of 0 says that none was given yet.
 #[derive(Drop)]
 struct Search {
     indices: Vec<u32>,
@@ -24,26 +24,26 @@ struct Search {
     next_number: u32,
 }
 
-/// A cell, or 0 where there is none.
+/// `cells[at]`, or 0 where there is none.
 fn cell(cells: &[u32], at: u32) -> u32 {
     cells.get(at as usize).copied().unwrap_or(0)
 }
 
-/// Writes a cell, where there is one.
+/// Sets `cells[at]`, where there is one.
 fn write(cells: &mut [u32], at: u32, value: u32) {
     if (at as usize) < cells.len() {
         cells[at as usize] = value;
     }
 }
 
-/// Lowers a cell to a value.
+/// Lowers `cells[at]` to `value` at most.
 fn lower(cells: &mut [u32], at: u32, value: u32) {
     let least = cell(cells, at).min(value);
     write(cells, at, least);
 }
 
 impl Search {
-    /// Nothing was entered.
+    /// The state before any node is entered.
     fn new(alloc: Global, count: usize) -> Result<Search, AllocError> {
         Ok(Search {
             indices: vec![in alloc; 0; count]?,
@@ -65,7 +65,7 @@ impl Search {
         Ok(())
     }
 
-    /// Gives a component its number: the open nodes from the last one down to its first.
+    /// Gives a component its number: the open nodes from the last one back to `first`.
     fn close(&mut self, first: u32) {
         while let Some(node) = self.open.pop() {
             write(&mut self.numbers, node, self.next_number);
@@ -76,7 +76,7 @@ impl Search {
         self.next_number = self.next_number.saturating_add(1);
     }
 
-    /// Leaves a node all of whose reads were looked at.
+    /// Leaves `node`, all of whose fanins were looked at.
     fn leave(&mut self, node: u32) {
         let low = cell(&self.lows, node);
         if low == cell(&self.indices, node) {
@@ -87,7 +87,7 @@ impl Search {
         }
     }
 
-    /// Looks at the next read of a node.
+    /// Looks at `read`, the next fanin of the node of `call`.
     fn look(&mut self, call: Call, read: u32) -> Result<(), AllocError> {
         self.calls.push(Call {
             node: call.node,
@@ -101,7 +101,7 @@ impl Search {
         Ok(())
     }
 
-    /// Takes the call that was put last one step on. False where there is none.
+    /// One step of the call on top of the stack. False where the stack is empty.
     fn step(&mut self, graph: &[Reads]) -> Result<bool, AllocError> {
         let Some(call) = self.calls.pop() else {
             return Ok(false);
@@ -116,7 +116,7 @@ impl Search {
         Ok(true)
     }
 
-    /// Searches from a node that wasn't entered yet.
+    /// Searches from `root`, which wasn't entered yet.
     fn search(&mut self, graph: &[Reads], root: u32) -> Result<(), AllocError> {
         self.calls.push(Call { node: root, at: 0 })?;
         for _ in 0..u64::MAX {
@@ -128,7 +128,7 @@ impl Search {
     }
 }
 
-/// Numbers for the nodes of a graph, one for each.
+/// The component number of each node.
 pub fn component_numbers(alloc: Global, graph: &[Reads]) -> Result<Vec<u32>, AllocError> {
     let mut search = Search::new(alloc, graph.len())?;
     for root in 0..u32::try_from(graph.len()).unwrap_or(0) {

@@ -1,5 +1,6 @@
-//! The first node that leads to itself. Nodes that can't are passed over by numbers that are checked to
-//! fall; each other one is decided by a search of all that it leads to.
+//! The first node on a cycle. A node is on none where the component numbers, checked never to rise
+//! from a node to what it reads, fall from it to each of its fanins; any other node is decided by a
+//! search of all that it leads to.
 
 ghost use Rattle.std.specs.Prelude.{◌≡◌, ℕ, ◌+◌, ◌≤◌, ◌<◌, ◌^◌, ◌↔◌, true, length, IsTrue, IfNone, OnOk, IfOk, slice_index, slice_get, nat_eq};
 ghost use Rattle.std.specs.List.{IsDistinct};
@@ -12,7 +13,7 @@ use crate::visiting::{Reads, reads_of};
 use indexmap::IndexSet;
 use std::alloc::{AllocError, Global};
 
-/// Whether the numbers of the nodes that are read are below that of their reader.
+/// Whether each node of `reads` has a number below `number`.
 fn are_below(numbers: &[u32], reads: &[u32], number: u32) -> bool
     ensures { IsTrue result → ((u : ℕ) → has_ended reads.now u ≡ true → slice_index numbers.now u < number) }
 {
@@ -24,7 +25,7 @@ fn are_below(numbers: &[u32], reads: &[u32], number: u32) -> bool
     true
 }
 
-/// Whether they are at most that of their reader.
+/// Whether each node of `reads` has a number of at most `number`.
 fn are_within(numbers: &[u32], reads: &[u32], number: u32) -> bool
     ensures { IsTrue result → ((u : ℕ) → has_ended reads.now u ≡ true → slice_index numbers.now u ≤ number) }
 {
@@ -36,7 +37,7 @@ fn are_within(numbers: &[u32], reads: &[u32], number: u32) -> bool
     true
 }
 
-/// The number of a node; 0 where it has none.
+/// The number of `node`; 0 where it has none.
 fn number_of(numbers: &[u32], node: u32) -> u32
     ensures { result ≡ slice_index numbers.now node }
 {
@@ -60,7 +61,7 @@ fn fall(graph: &[Reads], numbers: &[u32]) -> bool
     true
 }
 
-/// Whether the numbers show that a node doesn't lead to itself.
+/// Whether the numbers fall from `node` to each node that it reads, so that it is on no cycle.
 fn is_apart(graph: &[Reads], numbers: &[u32], node: u32) -> bool
     requires { Fall graph.now numbers.now }
     ensures { IsTrue result → LeadsTo graph.now node node → ⊥ }
@@ -68,7 +69,7 @@ fn is_apart(graph: &[Reads], numbers: &[u32], node: u32) -> bool
     are_below(numbers, reads_of(graph, node), number_of(numbers, node))
 }
 
-/// Adds nodes to a set.
+/// Adds `nodes` to `set`, each once.
 #[tactic(auto, unfolding(crate::specs::Cycles::added))]
 fn add_all(set: &mut IndexSet<u32>, nodes: &[u32]) -> Result<(), AllocError>
     ensures { OnOk result (set.new.keys ≡ added set.old.keys nodes.now) }
@@ -81,7 +82,7 @@ fn add_all(set: &mut IndexSet<u32>, nodes: &[u32]) -> Result<(), AllocError>
     Ok(())
 }
 
-/// The node at a place of a set. A set has each node once.
+/// The element of `set` at index `at`.
 fn node_at(set: &IndexSet<u32>, at: usize) -> Option<u32>
     ensures is { result ≡ slice_get set.now.keys at }
     ensures end { IfNone result (length set.now.keys ≤ at) }
@@ -95,7 +96,7 @@ fn node_at(set: &IndexSet<u32>, at: usize) -> Option<u32>
     }
 }
 
-/// The nodes to which a node leads.
+/// All nodes to which `node` leads.
 #[tactic(auto, using(crate::proofs::CycleLemmas::searches))]
 fn reached(alloc: Global, graph: &[Reads], node: u32) -> Result<IndexSet<u32>, AllocError>
     requires { IsClosed graph.now (length graph.now) }
@@ -111,7 +112,7 @@ fn reached(alloc: Global, graph: &[Reads], node: u32) -> Result<IndexSet<u32>, A
     Ok(set)
 }
 
-/// Whether a node leads to itself, by a search.
+/// Whether `node` leads to itself, by a search.
 fn leads_back(alloc: Global, graph: &[Reads], node: u32) -> Result<bool, AllocError>
     requires { IsClosed graph.now (length graph.now) }
     ensures { IfOk result (λ answer. IsTrue answer ↔ LeadsTo graph.now node node) }
@@ -120,7 +121,7 @@ fn leads_back(alloc: Global, graph: &[Reads], node: u32) -> Result<bool, AllocEr
     Ok(set.contains(&node))
 }
 
-/// The first node that leads to itself. None where no node does.
+/// The first node that is on a cycle; None where the graph has none.
 #[tactic(auto, using(crate::proofs::CycleLemmas::firsts))]
 pub fn first_cyclic(alloc: Global, graph: &[Reads]) -> Result<Option<u32>, AllocError>
     requires small { length graph.now < 2 ^ 32 }

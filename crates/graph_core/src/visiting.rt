@@ -1,4 +1,5 @@
-//! The order in which a depth-first visit ends the nodes. The stack is on the heap.
+//! Topological order: the order in which a depth-first search ends the nodes. The stack is on the
+//! heap.
 
 ghost use Rattle.std.specs.Prelude.{◌≡◌, ℕ, ◌<◌, ◌^◌, [], length, slice_index_or, Some, None, Option, IfOk};
 ghost use Rattle.std.specs.Option.{option_map};
@@ -9,7 +10,7 @@ use indexmap::IndexSet;
 use std::alloc::{AllocError, Global};
 use std::marker::Model;
 
-/// The nodes that a node reads, in the order of its inputs.
+/// The fanins of a node, the nodes that it reads, in the order of its inputs.
 #[derive(Drop)]
 pub struct Reads(Vec<u32>);
 
@@ -22,7 +23,7 @@ impl Model for Reads {
 }
 
 impl Reads {
-    /// These nodes.
+    /// The reads `nodes`.
     pub fn new(nodes: Vec<u32>) -> Reads
         ensures { result ≡ nodes.items }
     {
@@ -37,7 +38,7 @@ impl Reads {
     }
 }
 
-/// What a node of a graph reads; nothing where the graph has no such node.
+/// What `node` reads; nothing where the graph has no such node.
 pub fn reads_of(graph: &[Reads], node: u32) -> &[u32]
     ensures { result.now ≡ slice_index_or graph.now node [] }
 {
@@ -48,8 +49,8 @@ pub fn reads_of(graph: &[Reads], node: u32) -> &[u32]
     }
 }
 
-/// A node that was entered: what is left of what it reads, and how many nodes may still be entered
-/// below it.
+/// A node that was entered: its fanins that are left to visit, and how many nodes deep the search
+/// may still go below it.
 #[derive(Drop)]
 struct Frame<'a> {
     node: u32,
@@ -65,8 +66,7 @@ impl<'a> Model for Frame<'a> {
     ghost view = { λ f. record { node = f.node; left = f.left.now; depth = f.depth } };
 }
 
-/// Visits a node. False where a path of more nodes than `depth` has no end; the order is of no use
-/// then.
+/// Visits `node`. False where a path of more than `depth` nodes was met; `order` is of no use then.
 #[tactic(auto, using(crate::proofs::Visits::visits))]
 fn visit_from(
     alloc: Global,
@@ -115,15 +115,15 @@ fn visit_from(
     Ok(true)
 }
 
-/// The numbers of a set in the order in which they came.
+/// The elements of `set` in the order of their insertion.
 fn in_order(alloc: Global, set: &IndexSet<u32>) -> Result<Vec<u32>, AllocError>
     ensures { IfOk result (λ list. list.items ≡ set.now.keys) }
 {
     set.iter().copied().collect(alloc)
 }
 
-/// All nodes, each behind those that it reads: the order in which a depth-first visit ends them, over
-/// the nodes in their order. None where some node leads to itself.
+/// A topological order of all nodes, each after those that it reads: as a depth-first search over
+/// the nodes in their order ends them. None where some node is on a cycle.
 #[tactic(auto, using(crate::proofs::Visits::orders))]
 pub fn visit_all(alloc: Global, graph: &[Reads]) -> Result<Option<Vec<u32>>, AllocError>
     requires { length graph.now < 2 ^ 32 }

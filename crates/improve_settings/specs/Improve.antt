@@ -1,4 +1,4 @@
--- What the improver of netlists is asked with.
+-- Settings of the improver of netlists.
 use Rattle.std.specs.Prelude.{ℕ, ◌≤◌, ◌<◌, false}
 use Rattle.op_basis.specs.Text.{all_set}
 use Rattle.settings.specs.declared.methods.Method.TheVariants.{Ssv}
@@ -11,7 +11,7 @@ most_gates_of_window = 8
 abbrev pub most_rounds : ℕ
 most_rounds = 100000
 
--- the basis isn't empty, and the numbers are in their ranges
+-- `s.basis` isn't empty, and the numbers are in their ranges
 pub record IsInRange (s : ImproveSettings) : Type 0 where
   pub basis_from : 0 < s.basis
   pub cap_to : s.cap ≤ most_gates_of_window
@@ -20,6 +20,6 @@ pub record IsInRange (s : ImproveSettings) : Type 0 where
   pub conflicts_from : 1 ≤ s.conflicts
   pub conflicts_to : s.conflicts ≤ most_conflicts
 
--- what holds where nothing is named
+-- the defaults
 abbrev pub usual : ImproveSettings
 usual = record { basis = all_set; method = Ssv; cap = 5; rounds = 1000; conflicts = 100000; observe = false }

@@ -1,36 +1,39 @@
-//! What the improver of netlists is asked with.
+//! Settings of the improver of netlists.
 ghost use Rattle.std.specs.Prelude.{◌≡◌};
 ghost use Rattle.improve_settings.specs.Improve.{usual, IsInRange};
 
 use op_basis::Basis;
 use settings::Method;
 
-/// The most gates that a window has.
+/// The greatest `cap`.
 pub const MOST_GATES_OF_WINDOW: u32 = 8;
 
-/// The most rounds.
+/// The greatest `rounds`.
 pub const MOST_ROUNDS: u32 = 100_000;
 
-/// What the improver is asked with, beside the netlist.
+/// Settings of the improver, beside the netlist.
 #[derive(Clone, Copy, PartialEq, Eq)]
 pub struct ImproveSettings {
     /// The operators that new gates may have; one at least.
     pub basis: Basis,
-    /// How a size of a chain becomes a formula.
+    /// The encoding: how "is there a chain of this size?" becomes a formula.
     pub method: Method,
-    /// How many gates a window has at most, from 0 to 8; by 0 there is none, and dead gates alone go.
+    /// The most gates of a window, from 0 to 8; with 0 nothing is resynthesised, and dangling gates
+    /// alone go.
     pub cap: u32,
-    /// How many rounds may change something, from 1 to 100,000.
+    /// The most passes that may change something, from 1 to 100,000.
     pub rounds: u32,
-    /// How many clauses at least are learnt before a formula is left open, from 1 to 10,000,000.
+    /// The conflict limit: a formula is left open after at least `conflicts` learnt clauses, from 1
+    /// to 10,000,000.
     pub conflicts: u32,
-    /// Whether a window may do anything on the rows that nobody sees.
+    /// Whether observability don't-cares (ODC) are used: rows on which no output shows what a
+    /// window gives.
     pub observe: bool,
 }
 
 impl ImproveSettings {
-    /// What holds where nothing is named: all operators, the method `ssv`, windows of at most 5 gates,
-    /// 1,000 rounds, a budget of 100,000, and all rows are seen.
+    /// The defaults: all operators, the method `ssv`, windows of at most 5 gates, 1,000 passes, a
+    /// limit of 100,000 conflicts, and no observability don't-cares.
     pub fn usual() -> ImproveSettings
         ensures value { result ≡ usual }
         ensures range { IsInRange result }

@@ -1,9 +1,10 @@
-//! What the improver of netlists is asked with, as data with ranges and defaults, for whoever reads it from words or
-//! improves by it. It stands on `op_basis` for bases and on `settings` for the methods and the greatest budget. It is a
-//! crate of its own, since what a certificate says goes by `settings` alone: an option of the improver doesn't touch it.
+//! Settings of the improver of netlists, as data with ranges and defaults, for whoever parses them
+//! or improves by them. The crate stands on `op_basis` for bases and on `settings` for the
+//! encodings and the greatest conflict limit. It is apart from `settings`, since certificates
+//! depend on that crate alone: an option of the improver doesn't touch them.
 //!
-//! `specs/Improve.antt` says which settings are in their ranges (`IsInRange`), and which hold where nothing is named
-//! (`usual`).
+//! `specs/Improve.antt` says which settings are in their ranges (`IsInRange`), and which are the
+//! defaults (`usual`).
 //!
 //! ```text
 //! let settings = ImproveSettings { observe: true, ..ImproveSettings::usual() };

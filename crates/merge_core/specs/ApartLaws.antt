@@ -1,4 +1,4 @@
--- Forms are looked up, so that no two gates that are put behind each other have one form.
+-- Forms are looked up, so that no two gates of the result have one form.
 use Rattle.std.specs.Prelude.{◌≡◌, ℕ, zero, suc, ◌&&◌, not, Bool, true, false, List, [], ◌∷◌, ◌++◌, map, slice_get, Some, nat_eq, refl, if◌then◌else◌, ◌⊎◌}
 use Rattle.std.specs.List.{list_any}
 use Rattle.std.proofs.Common.{sym, ◌∙◌, ap, subst, inl, inr, ⊎_elim, eqb-true, eq-eqb}
@@ -40,7 +40,7 @@ found (x ∷ forms) f zero at =
     or_left (form_eq f x) (list_any (form_eq f) forms) (subst (λ (y : Form). form_eq f y ≡ true) (sym same) (form_itself f))
 found (x ∷ forms) f (suc i) at = or_right (form_eq f x) (list_any (form_eq f) forms) (found forms f i at)
 
--- ---- gates put behind each other
+-- ---- gates that are appended
 
 nothing_there : {G : Type 0} (i : ℕ) (g : Gate) → slice_get [] i ≡ Some g → G
 nothing_there i g at = absurd cc
@@ -52,7 +52,7 @@ forms_none forms gates no_forms none = record {
   apart = record { apart = λ i j g h at. nothing_there i g (ap (λ (gs : List Gate). slice_get gs i) (sym none) ∙ at) };
 }
 
--- a gate of a new form behind them
+-- a gate of a new form is appended
 apart_push : (gates : List Gate) (g : Gate) → AreApart gates → list_any (form_eq (form_of g)) (map form_of gates) ≡ false → AreApart (gates ++ g ∷ [])
 apart_push gates g are none =
     let new : (i : ℕ) (h : Gate) → slice_get gates i ≡ Some h → form_of h ≡ form_of g → ⊥ = λ i h at same.

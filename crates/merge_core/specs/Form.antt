@@ -1,4 +1,4 @@
--- The form of a gate.
+-- The form of a gate: its key for structural hashing.
 use Rattle.std.specs.Prelude.{ℕ, ◌+◌, nat_le, if◌then◌else◌}
 use Rattle.op_basis.specs.Closed.{swapped}
 use Rattle.net_theory.specs.declared.data.Sig.{Sig}
@@ -12,9 +12,10 @@ code Zero = 0
 code One = 1
 code (Place p) = 2 + p
 
--- The operator and the operands as numbers. Where the second is the lesser one they are exchanged, and the operator with
--- them.
--- Example: AND of the places 3 and 2 and AND of 2 and 3 have the form 1, 4, 5; 3 and not 2 and not 2 and 3 have the form 4, 4, 5.
+-- The operator and the operands as numbers, in ascending order: where the operands are exchanged,
+-- the operator's middle two values are too.
+-- Example: AND of the places 3 and 2 and AND of 2 and 3 have the form 1, 4, 5; 3 and not 2 and not
+-- 2 and 3 have the form 4, 4, 5.
 unfoldable pub form_of : Gate → Form
 form_of g =
     if nat_le (code g.a) (code g.b)

@@ -1,4 +1,4 @@
--- Nets in which gates that are alike are one.
+-- Nets without structurally equal gates.
 use Rattle.std.specs.Prelude.{◌≡◌, ℕ, ◌+◌, ◌≤◌, ◌<◌, List, [], ◌∷◌, ◌++◌, length, map, slice_get, Some, ◌⊎◌}
 use Rattle.net_theory.specs.declared.data.Sig.TheVariants.{Place}
 use Rattle.net_theory.specs.declared.data.Gate.{Gate}
@@ -25,41 +25,42 @@ pub record HaveOperatorsOf (n : Net) (gates : List Gate) : Type 0 where
 
 -- ---- the walk
 
--- The gates are those before, or the gate is put behind them; at the index stands one of its form.
+-- `after` is `before`, or has the gate appended; at `index` is a gate of the same form.
 pub record IsPut (gate : Gate) (before after : List Gate) (index : ℕ) : Type 0 where
   pub grown : (after ≡ before) ⊎ (after ≡ before ++ gate ∷ [])
   pub there : Gate
   pub at : slice_get after index ≡ Some there
   pub same : form_of there ≡ form_of gate
 
--- The gate of a place is passed: its place goes to that of a gate of the form that it has where its operands went.
+-- One step: the gate at `place` with its operands mapped; the place is mapped to a gate of that
+-- form.
 pub record IsPassed (sources place : ℕ) (g : Gate) (k m : Kept) : Type 0 where
   pub index : ℕ
   pub put : IsPut (moved_gate k.places g) k.gates m.gates index
   pub places : m.places ≡ put_sig k.places place (Place (sources + 1 + index))
 
--- a place below this one
+-- the places before `place`
 abbrev pub IsPlaceBelow : ℕ → ℕ → Type 0
 IsPlaceBelow place p = (1 ≤ p) × (p < place)
 
--- All places below this one went to signals that have their values, and the sources to themselves; each gate that was put
--- there has the operator of a gate of the net.
+-- All places below `place` have new signals with their values, and the sources stay; each gate so
+-- far has the operator of a gate of the net.
 pub record IsMerged (n : Net) (place : ℕ) (k : Kept) : Type 0 where
   pub moves : Moves n.sources (value n) (IsPlaceBelow place) k
   pub stay : (p : ℕ) → p ≤ n.sources → k.places p ≡ Place p
   pub few : n.sources + 1 + length k.gates ≤ place
   pub old : HaveOperatorsOf n k.gates
 
--- the net of the gates that were put there, and the sinks where they went
+-- the net of the gates so far, with the sinks mapped
 abbrev pub net_with : Net → Kept → Net
 net_with n k = record { sources = n.sources; gates = k.gates; sinks = map (moved k.places) n.sinks }
 
--- the forms that the gates have, each once
+-- the forms of the gates, each once
 pub record AreForms (forms : List Form) (gates : List Gate) : Type 0 where
   pub forms_are : forms ≡ map form_of gates
   pub apart : AreApart gates
 
--- the gates of the net from this place on
+-- the gates of the net from `place` on
 pub record AreLeft (n : Net) (place : ℕ) (left : List Gate) : Type 0 where
   pub all : place + length left ≡ end_of n
   pub behind : n.sources + 1 ≤ place

@@ -25,7 +25,7 @@ put_other places place s p other = cond-false (p == place) s (places p) (ne_eqb 
 
 -- ---- one gate
 
--- what an operand of a gate reads stands below it
+-- an operand of a gate is a place below it
 operands_known : (place : ℕ) (s : Sig) → IsSigBelow place s → (p : ℕ) → s ≡ Place p → IsPlaceBelow place p
 operands_known place s below p e = subst (IsSigBelow place) e below
 
@@ -43,13 +43,13 @@ grown_by n place k m g index is stands put =
     (λ more. subst (IsGrown n.sources k.gates) (sym more) (grown_push n.sources k.gates (moved_gate k.places g) is.moves.gates (moved_stands n place k g is stands)))
     put.grown
 
--- the operands have the values that they had
+-- the mapped operands have the old values
 operand_value : (n : Net) (place : ℕ) (k m : Kept) (s : Sig) (given : ℕ → Bool) → IsMerged n place k → IsGrown n.sources k.gates m.gates → IsSigBelow place s → sig_value (values_of given n.sources m.gates) (moved k.places s) ≡ sig_value (value n given) s
 operand_value n place k m s given is grown below =
     grown_sig n.sources k.gates m.gates (moved k.places s) given grown (moved_below n.sources (value n) (IsPlaceBelow place) k s is.moves (operands_known place s below))
     ∙ moved_value n.sources (value n) (IsPlaceBelow place) k s given is.moves (operands_known place s below)
 
--- and the place where the gate's went has its value
+-- and the new signal of the gate's place has its value
 place_value : (n : Net) (i : ℕ) (k m : Kept) (g : Gate) (index : ℕ) (given : ℕ → Bool) → IsNet n → slice_get n.gates i ≡ Some g → IsMerged n (n.sources + 1 + i) k → IsGrown n.sources k.gates m.gates → IsPut (moved_gate k.places g) k.gates m.gates index → values_of given n.sources m.gates (n.sources + 1 + index) ≡ value n given (n.sources + 1 + i)
 place_value n i k m g index given net at is grown put =
     let stands : IsGateAt (n.sources + 1 + i) g = net.gates.each i g at in
@@ -153,7 +153,7 @@ still_moved n k Zero is still = refl
 still_moved n k One is still = refl
 still_moved n k (Place p) is still = is.stay p still
 
--- What is left answers what the net answers.
+-- The merged net answers what the net answers.
 pub merged_answers : (n : Net) (k : Kept) → IsNet n → IsMerged n (end_of n) k → Answers n (net_with n k)
 merged_answers n k net is =
     record {
@@ -167,7 +167,7 @@ merged_answers n k net is =
       equal = λ i j d low_i low_j same. index_map (moved k.places) n.sinks i d low_i ∙ ap (moved k.places) same ∙ sym (index_map (moved k.places) n.sinks j d low_j);
     }
 
--- what is put together
+-- the net that is put together
 abbrev net_put : ℕ → List Gate → List Sig → Net
 net_put s gs ss = record { sources = s; gates = gs; sinks = ss }
 
@@ -176,7 +176,7 @@ merged_whole n sources places gates sinks net is same_sources same_sinks =
     let same : record { sources = sources; gates = gates; sinks = sinks } ≡ net_with n (kept places gates) = ap (λ (s : ℕ). net_put s gates sinks) same_sources ∙ ap (λ (ss : List Sig). net_put n.sources gates ss) same_sinks in
     subst (Answers n) (sym same) (merged_answers n (kept places gates) net is)
 
--- ---- the gates that are left
+-- ---- the gates that are left to merge
 
 pub left_start : (n : Net) (place : ℕ) (left : List Gate) → place ≡ n.sources + 1 → left ≡ n.gates → AreLeft n place left
 left_start n place left first same = record {
@@ -212,7 +212,7 @@ merged_next n place left rest g k m net split are is passed =
     (subst (λ (q : ℕ). IsMerged n q k) (sym here) is)
     (subst (λ (q : ℕ). IsPassed n.sources q g k m) (sym here) passed))
 
--- ---- places in a table
+-- ---- the map as a list
 
 pub places_put : (places : List Sig) (place : ℕ) (s : Sig) → place < length places → places_of (slice_set places place s) ≡ put_sig (places_of places) place s
 unfolding places_of

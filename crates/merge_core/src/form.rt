@@ -1,12 +1,13 @@
-//! The form of a gate: two gates of one form have the same value, whatever the values of the places.
+//! The form of a gate, its key for structural hashing: two gates of one form have the same value,
+//! whatever the values of the places.
 ghost use Rattle.std.specs.Prelude.{◌≡◌};
 ghost use Rattle.merge_core.specs.Form.{code, form_of as form};
 
 use net_core::{Gate, Sig};
 use op_basis::swapped;
 
-/// What a gate computes of which operands, in whatever order it has them: the word of its operator, and its operands as
-/// numbers, the lesser first.
+/// A key of a gate that doesn't depend on the order of its operands: its operator's truth table,
+/// and its operands as numbers, the lesser first.
 #[derive(Clone, Copy, PartialEq, Eq, Hash)]
 pub struct Form {
     pub word: u8,

@@ -1,12 +1,12 @@
-//! Gates that are alike become one: those of one operator on the same operands, also where the operands stand in the
-//! other order and the operator goes with them.
+//! Structural hashing (strash): gates with one operator on the same operands become one, up to the
+//! order of the operands.
 //!
-//! It stands on `net_core` for nets. The gates are gone through once, in their order. A gate is looked at with its operands
-//! where they went, so that gates are found alike that read gates which were. Its form is looked up: where no gate before has
-//! it, the gate is kept, and else all who read it read the one that has it.
+//! It stands on `net_core` for nets. One pass over the gates in topological order maps the operands
+//! of each to their new signals, and looks up the form of the result: where no gate before has that
+//! form, the gate is kept, and else its place is mapped to the gate that has.
 //!
-//! The one theorem is that of `merge_alike`: what is left answers what the net answers, each of its gates has the operator of
-//! a gate of the net, and no two of its gates have one form.
+//! The one theorem is that of `merge_alike`: the merged net answers what the net answers, each of
+//! its gates has the operator of a gate of the net, and no two of its gates have one form.
 //!
 //! ```text
 //! let merged = merge_alike(alloc, &net)?; // of AND of 1 and 2 and AND of 2 and 1, the first is left

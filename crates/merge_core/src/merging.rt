@@ -1,5 +1,6 @@
-//! The walk over the gates. A table says where each place went; the forms of the gates that are kept stand in a set in
-//! the order of these gates, so that the index of a form is that of its gate.
+//! The pass over the gates. `places` maps each old place to its new signal; the forms of the gates
+//! that are kept are a set in the order of these gates, so that the index of a form is that of its
+//! gate.
 ghost use Rattle.std.specs.Prelude.{◌≡◌, ◌+◌, ◌≤◌, ◌<◌, ◌^◌, length, IfOk, OnOk, vec_len};
 ghost use Rattle.net_theory.specs.Net.{IsGateAt, end_of};
 ghost use Rattle.net_theory.specs.Answers.{Answers};
@@ -12,7 +13,7 @@ use indexmap::IndexSet;
 use net_core::{Gate, Net, Sig, moved, moved_sinks, start_places};
 use std::alloc::{AllocError, Global};
 
-/// The index of the gate that has a gate's form. Where there is none the gate is put behind the others.
+/// The index of the gate with the form of `gate`. Where there is none, `gate` is appended.
 fn index_of(
     gate: &Gate,
     forms: &mut IndexSet<Form>,
@@ -31,8 +32,8 @@ fn index_of(
     Ok(index as u32)
 }
 
-/// Passes the gate of a place: it is put behind the others with its operands where they went, or its place goes to the gate
-/// that has its form.
+/// Merges the gate at `place`: with its operands mapped it is appended, or the place is mapped to
+/// the gate that has its form.
 fn merge_gate(
     sources: u32,
     place: usize,
@@ -59,7 +60,7 @@ fn merge_gate(
     Ok(())
 }
 
-/// Merges the gates of a net, from the first to the last, and says where their places went.
+/// Merges the gates of a net in order, and maps their places.
 fn merge_gates(alloc: Global, net: &Net, places: &mut [Sig]) -> Result<Vec<Gate>, AllocError>
     requires start { places_of places.old ≡ sources_stay net.now.sources }
     requires count { length places.old ≡ end_of net.now }
@@ -79,7 +80,7 @@ fn merge_gates(alloc: Global, net: &Net, places: &mut [Sig]) -> Result<Vec<Gate>
     Ok(gates)
 }
 
-/// The net of the gates that are left, with its sinks where they went.
+/// The net of the gates that are kept, with its sinks mapped.
 fn merge_in(alloc: Global, net: &Net, places: &mut [Sig]) -> Result<Net, AllocError>
     requires start { places_of places.old ≡ sources_stay net.now.sources }
     requires count { length places.old ≡ end_of net.now }
@@ -92,8 +93,8 @@ fn merge_in(alloc: Global, net: &Net, places: &mut [Sig]) -> Result<Net, AllocEr
     Ok(Net::new(net.sources(), gates, sinks))
 }
 
-/// The net in which gates that are alike are one: of those of one form the first is left, and all who read one of them
-/// read that one.
+/// The net after structural hashing: of gates of one form the first is kept, and the fanouts of the
+/// others read it instead.
 ///
 /// It answers what the net answers, with no more gates, each of which has the operator of a gate of the net.
 pub fn merge_alike(alloc: Global, net: &Net) -> Result<Net, AllocError>

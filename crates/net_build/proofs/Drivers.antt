@@ -6,7 +6,7 @@ use Rattle.net_theory.specs.Document.{Name, Table}
 use Rattle.net_theory.specs.NetOf.{driver_from, driver_of, graph_of}
 use Rattle.net_build.specs.Parts.{graph_by, with_driver}
 
--- a list cut behind a part of it
+-- a list without its prefix
 drop_front : {A : Type 0} (xs ys : List A) → drop (length xs) (xs ++ ys) ≡ ys
 drop_front [] ys = refl
 drop_front (x ∷ xs) ys = drop_front xs ys

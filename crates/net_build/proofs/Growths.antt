@@ -1,4 +1,4 @@
--- Gates that are put behind a net, table after table.
+-- Gates that are appended to a net, table after table.
 use Rattle.std.proofs.Common.{◌≡◌, ℕ, suc, ◌+◌, ◌≤◌, ◌<◌, ◌^◌, List, [], ◌∷◌, ◌++◌, length, map, Option, Some, None, refl, ap, ◌∙◌, sym, subst, arith, length-append}
 use Rattle.std.specs.Prelude.{All, slice_get, unwrap_or, sum_by}
 use Rattle.std.proofs.lemmas.Grind.{common_steps}

@@ -1,4 +1,4 @@
--- Tables whose inputs are one name, and costs.
+-- Tables whose two inputs have one name, and costs.
 use Rattle.std.proofs.Common.{◌≡◌, ◌≢◌, Bool, true, false, ◌≤◌, List, [], ◌∷◌, length, Option, refl, sym, subst, arith}
 use Rattle.std.proofs.lemmas.Grind.{common_steps}
 use Rattle.std.proofs.lemmas.Bool.{cond_both}
@@ -12,7 +12,7 @@ use Rattle.net_core.specs.declared.whole.Body.TheVariants.{Cubes, Joined}
 use Rattle.net_core.specs.Wholes.{cover_of, IsBody, JoinsSome}
 use Rattle.net_build.specs.Parts.{merged_by}
 
--- a body is whole where it joins something and its cover is one
+-- a body is valid where it joins at least one input and its cover is valid
 pub body_good : (b : Body) → JoinsSome b → IsCover (cover_of b) → IsBody b
 body_good (Cubes c) some is = is
 body_good (Joined w) some is = some

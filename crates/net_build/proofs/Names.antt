@@ -1,4 +1,4 @@
--- Maps of names, seen as functions.
+-- Maps of names as functions.
 use Rattle.std.proofs.Common.{◌≡◌, ℕ, Option, Some}
 use Rattle.std.specs.Prelude.{if◌then◌else◌}
 use Rattle.std.proofs.lemmas.Grind.{common_steps}
@@ -7,7 +7,7 @@ use Rattle.net_theory.specs.Document.{Name, is_same}
 use Rattle.net_theory.specs.NetOf.{Signals, with_signal}
 use Rattle.net_build.specs.Parts.{with_driver}
 
--- functions that agree at each name are one
+-- functions that agree at each name are equal
 pub by_names : {A : Type 0} (f g : Name → A) → ((n : Name) → f n ≡ g n) → f ≡ g
 by_names f g same = λ i n. same n i
 

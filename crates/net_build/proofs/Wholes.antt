@@ -1,4 +1,4 @@
--- The circuit of a listed document, and tables that depend on themselves.
+-- The circuit of a listed document, and combinational loops.
 use Rattle.std.proofs.Common.{◌≡◌, ℕ, ◌+◌, ◌<◌, ◌^◌, true, List, length, map, Some, None, refl, sym, subst}
 use Rattle.std.specs.Prelude.{slice_get}
 use Rattle.std.proofs.lemmas.Grind.{common_steps}

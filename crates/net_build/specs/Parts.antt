@@ -1,4 +1,4 @@
--- What the parts of the program answer on the way to a circuit.
+-- What the parts of the elaboration answer.
 use Rattle.std.specs.Prelude.{◌≡◌, ℕ, ◌+◌, ◌<◌, ◌^◌, if◌then◌else◌, List, [], ◌∷◌, length, Option, Some, None, take}
 use Rattle.std.specs.List.{filter_map}
 use Rattle.net_theory.specs.declared.data.Sig.{Sig}
@@ -15,7 +15,7 @@ use Rattle.net_core.specs.declared.error.NetError.TheVariants.{Memory, Cycle}
 use Rattle.graph_core.specs.Visit.{Graph}
 use Rattle.graph_core.specs.VisitLaws.{IsRun}
 
--- a table with another cover of its first input alone, where there is one
+-- a table over its first input alone with another cover, where there is one
 abbrev pub merged_by : Table → Option Cover → Table
 merged_by t None = t
 merged_by t (Some c) = record { inputs = take 1 t.inputs; output = t.output; cover = c }
@@ -23,7 +23,7 @@ merged_by t (Some c) = record { inputs = take 1 t.inputs; output = t.output; cov
 abbrev pub growth : List Gate → Signals → Growth
 growth gates signals = record { gates = gates; signals = signals }
 
--- for each table those that drive its inputs, by who drives a name
+-- for each table its fanins, where a function has the table that drives a name
 unfoldable pub graph_by : (Name → Option ℕ) → List Table → Graph
 graph_by driver [] = []
 graph_by driver (t ∷ ts) = filter_map driver t.inputs ∷ graph_by driver ts
@@ -32,7 +32,7 @@ graph_by driver (t ∷ ts) = filter_map driver t.inputs ∷ graph_by driver ts
 pub record AreBelow (n : Net) (signals : Signals) : Type 0 where
   pub each : (name : Name) (s : Sig) → signals name ≡ Some s → IsSigBelow (end_of n) s
 
--- a cover over these inputs can be put behind a net
+-- a cover over `inputs` can be appended to a net
 pub record Fits (n : Net) (c : Cover) (inputs : List Name) : Type 0 where
   pub cover : IsCover c
   pub width : c.width ≡ length inputs
@@ -41,7 +41,8 @@ pub record Fits (n : Net) (c : Cover) (inputs : List Name) : Type 0 where
 abbrev pub FitsTable : Net → Table → Type 0
 FitsTable n t = Fits n (merged_table t).cover (merged_table t).inputs
 
--- The gates so far are those of the tables that are done, and the others may come in their order.
+-- The gates so far are those of the tables that are done, and the tables `left` may come next, in
+-- that order.
 pub record IsBegun (d : Document) (n : Net) (signals : Signals) (left : List ℕ) : Type 0 where
   pub sources : n.sources ≡ source_count d
   pub sinks : n.sinks ≡ []
@@ -49,11 +50,11 @@ pub record IsBegun (d : Document) (n : Net) (signals : Signals) (left : List ℕ
   pub grown : IsGrowth d (growth n.gates signals) done
   pub run : IsRun (graph_of d.tables) (length (graph_of d.tables)) done left
 
--- who drives names, where one more table does
+-- the drivers, with one more for a name
 abbrev pub with_driver : (Name → Option ℕ) → Name → ℕ → Name → Option ℕ
 with_driver driver name table n = if is_same name n then Some table else driver n
 
--- why a document without other faults has no net
+-- the error of a document with a combinational loop and no other fault
 abbrev pub IsCyclicError : Document → NetError → Type 0
 IsCyclicError d Memory = Unit {0}
 IsCyclicError d (Cycle name) = IsFirstCyclic d name

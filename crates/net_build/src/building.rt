@@ -1,4 +1,4 @@
-//! The gates of tables, put behind one another.
+//! Appending the gates of tables to a net.
 
 ghost use Rattle.std.specs.Prelude.{◌≡◌, ◌+◌, ◌<◌, ◌^◌, [], length, slice_get, None, OnOk, IfOk};
 ghost use Rattle.indexmap.specs.IndexMap.{get};
@@ -17,7 +17,7 @@ use net_core::{Body, Name, Net, Sig, expand_body};
 use net_document::{Document, Table};
 use std::alloc::{AllocError, Global};
 
-/// Puts the gates of a body over these names behind a net, and gives the output their signal.
+/// Appends the gates of a body over the inputs `names` to a net, and gives `output` their signal.
 #[tactic(auto, using(crate::proofs::Growths::covers))]
 fn add_body(
     alloc: Global,
@@ -40,7 +40,7 @@ fn add_body(
     set_signal(signals, output, sig)
 }
 
-/// Puts the gates of a table behind a net.
+/// Appends the gates of a table to a net.
 #[tactic(auto, using(crate::proofs::Growths::tables, crate::proofs::Merged::body_good), unfolding(net_theory::specs::NetOf::with_table))]
 fn add_table(
     alloc: Global,
@@ -72,7 +72,7 @@ fn add_table(
     }
 }
 
-/// A table of a document, numbered from 0.
+/// The table of a document with the index `table`.
 pub fn table_at(document: &Document, table: u32) -> &Table
     requires { table < length document.now.tables }
     ensures { slice_get document.now.tables table ≡ Some result.now }
@@ -80,7 +80,7 @@ pub fn table_at(document: &Document, table: u32) -> &Table
     &document.tables[table as usize]
 }
 
-/// Puts the gates of tables behind a net, in an order.
+/// Appends the gates of all tables to a net, in the given order.
 #[tactic(auto, using(crate::proofs::Growths::runs), unfolding(net_theory::specs::NetOf::with_tables))]
 fn add_tables(
     alloc: Global,
@@ -114,7 +114,8 @@ fn place_sources(signals: &mut IndexMap<Name, Sig>, document: &Document) -> Resu
     place_latches(signals, next, &document.latches)
 }
 
-/// The net of a document whose tables are ordered, over the signals of its sources.
+/// The net of a document whose tables have the topological order `order`; `signals` has its
+/// sources.
 #[tactic(auto, using(crate::proofs::Growths::nets), unfolding(net_theory::specs::NetOf::net_in_order))]
 fn net_over(
     alloc: Global,
@@ -135,7 +136,7 @@ fn net_over(
     Ok(net.with_sinks(sinks))
 }
 
-/// The net of a document whose tables are ordered.
+/// The net of a document whose tables have the topological order `order`.
 pub fn grow(alloc: Global, document: &Document, order: &[u32]) -> Result<Net, AllocError>
     requires well { IsWellFormed document.now }
     requires small { source_count document.now + 100000 < 2 ^ 31 }

@@ -1,4 +1,4 @@
-//! What is refused once a document was read whole.
+//! What is refused once a document was read to its end.
 
 ghost use Rattle.std.specs.Prelude.{◌≡◌, ◌<◌, ◌≤◌, ◌^◌, [], ◌++◌, None, IfOk, IfErr, IfNone};
 ghost use Rattle.net_theory.specs.Cost.{cost};
@@ -11,7 +11,7 @@ use net_core::{Name, NetError};
 use net_document::Listed;
 use std::alloc::{AllocError, Global};
 
-/// Adds the names of drivers to a set, up to the first one that it has already, which is told.
+/// Adds the names of drivers to `set`, up to the first that is there already, which is answered.
 #[tactic(auto, unfolding(net_document::specs::Refusals::repeated, net_theory::specs::Document::has))]
 fn add_drivers(set: &mut IndexSet<Name>, names: &[Name]) -> Result<Option<Name>, AllocError>
     ensures first { IfOk result (λ name. name ≡ repeated set.old.keys names.now) }
@@ -43,7 +43,7 @@ fn first_missing(driven: &IndexSet<Name>, names: &[Name]) -> Result<Option<Name>
     Ok(None)
 }
 
-/// The first name that is used and not driven: of tables and latches, and then of outputs.
+/// The first name that is used and not driven: by tables and latches, and then by outputs.
 #[tactic(auto, using(crate::proofs::Faults::missings))]
 fn first_undriven(
     driven: &IndexSet<Name>,
@@ -73,8 +73,8 @@ fn check_used(driven: &IndexSet<Name>, listed: &Listed) -> Result<(), NetError>
     }
 }
 
-/// Refuses a name that is driven twice, or else one that is used and not driven, where nothing else is at
-/// fault. The set is empty at first, and then holds the names of drivers.
+/// Refuses a name that is driven twice, or else one that is used and not driven, where there is no
+/// other fault. `driven` is empty at first, and then holds the names of drivers.
 #[tactic(auto, unfolding(net_document::specs::Refusals::fault_of))]
 fn check_names(driven: &mut IndexSet<Name>, listed: &Listed) -> Result<(), NetError>
     requires few { cost listed.now.document ≤ 100000 }
@@ -88,7 +88,7 @@ fn check_names(driven: &mut IndexSet<Name>, listed: &Listed) -> Result<(), NetEr
     }
 }
 
-/// Refuses what is at fault, but for tables that depend on themselves.
+/// Refuses any fault but a combinational loop.
 #[tactic(auto, unfolding(net_document::specs::Refusals::fault_of, net_theory::specs::Cost::cost))]
 pub fn check(alloc: Global, listed: &Listed) -> Result<(), NetError>
     requires listed { IsListed listed.now }

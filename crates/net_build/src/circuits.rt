@@ -21,7 +21,7 @@ use net_core::{Circuit, Latch, Name, Net, NetError};
 use net_document::{Document, LatchLine, Listed};
 use std::alloc::{AllocError, Global};
 
-/// The output of the first table that depends on itself, where no order is.
+/// The output of the first table on a combinational loop, where there is no topological order.
 fn cyclic_name(alloc: Global, document: &Document, graph: &[Reads]) -> Result<Name, AllocError>
     requires few { length document.now.tables < 2 ^ 31 }
     requires distinct { are_distinct (map table_output document.now.tables) ≡ true }
@@ -37,7 +37,7 @@ fn cyclic_name(alloc: Global, document: &Document, graph: &[Reads]) -> Result<Na
     Ok(name)
 }
 
-/// The latches without the names of their inputs.
+/// The latches without their inputs.
 fn latches_of(alloc: Global, lines: Vec<LatchLine>) -> Result<Vec<Latch>, AllocError>
     ensures { IfOk result (λ latches. latches.items ≡ map latch_of lines.items) }
 {
@@ -49,7 +49,7 @@ fn latches_of(alloc: Global, lines: Vec<LatchLine>) -> Result<Vec<Latch>, AllocE
     Ok(latches)
 }
 
-/// The circuit with a document's names and a net.
+/// The circuit with the names of a document and a net.
 fn with_net(alloc: Global, document: Document, net: Net) -> Result<Circuit, AllocError>
     ensures { IfOk result (λ c. c ≡ circuit_with document net) }
 {
@@ -71,7 +71,7 @@ fn with_net(alloc: Global, document: Document, net: Net) -> Result<Circuit, Allo
     })
 }
 
-/// For each table of a document those that drive its inputs.
+/// For each table of a document its fanins: the tables that drive its inputs.
 #[tactic(auto, using(crate::proofs::Wholes::circuits))]
 fn document_graph(alloc: Global, document: &Document) -> Result<Vec<Reads>, AllocError>
     requires { length document.now.tables < 2 ^ 31 }
@@ -81,7 +81,7 @@ fn document_graph(alloc: Global, document: &Document) -> Result<Vec<Reads>, Allo
     graph_of(alloc, &document.tables)
 }
 
-/// The net of a document whose tables have an order, or the first table that depends on itself.
+/// The net of a document, or the first table on a combinational loop.
 fn ordered_net(alloc: Global, document: &Document) -> Result<Net, NetError>
     requires small { source_count document.now + 100000 < 2 ^ 31 }
     requires few { length document.now.tables < 2 ^ 31 }
@@ -116,11 +116,10 @@ fn listed_net(alloc: Global, listed: &Listed) -> Result<Net, NetError>
     ordered_net(alloc, &listed.document)
 }
 
-/// The circuit of a document, or why the document isn't well formed: more than 100,000 gates, then a
-/// name that is driven twice, then one that is used and not driven, and then a table that depends on
-/// itself.
+/// The circuit of a document, or why it isn't well formed: more than 100,000 gates, then a name
+/// that is driven twice, then one that is used and not driven, and then a combinational loop.
 ///
-/// The lists of driven and used names tell which name is first.
+/// The lists of driven and used names say which name is first.
 pub fn circuit_of(alloc: Global, listed: Listed) -> Result<Circuit, NetError>
     requires listed { IsListed listed }
     requires free { AreFree listed.document }

@@ -1,9 +1,9 @@
-//! From a document to its circuit, for every format: what is refused once the document was read whole,
-//! the gates of its tables in the order in which a visit ends them, and the circuit with the document's
-//! names.
+//! Elaboration, from a parsed document of any format to its circuit: what is refused once the
+//! document was read to its end, the gates of its tables in topological order, and the circuit with
+//! the document's names.
 //!
-//! The one theorem: `circuit_of` answers a circuit exactly where nothing is at fault; then the document is
-//! well formed, and the circuit is the document's own: it does what the document does.
+//! The one theorem: `circuit_of` answers a circuit exactly where there is no fault; then the
+//! document is well formed, and the circuit computes what the document says.
 #![tactic(auto)]
 
 mod building;

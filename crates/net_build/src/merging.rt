@@ -9,7 +9,7 @@ use net_core::{Cover, Cube, Name, body_cost, body_value, cover_cost};
 use net_document::Table;
 use std::alloc::{AllocError, Global};
 
-/// Adds a cube of one byte, where it is wanted.
+/// Adds the cube with the one byte `byte`, where `is_wanted`.
 fn push_if(
     alloc: Global,
     cubes: &mut Vec<Cube>,
@@ -24,7 +24,7 @@ fn push_if(
     Ok(())
 }
 
-/// The cover of one input with these values at 0 and 1.
+/// The cover of one input with the values `at_zero` and `at_one`.
 fn unary_cover(alloc: Global, at_zero: bool, at_one: bool) -> Result<Cover, AllocError>
     ensures { IfOk result (λ cover. cover ≡ unary_cover_of at_zero at_one) }
 {
@@ -38,7 +38,7 @@ fn unary_cover(alloc: Global, at_zero: bool, at_one: bool) -> Result<Cover, Allo
     })
 }
 
-/// The cover by which a table is read whose two inputs have one name.
+/// The cover of one input that replaces that of a table whose two inputs have one name.
 #[tactic(auto, using(crate::proofs::Merged::merges, crate::proofs::Merged::body_good), unfolding(net_theory::specs::Cost::merged_table))]
 pub fn merged_cover(alloc: Global, table: &Table) -> Result<Option<Cover>, AllocError>
     requires { IsTable table.now }
@@ -55,7 +55,7 @@ pub fn merged_cover(alloc: Global, table: &Table) -> Result<Option<Cover>, Alloc
     Ok(Some(unary_cover(alloc, at_zero, at_one)?))
 }
 
-/// The first of a list of names, or none.
+/// The first name of a list, or none.
 pub fn first_alone(names: &[Name]) -> &[Name]
     ensures { result.now ≡ take 1 names.now }
 {

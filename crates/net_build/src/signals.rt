@@ -1,4 +1,4 @@
-//! Which table drives a name, and which signal a name has.
+//! The drivers and the signals of names.
 
 ghost use Rattle.std.specs.Prelude.{◌≡◌, ◌<◌, ◌^◌, ◌+◌, ◌++◌, map, length, None, OnOk, IfOk};
 ghost use Rattle.std.specs.List.{filter_map};
@@ -14,7 +14,7 @@ use net_core::{Name, Sig};
 use net_document::{Document, LatchLine, Table};
 use std::alloc::{AllocError, Global};
 
-/// Gives a name a table that drives it.
+/// Notes that `table` drives `name`.
 #[tactic(auto, using(crate::proofs::Names::updates))]
 fn set_driver(drivers: &mut IndexMap<Name, u32>, name: &Name, table: u32) -> Result<(), AllocError>
     ensures { OnOk result (get is_same drivers.new ≡ with_driver (get is_same drivers.old) name.now table) }
@@ -23,7 +23,7 @@ fn set_driver(drivers: &mut IndexMap<Name, u32>, name: &Name, table: u32) -> Res
     Ok(())
 }
 
-/// Gives names the tables that drive them, the first one where several do.
+/// Notes the drivers of names, the first one where several tables drive a name.
 #[tactic(auto, using(crate::proofs::Drivers::drivers))]
 fn set_drivers(drivers: &mut IndexMap<Name, u32>, tables: &[Table]) -> Result<(), AllocError>
     requires none { get is_same drivers.old ≡ (λ n. None) }
@@ -38,7 +38,7 @@ fn set_drivers(drivers: &mut IndexMap<Name, u32>, tables: &[Table]) -> Result<()
     Ok(())
 }
 
-/// The tables that drive these names, from the left.
+/// The tables that drive `names`, from the left.
 fn reads_of(
     alloc: Global,
     drivers: &IndexMap<Name, u32>,
@@ -57,7 +57,7 @@ fn reads_of(
     Ok(Reads::new(reads))
 }
 
-/// For each table those that drive its inputs.
+/// For each table its fanins, by `drivers`.
 #[tactic(auto, unfolding(crate::specs::Parts::graph_by))]
 fn graph_by(
     alloc: Global,
@@ -75,7 +75,7 @@ fn graph_by(
     Ok(graph)
 }
 
-/// For each table those that drive its inputs, from the left.
+/// For each table its fanins: the tables that drive its inputs, from the left.
 #[tactic(auto, using(crate::proofs::Drivers::graphs))]
 pub fn graph_of(alloc: Global, tables: &[Table]) -> Result<Vec<Reads>, AllocError>
     requires { length tables.now < 2 ^ 31 }
@@ -109,7 +109,7 @@ pub fn signal_of(signals: &IndexMap<Name, Sig>, name: &Name) -> Sig
     }
 }
 
-/// Adds the signals of names.
+/// Adds the signals of `names` to `found`.
 pub fn push_signals(
     signals: &IndexMap<Name, Sig>,
     names: &[Name],
@@ -125,7 +125,7 @@ pub fn push_signals(
     Ok(())
 }
 
-/// Adds the signals of the latches' inputs.
+/// Adds the signals of the latches' inputs to `found`.
 fn push_latch_signals(
     signals: &IndexMap<Name, Sig>,
     latches: &[LatchLine],
@@ -141,7 +141,7 @@ fn push_latch_signals(
     Ok(())
 }
 
-/// Gives names the places from one on.
+/// Gives `names` the places from `first` on.
 #[tactic(auto, unfolding(net_theory::specs::NetOf::with_sources))]
 pub fn place_names(
     signals: &mut IndexMap<Name, Sig>,
@@ -161,7 +161,7 @@ pub fn place_names(
     Ok(())
 }
 
-/// Gives the latches' outputs the places from one on.
+/// Gives the latches' outputs the places from `first` on.
 #[tactic(auto, unfolding(net_theory::specs::NetOf::with_sources))]
 pub fn place_latches(
     signals: &mut IndexMap<Name, Sig>,

@@ -1,4 +1,4 @@
--- Bits of places that are written one by one.
+-- Simulation writes the bits of places one by one.
 use Rattle.std.proofs.Common.{◌≡◌, ◌≢◌, ℕ, suc, ◌+◌, ◌-◌, ◌<◌, Bool, false, List, [], ◌∷◌, length, set, get_or, add-zero, refl, ◌∙◌, ap, sym, subst, arith, ⊎_elim, ◌==◌}
 use Rattle.std.specs.List.{slice_get}
 use Rattle.std.proofs.lemmas.Bool.{cases_eq, cond-false, ne_eqb}
@@ -26,16 +26,16 @@ bit_of-set_at bits place v p low =
 pub bit_of-set : (bits : List Bool) (place : ℕ) (v : Bool) → place < length bits → bit_of (set bits place v) ≡ extended (bit_of bits) (place + 1) v
 bit_of-set bits place v low = λ i p. bit_of-set_at bits place v p low i
 
--- the gate that stands first
+-- the first gate is valid at its place
 pub first_at : (place : ℕ) (gs rest : List Gate) (g : Gate) → gs ≡ g ∷ rest → AreAt place gs → IsGateAt place g
 first_at place gs rest g e are = subst (λ (q : ℕ). IsGateAt q g) (add-zero place) (are.each 0 g (ap (λ (xs : List Gate). slice_get xs 0) e))
 
--- and the others
+-- and so are the others
 pub rest_at : (place : ℕ) (gs rest : List Gate) (g : Gate) → gs ≡ g ∷ rest → AreAt place gs → AreAt (place + 1) rest
 rest_at place gs rest g e are =
     record { each = λ i h at. let shift : place + suc i ≡ (place + 1) + i = omega arith in subst (λ (q : ℕ). IsGateAt q h) shift (are.each (suc i) h (ap (λ (xs : List Gate). slice_get xs (suc i)) e ∙ at)) }
 
--- no gate sets no bit
+-- without gates no bit is set
 pub values_after-none : (bits : ℕ → Bool) (place : ℕ) (gs : List Gate) → length gs ≡ 0 → values_after bits place gs ≡ bits
 unfolding values_after
 values_after-none bits place [] e = refl

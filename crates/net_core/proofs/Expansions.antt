@@ -41,7 +41,7 @@ pub expanded_built : (n : Net) (c : Cover) (inputs : List Sig) (new : List Gate)
 expanded_built n c inputs new sig net is wide below e =
     subst (IsBuilt n.sources n.gates (cover_cost c inputs) (λ given. cover_value c (map (sig_value (values_of given n.sources n.gates)) inputs))) (sym e) (expanded_is n.sources n.gates c inputs net.gates (sigs_below (end_of n) inputs below) is wide)
 
--- and the net stays one
+-- and the net is valid still
 pub expanded_net : (n : Net) (c : Cover) (inputs : List Sig) (new : List Gate) (sig : Sig) → IsNet n → IsCover c → c.width ≡ length inputs → All (IsSigBelow (end_of n)) inputs → n.sources + length n.gates + cover_cost c inputs < 2 ^ 31 → built new sig ≡ expanded n.sources n.gates c inputs → IsNet (record { sources = n.sources; gates = new; sinks = n.sinks })
 expanded_net n c inputs new sig net is wide below room e =
     let b : IsBuilt n.sources n.gates (cover_cost c inputs) (λ given. cover_value c (map (sig_value (values_of given n.sources n.gates)) inputs)) (built new sig) = expanded_built n c inputs new sig net is wide below e in

@@ -1,4 +1,4 @@
--- First outputs, noted from the last to the first.
+-- The first output at each place, noted from the last output to the first.
 use Rattle.std.proofs.Common.{◌≡◌, ℕ, zero, suc, ◌+◌, ◌-◌, ◌≤◌, ◌<◌, ◌==◌, if◌then◌else◌, List, [], ◌∷◌, length, drop, set, get_or, replicate, Option, Some, None, refl, ap, ◌∙◌, sym, arith, ⊎_elim, length-set}
 use Rattle.std.specs.Prelude.{option_and_then}
 use Rattle.std.specs.List.{slice_get, slice_index_or}

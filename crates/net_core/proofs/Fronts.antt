@@ -1,4 +1,4 @@
--- Lists that have others in front.
+-- Lists with a common prefix.
 use Rattle.std.proofs.Common.{◌≡◌, ℕ, ◌≤◌, List, [], ◌∷◌, ◌++◌, length, take, ap, ◌∙◌, sym, arith, length-take, zero, suc}
 use Rattle.std.proofs.lemmas.Grind.{common_steps}
 use Rattle.net_theory.specs.declared.data.Gate.{Gate}

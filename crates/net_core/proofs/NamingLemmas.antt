@@ -22,12 +22,12 @@ free_suc : (taken : List Name) (from count : ℕ) → free_names taken from (suc
 unfolding free_names
 free_suc taken from count = refl
 
--- a name that is taken is passed over
+-- a name that is taken is skipped
 pub free_names-taken : (taken : List Name) (from end : ℕ) → from < end → has taken (numbered from) ≡ true → free_names taken (from + 1) (end - (from + 1)) ≡ free_names taken from (end - from)
 free_names-taken taken from end low e =
     sym (ap (free_names taken from) (shorter from end low) ∙ free_suc taken from (end - (from + 1)) ∙ cond-false (not (has taken (numbered from))) _ _ (not_from_true (has taken (numbered from)) e))
 
--- one that isn't comes first
+-- a free one comes first
 pub free_names-free : (taken : List Name) (from end : ℕ) → from < end → has taken (numbered from) ≡ false → free_names taken from (end - from) ≡ numbered from ∷ free_names taken (from + 1) (end - (from + 1))
 free_names-free taken from end low e =
     ap (free_names taken from) (shorter from end low) ∙ free_suc taken from (end - (from + 1)) ∙ cond-true (not (has taken (numbered from))) _ _ (not_from_false (has taken (numbered from)) e)

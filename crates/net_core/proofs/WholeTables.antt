@@ -18,7 +18,7 @@ use Rattle.net_core.proofs.Fronts.{front_itself, front_push, front_more}
 
 -- ---- parity
 
--- the parity where some bits were passed
+-- the parity of the bits from an index on, from that of those before
 abbrev pub odd_from : Bool → List Bool → Bool
 odd_from odd bits = if odd then not (is_odd bits) else is_odd bits
 

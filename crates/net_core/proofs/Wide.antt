@@ -1,4 +1,4 @@
--- Wide tables, cube by cube.
+-- Tables of more than two inputs, cube by cube.
 use Rattle.std.proofs.Common.{◌≡◌, ℕ, ◌+◌, ◌-◌, ◌<◌, List, [], ◌∷◌, length, set, get_or, ap, ◌∙◌, refl, arith, zero, suc, if◌then◌else◌, true, false, not, ◌&&◌}
 use Rattle.std.proofs.lemmas.Grind.{common_steps}
 use Rattle.std.proofs.lemmas.List.Sums.{sum_by-cons}
@@ -33,12 +33,12 @@ last_complemented-set (g ∷ h ∷ gs) (suc i) x e is = ap (λ (ys : List Gate).
 
 pub ruleset last_gate = (common_steps, last_complemented-none)
 
--- the cost of a table that isn't constant by its form
+-- the cost of a cover that its form doesn't show to be constant
 pub wide_cost-some : (c : Cover) → c.parity ≡ false → is_plain c.cubes ≡ false → wide_cost c ≡ (literal_sum c.cubes - 1) + (if is_not c.on c.cubes then 1 else 0)
 unfolding wide_cost cubes_cost
 wide_cost-some c cubed e = cond-false c.parity (c.width - 1) (cubes_cost c) cubed ∙ cond-false (is_plain c.cubes) 0 _ e
 
--- a table with cubes is built of them
+-- a table by cubes is built from them
 pub wide_built-plain : (sources : ℕ) (gates : List Gate) (c : Cover) (inputs : List Sig) → c.parity ≡ false → is_plain c.cubes ≡ true → wide_built sources gates c inputs ≡ record { gates = gates; sig = constant_sig (c.on && not (is_none c.cubes)) }
 unfolding wide_built cover_built
 wide_built-plain sources gates c inputs cubed e =

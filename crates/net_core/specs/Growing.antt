@@ -1,4 +1,4 @@
--- Gates that are put behind others.
+-- Gates that are appended.
 use Rattle.std.specs.Prelude.{◌≡◌, ℕ, Bool, List, length}
 use Rattle.std.proofs.Common.{take}
 use Rattle.net_theory.specs.declared.data.Sig.{Sig}
@@ -17,12 +17,12 @@ joint gates out = record { gates = gates; out = out }
 abbrev pub terms : List Gate → List Signed → Terms
 terms gates outs = record { gates = gates; outs = outs }
 
--- the words of AND, OR and XOR on signals with signs
+-- the operators of AND, OR and XOR on signals with signs
 abbrev pub word_of : Connective → Bool → Bool → ℕ
 word_of And = and_word
 word_of Or = or_word
 word_of Xor = xor_word
 
--- what was there is still in front
+-- `old` is a prefix of `new`
 pub record IsFront (old new : List Gate) : Type 0 where
   pub same : take (length old) new ≡ old

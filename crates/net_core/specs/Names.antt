@@ -1,4 +1,4 @@
--- Names that are taken, and outputs that sit on places.
+-- Names that are taken, and the first outputs at places.
 use Rattle.std.specs.Prelude.{◌≡◌, ℕ, ◌<◌, ◌^◌, if◌then◌else◌, List, [], ◌∷◌, ◌++◌, length, slice_get, slice_index_or, slice_set, Option, Some, None, option_and_then}
 use Rattle.std.proofs.Common.{drop}
 use Rattle.net_theory.specs.declared.data.Sig.{Sig}
@@ -7,19 +7,19 @@ use Rattle.net_theory.specs.Document.{Name, has}
 use Rattle.net_theory.specs.Circuit.{Circuit}
 use Rattle.net_theory.specs.Naming.{output_on, Naming, taken_set}
 
--- names and one more, unless it was there
+-- `seen` with `n` appended, unless it is in `seen`
 abbrev pub with_name : List Name → Name → List Name
 with_name seen n = if has seen n then seen else seen ++ n ∷ []
 
--- the output that is noted for a place
+-- the output that is noted for the place p
 unfoldable pub first_name : List (Option ℕ) → List Name → ℕ → Option Name
 first_name firsts outputs p = option_and_then (slice_get outputs) (slice_index_or firsts p None)
 
--- what is noted is the first output on each place, of those from one on
+-- `firsts` notes for each place the first output there, of the outputs from index `at` on
 pub record AreFirsts (firsts : List (Option ℕ)) (outputs : List Name) (at : ℕ) (sinks : List Sig) : Type 0 where
   pub each : (p : ℕ) → p < length firsts → first_name firsts outputs p ≡ output_on (drop at outputs) (drop at sinks) p
 
--- an output is noted
+-- the output at index `at` is noted
 abbrev pub noted : List (Option ℕ) → Sig → ℕ → List (Option ℕ)
 noted firsts Zero at = firsts
 noted firsts One at = firsts
@@ -28,6 +28,6 @@ noted firsts (Place p) at = slice_set firsts p (Some at)
 abbrev pub naming : List Name → List Name → Naming
 naming names free = record { names = names; free = free }
 
--- There are numbers for all names that numbered names pass over, as for those of every circuit in a memory.
+-- The names to avoid are fewer than 2^63, as in every circuit that fits into a memory.
 abbrev pub HasRoom : Circuit → Type 0
 HasRoom c = length (taken_set c) < 2 ^ 63

@@ -1,4 +1,4 @@
--- The covers that stand behind tables which join all their inputs.
+-- The covers of tables that join all their inputs.
 use Rattle.std.specs.Prelude.{ℕ, ◌<◌, Bool, List}
 use Rattle.std.specs.List.{list_any, list_all}
 use Rattle.net_theory.specs.Cover.{Cover, IsCover, is_odd}
@@ -17,7 +17,7 @@ joined_cover Xor width on = xor_cover width on
 abbrev pub whole_cover : Whole → Cover
 whole_cover w = joined_cover w.connective w.width w.on
 
--- the cover that a table's body says
+-- the cover that a body represents
 abbrev pub cover_of : Body → Cover
 cover_of (Cubes c) = c
 cover_of (Joined w) = whole_cover w
@@ -32,7 +32,7 @@ abbrev pub IsBody : Body → Type 0
 IsBody (Cubes c) = IsCover c
 IsBody (Joined w) = 0 < w.width
 
--- what bits come to
+-- the value of bits that are joined
 abbrev pub joined_bits : Connective → List Bool → Bool
 joined_bits And bits = list_all itself bits
 joined_bits Or bits = list_any itself bits

@@ -13,8 +13,8 @@ use net_theory::Trigger;
 use std::alloc::{AllocError, Global};
 use std::marker::Model;
 
-/// A latch: the name of its output, how it is controlled and by which net, and its first value: 0, 1,
-/// 2 for either, 3 for unknown. Its input is a sink of the circuit's net.
+/// A latch: its output, its trigger and control, and its initial value: 0, 1, 2 for don't-care, 3
+/// for unknown. Its input is a sink of the circuit's net.
 #[derive(Drop)]
 pub struct Latch {
     pub output: Name,
@@ -51,8 +51,8 @@ impl Model for Circuit {
 }
 
 impl Circuit {
-    /// The circuit without its dead gates: those that no sink reads, directly or through gates. A
-    /// document that describes the circuit describes it still.
+    /// The circuit without its dead (dangling) gates: those that no sink reads, directly or through
+    /// gates. A document that describes the circuit still does.
     #[tactic(auto, using(net_theory::specs::ExchangeLaws::exchanged_proper, net_theory::specs::ExchangeLaws::exchanged_describes))]
     pub fn without_dead_gates(self, alloc: Global) -> Result<Circuit, AllocError>
         requires { IsProper self }
@@ -68,7 +68,8 @@ impl Circuit {
                 Ok(left)
             }
             Err(error) => {
-                // dropped here at once: left to the exit, each of its fields would be
+                // for the prover: dropped by one call, since at the exit each field would be
+                // dropped by itself
                 drop(left);
                 Err(error)
             }

@@ -1,4 +1,5 @@
-//! Covers as the Berkeley BLIF manual writes them: cubes, and whether they are for the value 1 or 0.
+//! Covers (sums of products) as the Berkeley BLIF manual writes them: cubes for the on-set or the
+//! off-set.
 
 ghost use Rattle.std.specs.Prelude.{◌≡◌};
 
@@ -17,7 +18,7 @@ impl Model for Cube {
 }
 
 impl Cube {
-    /// The cube of these bytes.
+    /// The cube with `bytes`.
     pub fn new(bytes: Vec<u8>) -> Cube
         ensures { result ≡ bytes.items }
     {
@@ -32,8 +33,8 @@ impl Cube {
     }
 }
 
-/// A table by its cubes, each of `width` bytes. They say where the table is 1, or, where `on` is false,
-/// where it is 0. A table without cubes is 0.
+/// A table by its cubes, each of `width` bytes. Where `on` they are for the on-set, else for the
+/// off-set. A table without cubes is 0.
 #[derive(Drop)]
 pub struct Cover {
     pub width: u32,

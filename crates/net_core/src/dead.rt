@@ -1,4 +1,5 @@
-//! Dead gates go: what the sinks reach is marked, and the marked gates are kept in their order.
+//! Cleanup of dead (dangling) gates: the transitive fanin of the sinks is marked, and the marked
+//! gates are copied in their order.
 
 ghost use Rattle.std.specs.Prelude.{◌≡◌, ◌+◌, length, IfOk, vec_len};
 ghost use Rattle.net_theory.specs.Net.{end_of};
@@ -14,7 +15,7 @@ use crate::net::Net;
 use net_theory::{Gate, Sig};
 use std::alloc::{AllocError, Global};
 
-/// Marks the places that the sinks reach, where none is marked.
+/// Marks the transitive fanin of the sinks, where no place is marked.
 fn mark_live(marks: &mut [bool], net: &Net)
     requires none { set_of marks.old ≡ no_marks }
     requires count { length marks.old ≡ end_of net.now }
@@ -24,7 +25,7 @@ fn mark_live(marks: &mut [bool], net: &Net)
     mark_reached(marks, net);
 }
 
-/// The places that the sinks reach.
+/// The marks of the transitive fanin of the sinks.
 fn live_marks(alloc: Global, net: &Net) -> Result<Vec<bool>, AllocError>
     ensures marks { IfOk result (λ marks. set_of marks.items ≡ live net.now) }
     ensures count { IfOk result (λ marks. vec_len marks ≡ end_of net.now) }
@@ -35,7 +36,7 @@ fn live_marks(alloc: Global, net: &Net) -> Result<Vec<bool>, AllocError>
     Ok(marks)
 }
 
-/// Where the places went and the gates that are kept.
+/// The map from old places to new signals, and the copies of the marked gates.
 fn kept_gates(alloc: Global, net: &Net, marks: &[bool]) -> Result<(Vec<Sig>, Vec<Gate>), AllocError>
     requires { length marks.now ≡ end_of net.now }
     ensures kept { IfOk result (λ x. kept x.0.items x.1.items ≡ kept_after (set_of marks.now) net.now.sources (nothing_kept net.now.sources) (net.now.sources + 1) net.now.gates) }
@@ -56,8 +57,8 @@ fn kept_gates(alloc: Global, net: &Net, marks: &[bool]) -> Result<(Vec<Sig>, Vec
     Ok((places, kept))
 }
 
-/// The net without its dead gates: in their order exactly the gates that some sink reads, directly or
-/// through gates, and the same sinks where they went.
+/// The net without its dead gates: in their order exactly the gates that some sink reads, directly
+/// or through gates, and the same sinks.
 pub fn drop_dead(alloc: Global, net: &Net) -> Result<Net, AllocError>
     ensures exact { IfOk result (λ left. left ≡ dropped net.now) }
     ensures pruned { IfOk result (IsPruned net.now) }

@@ -6,24 +6,25 @@ ghost use Rattle.net_core.specs.declared.error.NetError.TheVariants.{Memory};
 use crate::name::Name;
 use std::alloc::{AllocError, AllocFailed};
 
-/// Why a netlist isn't read. Lines are numbered from 1; a line that goes on has the number of its first.
+/// Why a netlist is refused. Lines are numbered from 1; a line that is continued has the number of
+/// its first.
 #[derive(Drop)]
 pub enum NetError {
-    /// The line isn't of a form that the format has.
+    /// The form of the line isn't one of the format.
     Syntax(u32),
-    /// The line's first word, or a latch's control, asks for what isn't supported.
+    /// The line's first word, or a latch's control, is of the format but not supported.
     NotSupported(u32, Name),
-    /// The value of the cover line isn't that of its table's first.
+    /// The output value of the cover line isn't that of its table's first line.
     MixedCover(u32),
     /// The table or gate has more than 256 inputs.
     TooWide(u32),
-    /// The netlist costs more than 100,000 gates: so many.
+    /// The netlist costs more than 100,000 gates: the cost.
     TooManyGates(u32),
     /// The name is driven twice.
     DrivenTwice(Name),
     /// The name is used, and nothing drives it.
     Undriven(Name),
-    /// The name depends on itself through tables.
+    /// The name depends on itself through tables: a combinational loop.
     Cycle(Name),
     /// The line has more than 1,048,576 bytes.
     LineTooLong(u32),

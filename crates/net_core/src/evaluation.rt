@@ -1,4 +1,4 @@
-//! The values of a net's places.
+//! Simulation of a net: the values of its places under one assignment.
 
 ghost use Rattle.std.specs.Prelude.{◌≡◌, ℕ, ◌+◌, ◌≤◌, ◌<◌, length};
 ghost use Rattle.net_theory.specs.Net.{IsSigBelow, AreGates, bit_of, sig_value, values_of, value, end_of};
@@ -6,7 +6,7 @@ ghost use Rattle.net_theory.specs.Net.{IsSigBelow, AreGates, bit_of, sig_value, 
 use crate::net::Net;
 use net_theory::{Gate, Sig};
 
-/// The value of a signal by the bits of the places, place 1 first.
+/// The value of a signal; `places` has the bits of the places, place 1 first.
 fn sig_bit(places: &[bool], sig: Sig) -> bool
     requires { IsSigBelow (length places.now + 1) sig }
     ensures { result ≡ sig_value (bit_of places.now) sig }
@@ -18,7 +18,7 @@ fn sig_bit(places: &[bool], sig: Sig) -> bool
     }
 }
 
-/// Writes the bit of each source.
+/// Writes the bits of the sources.
 fn sources_into(sources: &[bool], places: &mut [bool])
     requires { length sources.now ≤ length places.old }
     ensures { (p : ℕ) → p ≤ length sources.now → bit_of places.new p ≡ bit_of sources.now p }
@@ -28,7 +28,7 @@ fn sources_into(sources: &[bool], places: &mut [bool])
     }
 }
 
-/// Writes the bit of each gate, by those of the sources.
+/// Writes the bit of each gate, in order.
 fn gates_into(sources: usize, gates: &[Gate], places: &mut [bool])
     requires gates { AreGates sources gates.now }
     requires room { length places.old ≡ sources + length gates.now }
@@ -45,7 +45,8 @@ fn gates_into(sources: usize, gates: &[Gate], places: &mut [bool])
     }
 }
 
-/// Writes the value of each place of the net, place 1 first, where the sources have the given bits.
+/// Writes the value of each place of the net, place 1 first, where the sources have the bits
+/// `sources`.
 pub fn values(net: &Net, sources: &[bool], places: &mut [bool])
     requires sources { length sources.now ≡ net.now.sources }
     requires places { length places.old ≡ net.now.sources + length net.now.gates }

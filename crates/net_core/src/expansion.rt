@@ -1,4 +1,5 @@
-//! A table becomes gates. What the gates are is said in `specs/Expansion.antt` of `net_theory`.
+//! Decomposition of a table into two-input gates. The gates are defined in `specs/Expansion.antt`
+//! of `net_theory`.
 
 ghost use Rattle.std.specs.Prelude.{◌≡◌, ◌+◌, ◌-◌, ◌≤◌, ◌<◌, ◌^◌, ◌&&◌, [], length, map, vec_len, All, OnOk, OnErr, IfOk};
 ghost use Rattle.std.specs.List.{list_any};
@@ -45,7 +46,7 @@ fn push_not(sources: u32, gates: &mut Vec<Gate>, a: Sig) -> Result<Sig, AllocErr
     )
 }
 
-/// A table of one input, by the word of its values.
+/// A table of one input, by its truth table `word`.
 #[tactic(auto, using(crate::proofs::Fronts::fronts), unfolding(net_theory::specs::Expansion::unary_built))]
 pub fn expand_unary(
     sources: u32,
@@ -65,7 +66,7 @@ pub fn expand_unary(
     }
 }
 
-/// A table of two inputs, by the word of its values.
+/// A table of two inputs, by its truth table `word`.
 #[tactic(auto, using(crate::proofs::Fronts::fronts), unfolding(net_theory::specs::Expansion::binary_built))]
 pub fn expand_binary(
     sources: u32,
@@ -113,7 +114,7 @@ fn some_asks_nothing(cubes: &[Cube]) -> bool
     cubes.iter().any(|cube| asks_nothing(cube.get()))
 }
 
-/// Whether a wide table is constant by its form.
+/// Whether the form of a cover of more than two inputs shows that it is constant.
 pub fn is_plain(cubes: &[Cube]) -> bool
     ensures { result ≡ is_plain_of cubes.now }
 {
@@ -215,7 +216,7 @@ fn join_terms(
     join_all(Connective::Or, sources, gates, &outs)
 }
 
-/// The gate with the complement of its operator.
+/// The gate with its operator complemented.
 fn complemented(gate: Gate) -> Gate
     ensures { result ≡ complemented_of gate }
 {
@@ -226,7 +227,7 @@ fn complemented(gate: Gate) -> Gate
     }
 }
 
-/// Turns the sign of the last gate.
+/// Complements the last gate.
 #[tactic(auto, using(crate::proofs::Wide::last_gate))]
 fn complement_last(gates: &mut [Gate])
     ensures { gates.new ≡ last_complemented gates.old }
@@ -239,8 +240,8 @@ fn complement_last(gates: &mut [Gate])
     gates[at] = gate;
 }
 
-/// Puts the sign of what was joined where the cover is for 1 or for 0, behind the gates that were there
-/// before the table.
+/// The signal of what was joined, complemented where the sign of `out` and `on` ask for it: in the
+/// last gate, or by NOT where the table added no gate to the `before` gates that were there.
 #[tactic(auto, using(crate::proofs::Fronts::fronts), unfolding(net_theory::specs::Expansion::finished))]
 pub fn finish(
     sources: u32,
@@ -287,7 +288,7 @@ fn expand_wide(
     finish(sources, gates, before, out, cover.on)
 }
 
-/// The gates of a table over any inputs.
+/// The gates of a table of any number of inputs.
 #[tactic(auto, using(crate::proofs::Expansions::tables))]
 pub fn expand_gates(
     alloc: Global,
@@ -310,9 +311,9 @@ pub fn expand_gates(
     }
 }
 
-/// Puts the gates of a table behind those of the net, and answers the table's signal, where the table's
-/// inputs are these signals. They count as different inputs, also where two are equal or one is
-/// constant.
+/// Appends the gates of a table to the net, and answers the table's signal; `inputs` are the
+/// signals of the table's inputs. They count as different inputs, also where two are equal or one
+/// is constant.
 pub fn expand(
     alloc: Global,
     net: &mut Net,
@@ -338,7 +339,7 @@ pub fn expand(
     }
 }
 
-/// Puts the gates of a table behind those of the net, as `expand` does for a cover, whatever its body.
+/// Appends the gates of a table to the net, as `expand` does for a cover, whatever its body.
 pub fn expand_body(
     alloc: Global,
     net: &mut Net,

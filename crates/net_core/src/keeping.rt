@@ -1,5 +1,5 @@
-//! Gates that are kept, in their order, at new places: a table says where each old place went, and the
-//! marked gates are put behind those that are there, with their operands where they went.
+//! Copying marked gates, in their order, to new places: `places` maps each old place to its new
+//! signal, and each marked gate is appended with its operands mapped.
 
 ghost use Rattle.std.specs.Prelude.{◌≡◌, ◌+◌, ◌<◌, ◌^◌, length, map, All, OnOk, IfOk, vec_len};
 ghost use Rattle.net_theory.specs.Net.{IsSigBelow, IsGateAt};
@@ -9,7 +9,7 @@ ghost use Rattle.net_core.specs.Marks.{set_of, places_of, kept, AreAt};
 use net_theory::{Gate, Sig};
 use std::alloc::{AllocError, Global};
 
-/// Where a signal went.
+/// The new signal of an old one.
 pub fn moved(places: &[Sig], sig: Sig) -> Sig
     requires { IsSigBelow (length places.now) sig }
     ensures { result ≡ moved_of (places_of places.now) sig }
@@ -20,7 +20,7 @@ pub fn moved(places: &[Sig], sig: Sig) -> Sig
     }
 }
 
-/// Keeps the gate of a place.
+/// Copies the gate at `place`.
 fn keep_gate(
     sources: u32,
     place: usize,
@@ -44,8 +44,8 @@ fn keep_gate(
     Ok(())
 }
 
-/// Keeps the marked gates, in their order, behind those that are there. The first gate has the place
-/// `first`, and what stands below it has been moved to `places`.
+/// Appends copies of the marked gates to `new`, in their order. The first gate is at the place
+/// `first`, and `places` maps what is below it.
 pub fn keep_gates(
     sources: u32,
     marks: &[bool],
@@ -75,7 +75,7 @@ pub fn keep_gates(
     Ok(())
 }
 
-/// Where a place is before any gate is kept: a source is at itself.
+/// The new signal of a place before any gate is copied: a source stays where it is.
 fn start_place(sources: u32, place: u32) -> Sig
     ensures { result ≡ sources_stay sources place }
 {
@@ -86,7 +86,7 @@ fn start_place(sources: u32, place: u32) -> Sig
     }
 }
 
-/// Where the places are before any gate is kept.
+/// The map before any gate is copied.
 pub fn start_places(alloc: Global, sources: u32, count: u32) -> Result<Vec<Sig>, AllocError>
     requires { sources < count }
     ensures places { IfOk result (λ places. places_of places.items ≡ sources_stay sources) }
@@ -99,7 +99,7 @@ pub fn start_places(alloc: Global, sources: u32, count: u32) -> Result<Vec<Sig>,
     Ok(places)
 }
 
-/// Where the sinks went.
+/// The new signals of the sinks.
 pub fn moved_sinks(alloc: Global, places: &[Sig], sinks: &[Sig]) -> Result<Vec<Sig>, AllocError>
     requires { All (IsSigBelow (length places.now)) sinks.now }
     ensures { IfOk result (λ new. new.items ≡ map (moved_of (places_of places.now)) sinks.now) }

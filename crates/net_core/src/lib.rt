@@ -1,10 +1,10 @@
-//! Nets of two-input gates and circuits, which are nets with names: values, gates that nothing reads, the
-//! gates that a table becomes, and names for gates where a circuit is written. What all of it means is
-//! said in the definitions of `net_theory`.
+//! Nets of two-input gates and circuits, which are nets with names: simulation, cleanup of dead
+//! (dangling) gates, decomposition of a table into gates, and names for gates where a circuit is
+//! written. The definitions are those of `net_theory`, with a dictionary in its `specs/Net.antt`.
 //!
-//! The one theorem: a table that `expand` puts behind a net has a signal whose value is the table's under
-//! every assignment, with as many gates as the table costs, and `drop_dead` keeps exactly the gates that
-//! some sink reads, and all values of the sinks.
+//! The one theorem: the signal of a table that `expand` appends to a net has the table's value
+//! under every assignment, with as many gates as the table costs, and `drop_dead` keeps exactly the
+//! gates that some sink reads, and all values of the sinks.
 //!
 //! ```text
 //! let mut net = Net::new(2, Vec::new(alloc), Vec::new(alloc));

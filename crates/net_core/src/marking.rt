@@ -1,5 +1,5 @@
-//! Marks on the places of a net: the gates that marked gates read are marked from the last to the first,
-//! so that in one pass everything is marked that the first marks reach.
+//! Marking the transitive fanin: the fanins of marked gates are marked from the last gate to the
+//! first, so that one pass marks everything.
 
 ghost use Rattle.std.specs.Prelude.{◌≡◌, ◌+◌, length, All};
 ghost use Rattle.net_theory.specs.Net.{IsSigBelow, end_of};
@@ -31,7 +31,8 @@ pub fn mark_sinks(marks: &mut [bool], sinks: &[Sig])
     }
 }
 
-/// Marks what the marked gates read, from the last to the first, which stands behind the sources.
+/// Marks the fanins of marked gates, from the last gate to the first, which comes after the
+/// sources.
 fn mark_gates(marks: &mut [bool], sources: usize, gates: &[Gate])
     requires gates { AreAt (sources + 1) gates.now }
     requires room { length marks.old ≡ sources + 1 + length gates.now }
@@ -47,8 +48,8 @@ fn mark_gates(marks: &mut [bool], sources: usize, gates: &[Gate])
     }
 }
 
-/// Marks, beside the places that are marked, all that they reach: what a marked gate reads, directly or
-/// through gates.
+/// Marks the transitive fanin of the marked places: what a marked gate reads, directly or through
+/// gates.
 pub fn mark_reached(marks: &mut [bool], net: &Net)
     requires { length marks.old ≡ end_of net.now }
     ensures { set_of marks.new ≡ reach net.now (set_of marks.old) }

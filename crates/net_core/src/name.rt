@@ -1,4 +1,4 @@
-//! Names by their bytes, compared and hashed as the bytes are.
+//! Names by their bytes, compared and hashed as bytes.
 
 ghost use Rattle.std.specs.Prelude.{◌≡◌, IfOk};
 ghost use Rattle.std.specs.Cmp.Lexicographic.{pointwise};
@@ -24,7 +24,7 @@ impl Model for Name {
 }
 
 impl Name {
-    /// The name of these bytes.
+    /// The name with `bytes`.
     pub fn new(bytes: Vec<u8>) -> Name
         ensures { result ≡ bytes.items }
     {
@@ -38,7 +38,7 @@ impl Name {
         &self.0
     }
 
-    /// The name of a copy of these bytes.
+    /// The name with a copy of `bytes`.
     pub fn of(alloc: Global, bytes: &[u8]) -> Result<Name, AllocError>
         ensures { IfOk result (λ name. name ≡ bytes.now) }
     {

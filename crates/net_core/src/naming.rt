@@ -17,7 +17,7 @@ use itoa::Buffer;
 use net_theory::{Gate, Sig};
 use std::alloc::{AllocError, Global};
 
-/// Adds a name to those that are taken.
+/// Adds a name to those to avoid.
 #[tactic(auto, unfolding(net_theory::specs::Document::has))]
 fn take_name(taken: &mut IndexSet<Name>, name: &Name) -> Result<(), AllocError>
     ensures { OnOk result (taken.new.keys ≡ with_name taken.old.keys name.now) }
@@ -26,7 +26,7 @@ fn take_name(taken: &mut IndexSet<Name>, name: &Name) -> Result<(), AllocError>
     Ok(())
 }
 
-/// Adds names to those that are taken.
+/// Adds names to those to avoid.
 #[tactic(auto, unfolding(net_theory::specs::Naming::each_once))]
 pub fn take_names(taken: &mut IndexSet<Name>, names: &[Name]) -> Result<(), AllocError>
     ensures { OnOk result (taken.new.keys ≡ each_once taken.old.keys names.now) }
@@ -67,7 +67,7 @@ fn take_controls(taken: &mut IndexSet<Name>, latches: &[Latch]) -> Result<(), Al
     Ok(())
 }
 
-/// Adds the names that numbered names pass over.
+/// Adds all names that numbered names must avoid.
 #[tactic(auto, using(crate::proofs::NamingLemmas::sets))]
 fn take_all(taken: &mut IndexSet<Name>, circuit: &Circuit) -> Result<(), AllocError>
     ensures { OnOk result (taken.new.keys ≡ each_once taken.old.keys (taken_names circuit.now)) }
@@ -79,7 +79,7 @@ fn take_all(taken: &mut IndexSet<Name>, circuit: &Circuit) -> Result<(), AllocEr
     take_controls(taken, &circuit.latches)
 }
 
-/// The names that numbered names pass over.
+/// The names that numbered names must avoid.
 fn taken(alloc: Global, circuit: &Circuit) -> Result<IndexSet<Name>, AllocError>
     ensures { IfOk result (λ taken. taken.keys ≡ taken_set circuit.now) }
 {
@@ -88,7 +88,7 @@ fn taken(alloc: Global, circuit: &Circuit) -> Result<IndexSet<Name>, AllocError>
     Ok(taken)
 }
 
-/// `g1`, `g2` and so on.
+/// `g1`, `g2` and so on: the name with `number`.
 fn numbered(alloc: Global, number: u64) -> Result<Name, AllocError>
     ensures { IfOk result (λ name. name ≡ numbered_of number) }
 {
@@ -108,7 +108,7 @@ fn is_taken(taken: &IndexSet<Name>, name: &Name) -> bool
 }
 
 /// The next numbered name that isn't taken, of the numbers from `next` up to `end`, and the number
-/// behind it; an empty name where the numbers have run out.
+/// after it; an empty name where there is none left.
 fn next_free(
     alloc: Global,
     taken: &IndexSet<Name>,
@@ -127,7 +127,7 @@ fn next_free(
     Ok((Name::new(Vec::new(alloc)), end))
 }
 
-/// Notes an output for the place on which it sits.
+/// Notes the output at index `at` for the place of its signal.
 fn note_output(firsts: &mut [Option<usize>], sig: Sig, at: usize)
     requires { IsSigBelow (length firsts.old) sig }
     ensures { firsts.new ≡ noted firsts.old sig at }
@@ -137,7 +137,7 @@ fn note_output(firsts: &mut [Option<usize>], sig: Sig, at: usize)
     }
 }
 
-/// Notes all outputs, the last one first.
+/// Notes all outputs, the last one first, so that the first one at a place stays.
 fn note_outputs(firsts: &mut [Option<usize>], outputs: &[Name], sinks: &[Sig])
     requires outputs { length outputs.now ≤ length sinks.now }
     requires below { All (IsSigBelow (length firsts.old)) sinks.now }
@@ -151,7 +151,7 @@ fn note_outputs(firsts: &mut [Option<usize>], outputs: &[Name], sinks: &[Sig])
     }
 }
 
-/// For each place below `count` where among the outputs the first one stands that sits on it.
+/// For each place below `count` the index of the first output whose signal it is.
 fn first_outputs(
     alloc: Global,
     count: usize,
@@ -168,7 +168,7 @@ fn first_outputs(
     Ok(firsts)
 }
 
-/// The name at a place of a list.
+/// The name at an index.
 #[tactic(auto, using(crate::proofs::Firsts::found))]
 fn name_at(names: &[Name], at: usize) -> Option<&Name>
     ensures { option_copied result ≡ slice_get names.now at }
@@ -180,7 +180,7 @@ fn name_at(names: &[Name], at: usize) -> Option<&Name>
     }
 }
 
-/// The first output that sits on a place.
+/// The first output at a place.
 #[tactic(auto, using(crate::proofs::Firsts::found))]
 fn output_at<'a>(firsts: &[Option<usize>], outputs: &'a [Name], place: usize) -> Option<&'a Name>
     requires { place < length firsts.now }
@@ -192,8 +192,8 @@ fn output_at<'a>(firsts: &[Option<usize>], outputs: &'a [Name], place: usize) ->
     }
 }
 
-/// Adds the name of the next gate: that of the output that sits on it, or else the next free one. Answers
-/// the number that is to be tried next.
+/// Adds the name of the next gate: `output`, or else the next free name. Answers the number to try
+/// next.
 fn push_name(
     alloc: Global,
     taken: &IndexSet<Name>,
@@ -217,7 +217,7 @@ fn push_name(
     }
 }
 
-/// The names of gates, the first at the place `first`, and the number that is to be tried next.
+/// The names of gates, the first at the place `first`, and the number to try next.
 #[tactic(auto, unfolding(net_theory::specs::Naming::names_after))]
 fn name_gates(
     alloc: Global,
@@ -252,8 +252,8 @@ pub struct GateNames {
     pub second_spare: Name,
 }
 
-/// The names of a net's gates where these outputs sit on its first sinks, the number that is to be tried
-/// next, and that where the numbers end.
+/// The names of a net's gates where `outputs` name its first sinks, the number to try next, and the
+/// end of the numbers.
 fn net_names(
     alloc: Global,
     taken: &IndexSet<Name>,
@@ -296,10 +296,10 @@ fn with_spares(
     })
 }
 
-/// The names that the gates of a circuit have where it is written, in the order of their places, and two
-/// more names for constants. A gate on which outputs sit has the name of the first of them, and each
-/// other one the next of `g1`, `g2` and so on that isn't the name of an input, an output, a latch's
-/// output, a clock or a control. Those are fewer than 2^63, since they stand in a memory.
+/// The names of a circuit's gates where it is written, in the order of their places, and two more
+/// names for constants. A gate that is an output has the name of the first such output, and any
+/// other gate the next of `g1`, `g2` and so on that isn't the name of an input, an output, a
+/// latch's output, a clock or a control. Those are fewer than 2^63, since they fit into a memory.
 pub fn all_names(alloc: Global, circuit: &Circuit) -> Result<GateNames, AllocError>
     requires { IsProper circuit.now }
     ensures names { IfOk result (λ x. x.names.items ≡ gate_names_of circuit.now) }

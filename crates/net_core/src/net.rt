@@ -1,5 +1,5 @@
-//! Nets of two-input gates. That operands are earlier places is the invariant of the type, so that a walk
-//! over the gates in order meets no place before its value.
+//! Nets of two-input gates. The type's invariant: operands (fanins) are earlier places, so the
+//! order of the gates is topological.
 
 ghost use Rattle.std.specs.Prelude.{◌≡◌, All};
 ghost use Rattle.net_theory.specs.Net.{IsNet, IsSigBelow, end_of};
@@ -7,8 +7,9 @@ ghost use Rattle.net_theory.specs.Net.{IsNet, IsSigBelow, end_of};
 use net_theory::{Gate, Sig};
 use std::marker::Model;
 
-/// A net: the places 1 to `sources` are its sources and the gates follow in order. A gate's operands
-/// are constants or earlier places, and a sink is a constant or a place. It has fewer than 2^31 places.
+/// A net: the places (nodes) 1 to `sources` are its sources and the gates follow in order. A gate's
+/// operands are constants or earlier places, and a sink is a constant or a place. It has fewer than
+/// 2^31 places.
 #[derive(Drop)]
 pub struct Net {
     pub(crate) sources: u32,
@@ -28,8 +29,8 @@ impl Model for Net {
 }
 
 impl Net {
-    /// The net of so many sources with these gates, the first at the place behind the sources, and these
-    /// sinks.
+    /// The net with `sources` sources, `gates`, the first at the place after the sources, and
+    /// `sinks`.
     pub fn new(sources: u32, gates: Vec<Gate>, sinks: Vec<Sig>) -> Net
         requires { IsNet (record { sources = sources; gates = gates.items; sinks = sinks.items }) }
         ensures { result ≡ record { sources = sources; gates = gates.items; sinks = sinks.items } }
@@ -57,7 +58,7 @@ impl Net {
         &self.gates
     }
 
-    /// What the net answers, in order.
+    /// The sinks: the signals that the net answers, in order.
     pub fn sinks(&self) -> &[Sig]
         ensures sinks { result.now ≡ self.now.sinks }
         ensures net { IsNet self.now }

@@ -6,7 +6,7 @@ ghost use Rattle.net_theory.specs.Expansion.{digit_of, unary_word as unary_word_
 
 use crate::cover::{Cover, Cube};
 
-/// Whether a cube's byte gets what it asks for.
+/// Whether `bit` is what the byte of a cube asks for.
 fn is_asked(byte: u8, bit: bool) -> bool
     ensures { result ≡ is_asked_of byte bit }
 {
@@ -17,7 +17,7 @@ fn is_asked(byte: u8, bit: bool) -> bool
     }
 }
 
-/// Whether a cube matches the bits of the inputs.
+/// Whether a cube covers the minterm `bits`.
 #[tactic(auto, unfolding(net_theory::specs::Cover::matches))]
 fn matches_bits(cube: &[u8], bits: &[bool]) -> bool
     ensures { result ≡ matches_of cube.now bits.now }
@@ -44,7 +44,7 @@ fn is_matched(cubes: &[Cube], bits: &[bool]) -> bool
     cubes.iter().any(|cube| matches_bits(cube.get(), bits))
 }
 
-/// The value of a table where its inputs have these bits.
+/// The value of a table where its inputs have the bits `bits`.
 #[tactic(auto, unfolding(net_theory::specs::Cover::cover_value))]
 pub fn cover_value(cover: &Cover, bits: &[bool]) -> bool
     ensures { result ≡ cover_value_of cover.now bits.now }
@@ -67,7 +67,7 @@ pub fn digit(bit: bool) -> u8
     u8::from(bit)
 }
 
-/// The word of the values at 0 and 1.
+/// The truth table of one input: the values at 0 and 1.
 pub fn unary_word(cover: &Cover) -> u8
     ensures word { result ≡ unary_word_of cover.now }
     ensures below { result < 4 }
@@ -77,7 +77,7 @@ pub fn unary_word(cover: &Cover) -> u8
     2 * zero + one
 }
 
-/// The word of the values at (0,0), (0,1), (1,0) and (1,1).
+/// The truth table of two inputs: the values at (0,0), (0,1), (1,0) and (1,1).
 pub fn binary_word(cover: &Cover) -> u8
     ensures word { result ≡ binary_word_of cover.now }
     ensures below { result < 16 }

@@ -1,6 +1,6 @@
-//! Tables that join all their inputs: AND, OR or XOR of any number of inputs, and the complements. As
-//! covers AND has one cube, OR one for each input and XOR none that is short, so none of them is spelled:
-//! value, cost and gates are worked out from the connective.
+//! Tables that join all their inputs: AND, OR or XOR of any number of inputs, and the complements.
+//! As covers AND has one cube, OR one for each input and XOR has no short one, so the cubes aren't
+//! built: value, cost and gates come from the connective.
 
 ghost use Rattle.std.specs.Prelude.{◌≡◌, ◌+◌, ◌≤◌, ◌<◌, ◌^◌, length, vec_len, false, true, IfOk, OnErr};
 ghost use Rattle.std.specs.List.{list_all, list_any};
@@ -19,7 +19,7 @@ use crate::truth::{cover_value, digit};
 use net_theory::{Gate, Sig, Signed};
 use std::alloc::{AllocError, Global};
 
-/// AND, OR or XOR of so many inputs, or its complement where `on` is false.
+/// AND, OR or XOR of `width` inputs, complemented where `on` is false.
 #[derive(Clone, Copy)]
 pub struct Whole {
     pub connective: Connective,
@@ -66,7 +66,7 @@ fn any_is(bits: &[bool]) -> bool
     bits.iter().any(|bit| *bit)
 }
 
-/// What bits come to.
+/// The value of bits that are joined.
 fn joined(connective: Connective, bits: &[bool]) -> bool
     ensures { result ≡ joined_bits connective bits.now }
 {
@@ -77,7 +77,7 @@ fn joined(connective: Connective, bits: &[bool]) -> bool
     }
 }
 
-/// The value where the inputs have these bits.
+/// The value where the inputs have the bits `bits`.
 #[tactic(auto, using(crate::proofs::WholeTables::wholes))]
 fn whole_value(whole: Whole, bits: &[bool]) -> bool
     requires some { 0 < whole.width }
@@ -88,7 +88,7 @@ fn whole_value(whole: Whole, bits: &[bool]) -> bool
     if whole.on { bit } else { !bit }
 }
 
-/// The word of the values at 0 and 1.
+/// The truth table of one input: the values at 0 and 1.
 fn unary_word(whole: Whole) -> u8
     requires { whole.width ≡ 1 }
     ensures word { result ≡ unary_word_of (whole_cover whole) }
@@ -99,7 +99,7 @@ fn unary_word(whole: Whole) -> u8
     2 * zero + one
 }
 
-/// The word of the values at (0,0), (0,1), (1,0) and (1,1).
+/// The truth table of two inputs: the values at (0,0), (0,1), (1,0) and (1,1).
 fn binary_word(whole: Whole) -> u8
     requires { whole.width ≡ 2 }
     ensures word { result ≡ binary_word_of (whole_cover whole) }
@@ -127,7 +127,7 @@ fn whole_cost<T>(whole: Whole, inputs: &[T]) -> u32
     }
 }
 
-/// The inputs with positive signs.
+/// The inputs, none complemented.
 #[tactic(auto, unfolding(net_theory::specs::Expansion::unsigned))]
 fn unsigned(alloc: Global, inputs: &[Sig]) -> Result<Vec<Signed>, AllocError>
     ensures { IfOk result (λ all. all.items ≡ unsigned_of inputs.now) }
@@ -142,7 +142,7 @@ fn unsigned(alloc: Global, inputs: &[Sig]) -> Result<Vec<Signed>, AllocError>
     Ok(all)
 }
 
-/// The gates of more than two inputs: they are joined from the left.
+/// The gates of more than two inputs, joined from the left.
 #[tactic(auto, using(crate::proofs::WholeTables::wholes))]
 fn join_whole(
     alloc: Global,
@@ -163,7 +163,7 @@ fn join_whole(
     finish(sources, gates, before, out, whole.on)
 }
 
-/// The gates over any inputs.
+/// The gates of any number of inputs.
 #[tactic(auto, using(crate::proofs::WholeTables::wholes))]
 fn whole_gates(
     alloc: Global,
@@ -186,7 +186,7 @@ fn whole_gates(
     }
 }
 
-/// The value of a table where its inputs have these bits.
+/// The value of a table where its inputs have the bits `bits`.
 pub fn body_value(body: &Body, bits: &[bool]) -> bool
     requires body { IsBody body.now }
     requires width { (cover_of body.now).width ≡ length bits.now }
@@ -198,7 +198,7 @@ pub fn body_value(body: &Body, bits: &[bool]) -> bool
     }
 }
 
-/// The number of gates that a table with these inputs becomes.
+/// The number of gates of a table with `inputs`.
 pub fn body_cost<T>(body: &Body, inputs: &[T]) -> u32
     requires body { IsBody body.now }
     requires width { (cover_of body.now).width ≡ length inputs.now }
@@ -212,7 +212,7 @@ pub fn body_cost<T>(body: &Body, inputs: &[T]) -> u32
     }
 }
 
-/// The gates of a table over any inputs.
+/// The gates of a table of any number of inputs.
 pub fn body_gates(
     alloc: Global,
     sources: u32,

@@ -1,4 +1,4 @@
--- A text has one fault at most, and none where it lists a well-formed document.
+-- A text has at most one fault, and none where it lists a well-formed document.
 use Rattle.std.specs.Prelude.{◌≡◌, ℕ, ◌≤◌, true, false, nat_lt, List, [], ◌∷◌, ◌++◌, slice_get, Option, Some, None, Result, Ok, Err, ◌⊎◌, refl}
 use Rattle.std.proofs.Common.{arith, sym, ◌∙◌, ap, subst, inl, inr, ⊎_elim, append_assoc}
 use Rattle.std.proofs.lemmas.Bool.{both_ways, cond-true, cond-false, false_from_ne_true, le-ltb, cases_order}
@@ -37,7 +37,7 @@ listed_driven l is well n there =
     let driven = all_has (λ (m : Name). has (driven_names l.document) m ≡ true) (used_names l.document) n well.used_driven (times_has (used_names l.document) n used) in
     times_has l.driven n (omega (arith, has_times (driven_names l.document) n driven, is.driven n))
 
--- a well-formed document has none
+-- a well-formed document has no fault
 pub fault_none : (l : Listed) → IsListed l → IsWellFormed l.document → fault_of l ≡ None
 unfolding fault_of
 fault_none l is well =
@@ -48,7 +48,7 @@ fault_none l is well =
 
 -- ---- the fault of a document
 
--- a cycle alone, where it has no other
+-- the fault of a document; a combinational loop is one where there is no other
 abbrev Faults : Listed → NetError → Type 0
 Faults l e = (fault_of l ≡ Some e) ⊎ ((fault_of l ≡ None) × ((name : Name) × (e ≡ Cycle name) × IsFirstCyclic l.document name))
 
@@ -74,7 +74,7 @@ faultless : (l : Listed) (e : NetError) → IsListed l → IsWellFormed l.docume
 faultless l e is well (inl told) = fault_apart (fault_of l) e told (fault_none l is well)
 faultless l e is well (inr cycle) = well.acyclic cycle.1.2.place cycle.1.2.cyclic
 
--- the first table that depends on itself is one
+-- there is one first table that depends on itself
 cyclic_one : (d : Document) (a b : Name) → IsFirstCyclic d a → IsFirstCyclic d b → a ≡ b
 cyclic_one d a b x y =
     ⊎_elim
@@ -131,7 +131,7 @@ told_never f bytes l e is said well never (inr m) =
     let refused : IsRefused l e = subst (λ (x : Listed). IsRefused x e) (ok_same (f.listed bytes) m.0 l m.1 said) m.2 in
     faultless l e (is bytes l said) well (refused_faults l e never refused)
 
--- a text has one fault at most
+-- a text has at most one fault
 pub fault_one : (f : Format) (bytes : List ℕ) (a b : NetError) → HasNetFault f bytes a → HasNetFault f bytes b → a ≡ b
 fault_one f bytes a b x y = told_one f bytes a b x.1 y.1 (fault_told f bytes a x.1 x.0) (fault_told f bytes b y.1 y.0)
 
@@ -153,6 +153,6 @@ is_memory (LineTooLong line) h = absurd (h (λ e. cc))
 is_memory (TooManyRows line) h = absurd (h (λ e. cc))
 is_memory (NameTooLong line) h = absurd (h (λ e. cc))
 
--- so a netlist is refused for want of memory alone
+-- so a netlist is refused for lack of memory alone
 pub refused_memory : (f : Format) (bytes : List ℕ) (e : NetError) → ListsWell f → IsNetlist f bytes → IsRefusedText f bytes e → e ≡ Memory
 refused_memory f bytes e is netlist refused = is_memory e (λ never. fault_never f bytes e is netlist (refused, never))

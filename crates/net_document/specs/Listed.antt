@@ -1,22 +1,21 @@
--- A document as a text lists it.
+-- A document with the order in which its text drives and uses names.
 use Rattle.std.specs.Prelude.{◌≡◌, ℕ, ◌++◌, List, All, map, count_by}
 use Rattle.net_theory.specs.Document.{Name, IsName, is_same, Document, LatchLine, table_output, driven_names, used_names}
 use Rattle.net_theory.specs.WellFormed.{IsLatchLine, IsTable, IsFreeOf}
 
--- A document, the names that it drives in the order in which the text drives them, and the names that
--- its tables and latches use, in the order of the text. A document has its lists by kind, and this
--- order isn't in them.
+-- A document, the names that it drives and the names that its tables and latches use, both in the
+-- order of the text. The document has its lists by kind, so that this order isn't in them.
 pub record Listed : Type 0 where
   pub document : Document
   pub driven : List Name
   pub used : List Name
 
--- how often a name stands in a list
+-- how often a name is in a list
 unfoldable pub times : Name → List Name → ℕ
 times n names = count_by (is_same n) names
 
--- Each name, latch and table is one, and each name is driven and used as often as the document drives
--- and uses it.
+-- Names, latches and tables are within their limits, and each name is driven and used as often as
+-- the document drives and uses it.
 pub record IsListed (l : Listed) : Type 0 where
   pub model : IsName l.document.model
   pub inputs : All IsName l.document.inputs

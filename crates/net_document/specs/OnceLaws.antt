@@ -1,4 +1,4 @@
--- Names that are noted once each.
+-- Lists with each name once.
 use Rattle.std.proofs.Common.{◌≡◌, Bool, true, false, List, [], ◌∷◌, ◌++◌, refl, ap, ◌∙◌, sym, subst, ⊎_elim}
 use Rattle.std.specs.Prelude.{◌||◌, if◌then◌else◌}
 use Rattle.std.proofs.lemmas.Bool.{cond_both}
@@ -15,7 +15,7 @@ or_assoc : (a b c : Bool) → ((a || b) || c) ≡ (a || (b || c))
 or_assoc true b c = refl
 or_assoc false b c = refl
 
--- a name is put behind others unless it is there
+-- a name is appended unless it is there
 has_more : (seen : List Name) (m n : Name) → has (if has seen m then seen else seen ++ m ∷ []) n ≡ (has seen n || has (m ∷ []) n)
 has_more seen m n =
     cond_both (has seen m) seen (seen ++ m ∷ []) (λ (s : List Name). has s n ≡ (has seen n || has (m ∷ []) n))
@@ -35,6 +35,6 @@ no_name : (n : Name) → has [] n ≡ false
 unfolding has
 no_name n = refl
 
--- the same names stand there
+-- `each_once` has the same names
 pub has_all_once : (ns : List Name) (n : Name) → has (each_once [] ns) n ≡ has ns n
 has_all_once ns n = has_once [] ns n ∙ ap (λ b. b || has ns n) (no_name n)

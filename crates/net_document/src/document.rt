@@ -1,9 +1,10 @@
-//! Tables, latches and documents as data. Their views are the records of the definitions, and but for bodies
-//! of tables nothing is asked of them here.
+//! The parsed netlist: tables, latches and documents as data. Their views are the records of the
+//! definitions, and the types have no invariant but that of the bodies of tables.
 use net_core::{Body, Latch, Name};
 use std::marker::Model;
 
-/// A table: its output is the body's value at the inputs. A body that joins its inputs has some.
+/// A table: its output is the body's value at the inputs. A body that joins its inputs has at least
+/// one.
 #[derive(Drop)]
 pub struct Table {
     pub inputs: Vec<Name>,
@@ -22,7 +23,7 @@ impl Model for Table {
     ghost invariant = { λ t. JoinsSome t.body };
 }
 
-/// A latch and the name of its input.
+/// A latch with the name of its input.
 #[derive(Drop)]
 pub struct LatchLine {
     pub input: Name,
@@ -37,7 +38,7 @@ impl Model for LatchLine {
     ghost view = { λ l. record { input = l.input; latch = l.latch } };
 }
 
-/// A netlist as its text names it, each list in the order of the text.
+/// A netlist as its text lists it, each list in the order of the text.
 #[derive(Drop)]
 pub struct Document {
     pub model: Name,
@@ -63,8 +64,8 @@ impl Model for Document {
     } };
 }
 
-/// A document, the names that it drives in the order in which the text drives them, and the names that
-/// its tables and latches use, in the order of the text.
+/// A document, the names that it drives and the names that its tables and latches use, both in the
+/// order of the text.
 #[derive(Drop)]
 pub struct Listed {
     pub document: Document,

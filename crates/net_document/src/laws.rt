@@ -13,7 +13,8 @@ ghost use Rattle.net_document.specs.Refusals.{repeated, missing};
 ghost use Rattle.net_document.specs.Format.{Format, IsNetlist, IsRefusedText, HasNetFault, ListsWell};
 ghost use Rattle.net_document.specs.Alike.{AreAlike};
 
-/// A name is counted where it stands in a list, and nowhere else; names differ where none is counted twice.
+/// A name is counted where it is in a list, and nowhere else; names differ where none is counted
+/// twice.
 pub fn laws_of_counts()
     ensures there { (ns : List Name) (n : Name) → has ns n ≡ true → 1 ≤ times n ns }
     ensures counted { (ns : List Name) (n : Name) → 1 ≤ times n ns → has ns n ≡ true }
@@ -21,23 +22,23 @@ pub fn laws_of_counts()
     ensures differ { (ns : List Name) → ((n : Name) → times n ns ≤ 1) → are_distinct ns ≡ true }
 {}
 
-/// Where no name is refused as driven twice, the names differ, and where none is refused as undriven, each is
-/// driven.
+/// Where no name is refused as driven twice, the names differ, and where none is refused as
+/// undriven, each is driven.
 pub fn laws_of_refusals()
     ensures twice { (ns : List Name) → repeated [] ns ≡ None → are_distinct ns ≡ true }
     ensures undriven { (driven ns : List Name) (n : Name) → missing driven ns ≡ None → has ns n ≡ true → has driven n ≡ true }
 {}
 
-/// In every format a text that lists a well-formed document has no fault and is refused for want of memory
-/// alone, and other texts have one fault at most.
+/// In every format a text that lists a well-formed document has no fault and is refused for lack of
+/// memory alone, and any other text has at most one fault.
 pub fn netlists_are_read()
     ensures netlist { (f : Format) (bytes : List ℕ) (e : NetError) → ListsWell f → IsNetlist f bytes → IsRefusedText f bytes e → e ≡ Memory }
     ensures faultless { (f : Format) (bytes : List ℕ) (e : NetError) → ListsWell f → IsNetlist f bytes → HasNetFault f bytes e → ⊥ }
     ensures one { (f : Format) (bytes : List ℕ) (a b : NetError) → HasNetFault f bytes a → HasNetFault f bytes b → a ≡ b }
 {}
 
-/// Documents of two circuits do the same where the circuits do, a document of the one is one of the other, and
-/// a circuit does the same with a net that answers the same.
+/// Documents of equivalent circuits are equivalent, a document of the one circuit is a document of
+/// the other, and a circuit is equivalent to itself with a net that answers the same.
 pub fn documents_of_like_circuits_are_the_same()
     ensures same { (d e : Document) (c k : Circuit) → Describes d c → Describes e k → AreAlike c k → Same d e }
     ensures describes { (d : Document) (c k : Circuit) → Describes d c → AreAlike c k → Describes d k }

@@ -1,7 +1,7 @@
-//! Documents of netlists as values: what the text of a netlist says, whatever its format, and why a
-//! document that was read whole is refused. What a document means is said in `net_theory`; its own
-//! `specs/` add the order in which a text drives and uses its names, the refusals that follow from it, and
-//! a format as a value: what a text lists, how a circuit is written, and the laws between the two.
+//! The parsed netlist (syntax tree) of any format, and why one that was read to its end is refused.
+//! What a document means is defined in `net_theory`; the `specs/` of this crate add the order in
+//! which a text drives and uses its names, the refusals that follow from it, and a format as a
+//! value: what a text lists, how a circuit is written, and the laws between the two.
 //!
 //! ```text
 //! // .inputs a b      .names a b y

@@ -4,7 +4,7 @@ ghost use Rattle.std.specs.Prelude.{◌≡◌, ◌++◌, OnOk};
 use net_core::Name;
 use std::alloc::AllocError;
 
-/// Adds copies of names.
+/// Appends copies of `others` to `names`.
 pub fn add_copies(names: &mut Vec<Name>, others: &[Name]) -> Result<(), AllocError>
     ensures { OnOk result (names.new.items ≡ names.old.items ++ others.now) }
 {

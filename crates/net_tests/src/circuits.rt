@@ -1,10 +1,10 @@
-//! Circuits that are read and written again, and the refusals of whole documents.
+//! Circuits that are read and written again, and why whole documents are refused.
 
 use crate::refusals::names;
 use bench_core::{read_bench, write_bench};
 use std::alloc::{AllocError, Global};
 
-/// Whether a text's circuit is written as this text.
+/// Whether the circuit of `bytes` is written as `wanted`.
 fn is_written(alloc: Global, bytes: &[u8], wanted: &[u8]) -> Result<bool, AllocError> {
     if bytes.len() > 100_000 {
         return Ok(false);
@@ -21,7 +21,7 @@ fn is_written(alloc: Global, bytes: &[u8], wanted: &[u8]) -> Result<bool, AllocE
     Ok(text.as_slice() == wanted)
 }
 
-/// Whether a text is refused by this word and this name.
+/// Whether `bytes` are refused with the error `word` and the name `name`.
 fn is_refused(alloc: Global, bytes: &[u8], word: &str, name: &[u8]) -> bool {
     if bytes.len() > 100_000 {
         return false;
@@ -38,7 +38,7 @@ fn is_refused(alloc: Global, bytes: &[u8], word: &str, name: &[u8]) -> bool {
     told
 }
 
-/// Texts, and how their circuits are written.
+/// Texts, and the texts of their circuits.
 const WRITTEN: &[(&[u8], &[u8])] = &[
     // more than two operands are joined from the left, and the last gate has the key
     (
@@ -49,7 +49,7 @@ const WRITTEN: &[(&[u8], &[u8])] = &[
         b"INPUT(a)\nINPUT(b)\nINPUT(c)\nOUTPUT(y)\ny = XNOR(a, b, c)\n",
         b"INPUT(a)\nINPUT(b)\nINPUT(c)\nOUTPUT(y)\ng1 = XOR(a, b)\ny = XNOR(g1, c)\n",
     ),
-    // a latch, and a NOT that only it reads
+    // a latch, and a NOT that it alone reads
     (
         b"INPUT(a)\nOUTPUT(q)\nq = DFF(d)\nd = NOT(a)\n",
         b"INPUT(a)\nOUTPUT(q)\nq = DFF(g1)\ng1 = NOT(a)\n",
@@ -71,7 +71,7 @@ fn circuits_are_written_again(rt: HostRuntime) {
     }
 }
 
-/// Documents that are refused, by which word and which name.
+/// Documents that are refused, with the error and the name.
 const REFUSED: &[(&[u8], &str, &[u8])] = &[
     (b"INPUT(a)\nOUTPUT(y)\ny = AND(y, a)\n", "Cycle", b"y"),
     (b"INPUT(a)\nINPUT(a)\nOUTPUT(a)\n", "DrivenTwice", b"a"),

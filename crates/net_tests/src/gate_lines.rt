@@ -1,11 +1,11 @@
-//! What the lines of a BENCH text list, and which fault of a line is told.
+//! What the lines of a BENCH text list, and which fault of a line is reported.
 
 use crate::listing::lists;
 use crate::refusals::tells;
 use bench_text::read_listed;
 use std::alloc::{AllocError, Global};
 
-/// Whether a text lists so many inputs, outputs, clocks, latches and tables.
+/// Whether `text` lists `counts` inputs, outputs, clocks, latches and tables.
 fn is_listed(alloc: Global, text: &[u8], counts: [usize; 5]) -> bool {
     if text.len() > 100_000 {
         return false;
@@ -23,7 +23,7 @@ fn is_listed(alloc: Global, text: &[u8], counts: [usize; 5]) -> bool {
     }
 }
 
-/// Whether a text is refused by this word and at this line.
+/// Whether `text` is refused with the error `word` at `line`.
 fn is_refused(alloc: Global, text: &[u8], word: &str, line: u32) -> bool {
     if text.len() > 100_000 {
         return false;
@@ -40,7 +40,7 @@ fn is_refused(alloc: Global, text: &[u8], word: &str, line: u32) -> bool {
     told
 }
 
-/// Texts with how many inputs, outputs, clocks, latches and tables they list.
+/// Texts with the numbers of inputs, outputs, clocks, latches and tables that they list.
 const LISTED: &[(&str, [usize; 5])] = &[
     ("", [0, 0, 0, 0, 0]),
     ("# a comment\n\n \t\nINPUT(a)\nOUTPUT(a)", [1, 1, 0, 0, 0]),
@@ -97,7 +97,7 @@ fn faults_are_told_with_their_lines(rt: HostRuntime) {
     }
 }
 
-/// A gate of so many operands.
+/// A gate of `operands` operands.
 fn gate(alloc: Global, operands: u32) -> Result<Vec<u8>, AllocError> {
     let mut text = Vec::from_slice(alloc, b"y = AND(a")?;
     for _operand in 1..operands {
@@ -107,7 +107,7 @@ fn gate(alloc: Global, operands: u32) -> Result<Vec<u8>, AllocError> {
     Ok(text)
 }
 
-/// An input whose name has so many bytes.
+/// An input whose name has `bytes` bytes.
 fn input(alloc: Global, bytes: u32) -> Result<Vec<u8>, AllocError> {
     let mut text = Vec::from_slice(alloc, b"INPUT(")?;
     for _byte in 0..bytes {
@@ -117,14 +117,14 @@ fn input(alloc: Global, bytes: u32) -> Result<Vec<u8>, AllocError> {
     Ok(text)
 }
 
-/// Whether a gate of so many operands is listed, and one of one more is too wide.
+/// Whether a gate of `operands` operands is listed, and one of one more is too wide.
 fn is_widest(alloc: Global, operands: u32) -> Result<bool, AllocError> {
     let listed = is_listed(alloc, &gate(alloc, operands)?, [0, 0, 0, 0, 1]);
     let wider = gate(alloc, operands.saturating_add(1))?;
     Ok(listed && is_refused(alloc, &wider, "TooWide", 1))
 }
 
-/// Whether a name of so many bytes is listed, and one of one more is too long.
+/// Whether a name of `bytes` bytes is listed, and one of one more is too long.
 fn is_longest(alloc: Global, bytes: u32) -> Result<bool, AllocError> {
     let listed = is_listed(alloc, &input(alloc, bytes)?, [1, 0, 0, 0, 0]);
     let longer = input(alloc, bytes.saturating_add(1))?;

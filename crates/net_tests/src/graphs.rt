@@ -1,9 +1,9 @@
-//! Orders of graphs, and the first node that leads to itself.
+//! Topological orders of graphs, and the first node on a cycle.
 
 use graph_core::{Reads, visit_all};
 use std::alloc::{AllocError, Global};
 
-/// What the nodes of a graph read.
+/// The fanins of the nodes of a graph.
 fn reads_of(alloc: Global, graph: &[&[u32]]) -> Result<Vec<Reads>, AllocError> {
     let mut reads = Vec::new(alloc);
     for nodes in graph {
@@ -12,7 +12,7 @@ fn reads_of(alloc: Global, graph: &[&[u32]]) -> Result<Vec<Reads>, AllocError> {
     Ok(reads)
 }
 
-/// Whether a graph has this order; None where a node leads to itself.
+/// Whether the graph has the order `order`; None where a node is on a cycle.
 fn is_ordered(alloc: Global, graph: &[&[u32]], order: Option<&[u32]>) -> Result<bool, AllocError> {
     let reads = reads_of(alloc, graph)?;
     if reads.len() > 8 {
@@ -24,7 +24,7 @@ fn is_ordered(alloc: Global, graph: &[&[u32]], order: Option<&[u32]>) -> Result<
     }
 }
 
-/// Graphs by what each node reads, and their orders.
+/// Graphs by the fanins of each node, and their orders.
 const GRAPHS: &[(&[&[u32]], Option<&[u32]>)] = &[
     (&[&[1], &[2], &[]], Some(&[2, 1, 0])),
     (&[&[2, 1], &[], &[1]], Some(&[1, 2, 0])),

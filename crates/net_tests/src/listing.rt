@@ -1,11 +1,12 @@
-//! What the lines of a text list, and which fault is told: the rules that no clause spells out.
+//! What the lines of a text list, and which fault is reported: the rules that no contract spells
+//! out.
 
 use crate::refusals::tells;
 use blif_text::{Listed, read_listed};
 use net_core::Body;
 use std::alloc::Global;
 
-/// Whether so many inputs, outputs, clocks, latches and tables are listed.
+/// Whether `counts` inputs, outputs, clocks, latches and tables are listed.
 pub fn lists(listed: &Listed, counts: [usize; 5]) -> bool {
     let document = &listed.document;
     let ends = document.inputs.len() == counts[0] && document.outputs.len() == counts[1];
@@ -13,7 +14,7 @@ pub fn lists(listed: &Listed, counts: [usize; 5]) -> bool {
     ends && latches && document.tables.len() == counts[4]
 }
 
-/// How many lines the covers of the tables have.
+/// The number of cover lines of all tables.
 fn cover_lines(listed: &Listed) -> usize {
     let mut lines: usize = 0;
     for table in &listed.document.tables {
@@ -24,7 +25,7 @@ fn cover_lines(listed: &Listed) -> usize {
     lines
 }
 
-/// Whether a text lists so many of each kind, and so many lines of covers.
+/// Whether `text` lists `counts` of each kind, and `lines` cover lines.
 fn is_listed(alloc: Global, text: &[u8], counts: [usize; 5], lines: usize) -> bool {
     if text.len() > 100_000 {
         return false;
@@ -42,7 +43,7 @@ fn is_listed(alloc: Global, text: &[u8], counts: [usize; 5], lines: usize) -> bo
     }
 }
 
-/// Whether a text is refused by this word and at this line.
+/// Whether `text` is refused with the error `word` at `line`.
 fn is_refused(alloc: Global, text: &[u8], word: &str, line: u32) -> bool {
     if text.len() > 100_000 {
         return false;
@@ -59,9 +60,10 @@ fn is_refused(alloc: Global, text: &[u8], word: &str, line: u32) -> bool {
     told
 }
 
-/// Texts with how many inputs, outputs, clocks, latches, tables and lines of covers they list.
+/// Texts with the numbers of inputs, outputs, clocks, latches, tables and cover lines that they
+/// list.
 const LISTED: &[(&str, [usize; 5], usize)] = &[
-    // lines that go on, comments and CR
+    // continued lines, comments and CR
     (".inputs a\\\nb\n", [2, 0, 0, 0, 0], 0),
     (".inputs a \\ # c\n b\n", [2, 0, 0, 0, 0], 0),
     (".inputs a \\\r\nb\r\n", [2, 0, 0, 0, 0], 0),
@@ -96,7 +98,7 @@ fn texts_are_listed(rt: HostRuntime) {
 
 /// Texts and their first faults.
 const FAULTS: &[(&str, &str, u32)] = &[
-    // lines that go on, comments and CR
+    // continued lines, comments and CR
     (".inputs a # \\\nb\n", "Syntax", 2),
     (".inputs a\r", "Syntax", 1),
     // models and ends

@@ -4,7 +4,8 @@ use net_theory::plain::{matches_bits, place_value};
 use net_theory::{Gate, Sig};
 use op_basis::Op;
 
-/// Bits, and whether they match `1-0` as the Berkeley BLIF manual reads it: the first input 1, the third 0.
+/// Bits, and whether `1-0` covers them as the Berkeley BLIF manual says: the first input 1, the
+/// third 0.
 const MATCHED: &[(&str, [bool; 3], bool)] = &[
     ("100", [true, false, false], true),
     ("110", [true, true, false], true),

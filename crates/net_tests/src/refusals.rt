@@ -1,8 +1,8 @@
-//! What is told of a refused text, as words.
+//! The errors of refused texts, as words.
 
 use net_core::NetError;
 
-/// The word of a line's fault, and the line.
+/// The word of an error with a line, and the line.
 fn fault(error: &NetError) -> (&'static str, u32) {
     match error {
         NetError::Syntax(line) => ("Syntax", *line),
@@ -16,13 +16,13 @@ fn fault(error: &NetError) -> (&'static str, u32) {
     }
 }
 
-/// Whether a line's fault has this word and this line.
+/// Whether an error has the word `word` and the line `line`.
 pub fn tells(error: &NetError, word: &str, line: u32) -> bool {
     let (told, at) = fault(error);
     told == word && at == line
 }
 
-/// The word of a document's fault, and the name.
+/// The word of an error with a name, and the name.
 fn named(error: &NetError) -> (&'static str, &[u8]) {
     match error {
         NetError::DrivenTwice(told) => ("DrivenTwice", told.get()),
@@ -33,7 +33,7 @@ fn named(error: &NetError) -> (&'static str, &[u8]) {
     }
 }
 
-/// Whether a document is refused by this word and this name.
+/// Whether an error has the word `word` and the name `name`.
 pub fn names(error: &NetError, word: &str, name: &[u8]) -> bool {
     let (told, at) = named(error);
     told == word && at == name

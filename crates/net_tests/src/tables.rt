@@ -1,4 +1,4 @@
-//! Tables, their gates and the values of these.
+//! Tables, their gates and the gates' values.
 
 ghost use Rattle.std.specs.Prelude.{◌≡◌, IsTrue, IfOk};
 ghost use Rattle.std.specs.List.{list_all};
@@ -10,7 +10,7 @@ use net_core::{
 };
 use std::alloc::{AllocError, Global};
 
-/// Whether these bytes can stand in a cube.
+/// Whether all bytes may be part of a cube.
 fn are_cube_bytes(bytes: &[u8]) -> bool
     ensures { result ≡ list_all is_cube_byte bytes.now }
 {
@@ -19,7 +19,7 @@ fn are_cube_bytes(bytes: &[u8]) -> bool
         .all(|byte| *byte == b'0' || *byte == b'1' || *byte == b'-')
 }
 
-/// Whether they are a cube.
+/// Whether `bytes` are a cube of `width` inputs.
 fn is_cube(width: u32, bytes: &[u8]) -> bool
     ensures { result ≡ is_cube_of width bytes.now }
 {
@@ -51,7 +51,7 @@ pub fn cover(alloc: Global, cubes: &[&[u8]], on: bool) -> Result<Cover, AllocErr
     })
 }
 
-/// The value of a signal, as it is written.
+/// The value of a signal, as a digit.
 fn digit(sig: Sig, places: &[bool]) -> u8 {
     let value = match sig {
         Sig::Zero => false,
@@ -64,7 +64,7 @@ fn digit(sig: Sig, places: &[bool]) -> u8 {
     if value { b'1' } else { b'0' }
 }
 
-/// The value of a signal of a net of three sources on a row, as it is written.
+/// The value of a signal of a net of three sources on the row `row`, as a digit.
 fn value_on(alloc: Global, net: &Net, sig: Sig, row: u32) -> Result<u8, AllocError>
     requires { net.now.sources ≡ 3 }
 {
@@ -77,7 +77,8 @@ fn value_on(alloc: Global, net: &Net, sig: Sig, row: u32) -> Result<u8, AllocErr
     Ok(digit(sig, &places))
 }
 
-/// Whether these are the values of a signal of a net of three sources on the rows 000, 001, 010 and so on.
+/// Whether a signal of a net of three sources has the values `digits` on the rows 000, 001, 010 and
+/// so on.
 fn has_rows(alloc: Global, net: &Net, sig: Sig, digits: &[u8]) -> Result<bool, AllocError>
     requires { net.now.sources ≡ 3 }
 {
@@ -90,7 +91,7 @@ fn has_rows(alloc: Global, net: &Net, sig: Sig, digits: &[u8]) -> Result<bool, A
     Ok(digits.len() == 8)
 }
 
-/// Whether a cover of three inputs has these rows by its gates, and so many of these.
+/// Whether a cover of three inputs is expanded into `gates` gates with the values `digits`.
 fn is_expanded(
     alloc: Global,
     cover: &Cover,
@@ -111,7 +112,7 @@ fn is_expanded(
     Ok(few && rows?)
 }
 
-/// Whether a table has these rows by its gates, and so many of these.
+/// Whether a table of three inputs is expanded into `gates` gates with the values `digits`.
 fn is_built(
     alloc: Global,
     cubes: &[&[u8]],
@@ -125,7 +126,7 @@ fn is_built(
     built
 }
 
-/// Covers by their cubes, whether of the on-set, with their rows and how many gates they take.
+/// Covers by their cubes, whether for the on-set, with their values and their numbers of gates.
 const COVERS: &[(&[&[u8]], bool, &str, usize)] = &[
     (&[b"1-0", b"-11"], true, "00011011", 3),
     (&[b"000"], false, "01111111", 2),
@@ -149,7 +150,7 @@ fn tables_become_gates(rt: HostRuntime) {
     }
 }
 
-/// Whether three inputs that are joined have these rows by two gates.
+/// Whether three inputs that are joined have the values `digits` by two gates.
 #[tactic(auto, using(net_core::specs::BodyLaws::joined_cost))]
 fn is_joined(alloc: Global, whole: Whole, digits: &[u8]) -> Result<bool, AllocError>
     requires { whole.width ≡ 3 }
@@ -163,7 +164,7 @@ fn is_joined(alloc: Global, whole: Whole, digits: &[u8]) -> Result<bool, AllocEr
     Ok(few && rows?)
 }
 
-/// What joins three inputs, whether it is as it says or the opposite, and the rows.
+/// How three inputs are joined, whether not complemented, and the values.
 const JOINED: &[(Connective, bool, &str)] = &[
     (Connective::And, true, "00000001"),
     (Connective::And, false, "11111110"),
@@ -173,7 +174,7 @@ const JOINED: &[(Connective, bool, &str)] = &[
     (Connective::Xor, false, "10010110"),
 ];
 
-/// Whether the whole table is true of 1, 1 and 0 where its row says so.
+/// Whether `whole` has the value at 1, 1 and 0 that `digits` says.
 fn is_valued(whole: Whole, digits: &[u8]) -> bool
     requires { whole.width ≡ 3 }
 {

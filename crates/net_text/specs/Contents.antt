@@ -1,5 +1,5 @@
--- What a line of a netlist says, whatever its format: comments begin with `#` and run to the end of their
--- line, and blanks at the end of a line say nothing.
+-- The content of a line of a netlist, in any format: comments begin with `#` and run to the end of
+-- their line, and blanks at the end of a line don't count.
 use Rattle.std.specs.Prelude.{ℕ, Bool, true, false, ◌&&◌, ◌||◌, ◌==◌, if◌then◌else◌, List, [], ◌∷◌, ◌++◌, Option, Some, None}
 use Rattle.std.specs.Option.{option_map}
 use Rattle.text_core.specs.Lines.{Line}
@@ -8,7 +8,7 @@ use Rattle.text_core.specs.Lines.{Line}
 abbrev pub is_blank : ℕ → Bool
 is_blank b = b == 32 || b == 9
 
--- front ++ bytes up to the first `#` of bytes
+-- `front` and then `bytes` up to the first `#` of `bytes`
 unfoldable pub before_from : List ℕ → List ℕ → List ℕ
 before_from front [] = front
 before_from front (b ∷ bs) = if b == 35 then front else before_from (front ++ b ∷ []) bs
@@ -28,7 +28,7 @@ trimmed (b ∷ bs) = if is_blank b && is_nothing (trimmed bs) then [] else b ∷
 abbrev pub behind_first : ℕ → Option (List ℕ) → Option (List ℕ)
 behind_first b rest = option_map (λ (front : List ℕ). b ∷ front) rest
 
--- what stands before a byte at the end of a text; None where the text doesn't end with it
+-- a text without its last byte, where that is the byte given; None where it isn't
 unfoldable pub without_last : ℕ → List ℕ → Option (List ℕ)
 without_last c [] = None
 without_last c (b ∷ []) = if b == c then Some [] else None
@@ -42,7 +42,7 @@ or_whole text (Some front) = front
 abbrev pub without_return : Line → List ℕ
 without_return l = if l.ended then or_whole l.text (without_last 13 l.text) else l.text
 
--- what a line says: its text before the comment, without the blanks at its end
--- Example: `.end # of m` says `.end`.
+-- the content of a line: its text before the comment, without the blanks at its end
+-- Example: that of `.end # of m` is `.end`.
 abbrev pub content_of : Line → List ℕ
 content_of l = trimmed (before_comment (without_return l))

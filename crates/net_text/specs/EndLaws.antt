@@ -3,7 +3,7 @@ use Rattle.std.proofs.Common.{◌≡◌, ℕ, true, false, ◌==◌, if◌then�
 use Rattle.std.proofs.lemmas.Grind.{common_steps}
 use Rattle.net_text.specs.Contents.{is_blank, trimmed, without_last}
 
--- a blank at the end goes
+-- a blank at the end is dropped
 pub trimmed-blank : (xs : List ℕ) (b : ℕ) → is_blank b ≡ true → trimmed (xs ++ b ∷ []) ≡ trimmed xs
 unfolding trimmed
 trimmed-blank [] b e = grind (arith, common_steps)
@@ -20,7 +20,7 @@ pub trimmed-nothing : trimmed [] ≡ []
 unfolding trimmed
 trimmed-nothing = refl
 
--- the last byte is the one or isn't
+-- the last byte is `c` or isn't
 pub without_last-push : (c : ℕ) (xs : List ℕ) (b : ℕ) → without_last c (xs ++ b ∷ []) ≡ (if b == c then Some xs else None)
 unfolding without_last
 without_last-push c [] b = grind (arith, common_steps)

@@ -1,5 +1,5 @@
-//! What a line says: CRs, comments and blanks at its end are dropped, each by a walk from one end that the
-//! definition's own equation carries.
+//! The content of a line: its CR, its comment and the blanks at its end are dropped, each by a walk
+//! from one end that follows the recursion of the definition.
 ghost use Rattle.std.specs.Prelude.{◌≡◌};
 ghost use Rattle.std.specs.Option.{option_copied};
 ghost use Rattle.net_text.specs.Contents.{is_blank as is_blank_of, before_comment as before_comment_of, trimmed, without_last as without_last_of};
@@ -12,7 +12,7 @@ pub fn is_blank(byte: u8) -> bool
     byte == b' ' || byte == b'\t'
 }
 
-/// What stands before the first `#`.
+/// `text` before the first `#`.
 #[tactic(auto, using(text_core::specs::Cuts::cuts), unfolding(crate::specs::Contents::before_from))]
 fn before_comment(text: &[u8]) -> &[u8]
     ensures content { result.now ≡ before_comment_of text.now }
@@ -45,7 +45,7 @@ fn trim(text: &[u8]) -> &[u8]
     left
 }
 
-/// What stands before a byte at the end of a text; None where the text doesn't end with it.
+/// `text` without its last byte, where that is `byte`; None where it isn't.
 #[tactic(auto, using(crate::specs::EndLaws::ends))]
 pub fn without_last(byte: u8, text: &[u8]) -> Option<&[u8]>
     ensures { option_copied result ≡ without_last_of byte text.now }
@@ -54,7 +54,7 @@ pub fn without_last(byte: u8, text: &[u8]) -> Option<&[u8]>
     if *last == byte { Some(front) } else { None }
 }
 
-/// A line without its CR, where an LF follows it.
+/// A line without its CR, where an LF follows the CR.
 fn without_return(text: &[u8], ended: bool) -> &[u8]
     ensures { result.now ≡ without_return_of (record { text = text.now; ended = ended }) }
 {
@@ -67,7 +67,7 @@ fn without_return(text: &[u8], ended: bool) -> &[u8]
     }
 }
 
-/// What a line says.
+/// The content of a line; `ended` where an LF follows it.
 pub fn content_of(text: &[u8], ended: bool) -> &[u8]
     ensures { result.now ≡ content_of_line (record { text = text.now; ended = ended }) }
 {

@@ -1,6 +1,6 @@
-//! The text rules that the formats of netlists share: what a line says without its CR, its comment and the
-//! blanks at its end, which bytes are a name, and how long a line and a word may be. How lines are joined
-//! and what they mean is a format's own.
+//! Lexical rules that the netlist formats share: the content of a line without its CR, its comment
+//! and the blanks at its end, which bytes are a name, and the limits of lines and words. How lines
+//! are joined and what they mean is up to each format.
 //!
 //! ```text
 //! content_of(b".end # of m\r", true) // .end

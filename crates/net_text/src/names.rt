@@ -1,9 +1,9 @@
-//! Names, and how long a line and a word may be.
+//! Names, and the limits of lines and words.
 ghost use Rattle.std.specs.Prelude.{◌≡◌};
 ghost use Rattle.net_theory.specs.Document.{is_name as is_name_of, is_name_byte as is_name_byte_of};
 ghost use Rattle.net_text.specs.Limits.{is_long_line as is_long_line_of, is_long_word as is_long_word_of};
 
-/// Whether a line of so many bytes is too long.
+/// Whether a line of `size` bytes is too long.
 pub fn is_long_line(size: usize) -> bool
     ensures { result ≡ is_long_line_of size }
 {
@@ -17,14 +17,14 @@ pub fn is_long_word(word: &[u8]) -> bool
     word.len() > 1024
 }
 
-/// Whether a byte can stand in a name.
+/// Whether a byte can be part of a name.
 fn is_name_byte(byte: u8) -> bool
     ensures { result ≡ is_name_byte_of byte }
 {
     byte >= 33 && byte <= 126 && byte != b'#'
 }
 
-/// Whether these bytes are a name.
+/// Whether `bytes` are a name.
 #[tactic(auto, unfolding(net_theory::specs::Document::is_name))]
 pub fn is_name(bytes: &[u8]) -> bool
     ensures { result ≡ is_name_of bytes.now }

@@ -3,24 +3,25 @@ use Rattle.std.specs.Prelude.{◌≡◌, Bool, map, All}
 use Rattle.net_theory.specs.Cover.{cover_value}
 use Rattle.net_theory.specs.Document.{Name, Table, Document, source_names, sink_names, driven_names, latches_of}
 
--- A map gives names bits. A table holds in it where its output has the cover's value at the bits of
--- its inputs.
+-- `v` gives each name a bit. A table holds in `v` where its output has the cover's value at the
+-- bits of its inputs.
 abbrev pub HoldsIn : (Name → Bool) → Table → Type 0
 HoldsIn v t = v t.output ≡ cover_value t.cover (map v t.inputs)
 
--- a map in which the inputs and the latches' outputs have the given bits and each table holds
+-- `v` gives the inputs and the latches' outputs the bits of `given`, and each table holds in it
 pub record IsMapOf (d : Document) (given v : Name → Bool) : Type 0 where
   pub sources : All (λ n. v n ≡ given n) (source_names d)
   pub tables : All (HoldsIn v) d.tables
 
--- There is such a map, and any two agree on each name that is driven.
+-- There is a map for `given`, and any two agree on each name that is driven.
 pub record HasOneMap (d : Document) (given : Name → Bool) : Type 0 where
   pub some : (v : Name → Bool) × IsMapOf d given v
   pub one : (v w : Name → Bool) → IsMapOf d given v → IsMapOf d given w → All (λ n. v n ≡ w n) (driven_names d)
 
--- Two netlists do the same. Their inputs, outputs and clocks are the same names in the same order, and
--- their latches agree in order, output, control and first value. Under every assignment of the inputs
--- and the latches' outputs each has one map, and the two agree on the outputs and the latches' inputs.
+-- Two netlists with one interface and one behaviour. Their inputs, outputs and clocks are the same
+-- names in the same order, and their latches agree in order, output, control and initial value.
+-- Under every assignment of the inputs and the latches' outputs each has one map, and the two agree
+-- on the outputs and the latches' inputs.
 pub record Same (d e : Document) : Type 0 where
   pub inputs : d.inputs ≡ e.inputs
   pub outputs : d.outputs ≡ e.outputs

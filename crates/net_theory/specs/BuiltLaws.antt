@@ -1,4 +1,4 @@
--- What a table's gates leave, and tables of at most two inputs.
+-- What a table's gates compute, and tables of at most two inputs.
 use Rattle.std.specs.Prelude.{◌≡◌, ℕ, ◌+◌, ◌*◌, ◌<◌, Bool, true, false, not, ◌==◌, if◌then◌else◌, List, [], ◌∷◌, length, refl}
 use Rattle.std.proofs.Common.{arith, ◌∙◌, ◌≢◌, length-append}
 use Rattle.std.proofs.lemmas.Bool.{eqb-true}
@@ -14,30 +14,30 @@ use Rattle.net_theory.specs.ValueLaws.{IsGrown, grown_none, grown_push, value-la
 
 -- ---- choices
 
--- what holds on both sides of a test holds of the choice
+-- what holds in both branches holds of the choice
 pub by_test : {A : Type 0} (P : A → Type 0) (t : Bool) (x y : A) → (t ≡ true → P x) → (t ≡ false → P y) → P (if t then x else y)
 by_test P true x y yes_ no_ = yes_ refl
 by_test P false x y yes_ no_ = no_ refl
 
--- where a number isn't another, the test says so
+-- where two numbers differ, the test says so
 pub differs : (a b : ℕ) → (a == b) ≡ false → a ≢ b
 differs a b e same = grind (arith, nat_tests)
 
 -- ---- what is built
 
--- The gates stand behind the old ones, count more, and the table's signal has the bit that is told.
+-- The gates of `b` are those of `old` and `more` after them, and its signal has the value `bit`.
 pub record IsBuilt (sources : ℕ) (old : List Gate) (more : ℕ) (bit : (ℕ → Bool) → Bool) (b : Built) : Type 0 where
   pub grown : IsGrown sources old b.gates
   pub count : length b.gates ≡ length old + more
   pub below : IsSigBelow (sources + 1 + length b.gates) b.sig
   pub value : (given : ℕ → Bool) → sig_value (values_of given sources b.gates) b.sig ≡ bit given
 
--- the bit, said otherwise
+-- with an equal `bit`
 pub built_same : (sources : ℕ) (old : List Gate) (more : ℕ) (bit bit' : (ℕ → Bool) → Bool) (b : Built) → ((given : ℕ → Bool) → bit given ≡ bit' given) → IsBuilt sources old more bit b → IsBuilt sources old more bit' b
 built_same sources old more bit bit' b same is =
     record { grown = is.grown; count = is.count; below = is.below; value = λ given. is.value given ∙ same given }
 
--- the count, said otherwise
+-- with an equal `more`
 pub built_count : (sources : ℕ) (old : List Gate) (more more' : ℕ) (bit : (ℕ → Bool) → Bool) (b : Built) → more ≡ more' → IsBuilt sources old more bit b → IsBuilt sources old more' bit b
 built_count sources old more more' bit b same is =
     record { grown = is.grown; count = omega (arith, is.count); below = is.below; value = is.value }
@@ -168,7 +168,7 @@ apply_10 false false = refl
 abbrev IsBinary : ℕ → List Gate → Sig → Sig → ℕ → Built → Type 0
 IsBinary sources old a b word x = IsBuilt sources old (binary_cost word) (λ given. apply word (sig_value (values_of given sources old) a) (sig_value (values_of given sources old) b)) x
 
--- a word that is none of the four free ones costs a gate
+-- a word that is neither constant nor a copy costs a gate
 costs_one : (word : ℕ) → word ≢ 0 → word ≢ 15 → word ≢ 3 → word ≢ 5 → 1 ≡ binary_cost word
 costs_one word n0 n15 n3 n5 = grind (arith, nat_tests)
 
@@ -191,7 +191,7 @@ binary_is sources old word a b are first second low =
 
 -- ---- the words of covers
 
--- Each of two bits
+-- one bit, case by case
 both : (P : Bool → Type 0) → P false → P true → (b : Bool) → P b
 both P f t false = f
 both P f t true = t
@@ -221,7 +221,7 @@ unary_word_value c true = digit_low (cover_value c (false ∷ [])) (cover_value 
 abbrev word4 : Bool → Bool → Bool → Bool → ℕ
 word4 w x y z = 8 * digit_of w + 4 * digit_of x + 2 * digit_of y + digit_of z
 
--- what holds of four bits, one by one
+-- a property of four bits
 abbrev FourBits : Type 1
 FourBits = Bool → Bool → Bool → Bool → Type 0
 

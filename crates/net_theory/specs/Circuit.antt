@@ -19,17 +19,17 @@ pub record Circuit : Type 0 where
   pub latches : List Latch
   pub net : Net
 
--- the names of the sources, the first at place 1
+-- the names of the sources, from place 1 on
 abbrev pub sources_of : Circuit → List Name
 sources_of c = c.inputs ++ map latch_output c.latches
 
--- a control is no output, unless that is a source
+-- a control is no output, unless it is a source as well
 abbrev pub IsApart : List Name → List Name → Option (Trigger × Name) → Type 0
 IsApart outputs sources None = Unit {0}
 IsApart outputs sources (Some c) = has outputs c.1 ≡ true → has sources c.1 ≡ true
 
--- A circuit whose text can be written: sources and sinks have their names, source names differ, and an
--- output's name tells what it is.
+-- A circuit whose text can be written: sources and sinks have names, the source names differ, and
+-- outputs of one name are one signal.
 pub record IsProper (c : Circuit) : Type 0 where
   pub net : IsNet c.net
   pub source_count : c.net.sources ≡ length (sources_of c)
@@ -45,11 +45,12 @@ pub record IsProper (c : Circuit) : Type 0 where
   pub controls : All (λ (l : Latch). IsApart c.outputs (sources_of c) l.control) c.latches
   pub gates : length c.net.gates ≤ 100000
 
--- the bits of the places, by the bits of the sources' names
+-- the bits of the places, from the bits of the sources' names
 abbrev pub by_place : List Name → (Name → Bool) → ℕ → Bool
 by_place names given place = given (slice_index_or names (place - 1) [])
 
--- the values of a circuit's sinks: the outputs and then the next states
+-- the values of a circuit's sinks, the outputs and then the next states, where the names of the
+-- sources have the bits of a map
 abbrev pub values_by_name : Circuit → (Name → Bool) → List Bool
 values_by_name c given = sink_values c.net (by_place (sources_of c) given)
 

@@ -22,7 +22,7 @@ use Rattle.net_theory.specs.WellFormed.{IsFreeOf, IsLatch, IsLatchLine, IsWellFo
 use Rattle.net_theory.specs.Circuit.{Circuit, IsApart, IsProper, Describes, IsCircuitOf}
 use Rattle.net_theory.specs.NetLaws.{IsGrowth, TableStands, HasSignal, name_value, net_bits, spent_all, start_growth, tables_grown, source_bit, signal_is, map_same}
 
--- the circuit with a document's names and this net
+-- the circuit with the names of `d` and the net `n`
 abbrev pub circuit_of : Document → Net → Circuit
 circuit_of d n = record { model = d.model; inputs = d.inputs; outputs = d.outputs; clocks = d.clocks; latches = latches_of d; net = n }
 
@@ -95,7 +95,7 @@ describes_is d order well is =
 
 -- ---- proper
 
--- what stands at a place of the sinks
+-- the signal of the sink at index `i`
 sink_at : (d : Document) (g : Growth) (ns : List Name) (i : ℕ) → i < length ns → slice_index_or (map (signal_of g.signals) ns) i Zero ≡ signal_of g.signals (slice_index_or ns i [])
 sink_at d g [] i low = absurd (omega arith)
 sink_at d g (n ∷ ns) zero low = refl
@@ -161,7 +161,7 @@ unfolding cost
 count_is d order well is =
     (all_grown d order well is).count ∙ spent_all 0 d.tables order (λ k low. subst (λ (x : ℕ). has_ended order x ≡ true) (omega arith) (ended_all d order is k low))
 
--- The net that is made in the order of a visit is the net of the circuit.
+-- The net whose gates are in topological order of the tables is the net of the circuit.
 pub circuit_is : (d : Document) (order : List ℕ) → IsWellFormed d → order_of (graph_of d.tables) ≡ Some order → source_count d + 100000 < 2 ^ 31 → IsCircuitOf d (circuit_of d (net_in_order d order))
 unfolding net_of net_in_order
 circuit_is d order well e small =

@@ -1,4 +1,4 @@
--- How many gates a table becomes, and a netlist.
+-- The number of two-input gates that a table, and a netlist, is decomposed into.
 use Rattle.std.specs.Prelude.{ℕ, ◌+◌, ◌-◌, Bool, true, false, ◌&&◌, ◌||◌, ◌==◌, if◌then◌else◌, List, [], ◌∷◌, ◌++◌, sum_by, count_by}
 use Rattle.net_theory.specs.Cover.{Cover, cover_value}
 use Rattle.net_theory.specs.Document.{Name, is_same, Table, Document}
@@ -10,7 +10,7 @@ abbrev pub byte_if : Bool → ℕ → List (List ℕ)
 byte_if true b = (b ∷ []) ∷ []
 byte_if false b = []
 
--- the cover of one input with these values at 0 and 1
+-- the cover of one input, by its values at 0 and 1
 abbrev pub unary_cover : Bool → Bool → Cover
 unary_cover at_zero at_one = record { width = 1; cubes = byte_if at_zero 48 ++ byte_if at_one 49; on = true; parity = false }
 
@@ -33,20 +33,20 @@ unary_cost word = if word == 2 then 1 else 0
 abbrev pub binary_cost : ℕ → ℕ
 binary_cost word = if word == 0 || word == 15 || word == 3 || word == 5 then 0 else 1
 
--- how many inputs a cube asks for
+-- how many inputs a cube asks for: its literals
 abbrev pub literal_count : List ℕ → ℕ
 literal_count cube = count_by (λ b. b == 48 || b == 49) cube
 
 abbrev pub literal_sum : List (List ℕ) → ℕ
 literal_sum cubes = sum_by literal_count cubes
 
--- whether the one literal of a table has a sign that is turned in the end
+-- whether a cover of one literal is NOT of an input
 abbrev pub is_not : Bool → List (List ℕ) → Bool
 is_not on (cube ∷ []) = (literal_count cube == 1) && (if on then count_by (λ b. b == 48) cube == 1 else count_by (λ b. b == 48) cube == 0)
 is_not on other = false
 
--- A wider cover that isn't constant by its form takes a gate less than it has literals, and one more
--- where it is NOT of an input.
+-- A cover of more than two inputs takes a gate less than it has literals, and one more where it is
+-- NOT of an input. It takes none where its form shows that it is constant.
 unfoldable pub cubes_cost : Cover → ℕ
 cubes_cost c = if is_plain c.cubes then 0 else (literal_sum c.cubes - 1) + (if is_not c.on c.cubes then 1 else 0)
 
@@ -60,7 +60,7 @@ cover_cost c (a ∷ []) = unary_cost (unary_word c)
 cover_cost c (a ∷ b ∷ []) = binary_cost (binary_word c)
 cover_cost c (a ∷ b ∷ d ∷ inputs) = wide_cost c
 
--- the number of gates that a table becomes
+-- the number of gates that a table is decomposed into
 -- Example: `1-0 1` and `-11 1` cost 3; NOT and XOR cost 1, a copy costs 0, and XOR of five inputs 4.
 unfoldable pub table_cost : Table → ℕ
 table_cost t = cover_cost (merged_table t).cover (merged_table t).inputs

@@ -1,10 +1,11 @@
--- Covers: tables written as cubes (the Berkeley BLIF manual), and parities, which have no short cubes.
+-- Covers: sums of products (SOP) written as cubes (the Berkeley BLIF manual), and parities, which
+-- have no short SOP.
 use Rattle.std.specs.Prelude.{◌≡◌, ℕ, Bool, true, false, not, ◌&&◌, ◌||◌, ◌==◌, if◌then◌else◌, List, [], ◌∷◌, length, All}
 use Rattle.std.specs.List.{list_any, list_all}
 
--- A cube has a byte for each of the inputs, in order: `0`, `1` or `-`. All cubes of a cover say where
--- the table has the one value: 1 where on is true, else 0. A parity has no cubes: it has the value 1
--- where an odd number of its inputs is 1 and on is true, or an even number and on is false.
+-- A cube has a byte for each of the inputs, in order: `0`, `1` or `-`. All cubes of a cover are for
+-- one value: the on-set where `on` is true, else the off-set. A parity has no cubes: it is 1 where
+-- an odd number of its inputs is 1 and `on` is true, or an even number and `on` is false.
 -- Examples: `1-0 1` is the cube 49 45 48 of a cover with on = true. XOR is a parity with on = true.
 pub record Cover : Type 0 where
   pub width : ℕ
@@ -16,7 +17,7 @@ pub record Cover : Type 0 where
 abbrev pub is_cube_byte : ℕ → Bool
 is_cube_byte b = b == 48 || b == 49 || b == 45
 
--- whether these bytes are a cube of this many inputs
+-- whether a list of bytes is a cube of `width` inputs
 abbrev pub is_cube : ℕ → List ℕ → Bool
 is_cube width cube = length cube == width && list_all is_cube_byte cube
 
@@ -28,14 +29,14 @@ pub record IsCover (c : Cover) : Type 0 where
 abbrev pub is_asked : ℕ → Bool → Bool
 is_asked byte bit = if byte == 49 then bit else (if byte == 48 then not bit else true)
 
--- whether a cube matches the bits of the inputs: each byte gets what it asks for
+-- whether a cube covers a minterm: each byte gets the bit that it asks for
 -- Example: 1-0 matches 100 and 110 and nothing else.
 unfoldable pub matches : List ℕ → List Bool → Bool
 matches [] bits = true
 matches (c ∷ cube) [] = true
 matches (c ∷ cube) (b ∷ bits) = is_asked c b && matches cube bits
 
--- whether some cube does
+-- whether some cube of a list does
 abbrev pub is_matched : List (List ℕ) → List Bool → Bool
 is_matched cubes bits = list_any (λ cube. matches cube bits) cubes
 
@@ -52,8 +53,8 @@ is_odd (b ∷ bits) = if b then not (is_odd bits) else is_odd bits
 abbrev pub parity_value : Bool → List Bool → Bool
 parity_value on bits = if on then is_odd bits else not (is_odd bits)
 
--- The value of a table. Where its cubes are for the value 1 it is 1 exactly on the rows that some cube
--- matches; where they are for 0 it is 0 exactly there. A table without cubes is 0, but for a parity.
+-- The value of a table. Where `on` is true it is 1 exactly on the rows that some cube covers; where
+-- `on` is false it is 0 exactly there. A table without cubes is 0, but for a parity.
 -- Example: `00 0` over two inputs is OR.
 unfoldable pub cover_value : Cover → List Bool → Bool
 cover_value c bits = if c.parity then parity_value c.on bits else value_by c.on c.cubes bits

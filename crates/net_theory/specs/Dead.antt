@@ -1,4 +1,4 @@
--- Dead gates: those that no sink reads, directly or through gates.
+-- Dead (dangling) gates: those that no sink reads, directly or through gates.
 use Rattle.std.specs.Prelude.{◌+◌, map}
 use Rattle.net_theory.specs.Net.{Net}
 use Rattle.net_theory.specs.Reach.{live}

@@ -1,4 +1,4 @@
--- Dropping dead gates leaves a net without any that answers the same.
+-- Dropping dead gates keeps the values of all sinks and leaves no dead gate.
 use Rattle.std.specs.Prelude.{◌≡◌, ℕ, zero, suc, ◌+◌, ◌≤◌, ◌<◌, Bool, true, ◌&&◌, List, [], ◌∷◌, length, slice_get, slice_index_or, map, Some, ◌⊎◌, refl}
 use Rattle.std.proofs.Common.{arith, sym, ◌∙◌, ap, subst, inl, inr, ⊎_elim}
 use Rattle.std.proofs.lemmas.Bool.{and_parts, and_from, cases_lt}
@@ -79,13 +79,13 @@ dropped_values n given net =
 
 -- ---- what is left is reached
 
--- what a set of new places is at an old signal
+-- whether a set of new places has the new signal of an old place
 abbrev set_at : (ℕ → Bool) → Sig → Bool
 set_at set Zero = true
 set_at set One = true
 set_at set (Place p) = set p
 
--- the old places that are live and went into a set
+-- whether an old place is live, and the set has its new signal
 abbrev went_into : Net → (ℕ → Bool) → ℕ → Bool
 went_into n set p = live n p && set_at set ((kept_gates n).places p)
 
@@ -93,13 +93,13 @@ reads_moved : (places : ℕ → Sig) (g : Gate) (p q : ℕ) → ReadsPlace g p �
 reads_moved places g p q reads e =
     ⊎_elim (λ a. inl (ap (moved places) a ∙ e)) (λ b. inr (ap (moved places) b ∙ e)) reads
 
--- a place that is live went to a constant or a place
+-- `set_at` where a signal is a constant or a place of the set
 into_set : (set : ℕ → Bool) (s : Sig) → ((q : ℕ) → s ≡ Place q → set q ≡ true) → set_at set s ≡ true
 into_set set Zero each = refl
 into_set set One each = refl
 into_set set (Place q) each = each q refl
 
--- What a closed set of the new net has, as places of the old one, is closed there.
+-- A closed set of the new net, as places of the old one, is closed there.
 went_closed : (n : Net) (set : ℕ → Bool) → IsNet n → IsClosedFrom (dropped n) (is_sink (dropped n)) set → IsClosedFrom n (is_sink n) (went_into n set)
 unfolding dropped
 went_closed n set net closed =
@@ -123,7 +123,7 @@ dropped_reached n j h net at set closed =
     let parts = and_parts (live n (n.sources + 1 + made.index)) (set_at set ((kept_gates n).places (n.sources + 1 + made.index))) reached in
     subst (λ (s : Sig). set_at set s ≡ true) made.went parts.1
 
--- sources and constants stay
+-- sources keep their places
 source_kept : (n : Net) (p : ℕ) → p ≤ n.sources → (kept_gates n).places p ≡ Place p
 source_kept n p low =
     places_low (live n) n.sources (nothing_kept n.sources) (n.sources + 1) n.gates p (omega arith) ∙ source_stays n.sources p low
@@ -156,7 +156,7 @@ dropped_answers n net =
       equal = λ i j d low_i low_j same. index_map (moved (kept_gates n).places) n.sinks i d low_i ∙ ap (moved (kept_gates n).places) same ∙ sym (index_map (moved (kept_gates n).places) n.sinks j d low_j);
     }
 
--- Dropping dead gates leaves a net without any that answers what the net answers.
+-- Dropping dead gates leaves a net without any, whose sinks have the values of the old one's.
 pub dropped_is : (n : Net) → IsNet n → IsPruned n (dropped n)
 unfolding dropped
 dropped_is n net =
@@ -165,7 +165,7 @@ dropped_is n net =
       reached = λ j low. let h = some_there (kept_gates n).gates j low in dropped_reached n j h.0 net h.1;
     }
 
--- The gates that are left have operators of the net's gates.
+-- The gates that are left have operators of the old gates.
 pub dropped_operators : (n : Net) (j : ℕ) (h : Gate) → IsNet n → slice_get (dropped n).gates j ≡ Some h → (i : ℕ) × (g : Gate) × (slice_get n.gates i ≡ Some g) × (h.op ≡ g.op)
 unfolding dropped
 dropped_operators n j h net at =

@@ -1,4 +1,4 @@
--- Tables that read one another.
+-- Tables that read one another, and combinational loops.
 use Rattle.std.specs.Prelude.{◌≡◌, ℕ, ◌<◌, slice_get, Some, true}
 use Rattle.net_theory.specs.Document.{Name, Table, Document, has}
 
@@ -11,16 +11,18 @@ pub record Reads (d : Document) (i j : ℕ) : Type 0 where
   pub is_driver : slice_get d.tables j ≡ Some driver
   pub read : has reader.inputs driver.output ≡ true
 
--- Table i depends on table j where it reads it, or reads a table that depends on it.
+-- Table i depends on table j where j is in its transitive fanin: it reads j, or a table that
+-- depends on j.
 pub data DependsOn (d : Document) : ℕ → ℕ → Type 0 where
   at_once : (i j : ℕ) → Reads d i j → DependsOn d i j
   by_way_of : (i j k : ℕ) → Reads d i j → DependsOn d j k → DependsOn d i k
 
--- no table depends on itself; a loop that goes through a latch is none through tables
+-- no combinational loop: no table depends on itself (a loop through a latch goes through its
+-- source)
 abbrev pub IsAcyclic : Document → Type 0
 IsAcyclic d = (i : ℕ) → DependsOn d i i → ⊥
 
--- a name is the output of the first table that depends on itself
+-- `name` is the output of the first table that depends on itself
 -- Example: of `.names a n2 n1` and `.names n1 n2` that is n1.
 pub record IsFirstCyclic (d : Document) (name : Name) : Type 0 where
   pub place : ℕ

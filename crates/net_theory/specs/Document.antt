@@ -1,4 +1,4 @@
--- What a netlist's text says, and names.
+-- What a netlist's text says (the parsed netlist), and names.
 use Rattle.std.specs.Prelude.{◌≡◌, ℕ, ◌≤◌, Bool, true, false, not, ◌&&◌, ◌==◌, nat_le, nat_eq, List, [], ◌∷◌, ◌++◌, length, map, Option}
 use Rattle.std.specs.List.{list_any, flat_map}
 use Rattle.std.specs.Cmp.Lexicographic.{pointwise}
@@ -11,17 +11,17 @@ use Rattle.net_theory.specs.Cover.{Cover}
 abbrev pub Name : Type 0
 Name = List ℕ
 
--- bytes that are seen when they are printed, but for `#`, which begins a comment
+-- printable bytes but space and `#`, which begins a comment
 abbrev pub is_name_byte : ℕ → Bool
 is_name_byte b = nat_le 33 b && nat_le b 126 && not (b == 35)
 
--- A name is a run of such bytes. Its last one isn't `\`, since a line that ends with one goes on.
+-- A name is a run of such bytes. Its last one isn't `\`, which would join the next line.
 unfoldable pub is_name : List ℕ → Bool
 is_name [] = false
 is_name (b ∷ []) = is_name_byte b && not (b == 92)
 is_name (b ∷ c ∷ bs) = is_name_byte b && is_name (c ∷ bs)
 
--- a name that isn't too long
+-- a name within the limit of length
 pub record IsName (name : Name) : Type 0 where
   pub spelled : is_name name ≡ true
   pub short : length name ≤ 1024
@@ -30,11 +30,11 @@ pub record IsName (name : Name) : Type 0 where
 abbrev pub is_same : Name → Name → Bool
 is_same = pointwise nat_eq
 
--- whether a name stands among others
+-- whether a list has the name
 unfoldable pub has : List Name → Name → Bool
 has names name = list_any (is_same name) names
 
--- whether no name stands twice among these
+-- whether no name is in a list twice
 unfoldable pub are_distinct : List Name → Bool
 are_distinct [] = true
 are_distinct (n ∷ ns) = not (has ns n) && are_distinct ns
@@ -47,8 +47,8 @@ pub record Table : Type 0 where
   pub output : Name
   pub cover : Cover
 
--- a latch but for the name of its input: how it is controlled, and its first value (0, 1, 2 for any,
--- 3 for unknown), where the text says so
+-- a latch but for its input: its output, its control, and its initial value (0, 1, 2 for
+-- don't-care, 3 for unknown), where the text says so
 pub record Latch : Type 0 where
   pub output : Name
   pub control : Option (Trigger × Name)
@@ -85,18 +85,18 @@ table_inputs t = t.inputs
 abbrev pub latches_of : Document → List Latch
 latches_of d = map latch_of d.latches
 
--- what gets its values from outside of the tables: the inputs, and then the latches' outputs
+-- the combinational inputs: the inputs, and then the latches' outputs
 abbrev pub source_names : Document → List Name
 source_names d = d.inputs ++ map latch_output (latches_of d)
 
--- what the tables are asked for: the outputs, and then the latches' inputs
+-- the combinational outputs: the outputs, and then the latches' inputs
 abbrev pub sink_names : Document → List Name
 sink_names d = d.outputs ++ map latch_input d.latches
 
--- what something drives; a clock's name is no driver
+-- each name that is driven; a clock's name alone isn't
 abbrev pub driven_names : Document → List Name
 driven_names d = source_names d ++ map table_output d.tables
 
--- what is used
+-- each name that is used
 abbrev pub used_names : Document → List Name
 used_names d = flat_map table_inputs d.tables ++ sink_names d

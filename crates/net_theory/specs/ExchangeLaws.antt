@@ -1,4 +1,4 @@
--- A circuit's net can be exchanged for one that answers the same, and so again and again.
+-- A circuit's net can be replaced by one that answers the same, and that one again.
 use Rattle.std.specs.Prelude.{◌≡◌, ℕ, ◌+◌, ◌<◌, length, slice_get, slice_index_or, Some, refl}
 use Rattle.std.proofs.Common.{arith, sym, ◌∙◌, ap, subst}
 use Rattle.std.proofs.lemmas.Option.{slice_get-get_or, get_or_from_slice_get}
@@ -45,7 +45,7 @@ exchanged_describes d c m answers is =
       sinks = λ given v maps. is.sinks given v maps ∙ sym (answers.values (by_place (sources_of c) given));
     }
 
--- a net answers what it answers
+-- `Answers` is reflexive
 pub answers_itself : (n : Net) → IsNet n → Answers n n
 answers_itself n net =
     record {
@@ -58,7 +58,7 @@ answers_itself n net =
       equal = λ i j d low_i low_j same. same;
     }
 
--- and what answers the same as one that does so does so
+-- and transitive
 pub answers_on : (a b c : Net) → Answers a b → Answers b c → Answers a c
 answers_on a b c ab bc =
     record {

@@ -1,4 +1,4 @@
--- The gates that a table becomes.
+-- The decomposition of a table into two-input gates.
 use Rattle.std.specs.Prelude.{ℕ, ◌+◌, ◌*◌, ◌-◌, Bool, true, false, not, ◌&&◌, ◌||◌, ◌==◌, if◌then◌else◌, List, [], ◌∷◌, ◌++◌, length, map}
 use Rattle.std.specs.List.{list_any, list_all}
 use Rattle.net_theory.specs.Cover.{Cover, cover_value}
@@ -12,7 +12,7 @@ pub record Built : Type 0 where
   pub gates : List Gate
   pub sig : Sig
 
--- the gates so far, and a signal with a sign
+-- the gates so far, and a signal with a sign (complemented or not)
 pub record Joined : Type 0 where
   pub gates : List Gate
   pub out : Signed
@@ -34,11 +34,11 @@ abbrev pub digit_of : Bool → ℕ
 digit_of true = 1
 digit_of false = 0
 
--- the word of the values at 0 and 1
+-- the truth table of one input: the values at 0 and 1
 abbrev pub unary_word : Cover → ℕ
 unary_word c = 2 * digit_of (cover_value c (false ∷ [])) + digit_of (cover_value c (true ∷ []))
 
--- the word of the values at (0,0), (0,1), (1,0) and (1,1)
+-- the truth table of two inputs: the values at (0,0), (0,1), (1,0) and (1,1)
 abbrev pub binary_word : Cover → ℕ
 binary_word c = 8 * digit_of (cover_value c (false ∷ false ∷ [])) + 4 * digit_of (cover_value c (false ∷ true ∷ [])) + 2 * digit_of (cover_value c (true ∷ false ∷ [])) + digit_of (cover_value c (true ∷ true ∷ []))
 
@@ -50,21 +50,21 @@ with_not sources gates a = with_gate sources gates (gate_of 14 a a)
 unfoldable pub unary_built : ℕ → List Gate → ℕ → Sig → Built
 unary_built sources gates word a = if word == 0 then record { gates = gates; sig = Zero } else (if word == 3 then record { gates = gates; sig = One } else (if word == 1 then record { gates = gates; sig = a } else with_not sources gates a))
 
--- So it is with two inputs; NOT of one of them is made of that one alone. Every other function is one
--- gate with its operator, its operands in the order of the table.
+-- So it is with two inputs; NOT of one of them is a gate over that one alone. Every other function
+-- is one gate with its truth table as operator, its operands in the order of the table.
 unfoldable pub binary_built : ℕ → List Gate → ℕ → Sig → Sig → Built
 binary_built sources gates word a b = if word == 0 then record { gates = gates; sig = Zero } else (if word == 15 then record { gates = gates; sig = One } else (if word == 3 then record { gates = gates; sig = a } else (if word == 5 then record { gates = gates; sig = b } else (if word == 12 then with_not sources gates a else (if word == 10 then with_not sources gates b else with_gate sources gates (gate_of word a b))))))
 
 -- ---- wider tables: by their cubes
 
--- the word of AND on two signals whose signs are turned or not
+-- the operator of AND on two signals, each complemented or not
 abbrev pub and_word : Bool → Bool → ℕ
 and_word false false = 1
 and_word false true = 2
 and_word true false = 4
 and_word true true = 8
 
--- the word of OR
+-- that of OR
 abbrev pub or_word : Bool → Bool → ℕ
 or_word false false = 7
 or_word false true = 11
@@ -75,14 +75,14 @@ or_word true true = 14
 abbrev pub joined : (Bool → Bool → ℕ) → ℕ → Joined → Signed → Joined
 joined word sources j s = record { gates = j.gates ++ gate_of (word j.out.turned s.turned) j.out.sig s.sig ∷ []; out = record { sig = Place (sources + 1 + length j.gates); turned = false } }
 
--- the word of XOR
+-- that of XOR
 abbrev pub xor_word : Bool → Bool → ℕ
 xor_word false false = 6
 xor_word false true = 9
 xor_word true false = 9
 xor_word true true = 6
 
--- from the left
+-- from the left: a chain of gates, left-deep
 unfoldable pub join_from : (Bool → Bool → ℕ) → ℕ → Joined → List Signed → Joined
 join_from word sources j [] = j
 join_from word sources j (s ∷ ss) = join_from word sources (joined word sources j s) ss
@@ -90,18 +90,19 @@ join_from word sources j (s ∷ ss) = join_from word sources (joined word source
 abbrev pub signed : Sig → Bool → Signed
 signed sig turned = record { sig = sig; turned = turned }
 
--- one signal is itself, and more are joined; none doesn't occur
+-- one signal is itself, and more are joined; an empty list doesn't occur
 unfoldable pub join_all : (Bool → Bool → ℕ) → ℕ → List Gate → List Signed → Joined
 join_all word sources gates [] = record { gates = gates; out = signed Zero false }
 join_all word sources gates (s ∷ ss) = join_from word sources (record { gates = gates; out = s }) ss
 
--- the literals of a cube from the left: the inputs that it asks for, turned where it asks for 0
+-- the literals of a cube from the left: the inputs that it asks for, complemented where it asks for
+-- 0
 unfoldable pub literals : List ℕ → List Sig → List Signed
 literals [] inputs = []
 literals (c ∷ cube) [] = []
 literals (c ∷ cube) (a ∷ inputs) = if c == 49 then signed a false ∷ literals cube inputs else (if c == 48 then signed a true ∷ literals cube inputs else literals cube inputs)
 
--- the gates so far, and what the cubes come to
+-- the gates so far, and the signals of the cubes
 pub record Terms : Type 0 where
   pub gates : List Gate
   pub outs : List Signed
@@ -124,7 +125,8 @@ last_complemented [] = []
 last_complemented (g ∷ []) = complemented g ∷ []
 last_complemented (g ∷ h ∷ gs) = g ∷ last_complemented (h ∷ gs)
 
--- A turned sign goes into the last gate of the table, or, where the table has no gate, into NOT.
+-- A complemented sign goes into the last gate of the table, or, where the table has no gate, into
+-- NOT.
 unfoldable pub finished : ℕ → ℕ → List Gate → Sig → Bool → Built
 finished sources before gates a turned = if turned then (if length gates == before then with_not sources gates a else record { gates = last_complemented gates; sig = a }) else record { gates = gates; sig = a }
 
@@ -136,30 +138,30 @@ abbrev pub is_none : List (List ℕ) → Bool
 is_none [] = true
 is_none (c ∷ cubes) = false
 
--- whether a wide table is constant by its form
+-- whether the form of the cubes shows that the cover is constant
 abbrev pub is_plain : List (List ℕ) → Bool
 is_plain cubes = is_none cubes || list_any asks_nothing cubes
 
--- the result with the sign of a cover for 0 turned
+-- the result, complemented where the cover is for the value 0
 abbrev pub finished_by : ℕ → ℕ → Bool → Joined → Built
 finished_by sources before on j = finished sources before j.gates j.out.sig (if on then j.out.turned else not j.out.turned)
 
 unfoldable pub cover_built : ℕ → List Gate → Cover → List Sig → Built
 cover_built sources gates c inputs = if is_plain c.cubes then record { gates = gates; sig = constant_sig (c.on && not (is_none c.cubes)) } else finished_by sources (length gates) c.on (or_built sources (terms_from sources inputs (record { gates = gates; outs = [] }) c.cubes))
 
--- the inputs with positive signs
+-- the inputs, none complemented
 unfoldable pub unsigned : List Sig → List Signed
 unsigned inputs = map (λ a. signed a false) inputs
 
--- A parity is XOR of its inputs from the left, and where it is for the value 0 the last gate is XNOR.
+-- A parity is XOR of its inputs from the left; where it is for the value 0 the last gate is XNOR.
 unfoldable pub parity_built : ℕ → List Gate → Bool → List Sig → Built
 parity_built sources gates on inputs = finished_by sources (length gates) on (join_all xor_word sources gates (unsigned inputs))
 
 unfoldable pub wide_built : ℕ → List Gate → Cover → List Sig → Built
 wide_built sources gates c inputs = if c.parity then parity_built sources gates c.on inputs else cover_built sources gates c inputs
 
--- The gates so far and those of the table, and the table's signal, where the inputs are these signals.
--- The inputs count as different ones, also where two of the signals are equal or one is constant.
+-- The gates so far and those of the table, and the table's signal, where the inputs have the given
+-- signals. They count as different inputs, also where two are equal or one is constant.
 -- Example: `1-0 1` and `-11 1` over a, b, c become AND of a and not c, AND of b and c, and OR of these.
 abbrev pub expanded : ℕ → List Gate → Cover → List Sig → Built
 expanded sources gates c [] = record { gates = gates; sig = constant_sig (cover_value c []) }

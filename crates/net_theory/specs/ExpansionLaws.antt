@@ -1,4 +1,4 @@
--- A table's gates are worth what the table is, and are as many as it costs.
+-- A table's gates compute its value, and their number is its cost.
 use Rattle.std.specs.Prelude.{◌≡◌, ℕ, suc, ◌+◌, ◌-◌, ◌≤◌, ◌<◌, Bool, true, false, not, ◌&&◌, ◌||◌, ◌==◌, if◌then◌else◌, List, [], ◌∷◌, ◌++◌, length, map, count_by, refl}
 use Rattle.std.specs.List.{list_any, list_all, AllByRecursion}
 use Rattle.std.proofs.Common.{arith, sym, ◌∙◌, ap, subst, ⊎_elim, length-append, ◌≢◌}
@@ -23,12 +23,12 @@ use Rattle.net_theory.specs.WideLaws.{AreSigsBelow, AreTerms, turned_count, lite
 
 -- ---- complements
 
--- what holds of a number and of those below it
+-- one more case
 peel : (P : ℕ → Type 0) (n op : ℕ) → P n → (op < n → P op) → op < n + 1 → P op
 peel P n op here below low =
     ⊎_elim below (λ high. let e : n ≡ op = omega arith in subst P e here) (cases_lt op n)
 
--- the sixteen operators, one by one
+-- all sixteen operators, case by case
 sixteen : (P : ℕ → Type 0) → P 0 → P 1 → P 2 → P 3 → P 4 → P 5 → P 6 → P 7 → P 8 → P 9 → P 10 → P 11 → P 12 → P 13 → P 14 → P 15 → (op : ℕ) → op < 16 → P op
 sixteen P a b c d e f g h i j k l m n o p op =
     peel P 15 op p (peel P 14 op o (peel P 13 op n (peel P 12 op m (peel P 11 op l (peel P 10 op k (peel P 9 op j (peel P 8 op i (peel P 7 op h (peel P 6 op g (peel P 5 op f (peel P 4 op e (peel P 3 op d (peel P 2 op c (peel P 1 op b (peel P 0 op a (λ none. absurd (omega arith)))))))))))))))))
@@ -56,7 +56,7 @@ last_complemented-push [] g = refl
 last_complemented-push (h ∷ []) g = refl
 last_complemented-push (h ∷ k ∷ front) g = ap (λ gs. h ∷ gs) (last_complemented-push (k ∷ front) g)
 
--- ---- the last sign
+-- ---- the sign of the result
 
 -- The last gate is replaced by its complement.
 complemented_built : (sources : ℕ) (old gates front : List Gate) (g : Gate) (more : ℕ) (bit : (ℕ → Bool) → Bool) (sig : Sig) → gates ≡ front ++ g ∷ [] → length old ≤ length front → length gates ≡ length old + more → IsGrown sources old gates → sig ≡ Place (sources + length gates) → ((given : ℕ → Bool) → not (sig_value (values_of given sources gates) sig) ≡ bit given) → IsBuilt sources old more bit (record { gates = last_complemented gates; sig = sig })
@@ -87,7 +87,7 @@ complemented_built sources old gates front g more bit sig e within count grown a
       value = last;
     })
 
--- more gates behind more gates
+-- what is built on top of what is built
 built_after : (sources : ℕ) (old mid : List Gate) (more extra : ℕ) (bit : (ℕ → Bool) → Bool) (b : Built) → IsGrown sources old mid → length mid ≡ length old + more → IsBuilt sources mid extra bit b → IsBuilt sources old (more + extra) bit b
 built_after sources old mid more extra bit b grown count is =
     record {
@@ -97,7 +97,7 @@ built_after sources old mid more extra bit b grown count is =
       value = is.value;
     }
 
--- the cost of a turned sign
+-- the cost of the sign of a result that took `more` gates
 abbrev pub turn_cost : Bool → ℕ → ℕ
 turn_cost turned more = if turned && (more == 0) then 1 else 0
 
@@ -150,12 +150,12 @@ all_ask width (c ∷ cubes) all none =
     let wide = and_parts (length c == width) (list_all is_cube_byte c) all.0 in
     (eqb-true (length c) width wide.0, not_nothing c asks.0, all_ask width cubes all.1 asks.1)
 
--- the cubes of a cover that isn't constant by its form
+-- the cubes of a cover that its form doesn't show to be constant
 pub cover_terms : (c : Cover) (width : ℕ) → IsCover c → c.width ≡ width → is_plain c.cubes ≡ false → AreTerms width c.cubes
 cover_terms c width is wide some =
     subst (λ (k : ℕ). AreTerms k c.cubes) wide (all_ask c.width c.cubes (recursion_from_All (λ cube. is_cube c.width cube ≡ true) c.cubes is.cubes) (or_parts (is_none c.cubes) (list_any asks_nothing c.cubes) some).1)
 
--- A turned sign is NOT of an input where the table has one literal.
+-- A cover of one literal is NOT of an input where the literal and the cover have different signs.
 one_literal : (on : Bool) (cube : List ℕ) (inputs : List Sig) (s : Signed) → literals cube inputs ≡ s ∷ [] → length cube ≡ length inputs → (if on then s.turned else not s.turned) ≡ (if on then count_by (λ b. b == 48) cube == 1 else count_by (λ b. b == 48) cube == 0)
 one_literal on cube inputs s e wide =
     let count : turned_count (s ∷ []) ≡ count_by (λ b. b == 48) cube = ap turned_count (sym e) ∙ literals_turned cube inputs wide in
@@ -166,7 +166,7 @@ one_literal on cube inputs s e wide =
       by_sign false true n e = rw (← e) refl
       by_sign false false n e = rw (← e) refl
 
--- the sign that the result has in the end
+-- the sign of the result, with that of the cover
 abbrev last_sign : Bool → Joined → Bool
 last_sign on j = if on then j.out.turned else not j.out.turned
 
@@ -180,7 +180,7 @@ above_one t x n more =
     let some : (n - 1 == 0) ≡ false = ne_eqb (n - 1) 0 (λ e. omega arith) in
     rw (other, some) (ap (λ (b : Bool). if b then 1 else 0) (and_right t false refl))
 
--- what the sign costs is what the cover's cost says of it
+-- that sign costs what `cubes_cost` adds for NOT
 sign_cost_by : (sources : ℕ) (old : List Gate) (on : Bool) (cube : List ℕ) (inputs : List Sig) (ls : List Signed) → literals cube inputs ≡ ls → length cube ≡ length inputs → length ls ≡ literal_count cube → 0 < literal_count cube → turn_cost (last_sign on (join_all and_word sources old ls)) (literal_count cube - 1) ≡ (if is_not on (cube ∷ []) then 1 else 0)
 unfolding join_all join_from
 sign_cost_by sources old on cube inputs [] e wide size some = absurd (omega arith)
@@ -230,7 +230,7 @@ not_none (c ∷ cubes) e = omega arith
 abbrev pub bits_of : ℕ → List Gate → List Sig → (ℕ → Bool) → List Bool
 bits_of sources gates inputs given = map (sig_value (values_of given sources gates)) inputs
 
--- a cover that isn't constant by its form
+-- a cover that its form doesn't show to be constant
 wide_some : (sources : ℕ) (old : List Gate) (c : Cover) (inputs : List Sig) → AreGates sources old → AreSigsBelow (sources + 1 + length old) inputs → AreTerms (length inputs) c.cubes → is_none c.cubes ≡ false → IsBuilt sources old ((literal_sum c.cubes - 1) + (if is_not c.on c.cubes then 1 else 0)) (λ given. value_by c.on c.cubes (bits_of sources old inputs given)) (finished_by sources (length old) c.on (or_built sources (terms_from sources inputs (no_terms old) c.cubes)))
 wide_some sources old c inputs are below terms some =
     let j : Joined = or_built sources (terms_from sources inputs (no_terms old) c.cubes) in
@@ -240,7 +240,7 @@ wide_some sources old c inputs are below terms some =
     (finished_is sources old (literal_sum c.cubes - 1) j (any_matched sources old inputs c.cubes) (λ given. value_by c.on c.cubes (bits_of sources old inputs given)) (last_sign c.on j) is
     (λ given. last_value c.on j.out.turned (sig_value (values_of given sources j.gates) j.out.sig) (any_matched sources old inputs c.cubes given) (is.value given) ∙ sym (value_some c.on c.cubes (bits_of sources old inputs given) some)))
 
--- a cube that asks for nothing matches
+-- a cube that asks for nothing covers each row
 nothing_matches : (cube : List ℕ) (bits : List Bool) → asks_nothing cube ≡ true → matches cube bits ≡ true
 unfolding asks_nothing matches
 nothing_matches [] bits e = refl
@@ -264,7 +264,7 @@ plain_value false [] bits e = refl
 plain_value true (c ∷ cubes) bits e = sym (any_nothing (c ∷ cubes) bits e)
 plain_value false (c ∷ cubes) bits e = ap not (sym (any_nothing (c ∷ cubes) bits e))
 
--- a cover that has cubes and no parity
+-- a cover by cubes
 pub cover_is : (sources : ℕ) (old : List Gate) (c : Cover) (inputs : List Sig) → AreGates sources old → AreSigsBelow (sources + 1 + length old) inputs → IsCover c → c.width ≡ length inputs → IsBuilt sources old (cubes_cost c) (λ given. value_by c.on c.cubes (bits_of sources old inputs given)) (cover_built sources old c inputs)
 unfolding cover_built cubes_cost
 cover_is sources old c inputs are below is wide =
@@ -353,8 +353,8 @@ wide_is sources old c inputs are below is wide two =
 
 -- ---- all tables
 
--- The gates that a cover becomes over these inputs stand behind the old ones and are as many as it
--- costs, and its signal has the value of the cover at the inputs' bits.
+-- The gates of a cover come after `old`, their number is its cost, and its signal has the value of
+-- the cover at the inputs' bits.
 pub expanded_is : (sources : ℕ) (old : List Gate) (c : Cover) (inputs : List Sig) → AreGates sources old → AreSigsBelow (sources + 1 + length old) inputs → IsCover c → c.width ≡ length inputs → IsBuilt sources old (cover_cost c inputs) (λ given. cover_value c (bits_of sources old inputs given)) (expanded sources old c inputs)
 expanded_is sources old c [] are below is wide = built_constant sources old (cover_value c []) are
 expanded_is sources old c (a ∷ []) are below is wide =

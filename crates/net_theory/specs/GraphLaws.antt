@@ -1,5 +1,5 @@
--- The graph of a document says what its tables read, and a document has an order where no table depends
--- on itself.
+-- The graph of a document is what its tables read, and a document without combinational loops has a
+-- topological order.
 use Rattle.std.specs.Prelude.{◌≡◌, ℕ, zero, suc, ◌+◌, ◌<◌, true, nat_eq, List, [], ◌∷◌, length, slice_get, slice_index_or, map, Option, Some, None, ◌⊎◌, refl}
 use Rattle.std.specs.List.{filter_map, cons_option}
 use Rattle.std.proofs.Common.{arith, sym, ◌∙◌, ap, subst, inl, inr, ⊎_elim}
@@ -112,7 +112,7 @@ some_at [] i low = absurd (omega arith)
 some_at (x ∷ xs) zero low = (x, refl)
 some_at (x ∷ xs) (suc i) low = some_at xs i (omega arith)
 
--- what the graph says is read is read
+-- a fanin in the graph is one in the document
 pub reads_from : (d : Document) (i j : ℕ) → has_ended (reads_of (graph_of d.tables) i) j ≡ true → Reads d i j
 reads_from d i j e =
     let low : i < length d.tables = omega (arith, none_past (graph_of d.tables) i j e, length-graph_of d.tables) in
@@ -128,7 +128,7 @@ reads_from d i j e =
       read = subst (λ (x : Name). has t.0.inputs x ≡ true) (sym found.2.output) kept.1;
     }
 
--- and the other way round, where no two tables drive one name
+-- and conversely, where no two tables drive one name
 pub reads_in : (d : Document) (i j : ℕ) → are_distinct (map table_output d.tables) ≡ true → Reads d i j → has_ended (reads_of (graph_of d.tables) i) j ≡ true
 reads_in d i j distinct r =
     subst (λ (xs : List ℕ). has_ended xs j ≡ true) (sym (reads_of-graph d.tables i r.reader r.is_reader))
@@ -149,7 +149,7 @@ pub depends_leads : (d : Document) (i j : ℕ) → are_distinct (map table_outpu
 depends_leads d _ _ distinct (at_once i j r) = visit.at_once i j (reads_in d i j distinct r)
 depends_leads d _ _ distinct (by_way_of i j k r more) = visit.by_way_of i j k (reads_in d i j distinct r) (depends_leads d j k distinct more)
 
--- Where there is an order, no table depends on itself.
+-- Where there is a topological order, no table depends on itself.
 pub order_acyclic : (d : Document) (order : List ℕ) → are_distinct (map table_output d.tables) ≡ true → order_of (graph_of d.tables) ≡ Some order → IsAcyclic d
 order_acyclic d order distinct e i depends =
     order_apart (graph_of d.tables) order i (order_is (graph_of d.tables) order (graph_closed d) e) (depends_leads d i i distinct depends)
@@ -164,6 +164,6 @@ order_by : (d : Document) → IsAcyclic d → (r : Option (List ℕ)) → order_
 order_by d acyclic None e = let r = no_order_cyclic d e in absurd (acyclic r.0 r.1)
 order_by d acyclic (Some order) e = (order, e)
 
--- Where no table depends on itself there is an order.
+-- Where no table depends on itself there is a topological order.
 pub acyclic_order : (d : Document) → IsAcyclic d → (order : List ℕ) × (order_of (graph_of d.tables) ≡ Some order)
 acyclic_order d acyclic = order_by d acyclic (order_of (graph_of d.tables)) refl

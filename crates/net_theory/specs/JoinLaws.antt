@@ -25,7 +25,7 @@ abbrev pub AreSignedBelow : ℕ → List Signed → Type 0
 AreSignedBelow place [] = Unit {0}
 AreSignedBelow place (s ∷ ss) = IsSignedBelow place s × AreSignedBelow place ss
 
--- an operator for each two signs does what f does on the signed values
+-- for each two signs `word` has the operator that is f on the signed values
 pub record Joins (word : Bool → Bool → ℕ) (f : Bool → Bool → Bool) : Type 0 where
   pub low : (ta tb : Bool) → word ta tb < 16
   pub same : (ta tb a b : Bool) → apply (word ta tb) a b ≡ f (turn ta a) (turn tb b)
@@ -122,13 +122,13 @@ xor_joins = record { low = xor_low; same = xor_same }
 
 -- ---- joining
 
--- from the left
+-- f from the left
 unfoldable pub fold_from : (Bool → Bool → Bool) → Bool → List Bool → Bool
 fold_from f b [] = b
 fold_from f b (x ∷ xs) = fold_from f (f b x) xs
 
--- What joining leaves: the old gates, more behind them, and a signal with the bit that is told. If
--- there are more gates, the last of them is the signal.
+-- What joining gives: the gates of `old` and `more` after them, and a signal with the value `bit`.
+-- If `more` isn't 0, the last gate is the signal.
 pub record IsJoined (sources : ℕ) (old : List Gate) (more : ℕ) (bit : (ℕ → Bool) → Bool) (j : Joined) : Type 0 where
   pub grown : IsGrown sources old j.gates
   pub count : length j.gates ≡ length old + more
@@ -162,7 +162,7 @@ joined_one word f sources old more bit j s joins is below =
       last = let e : sources + 1 + length j.gates ≡ sources + length (j.gates ++ g ∷ []) = omega (arith, size) in inr (ap Place e);
     }
 
--- the bit of what is joined, by the old gates
+-- the value of what is joined to a first signal
 abbrev pub bit_from : (Bool → Bool → Bool) → ℕ → List Gate → ((ℕ → Bool) → Bool) → List Signed → (ℕ → Bool) → Bool
 bit_from f sources old bit ss given = fold_from f (bit given) (map (signed_value (values_of given sources old)) ss)
 
@@ -175,7 +175,7 @@ joined_more word f sources old more bit j (s ∷ ss) joins is below =
     subst (λ (k : ℕ). IsJoined sources old k (bit_from f sources old bit (s ∷ ss)) (join_from word sources (joined word sources j s) ss)) e
     (joined_more word f sources old (more + 1) (λ given. f (bit given) (signed_value (values_of given sources old) s)) (joined word sources j s) ss joins (joined_one word f sources old more bit j s joins is below.0) below.1)
 
--- all of a list that isn't empty, where a bit changes nothing for f
+-- all of a list that isn't empty, where `unit` is neutral for f
 pub joined_all : (word : Bool → Bool → ℕ) (f : Bool → Bool → Bool) (unit : Bool) (sources : ℕ) (old : List Gate) (s : Signed) (ss : List Signed) → Joins word f → ((b : Bool) → f unit b ≡ b) → AreGates sources old → AreSignedBelow (sources + 1 + length old) (s ∷ ss) → IsJoined sources old (length ss) (bit_from f sources old (λ given. unit) (s ∷ ss)) (join_all word sources old (s ∷ ss))
 unfolding join_all fold_from
 joined_all word f unit sources old s ss joins unit_is are below =

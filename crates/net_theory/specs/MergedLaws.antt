@@ -1,4 +1,4 @@
--- A table whose two inputs have one name is worth what it was.
+-- Merging the two equal inputs of a table keeps its value.
 use Rattle.std.specs.Prelude.{◌≡◌, ℕ, zero, suc, ◌<◌, Bool, true, false, if◌then◌else◌, List, [], ◌∷◌, length, map, refl}
 use Rattle.std.proofs.Common.{arith, sym, ◌∙◌, ap, subst, ⊎_elim}
 use Rattle.std.proofs.lemmas.Bool.{cond_both}
@@ -34,7 +34,7 @@ unary_cover_is true true = record { cubes = two; parity = λ e. absurd cc } wher
   two (suc zero) d low = refl
   two (suc (suc k)) d low = absurd (omega arith)
 
--- what a merged table keeps
+-- the merged table m has the output and the value of t, and no input but those of t
 pub record IsMerged (t m : Table) : Type 0 where
   pub output : m.output ≡ t.output
   pub cover : IsCover m.cover
@@ -72,7 +72,7 @@ pub merged_is : (t : Table) → IsCover t.cover → t.cover.width ≡ length t.i
 unfolding merged_table
 merged_is t is wide = merged_by t t.inputs refl is wide
 
--- a cost asks how many inputs there are, and not which
+-- the cost depends on the number of inputs alone
 pub cover_cost-map : {A B : Type 0} (f : A → B) (c : Cover) (xs : List A) → cover_cost c (map f xs) ≡ cover_cost c xs
 cover_cost-map f c [] = refl
 cover_cost-map f c (a ∷ []) = refl

@@ -1,4 +1,4 @@
--- Gates that are kept have the values that they had, wherever the old places and the old values come from.
+-- Copied gates have the values that they had, whatever the old places and values are.
 use Rattle.std.specs.Prelude.{◌≡◌, ℕ, zero, suc, ◌+◌, ◌≤◌, ◌<◌, Bool, true, false, ◌==◌, nat_le, if◌then◌else◌, List, [], ◌∷◌, ◌++◌, length, slice_get, Some, ◌⊎◌, refl}
 use Rattle.std.proofs.Common.{arith, sym, ◌∙◌, ap, subst, inl, inr, ⊎_elim, length-append, ◌≢◌, add-zero}
 use Rattle.std.proofs.lemmas.Bool.{cond_both, cond-true, cond-false, eq-eqb, ne_eqb, le-leb, both_ways, cases_eq, cases_lt, cases_Bool}
@@ -10,7 +10,7 @@ use Rattle.net_theory.specs.ValueLaws.{IsGrown, grown_none, grown_more, grown_pu
 use Rattle.net_theory.specs.Reach.{ReadsPlace}
 use Rattle.net_theory.specs.Moving.{Kept, moved, moved_gate, put_sig, with_kept, kept_after, marked_count, sources_stay, nothing_kept}
 
--- ---- places that are written
+-- ---- the map
 
 put_same : (places : ℕ → Sig) (place : ℕ) (s : Sig) → put_sig places place s place ≡ s
 put_same places place s = cond-true (place == place) s (places place) (eq-eqb place place refl)
@@ -28,9 +28,9 @@ pub moved_gate-same : (f g : ℕ → Sig) (place : ℕ) (x : Gate) → IsGateAt 
 moved_gate-same f g place x is same =
     rw (moved-same f g place x.a is.first same, moved-same f g place x.b is.second same) refl
 
--- ---- what goes where
+-- ---- new signals of old places
 
--- The next step of keeping, and the gates after it.
+-- One step of copying.
 abbrev next_kept : (ℕ → Bool) → ℕ → Kept → ℕ → Gate → Kept
 next_kept marks sources k place g = if marks place then with_kept sources k place g else k
 
@@ -38,7 +38,7 @@ next_other : (marks : ℕ → Bool) (sources : ℕ) (k : Kept) (place : ℕ) (g 
 next_other marks sources k place g p other =
     cond_both (marks place) (with_kept sources k place g) k (λ (x : Kept). x.places p ≡ k.places p) (λ on. put_other k.places place (Place (sources + 1 + length k.gates)) p other) (λ off. refl)
 
--- a place below the gates stays where it went
+-- a place below the gates keeps its new signal
 pub places_low : (marks : ℕ → Bool) (sources : ℕ) (k : Kept) (place : ℕ) (gs : List Gate) (p : ℕ) → p < place → (kept_after marks sources k place gs).places p ≡ k.places p
 unfolding kept_after
 places_low marks sources k place [] p low = refl
@@ -69,13 +69,13 @@ marked_few marks place [] = omega arith
 marked_few marks place (g ∷ gs) =
     cond_both (marks place) 1 0 (λ (x : ℕ). x + marked_count marks (place + 1) gs ≤ suc (length gs)) (λ on. omega (arith, marked_few marks (place + 1) gs)) (λ off. omega (arith, marked_few marks (place + 1) gs))
 
--- a gate has become a gate
+-- the copy of the gate at `place`
 pub record Goes (sources : ℕ) (k : Kept) (place : ℕ) (g : Gate) : Type 0 where
   pub j : ℕ
   pub went : k.places place ≡ Place (sources + 1 + j)
   pub at : slice_get k.gates j ≡ Some (moved_gate k.places g)
 
--- a marked gate becomes a gate
+-- a marked gate has a copy
 pub kept_goes : (marks : ℕ → Bool) (sources : ℕ) (k : Kept) (place : ℕ) (gs : List Gate) (i : ℕ) (g : Gate) → slice_get gs i ≡ Some g → IsGateAt (place + i) g → marks (place + i) ≡ true → Goes sources (kept_after marks sources k place gs) (place + i) g
 unfolding kept_after
 kept_goes marks sources k place [] i g at is on = absurd cc
@@ -103,7 +103,7 @@ kept_goes marks sources k place (h ∷ gs) (suc i) g at is on =
     subst (λ (q : ℕ). Goes sources last q g) (sym e)
     (kept_goes marks sources (next_kept marks sources k place h) (place + 1) gs i g at (subst (λ (q : ℕ). IsGateAt q g) e is) (subst (λ (q : ℕ). marks q ≡ true) e on))
 
--- a gate is what a marked gate of these has become
+-- `h` is the copy of a marked gate
 pub record IsMade (marks : ℕ → Bool) (sources place : ℕ) (gs : List Gate) (places : ℕ → Sig) (j : ℕ) (h : Gate) : Type 0 where
   pub index : ℕ
   pub gate : Gate
@@ -112,7 +112,7 @@ pub record IsMade (marks : ℕ → Bool) (sources place : ℕ) (gs : List Gate) 
   pub went : places (place + index) ≡ Place (sources + 1 + j)
   pub is : h ≡ moved_gate places gate
 
--- what the marked gates read stands below them
+-- each marked gate reads what is below it
 abbrev pub AreMarkedAt : (ℕ → Bool) → ℕ → List Gate → Type 0
 AreMarkedAt marks place gs = (i : ℕ) (g : Gate) → slice_get gs i ≡ Some g → marks (place + i) ≡ true → IsGateAt (place + i) g
 
@@ -138,7 +138,7 @@ made_later marks sources place g gs places j h m =
       is = m.is;
     }
 
--- Each gate was there, or is what a marked one has become.
+-- Each gate of the result was there, or is the copy of a marked one.
 pub kept_made : (marks : ℕ → Bool) (sources : ℕ) (k : Kept) (place : ℕ) (gs : List Gate) (j : ℕ) (h : Gate) → AreMarkedAt marks place gs → slice_get (kept_after marks sources k place gs).gates j ≡ Some h → (slice_get k.gates j ≡ Some h) ⊎ IsMade marks sources place gs (kept_after marks sources k place gs).places j h
 unfolding kept_after
 kept_made marks sources k place [] j h are e = inl e
@@ -174,7 +174,7 @@ kept_made marks sources k place (g ∷ gs) j h are e =
 
 -- ---- values
 
--- The gates so far are gates, and the places that are known went to signals that have their old values.
+-- The copies are gates, and each place of `known` has a new signal of its old value.
 pub record Moves (sources : ℕ) (old : (ℕ → Bool) → ℕ → Bool) (known : ℕ → Type 0) (k : Kept) : Type 0 where
   pub gates : AreGates sources k.gates
   pub below : (p : ℕ) → known p → IsSigBelow (sources + 1 + length k.gates) (k.places p)
@@ -184,7 +184,7 @@ pub moves_less : (sources : ℕ) (old : (ℕ → Bool) → ℕ → Bool) (known 
 moves_less sources old known fewer k less is =
     record { gates = is.gates; below = λ p e. is.below p (less p e); same = λ given p e. is.same given p (less p e) }
 
--- where a known signal went
+-- the new signal of a known one is below the next gate
 pub moved_below : (sources : ℕ) (old : (ℕ → Bool) → ℕ → Bool) (known : ℕ → Type 0) (k : Kept) (s : Sig) → Moves sources old known k → ((p : ℕ) → s ≡ Place p → known p) → IsSigBelow (sources + 1 + length k.gates) (moved k.places s)
 moved_below sources old known k Zero is knows = tt
 moved_below sources old known k One is knows = tt
@@ -195,7 +195,7 @@ moved_value sources old known k Zero given is knows = refl
 moved_value sources old known k One given is knows = refl
 moved_value sources old known k (Place p) given is knows = is.same given p (knows p refl)
 
--- a gate whose operands are known is kept
+-- a gate whose operands are known is copied
 keep_one : (sources : ℕ) (old : (ℕ → Bool) → ℕ → Bool) (known : ℕ → Type 0) (k : Kept) (place : ℕ) (g : Gate) → Moves sources old known k → g.op < 16 → ((p : ℕ) → ReadsPlace g p → known p) → ((given : ℕ → Bool) → old given place ≡ gate_value (old given) g) → Moves sources old (λ p. known p ⊎ (p ≡ place)) (with_kept sources k place g) × IsGrown sources k.gates (with_kept sources k place g).gates
 keep_one sources old known k place g is low knows worth =
     let h : Gate = moved_gate k.places g in
@@ -230,14 +230,14 @@ keep_one sources old known k place g is low knows worth =
       grown,
     )
 
--- one of so many places from a place on, and marked
+-- p is marked, and one of the `count` places from `place` on
 pub record IsMarked (marks : ℕ → Bool) (place count p : ℕ) : Type 0 where
   pub low : place ≤ p
   pub high : p < place + count
   pub mark : marks p ≡ true
 
--- What a marked gate reads is known or is a marked gate before it, and its old value is its operator on
--- the old values of its operands.
+-- What a marked gate reads is known or is a marked gate before it, and its old value is its
+-- operator on the old values of its operands.
 pub record AreMovable (old : (ℕ → Bool) → ℕ → Bool) (known : ℕ → Type 0) (marks : ℕ → Bool) (place : ℕ) (gs : List Gate) : Type 0 where
   pub operators : (i : ℕ) (g : Gate) → slice_get gs i ≡ Some g → marks (place + i) ≡ true → g.op < 16
   pub reads : (i p : ℕ) (g : Gate) → slice_get gs i ≡ Some g → marks (place + i) ≡ true → ReadsPlace g p → known p ⊎ IsMarked marks place i p
@@ -282,8 +282,8 @@ pass_one sources old known marks k place g gs is are =
     (moves_less sources old (λ p. known p ⊎ (p ≡ place)) (KnownNext known marks place) (with_kept sources k place g) (λ p x. ⊎_elim (λ k. inl k) (λ own. inr own.0) x) r.0, r.1))
     (λ off. (moves_less sources old known (KnownNext known marks place) k (λ p x. ⊎_elim (λ k. k) (λ own. absurd (both_ways (marks place) off own.1)) x) is, grown_none sources k.gates is.gates))
 
--- Keeping leaves what was known and makes the marked places known, and the gates that were there keep
--- their values.
+-- Copying keeps what was known and makes the marked places known, and the gates that were there
+-- keep their values.
 pub keep_all : (sources : ℕ) (old : (ℕ → Bool) → ℕ → Bool) (known : ℕ → Type 0) (marks : ℕ → Bool) (k : Kept) (place : ℕ) (gs : List Gate) → Moves sources old known k → AreMovable old known marks place gs → Moves sources old (λ p. known p ⊎ IsMarked marks place (length gs) p) (kept_after marks sources k place gs) × IsGrown sources k.gates (kept_after marks sources k place gs).gates
 unfolding kept_after
 keep_all sources old known marks k place [] is are =
@@ -305,7 +305,7 @@ IsSourcePlace sources p = (1 ≤ p) × (p ≤ sources)
 pub source_stays : (sources p : ℕ) → p ≤ sources → sources_stay sources p ≡ Place p
 source_stays sources p low = cond-true (nat_le p sources) (Place p) Zero (le-leb p sources low)
 
--- before any gate is kept the sources are known
+-- before any gate is copied the sources are known
 pub moves_start : (n : Net) → Moves n.sources (value n) (IsSourcePlace n.sources) (nothing_kept n.sources)
 moves_start n =
     record {
@@ -322,7 +322,7 @@ pub reads_below : (place p : ℕ) (g : Gate) → IsGateAt place g → ReadsPlace
 reads_below place p g is reads =
     ⊎_elim (λ a. subst (IsSigBelow place) a is.first) (λ b. subst (IsSigBelow place) b is.second) reads
 
--- Gates of a net can be moved where with each that is marked what it reads is marked or known.
+-- The marked gates of a net can be copied where each reads what is marked or known.
 pub net_movable : (n : Net) (known : ℕ → Type 0) (marks : ℕ → Bool) → IsNet n → ((p : ℕ) → IsSourcePlace n.sources p → known p) → ((i p : ℕ) (g : Gate) → slice_get n.gates i ≡ Some g → ReadsPlace g p → marks (n.sources + 1 + i) ≡ true → known p ⊎ (marks p ≡ true)) → AreMovable (value n) known marks (n.sources + 1) n.gates
 net_movable n known marks net sources closed =
     record {

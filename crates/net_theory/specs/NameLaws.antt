@@ -1,4 +1,4 @@
--- Names that stand among others, and names that differ.
+-- Names in lists, and names that differ.
 use Rattle.std.specs.Prelude.{◌≡◌, ℕ, zero, suc, true, false, not, ◌||◌, List, [], ◌∷◌, ◌++◌, slice_get, map, All, Some, ◌⊎◌, refl}
 use Rattle.std.specs.List.{list_any, flat_map}
 use Rattle.std.specs.Cmp.Lexicographic.{bytes_decides}
@@ -58,7 +58,7 @@ has_right xs ys n e = has_append xs ys n ∙ or_right (has xs n) (has ys n) e
 pub has_either : (xs ys : List Name) (n : Name) → has (xs ++ ys) n ≡ true → (has xs n ≡ true) ⊎ (has ys n ≡ true)
 has_either xs ys n e = or_cases (has xs n) (has ys n) (sym (has_append xs ys n) ∙ e)
 
--- the place of a name
+-- the index of a name
 pub has_place : (ns : List Name) (n : Name) → has ns n ≡ true → (k : ℕ) × (slice_get ns k ≡ Some n)
 has_place [] n e = absurd (has_none n e)
 has_place (m ∷ ns) n e =
@@ -69,7 +69,7 @@ has_at [] k n e = absurd cc
 has_at (m ∷ ns) zero n e = let same : m ≡ n = cc in subst (λ (x : Name). has (m ∷ ns) x ≡ true) same (has_first m ns)
 has_at (m ∷ ns) (suc k) n e = has_later m ns n (has_at ns k n e)
 
--- what holds of each name holds of one that stands there
+-- what holds of each name of a list holds of one in it
 pub all_has : (P : Name → Type 0) (ns : List Name) (n : Name) → All P ns → has ns n ≡ true → P n
 all_has P [] n all e = absurd (has_none n e)
 all_has P (m ∷ ns) n all e =
@@ -101,7 +101,7 @@ pub distinct_right : (xs ys : List Name) → are_distinct (xs ++ ys) ≡ true �
 distinct_right [] ys e = e
 distinct_right (x ∷ xs) ys e = distinct_right xs ys (distinct_cons x (xs ++ ys) e).1
 
--- a name stands in one of two lists alone
+-- a name of one list isn't in the other
 pub distinct_apart : (xs ys : List Name) (n : Name) → are_distinct (xs ++ ys) ≡ true → has xs n ≡ true → has ys n ≡ false
 distinct_apart [] ys n e h = absurd (has_none n h)
 distinct_apart (x ∷ xs) ys n e h =
@@ -118,7 +118,7 @@ append_distinct (x ∷ xs) ys ex ey apart =
     cons_distinct x (xs ++ ys) (has_append xs ys x ∙ or_from (has xs x) (has ys x) parts.0 (apart x (has_first x xs)))
     (append_distinct xs ys parts.1 ey (λ n h. apart n (has_later x xs n h)))
 
--- one name has one place
+-- a name has one index
 pub distinct_place : (ns : List Name) (i j : ℕ) (n : Name) → are_distinct ns ≡ true → slice_get ns i ≡ Some n → slice_get ns j ≡ Some n → i ≡ j
 distinct_place [] i j n e at_i at_j = absurd cc
 distinct_place (m ∷ ns) zero zero n e at_i at_j = refl

@@ -16,11 +16,12 @@ second_of c = c.1
 abbrev pub control_of : Latch → Option Name
 control_of l = option_map second_of l.control
 
--- what the numbered names pass over: inputs, outputs, latches' outputs, clocks and controls
+-- names that numbered names must avoid: those of inputs, outputs, latches' outputs, clocks and
+-- controls
 abbrev pub taken_names : Circuit → List Name
 taken_names c = c.inputs ++ c.outputs ++ map latch_output c.latches ++ c.clocks ++ filter_map control_of c.latches
 
--- names that were seen and others, each once
+-- `seen` with the names of a list appended, each once
 unfoldable pub each_once : List Name → List Name → List Name
 each_once seen [] = seen
 each_once seen (n ∷ ns) = each_once (if has seen n then seen else seen ++ n ∷ []) ns
@@ -32,7 +33,7 @@ taken_set c = each_once [] (taken_names c)
 abbrev pub numbered : ℕ → Name
 numbered k = 103 ∷ decimal k
 
--- the numbered names that aren't taken, of so many from a number on
+-- the free ones of `count` numbered names from the number `from` on
 unfoldable pub free_names : List Name → ℕ → ℕ → List Name
 free_names taken from count = filter (λ n. not (has taken n)) (map numbered (range_with_len from count))
 
@@ -41,13 +42,13 @@ is_at Zero p = false
 is_at One p = false
 is_at (Place q) p = q == p
 
--- the first output that sits on a place
+-- the first output that is the signal of the place p
 unfoldable pub output_on : List Name → List Sig → ℕ → Option Name
 output_on [] sinks p = None
 output_on (o ∷ os) [] p = None
 output_on (o ∷ os) (s ∷ sinks) p = if is_at s p then Some o else output_on os sinks p
 
--- the names so far, and those that may still be given
+-- the names so far, and the free names that are left
 pub record Naming : Type 0 where
   pub names : List Name
   pub free : List Name
@@ -60,34 +61,34 @@ abbrev pub rest_free : List Name → List Name
 rest_free [] = []
 rest_free (n ∷ ns) = ns
 
--- A gate on which an output sits has that output's name, and another the next free one.
+-- A gate that is an output has the first such output's name, and any other gate the next free one.
 abbrev pub named : Naming → Option Name → Naming
 named n (Some o) = record { names = n.names ++ o ∷ []; free = n.free }
 named n None = record { names = n.names ++ first_free n.free ∷ []; free = rest_free n.free }
 
--- the gates from a place on, by the outputs that sit on places
+-- the names of the gates from `place` on; `output_at` is the output at a place
 unfoldable pub names_after : (ℕ → Option Name) → Naming → ℕ → List Gate → Naming
 names_after output_at n place [] = n
 names_after output_at n place (g ∷ gs) = names_after output_at (named n (output_at place)) (place + 1) gs
 
--- There are enough free names for all gates and two constants.
+-- a count of numbered names with free ones among them for all gates and two constants
 abbrev pub enough : List Name → Net → ℕ
 enough taken n = length n.gates + 2 + length taken
 
--- the names of a net's gates, where these names are taken and these outputs sit on the first sinks
+-- the names of the gates of n, where the names `taken` are avoided and `outputs` name the first
+-- sinks
 unfoldable pub names_in : List Name → List Name → Net → Naming
 names_in taken outputs n = names_after (output_on outputs n.sinks) (record { names = []; free = free_names taken 1 (enough taken n) }) (n.sources + 1) n.gates
 
 abbrev pub all_named : Circuit → Naming
 all_named c = names_in (taken_set c) c.outputs c.net
 
--- the names of the gates in the order of their places
--- Example: where the outputs are y on the second of three gates and y2 on it too, the names are g1, y
--- and g2.
+-- the names of the gates in order
+-- Example: of three gates the second is the outputs y and y2; the names are g1, y and g2.
 abbrev pub gate_names : Circuit → List Name
 gate_names c = (all_named c).names
 
--- the next two free names
+-- the next two free names: for constants
 abbrev pub first_spare : Circuit → Name
 first_spare c = first_free (all_named c).free
 

@@ -1,4 +1,4 @@
--- The names of gates depend on the outputs that stand on their places, and on no others.
+-- The names of gates depend on the outputs at the gates' places, and on no others.
 use Rattle.std.specs.Prelude.{◌≡◌, ℕ, ◌+◌, ◌-◌, ◌≤◌, ◌<◌, List, [], ◌∷◌, length, Option, refl}
 use Rattle.std.proofs.Common.{arith, ◌∙◌, ap}
 use Rattle.net_theory.specs.declared.data.Gate.{Gate}

@@ -1,4 +1,23 @@
--- Nets of gates, and the values of their places.
+-- Nets (networks) of two-input gates, and the values of their places (nodes).
+--
+-- Dictionary: the words of this program's netlists, and those of ABC and mockturtle.
+--   net                   logic network of two-input nodes, each an arbitrary function
+--   circuit               network with names
+--   document              parsed netlist, syntax tree
+--   source                combinational input (CI): primary input or latch output
+--   sink                  combinational output (CO): primary output or latch input
+--   place                 node, node index; place 0 doesn't exist
+--   signal                node or constant; with a sign: literal, possibly complemented
+--   a gate reads a place  the place is a fanin of the gate, the gate a fanout of the place
+--   reach, live           transitive fanin (TFI), of the sinks
+--   order of a visit      topological order by depth-first search
+--   table                 `.names` node, with a cover: sum of products (SOP)
+--   expand, cost          decomposition into two-input gates, and their number
+--   dead gate             dangling node; they go in a cleanup
+--   keep, move            copying nodes with a map from old nodes to new signals
+--   alike, merge          structurally equal; structural hashing (strash)
+--   m answers for n       functional equivalence with no more gates
+--   first value           initial value of a latch
 use Rattle.std.specs.Prelude.{◌≡◌, ℕ, ◌+◌, ◌-◌, ◌==◌, if◌then◌else◌, slice_index_or, ◌≤◌, ◌<◌, ◌^◌, Bool, true, false, List, [], ◌∷◌, length, map, slice_get, Some, All}
 use Rattle.chain_theory.specs.Operator.{apply}
 use Rattle.chain_theory.specs.Value.{extended}
@@ -6,32 +25,32 @@ use Rattle.net_theory.specs.declared.data.Sig.{Sig}
 use Rattle.net_theory.specs.declared.data.Sig.TheVariants.{Zero, One, Place}
 use Rattle.net_theory.specs.declared.data.Gate.{Gate}
 
--- The places 1 to sources are the sources. The gates have the next places, in order. The sinks are
--- what the net answers.
--- Example: XOR of two sources is sources = 2, the one gate op = 6, a = Place 1, b = Place 2, and the
--- one sink Place 3.
+-- The places 1 to `sources` are the sources. The gates have the next places, in order, which is
+-- topological. The sinks are the signals that the net answers.
+-- Example: XOR of two sources is sources = 2, the one gate op = 6, a = Place 1, b = Place 2, and
+-- the one sink Place 3.
 pub record Net : Type 0 where
   pub sources : ℕ
   pub gates : List Gate
   pub sinks : List Sig
 
--- a signal that is a place is one of the places below this one
+-- a signal below `place`: a constant or one of the places below
 abbrev pub IsSigBelow : ℕ → Sig → Type 0
 IsSigBelow place Zero = Unit {0}
 IsSigBelow place One = Unit {0}
 IsSigBelow place (Place p) = (1 ≤ p) × (p < place)
 
--- the operands of the gate at a place are constants or places below it
+-- the operands (fanins) of the gate at `place` are constants or places below it
 pub record IsGateAt (place : ℕ) (g : Gate) : Type 0 where
   pub operator : g.op < 16
   pub first : IsSigBelow place g.a
   pub second : IsSigBelow place g.b
 
--- each gate stands at its place: the first behind the sources
+-- each gate is valid at its place; the first one comes after the sources
 pub record AreGates (sources : ℕ) (gates : List Gate) : Type 0 where
   pub each : (i : ℕ) (g : Gate) → slice_get gates i ≡ Some g → IsGateAt (sources + 1 + i) g
 
--- the first number that is no place
+-- the first number after the places
 abbrev pub end_of : Net → ℕ
 end_of n = n.sources + 1 + length n.gates
 
@@ -42,7 +61,7 @@ pub record IsNet (n : Net) : Type 0 where
 
 -- ---- values
 
--- the value of a signal, by the bits of the places
+-- the value of a signal, from the bits of the places
 abbrev pub sig_value : (ℕ → Bool) → Sig → Bool
 sig_value bits Zero = false
 sig_value bits One = true
@@ -52,21 +71,21 @@ sig_value bits (Place p) = bits p
 abbrev pub gate_value : (ℕ → Bool) → Gate → Bool
 gate_value bits g = apply g.op (sig_value bits g.a) (sig_value bits g.b)
 
--- the bit of a place among the bits of the places from 1 on; there is no place 0
+-- the bit of a place in the list of the bits of the places from 1 on; there is no place 0
 abbrev pub bit_of : List Bool → ℕ → Bool
 bit_of bits place = if place == 0 then false else slice_index_or bits (place - 1) false
 
--- Each gate in turn gives its place a bit, the first the place that is given.
+-- Simulation: each gate in turn sets the bit of its place, the first one that of `place`.
 unfoldable pub values_after : (ℕ → Bool) → ℕ → List Gate → ℕ → Bool
 values_after bits place [] = bits
 values_after bits place (g ∷ gs) = values_after (extended bits place (gate_value bits g)) (place + 1) gs
 
--- the bits of the places, where the sources have the given bits
+-- the bits of the places, where the sources have the bits of `given`
 abbrev pub values_of : (ℕ → Bool) → ℕ → List Gate → ℕ → Bool
 values_of given sources gates = values_after given (sources + 1) gates
 
--- The value of a source is the bit that is given to it, and the value of a gate's place is the gate's
--- (the laws of this crate say so in these words).
+-- The value of a source is the bit that `given` gives it, and the value of a gate's place is its
+-- operator on the values of its operands (a law of this crate says so).
 -- Example: XOR under the given bits 1 and 0 has the values 1, 0 and 1 at the places 1, 2 and 3.
 abbrev pub value : Net → (ℕ → Bool) → ℕ → Bool
 value n given place = values_of given n.sources n.gates place

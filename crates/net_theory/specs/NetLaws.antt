@@ -1,4 +1,4 @@
--- The net of a document does what the document does.
+-- The net of a document computes what the document says.
 use Rattle.std.specs.Prelude.{◌≡◌, ℕ, zero, suc, ◌+◌, ◌<◌, Bool, true, false, ◌||◌, nat_eq, if◌then◌else◌, List, [], ◌∷◌, ◌++◌, length, slice_get, slice_index_or, map, sum_by, Option, Some, None, unwrap_or, ◌⊎◌, refl}
 use Rattle.std.specs.List.{flat_map}
 use Rattle.std.proofs.Common.{arith, sym, ◌∙◌, ap, subst, inl, inr, ⊎_elim, append_assoc, append-nil, ◌≢◌}
@@ -28,7 +28,7 @@ use Rattle.net_theory.specs.GraphLaws.{Drives, driver_finds, driver_found, reads
 use Rattle.net_theory.specs.WellFormed.{IsTable, IsWellFormed}
 use Rattle.net_theory.specs.Circuit.{by_place}
 
--- ---- what the names of a net are worth
+-- ---- the values of the names of a net
 
 abbrev pub net_bits : Document → Growth → (Name → Bool) → ℕ → Bool
 net_bits d g given = values_of (by_place (source_names d) given) (source_count d) g.gates
@@ -42,13 +42,13 @@ HasSignal g n = (s : Sig) × (g.signals n ≡ Some s)
 abbrev pub end_of_growth : Document → Growth → ℕ
 end_of_growth d g = source_count d + 1 + length g.gates
 
--- a table's names have signals, and its output is worth what it is
+-- a table's names have signals, and its output has the table's value
 pub record TableStands (d : Document) (g : Growth) (t : Table) : Type 0 where
   pub output : HasSignal g t.output
   pub inputs : (n : Name) → has t.inputs n ≡ true → HasSignal g n
   pub value : (given : Name → Bool) → name_value d g given t.output ≡ cover_value t.cover (map (name_value d g given) t.inputs)
 
--- what the tables that are done cost
+-- the cost of the tables whose indices are in a list
 abbrev pub spent : ℕ → List Table → List ℕ → ℕ
 spent k [] done = 0
 spent k (t ∷ ts) done = (if has_ended done k then table_cost t else 0) + spent (k + 1) ts done
@@ -146,7 +146,7 @@ spent_none : (k : ℕ) (ts : List Table) → spent k ts [] ≡ 0
 spent_none k [] = refl
 spent_none k (t ∷ ts) = omega (arith, spent_none (k + 1) ts)
 
--- the source at a place has its bit
+-- the source at index `k` has its given bit
 pub source_bit : (d : Document) (g : Growth) (given : Name → Bool) (k : ℕ) (n : Name) → slice_get (source_names d) k ≡ Some n → k < source_count d → sig_value (net_bits d g given) (Place (k + 1)) ≡ given n
 source_bit d g given k n at low =
     value-source (by_place (source_names d) given) (source_count d) (k + 1) g.gates (omega arith)
@@ -219,7 +219,7 @@ known_below d g (n ∷ ns) known below =
     let s = known n (has_first n ns) in
     (subst (λ (x : Sig). IsSigBelow (end_of_growth d g) x) (sym (signal_is g.signals n s.0 s.1)) (below n s.0 s.1), known_below d g ns (λ m h. known m (has_later n ns m h)) below)
 
--- the inputs of a table whose turn has come have signals
+-- the inputs of a table that comes next have signals
 inputs_known : (d : Document) (g : Growth) (done : List ℕ) (k : ℕ) (t : Table) → IsWellFormed d → IsGrowth d g done → Comes (graph_of d.tables) (length (graph_of d.tables)) done k → slice_get d.tables k ≡ Some t → (n : Name) → has t.inputs n ≡ true → HasSignal g n
 inputs_known d g done k t well is comes at n i =
     let used : has (used_names d) n ≡ true = has_left (flat_map table_inputs d.tables) (sink_names d) n (has_flat_at table_inputs d.tables k t n at i) in
@@ -249,7 +249,7 @@ output_fresh d g done k t s distinct is fresh at e =
     both_ways (has_ended done k) fresh (subst (λ (x : ℕ). has_ended done x ≡ true) same other.1))
     (is.origin t.output s e)
 
--- what a table's growth is
+-- the step from g to h by the table t
 record IsStep (d : Document) (g h : Growth) (t : Table) : Type 0 where
   extends : Extends d g h
   stands : TableStands d h t

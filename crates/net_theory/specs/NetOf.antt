@@ -1,4 +1,4 @@
--- The net of a document: the gates of its tables, in the order in which a visit ends them.
+-- The net of a document (its elaboration): the gates of its tables, in topological order.
 use Rattle.std.specs.Prelude.{ℕ, ◌+◌, if◌then◌else◌, List, [], ◌∷◌, length, map, Option, Some, None, unwrap_or, slice_get}
 use Rattle.std.specs.List.{filter_map}
 use Rattle.std.specs.Option.{option_map}
@@ -11,9 +11,10 @@ use Rattle.net_theory.specs.Cost.{merged_table}
 use Rattle.net_theory.specs.Expansion.{Built, expanded}
 use Rattle.graph_core.specs.Visit.{Graph, order_of}
 
--- ---- who reads whom
+-- ---- fanins of tables
 
--- the first table that drives a name, where the first of these tables has the number given
+-- the index of the first table that drives a name, where the tables are numbered from the number
+-- given
 unfoldable pub driver_from : ℕ → List Table → Name → Option ℕ
 driver_from number [] name = None
 driver_from number (t ∷ ts) name = if is_same t.output name then Some number else driver_from (number + 1) ts name
@@ -21,7 +22,7 @@ driver_from number (t ∷ ts) name = if is_same t.output name then Some number e
 abbrev pub driver_of : List Table → Name → Option ℕ
 driver_of tables name = driver_from 0 tables name
 
--- for each table the tables that drive its inputs, from the left
+-- for each table its fanins: the tables that drive its inputs, from the left
 unfoldable pub graph_of : List Table → Graph
 graph_of tables = map (λ t. filter_map (driver_of tables) t.inputs) tables
 
@@ -43,7 +44,7 @@ signal_of signals name = unwrap_or (signals name) Zero
 
 -- ---- the net
 
--- the gates so far, and the signals of the names that have one
+-- the gates so far, and the map from names to signals
 pub record Growth : Type 0 where
   pub gates : List Gate
   pub signals : Signals
@@ -54,7 +55,7 @@ table_built sources g t = expanded sources g.gates t.cover (map (signal_of g.sig
 abbrev pub grown_by : Growth → Name → Built → Growth
 grown_by g output b = record { gates = b.gates; signals = with_signal g.signals output b.sig }
 
--- a table gets its gates
+-- the gates of a table are added
 unfoldable pub with_table : ℕ → Growth → Table → Growth
 with_table sources g t = grown_by g t.output (table_built sources g (merged_table t))
 
@@ -62,12 +63,12 @@ abbrev pub with_table_at : ℕ → Growth → Option Table → Growth
 with_table_at sources g None = g
 with_table_at sources g (Some t) = with_table sources g t
 
--- the tables in an order
+-- and those of the tables of a list of indices
 unfoldable pub with_tables : ℕ → List Table → Growth → List ℕ → Growth
 with_tables sources tables g [] = g
 with_tables sources tables g (t ∷ order) = with_tables sources tables (with_table_at sources g (slice_get tables t)) order
 
--- what stands before the first table
+-- before the first table
 abbrev pub sources_only : Document → Growth
 sources_only d = record { gates = []; signals = with_sources (λ n. None) 1 (source_names d) }
 
@@ -77,7 +78,7 @@ source_count d = length (source_names d)
 unfoldable pub net_in_order : Document → List ℕ → Net
 net_in_order d order = let g = with_tables (source_count d) d.tables (sources_only d) order in record { sources = source_count d; gates = g.gates; sinks = map (signal_of g.signals) (sink_names d) }
 
--- The net of a document, where no table depends on itself.
+-- The net of a document; None where a table depends on itself.
 -- Example: `.inputs a b`, `.outputs y` and `.names a b y` with `10 1` and `01 1` give the net of one XOR
 -- gate on the places 1 and 2, whose sink is the place 3.
 unfoldable pub net_of : Document → Option Net

@@ -1,4 +1,4 @@
--- What is reached from places of a net by reading, directly or through gates.
+-- The transitive fanin of places of a net.
 use Rattle.std.specs.Prelude.{◌≡◌, ℕ, ◌+◌, Bool, true, false, ◌==◌, if◌then◌else◌, List, [], ◌∷◌, slice_get, Some, ◌⊎◌}
 use Rattle.std.specs.List.{list_any}
 use Rattle.chain_theory.specs.Value.{extended}
@@ -7,16 +7,17 @@ use Rattle.net_theory.specs.declared.data.Sig.TheVariants.{Zero, One, Place}
 use Rattle.net_theory.specs.declared.data.Gate.{Gate}
 use Rattle.net_theory.specs.Net.{Net}
 
--- a gate reads a place
+-- p is a fanin of the gate
 abbrev pub ReadsPlace : Gate → ℕ → Type 0
 ReadsPlace g p = (g.a ≡ Place p) ⊎ (g.b ≡ Place p)
 
--- a set of places that has the roots, and with a gate's place the places that the gate reads
+-- `set` has the roots, and with a gate the fanins of the gate
 pub record IsClosedFrom (n : Net) (roots set : ℕ → Bool) : Type 0 where
   pub starts : (p : ℕ) → roots p ≡ true → set p ≡ true
   pub gates : (i p : ℕ) (g : Gate) → slice_get n.gates i ≡ Some g → ReadsPlace g p → set (n.sources + 1 + i) ≡ true → set p ≡ true
 
--- A place is a root, or is read by one directly or through gates, where each such set has it.
+-- p is in the transitive fanin of the roots: a root, or read by one, directly or through gates.
+-- That is, each closed set has it.
 abbrev pub IsReachedFrom : Net → (ℕ → Bool) → ℕ → Type 0
 IsReachedFrom n roots p = (set : ℕ → Bool) → IsClosedFrom n roots set → set p ≡ true
 
@@ -29,7 +30,7 @@ is_place p (Place q) = q == p
 unfoldable pub is_sink : Net → ℕ → Bool
 is_sink n p = list_any (is_place p) n.sinks
 
--- a place is a sink, or a sink reads it, directly or through gates
+-- p is in the transitive fanin of the sinks
 abbrev pub IsReached : Net → ℕ → Type 0
 IsReached n p = IsReachedFrom n (is_sink n) p
 
@@ -40,19 +41,19 @@ with_mark marks Zero = marks
 with_mark marks One = marks
 with_mark marks (Place p) = extended marks p true
 
--- a gate that is marked marks what it reads
+-- a marked gate marks its fanins
 abbrev pub gate_marked : (ℕ → Bool) → ℕ → Gate → ℕ → Bool
 gate_marked marks place g = if marks place then with_mark (with_mark marks g.a) g.b else marks
 
--- from the last gate to the first, which has the place given
+-- from the last gate back to the first, which is at `place`
 unfoldable pub marked : (ℕ → Bool) → ℕ → List Gate → ℕ → Bool
 marked marks place [] = marks
 marked marks place (g ∷ gs) = gate_marked (marked marks (place + 1) gs) place g
 
--- what is reached from the roots (a law says so)
+-- the transitive fanin of the roots (a law says so)
 abbrev pub reach : Net → (ℕ → Bool) → ℕ → Bool
 reach n roots = marked roots (n.sources + 1) n.gates
 
--- what is reached from the sinks
+-- the transitive fanin of the sinks
 abbrev pub live : Net → ℕ → Bool
 live n = reach n (is_sink n)

@@ -1,4 +1,4 @@
--- What is marked is what is reached from the roots.
+-- The marks are the transitive fanin of the roots.
 use Rattle.std.specs.Prelude.{◌≡◌, ℕ, zero, suc, ◌+◌, ◌≤◌, Bool, true, List, [], ◌∷◌, slice_get, Some, ◌⊎◌, refl}
 use Rattle.std.specs.List.{list_any}
 use Rattle.std.proofs.Common.{arith, sym, ◌∙◌, ap, subst, inl, inr, ⊎_elim, add-zero}
@@ -55,14 +55,14 @@ mark_keeps marks One p e = e
 mark_keeps marks (Place q) p e =
     ⊎_elim (λ same. extended-same marks q p true same) (λ other. extended-other marks q p true other ∙ e) (cases_eq p q)
 
--- a mark was there, or is the signal's
+-- a mark was there, or is that of the signal
 mark_cases : (marks : ℕ → Bool) (s : Sig) (p : ℕ) → with_mark marks s p ≡ true → (marks p ≡ true) ⊎ (s ≡ Place p)
 mark_cases marks Zero p e = inl e
 mark_cases marks One p e = inl e
 mark_cases marks (Place q) p e =
     ⊎_elim (λ same. inr (ap Place (sym same))) (λ other. inl (sym (extended-other marks q p true other) ∙ e)) (cases_eq p q)
 
--- a signal below a place marks nothing from there on
+-- a signal below `place` marks nothing from there on
 mark_low : (marks : ℕ → Bool) (s : Sig) (place p : ℕ) → IsSigBelow place s → place ≤ p → with_mark marks s p ≡ marks p
 mark_low marks Zero place p below high = refl
 mark_low marks One place p below high = refl
@@ -82,7 +82,7 @@ gate_reads marks place g p here reads =
     (λ second. subst (λ (s : Sig). with_mark (with_mark marks g.a) s p ≡ true) (sym second) (mark_here (with_mark marks g.a) p))
     reads
 
--- a gate at a place marks nothing from there on
+-- a gate at `place` marks nothing from there on
 gate_low : (marks : ℕ → Bool) (place : ℕ) (g : Gate) (p : ℕ) → IsGateAt place g → place ≤ p → gate_marked marks place g p ≡ marks p
 gate_low marks place g p is high =
     cond_both (marks place) (with_mark (with_mark marks g.a) g.b) marks (λ (m : ℕ → Bool). m p ≡ marks p)
@@ -102,7 +102,7 @@ tail_gates place g gs are i h at =
 pub head_gate : (place : ℕ) (g : Gate) (gs : List Gate) → ((i : ℕ) (h : Gate) → slice_get (g ∷ gs) i ≡ Some h → IsGateAt (place + i) h) → IsGateAt place g
 head_gate place g gs are = subst (λ (q : ℕ). IsGateAt q g) (add-zero place) (are 0 g refl)
 
--- Where a gate's place is marked, what it reads is.
+-- Where a gate is marked, its fanins are.
 marked_closed : (marks : ℕ → Bool) (place : ℕ) (gs : List Gate) (i p : ℕ) (g : Gate) → ((j : ℕ) (h : Gate) → slice_get gs j ≡ Some h → IsGateAt (place + j) h) → slice_get gs i ≡ Some g → ReadsPlace g p → marked marks place gs (place + i) ≡ true → marked marks place gs p ≡ true
 unfolding marked
 marked_closed marks place [] i p g are at reads e = absurd cc
@@ -146,7 +146,7 @@ marked_within marks set place (g ∷ gs) within reads p e =
     (λ q r s. reads 0 q g refl r (subst (λ (x : ℕ). set x ≡ true) (sym (add-zero place)) s))
     p e
 
--- So they are what is reached.
+-- So they are the transitive fanin.
 pub marked_reached : (n : Net) (roots : ℕ → Bool) (p : ℕ) → reach n roots p ≡ true → IsReachedFrom n roots p
 marked_reached n roots p e set closed =
     marked_within roots set (n.sources + 1) n.gates closed.starts closed.gates p e

@@ -1,4 +1,4 @@
--- What values of places are, without the recursion, and what more gates leave of them.
+-- The values of places without recursion, and the values after gates are appended.
 use Rattle.std.specs.Prelude.{◌≡◌, ℕ, zero, suc, ◌+◌, ◌≤◌, ◌<◌, Bool, List, [], ◌∷◌, ◌++◌, length, slice_get, Some, ◌⊎◌, refl}
 use Rattle.std.proofs.Common.{add-zero, arith, sym, ◌∙◌, ap, subst, ◌≢◌, inl, inr, ⊎_elim, length-append}
 use Rattle.std.proofs.lemmas.Bool.{cases_eq}
@@ -11,26 +11,26 @@ use Rattle.net_theory.specs.Net.{IsSigBelow, IsGateAt, AreGates, sig_value, gate
 
 -- ---- signals
 
--- A signal that is below a place is below a later one.
+-- A signal that is below p is below q too.
 pub below_later : (s : Sig) (p q : ℕ) → p ≤ q → IsSigBelow p s → IsSigBelow q s
 below_later Zero p q low b = tt
 below_later One p q low b = tt
 below_later (Place x) p q low b = (b.0, omega (arith, b.1))
 
--- Bits that agree below a place give a signal below it one value.
+-- Bits that agree below `place` give a signal below it one value,
 pub sig_value-same : (f g : ℕ → Bool) (s : Sig) (place : ℕ) → IsSigBelow place s → ((p : ℕ) → p < place → f p ≡ g p) → sig_value f s ≡ sig_value g s
 sig_value-same f g Zero place b same = refl
 sig_value-same f g One place b same = refl
 sig_value-same f g (Place p) place b same = same p b.1
 
--- and a gate whose operands are below it
+-- and a gate whose operands are below it.
 pub gate_value-same : (f g : ℕ → Bool) (place : ℕ) (gate : Gate) → IsGateAt place gate → ((p : ℕ) → p < place → f p ≡ g p) → gate_value f gate ≡ gate_value g gate
 gate_value-same f g place gate is same =
     rw (sig_value-same f g gate.a place is.first same, sig_value-same f g gate.b place is.second same) refl
 
 -- ---- values
 
--- One more gate at the end sets the bit of its own place, from the bits that the others left.
+-- A gate appended at the end sets the bit of its own place, from the bits after the others.
 pub values_after-push : (bits : ℕ → Bool) (place : ℕ) (gs : List Gate) (g : Gate) → values_after bits place (gs ++ g ∷ []) ≡ extended (values_after bits place gs) (place + length gs) (gate_value (values_after bits place gs) g)
 unfolding values_after
 values_after-push bits place [] g = rw add-zero refl
@@ -47,11 +47,11 @@ values_after-below bits place p (g ∷ gs) low =
     let other : p ≢ place = omega arith in
     values_after-below (extended bits place (gate_value bits g)) (place + 1) p gs next ∙ extended-other bits place p (gate_value bits g) other
 
--- a source has the bit that is given to it
+-- a source has its given bit
 pub value-source : (given : ℕ → Bool) (sources p : ℕ) (gs : List Gate) → p ≤ sources → values_of given sources gs p ≡ given p
 value-source given sources p gs low = values_after-below given (sources + 1) p gs (omega arith)
 
--- the place of the gate that is put last
+-- the place of the last gate
 pub value-last : (given : ℕ → Bool) (sources : ℕ) (gs : List Gate) (g : Gate) → values_of given sources (gs ++ g ∷ []) (sources + 1 + length gs) ≡ gate_value (values_of given sources gs) g
 value-last given sources gs g =
     ap (λ (f : ℕ → Bool). f (sources + 1 + length gs)) (values_after-push given (sources + 1) gs g)
@@ -98,9 +98,9 @@ values_after-same f g place (h ∷ gs) are same p low =
     (cases_eq q place) in
     values_after-same (extended f place (gate_value f h)) (extended g place (gate_value g h)) (place + 1) gs later agree p (omega arith)
 
--- ---- more gates
+-- ---- appending gates
 
--- New gates stand behind the old ones, and the places that were there keep their values.
+-- `new` has the gates of `old` first, so that the places that were there keep their values.
 pub record IsGrown (sources : ℕ) (old new : List Gate) : Type 0 where
   pub gates : AreGates sources new
   pub longer : length old ≤ length new
@@ -125,7 +125,7 @@ grown_sig sources old new s given grown below =
 pub grown_below : (sources : ℕ) (old new : List Gate) (s : Sig) → IsGrown sources old new → IsSigBelow (sources + 1 + length old) s → IsSigBelow (sources + 1 + length new) s
 grown_below sources old new s grown below = below_later s (sources + 1 + length old) (sources + 1 + length new) (omega (arith, grown.longer)) below
 
--- what stands at a place of a list with one more
+-- what is in a list with one more element
 pub at_push : {A : Type 0} (xs : List A) (x y : A) (i : ℕ) → slice_get (xs ++ x ∷ []) i ≡ Some y → (slice_get xs i ≡ Some y) ⊎ ((i ≡ length xs) × (x ≡ y))
 at_push [] x y zero e = inr (refl, cc)
 at_push [] x y (suc i) e = absurd cc
@@ -141,7 +141,7 @@ pub at_end : {A : Type 0} (xs : List A) (x : A) → slice_get (xs ++ x ∷ []) (
 at_end [] x = refl
 at_end (y ∷ xs) x = at_end xs x
 
--- one more gate behind others
+-- a gate appended to others
 pub gates_push : (sources : ℕ) (gates : List Gate) (g : Gate) → AreGates sources gates → IsGateAt (sources + 1 + length gates) g → AreGates sources (gates ++ g ∷ [])
 gates_push sources gates g are is =
     record { each = λ i h at. ⊎_elim (λ l. are.each i h l) (λ r. rw (r.0, ← r.1) is) (at_push gates g h i at) }

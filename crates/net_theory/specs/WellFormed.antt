@@ -1,4 +1,4 @@
--- Documents that no refusal meets.
+-- Documents that are not refused.
 use Rattle.std.specs.Prelude.{◌≡◌, ℕ, ◌≤◌, true, false, List, length, map, All, Option, Some, None}
 use Rattle.net_theory.specs.declared.data.Trigger.{Trigger}
 use Rattle.net_theory.specs.Cover.{IsCover}
@@ -32,14 +32,14 @@ pub record IsTable (t : Table) : Type 0 where
   pub narrow : length t.inputs ≤ 256
   pub few : length t.cover.cubes ≤ 4096
 
--- no table drives the control
+-- no name of the list is that of the control
 abbrev pub IsFreeOf : List Name → Option (Trigger × Name) → Type 0
 IsFreeOf names None = Unit {0}
 IsFreeOf names (Some c) = has names c.1 ≡ false
 
--- Each name is a name, each table and latch is one, no control is driven by a table, the tables become
--- at most 100,000 gates, no name is driven twice, each that is used is driven, and no table depends on
--- itself.
+-- Names, tables and latches are within their limits, no control is driven by a table, the tables
+-- become at most 100,000 gates, no name is driven twice, each used name is driven, and there is no
+-- combinational loop.
 pub record IsWellFormed (d : Document) : Type 0 where
   pub model : IsName d.model
   pub inputs : All IsName d.inputs

@@ -1,4 +1,4 @@
--- Covers of all inputs at once: AND, OR and parity of so many inputs, and their complements.
+-- Covers of all inputs at once: AND, OR and parity of n inputs, and their complements.
 use Rattle.std.specs.Prelude.{ℕ, zero, suc, Bool, true, false, not, if◌then◌else◌, List, [], ◌∷◌, map}
 use Rattle.net_theory.specs.Cover.{Cover}
 
@@ -7,7 +7,7 @@ abbrev pub ones : ℕ → List ℕ
 ones zero = []
 ones (suc width) = 49 ∷ ones width
 
--- and the one that asks for nothing
+-- the cube that asks for nothing
 abbrev pub dashes : ℕ → List ℕ
 dashes zero = []
 dashes (suc width) = 45 ∷ dashes width
@@ -35,6 +35,6 @@ xor_cover width on = record { width = width; cubes = []; on = on; parity = true 
 abbrev pub itself : Bool → Bool
 itself b = b
 
--- a bit, or its complement where on is false
+-- a bit, or its complement where `on` is false
 abbrev pub value_where : Bool → Bool → Bool
 value_where on b = if on then b else not b

@@ -1,4 +1,4 @@
--- Wide tables: what their gates are worth, and how many there are.
+-- Tables of more than two inputs: the values and the number of their gates.
 use Rattle.std.specs.Prelude.{◌≡◌, ℕ, suc, ◌+◌, ◌-◌, ◌≤◌, ◌<◌, Bool, true, false, not, ◌&&◌, ◌||◌, ◌==◌, if◌then◌else◌, List, [], ◌∷◌, ◌++◌, length, map, count_by, refl}
 use Rattle.std.proofs.Common.{arith, sym, ◌∙◌, ap, subst, inl, inr, ⊎_elim, append_assoc, length-append}
 use Rattle.std.proofs.Math.Bool.{and_assoc, or_assoc}
@@ -57,7 +57,7 @@ and_true : (b : Bool) → b ≡ (b && true)
 and_true true = refl
 and_true false = refl
 
--- AND of the literals says whether the cube matches.
+-- AND of the literals is 1 where the cube covers the row.
 literals_value : (bits : ℕ → Bool) (cube : List ℕ) (inputs : List Sig) (b : Bool) → fold_from and_of b (map (signed_value bits) (literals cube inputs)) ≡ (b && matches cube (map (sig_value bits) inputs))
 unfolding literals matches fold_from
 literals_value bits [] inputs b = and_true b
@@ -91,7 +91,7 @@ turned_step false false a rest n one e = omega arith
 one_not_zero : (c : ℕ) → (c == 49) ≡ true → (c == 48) ≡ false
 one_not_zero c e = grind (arith, nat_tests)
 
--- the turned literals are the zeros of the cube
+-- as many literals are complemented as the cube has zeros
 pub literals_turned : (cube : List ℕ) (inputs : List Sig) → length cube ≡ length inputs → turned_count (literals cube inputs) ≡ count_by (λ b. b == 48) cube
 unfolding literals
 literals_turned [] inputs e = refl
@@ -127,12 +127,12 @@ cube_joined sources old inputs cube wide some are below =
 
 -- ---- several cubes
 
--- each cube is of that width and asks for something
+-- each cube is `width` bytes wide and asks for something
 abbrev pub AreTerms : ℕ → List (List ℕ) → Type 0
 AreTerms width [] = Unit {0}
 AreTerms width (c ∷ cubes) = (length c ≡ width) × (0 < literal_count c) × AreTerms width cubes
 
--- the gates of cubes before they are joined
+-- the number of gates of the cubes before they are joined
 abbrev pub term_gates : List (List ℕ) → ℕ
 term_gates [] = 0
 term_gates (c ∷ cubes) = (literal_count c - 1) + term_gates cubes
@@ -211,7 +211,7 @@ unfolding fold_from
 fold_or bits [] b = or_false b
 fold_or bits (c ∷ cubes) b = fold_or bits cubes (b || matches c bits) ∙ or_assoc b (matches c bits) (is_matched cubes bits)
 
--- whether some cube matches
+-- whether some cube covers the row
 abbrev pub any_matched : ℕ → List Gate → List Sig → List (List ℕ) → (ℕ → Bool) → Bool
 any_matched sources gates inputs cubes given = is_matched cubes (map (sig_value (values_of given sources gates)) inputs)
 

@@ -2,14 +2,14 @@
 
 use op_basis::Op;
 
-/// What an operand of a gate or a sink of a net is.
+/// A signal: an operand of a gate, or a sink of a net.
 #[derive(Clone, Copy, PartialEq, Eq)]
 pub enum Sig {
     /// The constant 0.
     Zero,
     /// The constant 1.
     One,
-    /// The value of a place: the sources are 1, 2 and so on, and the gates follow them.
+    /// The value of a place (node): the sources are 1, 2 and so on, and the gates come after them.
     Place(u32),
 }
 
@@ -21,14 +21,14 @@ pub struct Gate {
     pub b: Sig,
 }
 
-/// A signal with a sign: where it is turned its value is the complement of the signal's.
+/// A signal with a sign: where `turned` its value is the complement of the signal's.
 #[derive(Clone, Copy)]
 pub struct Signed {
     pub sig: Sig,
     pub turned: bool,
 }
 
-/// How a latch follows its control, by the words of the Berkeley BLIF manual.
+/// How a latch is triggered by its control, in the words of the Berkeley BLIF manual.
 #[derive(Clone, Copy)]
 pub enum Trigger {
     /// `fe`: at the falling edge.
@@ -39,6 +39,6 @@ pub enum Trigger {
     Ah,
     /// `al`: while the control is 0.
     Al,
-    /// `as`: in a way of its own, without a clock.
+    /// `as`: asynchronous.
     As,
 }

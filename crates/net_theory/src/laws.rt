@@ -1,4 +1,4 @@
-//! What the definitions come to. Each law is the contract of a function that does nothing.
+//! Laws of the definitions, each the contract of a function that does nothing.
 ghost use Rattle.std.specs.Prelude.{◌≡◌, ℕ, ◌+◌, ◌-◌, ◌≤◌, ◌<◌, ◌^◌, ◌↔◌, Bool, true, map, length, slice_get, Some, List};
 ghost use Rattle.std.specs.List.{list_any, list_all};
 ghost use Rattle.net_theory.specs.declared.data.Gate.{Gate};
@@ -22,22 +22,22 @@ ghost use Rattle.net_theory.specs.Answers.{Answers, IsPruned};
 ghost use Rattle.net_theory.specs.Dead.{dropped};
 ghost use Rattle.net_theory.specs.ExchangeLaws.{with_net};
 
-/// The value of a place: a source's is the bit that is given to it, a gate's is its operator on the
+/// The value of a place: a source has the bit that is given to it, a gate its operator on the
 /// values of its operands.
 pub fn values_of_places()
     ensures source { (n : Net) (given : ℕ → Bool) (p : ℕ) → p ≤ n.sources → value n given p ≡ given p }
     ensures gate { (n : Net) (given : ℕ → Bool) (i : ℕ) (g : Gate) → IsNet n → slice_get n.gates i ≡ Some g → value n given (n.sources + 1 + i) ≡ gate_value (value n given) g }
 {}
 
-/// The gates that a cover becomes stand behind those that were there, which keep their values; they are
-/// as many as it costs, and its signal has the cover's value at the bits of the inputs.
+/// The gates of a cover come after those that were there, which keep their values; their number is
+/// its cost, and its signal has the cover's value at the bits of the inputs.
 pub fn covers_become_gates()
     ensures { (sources : ℕ) (gates : List Gate) (c : Cover) (inputs : List Sig) → AreGates sources gates → AreSigsBelow (sources + 1 + length gates) inputs → IsCover c → c.width ≡ length inputs →
         IsBuilt sources gates (cover_cost c inputs) (λ given. cover_value c (map (sig_value (values_of given sources gates)) inputs)) (expanded sources gates c inputs) }
 {}
 
-/// AND, OR and XOR of all inputs, and their complements, are what their names say, and where there are
-/// more than two inputs they become one gate less than that, which join the inputs from the left.
+/// AND, OR and XOR of all inputs, and their complements, have the values that their names say, and
+/// more than two inputs become one gate less than there are inputs, joined from the left.
 pub fn whole_covers_join_their_inputs()
     ensures and { (on : Bool) (bits : List Bool) → cover_value (and_cover (length bits) on) bits ≡ value_where on (list_all itself bits) }
     ensures or { (on : Bool) (bits : List Bool) → 0 < length bits → cover_value (or_cover (length bits) on) bits ≡ value_where on (list_any itself bits) }
@@ -45,34 +45,34 @@ pub fn whole_covers_join_their_inputs()
     ensures cost { (width : ℕ) (on : Bool) → 2 ≤ width → (wide_cost (and_cover width on) ≡ width - 1) × (wide_cost (or_cover width on) ≡ width - 1) × (wide_cost (xor_cover width on) ≡ width - 1) }
 {}
 
-/// A visit orders the tables where none depends on itself, and, where no two tables have one output, only
-/// there.
+/// The tables have a topological order where none depends on itself, and, where no two tables have
+/// one output, only there.
 pub fn tables_have_an_order()
     ensures some { (d : Document) → IsAcyclic d → (order : List ℕ) × (order_of (graph_of d.tables) ≡ Some order) }
     ensures only { (d : Document) (order : List ℕ) → are_distinct (map table_output d.tables) ≡ true → order_of (graph_of d.tables) ≡ Some order → IsAcyclic d }
 {}
 
-/// A well-formed document has a circuit: its net is the document's, it is proper, and under every
-/// assignment it has the values of the document's one map. A net has fewer than 2^31 places.
+/// A well-formed document has a circuit: its net is the document's, it can be written, and under
+/// every assignment it has the values of the document's one map. A net has fewer than 2^31 places.
 pub fn documents_have_circuits()
     ensures { (d : Document) → IsWellFormed d → source_count d + 100000 < 2 ^ 31 → (c : Circuit) × IsCircuitOf d c }
 {}
 
-/// What is marked from some roots on is what is reached from them, and the sinks of a net are such roots.
+/// What is marked from roots on is their transitive fanin, and the sinks of a net are such roots.
 pub fn marks_are_what_is_reached()
     ensures marks { (n : Net) (roots : ℕ → Bool) (p : ℕ) → IsNet n → ((reach n roots p ≡ true) ↔ IsReachedFrom n roots p) }
     ensures sinks { (n : Net) (p : ℕ) → ((is_sink n p ≡ true) ↔ ((i : ℕ) × (slice_get n.sinks i ≡ Some (Place p)))) }
 {}
 
-/// What is left of a net where its dead gates are dropped answers the same and has no dead gate, and its
-/// gates have operators of the net's gates.
+/// A net without its dead (dangling) gates has the same values of its sinks and no dead gate, and
+/// its gates have operators of the old gates.
 pub fn dead_gates_can_be_dropped()
     ensures left { (n : Net) → IsNet n → IsPruned n (dropped n) }
     ensures operators { (n : Net) (j : ℕ) (h : Gate) → IsNet n → slice_get (dropped n).gates j ≡ Some h → (i : ℕ) × (g : Gate) × (slice_get n.gates i ≡ Some g) × (h.op ≡ g.op) }
 {}
 
-/// A circuit's net can be exchanged for one that answers the same: the circuit stays proper, a document
-/// that describes it goes on to do so, and the net can be exchanged again.
+/// A circuit's net can be replaced by one that answers the same: the circuit can still be written,
+/// a document that describes it still does, and the net can be replaced again.
 pub fn nets_can_be_exchanged()
     ensures proper { (c : Circuit) (m : Net) → IsProper c → Answers c.net m → IsProper (with_net c m) }
     ensures describes { (d : Document) (c : Circuit) (m : Net) → Answers c.net m → Describes d c → Describes d (with_net c m) }

@@ -6,7 +6,7 @@ ghost use Rattle.net_theory.specs.Net.{bit_of, values_of, sig_value as sig_value
 
 use crate::data::{Gate, Sig};
 
-/// Whether a cube's byte gets what it asks for.
+/// Whether `bit` is what the byte of a cube asks for.
 pub fn is_asked(byte: u8, bit: bool) -> bool
     ensures { result ≡ is_asked_of byte bit }
 {
@@ -17,7 +17,7 @@ pub fn is_asked(byte: u8, bit: bool) -> bool
     }
 }
 
-/// Whether a cube matches the bits of the inputs.
+/// Whether a cube covers the minterm `bits`.
 #[tactic(auto, unfolding(crate::specs::Cover::matches))]
 pub fn matches_bits(cube: &[u8], bits: &[bool]) -> bool
     ensures { result ≡ matches_of cube.now bits.now }
@@ -31,7 +31,7 @@ pub fn matches_bits(cube: &[u8], bits: &[bool]) -> bool
     is_asked(*byte, *bit) && matches_bits(cube, bits)
 }
 
-/// The bit of a place among those of the sources, source 1 first.
+/// The bit of a source, of which source 1 is first in `given`.
 pub fn given_bit(given: &[bool], place: u32) -> bool
     ensures { result ≡ bit_of given.now place }
 {
@@ -42,7 +42,7 @@ pub fn given_bit(given: &[bool], place: u32) -> bool
     if at < given.len() { given[at] } else { false }
 }
 
-/// The value of a place where the sources have the given bits, source 1 first.
+/// The value of `place` where the sources have the bits `given`, source 1 first.
 #[cycle(values)]
 pub fn place_value(given: &[bool], gates: &[Gate], place: u32) -> bool
     requires { length given.now + length gates.now < 2 ^ 31 }

@@ -1,4 +1,4 @@
--- What a window has to compute for those who see it.
+-- The specification of a window with observability don't-cares (ODC) too.
 use Rattle.std.specs.Prelude.{◌≡◌, ℕ, ◌≤◌, ◌<◌, ◌^◌}
 use Rattle.chain_theory.specs.Operator.{Basis}
 use Rattle.chain_theory.specs.Agreement.{NoneBelow}
@@ -10,16 +10,16 @@ use Rattle.window_theory.specs.Care.{IsSpecificationOf}
 use Rattle.observe_theory.specs.Tail.{Tail, IsTail}
 use Rattle.observe_theory.specs.Unseen.{IsUnseen}
 
--- One specification is another with the cells of all unseen rows free.
+-- s is `whole` with the cells of all unseen rows as don't-cares.
 pub record IsNarrowed (n : Net) (w : Window) (t : Tail) (whole s : Specification) : Type 0 where
   pub inputs : s.inputs ≡ whole.inputs
   pub outputs : s.outputs ≡ whole.outputs
   pub seen : (h row : ℕ) → 1 ≤ h → h ≤ whole.outputs → row < 2 ^ whole.inputs → (IsUnseen n w t row → ⊥) → s.cell h row ≡ whole.cell h row
   pub unseen : (h row : ℕ) → 1 ≤ h → h ≤ whole.outputs → row < 2 ^ whole.inputs → IsUnseen n w t row → s.cell h row ≡ Free
 
--- The specification of a window, with the cells of all unseen rows free.
--- Example: where the gate 3 is XNOR of the sources 1 and 2, gate 4 is AND of 3 and the source 1, and the only sink is
--- 4, the cells of the window 3 are -, -, 0, 1. The source 2 agrees with them.
+-- The specification of a window, with the cells of all unseen rows as don't-cares.
+-- Example: where the gate 3 is XNOR of the sources 1 and 2, gate 4 is AND of 3 and the source 1,
+-- and the only sink is 4, the cells of the window 3 are -, -, 0, 1. The source 2 implements them.
 pub record IsObservedOf (n : Net) (w : Window) (s : Specification) : Type 0 where
   pub tail : Tail
   pub is_tail : IsTail n w tail
@@ -27,7 +27,8 @@ pub record IsObservedOf (n : Net) (w : Window) (s : Specification) : Type 0 wher
   pub is_whole : IsSpecificationOf n w whole
   pub narrowed : IsNarrowed n w tail whole s
 
--- No chain over the basis of fewer steps than the count does what those who see the window ask of it.
+-- No chain over the basis of fewer than `count` steps implements the window with observability
+-- don't-cares.
 pub record HasNoFewerSeen (n : Net) (basis : Basis) (w : Window) (count : ℕ) : Type 0 where
   pub specification : Specification
   pub is : IsObservedOf n w specification

@@ -1,4 +1,5 @@
--- A chain that agrees with what those who see a window ask of it can take the window's place.
+-- A chain that implements a window's specification with observability don't-cares can be
+-- substituted for it.
 use Rattle.std.specs.Prelude.{◌≡◌, ℕ, suc, ◌+◌, ◌-◌, ◌≤◌, ◌<◌, ◌^◌, Bool, true, false, List, [], ◌∷◌, length, map, slice_get, slice_index_or, Some, ◌⊎◌, refl}
 use Rattle.std.proofs.Common.{arith, sym, ◌∙◌, ap, subst, inl, inr, ⊎_elim}
 use Rattle.std.proofs.lemmas.Bool.{cases_Bool}
@@ -30,16 +31,16 @@ use Rattle.observe_theory.specs.Observed.{IsObservedOf}
 use Rattle.observe_theory.specs.ApartLaws.{ArePut, not_output}
 use Rattle.observe_theory.specs.UnseenLaws.{sink_same}
 
--- ---- on a row that is seen
+-- ---- on an observed row
 
--- a row is seen, and the assignment gives it
+-- the row isn't unseen, and the assignment gives it
 record IsSeenUnder (n : Net) (w : Window) (t : Tail) (given : ℕ → Bool) (row : ℕ) : Type 0 where
   low : row < 2 ^ length w.inputs
   has : HasRow (value n given) w.inputs row
   care : IsCareRow n w.inputs row
   seen : IsUnseen n w t row → ⊥
 
--- there an output gets its own value
+-- on it an output has its own value
 output_seen : (n : Net) (w : Window) (c : Chain) (s : Specification) (o : IsObservedOf n w s) (given : ℕ → Bool) (row p i : ℕ) (x : Out) → IsNet n → Fits w c → Agrees c s → IsSeenUnder n w o.tail given row → slice_get w.outputs i ≡ Some p → slice_get c.outs i ≡ Some x → out_bit (chain_bits n w c given) x ≡ value n given p
 output_seen n w c s o given row p i x net fits agrees is place at =
     let low : i < length w.outputs = slice_get_within w.outputs i p place in
@@ -89,7 +90,7 @@ two_bits false false = inl refl
 two_bits true false = inr (λ e. absurd cc)
 two_bits false true = inr (λ e. absurd cc)
 
--- the chain's bits are put in the place of the outputs alone
+-- the chain's bits are forced on the outputs alone
 spliced_put : (n : Net) (w : Window) (c : Chain) (given : ℕ → Bool) → Belongs n w → ArePut n given (spliced_bits n w c given)
 spliced_put n w c given is p low =
     bits_other given w.outputs (map (out_bit (chain_bits n w c given)) c.outs) p (not_output n w p is (source_outside n w p is low))
@@ -109,7 +110,7 @@ map_same : (f g : Sig → Bool) (xs : List Sig) → ((i : ℕ) (x : Sig) → sli
 map_same f g [] same = refl
 map_same f g (x ∷ xs) same = rw (same 0 x refl, map_same f g xs (λ i y e. same (suc i) y e)) refl
 
--- a chain that agrees has an input for each input, and an out for each output
+-- a chain that implements the specification has the inputs and outputs of the window
 pub observed_fits : (n : Net) (w : Window) (s : Specification) (c : Chain) → IsChain c → IsObservedOf n w s → Agrees c s → Fits w c
 observed_fits n w s c chain o agrees =
     record {

@@ -1,4 +1,4 @@
--- A window has one tail, and one observed specification as far as chains can tell.
+-- A window has one tail, and one observed specification up to the chains that implement it.
 use Rattle.std.specs.Prelude.{◌≡◌, ℕ, ◌≤◌, ◌<◌, ◌^◌, Bool, true, false, List, [], ◌∷◌, ◌++◌, length, refl}
 use Rattle.std.proofs.Common.{arith, sym, ◌∙◌, ap, subst, ⊎_elim}
 use Rattle.std.proofs.lemmas.Bool.{cases_Bool, cases_eq, cases_lt, both_ways}
@@ -32,7 +32,7 @@ following_one n gates (p ∷ xs) (q ∷ ys) a b size =
     let first : p ≡ q = least_one n (xs ++ gates) (ys ++ gates) p q (ap (λ (zs : List ℕ). zs ++ gates) rest) a.0 b.0 in
     ap (λ (z : ℕ). z ∷ xs) first ∙ ap (λ (zs : List ℕ). q ∷ zs) rest
 
--- where more were taken a follower was left
+-- where no follower is left, no longer list can be taken
 no_more : (n : Net) (gates xs ys : List ℕ) → AreFollowing n gates xs → ((p : ℕ) → IsFollower n (xs ++ gates) p → ⊥) → AreFollowing n gates ys → length xs < length ys → ⊥
 unfolding AreFollowing
 no_more n gates xs [] a none b more = omega (arith, more)
@@ -88,7 +88,7 @@ tail_one n w t u a b =
 
 -- ---- one observed specification
 
--- what meets a cell of a window's specification meets that of another
+-- a bit that meets a cell of one specification of a window meets that of another
 met_whole : (n : Net) (w : Window) (s z : Specification) (h row : ℕ) (bit : Bool) → IsSpecificationOf n w s → IsSpecificationOf n w z → 1 ≤ h → h ≤ length w.outputs → row < 2 ^ length w.inputs → is_met (s.cell h row) bit ≡ true → is_met (z.cell h row) bit ≡ true
 met_whole n w s z h row bit a b low high below met =
     ⊎_elim

@@ -1,4 +1,4 @@
--- A chain's outs on a row, and by the bits of a window's inputs.
+-- A chain's outputs on a row, and from the bits of a window's inputs.
 use Rattle.std.specs.Prelude.{◌≡◌, ℕ, suc, ◌+◌, ◌-◌, ◌≤◌, ◌<◌, Bool, true, false, List, [], ◌∷◌, length, slice_get, Some, refl}
 use Rattle.std.proofs.Common.{arith, sym, ◌∙◌, ap, subst, ⊎_elim, add-zero}
 use Rattle.std.proofs.lemmas.Bool.{cases_eq}
@@ -31,7 +31,8 @@ steps_same f g place (s ∷ ss) are same p some low =
     (cases_eq q place) in
     steps_same (extended f place (step_value f s)) (extended g place (step_value g s)) (place + 1) ss later agree p some (omega arith)
 
--- An out has the value on a row that it has on the bits of a window's inputs, where these are the row.
+-- An output has on a row the value that it has from the bits of a window's inputs, where these are
+-- the row.
 pub out_row : (n : Net) (w : Window) (c : Chain) (given : ℕ → Bool) (t : ℕ) (x : Out) → Fits w c → HasRow (value n given) w.inputs t → NamesPlace (c.n + length c.steps) x → out_value c t x ≡ out_bit (chain_bits n w c given) x
 out_row n w c given t outs.Zero fits row names = refl
 out_row n w c given t outs.One fits row names = refl
@@ -42,7 +43,7 @@ out_row n w c given t (outs.Place q) fits row names =
     ap (λ (k : ℕ). input k t p) fits.inputs ∙ ap (input (length w.inputs) t) (sym e) ∙ sym (row (p - 1) (omega (arith, some, low, fits.inputs))))
     q names.0 (omega (arith, names.1))
 
--- a bit that meets another's cell is that one
+-- a bit that meets the cell of another is equal to it
 pub met_cell : (b bit : Bool) → is_met (cell_of b) bit ≡ true → bit ≡ b
 met_cell true bit e = e
 met_cell false true e = absurd cc

@@ -1,13 +1,13 @@
--- The tail of a window: the gates above it through which it is seen first.
+-- The tail of a window: a bounded transitive fanout (TFO), in which its effect is looked for.
 use Rattle.std.specs.Prelude.{◌≡◌, ℕ, ◌≤◌, ◌<◌, Bool, true, false, List, [], ◌∷◌, ◌++◌, length}
 use Rattle.net_theory.specs.Net.{Net}
 use Rattle.window_theory.specs.Places.{among, AreJust}
 use Rattle.window_theory.specs.Paths.{Reads, LeadsUp}
 use Rattle.window_theory.specs.Window.{Window, IsReadBy, IsOutput}
 
--- ---- which gates a tail has
+-- ---- the gates of a tail
 
--- a gate that isn't one of these and reads one of them
+-- a gate outside `gates` with a fanin among them
 pub record IsFollower (n : Net) (gates : List ℕ) (p : ℕ) : Type 0 where
   pub outside : among gates p ≡ false
   pub place : ℕ
@@ -18,14 +18,15 @@ pub record IsLeastFollower (n : Net) (gates : List ℕ) (p : ℕ) : Type 0 where
   pub follower : IsFollower n gates p
   pub least : (q : ℕ) → IsFollower n gates q → p ≤ q
 
--- Gates that were taken one after the other, the first of the list last: each was the least follower of the window's
--- gates and of those that were taken before it.
+-- Gates that are taken one after the other, the first of them at the end of the list: each is the
+-- least follower (fanout) of the window's gates and of those taken before it.
 unfoldable pub AreFollowing : Net → List ℕ → List ℕ → Type 0
 AreFollowing n gates [] = Unit {0}
 AreFollowing n gates (p ∷ before) = IsLeastFollower n (before ++ gates) p × AreFollowing n gates before
 
--- The gates of the tail: as many as there are, but at most 16.
--- Example: where gate 4 reads the window's gate 3, gate 5 reads gate 4 and gate 6 reads the sources, they are 4, 5.
+-- The gates of the tail: all of the transitive fanout, but at most 16.
+-- Example: where gate 4 reads the window's gate 3, gate 5 reads gate 4 and gate 6 reads the
+-- sources, they are 4, 5.
 pub record AreTail (n : Net) (gates tail : List ℕ) : Type 0 where
   pub taken : List ℕ
   pub following : AreFollowing n gates taken
@@ -33,19 +34,20 @@ pub record AreTail (n : Net) (gates tail : List ℕ) : Type 0 where
   pub all : length taken < 16 → (p : ℕ) → IsFollower n (taken ++ gates) p → ⊥
   pub just : AreJust (λ p. among taken p ≡ true) tail
 
--- ---- what the tail reads beside the window, and where it is seen
+-- ---- the inputs and outputs of the tail
 
--- a place outside the window and the tail that a gate of the tail reads
+-- a side input: a fanin of the tail outside the window and the tail
 pub record IsSide (n : Net) (gates tail : List ℕ) (p : ℕ) : Type 0 where
   pub outside : among (tail ++ gates) p ≡ false
   pub read : IsReadBy n tail p
 
--- a gate of the tail that a sink, or a gate outside the window and the tail, reads
+-- a watcher, an output of the tail: one of its gates with a sink or a gate outside the window and
+-- the tail as fanout
 pub record IsWatcher (n : Net) (gates tail : List ℕ) (p : ℕ) : Type 0 where
   pub inside : among tail p ≡ true
   pub seen : IsOutput n (tail ++ gates) p
 
--- such a gate of the window: it is seen by others than the tail
+-- a gate of the window with such a fanout: the window is directly observable
 pub record IsBare (n : Net) (gates tail : List ℕ) : Type 0 where
   pub place : ℕ
   pub inside : among gates place ≡ true
@@ -57,9 +59,11 @@ pub record Tail : Type 0 where
   pub watchers : List ℕ
   pub bare : Bool
 
--- The tail of a window, with its side inputs and its watchers, and whether the window is seen past it.
--- Example: where the one gate of the window is 3, gate 4 is AND of 3 and the source 1, and the only sink is 4, the
--- tail has the gate 4, the side input 1 and the watcher 4, and the window isn't bare. With the sink 3 beside it is.
+-- The tail of a window, with its side inputs and its watchers, and whether the window is bare:
+-- directly observable.
+-- Example: where the one gate of the window is 3, gate 4 is AND of 3 and the source 1, and the only
+-- sink is 4, the tail has the gate 4, the side input 1 and the watcher 4, and the window isn't
+-- bare. Where 3 is a sink too it is.
 pub record IsTail (n : Net) (w : Window) (t : Tail) : Type 0 where
   pub gates : AreTail n w.gates t.gates
   pub sides : AreJust (IsSide n w.gates t.gates) t.sides
@@ -67,9 +71,9 @@ pub record IsTail (n : Net) (w : Window) (t : Tail) : Type 0 where
   pub bare : t.bare ≡ true → IsBare n w.gates t.gates
   pub hidden : t.bare ≡ false → IsBare n w.gates t.gates → ⊥
 
--- ---- what doesn't depend on a window
+-- ---- outside the transitive fanout
 
--- a place outside some gates to which no path leads from them
+-- a place outside the gates and outside their transitive fanout
 pub record IsApart (n : Net) (gates : List ℕ) (p : ℕ) : Type 0 where
   pub outside : among gates p ≡ false
   pub above : (g : ℕ) → among gates g ≡ true → LeadsUp n g p → ⊥

@@ -1,4 +1,4 @@
--- Tails rise, and what a tail reads beside its window doesn't depend on the window.
+-- Tails ascend, and their side inputs don't depend on the window.
 use Rattle.std.specs.Prelude.{◌≡◌, ℕ, ◌≤◌, ◌<◌, true, false, List, [], ◌∷◌, ◌++◌, ◌⊎◌}
 use Rattle.std.proofs.Common.{arith, sym, subst, inl, inr, ⊎_elim, ◌≢◌}
 use Rattle.std.proofs.lemmas.Bool.{cases_Bool, both_ways}
@@ -11,9 +11,9 @@ use Rattle.window_theory.specs.WindowLaws.{reads_low}
 use Rattle.observe_theory.specs.Tail.{IsFollower, AreFollowing, IsSide, Tail, IsTail, IsApart}
 use Rattle.observe_theory.specs.JoinedLaws.{in_front, in_back, in_parts, is_off, out_back}
 
--- ---- tails rise
+-- ---- tails ascend
 
--- a follower with one gate more follows that one, or was a follower before
+-- a follower after one more gate is a fanout of that gate, or was a follower before
 follower_before : (n : Net) (rest : List ℕ) (p x : ℕ) → IsFollower n (p ∷ rest) x → Reads n x p ⊎ (IsFollower n rest x × (x ≢ p))
 follower_before n rest p x is =
     let other : x ≢ p = λ same. both_ways (among (p ∷ rest) x) is.outside (subst (λ (q : ℕ). among (p ∷ rest) q ≡ true) (sym same) (among_first p rest)) in
@@ -23,7 +23,7 @@ follower_before n rest p x is =
     (λ later. inr (record { outside = out; place = is.place; inside = later; reads = is.reads }, other))
     (among_cases p is.place rest is.inside)
 
--- a follower stands above all gates that were taken
+-- a follower is above all gates that were taken
 pub follower_high : (n : Net) (gates taken : List ℕ) (x q : ℕ) → IsNet n → AreFollowing n gates taken → IsFollower n (taken ++ gates) x → among taken q ≡ true → q < x
 unfolding AreFollowing
 follower_high n gates [] x q net are is on = absurd cc
@@ -39,7 +39,7 @@ follower_high n gates (p ∷ before) x q net are is on =
 
 -- ---- side inputs
 
--- where a path leaves some gates and doesn't come back, a follower stands on it
+-- on a path that leaves a set of gates and doesn't come back there is a follower
 crossing : (n : Net) (all : List ℕ) (g q : ℕ) → IsNet n → among all g ≡ true → LeadsUp n g q → among all q ≡ false → (x : ℕ) × (x ≤ q) × IsFollower n all x
 crossing n all _ _ net on (at_once g q reads) off = (q, omega arith, record { outside = off; place = g; inside = on; reads = reads })
 crossing n all _ _ net on (by_way_of g m q before reads) off =
@@ -48,13 +48,13 @@ crossing n all _ _ net on (by_way_of g m q before reads) off =
     (λ outside. let r = crossing n all g m net on before outside in (r.0, omega (arith, r.1, (reads_low n q m net reads).1), r.2))
     (cases_Bool (among all m))
 
--- the tail's list in place of the gates that were taken
+-- the ascending list in place of the list of the gates as they were taken
 same_taken : (gates taken tail : List ℕ) (p : ℕ) → ((q : ℕ) → among taken q ≡ true → among tail q ≡ true) → among (tail ++ gates) p ≡ false → among (taken ++ gates) p ≡ false
 same_taken gates taken tail p within off =
     is_off (taken ++ gates) p (λ on. both_ways (among (tail ++ gates) p) off
     (⊎_elim (λ a. in_front tail gates p (within p a)) (λ b. in_back tail gates p b) (in_parts taken gates p on)))
 
--- No side input depends on the window.
+-- No side input is in the transitive fanout of the window.
 pub side_apart : (n : Net) (w : Window) (t : Tail) (p : ℕ) → IsNet n → IsTail n w t → among t.sides p ≡ true → IsApart n w.gates p
 side_apart n w t p net is on =
     let side : IsSide n w.gates t.gates p = is.sides.only p on in
@@ -68,7 +68,7 @@ side_apart n w t p net is on =
           absurd (omega (arith, high, x.1, (reads_low n side.read.reader p net side.read.reads).1));
     }
 
--- Nor does an input of a window that belongs to its net.
+-- Nor is an input of a window that belongs to its net.
 pub input_apart : (n : Net) (w : Window) (p : ℕ) → Belongs n w → among w.inputs p ≡ true → IsApart n w.gates p
 input_apart n w p is on =
     let input : IsInput n w.gates p = is.inputs.only p on in

@@ -1,4 +1,4 @@
--- Rows of a window's inputs on which nobody sees the window.
+-- Rows of a window's inputs that are observability don't-cares (ODC).
 use Rattle.std.specs.Prelude.{◌≡◌, ℕ, ◌≤◌, Bool, true, false, List, ◌++◌, length, ◌⊎◌}
 use Rattle.net_theory.specs.Net.{Net}
 use Rattle.window_theory.specs.Places.{among, AreJust}
@@ -7,26 +7,28 @@ use Rattle.window_theory.specs.Surround.{LeadsTo}
 use Rattle.window_theory.specs.Care.{values_with, HasRow}
 use Rattle.observe_theory.specs.Tail.{Tail}
 
--- the places whose surround is looked at: the inputs of the window and of its tail
+-- the places from which the observing surround is expanded: the inputs of the window and of its
+-- tail
 abbrev pub IsFirst : Window → Tail → ℕ → Type 0
 IsFirst w t p = (among w.inputs p ≡ true) ⊎ (among t.sides p ≡ true)
 
--- The leaves of the observing surround, where it begins with at most 12 places.
+-- The leaves of the observing surround, where there are at most 12 such places.
 pub record AreObserving (n : Net) (w : Window) (t : Tail) (leaves : List ℕ) : Type 0 where
   pub first : List ℕ
   pub just : AreJust (IsFirst w t) first
   pub few : length first ≤ 12
   pub surround : LeadsTo n first leaves
 
--- the values where the leaves are given bits, and other bits are put in the place of the window's outputs
+-- the values where the leaves and the window's outputs are forced to given bits
 abbrev pub values_put : Net → Window → List ℕ → (ℕ → Bool) → ℕ → Bool
 values_put n w leaves = values_with n (among (leaves ++ w.outputs))
 
--- A row of the window's inputs is unseen where under every assignment of the leaves that gives the inputs this row the
--- watchers have the same values, whatever bits are put in the place of the window's outputs. (The outputs' own bits
--- are among those that can be put; a law says so.) No row is unseen of a window that is seen past its tail.
--- Example: where the gate 3 is the window, gate 4 is AND of 3 and the source 1, and the only sink is 4, the rows that
--- give the source 1 the bit 0 are unseen.
+-- A row of the window's inputs is unseen, an observability don't-care, where under every assignment
+-- of the leaves that gives the inputs this row the watchers have the same values, whatever bits the
+-- window's outputs are forced to. (Their own bits are among these; a law says so.) A bare window
+-- has no unseen row.
+-- Example: where the gate 3 is the window, gate 4 is AND of 3 and the source 1, and the only sink
+-- is 4, the rows that give the source 1 the bit 0 are unseen.
 pub record IsUnseen (n : Net) (w : Window) (t : Tail) (row : ℕ) : Type 0 where
   pub hidden : t.bare ≡ false
   pub leaves : List ℕ

@@ -1,4 +1,4 @@
--- Bits that are put in the place of a window's outputs on an unseen row leave every sink as it is.
+-- On an unseen row every sink keeps its value, whatever bits the window's outputs are forced to.
 use Rattle.std.specs.Prelude.{◌≡◌, ℕ, zero, suc, ◌+◌, ◌≤◌, ◌<◌, Bool, true, false, List, ◌++◌, slice_get, slice_index_or, Some, refl}
 use Rattle.std.proofs.Common.{arith, sym, ◌∙◌, inl, inr, ⊎_elim}
 use Rattle.std.proofs.lemmas.Bool.{cases_lt, cases_Bool}
@@ -36,7 +36,7 @@ output_gate n w t p net is on =
     (λ sink. sink_within n p net sink)
     watcher.seen.seen
 
--- The watchers have their own values under all bits that are put there.
+-- The watchers keep their values.
 watcher_same : (n : Net) (w : Window) (t : Tail) (row p : ℕ) (given put : ℕ → Bool) → IsNet n → Belongs n w → IsTail n w t → IsUnseen n w t row → HasRow (value n given) w.inputs row → ArePut n given put → among t.watchers p ≡ true → values_with n (among w.outputs) put p ≡ value n given p
 watcher_same n w t row p given put net is tail unseen has are on =
     let leaves : List ℕ = unseen.leaves in
@@ -49,7 +49,7 @@ watcher_same n w t row p given put net is tail unseen has are on =
     on
     ∙ values_real n (among (leaves ++ w.outputs)) given p net
 
--- ---- all that isn't hidden
+-- ---- all places that aren't hidden
 
 seen_same : (n : Net) (w : Window) (t : Tail) (row p : ℕ) (given put : ℕ → Bool) → IsNet n → Belongs n w → IsTail n w t → IsUnseen n w t row → HasRow (value n given) w.inputs row → ArePut n given put → IsOutput n (t.gates ++ w.gates) p → values_with n (among w.outputs) put p ≡ value n given p
 seen_same n w t row p given put net is tail unseen has are seen =
@@ -86,7 +86,7 @@ sig_same n w t row i One given put net is tail unseen has are at low = refl
 sig_same n w t row i (Place p) given put net is tail unseen has are at low =
     place_below n w t row (suc p) p given put net is tail unseen has are (λ inside. record { inside = inside; seen = inr (sink_in n i p at) }) (omega arith) low.1
 
--- Every sink has its own value.
+-- Every sink keeps its value.
 pub sink_same : (n : Net) (w : Window) (t : Tail) (row i : ℕ) (s : Sig) (given put : ℕ → Bool) → IsNet n → Belongs n w → IsTail n w t → IsUnseen n w t row → HasRow (value n given) w.inputs row → ArePut n given put → slice_get n.sinks i ≡ Some s → sig_value (values_with n (among w.outputs) put) s ≡ sig_value (value n given) s
 sink_same n w t row i s given put net is tail unseen has are at =
     sig_same n w t row i s given put net is tail unseen has are at (all_at (IsSigBelow (end_of n)) n.sinks i s net.sinks at)

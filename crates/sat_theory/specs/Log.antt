@@ -88,7 +88,3 @@ pub record IsThinned (f : Formula) (lines : List Line) : Type 0 where
 -- the log deletes nothing
 abbrev pub DeletesNothing : List Line → Type 0
 DeletesNothing lines = All IsAdding lines
-
--- Where a log leaves the formula open, half of its additions are live at its end.
-pub record IsThrifty (f : Formula) (lines : List Line) : Type 0 where
-  pub kept : (HasEmpty f lines → ⊥) → IsKept f lines

@@ -1,4 +1,4 @@
--- What a search for the fewest steps is asked with.
+-- Settings of exact synthesis.
 use Rattle.std.specs.Prelude.{ℕ, ◌≤◌, ◌<◌}
 use Rattle.op_basis.specs.Text.{all_set}
 use Rattle.settings.specs.declared.methods.Method.TheVariants.{Ssv}
@@ -10,13 +10,13 @@ most_steps = 16
 abbrev pub most_conflicts : ℕ
 most_conflicts = 10000000
 
--- the basis isn't empty, and the numbers are in their ranges
+-- `s.basis` isn't empty, and the numbers are in their ranges
 pub record IsInRange (s : SynthSettings) : Type 0 where
   pub basis_from : 0 < s.basis
   pub max_to : s.max ≤ most_steps
   pub conflicts_from : 1 ≤ s.conflicts
   pub conflicts_to : s.conflicts ≤ most_conflicts
 
--- what holds where nothing is named
+-- the defaults
 abbrev pub usual : SynthSettings
 usual = record { basis = all_set; method = Ssv; max = most_steps; conflicts = 100000 }

@@ -1,9 +1,9 @@
-//! What a search is asked with, as data with ranges and defaults, for whoever reads it from words,
-//! searches by it or writes it into a certificate. It stands on `op_basis` for bases, and on nothing that
-//! encodes, searches or reads.
+//! Settings of exact synthesis as data with ranges and defaults, for whoever parses them, searches
+//! by them or writes them into a certificate. The crate stands on `op_basis` for bases, and on
+//! nothing that encodes, searches or parses.
 //!
-//! `specs/Synth.antt` says which settings are in their ranges (`IsInRange`), and which hold where
-//! nothing is named (`usual`); `specs/Methods.antt` has the name of each method. A name is that of one
+//! `specs/Synth.antt` says which settings are in their ranges (`IsInRange`), and which are the
+//! defaults (`usual`); `specs/Methods.antt` has the name of each method. A name is that of one
 //! method, and each method has one name (`laws::names_are_of_one_method`).
 //!
 //! ```text

@@ -1,17 +1,18 @@
-//! The methods, and their names.
+//! The encodings that can be chosen, and their names.
 ghost use Rattle.std.specs.Prelude.{◌≡◌};
 ghost use Rattle.settings.specs.Methods as spec;
 
-/// How a size is encoded.
+/// The encoding of a size as a formula. With a single selection variable (SSV) for each pair of
+/// operands of a step, or with multiple ones (MSV), one for each operand.
 #[derive(Clone, Copy, PartialEq, Eq)]
 pub enum Method {
-    /// What a chain is, and nothing else.
+    /// SSV without symmetry breaking: each chain of the size is an assignment.
     Plain,
-    /// A variable for each pair of operands, with cuts that leave a least chain.
+    /// SSV with symmetry-breaking constraints, which some minimum chain meets.
     Ssv,
-    /// A variable for each operand, with the same cuts.
+    /// MSV with the same constraints.
     Select,
-    /// As `Ssv`, one formula for each way in which steps may stand in levels.
+    /// As `Ssv`, one formula for each fence: each way to distribute the steps over levels.
     Fence,
 }
 
@@ -27,7 +28,7 @@ pub fn method_name(method: Method) -> &'static [u8]
     }
 }
 
-/// The method of a name; None where it is the name of none.
+/// The method named `word`; None where no method has that name.
 pub fn method_named(word: &[u8]) -> Option<Method>
     ensures { result ≡ spec.method_named word.now }
 {

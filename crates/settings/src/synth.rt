@@ -1,32 +1,33 @@
-//! What a search for the fewest steps is asked with.
+//! Settings of exact synthesis: the search for a chain with the fewest steps (gates).
 ghost use Rattle.std.specs.Prelude.{◌≡◌};
 ghost use Rattle.settings.specs.Synth.{usual, IsInRange};
 
 use crate::methods::Method;
 use op_basis::Basis;
 
-/// The most steps that are ever tried.
+/// The greatest `max`.
 pub const MOST_STEPS: u32 = 16;
 
-/// The greatest budget of a formula.
+/// The greatest `conflicts`.
 pub const MOST_CONFLICTS: u32 = 10_000_000;
 
-/// What a search for the fewest steps is asked with, beside the tables.
+/// Settings of exact synthesis, beside the truth tables.
 #[derive(Clone, Copy, PartialEq, Eq)]
 pub struct SynthSettings {
-    /// The operators that a chain may have; one at least.
+    /// The operators (gate types) that a chain may have; one at least.
     pub basis: Basis,
-    /// How a size becomes a formula.
+    /// The encoding: how "is there a chain of this size?" becomes a formula.
     pub method: Method,
-    /// The greatest size that is tried, at most 16.
+    /// The greatest size that is tried, from 1 to 16.
     pub max: u32,
-    /// How many clauses at least are learnt before a formula is left open, from 1 to 10,000,000.
+    /// The conflict limit: a formula is left open after at least `conflicts` learnt clauses, from 1
+    /// to 10,000,000.
     pub conflicts: u32,
 }
 
 impl SynthSettings {
-    /// What holds where nothing is named: all operators, the method `ssv`, at most 16 steps and a
-    /// budget of 100,000.
+    /// The defaults: all operators, the method `ssv`, sizes up to 16 and a limit of 100,000
+    /// conflicts.
     pub fn usual() -> SynthSettings
         ensures value { result ≡ usual }
         ensures range { IsInRange result }

@@ -1,4 +1,4 @@
-//! Chains that take the places of windows.
+//! Chains that take the places of windows (substitution).
 
 ghost use Rattle.std.specs.Prelude.{◌≤◌, length, IfOk, IfSome, IsTrue};
 ghost use Rattle.window_theory.specs.Window.{Belongs};
@@ -13,15 +13,15 @@ use std::alloc::{AllocError, Global};
 use subst_core::{WindowLists, replace, splice, substitute};
 use window_core::{Window, spec_of};
 
-/// A window, and a chain that fits it.
+/// A window, and a chain for it.
 #[derive(Drop)]
 struct Pair {
     window: Window,
     chain: Chain,
 }
 
-/// The window of a root and a count with the chain of a block, if the chain fits and has no more steps than
-/// the window has gates.
+/// The window of `root` with `count` gates and the chain of `block`, if the chain fits the window
+/// and has no more steps than the window has gates.
 fn pair_of(alloc: Global, net: &Net, root: u32, count: u32, block: &[u8]) -> Option<Pair>
     ensures belongs { IfSome result (λ pair. Belongs net.now pair.window) }
     ensures fits { IfSome result (λ pair. Fits pair.window pair.chain) }
@@ -44,8 +44,8 @@ fn pair_of(alloc: Global, net: &Net, root: u32, count: u32, block: &[u8]) -> Opt
     Some(Pair { window, chain })
 }
 
-/// What stands in the net of a plan where the chain of a block takes the place of the window of a root and a count;
-/// and of a chain that agrees what of that isn't dead.
+/// A net, a window, a chain for it, the net after substitution, and, where the chain computes what
+/// is asked, that net without dead gates.
 struct Row {
     plan: &'static Plan,
     root: u32,
@@ -55,12 +55,13 @@ struct Row {
     live: Option<&'static Plan>,
 }
 
-/// Whether the chain leaves the net that is wanted.
+/// Whether the substitution leaves the net `left`.
 fn is_spliced(alloc: Global, net: &Net, pair: &Pair, left: &Plan) -> bool
     requires belongs { Belongs net.now pair.now.window }
     requires fits { Fits pair.now.window pair.now.chain }
     requires few { length pair.now.chain.steps ≤ length pair.now.window.gates }
 {
+    // for the prover: brings the invariant of the net
     let _sources = net.sources();
     let lists = WindowLists {
         gates: pair.window.gates(),
@@ -73,7 +74,7 @@ fn is_spliced(alloc: Global, net: &Net, pair: &Pair, left: &Plan) -> bool
     }
 }
 
-/// Whether a chain agrees with what a window has to compute.
+/// Whether a chain computes what is asked of a window.
 fn agrees(alloc: Global, net: &Net, pair: &Pair) -> Result<bool, AllocError>
     requires belongs { Belongs net.now pair.now.window }
     requires fits { Fits pair.now.window pair.now.chain }
@@ -83,7 +84,7 @@ fn agrees(alloc: Global, net: &Net, pair: &Pair) -> Result<bool, AllocError>
     Ok(first_difference(&pair.chain, &spec).is_none())
 }
 
-/// Whether a chain agrees, and leaves these nets, with its dead gates and without.
+/// Whether a chain does, and leaves the net `left`, and `live` without dead gates.
 fn is_substituted(alloc: Global, net: &Net, pair: &Pair, left: &Plan, live: &Plan) -> bool
     requires belongs { Belongs net.now pair.now.window }
     requires fits { Fits pair.now.window pair.now.chain }
@@ -92,6 +93,7 @@ fn is_substituted(alloc: Global, net: &Net, pair: &Pair, left: &Plan, live: &Pla
     let Ok(true) = agrees(alloc, net, pair) else {
         return false;
     };
+    // for the prover: brings the invariant of the net
     let _sources = net.sources();
     let lists = WindowLists {
         gates: pair.window.gates(),
@@ -110,7 +112,7 @@ fn is_substituted(alloc: Global, net: &Net, pair: &Pair, left: &Plan, live: &Pla
     }
 }
 
-/// Whether a chain leaves what is wanted.
+/// Whether a chain leaves what `row` says.
 fn leaves(alloc: Global, net: &Net, pair: &Pair, row: &Row) -> bool
     requires belongs { Belongs net.now pair.now.window }
     requires fits { Fits pair.now.window pair.now.chain }
@@ -122,7 +124,7 @@ fn leaves(alloc: Global, net: &Net, pair: &Pair, row: &Row) -> bool
     }
 }
 
-/// Whether a row's chain leaves the net that is wanted.
+/// Whether the chain of `row` leaves what it says.
 fn is_left(alloc: Global, row: &Row) -> bool {
     let Some(net) = planned(alloc, row.plan) else {
         return false;
@@ -133,7 +135,7 @@ fn is_left(alloc: Global, row: &Row) -> bool {
     }
 }
 
-/// AND by two gates.
+/// AND of two inputs by two gates.
 const TWO: Plan = Plan {
     sources: 2,
     gates: &[
@@ -143,14 +145,15 @@ const TWO: Plan = Plan {
     sinks: &[Sig::Place(4)],
 };
 
-/// AND by one gate.
+/// AND of two inputs by one gate.
 const AND: Plan = Plan {
     sources: 2,
     gates: &[(1, Sig::Place(1), Sig::Place(2))],
     sinks: &[Sig::Place(3)],
 };
 
-/// Three gates over two sources; the first is read by the second and by a sink, and a sink is a source.
+/// Three gates over two sources; the first has a gate and a sink as fanouts, and a sink is a
+/// source.
 const THREE: Plan = Plan {
     sources: 2,
     gates: &[
@@ -161,7 +164,7 @@ const THREE: Plan = Plan {
     sinks: &[Sig::Place(4), Sig::Place(5), Sig::Place(3), Sig::Place(2)],
 };
 
-/// What is left of them where a source takes the place of the first.
+/// The rest of them where a source takes the place of the first.
 const THREE_LEFT: Plan = Plan {
     sources: 2,
     gates: &[
@@ -171,7 +174,7 @@ const THREE_LEFT: Plan = Plan {
     sinks: &[Sig::Place(3), Sig::Place(4), Sig::Place(1), Sig::Place(2)],
 };
 
-/// A gate on constants alone, read by two sinks.
+/// A gate over constants alone, read by two sinks.
 const CONSTANT: Plan = Plan {
     sources: 1,
     gates: &[(1, Sig::One, Sig::Zero)],
@@ -185,7 +188,7 @@ const NO_GATE: Plan = Plan {
     sinks: &[Sig::Zero, Sig::Place(1), Sig::One, Sig::Zero],
 };
 
-/// The first gate is read by the window of the third, and neither the second nor the last is.
+/// The first gate is a fanin of the window of the third, and neither the second nor the last is.
 const AROUND: Plan = Plan {
     sources: 2,
     gates: &[
@@ -209,7 +212,7 @@ const AROUND_LEFT: Plan = Plan {
     sinks: &[Sig::Place(6), Sig::Place(6), Sig::Place(5)],
 };
 
-/// The two gates, and one that nobody reads.
+/// AND by two gates, and a dangling gate.
 const DEAD: Plan = Plan {
     sources: 2,
     gates: &[
@@ -220,7 +223,7 @@ const DEAD: Plan = Plan {
     sinks: &[Sig::Place(4), Sig::Place(2)],
 };
 
-/// AND by one gate, and the gate that nobody reads.
+/// AND by one gate, and the dangling gate.
 const DEAD_LEFT: Plan = Plan {
     sources: 2,
     gates: &[
@@ -237,7 +240,7 @@ const LIVE: Plan = Plan {
     sinks: &[Sig::Place(3), Sig::Place(2)],
 };
 
-/// Chains that fit windows, and what they leave.
+/// Chains for windows, and what they leave.
 const ROWS: &[Row] = &[
     // one step takes the place of two gates
     Row {
@@ -248,7 +251,7 @@ const ROWS: &[Row] = &[
         left: &AND,
         live: None,
     },
-    // an out may be an input
+    // an output of a chain may be an input
     Row {
         plan: &THREE,
         root: 3,
@@ -266,7 +269,7 @@ const ROWS: &[Row] = &[
         left: &NO_GATE,
         live: None,
     },
-    // other gates stand behind the steps
+    // gates follow the steps
     Row {
         plan: &AROUND,
         root: 5,
@@ -275,7 +278,7 @@ const ROWS: &[Row] = &[
         left: &AROUND_LEFT,
         live: None,
     },
-    // a chain that agrees may leave dead gates
+    // a chain that computes what is asked may leave dead gates
     Row {
         plan: &DEAD,
         root: 4,

@@ -1,5 +1,6 @@
-//! Words of cones and patterns of signals: some that can be counted by hand, and those of cones that a fixed generator
-//! makes, beside a plain program that goes through the assignments one by one.
+//! Bit-parallel simulation: words of cones and patterns of signals, some that can be counted by
+//! hand, and those of pseudorandom cones, compared with a plain program that goes through the
+//! assignments one by one.
 
 ghost use Rattle.std.specs.Prelude.{IsTrue, All};
 ghost use Rattle.lane_sim.specs.Cone.{IsSigAmong, places};
@@ -11,17 +12,17 @@ use lane_sim::{Cone, cone_words, lanes_of, patterns};
 use net_core::{Gate, Sig};
 use std::alloc::{AllocError, Global};
 
-/// Whether all signals are constants or a cone's.
+/// Whether all signals are constants or places of `cone`.
 fn are_among(cone: &Cone, signals: &[Sig]) -> bool
     ensures { IsTrue result → All (IsSigAmong (places cone.now)) signals.now }
 {
     signals.iter().all(|sig| cone.has(*sig))
 }
 
-/// A gate as a constant: its place, the operator's number, below 16, and the operands.
+/// A gate as a constant: its place, its operator's truth table, below 16, and its operands.
 type Step = (u32, u8, Sig, Sig);
 
-/// The gates of some steps.
+/// The gates of `steps`.
 fn gates_of(alloc: Global, steps: &[Step]) -> Result<Vec<(u32, Gate)>, AllocError> {
     let mut gates = Vec::new(alloc);
     for &(place, op, a, b) in steps {
@@ -30,7 +31,7 @@ fn gates_of(alloc: Global, steps: &[Step]) -> Result<Vec<(u32, Gate)>, AllocErro
     Ok(gates)
 }
 
-/// The cone of some leaves and steps, if it is one.
+/// The cone with `leaves` and `steps`, if they make one.
 fn cone_of(alloc: Global, leaves: &[u32], steps: &[Step]) -> Option<Cone> {
     let Ok(gates) = gates_of(alloc, steps) else {
         return None;
@@ -41,7 +42,7 @@ fn cone_of(alloc: Global, leaves: &[u32], steps: &[Step]) -> Option<Cone> {
     }
 }
 
-/// Whether the signals show the patterns of a mask in a cone, and no others.
+/// Whether `signals` show the patterns of `mask` in `cone`, and no others.
 fn shows(alloc: Global, cone: &Cone, signals: &[Sig], mask: u64) -> bool {
     if signals.len() > 6 || !are_among(cone, signals) {
         return false;
@@ -52,7 +53,7 @@ fn shows(alloc: Global, cone: &Cone, signals: &[Sig], mask: u64) -> bool {
     }
 }
 
-/// The AND of twelve leaves, by a row of gates.
+/// The AND of twelve leaves, by a chain of gates.
 const TWELVE: &[Step] = &[
     (13, 1, Sig::Place(1), Sig::Place(2)),
     (14, 1, Sig::Place(13), Sig::Place(3)),
@@ -67,13 +68,13 @@ const TWELVE: &[Step] = &[
     (23, 1, Sig::Place(22), Sig::Place(12)),
 ];
 
-/// Leaves, steps, signals, and the mask of the patterns that these show: constants and leaves, and one assignment of
-/// twelve leaves that gives 1.
+/// Leaves, steps, signals, and the mask of the patterns that the signals show: constants and
+/// leaves, and the one assignment of twelve leaves under which AND is 1.
 const SHOWN: &[(&[u32], &[Step], &[Sig], u64)] = &[
     (&[], &[], &[Sig::One], 2),
     (&[], &[], &[], 1),
     (&[1, 2, 3], &[], &[Sig::Place(1), Sig::Place(3)], 15),
-    // places behind the first word of a set
+    // places after the first word of a set
     (&[63, 64, 97], &[], &[Sig::Place(64), Sig::Place(97)], 15),
     (
         &[1, 2, 3, 4, 5, 6, 7, 8, 9, 10, 11, 12],
@@ -83,7 +84,7 @@ const SHOWN: &[(&[u32], &[Step], &[Sig], u64)] = &[
     ),
 ];
 
-/// Whether a cone's signals show the patterns of a mask.
+/// Whether the signals of the cone show the patterns of `mask`.
 fn is_shown(alloc: Global, leaves: &[u32], steps: &[Step], signals: &[Sig], mask: u64) -> bool {
     match cone_of(alloc, leaves, steps) {
         Some(cone) => shows(alloc, &cone, signals, mask),
@@ -101,7 +102,7 @@ fn signals_show_patterns(rt: HostRuntime) {
     }
 }
 
-/// The leaves that have the bit 1 under an assignment, whose last digit is the last leaf's.
+/// The leaves that are 1 under the assignment `row`, whose last digit is that of the last leaf.
 fn leaf_ones(leaves: &[u32], row: u32) -> u64 {
     let mut ones = 0;
     let mut digits = row;
@@ -114,7 +115,7 @@ fn leaf_ones(leaves: &[u32], row: u32) -> u64 {
     ones
 }
 
-/// The places of a cone that have the bit 1 under an assignment.
+/// The places of `cone` that are 1 under the assignment `row`.
 fn ones_of(cone: &Cone, row: u32) -> u64 {
     let mut ones = leaf_ones(cone.leaves(), row);
     for (place, gate) in cone.gates() {
@@ -125,7 +126,7 @@ fn ones_of(cone: &Cone, row: u32) -> u64 {
     ones
 }
 
-/// Whether an assignment's digit in the words of each of so many places is its bit.
+/// Whether the digit of `row` in the words of each of the first `count` places is the place's bit.
 fn are_digits(lanes: &[u64], width: usize, row: u32, ones: u64, count: u32) -> bool {
     let mut start = (row / 64) as usize;
     for index in 0..count {
@@ -140,7 +141,7 @@ fn are_digits(lanes: &[u64], width: usize, row: u32, ones: u64, count: u32) -> b
     true
 }
 
-/// Whether words are the bits that so many places of a cone have under each assignment.
+/// Whether `lanes` are the bits of the first `count` places of `cone` under each assignment.
 fn are_plain(cone: &Cone, lanes: &[u64], count: u32) -> bool {
     let rows = 1u32 << cone.leaves().len();
     let width = (rows as usize).div_ceil(64);
@@ -152,18 +153,18 @@ fn are_plain(cone: &Cone, lanes: &[u64], count: u32) -> bool {
     true
 }
 
-/// The next number of a fixed sequence.
+/// The next pseudorandom number.
 fn next(state: &mut u32) -> u32 {
     *state = state.wrapping_mul(1_664_525).wrapping_add(1_013_904_223);
     *state >> 8
 }
 
-/// A place for each number below 61; the places are in no order.
+/// A place for each number below 61, in no order.
 fn place_of(index: u32) -> u32 {
     index.wrapping_mul(35) % 61
 }
 
-/// A constant or one of the first places.
+/// A constant or one of the first `count` places.
 fn any_signal(state: &mut u32, count: u32) -> Sig {
     let number = next(state) % 64;
     match number {
@@ -174,7 +175,7 @@ fn any_signal(state: &mut u32, count: u32) -> Sig {
     }
 }
 
-/// So many leaves.
+/// The places of `count` leaves.
 fn some_leaves(alloc: Global, count: u32) -> Result<Vec<u32>, AllocError> {
     let mut leaves = Vec::new(alloc);
     for index in 0..count {
@@ -183,7 +184,7 @@ fn some_leaves(alloc: Global, count: u32) -> Result<Vec<u32>, AllocError> {
     Ok(leaves)
 }
 
-/// So many gates behind some leaves.
+/// `count` gates after `leaves` leaves.
 fn any_gates(
     alloc: Global,
     state: &mut u32,
@@ -201,7 +202,7 @@ fn any_gates(
     Ok(gates)
 }
 
-/// A cone of so many leaves and gates.
+/// A pseudorandom cone of `leaves` leaves and `gates` gates.
 fn any_cone(alloc: Global, state: &mut u32, leaves: u32, gates: u32) -> Option<Cone> {
     let Ok(gates) = any_gates(alloc, state, leaves, gates) else {
         return None;
@@ -212,7 +213,7 @@ fn any_cone(alloc: Global, state: &mut u32, leaves: u32, gates: u32) -> Option<C
     }
 }
 
-/// Whether the next cone, of so many leaves and twelve gates, has the words of the plain program.
+/// Whether the next cone, of `leaves` leaves and twelve gates, has the words of the plain program.
 fn is_plain(alloc: Global, state: &mut u32, leaves: u32) -> bool {
     let Some(cone) = any_cone(alloc, state, leaves, 12) else {
         return false;

@@ -1,5 +1,6 @@
-//! Tests of the public calls of the crates of windows: windows with their specifications and cones with their words,
-//! beside plain programs, what those who see a window ask of it, and chains that take the places of windows.
+//! Tests of the public calls of the crates of windows: windows with their specifications (SDC and
+//! ODC) and bit-parallel simulation of cones, compared with plain programs, and chains that take
+//! the places of windows.
 #![tactic(auto)]
 
 #[cfg(test)]

@@ -6,14 +6,14 @@ ghost use Rattle.net_theory.specs.Net.{IsSigBelow, IsGateAt, AreGates};
 use net_core::{Gate, Net, Op, Sig};
 use std::alloc::{AllocError, Global};
 
-/// A net as a constant: for each gate the operator's number, below 16, and the operands.
+/// A net as a constant: for each gate its operator's truth table, below 16, and its operands.
 pub struct Plan {
     pub sources: u32,
     pub gates: &'static [(u8, Sig, Sig)],
     pub sinks: &'static [Sig],
 }
 
-/// The gate of an operator on two signals.
+/// The gate with the operator `op` on `a` and `b`.
 pub fn gate(op: u8, a: Sig, b: Sig) -> Gate {
     Gate {
         op: Op::new(op % 16),
@@ -22,7 +22,7 @@ pub fn gate(op: u8, a: Sig, b: Sig) -> Gate {
     }
 }
 
-/// Whether a signal is a constant or one of the places below this one.
+/// Whether a signal is a constant or a place below `place`.
 fn is_below(place: u32, sig: Sig) -> bool
     ensures { IsTrue result → IsSigBelow place sig }
 {
@@ -32,15 +32,16 @@ fn is_below(place: u32, sig: Sig) -> bool
     }
 }
 
-/// Whether the operands of a gate stand below it.
+/// Whether the operands of a gate are below `place`.
 fn is_gate_at(place: u32, gate: &Gate) -> bool
     ensures { IsTrue result → IsGateAt place gate.now }
 {
+    // for the prover: brings the invariant of the operator
     let _word = gate.op.get();
     is_below(place, gate.a) && is_below(place, gate.b)
 }
 
-/// Whether each gate stands at its place.
+/// Whether each gate's operands are below its place.
 fn are_gates(sources: u32, gates: &[Gate]) -> bool
     requires { sources + length gates.now < 2 ^ 31 }
     ensures { IsTrue result → AreGates sources gates.now }
@@ -55,14 +56,14 @@ fn are_gates(sources: u32, gates: &[Gate]) -> bool
     true
 }
 
-/// Whether all sinks are constants or places below this one.
+/// Whether all sinks are constants or places below `place`.
 fn are_sinks(place: u32, sinks: &[Sig]) -> bool
     ensures { IsTrue result → All (IsSigBelow place) sinks.now }
 {
     sinks.iter().all(|sink| is_below(place, *sink))
 }
 
-/// The net of these gates and sinks, if they make one.
+/// The net with the given gates and sinks, if they make one.
 pub fn net_of(sources: u32, gates: Vec<Gate>, sinks: Vec<Sig>) -> Option<Net> {
     if sources > 1000 || gates.len() > 1000 || !are_gates(sources, &gates) {
         return None;
@@ -82,7 +83,7 @@ fn planned_gates(alloc: Global, rows: &[(u8, Sig, Sig)]) -> Result<Vec<Gate>, Al
     Ok(gates)
 }
 
-/// The net of a plan, if it is one's.
+/// The net of a plan, if it is valid.
 pub fn planned(alloc: Global, plan: &Plan) -> Option<Net> {
     let Ok(gates) = planned_gates(alloc, plan.gates) else {
         return None;
@@ -93,7 +94,7 @@ pub fn planned(alloc: Global, plan: &Plan) -> Option<Net> {
     net_of(plan.sources, gates, sinks)
 }
 
-/// Whether gates are those of a plan.
+/// Whether `gates` are those of `rows`.
 fn are_planned(gates: &[Gate], rows: &[(u8, Sig, Sig)]) -> bool {
     let mut left = rows;
     for made in gates {

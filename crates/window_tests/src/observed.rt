@@ -1,4 +1,5 @@
-//! Tails and observed specifications of windows, beside a plain program.
+//! TFO windows (tails) and specifications with observability don't-cares, compared with a plain
+//! program.
 
 ghost use Rattle.window_theory.specs.Window.{Belongs};
 
@@ -9,7 +10,7 @@ use observe_core::{Tail, observed_spec, tail};
 use std::alloc::Global;
 use window_core::Window;
 
-/// The least gate that isn't one of these and reads one of them; 0 if there is none.
+/// The least gate outside `gates` that reads one of them; 0 if there is none.
 fn next_follower(net: &Net, gates: u64) -> u32 {
     let others = gates_of(net) & !gates;
     for place in 0..end_of(net) {
@@ -20,7 +21,7 @@ fn next_follower(net: &Net, gates: u64) -> u32 {
     0
 }
 
-/// The gates of a window and of its tail.
+/// The gates of a window and of its tail: its bounded transitive fanout.
 fn with_tail(net: &Net, gates: u64) -> u64 {
     let mut all = gates;
     for _taken in 0..16u32 {
@@ -33,7 +34,8 @@ fn with_tail(net: &Net, gates: u64) -> u64 {
     all
 }
 
-/// Whether a tail has the gates, the watchers and the side inputs of the plain program, and is as bare.
+/// Whether a tail has the gates, the watchers and the side inputs of the plain program, and is as
+/// bare.
 fn is_plain_tail(net: &Net, gates: u64, found: &Tail) -> bool {
     let all = with_tail(net, gates);
     let seen = outputs(net, all);
@@ -42,7 +44,8 @@ fn is_plain_tail(net: &Net, gates: u64, found: &Tail) -> bool {
     places && are(&found.sides, sides) && found.bare == (seen & gates != 0)
 }
 
-/// Whether under an assignment of the leaves some bits in the place of the outputs are told by a watcher.
+/// Whether under the assignment `row` of `leaves` forcing some bits on the outputs changes a
+/// watcher.
 fn is_told(net: &Net, leaves: u64, outputs: u64, watchers: u64, row: u32) -> bool {
     let given = ones_of(leaves, row);
     let own = values(net, leaves, given);
@@ -55,7 +58,7 @@ fn is_told(net: &Net, leaves: u64, outputs: u64, watchers: u64, row: u32) -> boo
     false
 }
 
-/// The rows of a window's inputs on which it is seen, a digit for each.
+/// The rows of a window's inputs on which it is observed, a digit for each.
 fn seen_rows(net: &Net, gates: u64) -> u64 {
     let all = with_tail(net, gates);
     let watchers = outputs(net, all);
@@ -74,7 +77,7 @@ fn seen_rows(net: &Net, gates: u64) -> u64 {
     seen
 }
 
-/// Whether a window of these gates has the tail and the observed specification of the plain program.
+/// Whether the window of `gates` has the tail and the observed specification of the plain program.
 pub fn is_seen_plainly(alloc: Global, net: &Net, window: &Window, gates: u64) -> bool
     requires { Belongs net.now window.now }
 {

@@ -1,12 +1,12 @@
-//! The definitions of windows, computed plainly: by passes over all places of a net. A set of places is a word, with
-//! a digit for each place; all nets here have less than 64.
+//! The definitions of windows, computed plainly: by passes over all places of a net. A set of
+//! places is a word with a digit for each place; all nets here have fewer than 64.
 
 ghost use Rattle.std.specs.Prelude.{◌≡◌};
 ghost use Rattle.net_theory.specs.Net.{end_of as end_of_net};
 
 use net_core::{Gate, Net, Sig};
 
-/// The gate at a place, if there is one.
+/// The gate at `place`, if there is one.
 pub fn gate_of(net: &Net, place: u32) -> Option<&Gate> {
     let first = net.sources() + 1;
     if place < first {
@@ -15,7 +15,7 @@ pub fn gate_of(net: &Net, place: u32) -> Option<&Gate> {
     net.gates().get((place - first) as usize)
 }
 
-/// The number behind the last place.
+/// The number after the last place.
 pub fn end_of(net: &Net) -> u32
     ensures { result ≡ end_of_net net.now }
 {
@@ -23,22 +23,22 @@ pub fn end_of(net: &Net) -> u32
     sources + 1 + net.gates().len() as u32
 }
 
-/// The set of one place.
+/// The set with `place` alone.
 pub fn only(place: u32) -> u64 {
     1u64 << (place % 64)
 }
 
-/// Whether a place is in a set.
+/// Whether `place` is in `places`.
 pub fn has(places: u64, place: u32) -> bool {
     (places >> (place % 64)) & 1 == 1
 }
 
-/// The greatest place of a set; 0 if there is none.
+/// The greatest place of a set; 0 if it is empty.
 pub fn greatest(places: u64) -> u32 {
     63u32.saturating_sub(places.leading_zeros())
 }
 
-/// Whether a list has the places of a set, rising.
+/// Whether `list` has the elements of `places`, ascending.
 pub fn are(list: &[u32], places: u64) -> bool {
     let mut left = places;
     for place in list {
@@ -50,7 +50,7 @@ pub fn are(list: &[u32], places: u64) -> bool {
     left == 0
 }
 
-/// The set of the place that a signal is, and none of a constant.
+/// The set with the place of a signal; empty for a constant.
 fn place_of(sig: Sig) -> u64 {
     match sig {
         Sig::Place(place) => only(place),
@@ -58,7 +58,7 @@ fn place_of(sig: Sig) -> u64 {
     }
 }
 
-/// The places that the gate at a place reads.
+/// The fanins of the gate at `place`.
 pub fn operands(net: &Net, place: u32) -> u64 {
     match gate_of(net, place) {
         Some(gate) => place_of(gate.a) | place_of(gate.b),
@@ -75,7 +75,7 @@ pub fn gates_of(net: &Net) -> u64 {
     gates
 }
 
-/// The places that these gates read.
+/// The fanins of `gates`.
 fn read_by(net: &Net, gates: u64) -> u64 {
     let mut read = 0;
     for place in 0..end_of(net) {
@@ -86,8 +86,9 @@ fn read_by(net: &Net, gates: u64) -> u64 {
     read
 }
 
-/// The gates that are taken, so many: again and again the greatest that isn't taken and is the root, the partner or
-/// read by one that is taken. None, if there is no such gate.
+/// A window of `count` gates by greedy growth: again and again the greatest gate is taken that
+/// isn't taken yet and is the root, the partner or a fanin of one that is. The empty set, if there
+/// are too few.
 pub fn taken(net: &Net, root: u32, partner: u64, count: u32) -> u64 {
     let gates = gates_of(net);
     let mut taken = 0;
@@ -101,12 +102,12 @@ pub fn taken(net: &Net, root: u32, partner: u64, count: u32) -> u64 {
     taken
 }
 
-/// The inputs of some gates.
+/// The inputs of `gates`.
 pub fn inputs(net: &Net, gates: u64) -> u64 {
     read_by(net, gates) & !gates
 }
 
-/// The outputs of some gates.
+/// The outputs of `gates`.
 pub fn outputs(net: &Net, gates: u64) -> u64 {
     let mut seen = read_by(net, gates_of(net) & !gates);
     for sink in net.sinks() {
@@ -115,7 +116,7 @@ pub fn outputs(net: &Net, gates: u64) -> u64 {
     seen & gates
 }
 
-/// The partners of a root, however many.
+/// All partners of a root, without a bound: gates that share a fanin with it.
 pub fn sharing(net: &Net, root: u32) -> u64 {
     let own = operands(net, root);
     let mut found = 0;

@@ -1,5 +1,5 @@
-//! Some hundred small nets, made by a fixed generator: their partners, windows, specifications and tails beside a
-//! plain program. And a window of eight outputs.
+//! Hundreds of small pseudorandom nets: their partners, windows, specifications and tails, compared
+//! with a plain program. And a window of eight outputs.
 
 ghost use Rattle.window_theory.specs.Window.{Belongs};
 
@@ -12,13 +12,13 @@ use net_core::{Gate, Net, Sig};
 use std::alloc::{AllocError, Global};
 use window_core::{Window, spec_of};
 
-/// The next number of a fixed sequence.
+/// The next pseudorandom number.
 fn next(state: &mut u32) -> u32 {
     *state = state.wrapping_mul(1_664_525).wrapping_add(1_013_904_223);
     *state >> 8
 }
 
-/// A constant or a place below this one.
+/// A constant or a place below `place`.
 fn any_signal(state: &mut u32, place: u32) -> Sig {
     if place == 0 {
         return Sig::Zero;
@@ -31,7 +31,7 @@ fn any_signal(state: &mut u32, place: u32) -> Sig {
     }
 }
 
-/// So many gates behind so many sources.
+/// `count` gates after `sources` sources.
 fn any_gates(
     alloc: Global,
     state: &mut u32,
@@ -49,7 +49,7 @@ fn any_gates(
     Ok(gates)
 }
 
-/// Three sinks below a place.
+/// Three sinks below `place`.
 fn any_sinks(alloc: Global, state: &mut u32, place: u32) -> Result<Vec<Sig>, AllocError> {
     let mut sinks = Vec::new(alloc);
     for _sink in 0..3u32 {
@@ -71,19 +71,19 @@ fn any_net(alloc: Global, state: &mut u32) -> Option<Net> {
     }
 }
 
-/// Whether some gates with a partner, or none, make a window.
+/// Whether `gates` with `partner`, or without, make a window.
 fn make_window(net: &Net, gates: u64, partner: u64) -> bool {
     let few = inputs(net, gates).count_ones() <= 6;
     gates != 0 && few && gates & partner == partner
 }
 
-/// Whether a window has these gates, their inputs and their outputs.
+/// Whether a window has the gates `gates`, their inputs and their outputs.
 fn has_gates(net: &Net, window: &Window, gates: u64) -> bool {
     let places = are(window.gates(), gates) && are(window.inputs(), inputs(net, gates));
     places && are(window.outputs(), outputs(net, gates))
 }
 
-/// Whether a window of these gates has the specification of the plain program.
+/// Whether the window of `gates` has the specification of the plain program.
 fn is_specified(alloc: Global, net: &Net, window: &Window, gates: u64) -> bool
     requires { Belongs net.now window.now }
 {
@@ -94,8 +94,8 @@ fn is_specified(alloc: Global, net: &Net, window: &Window, gates: u64) -> bool
     }
 }
 
-/// Whether the window of a root and a count, alone, is that of the plain program, with specification and tail, or is
-/// none.
+/// Whether the window of `root` alone with `count` gates is that of the plain program, with its
+/// specification and its tail, or there is none.
 fn is_plain(alloc: Global, net: &Net, root: u32, count: u32) -> bool {
     let gates = taken(net, root, 0, count);
     match alone(alloc, net, root, count) {
@@ -110,7 +110,8 @@ fn is_plain(alloc: Global, net: &Net, root: u32, count: u32) -> bool {
     }
 }
 
-/// Whether the window of a root, its first partner and a count is that of the plain program, or is none.
+/// Whether the window of `root` and `partner`, its first partner, with `count` gates is that of the
+/// plain program, or there is none.
 fn is_plain_pair(alloc: Global, net: &Net, root: u32, partner: u32, count: u32) -> bool {
     let gates = taken(net, root, only(partner), count);
     match together(alloc, net, root, 0, count) {
@@ -122,7 +123,8 @@ fn is_plain_pair(alloc: Global, net: &Net, root: u32, partner: u32, count: u32) 
     }
 }
 
-/// Whether partners are the last eight of the gates that share a place, from the last on.
+/// Whether `partners` are the last eight of `sharing`, the gates that share a fanin, from the last
+/// on.
 fn are_last(partners: &[u32], sharing: u64) -> bool {
     let mut left = sharing;
     for partner in partners {
@@ -134,7 +136,7 @@ fn are_last(partners: &[u32], sharing: u64) -> bool {
     partners.len() == 8 || (partners.len() < 8 && left == 0)
 }
 
-/// Whether a root has the partners of the plain program.
+/// Whether `root` has the partners of the plain program.
 fn has_plain_partners(alloc: Global, net: &Net, root: u32) -> bool {
     match partners_at(alloc, net, root) {
         Ok(partners) => are_last(&partners, sharing(net, root)),
@@ -142,7 +144,8 @@ fn has_plain_partners(alloc: Global, net: &Net, root: u32) -> bool {
     }
 }
 
-/// Whether a root has the partners and the windows of the plain program, alone and with the greatest partner.
+/// Whether `root` has the partners and the windows of the plain program, alone and with the
+/// greatest partner.
 fn are_plain(alloc: Global, net: &Net, root: u32) -> bool {
     let partner = greatest(sharing(net, root));
     for count in 1..6 {
@@ -156,7 +159,7 @@ fn are_plain(alloc: Global, net: &Net, root: u32) -> bool {
     has_plain_partners(alloc, net, root)
 }
 
-/// The same of all roots of a net.
+/// Whether all roots of a net have them.
 fn is_plain_net(alloc: Global, net: &Net) -> bool {
     for root in net.sources() + 1..end_of(net) {
         if !are_plain(alloc, net, root) {
@@ -166,7 +169,7 @@ fn is_plain_net(alloc: Global, net: &Net) -> bool {
     true
 }
 
-/// The same of the next net.
+/// Whether all roots of the next net have them.
 fn is_plain_next(alloc: Global, state: &mut u32) -> bool {
     match any_net(alloc, state) {
         Some(net) => is_plain_net(alloc, &net),
@@ -182,7 +185,7 @@ fn small_nets_have_the_windows_of_the_plain_program(rt: HostRuntime) {
     }
 }
 
-/// Eight gates over two sources, in a row, all of them sinks.
+/// Eight gates over two sources, in a chain, each a sink.
 const EIGHT: Plan = Plan {
     sources: 2,
     gates: &[
@@ -207,7 +210,7 @@ const EIGHT: Plan = Plan {
     ],
 };
 
-/// Whether the window of all of them is that of the plain program, and has eight outputs.
+/// Whether the window of all eight is that of the plain program, and has eight outputs.
 fn are_outputs(alloc: Global) -> bool {
     let Some(net) = planned(alloc, &EIGHT) else {
         return false;

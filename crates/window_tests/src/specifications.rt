@@ -1,5 +1,5 @@
-//! What windows have to compute, and what of it is observed: of some small nets, and of those that stand at the bound
-//! of twelve leaves, or have no leaf.
+//! The specifications of windows, with satisfiability and observability don't-cares: of some small
+//! nets, and of nets at the bound of twelve leaves, or without leaves.
 
 ghost use Rattle.std.specs.Prelude.{◌≤◌};
 ghost use Rattle.window_theory.specs.Window.{Belongs};
@@ -13,12 +13,12 @@ use observe_core::observed_spec;
 use std::alloc::{AllocError, Global};
 use window_core::{Window, spec_of};
 
-/// Whether this is the one word.
+/// Whether `words` is the one word `word`.
 fn is_one(words: &[u64], word: u64) -> bool {
     words.len() == 1 && words[0] == word
 }
 
-/// Whether a window has one output with this word of values, and these care rows.
+/// Whether a window has one output with the values `on`, and the care rows `care`.
 fn is_specified(alloc: Global, net: &Net, window: &Window, on: u64, care: u64) -> bool
     requires { Belongs net.now window.now }
 {
@@ -28,7 +28,7 @@ fn is_specified(alloc: Global, net: &Net, window: &Window, on: u64, care: u64) -
     }
 }
 
-/// The same of what is observed.
+/// The same with observability don't-cares.
 fn is_observed(alloc: Global, net: &Net, window: &Window, on: u64, care: u64) -> bool
     requires { Belongs net.now window.now }
 {
@@ -38,8 +38,8 @@ fn is_observed(alloc: Global, net: &Net, window: &Window, on: u64, care: u64) ->
     }
 }
 
-/// Whether the window of a root and a count, alone, has one output with this word of values, and these care rows, as
-/// it is or as it is observed.
+/// Whether the window of `root` alone with `count` gates has one output with the values `on`, and
+/// the care rows `care`, with observability don't-cares where `observed`.
 fn has_words(
     alloc: Global,
     net: &Net,
@@ -58,7 +58,7 @@ fn has_words(
     is_specified(alloc, net, &window, on, care)
 }
 
-/// XOR of AND and OR: AND without OR never happens.
+/// XOR of AND and OR: the row AND = 1, OR = 0 is a satisfiability don't-care.
 const HALVES: Plan = Plan {
     sources: 2,
     gates: &[
@@ -80,7 +80,7 @@ const CONSTANTS: Plan = Plan {
     sinks: &[Sig::Place(4)],
 };
 
-/// XNOR of two sources, which AND with the first source reads.
+/// XNOR of two sources; AND with the first source is its fanout.
 const HIDDEN: Plan = Plan {
     sources: 2,
     gates: &[
@@ -100,9 +100,9 @@ const BARE: Plan = Plan {
     sinks: &[Sig::Place(4), Sig::Place(3)],
 };
 
-/// Nets, roots, counts, whether as it is observed, and the words of values and of care rows.
+/// Nets, roots, counts, whether with observability don't-cares, the values, and the care rows.
 const WORDS: &[(&Plan, u32, u32, bool, u64, u64)] = &[
-    // rows that never happen are free
+    // satisfiability don't-cares
     (&HALVES, 5, 1, false, 0b0010, 0b1011),
     (&HALVES, 5, 3, false, 0b0110, 0b1111),
     (&HALVES, 3, 1, false, 0b1000, 0b1111),
@@ -110,12 +110,13 @@ const WORDS: &[(&Plan, u32, u32, bool, u64, u64)] = &[
     (&CONSTANTS, 4, 1, false, 0b10, 0b10),
     (&CONSTANTS, 4, 2, false, 0b1, 0b1),
     (&CONSTANTS, 4, 3, false, 0b1, 0b1),
-    // the rows with the first source 1 are the third and the fourth; where the gate is a sink itself all are seen
+    // the first source is 1 on the rows 2 and 3, counted from 0; where XNOR is a sink itself all
+    // rows are observed
     (&HIDDEN, 3, 1, true, 0b1000, 0b1100),
     (&BARE, 3, 1, true, 0b1001, 0b1111),
 ];
 
-/// The same of a plan's net.
+/// Whether the window in the net of `plan` has them.
 fn has_planned_words(
     alloc: Global,
     plan: &Plan,
@@ -139,7 +140,7 @@ fn rows_that_never_happen_or_are_not_seen_are_free(rt: HostRuntime) {
     }
 }
 
-/// The gate of an index in a row of gates over so many sources.
+/// The gate at `index` in a chain of gates over `sources` sources.
 fn gate_in_row(sources: u32, index: u32) -> Gate
     requires sources { sources ≤ 100 }
     requires index { index ≤ sources }
@@ -156,7 +157,8 @@ fn gate_in_row(sources: u32, index: u32) -> Gate
     gate(1, Sig::Place(sources + index), Sig::Place(index + 1))
 }
 
-/// The OR of the first two of so many sources, the AND of all of them by a row of gates, and the XOR of both.
+/// The OR of the first two of `sources` sources, the AND of all of them by a chain of gates, and
+/// the XOR of both.
 fn row_of_ands(alloc: Global, sources: u32) -> Result<Vec<Gate>, AllocError>
     requires { sources ≤ 100 }
 {
@@ -167,7 +169,7 @@ fn row_of_ands(alloc: Global, sources: u32) -> Result<Vec<Gate>, AllocError>
     Ok(gates)
 }
 
-/// The net of that row, in which the XOR is the sink.
+/// The net of these gates, whose sink is the XOR.
 fn net_of_ands(alloc: Global, sources: u32) -> Option<Net>
     requires { sources ≤ 100 }
 {
@@ -180,7 +182,8 @@ fn net_of_ands(alloc: Global, sources: u32) -> Option<Net>
     }
 }
 
-/// Whether the XOR of a row of so many sources has so many leaves, this word of values, and these care rows.
+/// Whether the window of the XOR over `sources` sources has `count` leaves, the values `on`, and
+/// the care rows `care`.
 fn has_row(alloc: Global, sources: u32, count: u32, on: u64, care: u64) -> bool {
     if sources > 100 {
         return false;
@@ -192,9 +195,9 @@ fn has_row(alloc: Global, sources: u32, count: u32, on: u64, care: u64) -> bool 
     found.count_ones() == count && has_words(alloc, &net, 2 * sources + 1, 1, false, on, care)
 }
 
-/// Counts of sources and of leaves, and words of values and of care rows. AND without OR never happens. It shows where
-/// the row opens down to its first AND and that opens too: beside the OR all sources are leaves then, one place more
-/// than there are sources.
+/// Numbers of sources and of leaves, values, and care rows. AND = 1, OR = 0 is a satisfiability
+/// don't-care. It is found where the leaves are expanded down to the first AND and that too: beside
+/// the OR all sources are leaves then, one more leaf than there are sources.
 const ROWS: &[(u32, u32, u64, u64)] = &[
     (10, 10, 0b0100, 0b1101),
     (11, 11, 0b0100, 0b1101),

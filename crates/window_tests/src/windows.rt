@@ -10,17 +10,18 @@ use net_core::{Net, Sig};
 use std::alloc::{AllocError, Global};
 use window_core::{Window, partners, window};
 
-/// Whether a gate stands at a place.
+/// Whether a gate is at `place`.
 fn is_gate(net: &Net, place: u32) -> bool
     ensures { IsTrue result → IsGate net.now place }
 {
     net.sources() < place && place < end_of(net)
 }
 
-/// The window of a root and a count, alone.
+/// The window of `root` alone with `count` gates.
 pub fn alone(alloc: Global, net: &Net, root: u32, count: u32) -> Result<Option<Window>, AllocError>
     ensures { IfOk result (λ answer. IfSome answer (λ w. Belongs net.now w)) }
 {
+    // for the prover: brings the invariant of the net
     let _sources = net.sources();
     if count == 0 || count > 8 || !is_gate(net, root) {
         return Ok(None);
@@ -31,7 +32,7 @@ pub fn alone(alloc: Global, net: &Net, root: u32, count: u32) -> Result<Option<W
     Ok(Some(window))
 }
 
-/// The window of a root, its partner of an index, and a count.
+/// The window of `root`, its partner at `index`, and `count` gates.
 pub fn together(
     alloc: Global,
     net: &Net,
@@ -49,7 +50,7 @@ pub fn together(
     window(alloc, net, root, Some(partners[index]), count)
 }
 
-/// The partners of a place, none if it is no gate's.
+/// The partners of the gate at `root`; none where no gate is there.
 pub fn partners_at(alloc: Global, net: &Net, root: u32) -> Result<Vec<u32>, AllocError> {
     if !is_gate(net, root) {
         return Ok(Vec::new(alloc));
@@ -67,7 +68,7 @@ const TWINS: Plan = Plan {
     sinks: &[Sig::Place(3), Sig::Place(4)],
 };
 
-/// Ten gates that read the first source; the fourth of them reads it twice.
+/// Ten gates with the first source as a fanin; it is both fanins of the fourth.
 const TEN: Plan = Plan {
     sources: 2,
     gates: &[
@@ -85,7 +86,7 @@ const TEN: Plan = Plan {
     sinks: &[Sig::Place(12)],
 };
 
-/// Nets, roots and their partners; no more than eight are.
+/// Nets, roots and their partners, of which there are at most eight.
 const PARTNERS: &[(&Plan, u32, &[u32])] = &[
     (&TWINS, 4, &[3]),
     (&TWINS, 3, &[]),
@@ -93,7 +94,7 @@ const PARTNERS: &[(&Plan, u32, &[u32])] = &[
     (&TEN, 6, &[5, 4, 3]),
 ];
 
-/// Whether the root of a net has these partners.
+/// Whether `root` in the net of `plan` has the partners `wanted`.
 fn has_partners(alloc: Global, plan: &Plan, root: u32, wanted: &[u32]) -> bool {
     let Some(net) = planned(alloc, plan) else {
         return false;
@@ -111,7 +112,8 @@ fn gates_side_by_side_are_partners(rt: HostRuntime) {
     }
 }
 
-/// A row of gates over seven sources: six of them are read by the last five gates and a gate, and seven by six.
+/// A chain of gates over seven sources: the last five gates read six of them and a gate, and the
+/// last six read seven.
 const ROW: Plan = Plan {
     sources: 7,
     gates: &[
@@ -125,8 +127,8 @@ const ROW: Plan = Plan {
     sinks: &[Sig::Place(13)],
 };
 
-/// The window of a root and a count in the net of a plan, with its partner or alone: its gates, inputs and outputs;
-/// without gates where there is none.
+/// The window of `root` with `count` gates in the net of `plan`, with its first partner or alone:
+/// its gates, inputs and outputs; without gates where there is none.
 struct Found {
     plan: &'static Plan,
     root: u32,
@@ -137,7 +139,7 @@ struct Found {
     outputs: &'static [u32],
 }
 
-/// Windows; six inputs are enough.
+/// Windows; at most six inputs.
 const WINDOWS: &[Found] = &[
     Found {
         plan: &TWINS,
@@ -177,7 +179,7 @@ const WINDOWS: &[Found] = &[
     },
 ];
 
-/// The window of a root and a count, with the first partner or alone.
+/// The window of `root` with `count` gates, with the first partner or alone.
 fn window_of(alloc: Global, net: &Net, found: &Found) -> Result<Option<Window>, AllocError> {
     if found.paired {
         return together(alloc, net, found.root, 0, found.count);
@@ -185,13 +187,13 @@ fn window_of(alloc: Global, net: &Net, found: &Found) -> Result<Option<Window>, 
     alone(alloc, net, found.root, found.count)
 }
 
-/// Whether a window has the parts that are wanted.
+/// Whether a window has the parts that `found` says.
 fn has_parts(window: &Window, found: &Found) -> bool {
     let places = window.gates() == found.gates && window.inputs() == found.inputs;
     places && window.outputs() == found.outputs
 }
 
-/// Whether a net has the window that is wanted, or none.
+/// Whether `net` has the window that `found` says, or none.
 fn has_window(alloc: Global, net: &Net, found: &Found) -> bool {
     match window_of(alloc, net, found) {
         Ok(Some(window)) => has_parts(&window, found),
@@ -200,7 +202,7 @@ fn has_window(alloc: Global, net: &Net, found: &Found) -> bool {
     }
 }
 
-/// Whether the net of a plan has it.
+/// Whether the net of the plan has it.
 fn is_found(alloc: Global, found: &Found) -> bool {
     match planned(alloc, found.plan) {
         Some(net) => has_window(alloc, &net, found),

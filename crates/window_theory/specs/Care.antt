@@ -1,4 +1,4 @@
--- What a window has to compute.
+-- The specification of a window: its local function with satisfiability don't-cares (SDC).
 use Rattle.std.specs.Prelude.{◌≡◌, ℕ, ◌+◌, ◌≤◌, ◌<◌, ◌^◌, ◌-◌, Bool, true, false, if◌then◌else◌, List, [], ◌∷◌, length, slice_index_or, ◌⊎◌}
 use Rattle.chain_theory.specs.Operator.{Basis}
 use Rattle.chain_theory.specs.Agreement.{NoneBelow}
@@ -13,48 +13,51 @@ use Rattle.window_theory.specs.Paths.{IsGate, Reads}
 use Rattle.window_theory.specs.Window.{Window}
 use Rattle.window_theory.specs.Surround.{LeadsTo}
 
--- ---- values where some places are given bits
+-- ---- values where the bits of some places are fixed
 
 unfoldable pub fixed_after : (ℕ → Bool) → (ℕ → Bool) → (ℕ → Bool) → ℕ → List Gate → ℕ → Bool
 fixed_after fixed given bits place [] = bits
 fixed_after fixed given bits place (g ∷ gs) = fixed_after fixed given (extended bits place (if fixed place then given place else gate_value bits g)) (place + 1) gs
 
--- The bits of the places where the sources and the fixed places have the given bits, and each other gate its
--- operator's value.
--- Example: of XOR of two sources at place 3 and NOT of it at 4, with 3 fixed to 1, place 4 has 0, whatever
--- the sources are given.
+-- The bits of the places where the sources and the places of `fixed` have the bits of `given`, and
+-- each other gate its operator's value.
+-- Example: of XOR of two sources at place 3 and NOT of it at 4, with 3 fixed to 1, place 4 has 0,
+-- whatever the bits of the sources.
 abbrev pub values_with : Net → (ℕ → Bool) → (ℕ → Bool) → ℕ → Bool
 values_with n fixed given = fixed_after fixed given given (n.sources + 1) n.gates
 
 -- ---- a part of a net by itself
 
--- a place that is given its bit: one of the fixed places, or a source
+-- a place whose bit is given: a source, or one of `fixed`
 abbrev pub IsGiven : Net → (ℕ → Bool) → ℕ → Type 0
 IsGiven n fixed p = (fixed p ≡ true) ⊎ (p ≤ n.sources)
 
--- a gate that has its operator's value, by what it reads inside
+-- a gate with its operator's value, whose fanins are `inside`
 pub record IsComputed (n : Net) (fixed inside bits : ℕ → Bool) (p : ℕ) : Type 0 where
   pub free : fixed p ≡ false
   pub gate : IsGate n p
   pub reads : (q : ℕ) → Reads n p q → inside q ≡ true
   pub value : bits p ≡ gate_value bits gate.gate
 
--- Bits of some places, each of which is given or computed from others of these places.
--- Example: gate 4 reads gate 3 and the source 1. With 3 fixed, the places 1, 3 and 4 are such a part.
+-- `bits` are those of the part `inside`, whose places are each given or computed from places of the
+-- part.
+-- Example: gate 4 reads gate 3 and the source 1. With 3 fixed, the places 1, 3 and 4 are a part.
 abbrev pub IsPart : Net → (ℕ → Bool) → (ℕ → Bool) → (ℕ → Bool) → (ℕ → Bool) → Type 0
 IsPart n fixed given inside bits = (p : ℕ) → inside p ≡ true → (IsGiven n fixed p × (bits p ≡ given p)) ⊎ IsComputed n fixed inside bits p
 
 -- ---- rows
 
--- the places have the bits of row t, the first of them the most significant
+-- the places have the bits of row t, the first place the most significant
 abbrev pub HasRow : (ℕ → Bool) → List ℕ → ℕ → Type 0
 HasRow bits places t = (i : ℕ) → i < length places → bits (slice_index_or places i 0) ≡ input (length places) t (i + 1)
 
--- ---- care rows
+-- ---- care rows (minterms)
 
--- A row of k places, a number below 2 ^ k, is a care row where an assignment of their surround's leaves gives them
--- its bits. (Of a greater number only its last k digits count; whoever uses this keeps to rows.)
--- Example: of gate 3 = AND(1, 2) and gate 4 = OR(1, 2) the row 10 is none, since no bits of 1 and 2 give it.
+-- A row of k places, a number below 2 ^ k, is a care row where an assignment of their surround's
+-- leaves gives them its bits; other rows are satisfiability don't-cares. (Of a greater number only
+-- its last k digits count; uses of this keep to rows.)
+-- Example: of gate 3 = AND(1, 2) and gate 4 = OR(1, 2) the row 10 is none, since no bits of 1 and 2
+-- give it.
 pub record IsCareRow (n : Net) (places : List ℕ) (t : ℕ) : Type 0 where
   pub leaves : List ℕ
   pub surround : LeadsTo n places leaves
@@ -64,22 +67,23 @@ pub record IsCareRow (n : Net) (places : List ℕ) (t : ℕ) : Type 0 where
 abbrev pub cell_of : Bool → Cell
 cell_of b = if b then One else Zero
 
--- the place of output h, the first of them output 1
+-- the place of output h, where outputs are numbered from 1
 abbrev pub output_place : Window → ℕ → ℕ
 output_place w h = slice_index_or w.outputs (h - 1) 0
 
--- The specification of a window: on a care row of its inputs the cells are the values of its outputs, where
--- the inputs have the bits of the row, and elsewhere they are free.
+-- The specification of a window: on a care row of its inputs the cells are the values of its
+-- outputs, and elsewhere they are don't-cares.
 pub record IsSpecificationOf (n : Net) (w : Window) (s : Specification) : Type 0 where
   pub inputs : s.inputs ≡ length w.inputs
   pub outputs : s.outputs ≡ length w.outputs
   pub care : (h t : ℕ) (given : ℕ → Bool) → 1 ≤ h → h ≤ length w.outputs → t < 2 ^ length w.inputs → IsCareRow n w.inputs t → HasRow given w.inputs t → s.cell h t ≡ cell_of (values_with n (among w.inputs) given (output_place w h))
   pub free : (h t : ℕ) → 1 ≤ h → h ≤ length w.outputs → t < 2 ^ length w.inputs → (IsCareRow n w.inputs t → ⊥) → s.cell h t ≡ Free
 
--- No chain over the basis of fewer steps than the count does what the window has to. It doesn't matter of which
--- specification of the window this is said, since all have the same chains (a law says so).
--- Example: where XOR of two sources is a sink, the window of this one gate has no chain of fewer than 1 steps over
--- any basis. (A gate that nothing reads gives a window without outputs, which needs no step.)
+-- No chain over the basis of fewer than `count` steps implements the window. It doesn't matter for
+-- which specification of the window that holds, since all have the same chains (a law says so).
+-- Example: where XOR of two sources is a sink, the window of this one gate has no chain of fewer
+-- than 1 steps over any basis. (A dangling gate gives a window without outputs, which needs no
+-- step.)
 pub record HasNoFewer (n : Net) (basis : Basis) (w : Window) (count : ℕ) : Type 0 where
   pub specification : Specification
   pub is : IsSpecificationOf n w specification

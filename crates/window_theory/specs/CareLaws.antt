@@ -1,4 +1,5 @@
--- Under every assignment of the sources the bits of some places are a care row, those of a window's inputs too.
+-- Under every assignment of the sources the bits of places are a care row; so are those of a
+-- window's inputs.
 use Rattle.std.specs.Prelude.{◌≡◌, ℕ, suc, ◌+◌, ◌<◌, ◌^◌, Bool, if◌then◌else◌, List, [], ◌∷◌, length, slice_get, slice_index_or, Some, refl}
 use Rattle.std.proofs.Common.{arith, sym, ◌∙◌, ap, ⊎_elim, add-zero}
 use Rattle.std.proofs.lemmas.Bool.{cond_both, cases_eq}
@@ -24,7 +25,7 @@ sig_same f g (Place p) same = same p
 gate_same : (f g : ℕ → Bool) (x : Gate) → ((p : ℕ) → f p ≡ g p) → gate_value f x ≡ gate_value g x
 gate_same f g x same = rw (sig_same f g x.a same, sig_same f g x.b same) refl
 
--- With any places fixed to their real values all places have theirs.
+-- Where places are fixed to their real values all places have theirs.
 fixed_real : (fixed real bits : ℕ → Bool) (place : ℕ) (gs : List Gate) → ((i : ℕ) (g : Gate) → slice_get gs i ≡ Some g → real (place + i) ≡ gate_value real g) → ((q : ℕ) → bits q ≡ real q) → (q : ℕ) → fixed_after fixed real bits place gs q ≡ real q
 unfolding fixed_after
 fixed_real fixed real bits place [] gates same q = same q
@@ -50,7 +51,7 @@ care_real n places given t net below row =
       bits = λ i low. values_real n (among leaves.0) given (slice_index_or places i 0) net ∙ row i low;
     }
 
--- what a window reads from outside are places of the net
+-- the inputs of a window are places of the net
 inputs_below : (n : Net) (w : Window) → IsNet n → Belongs n w → AreBelow (n.sources + 1 + length n.gates) w.inputs
 inputs_below n w net belongs p e =
     let is : IsInput n w.gates p = belongs.inputs.only p e in

@@ -1,4 +1,4 @@
--- What a window's inputs are computed from stands outside the window.
+-- The transitive fanin (TFI) of a window's inputs is outside the window.
 use Rattle.std.specs.Prelude.{◌≡◌, ℕ, suc, ◌+◌, Bool, true, false, List, [], ◌∷◌, slice_get, Some, ◌⊎◌, refl}
 use Rattle.std.proofs.Common.{arith, sym, ◌∙◌, ap, subst, inl, inr, ⊎_elim, add-zero}
 use Rattle.std.proofs.lemmas.Bool.{cond_both, cases_eq, cases_Bool, both_ways}
@@ -19,7 +19,7 @@ leads_on : (n : Net) (p q r : ℕ) → LeadsUp n p q → LeadsUp n q r → Leads
 leads_on n p _ _ before (at_once q r reads) = by_way_of p q r before reads
 leads_on n p _ _ before (by_way_of q m r rest reads) = by_way_of p m r (leads_on n p q m before rest) reads
 
--- a root, or a place from which a path leads to one
+-- a root, or in the transitive fanin of one
 abbrev LeadsToRoot : Net → (ℕ → Bool) → ℕ → Type 0
 LeadsToRoot n roots p = (q : ℕ) × (roots q ≡ true) × ((p ≡ q) ⊎ LeadsUp n p q)
 
@@ -53,7 +53,7 @@ marked_leads n roots place (g ∷ gs) p reads e =
 
 -- ---- windows
 
--- By convexity no gate of a window is early.
+-- By convexity no gate of a window is early, which means in the transitive fanin of its inputs.
 pub early_outside : (n : Net) (w : Window) (p : ℕ) → Belongs n w → is_early n w p ≡ true → among w.gates p ≡ false
 early_outside n w p is early =
     let r = marked_leads n (among w.inputs) (n.sources + 1) n.gates p (λ i x g at reads. record { reader = record { index = i; gate = g; at = at; place = refl }; reads = reads }) early in

@@ -1,4 +1,4 @@
--- Worked examples: small nets, and what the definitions say of them.
+-- Worked examples: small nets, and what the definitions give for them.
 use Rattle.std.specs.Prelude.{◌≡◌, ℕ, ◌+◌, true, false, nat_eq, List, [], ◌∷◌, slice_get, None, Some, refl}
 use Rattle.std.proofs.Common.{arith, sym, subst, inl, ⊎_elim}
 use Rattle.std.proofs.lemmas.Bool.{eq-eqb, or_left}
@@ -39,7 +39,7 @@ pub nand_not_is_and : spliced nand_not both_gates and_chain ≡ and_net
 unfolding spliced kept_after marked with_sigs
 nand_not_is_and = refl
 
--- ---- a gate that is read by a gate and by a sink
+-- ---- a gate with a gate and a sink as fanouts
 
 -- AND at 3, OR of the first source and it at 4, XOR of the sources at 5; all three are sinks, and a source is one
 abbrev pub three_gates : Net
@@ -48,7 +48,7 @@ three_gates = record { sources = 2; gates = gate_of 1 (Place 1) (Place 2) ∷ ga
 abbrev pub first_gate : Window
 first_gate = window_of 3 (3 ∷ []) (1 ∷ 2 ∷ []) (3 ∷ [])
 
--- chains of no step: the out is an input, or a constant
+-- chains without steps: the output is an input, or a constant
 abbrev pub input_chain : Chain
 input_chain = record { n = 2; steps = []; outs = outs.Place 1 ∷ [] }
 
@@ -75,7 +75,7 @@ out_is_constant = refl
 abbrev pub two_ands : Net
 two_ands = record { sources = 2; gates = gate_of 1 (Place 1) (Place 2) ∷ gate_of 1 (Place 1) (Place 2) ∷ []; sinks = Place 3 ∷ Place 4 ∷ [] }
 
--- both outs are one step's
+-- one step has both outputs
 abbrev pub one_for_two : Chain
 one_for_two = record { n = 2; steps = record { j = 1; k = 2; op = 1 } ∷ []; outs = outs.Place 3 ∷ outs.Place 3 ∷ [] }
 

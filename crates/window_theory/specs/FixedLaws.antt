@@ -1,4 +1,4 @@
--- What values are where some places are given bits, without the recursion.
+-- The values where the bits of some places are fixed, without recursion.
 use Rattle.std.specs.Prelude.{◌≡◌, ℕ, zero, suc, ◌+◌, ◌≤◌, ◌<◌, Bool, true, false, if◌then◌else◌, List, [], ◌∷◌, slice_get, Some, refl}
 use Rattle.std.proofs.Common.{arith, sym, ◌∙◌, ap, subst, inl, inr, ⊎_elim}
 use Rattle.std.proofs.lemmas.Bool.{cond-true, cond-false, cases_eq, cases_Bool, both_ways, cases_lt}
@@ -26,7 +26,7 @@ fixed_below fixed given bits place p (g ∷ gs) low =
     let bit : Bool = if fixed place then given place else gate_value bits g in
     fixed_below fixed given (extended bits place bit) (place + 1) p gs (omega arith) ∙ extended-other bits place p bit (omega arith)
 
--- a source has the bit that is given to it
+-- a source has its given bit
 pub with_source : (n : Net) (fixed given : ℕ → Bool) (p : ℕ) → p ≤ n.sources → values_with n fixed given p ≡ given p
 with_source n fixed given p low = fixed_below fixed given given (n.sources + 1) p n.gates (omega arith)
 
@@ -64,7 +64,7 @@ fixed_gate fixed given bits place (suc i) p (h ∷ gs) g at own is off =
     let bit : Bool = if fixed place then given place else gate_value bits h in
     fixed_gate fixed given (extended bits place bit) (place + 1) i p gs g at (omega arith) is off
 
--- Any other gate has its operator's value on those of its operands.
+-- Any other gate has its operator's value on its fanins.
 pub with_gate : (n : Net) (fixed given : ℕ → Bool) (p : ℕ) (is : IsGate n p) → IsNet n → fixed p ≡ false → values_with n fixed given p ≡ gate_value (values_with n fixed given) is.gate
 with_gate n fixed given p is net off =
     fixed_gate fixed given given (n.sources + 1) is.index p n.gates is.gate is.at (omega (arith, is.place)) (subst (λ (q : ℕ). IsGateAt q is.gate) is.place (net.gates.each is.index is.gate is.at)) off
@@ -76,7 +76,7 @@ sig_same f g Zero same = refl
 sig_same f g One same = refl
 sig_same f g (Place p) same = same p refl
 
--- a gate has one value under bits that agree on what it reads
+-- a gate has one value under bits that agree on its fanins
 pub gate_same : (f g : ℕ → Bool) (x : Gate) → ((p : ℕ) → ReadsPlace x p → f p ≡ g p) → gate_value f x ≡ gate_value g x
 gate_same f g x same = rw (sig_same f g x.a (λ p e. same p (inl e)), sig_same f g x.b (λ p e. same p (inr e))) refl
 
@@ -101,7 +101,7 @@ part_values n fixed given inside bits p net part e = part_below n fixed given in
 
 -- ---- a window
 
--- a gate of a window is none of its inputs
+-- a gate of a window isn't one of its inputs
 pub inside_free : (n : Net) (w : Window) (p : ℕ) → Belongs n w → among w.gates p ≡ true → among w.inputs p ≡ false
 inside_free n w p is inside =
     ⊎_elim (λ on. absurd (both_ways (among w.gates p) (is.inputs.only p on).outside inside)) (λ off. off) (cases_Bool (among w.inputs p))

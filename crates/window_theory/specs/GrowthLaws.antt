@@ -1,4 +1,4 @@
--- How far gates can be taken, and so where there is no window.
+-- How far a window can grow, and so where there is none.
 use Rattle.std.specs.Prelude.{◌≡◌, ℕ, ◌≤◌, ◌<◌, List, [], ◌∷◌, length, Option}
 use Rattle.std.proofs.Common.{arith, subst, ⊎_elim}
 use Rattle.std.proofs.lemmas.Bool.{cases_lt}
@@ -8,7 +8,7 @@ use Rattle.window_theory.specs.Window.{Window, IsCandidate, AreTaken, Takes, IsI
 use Rattle.window_theory.specs.WindowLaws.{taken_one, gates_one}
 use Rattle.window_theory.specs.PlaceLaws.{just_same}
 
--- Of gates that are taken and more than others, the others are a part, behind one that was a candidate.
+-- Where more gates can be taken than those of xs, xs has a candidate.
 taken_next : (n : Net) (root : ℕ) (partner : Option ℕ) (xs ys : List ℕ) → AreTaken n root partner xs → AreTaken n root partner ys → length xs < length ys → (p : ℕ) × IsCandidate n root partner xs p
 unfolding AreTaken
 taken_next n root partner xs [] a b more = absurd (omega arith)
@@ -20,7 +20,7 @@ taken_next n root partner xs (y ∷ ys) a b more =
     (y, subst (λ (zs : List ℕ). IsCandidate n root partner zs y) same b.0.candidate))
     (cases_lt (length xs) (length ys))
 
--- Where no candidate is left, no more gates can be taken.
+-- Where there is no candidate, no more gates can be taken.
 pub taken_most : (n : Net) (root : ℕ) (partner : Option ℕ) (xs ys : List ℕ) → AreTaken n root partner xs → ((p : ℕ) → IsCandidate n root partner xs p → ⊥) → AreTaken n root partner ys → length ys ≤ length xs
 taken_most n root partner xs ys a none b =
     ⊎_elim
@@ -33,7 +33,7 @@ window_size n root partner count taken w are none is =
     let most : length is.takes.taken ≤ length taken = taken_most n root partner taken is.takes.taken are none is.takes.are in
     omega (arith, most, is.takes.count_is)
 
--- A window of gates that are taken has what goes in and out of them.
+-- A window of gates that are taken has their inputs and outputs.
 pub window_partner : (n : Net) (root : ℕ) (partner : Option ℕ) (count : ℕ) (gates : List ℕ) (w : Window) → Takes n root partner count gates → IsWindow n root partner count w → HasPartner partner gates
 window_partner n root partner count gates w takes is =
     subst (HasPartner partner) (gates_one n root partner count w.gates gates is.takes takes) is.has_partner

@@ -1,4 +1,4 @@
--- A window has one specification, as far as chains can tell.
+-- A window has one specification up to the chains that implement it.
 use Rattle.std.specs.Prelude.{◌≡◌, ℕ, ◌≤◌, ◌<◌, ◌^◌, Bool, true, length}
 use Rattle.std.proofs.Common.{sym, ◌∙◌, ap, subst, ⊎_elim}
 use Rattle.std.proofs.lemmas.Bool.{cases_Bool, both_ways}
@@ -12,13 +12,14 @@ use Rattle.window_theory.specs.Places.{among}
 use Rattle.window_theory.specs.Window.{Window}
 use Rattle.window_theory.specs.Care.{values_with, IsCareRow, IsSpecificationOf, HasNoFewer}
 
--- on a care row both have one cell
+-- on a care row two specifications have the same cell
 care_same : (n : Net) (w : Window) (s z : Specification) (h t : ℕ) → IsSpecificationOf n w s → IsSpecificationOf n w z → 1 ≤ h → h ≤ length w.outputs → t < 2 ^ length w.inputs → IsCareRow n w.inputs t → s.cell h t ≡ z.cell h t
 care_same n w s z h t a b low high row care =
     let given : ℕ → Bool = values_with n (among care.leaves) care.given in
     a.care h t given low high row care care.bits ∙ sym (b.care h t given low high row care care.bits)
 
--- What isn't met isn't free; what isn't free is a care row, so far as a test can tell.
+-- A bit that meets a cell of s meets that of z: if it didn't, the row couldn't be a care row, and
+-- the cell of z would be a don't-care.
 met_same : (n : Net) (w : Window) (s z : Specification) (h t : ℕ) (bit : Bool) → IsSpecificationOf n w s → IsSpecificationOf n w z → 1 ≤ h → h ≤ length w.outputs → t < 2 ^ length w.inputs → is_met (s.cell h t) bit ≡ true → is_met (z.cell h t) bit ≡ true
 met_same n w s z h t bit a b low high row met =
     ⊎_elim

@@ -1,20 +1,20 @@
--- Partners of a gate: gates below it that read what it reads.
+-- Partners of a gate: gates below it that share a fanin with it (siblings).
 use Rattle.std.specs.Prelude.{◌≡◌, ℕ, ◌≤◌, ◌<◌, true, List, length, ◌⊎◌}
 use Rattle.net_theory.specs.Net.{Net}
 use Rattle.window_theory.specs.Places.{among, IsFalling}
 use Rattle.window_theory.specs.Paths.{Reads}
 
--- a gate below that reads a place which the gate reads too
+-- h is below g and shares a fanin with it
 pub record SharesBelow (n : Net) (g h : ℕ) : Type 0 where
   pub below : h < g
   pub shared : ℕ
   pub first : Reads n g shared
   pub second : Reads n h shared
 
--- The partners of a gate, falling: all gates that share a place with it from below, or, where there are
--- more than eight, the eight greatest.
--- Example: where the gates at 3 and 4 are both AND of the places 1 and 2, 3 is the partner of 4, and 3 has
--- none.
+-- The partners of a gate, descending: all gates below that share a fanin with it, or the eight
+-- greatest, where there are more.
+-- Example: where the gates at 3 and 4 are both AND of the places 1 and 2, 3 is the partner of 4,
+-- and 3 has none.
 pub record ArePartners (n : Net) (g : ℕ) (partners : List ℕ) : Type 0 where
   pub falling : IsFalling partners
   pub share : (h : ℕ) → among partners h ≡ true → SharesBelow n g h

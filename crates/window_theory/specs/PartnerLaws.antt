@@ -6,9 +6,9 @@ use Rattle.window_theory.specs.Places.{among, IsFalling}
 use Rattle.window_theory.specs.PlaceLaws.{among_cases, among_first, among_later}
 use Rattle.window_theory.specs.Partner.{ArePartners}
 
--- ---- falling lists
+-- ---- descending lists
 
--- What is on the shorter list stands behind the head of the longer one.
+-- A descending list within another of greater head is within the other's tail.
 behind_head : (x y : ℕ) (xs ys : List ℕ) → IsFalling (x ∷ xs) → IsFalling (y ∷ ys) → x < y → ((p : ℕ) → among (x ∷ xs) p ≡ true → among (y ∷ ys) p ≡ true) → (p : ℕ) → among (x ∷ xs) p ≡ true → among ys p ≡ true
 unfolding IsFalling
 behind_head x y xs ys falling_x falling_y low within p e =
@@ -28,12 +28,12 @@ behind_both x y xs ys falling same within p e =
     (λ later. later)
     (among_cases y p ys (within p (among_later x p xs e)))
 
--- the head is the other head, or below it
+-- an element is the head, or below it
 head_low : (x y : ℕ) (ys : List ℕ) → IsFalling (y ∷ ys) → among (y ∷ ys) x ≡ true → (x ≡ y) ⊎ (x < y)
 unfolding IsFalling
 head_low x y ys falling e = ⊎_elim (λ same. inl same) (λ later. inr (falling.0 x later)) (among_cases y x ys e)
 
--- A falling list that has all of another, and a lower place, is longer.
+-- A descending list with all elements of another, and a lower one, is longer.
 falling_longer : (xs ys : List ℕ) (h : ℕ) → IsFalling xs → IsFalling ys → ((p : ℕ) → among xs p ≡ true → among ys p ≡ true) → among ys h ≡ true → ((p : ℕ) → among xs p ≡ true → h < p) → length xs < length ys
 unfolding IsFalling
 falling_longer xs [] h falling_x falling_y within on low = absurd (let e : false ≡ true = on in cc)

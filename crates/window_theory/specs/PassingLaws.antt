@@ -1,4 +1,4 @@
--- How many gates pass a test, by parts.
+-- The number of gates that pass a test.
 use Rattle.std.specs.Prelude.{◌≡◌, ℕ, ◌+◌, ◌≤◌, ◌<◌, Bool, true, false, ◌&&◌, if◌then◌else◌, List, [], ◌∷◌, ◌++◌, length, refl}
 use Rattle.std.proofs.Common.{arith, sym, ◌∙◌, subst, ⊎_elim, ◌≢◌}
 use Rattle.std.proofs.lemmas.Bool.{cond-true, cond-false, cases_eq, cases_Bool, both_ways}
@@ -14,7 +14,7 @@ unfolding passing
 passing_push test place [] g = omega arith
 passing_push test place (h ∷ gs) g = omega (arith, passing_push test (place + 1) gs g)
 
--- Kept gates keep their operators.
+-- Copied gates keep their operators.
 pub passing_kept : (test marks : ℕ → Bool) (sources start : ℕ) (k : Kept) (place : ℕ) (gs : List Gate) → passing (λ p op. test op) start (kept_after marks sources k place gs).gates ≡ passing (λ p op. test op) start k.gates + passing (λ p op. marks p && test op) place gs
 unfolding kept_after passing
 passing_kept test marks sources start k place [] = omega arith
@@ -24,13 +24,13 @@ passing_kept test marks sources start k place (g ∷ gs) =
       one true = passing_push test start k.gates (moved_gate k.places g)
       one false = omega arith
 
--- Two tests that together are a third.
+-- Two tests that exclude each other and together are a third.
 pub passing_parts : (a b both : ℕ → ℕ → Bool) (place : ℕ) (gs : List Gate) → ((p op : ℕ) → (if a p op then 1 else 0) + (if b p op then 1 else 0) ≡ (if both p op then 1 else 0)) → passing a place gs + passing b place gs ≡ passing both place gs
 unfolding passing
 passing_parts a b both place [] one = refl
 passing_parts a b both place (g ∷ gs) one = omega (arith, one place g.op, passing_parts a b both (place + 1) gs one)
 
--- Tests that agree from a place on.
+-- Tests that agree from `place` on.
 passing_same : (a b : ℕ → ℕ → Bool) (place : ℕ) (gs : List Gate) → ((p op : ℕ) → place ≤ p → a p op ≡ b p op) → passing a place gs ≡ passing b place gs
 unfolding passing
 passing_same a b place [] same = refl
@@ -43,7 +43,7 @@ unfolding passing
 passing_all place [] = refl
 passing_all place (g ∷ gs) = omega (arith, passing_all (place + 1) gs)
 
--- places that stand among these gates
+-- the places are those of gates of the list
 abbrev pub AreWithin : ℕ → List Gate → List ℕ → Type 0
 AreWithin place gs places = (p : ℕ) → among places p ≡ true → (place ≤ p) × (p < place + length gs)
 
@@ -57,7 +57,7 @@ among_same x q places other =
     (λ off. not_among (x ∷ places) q (λ e. ⊎_elim (λ (same : q ≡ x). other same) (λ later. both_ways (among places q) off later) (among_cases x q places e)) ∙ sym off)
     (cases_Bool (among places q))
 
--- As many gates as places stand at the places of a list.
+-- As many gates are at places of a list as the list has places.
 pub passing_among : (place : ℕ) (gs : List Gate) (places : List ℕ) → IsRising places → AreWithin place gs places → passing (λ p op. among places p) place gs ≡ length places
 unfolding passing IsRising
 passing_among place [] [] rising within = refl

@@ -1,4 +1,4 @@
--- A chain can take the place of any window that belongs to a net.
+-- A chain can be substituted for any window that belongs to a net.
 use Rattle.std.specs.Prelude.{◌≡◌, ℕ, zero, suc, ◌+◌, ◌≤◌, ◌<◌, ◌^◌, Bool, true, false, not, ◌&&◌, if◌then◌else◌, List, [], ◌∷◌, length, map, slice_index_or, Some, refl}
 use Rattle.std.proofs.Common.{arith, sym, ◌∙◌, ap}
 use Rattle.std.proofs.lemmas.List.{length-map}
@@ -79,7 +79,7 @@ index_map f (s ∷ ss) (suc i) d low = index_map f ss i d (omega arith)
 
 -- ---- the net
 
--- There is such a net, where it has not too many places.
+-- The substitution gives a net, where that has fewer than 2^31 places.
 pub spliced_is : (n : Net) (w : Window) (c : Chain) → IsNet n → Belongs n w → Fits w c → n.sources + length n.gates + length c.steps < 2 ^ 31 + length w.gates → IsSpliced n w c (spliced n w c)
 unfolding spliced
 spliced_is n w c net is fits few =
@@ -97,11 +97,12 @@ spliced_is n w c net is fits few =
       equal = λ i j d low_i low_j same. index_map move n.sinks i d low_i ∙ ap move same ∙ sym (index_map move n.sinks j d low_j);
     }
 
--- Where the chain agrees with what the window has to compute, the sinks keep their values.
+-- Where the chain implements the window's specification, the sinks keep their values.
 pub substituted_values : (n m : Net) (w : Window) (s : Specification) (c : Chain) (given : ℕ → Bool) → IsNet n → Belongs n w → IsChain c → IsSpecificationOf n w s → Agrees c s → IsSpliced n w c m → sink_values m given ≡ sink_values n given
 substituted_values n m w s c given net is chain spec agrees new = new.values given ∙ signals_real n w s c given net is chain spec agrees
 
--- And where it has no more steps than the window has gates, the net can stand in the other's place.
+-- And where it has no more steps than the window has gates, the new net answers what the old one
+-- does.
 pub substituted_answers : (n m : Net) (w : Window) (s : Specification) (c : Chain) → IsNet n → Belongs n w → IsChain c → IsSpecificationOf n w s → Agrees c s → IsSpliced n w c m → length c.steps ≤ length w.gates → Answers n m
 substituted_answers n m w s c net is chain spec agrees new few =
     record {

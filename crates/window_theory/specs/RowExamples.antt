@@ -54,7 +54,7 @@ and_or_net =
 pub none_among : (q : ℕ) → among [] q ≡ true → ⊥
 none_among q e = let x : false ≡ true = e in absurd cc
 
--- one of two or of three places
+-- an element of a list of two or three
 pub two_cases : (a b q : ℕ) → among (a ∷ b ∷ []) q ≡ true → (q ≡ a) ⊎ (q ≡ b)
 two_cases a b q e = ⊎_elim (λ one. inl one) (λ rest. ⊎_elim (λ two. inr two) (λ none. absurd (none_among q none)) (among_cases b q [] rest)) (among_cases a q (b ∷ []) e)
 
@@ -145,7 +145,7 @@ shown : (given : ℕ → Bool) → HasRow (values_with and_or (among (1 ∷ 2 �
 unfolding fixed_after
 shown given row = and_not_or (given 1) (given 2) (row 0 (omega arith)) (row 1 (omega arith))
 
--- Row 10 of both gates is no care row: no bits of the sources give AND 1 and OR 0.
+-- Row 10 of both gates isn't a care row: no bits of the sources give AND 1 and OR 0.
 pub ten_is_none : IsCareRow and_or (3 ∷ 4 ∷ []) 2 → ⊥
 ten_is_none care =
     let same : care.leaves ≡ 1 ∷ 2 ∷ [] = leaves_one and_or (3 ∷ 4 ∷ []) care.leaves (1 ∷ 2 ∷ []) care.surround sources_are_leaves in

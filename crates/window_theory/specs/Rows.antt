@@ -1,4 +1,4 @@
--- The row that bits of some places are.
+-- The row that the bits of places are.
 use Rattle.std.specs.Prelude.{◌≡◌, ℕ, ◌+◌, ◌-◌, ◌^◌, ◌<◌, Bool, List, length, slice_index_or}
 use Rattle.std.proofs.Common.{arith, sym, ◌∙◌, ap}
 use Rattle.chain_theory.specs.Rows.{row_of, row_digit, row_low}

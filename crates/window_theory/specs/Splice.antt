@@ -1,4 +1,4 @@
--- A chain in the place of a window.
+-- Substitution: a chain in the place of a window.
 use Rattle.std.specs.Prelude.{◌≡◌, ℕ, ◌+◌, ◌-◌, ◌<◌, Bool, true, false, not, ◌&&◌, List, [], ◌∷◌, length, map, slice_get, slice_index_or, if◌then◌else◌, Some}
 use Rattle.chain_theory.specs.Chain.{Step, Chain, IsChain}
 use Rattle.chain_theory.specs.Value.{extended, values_after}
@@ -16,13 +16,13 @@ use Rattle.window_theory.specs.Places.{among}
 use Rattle.window_theory.specs.Window.{Window}
 use Rattle.window_theory.specs.Care.{values_with}
 
--- a chain has an input for each input of the window, and an out for each output
+-- the chain has an input for each input of the window, and an output for each output
 pub record Fits (w : Window) (c : Chain) : Type 0 where
   pub chain : IsChain c
   pub inputs : c.n ≡ length w.inputs
   pub outs : length c.outs ≡ length w.outputs
 
--- the place of input j, the first of them input 1
+-- the place of input j, where inputs are numbered from 1
 abbrev pub input_place : Window → ℕ → ℕ
 input_place w j = slice_index_or w.inputs (j - 1) 0
 
@@ -37,7 +37,7 @@ out_bit bits outs.Zero = false
 out_bit bits outs.One = true
 out_bit bits (outs.Place p) = bits p
 
--- the bits, with those of these places set
+-- the bits `bits`, with those of the listed places replaced
 unfoldable pub with_bits : (ℕ → Bool) → List ℕ → List Bool → ℕ → Bool
 with_bits bits [] set = bits
 with_bits bits (p ∷ places) [] = bits
@@ -46,16 +46,16 @@ with_bits bits (p ∷ places) (b ∷ set) = extended (with_bits bits places set)
 abbrev pub spliced_bits : Net → Window → Chain → (ℕ → Bool) → ℕ → Bool
 spliced_bits n w c given = with_bits given w.outputs (map (out_bit (chain_bits n w c given)) c.outs)
 
--- The values that the net gives when the window's outputs take the values of the chain's outs on the bits of the
--- window's inputs.
--- Example: where the window is the gate 3, AND of the sources 1 and 2, and the chain's out is the constant 1, place
--- 3 has 1, and NOT of it at place 4 has 0.
+-- The values of the net where the window's outputs have the values of the chain's outputs, computed
+-- from the window's inputs.
+-- Example: where the window is the gate 3, AND of the sources 1 and 2, and the chain's output is
+-- the constant 1, place 3 has 1, and NOT of it at place 4 has 0.
 abbrev pub spliced_value : Net → Window → Chain → (ℕ → Bool) → ℕ → Bool
 spliced_value n w c given = values_with n (among w.outputs) (spliced_bits n w c given)
 
 -- ---- the net
 
--- the places that a window's inputs are, or are computed from
+-- the transitive fanin (TFI) of the window's inputs, with the inputs
 abbrev pub is_early : Net → Window → ℕ → Bool
 is_early n w = reach n (among w.inputs)
 
@@ -71,48 +71,49 @@ out_sig places outs.Zero = Zero
 out_sig places outs.One = One
 out_sig places (outs.Place p) = places p
 
--- the places, with those of these set
+-- the signals `sigs`, with those of the listed places replaced
 unfoldable pub with_sigs : (ℕ → Sig) → List ℕ → List Sig → ℕ → Sig
 with_sigs sigs [] set = sigs
 with_sigs sigs (p ∷ places) [] = sigs
 with_sigs sigs (p ∷ places) (s ∷ set) = put_sig (with_sigs sigs places set) p s
 
--- first what the window's inputs are computed from
+-- first the early gates are copied
 abbrev pub early_kept : Net → Window → Kept
 early_kept n w = kept_after (is_early n w) n.sources (nothing_kept n.sources) (n.sources + 1) n.gates
 
--- then the chain's steps, by the chain's own places
+-- then the chain's steps, with a map of the chain's own places
 abbrev pub chain_kept : Net → Window → Chain → Kept
 chain_kept n w c = kept_after (λ p. true) n.sources (record { places = λ j. (early_kept n w).places (input_place w j); gates = (early_kept n w).gates }) (c.n + 1) (map step_gate c.steps)
 
--- and then all else that stands outside the window
+-- and then the late gates
 abbrev pub late_start : Net → Window → Chain → Kept
 late_start n w c = record { places = with_sigs (early_kept n w).places w.outputs (map (out_sig (chain_kept n w c).places) c.outs); gates = (chain_kept n w c).gates }
 
 abbrev pub all_kept : Net → Window → Chain → Kept
 all_kept n w c = kept_after (is_late n w) n.sources (late_start n w c) (n.sources + 1) n.gates
 
--- The net in which the chain has taken the window's place.
+-- The net after the substitution.
 unfoldable pub spliced : Net → Window → Chain → Net
 spliced n w c = record { sources = n.sources; gates = (all_kept n w c).gates; sinks = map (moved (all_kept n w c).places) n.sinks }
 
--- ---- what is promised
+-- ---- its properties
 
--- how many gates pass a test of their place and their operator; the first has the place given
+-- the number of gates that pass a test of their place and their operator; the first is at `place`
 unfoldable pub passing : (ℕ → ℕ → Bool) → ℕ → List Gate → ℕ
 passing test place [] = 0
 passing test place (g ∷ gs) = (if test place g.op then 1 else 0) + passing test (place + 1) gs
 
--- As many gates of m pass a test of operators as gates of n outside the window and steps together. So each gate
--- outside keeps its operator, each step's operator is a gate's, and there are no others.
+-- As many gates of m pass a test of operators as gates of n outside the window and steps together.
+-- So each gate outside keeps its operator, each step's operator is a gate's, and there are no
+-- others.
 abbrev pub HasOperators : Net → Window → Chain → Net → Type 0
 HasOperators n w c m = (test : ℕ → Bool) → passing (λ p op. test op) (m.sources + 1) m.gates ≡ passing (λ p op. not (among w.gates p) && test op) (n.sources + 1) n.gates + passing (λ p op. test op) (c.n + 1) (map step_gate c.steps)
 
--- m is n where a chain has taken a window's place: its sinks have the values that n gives with the chain's outs
--- for the window's outputs, and its gates are those of n outside the window and one for each step. A sink that is
--- a source or a constant stays as it is, and equal sinks stay equal.
--- Example: of NAND of the sources at place 3 and NOT of it at place 4, which is the sink, the window of both and the
--- chain of one step AND leave the one gate AND.
+-- m is n with the chain in the place of the window: its sinks have the values that n gives with the
+-- chain's outputs for the window's, and its gates are those of n outside the window and one for
+-- each step. A sink that is a source or a constant stays as it is, and equal sinks stay equal.
+-- Example: of NAND of the sources at place 3 and NOT of it at place 4, which is the sink, the
+-- window of both and the chain of one step AND leave the one gate AND.
 pub record IsSpliced (n : Net) (w : Window) (c : Chain) (m : Net) : Type 0 where
   pub net : IsNet m
   pub sources : m.sources ≡ n.sources

@@ -1,4 +1,4 @@
--- Where the chain agrees with what the window has to compute, all values stay.
+-- Where the chain implements the window's specification, all values stay.
 use Rattle.std.specs.Prelude.{◌≡◌, ℕ, zero, suc, ◌+◌, ◌-◌, ◌≤◌, ◌<◌, ◌^◌, Bool, true, false, List, [], ◌∷◌, length, map, slice_get, slice_index_or, Some, refl}
 use Rattle.std.proofs.Common.{arith, sym, ◌∙◌, ap, subst, ⊎_elim, add-zero}
 use Rattle.std.proofs.lemmas.Bool.{cases_eq, cases_lt, cases_Bool}
@@ -29,7 +29,7 @@ use Rattle.window_theory.specs.Splice.{Fits, input_place, chain_bits, out_bit, s
 use Rattle.window_theory.specs.PairLaws.{bits_other, IsSet, is_set}
 use Rattle.window_theory.specs.SpliceLaws.{value_gate}
 
--- ---- a chain's values by the bits of its inputs
+-- ---- a chain's values from the bits of its inputs
 
 abbrev AreStepsFrom : ℕ → List Step → Type 0
 AreStepsFrom place ss = (i : ℕ) (s : Step) → slice_get ss i ≡ Some s → IsStepAt (place + i) s
@@ -72,7 +72,7 @@ inputs_below n w net is p on =
     let high = gate_high n read.read.reader read.read.reads.reader in
     omega (arith, low.1, high.1)
 
--- Under every assignment a chain that agrees gives an output its own value.
+-- Under every assignment a chain that implements the specification gives an output its own value.
 output_real : (n : Net) (w : Window) (c : Chain) (s : Specification) (given : ℕ → Bool) (p i : ℕ) (x : Out) → IsNet n → Belongs n w → Fits w c → IsSpecificationOf n w s → Agrees c s → slice_get w.outputs i ≡ Some p → slice_get c.outs i ≡ Some x → out_bit (chain_bits n w c given) x ≡ value n given p
 output_real n w c s given p i x net is fits spec agrees place at =
     let row = has_row (value n given) w.inputs in
@@ -127,7 +127,7 @@ map_same : (f g : Sig → Bool) (xs : List Sig) → ((i : ℕ) (x : Sig) → sli
 map_same f g [] same = refl
 map_same f g (x ∷ xs) same = rw (same 0 x refl, map_same f g xs (λ i y e. same (suc i) y e)) refl
 
--- a chain that agrees with a specification of a window fits it
+-- such a chain has the inputs and outputs of the window
 pub agrees_fits : (n : Net) (w : Window) (s : Specification) (c : Chain) → IsChain c → IsSpecificationOf n w s → Agrees c s → Fits w c
 agrees_fits n w s c chain spec agrees = record { chain = chain; inputs = agrees.inputs ∙ spec.inputs; outs = agrees.outputs ∙ spec.outputs }
 

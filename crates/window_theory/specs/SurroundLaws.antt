@@ -1,4 +1,4 @@
--- Each set of places has leaves, and one list of them.
+-- Each list of places has leaves, and they are unique.
 use Rattle.std.specs.Prelude.{◌≡◌, ℕ, zero, suc, ◌+◌, ◌≤◌, ◌<◌, Bool, true, not, ◌&&◌, ◌||◌, ◌==◌, List, length, slice_get, Some, ◌⊎◌, refl}
 use Rattle.std.proofs.Common.{arith, sym, ◌∙◌, ap, subst, inl, inr, ⊎_elim, ◌≢◌}
 use Rattle.std.proofs.lemmas.Bool.{eqb-true, eq-eqb, ne_eqb, or_cases, or_left, or_right, and_parts, and_from, not-true, both_ways, cases_Bool, cases_lt, cases_eq}
@@ -13,7 +13,7 @@ use Rattle.window_theory.specs.Paths.{IsGate}
 use Rattle.window_theory.specs.WindowLaws.{reads_low, gate_high, gate_at}
 use Rattle.window_theory.specs.Surround.{IsGreatestGate, IsLeafBehind, Opens, IsLast, LeadsTo, stays, goes_on}
 
--- ---- what a gate reads, as a test
+-- ---- fanins, as a test
 
 place_is : (p : ℕ) (s : Sig) → is_place p s ≡ true → s ≡ Place p
 place_is p Zero e = absurd cc
@@ -33,7 +33,7 @@ reads_tested : (g : Gate) (q : ℕ) → ReadsPlace g q → reads_test g q ≡ tr
 reads_tested g q reads =
     ⊎_elim (λ a. or_left (is_place q g.a) (is_place q g.b) (place_test q g.a a)) (λ b. or_right (is_place q g.a) (is_place q g.b) (place_test q g.b b)) reads
 
--- one gate stands at a place
+-- one gate is at a place
 pub gate_one : (n : Net) (p : ℕ) (a b : IsGate n p) → a.gate ≡ b.gate
 gate_one n p a b =
     let same : a.index ≡ b.index = omega (arith, a.place, b.place) in
@@ -62,7 +62,7 @@ behind_tested n leaves p is q e =
     (λ r. or_right (among leaves q && not (q == p)) (reads_test is.gate q) (reads_tested is.gate q (subst (λ (g : Gate). ReadsPlace g q) (gate_one n p r.reader is) r.reads)))
     e
 
--- the places are some of the net's
+-- the places are below a bound
 abbrev pub AreBelow : ℕ → List ℕ → Type 0
 AreBelow bound places = (p : ℕ) → among places p ≡ true → p < bound
 
@@ -77,7 +77,7 @@ opened n leaves bound p net below greatest = (
       (λ q e. (behind_tested n leaves p greatest.gate q e, behind_below n leaves bound p q net below (below p greatest.leaf) e)),
 )
 
--- there is one step
+-- an expansion has one result
 pub opens_one : (n : Net) (leaves a b : List ℕ) → Opens n leaves a → Opens n leaves b → a ≡ b
 opens_one n leaves a b first second =
     let high : first.place ≤ second.place = second.greatest.greatest first.place first.greatest.leaf first.greatest.gate in
@@ -87,7 +87,7 @@ opens_one n leaves a b first second =
 
 -- ---- all steps
 
--- the gates among the leaves stand among the first so many gates
+-- the gates among the leaves are among the first `count` gates
 abbrev HasGatesBelow : Net → ℕ → List ℕ → Type 0
 HasGatesBelow n count leaves = (p : ℕ) → among leaves p ≡ true → IsGate n p → p ≤ n.sources + count
 
@@ -151,12 +151,12 @@ leads n (suc count) bound leaves net below low =
     (λ none. leads n count bound leaves net below (fewer_gates n leaves count low none))
     (greatest_or_not n leaves count low)
 
--- Some places of a net lead to leaves.
+-- Places of a net have leaves,
 pub has_leaves : (n : Net) (places : List ℕ) → IsNet n → AreBelow (n.sources + 1 + length n.gates) places → (leaves : List ℕ) × LeadsTo n places leaves
 has_leaves n places net below =
     leads n (length n.gates) (n.sources + 1 + length n.gates) places net below (λ p leaf gate. omega (arith, (gate_high n p gate).1))
 
--- and to one list of them
+-- and one list of them.
 last_stays : (n : Net) (places last : List ℕ) → IsLast n places → LeadsTo n places last → places ≡ last
 last_stays n _ _ ends (stays leaves e) = refl
 last_stays n _ _ ends (goes_on leaves behind last opens few rest) = absurd (omega (arith, ends behind opens, few))

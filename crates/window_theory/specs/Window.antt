@@ -1,5 +1,5 @@
--- Windows: a root, a partner or none, and a count say which gates a window has (after Kulikov, Pechenev and
--- Slezkin).
+-- Windows: a root (seed), a partner (sibling) or none, and a count determine the gates of a window
+-- (after Kulikov, Pechenev and Slezkin).
 use Rattle.std.specs.Prelude.{◌≡◌, ℕ, ◌≤◌, true, false, List, [], ◌∷◌, length, Option, Some, None, ◌⊎◌}
 use Rattle.net_theory.specs.Net.{Net}
 use Rattle.net_theory.specs.Reach.{is_sink}
@@ -7,7 +7,7 @@ use Rattle.window_theory.specs.Places.{among, IsRising, AreJust}
 use Rattle.window_theory.specs.Paths.{IsGate, Reads, IsConvex}
 use Rattle.window_theory.specs.Partner.{IsPartner}
 
--- a part of a net: some gates, what they read from outside, and what is seen of them outside, all by place
+-- a window, a small subcircuit, by places: its gates, its inputs and its outputs
 pub record Window : Type 0 where
   pub root : ℕ
   pub partner : Option ℕ
@@ -21,13 +21,13 @@ abbrev pub IsRootOrPartner : ℕ → Option ℕ → ℕ → Type 0
 IsRootOrPartner root None p = p ≡ root
 IsRootOrPartner root (Some h) p = (p ≡ root) ⊎ (p ≡ h)
 
--- some gate of these reads the place
+-- the place is a fanin of some gate of `gates`
 pub record IsReadBy (n : Net) (gates : List ℕ) (p : ℕ) : Type 0 where
   pub reader : ℕ
   pub inside : among gates reader ≡ true
   pub reads : Reads n reader p
 
--- a gate that isn't taken, and is the root or the partner, or is read by one that is taken
+-- a gate that isn't taken, and is the root, the partner, or a fanin of a gate that is taken
 pub record IsCandidate (n : Net) (root : ℕ) (partner : Option ℕ) (taken : List ℕ) (p : ℕ) : Type 0 where
   pub gate : IsGate n p
   pub outside : among taken p ≡ false
@@ -37,16 +37,17 @@ pub record IsGreatestCandidate (n : Net) (root : ℕ) (partner : Option ℕ) (ta
   pub candidate : IsCandidate n root partner taken p
   pub greatest : (q : ℕ) → IsCandidate n root partner taken q → q ≤ p
 
--- Gates that were taken one after the other, the first of the list last: each was the greatest candidate.
--- Example: from the root 9, which reads the gates 3 and 8, where 8 reads the gate 6 and a source, come 9, 8, 6,
--- and then 3 or a gate that 6 reads, whichever is the greatest.
+-- Greedy growth: each gate taken is the greatest candidate; the list has the gate taken first at
+-- its end.
+-- Example: from the root 9, which reads the gates 3 and 8, where 8 reads the gate 6 and a source,
+-- come 9, 8, 6, and then 3 or a gate that 6 reads, whichever is the greatest.
 unfoldable pub AreTaken : Net → ℕ → Option ℕ → List ℕ → Type 0
 AreTaken n root partner [] = Unit {0}
 AreTaken n root partner (p ∷ before) = IsGreatestCandidate n root partner before p × AreTaken n root partner before
 
--- ---- what goes in and out
+-- ---- inputs and outputs
 
--- a place outside that a gate inside reads
+-- an input: a place outside that a gate inside reads
 pub record IsInput (n : Net) (gates : List ℕ) (p : ℕ) : Type 0 where
   pub outside : among gates p ≡ false
   pub read : IsReadBy n gates p
@@ -56,13 +57,13 @@ pub record IsReadOutside (n : Net) (gates : List ℕ) (p : ℕ) : Type 0 where
   pub outside : among gates reader ≡ false
   pub reads : Reads n reader p
 
--- a gate inside that a gate outside or a sink reads
+-- an output: a gate inside with a sink or a gate outside as fanout
 pub record IsOutput (n : Net) (gates : List ℕ) (p : ℕ) : Type 0 where
   pub inside : among gates p ≡ true
   pub seen : IsReadOutside n gates p ⊎ (is_sink n p ≡ true)
 
--- A window belongs to a net where its gates are a convex set of its gates, and its inputs and outputs are
--- just those of this set.
+-- A window belongs to a net where its gates are a convex set of gates of the net, and its inputs
+-- and outputs are exactly those of this set.
 pub record Belongs (n : Net) (w : Window) : Type 0 where
   pub rising : IsRising w.gates
   pub gates : (p : ℕ) → among w.gates p ≡ true → IsGate n p
@@ -80,17 +81,18 @@ abbrev pub HasPartner : Option ℕ → List ℕ → Type 0
 HasPartner None gates = Unit {0}
 HasPartner (Some h) gates = among gates h ≡ true
 
--- the gates that are taken are so many, and they are these
+-- `gates` are the first `count` gates that are taken
 pub record Takes (n : Net) (root : ℕ) (partner : Option ℕ) (count : ℕ) (gates : List ℕ) : Type 0 where
   pub taken : List ℕ
   pub are : AreTaken n root partner taken
   pub count_is : length taken ≡ count
   pub gates_are : AreJust (λ p. among taken p ≡ true) gates
 
--- The window of a root, a partner or none, and a count, where it counts: it has that many gates, taken one
--- after the other, the partner is one of them, and there are at most 6 inputs and 8 outputs.
--- Example: where the gates at 3 and 4 are both AND of the places 1 and 2, and both are sinks, the window of
--- 4 with its partner 3 and the count 2 has the gates 3, 4, the inputs 1, 2 and the outputs 3, 4.
+-- The window of a root, a partner or none, and a count, which it must have as many gates as: the
+-- partner is one of them, and there are at most 6 inputs and 8 outputs.
+-- Example: where the gates at 3 and 4 are both AND of the places 1 and 2, and both are sinks, the
+-- window of 4 with its partner 3 and the count 2 has the gates 3, 4, the inputs 1, 2 and the
+-- outputs 3, 4.
 pub record IsWindow (n : Net) (root : ℕ) (partner : Option ℕ) (count : ℕ) (w : Window) : Type 0 where
   pub root_is : w.root ≡ root
   pub partner_is : w.partner ≡ partner

@@ -25,7 +25,7 @@ first = record { index = 0; gate = gate_of 1 (Place 1) (Place 2); at = refl; pla
 abbrev second : IsGate two_ands 4
 second = record { index = 1; gate = gate_of 1 (Place 1) (Place 2); at = refl; place = refl }
 
--- ---- what goes in
+-- ---- the inputs
 
 one_or_two : (q p : ℕ) → Place q ≡ Place p → q ≡ p
 one_or_two q p e = cc
@@ -60,7 +60,7 @@ sources_are_inputs =
       all = λ p is. let low = reads_sources is.read.reader p is.read.reads in low_two p low.0 low.1;
     }
 
--- ---- what goes out
+-- ---- the outputs
 
 rising_gates : IsRising (3 ∷ 4 ∷ [])
 unfolding IsRising
@@ -80,7 +80,7 @@ both_are_outputs =
       all = λ p is. is.inside;
     }
 
--- ---- which gates it has
+-- ---- the gates are taken
 
 root_is_first : IsGreatestCandidate two_ands 4 (Some 3) [] 4
 root_is_first =

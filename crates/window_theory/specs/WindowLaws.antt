@@ -1,4 +1,4 @@
--- The gates of a window stand above all that it reads from outside, so that a window is convex.
+-- The gates of a window are above all its inputs, so that a window is convex.
 use Rattle.std.specs.Prelude.{◌≡◌, ℕ, zero, suc, ◌+◌, ◌-◌, ◌≤◌, ◌<◌, true, false, nat_eq, List, [], ◌∷◌, length, Option, Some, slice_get, ◌⊎◌, refl}
 use Rattle.std.proofs.Common.{arith, sym, ◌∙◌, ap, subst, inl, inr, ⊎_elim, ◌≢◌}
 use Rattle.std.proofs.lemmas.Bool.{eq-eqb, or_left, or_parts, both_ways, cases_Bool, cases_lt}
@@ -10,14 +10,14 @@ use Rattle.window_theory.specs.PlaceLaws.{among_cases, just_same}
 use Rattle.window_theory.specs.Paths.{IsGate, Reads, LeadsUp, at_once, by_way_of, IsConvex}
 use Rattle.window_theory.specs.Window.{Window, IsReadBy, IsCandidate, IsGreatestCandidate, AreTaken, IsInput, IsOutput, Takes, Belongs, IsWindow}
 
--- ---- places that are read
+-- ---- fanins
 
 some_there : {A : Type 0} (xs : List A) (i : ℕ) → i < length xs → (x : A) × (slice_get xs i ≡ Some x)
 some_there [] i low = absurd (omega arith)
 some_there (x ∷ xs) zero low = (x, refl)
 some_there (x ∷ xs) (suc i) low = some_there xs i (omega arith)
 
--- what a gate reads is a place below it
+-- a fanin of a gate is a place below it
 pub reads_low : (n : Net) (g p : ℕ) → IsNet n → Reads n g p → (1 ≤ p) × (p < g)
 reads_low n g p net r =
     let low = reads_below (n.sources + 1 + r.reader.index) p r.reader.gate (net.gates.each r.reader.index r.reader.gate r.reader.at) r.reads in
@@ -26,7 +26,7 @@ reads_low n g p net r =
 pub gate_high : (n : Net) (g : ℕ) → IsGate n g → (n.sources < g) × (g < n.sources + 1 + length n.gates)
 gate_high n g is = (omega (arith, is.place), omega (arith, is.place, slice_get_within n.gates is.index is.gate is.at))
 
--- at a place between the sources and the end stands a gate
+-- a gate is at each place after the sources and below the end
 pub gate_at : (n : Net) (p : ℕ) → n.sources + 1 ≤ p → p < n.sources + 1 + length n.gates → IsGate n p
 gate_at n p above within =
     let index : ℕ = p - (n.sources + 1) in
@@ -34,7 +34,7 @@ gate_at n p above within =
     let at = some_there n.gates index low in
     record { index = index; gate = at.0; at = at.1; place = omega arith }
 
--- a place that is read is a source or a gate
+-- a fanin is a source or a gate
 pub source_or_gate : (n : Net) (g p : ℕ) → IsNet n → Reads n g p → (p ≤ n.sources) ⊎ IsGate n p
 source_or_gate n g p net r =
     let low = reads_low n g p net r in
@@ -61,7 +61,7 @@ not_first p q places e same = both_ways (among (p ∷ places) q) e (or_left (nat
 not_later : (p q : ℕ) (places : List ℕ) → among (p ∷ places) q ≡ false → among places q ≡ false
 not_later p q places e = (or_parts (nat_eq q p) (among places q) e).1
 
--- a gate that could be taken and isn't stands below the one that was taken last
+-- a candidate that isn't taken is below the gate that was taken last
 pub below_last : (n : Net) (root : ℕ) (partner : Option ℕ) (t : ℕ) (before : List ℕ) (p : ℕ) → IsNet n → IsGreatestCandidate n root partner before t → IsCandidate n root partner (t ∷ before) p → p < t
 below_last n root partner t before p net greatest is =
     let other : p ≢ t = not_first t p before is.outside in
@@ -74,7 +74,7 @@ below_last n root partner t before p net greatest is =
     (among_cases t read.reader before read.inside))
     is.why
 
--- So the gates that are taken fall.
+-- So the gates are taken in descending order,
 pub taken_rising : (n : Net) (root : ℕ) (partner : Option ℕ) (taken : List ℕ) → IsNet n → AreTaken n root partner taken → IsRising taken
 unfolding AreTaken IsRising
 taken_rising n root partner [] net are = tt
@@ -84,7 +84,7 @@ taken_rising n root partner (p ∷ t ∷ before) net are =
     let last : p < t = below_last n root partner t before p net are.1.0 are.0.candidate in
     (λ q e. ⊎_elim (λ (same : q ≡ t). omega arith) (λ later. omega (arith, last, rest.0 q later)) (among_cases t q before e), rest)
 
--- and are gates
+-- and are gates.
 pub taken_gate : (n : Net) (root : ℕ) (partner : Option ℕ) (taken : List ℕ) (p : ℕ) → AreTaken n root partner taken → among taken p ≡ true → IsGate n p
 unfolding AreTaken
 taken_gate n root partner [] p are e = absurd cc
@@ -94,7 +94,8 @@ taken_gate n root partner (t ∷ before) p are e =
     (λ earlier. taken_gate n root partner before p are.1 earlier)
     (among_cases t p before e)
 
--- What isn't taken and is read by a gate that is stands below all that are taken.
+-- A place that isn't taken and is a fanin of a gate that is taken is below all gates that are
+-- taken.
 pub outside_low : (n : Net) (root : ℕ) (partner : Option ℕ) (taken : List ℕ) (p q : ℕ) → IsNet n → AreTaken n root partner taken → among taken p ≡ false → IsReadBy n taken p → among taken q ≡ true → p < q
 unfolding AreTaken IsRising
 outside_low n root partner [] p q net are outside read inside = absurd cc
@@ -118,7 +119,7 @@ pub input_low : (n : Net) (root : ℕ) (partner : Option ℕ) (count : ℕ) (gat
 input_low n root partner count gates p q net takes is inside =
     outside_low n root partner takes.taken p q net takes.are (not_taken takes.taken gates p takes.gates_are is.outside) (read_taken n takes.taken gates p takes.gates_are is.read) (takes.gates_are.only q inside)
 
--- a path into the gates enters them by a place outside
+-- a path into a set of gates enters it from a place outside
 entered : (n : Net) (gates : List ℕ) (q r : ℕ) → IsNet n → LeadsUp n q r → among gates q ≡ false → among gates r ≡ true → (x : ℕ) × (q ≤ x) × IsInput n gates x
 entered n gates _ _ net (at_once q r reads) outside inside =
     (q, omega arith, record { outside = outside; read = record { reader = r; inside = inside; reads = reads } })
@@ -151,7 +152,7 @@ window_belongs n root partner count w net is =
       outputs = is.outputs;
     }
 
--- ---- one window
+-- ---- uniqueness
 
 pub taken_one : (n : Net) (root : ℕ) (partner : Option ℕ) (xs ys : List ℕ) → AreTaken n root partner xs → AreTaken n root partner ys → length xs ≡ length ys → xs ≡ ys
 unfolding AreTaken
@@ -172,7 +173,7 @@ gates_one n root partner count gates others a b =
 abbrev made : ℕ → Option ℕ → List ℕ → List ℕ → List ℕ → Window
 made root partner gates inputs outputs = record { root = root; partner = partner; gates = gates; inputs = inputs; outputs = outputs }
 
--- A root, a partner or none, and a count have one window at most.
+-- A root, a partner or none, and a count have at most one window.
 pub window_one : (n : Net) (root : ℕ) (partner : Option ℕ) (count : ℕ) (w v : Window) → IsWindow n root partner count w → IsWindow n root partner count v → w ≡ v
 window_one n root partner count w v a b =
     let gates : w.gates ≡ v.gates = gates_one n root partner count w.gates v.gates a.takes b.takes in

@@ -1,8 +1,10 @@
-//! Windows of a net: small parts that a shorter chain can take the place of. The definitions say which gates
-//! a root, a partner and a count take, what goes in and out, and what a window has to compute on the rows
-//! that its surround lets happen (`specs/Window.antt`, `Surround.antt`, `Care.antt`), and what a chain in its
-//! place gives (`specs/Splice.antt`). The laws rest on one fact: what a window reads from outside stands below all its
-//! gates; and on one notion of values, those of a net where some places are given bits.
+//! Windows of a net: small subcircuits for which a shorter chain can be substituted. The
+//! definitions say which gates a root (seed), a partner (sibling) and a count take by greedy
+//! growth, the inputs and outputs, the specification of a window with satisfiability don't-cares
+//! (SDC), found by its surround, a bounded fanin cone (`specs/Window.antt`, `Surround.antt`,
+//! `Care.antt`), and the net after a substitution (`specs/Splice.antt`). The laws rest on one fact:
+//! the inputs of a window are below all its gates; and on one notion of values, those of a net
+//! where the bits of some places are fixed.
 #![tactic(auto)]
 
 pub mod examples;

@@ -1,4 +1,5 @@
--- The place goes where it is said, and the gate that was looked up is the one with its operands where they went.
+-- The place is mapped as the definition says, and the gate that is looked up has its operands
+-- mapped.
 use Rattle.std.proofs.Common.{subst, ap, ◌∙◌}
 use Rattle.net_theory.specs.declared.data.Sig.{Sig}
 use Rattle.net_theory.specs.Expansion.{gate_of}

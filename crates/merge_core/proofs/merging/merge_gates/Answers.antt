@@ -1,4 +1,4 @@
--- One gate more is merged, and in the end all.
+-- One more gate is merged, and in the end all are.
 use Rattle.std.proofs.Common.{ap, subst, ◌∙◌, ℕ, ◌+◌}
 use Rattle.net_core.specs.Marks.{kept}
 use Rattle.merge_core.specs.Merging.{IsPassed}
