@@ -27,6 +27,7 @@ mod op;
 mod text;
 mod values;
 mod word;
+mod words;
 
 pub use basis::Basis;
 pub use error::BasisError;
@@ -34,3 +35,4 @@ pub use op::Op;
 pub use text::{read_basis, write_basis};
 pub use values::swapped;
 pub use word::{read_operator, write_operator};
+pub use words::{Masks, combine, input_word, masks_for, on_words, spread};
