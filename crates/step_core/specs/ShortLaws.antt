@@ -25,7 +25,8 @@ use Rattle.chain_core.specs.Steps.{steps_of, IsSmallChain}
 use Rattle.chain_core.specs.declared.step.Step as held
 use Rattle.chain_core.specs.StepLaws.{no_steps, more_in_front}
 use Rattle.step_core.specs.Short.{IsShort}
-use Rattle.step_core.specs.Steps.{input_word, step_word, misses, meets_all, serves, pair_serves, second_serves, first_serves, IsServing, placed, out_for, outs_among}
+use Rattle.op_basis.specs.WordOperator.{input_word, on_words}
+use Rattle.step_core.specs.Steps.{misses, meets_all, serves, pair_serves, second_serves, first_serves, IsServing, placed, out_for, outs_among}
 use Rattle.step_core.specs.WordLaws.{step_row, not_missed, never_missed}
 
 -- ---- numbers that don't pass
@@ -98,7 +99,7 @@ step_value_is c s n t same are e =
 
 -- the word that the walk compares
 abbrev word_of : ℕ → Step → ℕ
-word_of n s = step_word s.op (input_word (n - s.j)) (input_word (n - s.k))
+word_of n s = on_words s.op (input_word (n - s.j)) (input_word (n - s.k))
 
 word_row : (n t : ℕ) (s : Step) → n ≤ 6 → IsStepAt (n + 1) s → t < 2 ^ n → digit (word_of n s) t ≡ apply s.op (input n t s.j) (input n t s.k)
 word_row n t s few at low = step_row n s.op s.j s.k t few at.j_from (omega (arith, at.j_below)) at.k_from (omega (arith, at.k_below)) low

@@ -5,9 +5,9 @@ ghost use Rattle.chain_core.specs.Steps.{step_of};
 ghost use Rattle.bound_core.specs.Counts.{some_below};
 ghost use Rattle.step_core.specs.Steps.{serves as serves_of, pair_serves, second_serves, first_serves, IsServing};
 
-use crate::words::{input_word, serves};
+use crate::words::serves;
 use chain_core::Step;
-use op_basis::{Basis, Op};
+use op_basis::{Basis, Op, input_word};
 use tt_core::Spec;
 
 /// The first operator that serves on two words.
