@@ -3,7 +3,7 @@ use Rattle.std.specs.Prelude.{ℕ, ◌==◌, Bool, true, false, not, if◌then�
 use Rattle.chain_theory.specs.Operator.{apply}
 use Rattle.op_basis.specs.declared.words.Masks.{Masks}
 
--- the word all of whose 64 bits are this one
+-- the word all of whose 64 bits are `bit`
 abbrev pub spread : Bool → ℕ
 spread bit = if bit then 0xffff_ffff_ffff_ffff else 0
 

@@ -23,7 +23,7 @@ pub fn spread(bit: bool) -> u64
     if bit { u64::MAX } else { 0 }
 }
 
-/// Exclusive or. For the prover: `a ^ b` in the form in which its definition computes.
+/// For the prover: `a ^ b`, by cases as the definition has it.
 fn differ(a: bool, b: bool) -> bool
     ensures { result ≡ differ_of a b }
 {
@@ -46,7 +46,7 @@ pub fn masks_for(op: Op) -> Masks
     }
 }
 
-/// The operator with these coefficients on each of 64 pairs of bits.
+/// The operator whose coefficients are `masks` on each of 64 pairs of bits.
 #[tactic(auto, unfolding(crate::specs::WordOperator::combined))]
 pub fn combine(masks: Masks, a: u64, b: u64) -> u64
     ensures { result ≡ combined masks a b }
