@@ -13,6 +13,9 @@ use crate::words::next_word;
 use net_document::{Cube, NetError};
 use std::alloc::Global;
 
+/// The most cover lines of a table.
+pub const MOST_CUBES: usize = 4096;
+
 /// The byte 0 or 1 alone.
 #[tactic(auto, unfolding(crate::specs::Rows::bit_in))]
 fn bit_in(word: &[u8]) -> Option<bool>
@@ -34,14 +37,14 @@ fn are_cube_bytes(bytes: &[u8]) -> bool
         .all(|byte| *byte == b'0' || *byte == b'1' || *byte == b'-')
 }
 
-/// Whether these bytes are a cube of so many inputs.
+/// Whether the bytes are a cube of `width` inputs.
 fn is_cube(width: u32, bytes: &[u8]) -> bool
     ensures { result ≡ is_cube_of width bytes.now }
 {
     bytes.len() == width as usize && are_cube_bytes(bytes)
 }
 
-/// The cube and the value of a cover line in a table of so many inputs.
+/// The cube and the value of a cover line in a table of `width` inputs.
 #[tactic(auto, unfolding(crate::specs::Rows::row_in))]
 fn row_in(width: u32, text: &[u8]) -> Option<(&[u8], bool)>
     ensures { row_found result ≡ row_in_of width (words_of text.now) }
@@ -59,7 +62,7 @@ fn row_in(width: u32, text: &[u8]) -> Option<(&[u8], bool)>
     Some((first, bit_in(value)?))
 }
 
-/// Whether two values are one.
+/// For the prover: `one == other`, by cases as the definition has it.
 fn agrees(one: bool, other: bool) -> bool
     ensures { result ≡ agrees_of one other }
 {
@@ -79,7 +82,7 @@ pub fn take_row(
     let Some((cube, on)) = row_in(table.cover.width, text) else {
         return Err(NetError::Syntax(line));
     };
-    if table.cover.cubes.len() >= 4096 {
+    if table.cover.cubes.len() >= MOST_CUBES {
         return Err(NetError::TooManyRows(line));
     }
     if !table.cover.cubes.is_empty() && !agrees(on, table.cover.on) {

@@ -38,7 +38,7 @@ pub fn next_word(text: &[u8]) -> Option<(&[u8], &[u8])>
     Some((start, left))
 }
 
-/// Whether a word is this one.
+/// For the prover: `word == this` of two slices, as a function of its own.
 pub fn is_word(word: &[u8], this: &[u8]) -> bool
     ensures { result ≡ is_same word.now this.now }
 {

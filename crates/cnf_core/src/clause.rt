@@ -47,12 +47,4 @@ impl Clause {
     {
         self.lits.iter().all(|lit| lit.variable() <= vars)
     }
-
-    /// Its literals, given back.
-    pub fn into_lits(self) -> Vec<Lit>
-        ensures value { result.items ≡ self }
-        ensures whole { IsClause self }
-    {
-        self.lits
-    }
 }

@@ -141,14 +141,14 @@ dead_names : (s : Specification) (h : ℕ) (o : Option Out) → trivial_of s h �
 dead_names s h None e dead = absurd cc
 dead_names s h (Some out) e dead = trivial_names s.inputs s.inputs out (omega arith) (found_first s h out e).trivial
 
--- each output is met, where the live ones are met by the first place behind the inputs
+-- each output is met, where the live ones are met by the first place after the inputs
 placed_met : (s : Specification) (c : Chain) (h t : ℕ) (o : Option Out) → c.n ≡ s.inputs → trivial_of s h ≡ o → t < 2 ^ s.inputs → (is_none o ≡ true → is_met (s.cell h t) (value c t (s.inputs + 1)) ≡ true) → is_met (s.cell h t) (out_value c t (placed s.inputs o)) ≡ true
 placed_met s c h t None same e low live = live refl
 placed_met s c h t (Some out) same e low live =
     let first = found_first s h out e in
     ap (is_met (s.cell h t)) (trivial_is c s.inputs t out same first.trivial) ∙ fits_meets s h out first.fitting t low
 
--- a chain with these steps and these outs
+-- a chain with the steps `steps` and the outs of its outputs
 abbrev made : Specification → List Step → Chain
 made s steps = record { n = s.inputs; steps = steps; outs = outs_among s s.outputs }
 

@@ -20,11 +20,11 @@ misses w word i = not (bit_and (bit_xor word (slice_index w.on i)) (slice_index 
 unfoldable pub meets_all : Words → ℕ → Bool
 meets_all w word = not (some_below (misses w word) (length w.on))
 
--- a member makes such a word of two words
+-- a member makes of two words a word that has the values of all outputs
 unfoldable pub serves : Words → Basis → ℕ → ℕ → ℕ → Bool
 serves w basis a b op = basis op && meets_all w (on_words op a b)
 
--- some member does of inputs j and k
+-- some member does, of inputs j and k
 unfoldable pub pair_serves : Words → Basis → ℕ → ℕ → Bool
 pair_serves w basis j k = some_below (serves w basis (input_word (w.n - j)) (input_word (w.n - k))) 16
 
@@ -36,14 +36,14 @@ second_serves w basis j i = pair_serves w basis j (i + 1)
 unfoldable pub first_serves : Words → Basis → ℕ → Bool
 first_serves w basis i = some_below (second_serves w basis (i + 1)) w.n
 
--- A step at the first place behind the inputs whose operator is a member, and whose values are those of all outputs.
+-- A step at the first place after the inputs whose operator is a member, and whose values are those of all outputs.
 pub record IsServing (w : Words) (basis : Basis) (s : Step) : Type 0 where
   pub at : IsStepAt (w.n + 1) s
   pub served : serves w basis (input_word (w.n - s.j)) (input_word (w.n - s.k)) s.op ≡ true
 
 -- ---- outs
 
--- the first place behind the inputs, where there is no trivial out
+-- the first place after the inputs, where there is no trivial out
 abbrev pub placed : ℕ → Option Out → Out
 placed n None = Place (n + 1)
 placed n (Some out) = out

@@ -82,7 +82,7 @@ fn any_step(spec: &Spec, basis: Basis) -> Option<Step>
     None
 }
 
-/// A step that serves; where one on a single input does, such a one.
+/// A step that serves; where one on a single input does, one of those.
 pub(crate) fn serving_step(spec: &Spec, basis: Basis) -> Option<Step>
     ensures some { IfSome result (λ step. IsServing spec.now (members basis) (step_of step)) }
     ensures none { IfNone result (some_below (first_serves spec.now (members basis)) spec.now.n ≡ false) }

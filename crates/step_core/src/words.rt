@@ -1,4 +1,4 @@
-//! Words of 64 rows: those of inputs, of a step, and whether all outputs ask for the values of a word.
+//! Words of 64 rows: whether all outputs ask for the values of a word, and whether an operator makes one of two words.
 ghost use Rattle.std.specs.Prelude.{◌≡◌, ◌<◌, length};
 ghost use Rattle.op_basis.specs.Basis.{members};
 ghost use Rattle.step_core.specs.Steps.{misses as misses_of, meets_all as meets_all_of, serves as serves_of};
@@ -12,7 +12,7 @@ fn misses(spec: &Spec, word: u64, output: u32) -> bool
     requires { output < length spec.now.on }
     ensures { result ≡ misses_of spec.now word output }
 {
-    // brings what the type of tables says
+    // brings the specification's invariant into the proof
     let _inputs = spec.n();
     (word ^ spec.on()[output as usize]) & spec.care()[output as usize] != 0
 }
@@ -30,7 +30,7 @@ fn meets_all(spec: &Spec, word: u64) -> bool
     true
 }
 
-/// Whether an operator is a member and makes such a word of two words.
+/// Whether an operator is a member and makes of two words a word that has the values of all outputs.
 #[tactic(auto, unfolding(crate::specs::Steps::serves))]
 pub(crate) fn serves(spec: &Spec, basis: Basis, a: u64, b: u64, op: Op) -> bool
     ensures { result ≡ serves_of spec.now (members basis) a b op }
