@@ -1,4 +1,4 @@
-//! What the definitions come to. Each law is the contract of a function that does nothing.
+//! What follows from the definitions. Each law is the contract of a function that does nothing.
 ghost use Rattle.std.specs.Prelude.{ℕ, ℤ, List, Option};
 ghost use Rattle.sat_theory.specs.Log.{IsNew};
 ghost use Rattle.cdcl_theory.specs.Falling.{IsClosed, IsUnitUnder};

@@ -21,7 +21,7 @@ bits-set values place bit inside = λ i p. bits_set_at values place bit p inside
 pub record SameUpTo (last : ℕ) (f g : ℕ → Bool) : Type 0 where
   pub each : (p : ℕ) → 1 ≤ p → p ≤ last → f p ≡ g p
 
--- one more step on places that agree
+-- two runs that agree still do after one more step
 same_extended : (n : ℕ) (s : Step) (f g : ℕ → Bool) → IsStepAt (n + 1) s → SameUpTo n f g → SameUpTo (n + 1) (extended f (n + 1) (step_value f s)) (extended g (n + 1) (step_value g s))
 same_extended n s f g at same =
     let js : f s.j ≡ g s.j = same.each s.j at.j_from (omega (arith, at.j_below)) in
@@ -43,7 +43,7 @@ pub values_after-set : (values : List Bool) (last : ℕ) (s : Step) (ss : List S
 unfolding values_after
 values_after-set values last s ss bit inside e = rw (bits-set values (last + 1) bit inside, e) refl
 
--- the value of a place stands in the list where the inputs' bits and then the steps were put there
+-- the value of a place is in the list after the inputs' bits and the steps' values were put there
 pub value_is : (values inputs : List Bool) (n t : ℕ) (steps : List Step) (place : ℕ) → bits values ≡ values_after (bits inputs) (n + 1) steps → ((p : ℕ) → 1 ≤ p → p ≤ n → bits inputs p ≡ input n t p) → AreSteps n steps → 1 ≤ place → place ≤ n + length steps → slice_index_or values place false ≡ values_on n t steps place
 unfolding bits
 value_is values inputs n t steps place ran put are from to =

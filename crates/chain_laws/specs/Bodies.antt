@@ -28,18 +28,18 @@ chain_of n r b = record { n = n; steps = rebuilt b.step r; outs = b.outs }
 abbrev pub bits_of : ℕ → ℕ → (ℕ → Step) → ℕ → ℕ → Bool
 bits_of n r step t = values_on n t (rebuilt step r)
 
--- what an out is, where the places have these bits
+-- the value of an out, where the places have the given bits
 abbrev pub out_bit : (ℕ → Bool) → Out → Bool
 out_bit bits Zero = false
 out_bit bits One = true
 out_bit bits (Place p) = bits p
 
--- each step stands at its place
+-- the operands of each step are lower places
 abbrev pub AreBelow : ℕ → ℕ → (ℕ → Step) → Type 0
 AreBelow n r step = (i : ℕ) → i < r → IsStepAt (n + 1 + i) (step i)
 
--- A chain of r steps over the basis that agrees with the specification; each step's place has a
--- height above those of its operands, and none has one above d.
+-- A chain of r steps over the basis that agrees with the specification; the height of each step's
+-- place is above those of its operands, and none is above d.
 pub record Fits (s : Specification) (basis : Basis) (r d : ℕ) (b : Body) : Type 0 where
   pub below : AreBelow s.inputs r b.step
   pub over : (i : ℕ) → i < r → basis (b.step i).op ≡ true
@@ -70,7 +70,7 @@ bits_are n r step below t bits inputs follow p from low =
     (λ i a at. let here = rebuilt_at step r i a at in follow i here.0 ∙ ap (step_value bits) (sym here.1))
     p from (omega (arith, rebuilt_length step r))
 
--- Fewer steps have the same values at their places.
+-- A prefix of the steps has the same values at its places.
 pub front_bits : (n r : ℕ) (step : ℕ → Step) → AreBelow n r step → (k : ℕ) → k ≤ r → (t p : ℕ) → 1 ≤ p → p < n + 1 + k → bits_of n k step t p ≡ bits_of n r step t p
 front_bits n r step below k less t p from low =
     bits_are n k step (λ i inside. below i (omega arith)) t (bits_of n r step t)
@@ -89,7 +89,7 @@ out_value_is c t Zero = refl
 out_value_is c t One = refl
 out_value_is c t (Place p) = refl
 
--- the out of an output is named as the outs are
+-- the out of an output is a constant or a place up to the last
 pub out_named : (last h m : ℕ) (outs : List Out) → length outs ≡ m → 1 ≤ h → h ≤ m → All (NamesPlace last) outs → NamesPlace last (slice_index_or outs (h - 1) Zero)
 out_named last h m outs count from low all = All-get_or (NamesPlace last) outs (h - 1) Zero (omega arith) all
 

@@ -19,7 +19,7 @@ use Rattle.chain_laws.specs.Settled.{IsSettled, paired_same}
 
 -- ---- operators
 
--- a bit, complemented where that is said
+-- a bit, complemented where the flag is set
 abbrev pub flip : Bool → Bool → Bool
 flip on bit = if on then not bit else bit
 
@@ -28,7 +28,8 @@ flip_twice true true = refl
 flip_twice true false = refl
 flip_twice false bit = refl
 
--- an operator with its first operand, its second operand and its value complemented, where that is said
+-- an operator with its first operand, its second operand and its value complemented, each where its
+-- flag is set
 unfoldable pub flipped : Bool → Bool → Bool → ℕ → ℕ
 flipped first second own op =
     let one : ℕ = if first then first_complemented op else op in
@@ -74,7 +75,7 @@ flipped_member basis closed op low member first second own =
 
 -- ---- chains
 
--- a step whose value and operands are complemented where that is said of their places
+-- a step whose value and operands are complemented where the flags of their places are set
 abbrev pub complemented : (ℕ → Bool) → ℕ → Step → Step
 complemented on place a = record { j = a.j; k = a.k; op = flipped (on a.j) (on a.k) (on place) a.op }
 
@@ -109,7 +110,7 @@ kept_out on bits Zero off = refl
 kept_out on bits One off = refl
 kept_out on bits (Place p) off = ap (λ (x : Bool). flip x (bits p)) (off p refl)
 
--- A chain with some steps complemented that are no outs agrees too.
+-- A chain with some steps complemented that aren't outs agrees too.
 pub complemented_fits : (s : Specification) (basis : Basis) (r d : ℕ) (b : Body) → Fits s basis r d b → polarity_closed basis ≡ true → (on : ℕ → Bool) → ((p : ℕ) → p ≤ s.inputs → on p ≡ false) → ((h p : ℕ) → h < length b.outs → slice_index_or b.outs h Zero ≡ Place p → on p ≡ false) → Fits s basis r d (complemented_body s.inputs on b)
 complemented_fits s basis r d b fits closed on inputs off =
     let n : ℕ = s.inputs in
@@ -166,7 +167,7 @@ flipped_negation basis closed op low member first second own negation =
     (twice_negated second own))
     negation
 
--- Complementing keeps what the fall of keys has settled.
+-- Complementing keeps what the descent of keys has settled.
 pub complemented_settled : (s : Specification) (basis : Basis) (r d : ℕ) (b : Body) → Fits s basis r d b → (HasFewer s basis r → ⊥) → polarity_closed basis ≡ true → (on : ℕ → Bool) → IsSettled s basis r b.step → IsSettled s basis r (λ k. complemented on (s.inputs + 1 + k) (b.step k))
 complemented_settled s basis r d b fits none closed on settled = record {
   paired = paired_same s basis r b.step (λ k. complemented on (s.inputs + 1 + k) (b.step k)) (λ k. inl (refl, refl)) settled.paired;

@@ -1,8 +1,8 @@
--- Searches below a bound, and descents.
+-- Searches below a bound, and descents along a measure.
 use Rattle.std.proofs.Common.{◌≡◌, ℕ, zero, suc, ◌+◌, ◌≤◌, ◌<◌, Bool, true, false, arith, inl, inr, ⊎_elim, ◌⊎◌, subst}
 use Rattle.std.proofs.lemmas.Bool.{cases_lt, cases_Bool, both_ways}
 
--- it holds, or it doesn't
+-- P holds, or it doesn't
 abbrev pub IsDecided : Type 0 → Type 0
 IsDecided P = P ⊎ (P → ⊥)
 
@@ -33,7 +33,7 @@ decided_lt a b = ⊎_elim (λ (low : a < b). inl low) (λ (high : b ≤ a). inr 
 pub decided_true : (b : Bool) → IsDecided (b ≡ true)
 decided_true b = ⊎_elim (λ (holds : b ≡ true). inl holds) (λ (fails : b ≡ false). inr (both_ways b fails)) (cases_Bool b)
 
--- the first number below a bound at which it holds
+-- the first number below a bound at which P holds
 abbrev pub IsFirst : (ℕ → Type 0) → ℕ → ℕ → Type 0
 IsFirst P bound i = (i < bound) × P i × ((k : ℕ) → k < i → P k → ⊥)
 
@@ -50,7 +50,7 @@ search P decided (suc bound) = ⊎_elim
     (decided bound))
     (search P decided bound)
 
--- somewhere below a bound it holds
+-- P holds somewhere below a bound
 abbrev pub IsSomewhere : (ℕ → Type 0) → ℕ → Type 0
 IsSomewhere P bound = (i : ℕ) × (i < bound) × P i
 
@@ -66,7 +66,7 @@ decided_everywhere P decided bound = ⊎_elim
     (λ (none : (i : ℕ) → i < bound → (P i → ⊥) → ⊥). inl (λ i low. ⊎_elim (λ (here : P i). here) (λ (not_here : P i → ⊥). absurd (none i low not_here)) (decided i)))
     (search (λ i. P i → ⊥) (λ i. decided_not (P i) (decided i)) bound)
 
--- what a descent comes to
+-- an element with both properties is reached
 pub record IsReached {A : Type 0} (P R : A → Type 0) : Type 0 where
   pub at : A
   pub kept : P at
@@ -84,6 +84,6 @@ descend_below P R size next (suc bound) a low p = ⊎_elim
     (λ (further : IsLower P size a). descend_below P R size next bound further.at (omega (arith, further.lower)) further.kept)
     (next a p)
 
--- Where each that isn't there leads to a smaller one, one that is there is reached.
+-- Where each element without R leads to one of smaller size, one with R is reached.
 pub descend : {A : Type 0} (P R : A → Type 0) (size : A → ℕ) → ((a : A) → P a → R a ⊎ IsLower P size a) → (a : A) → P a → IsReached P R
 descend P R size next a p = descend_below P R size next (size a + 1) a (omega arith) p

@@ -68,8 +68,8 @@ exchange_moves s basis r d b fits i low unread =
       below = exchange_below n r b.step fits.below i low unread;
     }
 
--- Where a step's pair comes before that of the step below it, the two don't read one another and can be
--- exchanged; the keys fall.
+-- Where a step's pair comes before that of the step below it, neither reads the other and they can
+-- be exchanged; the keys decrease.
 pub exchanged_lower : (s : Specification) (basis : Basis) (r d : ℕ) (b : Body) → Fits s basis r d b → (i : ℕ) → i + 1 < r → ComesBefore (b.step (i + 1)) (b.step i) → IsLower (Fits s basis r d) (λ x. rank (s.inputs + r + 1) r x.step) b
 exchanged_lower s basis r d b fits i low before =
     let n : ℕ = s.inputs in

@@ -1,4 +1,4 @@
--- What the places of a chain have, each step after the others: values, and levels too.
+-- Functions of a chain's places that are determined step by step: values, and levels too.
 use Rattle.std.proofs.Common.{◌≡◌, ℕ, zero, suc, ◌+◌, ◌≤◌, ◌<◌, ◌==◌, Bool, List, [], ◌∷◌, ◌++◌, length, Some, refl, sym, ap, ◌∙◌, arith, inl, inr, ⊎_elim, add-zero, ◌-◌, ◌⊎◌, get_or, subst}
 use Rattle.std.specs.Prelude.{slice_get, slice_index_or, map, if◌then◌else◌}
 use Rattle.std.specs.List.{All, range_with_len}
@@ -13,27 +13,27 @@ use Rattle.chain_theory.specs.Value.{extended, step_value, values_after, values_
 
 -- ---- a run over the steps
 
--- what the places have, with that of one place set
+-- the function, changed at one place
 abbrev pub with_own : {V : Type 0} → (ℕ → V) → ℕ → V → ℕ → V
 with_own has place own p = if p == place then own else has p
 
--- Each step in turn gives its place what f makes of what the places have, the first the place that
--- is given.
--- Example: where f adds 1 to the larger of what the operands have, and inputs have 0, this is the
+-- Each step in turn gives its place what f makes of the places so far; the first one is at the
+-- given place.
+-- Example: where f adds 1 to the larger number of the operands, and inputs have 0, this is the
 -- level of a place.
 unfoldable pub run : {V : Type 0} → ((ℕ → V) → Step → V) → (ℕ → V) → ℕ → List Step → ℕ → V
 run f has place [] = has
 run f has place (s ∷ ss) = run f (with_own has place (f has s)) (place + 1) ss
 
--- f looks at a step and at what its operands have, and at nothing else
+-- f depends on the step and its operands alone
 pub record IsLocal {V : Type 0} (f : (ℕ → V) → Step → V) : Type 0 where
   pub same : (a b : ℕ → V) (s : Step) → a s.j ≡ b s.j → a s.k ≡ b s.k → f a s ≡ f b s
 
--- each step's place has what f makes of it, the first at the place that is given
+-- each step's place has what f makes of it; the first one is at the given place
 pub record FollowsAt {V : Type 0} (f : (ℕ → V) → Step → V) (has : ℕ → V) (place : ℕ) (steps : List Step) : Type 0 where
   pub each : (i : ℕ) (s : Step) → slice_get steps i ≡ Some s → has (place + i) ≡ f has s
 
--- operands are places below, the first step standing at the place that is given
+-- operands are lower places; the first step is at the given place
 pub record AreStepsAt (place : ℕ) (steps : List Step) : Type 0 where
   pub each : (i : ℕ) (s : Step) → slice_get steps i ≡ Some s → IsStepAt (place + i) s
 
@@ -43,7 +43,7 @@ own_has has place p own e = grind (arith, nat_tests)
 pub other_has : {V : Type 0} (has : ℕ → V) (place p : ℕ) (own : V) → (p ≡ place → ⊥) → with_own has place own p ≡ has p
 other_has has place p own other = grind (arith, nat_tests)
 
--- Steps leave the places below them as they are.
+-- Steps don't change lower places.
 pub run_below : {V : Type 0} (f : (ℕ → V) → Step → V) (has : ℕ → V) (place : ℕ) (steps : List Step) (p : ℕ) → p < place → run f has place steps p ≡ has p
 unfolding run
 run_below f has place [] p low = refl
@@ -66,7 +66,7 @@ later_follow f has place s ss follows = record {
   each = λ i t at. let e : (place + 1) + i ≡ place + suc i = omega arith in ap has e ∙ follows.each (suc i) t at;
 }
 
--- What begins as the run begins and follows each step is what the run gives.
+-- What begins as the run and follows each step is the run.
 pub determined : {V : Type 0} (f : (ℕ → V) → Step → V) → IsLocal f → (given has : ℕ → V) (place : ℕ) (steps : List Step) → AreStepsAt place steps → FollowsAt f has place steps → ((p : ℕ) → 1 ≤ p → p < place → given p ≡ has p) → (p : ℕ) → 1 ≤ p → p < place + length steps → run f given place steps p ≡ has p
 unfolding run
 determined f local given has place [] are follows same p from low = same p from (omega arith)
@@ -105,7 +105,7 @@ run_follows {V} f local given place (s ∷ ss) are =
 
 -- ---- values
 
--- a step's value looks at its operands' values alone
+-- a step's value depends on its operands' values alone
 pub value_is_local : IsLocal step_value
 value_is_local = record { same = λ a b s ej ek. rw (ej, ek) refl }
 
@@ -156,7 +156,7 @@ rebuilt_at f r k x at =
 
 -- ---- steps by their index
 
--- the step at an index; behind the last there is one of no meaning
+-- the step at an index; after the last one a default
 unfoldable pub step_at : List Step → ℕ → Step
 step_at steps i = slice_index_or steps i (record { j = 0; k = 0; op = 0 })
 
@@ -210,7 +210,7 @@ push_are_steps n steps u are here = record {
       (push_cases steps u a i at);
 }
 
--- the places below keep their values
+-- lower places keep their values
 pub push_values : (n t : ℕ) (steps : List Step) (u : Step) → AreSteps n steps → IsStepAt (n + 1 + length steps) u → (p : ℕ) → 1 ≤ p → p < n + 1 + length steps → values_on n t steps p ≡ values_on n t (steps ++ u ∷ []) p
 push_values n t steps u are here =
     values_are n t (values_on n t (steps ++ u ∷ [])) steps are

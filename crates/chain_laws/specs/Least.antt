@@ -50,7 +50,7 @@ risen s basis r d b fits is = ⊎_elim
 
 -- ---- row 0
 
--- the bit of what is decided
+-- a decision as a bit
 unfoldable flag : {P : Type 0} → IsDecided P → Bool
 flag (inl holds) = true
 flag (inr fails) = false
@@ -117,7 +117,7 @@ final s basis r d none is = ⊎_elim
 
 -- ---- the law
 
--- what holds of each step by its index holds of the steps of the list
+-- what holds of each step by its index holds of the list's steps
 each_step : (r : ℕ) (step : ℕ → Step) (P : ℕ → Step → Type 0) → ((i : ℕ) → i < r → P i (step i)) → (i : ℕ) (a : Step) → slice_get (rebuilt step r) i ≡ Some a → P i a
 each_step r step P each i a at = let here = rebuilt_at step r i a at in subst (P i) (sym here.1) (each i here.0)
 
@@ -159,8 +159,8 @@ reduced s basis r d none f =
       zero_on_row_0 = λ closed. each_step r b.step (λ i a. (value c 0 (n + 1 + i) ≡ false) ⊎ IsOut c (n + 1 + i)) (f.zero closed);
     }
 
--- Where a chain of r steps and at most d levels agrees, and none of fewer steps does, however many
--- levels it has, a reduced chain of r steps and at most d levels agrees.
+-- Where a chain of r steps and at most d levels agrees, and none of fewer steps does, with any
+-- number of levels, a reduced chain of r steps and at most d levels agrees.
 pub least : (s : Specification) (basis : Basis) (r d : ℕ) → HasChainOfLevels s basis r d → ((q : ℕ) → q < r → HasChain s basis q → ⊥) → HasReducedChain s basis r d
 least s basis r d has none_fewer =
     let none : HasFewer s basis r → ⊥ = λ fewer. none_fewer fewer.count fewer.fewer fewer.chain in

@@ -1,4 +1,4 @@
--- A reduced chain stands in level order.
+-- A reduced chain is in level order.
 use Rattle.std.proofs.Common.{◌≡◌, ℕ, zero, suc, ◌+◌, ◌-◌, ◌≤◌, ◌<◌, length, sym, ap, arith, inl, ⊎_elim, subst}
 use Rattle.std.specs.Prelude.{max}
 use Rattle.std.proofs.lemmas.Option.{slice_get_within}
@@ -14,7 +14,7 @@ use Rattle.chain_laws.specs.Reduced.{IsStep}
 abbrev pub KeysRise : Chain → Type 0
 KeysRise c = (i : ℕ) (a b : Step) → IsStep c i a → IsStep c (i + 1) b → ComesBefore b a → ⊥
 
--- levels don't fall along the places below this one
+-- levels don't decrease along the places below p
 abbrev RiseBelow : Chain → ℕ → Type 0
 RiseBelow c place = (p q : ℕ) → 1 ≤ p → p ≤ q → q < place → level c p ≤ level c q
 
@@ -68,11 +68,11 @@ rise_to c is keys (suc m) low p q from le q_low =
     (cases_lt p q))
     (cases_lt q (n + 1 + m))
 
--- Where keys don't fall, levels don't fall along the places.
+-- Where keys don't decrease, levels don't decrease along the places,
 pub levels_rise : (c : Chain) → IsChain c → KeysRise c → (p q : ℕ) → 1 ≤ p → p ≤ q → q < c.n + 1 + length c.steps → level c p ≤ level c q
 levels_rise c is keys = rise_to c is keys (length c.steps) (omega arith)
 
--- ... and each step's level is one more than that of its larger operand.
+-- and each step's level is 1 + that of its larger operand.
 pub level_of_larger : (c : Chain) → IsChain c → KeysRise c → (i : ℕ) (a : Step) → IsStep c i a → level c (c.n + 1 + i) ≡ 1 + level c (larger a)
 level_of_larger c is keys i a at =
     let inside : i < length c.steps = slice_get_within c.steps i a at in

@@ -17,13 +17,13 @@ use Rattle.chain_laws.specs.Shorter.{sent}
 abbrev pub moved : (ℕ → ℕ) → Step → Step
 moved f a = record { j = f a.j; k = f a.k; op = a.op }
 
--- a chain with its steps taken in another order, and all places renamed
+-- a chain with its steps in another order, and all places renamed
 abbrev pub moved_body : (ℕ → ℕ) → (ℕ → ℕ) → Body → Body
 moved_body f order b = record { step = λ k. moved f (b.step (order k)); outs = map (sent (λ p. Place (f p))) b.outs }
 
 -- Places are renamed by f, which is its own inverse, inputs to inputs; the step of index k becomes
--- that of index order k; and each row goes over into one that has the same cells and gives the
--- renamed inputs the same bits.
+-- that of index order k; and each row is mapped to one with the same cells that gives the renamed
+-- inputs the same bits.
 pub record IsMove (s : Specification) (r : ℕ) (step : ℕ → Step) (f order row : ℕ → ℕ) : Type 0 where
   pub back : (p : ℕ) → f (f p) ≡ p
   pub from : (p : ℕ) → 1 ≤ p → 1 ≤ f p
@@ -59,7 +59,7 @@ moved_bits s basis r d b fits f order row is t =
     ∙ step_bit n r b.step fits.below (row t) (order k) (is.inside k low)
     ∙ sym (ap (λ (x : Bool). apply a.op x (old (f (f a.k)))) (ap old (is.back a.j)) ∙ ap (λ (x : Bool). apply a.op (old a.j) x) (ap old (is.back a.k))))
 
--- inputs at the bottom, and all else as it was
+-- a height that is 0 at inputs, and unchanged elsewhere
 abbrev lowered : ℕ → (ℕ → ℕ) → ℕ → ℕ
 lowered n height p = if leb p n then 0 else height p
 

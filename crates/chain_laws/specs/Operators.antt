@@ -1,4 +1,4 @@
--- What operators and closed bases give, bit by bit.
+-- What operators and closed bases give, value by value.
 use Rattle.std.proofs.Common.{◌≡◌, ℕ, zero, suc, ◌<◌, Bool, true, false, not, refl, ap, ◌∙◌, arith, ⊎_elim}
 use Rattle.std.proofs.lemmas.Bool.{and_parts, and_cases, or_cases, not-true, not-false, both_ways}
 use Rattle.chain_theory.specs.Operator.{apply, Basis}
@@ -34,7 +34,7 @@ fails_below (suc bound) test fails = ⊎_elim
     (λ (last : test bound ≡ false). (bound, omega arith, last))
     (and_cases (every_below bound test) (test bound) fails)
 
--- A test that doesn't pass at all fails at one.
+-- A test that doesn't pass for all operators fails for one.
 pub fails_at : (test : ℕ → Bool) → every test ≡ false → (op : ℕ) × (op < 16) × (test op ≡ false)
 fails_at test fails = fails_below 16 test fails
 
@@ -62,8 +62,8 @@ negation_from basis has =
     let both = and_parts (apply found.0 false false) (not (apply found.0 true true)) (not-false (negates_both found.0) parts.1) in
     (found.0, found.1, parts.0, (both.0, not-true (apply found.0 true true) both.1))
 
--- Where constants can be left out, a member that is a negation once one operand is constant comes
--- with a member that complements equal operands.
+-- Where constants can be left out, a member that is a negation once one operand is constant implies
+-- a member that complements equal operands.
 pub negation_given : (basis : Basis) → const_closed basis ≡ true → (op : ℕ) → op < 16 → basis op ≡ true → negates_one op ≡ true → HasNegation basis
 unfolding keeps_constants
 negation_given basis closed op low member negates = ⊎_elim

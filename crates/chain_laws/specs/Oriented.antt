@@ -14,7 +14,7 @@ use Rattle.chain_laws.specs.Operators.{implied, value_by, swapped_value, swapped
 use Rattle.chain_laws.specs.Replaced.{IsSame, same_fits}
 use Rattle.chain_laws.specs.Settled.{IsSettled, SamePair, paired_same}
 
--- a step with its operands exchanged
+-- a step with its operands and its operator's operands exchanged
 abbrev turned : Step → Step
 turned a = record { j = a.k; k = a.j; op = swapped a.op }
 

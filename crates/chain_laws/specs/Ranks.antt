@@ -14,7 +14,7 @@ block_less base x y u v lt low =
     let next : suc x * base ≤ y * base = mul-le-mul_right base lt in
     omega (arith, next)
 
--- the key of a step, where places are below the base
+-- the key of a step as a number, where places are below the base
 unfoldable pub key : ℕ → Step → ℕ
 key base a = larger a * base + smaller a
 
@@ -67,7 +67,7 @@ spelled_less base f g i (suc r) low small same less = ⊎_elim
 
 -- ---- steps by the order of their pairs
 
--- All keys as one number: less where the first pair that differs comes before.
+-- All keys as one number: smaller where the first pair that differs comes before.
 abbrev pub rank : ℕ → ℕ → (ℕ → Step) → ℕ
 rank base r step = spelled (base * base) (λ k. key base (step k)) r
 

@@ -1,7 +1,7 @@
--- Chains in a normal form. Its rules are those by which searches for least chains cut symmetric and
--- wasteful chains off (Kojevnikov, Kulikov and Yaroslavtsev, "Finding Efficient Circuits Using
--- SAT-solvers", 2009; Knuth, TAOCP 7.2.2.2, exercise 477; Haaswijk, Soeken, Mishchenko and De Micheli,
--- "SAT-Based Exact Synthesis", 2020), each under the test of the basis under which it stands.
+-- The normal form of chains. Its rules are the symmetry breaking and pruning of searches for least
+-- chains (Kojevnikov, Kulikov and Yaroslavtsev, "Finding Efficient Circuits Using SAT-solvers",
+-- 2009; Knuth, TAOCP 7.2.2.2, exercise 477; Haaswijk, Soeken, Mishchenko and De Micheli, "SAT-Based
+-- Exact Synthesis", 2020), each under the test of the basis that it needs.
 use Rattle.std.specs.Prelude.{◌≡◌, ℕ, ◌+◌, ◌≤◌, ◌<◌, ◌⊎◌, true, false, not, slice_get, Some}
 use Rattle.std.specs.List.{Contains}
 use Rattle.chain_theory.specs.Operator.{apply, Basis}
@@ -52,7 +52,7 @@ Reads a p = (a.j ≡ p) ⊎ (a.k ≡ p)
 abbrev pub ReadsWithout : Step → ℕ → ℕ → Type 0
 ReadsWithout a p q = Reads a p × (Reads a q → ⊥)
 
--- Step b reads the step a, which has the place p, together with an operand of a.
+-- Step b reads the step a, which has the place p, together with an operand of a (re-application).
 -- Example: x4 = x1 AND x2 is applied again in x5 = x4 XOR x2.
 abbrev pub AppliesAgain : ℕ → Step → Step → Type 0
 AppliesAgain p a b = ((b.j ≡ p) × Reads a b.k) ⊎ ((b.k ≡ p) × Reads a b.j)
@@ -67,19 +67,21 @@ IsRead c p = (i : ℕ) × (a : Step) × IsStep c i a × Reads a p
 
 -- ---- the normal form
 
--- A chain for the specification is reduced over a basis where
+-- A chain for the specification is reduced over a basis (in normal form) where
 -- - operands rise, if the basis has each operator with its operands exchanged;
--- - each step is an out or is read;
--- - no step is a copy of an operand, and none is a constant, if constants can be left out;
+-- - all steps are used: each is an out or is read;
+-- - operators are non-trivial: no step is a copy of an operand, and none is a constant, if
+--   constants can be left out;
 -- - a step whose operands are equal is no copy, and, if constants can be left out, a negation;
 -- - a negation of an operand has that operand twice;
--- - no step's pair of operands comes before that of the step below it;
--- - no step is applied again to one of its operands, if the basis is closed under that;
--- - of two inputs that the specification lets exchange, the later one is read without the earlier one
---   only after the earlier one was read without the later one;
--- - a step that is no out is 0 on row 0, if the basis is closed under complements.
--- Example: over all operators x3 = x1 XOR x2 with the out Place 3 is reduced for the table 0110; with
--- the operands x2, x1 it is not.
+-- - steps are in co-lexicographic order: no pair of operands comes before that of the step below
+--   it;
+-- - there is no re-application to an operand, if the basis is closed under that;
+-- - of two symmetric inputs, the later one is read without the earlier one only after the earlier
+--   one was read without the later one;
+-- - a step that is no out is normal (0 on row 0), if the basis is closed under complements.
+-- Example: over all operators x3 = x1 XOR x2 with the out Place 3 is reduced for the table 0110;
+-- with the operands x2, x1 it isn't.
 pub record IsReduced (basis : Basis) (s : Specification) (c : Chain) : Type 0 where
   pub operands_rise : swap_closed basis ≡ true → (i : ℕ) (a : Step) → IsStep c i a → a.j ≤ a.k
   pub used : (i : ℕ) (a : Step) → IsStep c i a → IsOut c (c.n + 1 + i) ⊎ IsRead c (c.n + 1 + i)

@@ -1,4 +1,4 @@
--- Two names exchanged.
+-- Two places whose names are exchanged.
 use Rattle.std.proofs.Common.{◌≡◌, ℕ, ◌+◌, ◌≤◌, ◌<◌, refl, sym, ap, ◌∙◌, arith, inl, inr, ⊎_elim, ◌⊎◌}
 use Rattle.std.proofs.lemmas.Bool.{cases_eq}
 use Rattle.std.proofs.lemmas.Bool.Decides.{nat_tests}
@@ -54,7 +54,7 @@ pub moved_same : (f : ℕ → ℕ) (a : Step) → f a.j ≡ a.j → f a.k ≡ a.
 moved_same f a ej ek =
     ap (λ (x : ℕ). let b : Step = record { j = x; k = f a.k; op = a.op } in b) ej ∙ ap (λ (x : ℕ). let b : Step = record { j = a.j; k = x; op = a.op } in b) ek
 
--- a step with its operands renamed stands at a place above them
+-- a step with its operands renamed is at a place above them
 pub moved_below : (f : ℕ → ℕ) (old place : ℕ) (a : Step) → IsStepAt old a → ((x : ℕ) → Reads a x → 1 ≤ x → x < old → (1 ≤ f x) × (f x < place)) → IsStepAt place (moved f a)
 moved_below f old place a is each =
     let of_j = each a.j (inl refl) is.j_from is.j_below in

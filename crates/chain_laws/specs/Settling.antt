@@ -1,4 +1,4 @@
--- A least chain's keys fall until they settle.
+-- A least chain's keys decrease until the rules hold.
 use Rattle.std.proofs.Common.{◌≡◌, ℕ, ◌+◌, ◌-◌, ◌≤◌, ◌<◌, ◌^◌, true, false, not, refl, arith, inl, inr, ⊎_elim, ◌⊎◌, subst}
 use Rattle.std.proofs.lemmas.Bool.{cases_eq, cases_Bool, both_ways}
 use Rattle.chain_theory.specs.Operator.{Basis}
@@ -98,7 +98,7 @@ decided_inputs s r step = decided_somewhere (λ q. IsSomewhere (Exchangeable s r
 
 -- ---- the descent
 
--- an element that falls, where no chain of fewer steps agrees
+-- an element whose keys can decrease, where no chain of fewer steps agrees
 abbrev Falls : Specification → Basis → ℕ → ℕ → Body → Type 0
 Falls s basis r d b = IsLower (Fits s basis r d) (λ x. rank (s.inputs + r + 1) r x.step) b
 
@@ -125,7 +125,7 @@ again_falls s basis r d none b fits closed again = ⊎_elim
     (λ (falls : Falls s basis r d b). falls)
     (again_goes s basis r d b fits closed again.2.0 again.0 again.2.1 again.1 again.2.2)
 
--- no step is applied again, where the basis is closed under that
+-- there is no re-application, where the basis is closed under that
 abbrev NeverAgain : Specification → Basis → ℕ → (ℕ → Step) → Type 0
 NeverAgain s basis r step = reapply_closed basis ≡ true → IsSomewhere (Again s.inputs r step) r → ⊥
 
@@ -169,6 +169,6 @@ settled_or_falls s basis r d none b fits = ⊎_elim
     (decided_order r b.step))
     (decided_split r b.step)
 
--- Where no chain of fewer steps agrees, the keys fall until they settle.
+-- Where no chain of fewer steps agrees, the keys decrease until the rules hold.
 pub settled : (s : Specification) (basis : Basis) (r d : ℕ) → (HasFewer s basis r → ⊥) → (b : Body) → Fits s basis r d b → IsReached (Fits s basis r d) (λ x. IsSettled s basis r x.step)
 settled s basis r d none b fits = descend (Fits s basis r d) (λ x. IsSettled s basis r x.step) (λ x. rank (s.inputs + r + 1) r x.step) (settled_or_falls s basis r d none) b fits

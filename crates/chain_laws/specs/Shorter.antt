@@ -1,4 +1,5 @@
--- Steps left out: where a step's value stands below it, a chain of fewer steps does the same.
+-- Steps left out: where a step's value is that of a lower signal, a chain of fewer steps does the
+-- same.
 use Rattle.std.proofs.Common.{◌≡◌, ℕ, zero, suc, ◌+◌, ◌-◌, ◌≤◌, ◌<◌, Bool, true, List, [], ◌∷◌, ◌++◌, length, map, Some, refl, sym, ap, ◌∙◌, arith, inl, inr, ⊎_elim, subst, length-append}
 use Rattle.std.specs.Prelude.{slice_get, slice_index_or}
 use Rattle.std.proofs.lemmas.List.{get_or-map, length-map}
@@ -37,10 +38,10 @@ signal_named basis last (Place p) is = is
 own_out : (f : ℕ → Out) (bits : ℕ → Bool) (place p : ℕ) (o : Out) → p ≡ place → out_bit bits (with_own f place o p) ≡ out_bit bits o
 own_out f bits place p o e = ap (out_bit bits) (own_has f place p o e)
 
--- ---- the steps from left to right
+-- ---- the steps rebuilt, first to last
 
--- The steps of a chain that has come to index k, made anew with fewer steps: each place so far has a
--- signal of the same value.
+-- The first k steps of a chain, rebuilt with fewer steps: each place so far has a signal of the
+-- same value.
 pub record Mirrors (n : ℕ) (basis : Basis) (has : ℕ → ℕ → Bool) (k : ℕ) : Type 0 where
   pub new : List Step
   pub signal : ℕ → Out
@@ -107,7 +108,7 @@ mirror_step n basis has k m u below over same =
           (cases_eq p place);
     }
 
--- One step of the chain is made anew.
+-- One step of the chain is rebuilt.
 mirror_next : (n : ℕ) (basis : Basis) (has : ℕ → ℕ → Bool) (k : ℕ) → Mirrors n basis has k → (a : Step) → IsStepAt (n + 1 + k) a → basis a.op ≡ true → ((t : ℕ) → has t (n + 1 + k) ≡ step_value (has t) a) → Mirrors n basis has (k + 1)
 mirror_next n basis has k m a below over follows =
     let value : (ℕ → Bool) → Bool = λ bits. apply a.op (out_bit bits (m.signal a.j)) (out_bit bits (m.signal a.k)) in
@@ -122,7 +123,7 @@ mirror_next n basis has k m a below over follows =
 
 -- ---- a step left out
 
--- the chain goes on from index k for so many steps
+-- the rest of the chain is rebuilt, from index k to r
 mirror_rest : (n r : ℕ) (basis : Basis) (step : ℕ → Step) (has : ℕ → ℕ → Bool) → AreBelow n r step → ((i : ℕ) → i < r → basis (step i).op ≡ true) → (k more : ℕ) → k + more ≤ r → ((t i : ℕ) → k ≤ i → i < r → has t (n + 1 + i) ≡ step_value (has t) (step i)) → Mirrors n basis has k → Mirrors n basis has (k + more)
 mirror_rest n r basis step has below over k zero low follows m = subst (Mirrors n basis has) (let e : k ≡ k + 0 = omega arith in e) m
 mirror_rest n r basis step has below over k (suc more) low follows m =
@@ -158,7 +159,7 @@ mirror_first n r basis step has below over i low o is front own =
           (cases_eq p place);
     }
 
--- an out, where places go over into signals
+-- an out with its place replaced by a signal
 abbrev pub sent : (ℕ → Out) → Out → Out
 sent signal Zero = Zero
 sent signal One = One
@@ -211,8 +212,8 @@ mirror_chain s basis r d b fits has outs m =
       };
     }
 
--- The places have bits of which the step of index i has those of a signal below it, and all later steps
--- and the outs look the same: then a chain of fewer steps agrees.
+-- Where the step of index i has the value of a lower signal, and all later steps and the outs
+-- compute the same with given bits of the places, a chain of fewer steps agrees.
 pub left_out : (s : Specification) (basis : Basis) (r d : ℕ) (b : Body) → Fits s basis r d b → (i : ℕ) → i < r → (o : Out) → IsSignal basis (s.inputs + i) o → (has : ℕ → ℕ → Bool) → ((t p : ℕ) → 1 ≤ p → p < s.inputs + 1 + i → has t p ≡ bits_of s.inputs r b.step t p) → ((t : ℕ) → has t (s.inputs + 1 + i) ≡ out_bit (bits_of s.inputs r b.step t) o) → ((t k : ℕ) → i < k → k < r → has t (s.inputs + 1 + k) ≡ step_value (has t) (b.step k)) → ((h t : ℕ) → 1 ≤ h → h ≤ s.outputs → out_bit (has t) (slice_index_or b.outs (h - 1) Zero) ≡ out_bit (bits_of s.inputs r b.step t) (slice_index_or b.outs (h - 1) Zero)) → HasFewer s basis r
 left_out s basis r d b fits i low o is has front own later outs =
     let whole : (i + 1) + (r - (i + 1)) ≡ r = omega arith in
@@ -221,7 +222,7 @@ left_out s basis r d b fits i low o is has front own later outs =
     (mirror_rest s.inputs r basis b.step has fits.below fits.over (i + 1) (r - (i + 1)) (omega arith) (λ t k above inside. later t k (omega arith) inside)
     (mirror_first s.inputs r basis b.step has fits.below fits.over i low o is front own)))
 
--- A step with the value of a signal below it can be left out.
+-- A step with the value of a lower signal can be left out.
 pub redirected : (s : Specification) (basis : Basis) (r d : ℕ) (b : Body) → Fits s basis r d b → (i : ℕ) → i < r → (o : Out) → IsSignal basis (s.inputs + i) o → ((t : ℕ) → step_value (bits_of s.inputs r b.step t) (b.step i) ≡ out_bit (bits_of s.inputs r b.step t) o) → HasFewer s basis r
 redirected s basis r d b fits i low o is same =
     left_out s basis r d b fits i low o is (bits_of s.inputs r b.step) (λ t p from p_low. refl)

@@ -1,4 +1,4 @@
--- Operators on places and constants: what they give is a place or constant, or one step.
+-- Operators on places and constants: the result is a place or constant, or one step.
 use Rattle.std.proofs.Common.{◌≡◌, ℕ, ◌+◌, ◌≤◌, ◌<◌, Bool, true, false, refl, sym, ◌∙◌, arith, inl, inr, ◌⊎◌}
 use Rattle.std.proofs.lemmas.Grind.{common_steps}
 use Rattle.chain_theory.specs.Operator.{apply, Basis}
@@ -18,13 +18,13 @@ IsSignal basis last Zero = const_closed basis ≡ true
 IsSignal basis last One = const_closed basis ≡ true
 IsSignal basis last (Place p) = (1 ≤ p) × (p ≤ last)
 
--- a signal has the value that is said, whatever the bits of the places are
+-- some signal has the given value, whatever the bits of the places are
 pub record IsThere (basis : Basis) (last : ℕ) (value : (ℕ → Bool) → Bool) : Type 0 where
   pub out : Out
   pub signal : IsSignal basis last out
   pub same : (bits : ℕ → Bool) → out_bit bits out ≡ value bits
 
--- a step behind the last place has the value that is said
+-- one step after the last place has the given value, whatever the bits of the places are
 pub record IsOneStep (basis : Basis) (last : ℕ) (value : (ℕ → Bool) → Bool) : Type 0 where
   pub step : Step
   pub below : IsStepAt (last + 1) step

@@ -23,7 +23,7 @@ number_or true true = omega arith
 number_or true false = omega arith
 number_or false b = omega arith
 
--- two tests that never pass together, against a third that passes where either does
+-- two tests that never pass together, and a third that passes where either does
 pub tally_apart : (f g h : ℕ → Bool) (n : ℕ) → ((i : ℕ) → i < n → number (f i) + number (g i) ≤ number (h i)) → tally f n + tally g n ≤ tally h n
 unfolding tally
 tally_apart f g h zero each = omega arith
@@ -55,7 +55,7 @@ unfolding tally
 tally_more f n zero = let e : n + 0 ≡ n = omega arith in omega (arith, ap (tally f) e)
 tally_more f n (suc more) = let e : tally f (n + suc more) ≡ tally f (suc (n + more)) = ap (tally f) (let k : n + suc more ≡ suc (n + more) = omega arith in k) in omega (arith, tally_more f n more, e)
 
--- a test that passes at one number at most
+-- a test that passes for at most one number
 pub tally_one : (f : ℕ → Bool) (n : ℕ) → ((i k : ℕ) → f i ≡ true → f k ≡ true → i ≡ k) → tally f n ≤ 1
 unfolding tally
 tally_one f zero single = omega arith
@@ -74,7 +74,7 @@ tally_some f (suc n) i low passes = ⊎_elim
     (λ (past : n ≤ i). omega (arith, number_true (f n) (ap f (let e : n ≡ i = omega arith in e) ∙ passes)))
     (cases_lt i n)
 
--- a test that passes at a front of the numbers, and how long it is
+-- a test that passes exactly for the numbers below a bound
 abbrev pub IsFront : (ℕ → Bool) → ℕ → Type 0
 IsFront f n = (i k : ℕ) → i ≤ k → k < n → f k ≡ true → f i ≡ true
 

@@ -1,4 +1,4 @@
--- A step is read by a step of a higher level or is an out, and each step reads two places at most.
+-- A step is read by a step of a higher level or is an out, and each step reads at most two places.
 use Rattle.std.proofs.Common.{◌≡◌, ℕ, zero, suc, ◌+◌, ◌*◌, ◌≤◌, ◌<◌, ◌==◌, Bool, true, false, ◌||◌, List, [], ◌∷◌, length, ltb, leb, eqb-true, refl, sym, ap, ◌∙◌, arith, inl, inr, ⊎_elim, ◌⊎◌, subst}
 use Rattle.std.specs.Prelude.{slice_index_or, if◌then◌else◌}
 use Rattle.std.proofs.lemmas.Option.{slice_get_within}
@@ -27,7 +27,7 @@ AreUsed c = (i : ℕ) (a : Step) → IsStep c i a → IsOut c (c.n + 1 + i) ⊎ 
 
 -- ---- places that steps read
 
--- the step's operands, where it counts
+-- p is an operand of a step that counts
 abbrev reads_bit : Bool → Step → ℕ → Bool
 reads_bit counts a p = if counts then a.j == p || a.k == p else false
 
@@ -110,7 +110,7 @@ out_true (o ∷ os) n i (suc k) low at = or_right (is_place (n + 1 + i) o) (is_s
 
 -- ---- the count
 
--- at a level and above it: as many as at the level and above it together
+-- the numbers at a level and those above it
 tally_split : (f : ℕ → ℕ) (l r : ℕ) → tally (λ i. f i == l) r + tally (λ i. ltb l (f i)) r ≤ tally (λ i. leb l (f i)) r
 tally_split f l r = tally_apart (λ i. f i == l) (λ i. ltb l (f i)) (λ i. leb l (f i)) r
     (λ i low. elim (cases_order l (f i)) [
@@ -146,8 +146,9 @@ covered c is used l i low =
     (λ (lower : leb l (level c (n + 1 + i)) ≡ false). omega (arith, number_false (leb l (level c (n + 1 + i))) lower))
     (cases_Bool (leb l (level c (n + 1 + i))))
 
--- A level has at most as many steps as all levels above it together have, and the outs: each step of
--- the level and above is read by a step above the level or is an out, and a step reads two places.
+-- A level has at most as many steps as all levels above it together have, plus the outs: each step
+-- of the level and above is read by a step above the level or is an out, and a step reads two
+-- places.
 pub level_counts : (c : Chain) → IsChain c → AreUsed c → (l : ℕ) → width c l ≤ above c l + length c.outs
 level_counts c is used l =
     let high : ℕ → Bool = λ k. ltb l (level c (c.n + 1 + k)) in

@@ -1,5 +1,5 @@
-//! What the definitions come to, said without recursion. Each law is the contract of a function
-//! that does nothing.
+//! What follows from the definitions, said without recursion. Each law is the contract of a
+//! function that does nothing.
 ghost use Rattle.std.specs.Prelude.{◌≡◌, ℕ, ◌+◌, ◌≤◌, Some, Option, slice_get, max};
 ghost use Rattle.chain_theory.specs.Operator.{apply};
 ghost use Rattle.chain_theory.specs.Specification.{Specification, input};

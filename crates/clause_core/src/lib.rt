@@ -12,10 +12,10 @@
 //! It knows formulas alone, neither chains nor netlists: it needs `sat_theory` and `cnf_core`.
 //!
 //! - `specs/Clauses.antt`: what is written of a listed clause.
-//! - `specs/Holds.antt`: it is true exactly where the listed clause is. `specs/WrittenLaws.antt`: it is a
-//!   clause of the formula. `specs/CountLaws.antt`: how many clauses there are.
+//! - `specs/Holds.antt`: it is true exactly where the listed clause is. `specs/WrittenLaws.antt`:
+//!   it is a clause of the formula. `specs/CountLaws.antt`: how many clauses there are.
 //! - `specs/RangeLaws.antt`, `specs/ListLaws.antt`, `specs/WithinLaws.antt`: what loops that write
-//! clauses need for each turn.
+//!   clauses need for each turn.
 #![tactic(auto)]
 
 mod list;

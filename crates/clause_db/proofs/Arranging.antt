@@ -54,7 +54,7 @@ pair_block a id = pair_in_blocks a.blocks (id - 1)
 pub more_is : (a : Arranged) (lits : List ℤ) (id : ℕ) → watching_of (arranged_more a lits id) ≡ watching_more (watching_of a) lits id
 more_is a lits id = ap (λ (ps : List Pair). (let w : Watching = record { pairs = ps; lists = with_ids a.lists lits id } in w)) (map-append pair_of a.blocks (lits ∷ []))
 
--- where a literal that isn't watched stands
+-- the index of a literal that isn't watched
 behind_watched : (lits : List ℤ) (l : ℤ) (k : ℕ) → ((d : ℤ) → slice_index_or lits k d ≡ l) → IsNoneOf (pair_of lits) l → 2 ≤ k
 behind_watched lits l k at other = ⊎_elim
     (λ (low : k < 2). absurd (⊎_elim
@@ -64,7 +64,7 @@ behind_watched lits l k at other = ⊎_elim
     (λ (high : 2 ≤ k). high)
     (cases_lt k 2)
 
--- what the place of the literal to give up is, and that of the one to take
+-- the index of the literal to give up, and that of the one to take
 abbrev pub IsFound : List ℤ → ℤ → ℕ → Type 0
 IsFound lits from low = (low ≡ 0) × ((pair_of lits).first ≡ from) ⊎ (low ≡ 1) × ((pair_of lits).first ≢ from)
 
@@ -73,7 +73,7 @@ low_high lits from to low high found at other =
     let behind : 2 ≤ high = behind_watched lits to high at other in
     ⊎_elim (λ (first : (low ≡ 0) × ((pair_of lits).first ≡ from)). omega (arith, behind, first.0)) (λ (second : (low ≡ 1) × ((pair_of lits).first ≢ from)). omega (arith, behind, second.0)) found
 
--- The literal to take stands in the other one's place.
+-- The literal to take replaces the other one.
 swapped_pair : (lits : List ℤ) (from to : ℤ) (low high : ℕ) → IsFound lits from low → high < length lits → ((d : ℤ) → slice_index_or lits high d ≡ to) → IsNoneOf (pair_of lits) to → pair_of (swap lits low high) ≡ replaced (pair_of lits) from to
 swapped_pair lits from to low high found inside at other =
     let behind : 2 ≤ high = behind_watched lits to high at other in
@@ -177,7 +177,7 @@ clause_permuted lits new order clause = record {
     flips : (a b : ℕ) → (a == b) ≡ (b == a)
     flips a b = grind (arith, common_steps)
 
--- Live clauses have their literals.
+-- Live clauses have their literals in the row.
 pub arranged_none : AreArranged [] []
 arranged_none = record { same = λ id clause is. absurd (none id clause is) }
   where

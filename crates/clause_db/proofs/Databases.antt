@@ -63,7 +63,7 @@ pair_in s now id p view stored p_is long clause is =
 abbrev pub joined : Entries → Arranged → Stored
 joined e a = record { vars = e.vars; clauses = e.clauses; watches = watching_of a }
 
--- what the type says of them, with the blocking literals
+-- the invariant of both, with the blocking literals
 abbrev pub AreWhole : Entries → Arranged → Type 0
 AreWhole e a = IsStored (joined e a) × AreBlockers (joined e a) a.rows × AreArranged e.clauses a.blocks
 

@@ -60,7 +60,7 @@ is_at b s start id own direct is there its = (
   λ (same : own ≡ id). eq-eqb s start (sym direct.is ∙ ap (λ (n : ℕ). slice_index_or b.starts (n - 1) 0) (is ∙ same) ∙ there),
 )
 
--- One list is written.
+-- One watch list is written.
 pub direct_set : (b : Blocked) (all : List Listed) (k : ℕ) (new : Listed) → AreDirect b all → All (IsDirect b) new → AreDirect b (slice_set all k new)
 direct_set b all k new are is = All-set (All (IsDirect b)) all k new is are
 
@@ -70,8 +70,8 @@ direct_swap b e i low are = All-take (IsDirect b) (length e - 1) (slice_set e i 
 pub direct_put : (b : Blocked) (e : Listed) (i : ℕ) (m : ℤ) → i < length e → All (IsDirect b) e → All (IsDirect b) (slice_set e i (blocked_by (slice_index_or e i no_watch) m))
 direct_put b e i m low are = All-set (IsDirect b) e i (blocked_by (slice_index_or e i no_watch) m) (All-get_or (IsDirect b) e i no_watch low are) are
 
--- The clauses of the first n ids keep their starts and ids, and all entries are of these: so the entries stay what they
--- are, and the ids too.
+-- The clauses of the first n ids keep their starts and ids, and all entries are of these: so the
+-- entries stay valid, with their ids.
 abbrev IsKept : Blocked → ℕ → Watch → Type 0
 IsKept b n w = IsDirect b w × (id_in b.starts w.start ≤ n)
 
@@ -167,7 +167,7 @@ shown_back old new back lits before all a now more back_is kept same was are vie
 pub places_direct : (b : Blocked) (arranged : List (List ℤ)) (s id high : ℕ) → b.lists ≡ arranged → id_in b.starts s ≡ id → high < length (block_at arranged id) → high < length (block_at b.lists (id_in b.starts s))
 places_direct b arranged s id high same id_is places = subst (λ (ls : List (List ℤ)). high < length (block_at ls (id_in b.starts s))) (sym same) (subst (λ (n : ℕ). high < length (block_at arranged n)) (sym id_is) places)
 
--- what an exchange by a start gives
+-- the result of an exchange by a start
 abbrev pub IsExchange : Blocked → Blocked → ℕ → ℕ → ℕ → Type 0
 IsExchange b new s low high = new.lists ≡ slice_set b.lists (id_in b.starts s - 1) (swap (block_at b.lists (id_in b.starts s)) low high)
 
@@ -178,7 +178,7 @@ exchanged_shown b new all a s id low high view id_is exchanged starts =
     ∙ ap (λ (n : ℕ). exchanged_at (shown_lists b all) n low high) id_is
     ∙ ap (λ (x : Arranged). exchanged_at x id low high) view
 
--- The starts stay, and there are as many lists.
+-- The starts stay, and as many lists.
 pub direct_same : (b new : Blocked) (all : List Listed) → length new.lists ≡ length b.lists → new.starts ≡ b.starts → AreDirect b all → AreDirect new all
 direct_same b new all long starts are = All-weaker (All (IsDirect b)) (All (IsDirect new)) (λ e. All-weaker (IsDirect b) (IsDirect new) (λ w its. one w.start its) e) all are
   where
@@ -193,7 +193,7 @@ pub direct_exchanged : (b new : Blocked) (all : List Listed) (s low high : ℕ) 
 direct_exchanged b new all s low high exchanged starts are =
     direct_same b new all (ap length exchanged ∙ length-set b.lists (id_in b.starts s - 1) (swap (block_at b.lists (id_in b.starts s)) low high)) starts are
 
--- The literals of an id go.
+-- The literals of an id are emptied.
 pub direct_without : (b new : Blocked) (all : List Listed) (index : ℕ) → new.lists ≡ slice_set b.lists index [] → new.starts ≡ b.starts → AreDirect b all → AreDirect new all
 direct_without b new all index lists starts are = direct_same b new all (ap length lists ∙ length-set b.lists index []) starts are
 

@@ -10,7 +10,7 @@ use Rattle.clause_db.specs.BlockRanges.{Blocked, Range, count_at, number_at, ran
 use Rattle.clause_db.proofs.Ranges.{range_long, range_read, range_same}
 use Rattle.clause_db.proofs.Starts.{shown, start_at, range_of, room_of, headed_at, inside_at, behind_at, lists_room, id_at_start, read_count}
 
--- What the type says, by the starts.
+-- The invariant, by the starts.
 record AreApart (row : List ℤ) (starts : List ℕ) : Type 0 where
   headed : (k : ℕ) → k < length starts → 1 < start_at starts k
   inside : (k : ℕ) → k < length starts → start_at starts k + count_at row (start_at starts k) ≤ length row
@@ -26,14 +26,14 @@ apart_ranges row starts are = record {
     at : (k : ℕ) → k < length (ranges_of row starts) → k < length starts
     at k low = rw (room_of row starts) at low
 
--- The list at an index is what stands in its range.
+-- The list at an index is that of its range.
 list_at : (row : List ℤ) (starts : List ℕ) (k : ℕ) (d : List ℤ) → k < length starts → slice_index_or (lists_in row (ranges_of row starts)) k d ≡ list_in row (range_at row (start_at starts k))
 list_at row starts k d low = get_or-map (list_in row) (ranges_of row starts) k (range_at row 0) d (rw (room_of row starts) low) ∙ ap (list_in row) (range_of row starts k (range_at row 0) low)
 
 lists_long : (row : List ℤ) (starts : List ℕ) → length (lists_in row (ranges_of row starts)) ≡ length starts
 lists_long row starts = length-map (ranges_of row starts) (list_in row) ∙ room_of row starts
 
--- Each list and the two places before it stand in another row as they stood, elsewhere perhaps.
+-- Each list and the two places before it are in another row, maybe elsewhere.
 pub record AreMoved (row new : List ℤ) (starts news : List ℕ) : Type 0 where
   pub long : length news ≡ length starts
   pub headed : (k : ℕ) → k < length starts → 1 < start_at news k
@@ -101,7 +101,7 @@ moved_lists row new starts news are moved = same_lists (lists_in new (ranges_of 
     one : (k : ℕ) (d : List ℤ) → k < length starts → slice_index_or (lists_in new (ranges_of new news)) k d ≡ slice_index_or (lists_in row (ranges_of row starts)) k d
     one k d low = list_at new news k d (omega (arith, low, moved.long)) ∙ moved_list row new starts news k are moved low ∙ sym (list_at row starts k d low)
 
--- How long a list is that is shown, and where it ends.
+-- The length of a list, and where it ends.
 shown_count : (b : Blocked) (row : List ℤ) (starts : List ℕ) (k : ℕ) → shown row starts ≡ b → AreRanges row (ranges_of row starts) → k < length starts → length (slice_index_or b.lists k []) ≡ count_at row (start_at starts k)
 shown_count b row starts k view are low =
     let s : ℕ = start_at starts k in
@@ -331,7 +331,7 @@ emptied row starts index h are low is = record {
   others = λ p d apart. get_or-set_other row (start_at starts index - 1) p h d apart;
 }
 
--- The other lists, and all ids, stand elsewhere.
+-- The other lists, and all ids, are maybe elsewhere.
 emptied_count : (row new : List ℤ) (starts : List ℕ) (index k : ℕ) → AreRanges row (ranges_of row starts) → IsEmptied row new starts index → index < length starts → k < length starts → (k ≡ index → ⊥) → count_at new (start_at starts k) ≡ count_at row (start_at starts k)
 emptied_count row new starts index k are is within low apart = ap (λ (l : ℤ). variable l - 1) (is.others (start_at starts k - 1) (pos 1) (λ e.
     let head_k : 1 < start_at starts k = headed_at row starts k are low in

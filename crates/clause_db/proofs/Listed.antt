@@ -54,7 +54,7 @@ ids_set starts entries i b low =
 pub blockers_set : (entries : Listed) (i : ℕ) (b : ℤ) → blockers_of (slice_set entries i (blocked_by (slice_index_or entries i no_watch) b)) ≡ slice_set (blockers_of entries) i b
 blockers_set entries i b = map-set (λ (x : Watch). x.blocker) entries i (blocked_by (slice_index_or entries i no_watch) b)
 
--- how long a list is, by its ids and by what stands beside them
+-- the length of a list, by its ids and by its blocking literals
 pub ids_inside : (starts : List ℕ) (entries : Listed) (ids : List ℕ) (i : ℕ) → ids_of starts entries ≡ ids → i < length ids → i < length entries
 ids_inside starts entries ids i is low = rw length-map at (subst (λ (xs : List ℕ). i < length xs) (sym is) low)
 

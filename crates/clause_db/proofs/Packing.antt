@@ -14,7 +14,8 @@ moved_behind row new a b to is down rises inside =
     let room : b - a ≤ length (drop a row) = rw length-drop (omega (arith, rises, inside)) in
     rw is (drop_past (copy_within row a b to) row b (to + (b - a)) (omega (arith, down, rises)) (drop-paste row to (drop a row) (b - a) (omega (arith, down, rises, inside)) room))
 
--- The windows below an index lie below a place, and all others from there on. They show what windows showed at first.
+-- The windows below an index lie before a position, and all others from there on. They show what
+-- the windows showed at first.
 pub record IsPacked (first : List ℤ) (windows : List Window) (row : List ℤ) (now : List Window) (index end : ℕ) : Type 0 where
   pub entries : entries_of row now ≡ entries_of first windows
   pub below : AreFrom 0 (take index now) end

@@ -1,4 +1,4 @@
--- Lists in one row of literals, by the ranges where they stand.
+-- Lists in one row of literals, by their ranges.
 use Rattle.std.proofs.Common.{◌≡◌, ℕ, suc, ◌+◌, ◌-◌, ◌<◌, ◌≤◌, ℤ, List, [], ◌∷◌, ◌++◌, length, slice_index_or, slice_set, refl, ap, ◌∙◌, sym, subst, arith, take, drop, length-append}
 use Rattle.std.specs.List.{slice_range, swap}
 use Rattle.std.proofs.Math.Logic.{⊎_elim}
@@ -49,7 +49,7 @@ range_swapped row a b low high order inside is_low is_high =
         (cases_eq k high))
         (cases_eq k low)
 
--- A range that has neither place sees nothing of it.
+-- A range that has neither place isn't changed.
 range_apart : (row : List ℤ) (a b i j : ℕ) → a ≤ b → b ≤ length row → i < length row → j < length row → ((k : ℕ) → a ≤ k → k < b → k ≡ i → ⊥) → ((k : ℕ) → a ≤ k → k < b → k ≡ j → ⊥) → slice_range (swap row i j) a b ≡ slice_range row a b
 range_apart row a b i j order inside is_i is_j not_i not_j =
     range_same row (swap row i j) a b order inside (let kept : length (swap row i j) ≡ length row = length-swap row i j in omega (arith, kept, inside))
@@ -140,7 +140,7 @@ lists_added row new lits id head ranges r is at end are =
     let before : lists_in new ranges ≡ lists_in row ranges = lists_written (row ++ heads) new lits ranges is (ranges_written row (row ++ heads) heads ranges refl are) ∙ lists_written row (row ++ heads) heads ranges refl are in
     map-append (list_in new) ranges (r ∷ []) ∙ ap (λ (xs : List ℤ). lists_in new ranges ++ xs ∷ []) list ∙ ap (λ (ls : List (List ℤ)). ls ++ lits ∷ []) before
 
--- The last range is taken off, and with it what stands in the row from the second place before its start on.
+-- The last range is removed, with all of the row from the second place before its start on.
 pub ends_before : (row : List ℤ) (ranges : List Range) (n k : ℕ) (d r : Range) → AreRanges row ranges → n + 1 ≡ length ranges → r ≡ slice_index_or ranges n d → k < n
     → ((slice_index_or ranges k d).start ≤ (slice_index_or ranges k d).end) × ((slice_index_or ranges k d).end ≤ r.start - 2) × (length (take (r.start - 2) row) ≡ r.start - 2)
 ends_before row ranges n k d r are all is low =

@@ -1,4 +1,4 @@
--- Lists in one row of literals, by where they begin: the id and the length of each stand before it.
+-- Lists in one row of literals, by where they begin: the id and the length of each are before it.
 use Rattle.std.proofs.Common.{◌≡◌, ℕ, zero, suc, ◌+◌, ◌-◌, ◌<◌, ◌≤◌, ℤ, pos, List, [], ◌∷◌, ◌++◌, length, slice_index_or, slice_set, refl, ap, ◌∙◌, sym, subst, arith, take, append_assoc}
 use Rattle.std.specs.List.{slice_range, swap}
 use Rattle.std.proofs.Math.Logic.{⊎_elim}
@@ -11,7 +11,7 @@ use Rattle.clause_db.specs.Arranging.{block_at}
 use Rattle.clause_db.proofs.Ids.{id_front, id_cut, id_found}
 use Rattle.clause_db.proofs.Ranges.{range_long, lists_swapped, lists_written, ranges_written, ranges_added, lists_added, ranges_cut, lists_cut}
 
--- what blocks show
+-- what contracts see of blocks
 abbrev pub shown : List ℤ → List ℕ → Blocked
 shown row starts = record { lists = lists_in row (ranges_of row starts); starts = starts }
 
@@ -259,7 +259,7 @@ inside_begun b row starts s view are (index, low, at) =
 pub start_inside : (b : Blocked) (row : List ℤ) (starts : List ℕ) (s : ℕ) → shown row starts ≡ b → AreRanges row (ranges_of row starts) → IsStart b s → (1 < s) × (s + count_at row s ≤ length row)
 start_inside b row starts s view are start = inside_begun b row starts s view are (begun b s start)
 
--- The places rise, so that the id of a start is one more than its index.
+-- The starts rise, so the id of a start is 1 + its index.
 pub id_at_start : (b : Blocked) (row : List ℤ) (starts : List ℕ) (index s : ℕ) → shown row starts ≡ b → AreRanges row (ranges_of row starts) → index < length b.lists → s ≡ slice_index_or starts index s → id_in b.starts s ≡ index + 1
 id_at_start b row starts index s view are low here =
     let inside : index < length starts = omega (arith, low, lists_room b row starts view) in
@@ -290,7 +290,7 @@ read_list b row same starts s head count view are start here is kept =
     ap (λ (xs : List ℤ). slice_range xs s (s + (count - 1))) kept ∙ ap (λ (n : ℕ). slice_range row s (s + n)) (read_count row s head count (start_inside b row starts s view are start) here is)
     ∙ sym (its_list b row starts (id_in b.starts s - 1) s view (begun_low b s start) start.is)
 
--- Two literals of a list change places. What stands before a list is none of them.
+-- Two literals of a list are exchanged. Its id and length aren't among them.
 agree_swapped : (row : List ℤ) (starts : List ℕ) (index i j : ℕ) → AreRanges row (ranges_of row starts) → index < length starts → start_at starts index ≤ i → i < start_at starts index + count_at row (start_at starts index)
     → start_at starts index ≤ j → j < start_at starts index + count_at row (start_at starts index) → AgreeBefore row (swap row i j) starts
 agree_swapped row starts index i j are within from_i to_i from_j to_j k m low some few = swapped.2 (start_at starts k - m) (apart i from_i to_i) (apart j from_j to_j)

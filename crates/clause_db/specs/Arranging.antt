@@ -36,7 +36,7 @@ exchanged_at a id low high = record { blocks = slice_set a.blocks (id - 1) (swap
 abbrev pub IsNoneOf : Pair → ℤ → Type 0
 IsNoneOf p l = (l ≡ p.first) ⊎ (l ≡ p.second) → ⊥
 
--- the literals of each id may stand in another order
+-- the literals of each id, maybe in another order
 pub record ArePermuted (blocks new : List (List ℤ)) : Type 0 where
   pub each : (id : ℕ) → IsPermutation (block_at blocks id) (block_at new id)
 

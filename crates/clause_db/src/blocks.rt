@@ -44,7 +44,7 @@ impl Blocks {
     }
 
     /// Appends a list. A row of more than 2,147,483,647 places is an error too; each list takes two
-    /// besides its literals.
+    /// places more than it has literals.
     pub(crate) fn push(&mut self, lits: &[Lit]) -> Result<(), AllocError>
         ensures ok { OnOk result (self.new.lists ≡ self.old.lists ++ lits.now ∷ []) }
         ensures kept { OnOk result (KeepsIds self.old self.new (length self.old.lists)) }

@@ -157,8 +157,8 @@ impl Watches {
         self.lists[lit.code()].take_last();
     }
 
-    /// Puts an id at the ends of the lists of a clause's first two literals, if it has two, and beside it the
-    /// other one of them.
+    /// Appends an id to the watch lists of a clause's first two literals, if it has two; each is
+    /// the blocking literal in the list of the other.
     fn push_both(&mut self, lits: &[Lit], id: u32) -> Result<(), AllocError>
         requires rooms { All (λ l. code_of l < length self.old.lists) lits.now }
         requires some { 0 < id }
@@ -198,7 +198,7 @@ impl Watches {
         }
     }
 
-    /// Puts a literal beside the id at an index in a literal's list.
+    /// Replaces the blocking literal at an index in a watch list.
     pub(crate) fn set(&mut self, lit: Lit, index: usize, by: Lit)
         requires room { code_of lit < length self.old.lists }
         requires beside { index < length (row_of self.old.rows lit) }

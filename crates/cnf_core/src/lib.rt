@@ -1,5 +1,5 @@
 //! Literals, clauses and formulas in conjunctive normal form, and whether an assignment satisfies
-//! them. It stands on the definitions of `sat_theory`, which contracts here cite.
+//! them, by the definitions of `sat_theory`, which contracts here cite.
 //!
 //! The one theorem: `satisfied` is true exactly where each clause has a true literal.
 //!

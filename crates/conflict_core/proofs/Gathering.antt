@@ -80,7 +80,8 @@ listed_unset vars old new touched l before now same = record {
 pub listed_inside : (vars : ℕ) (marks new : List Bool) (touched : List ℤ) → IsListed vars marks touched → length new ≡ length marks → All (λ l. code_of l < length new) touched
 listed_inside vars marks new touched listed same = All-weaker (IsOver vars) (λ l. code_of l < length new) (λ l over. rw (same, listed.room) (code_of-room l vars over.1)) touched listed.over
 
--- With one literal unmarked and the others of the list taken, nothing is marked, and they are the others.
+-- With one literal unmarked and the others of the list taken, nothing is marked, and the taken ones
+-- are the others.
 pub others_taken : (vars : ℕ) (old off new : List Bool) (touched others : List ℤ) (first : ℤ) → IsListed vars old touched → marked_in off ≡ without_literal (marked_in old) first → AreTaken touched off new others → AreOthers vars old first others
 others_taken vars old off new touched others first listed now taken = record {
   over = λ k d low. All-contains (IsOver vars) touched (slice_index_or others k d) listed.over (taken.inside k d low).0;
@@ -103,7 +104,7 @@ clear_taken vars old off new touched others first listed now same taken long = r
   room = long ∙ same ∙ listed.room;
 }
 
--- a clause whose literals stand in another order
+-- a clause with its literals in another order
 pub marked_in_order : (places : ℤ → ℕ) (lits clause : List ℤ) (old new : List Bool) → ((l : ℤ) → Contains lits l ↔ Contains clause l) → AreMarked places lits old new → AreMarked places clause old new
 marked_in_order places lits clause old new same before = record {
   stay = before.stay;

@@ -11,7 +11,7 @@ use Rattle.trail_core.specs.Values.{IsOver}
 use Rattle.conflict_core.specs.Walking.{AreOthers, HasFallenAt}
 use Rattle.conflict_core.specs.Learning.{IsRaised}
 
--- where the entry at an index of the list with two exchanged stood
+-- the old index of an entry of the list with two exchanged
 record Stood (xs : List ℤ) (i k : ℕ) : Type 0 where
   pub index : ℕ
   pub inside : index < length xs

@@ -17,7 +17,7 @@ use Rattle.clause_db.specs.Moving.{watched_in}
 use Rattle.conflict_core.specs.Walking.{AreFewer, IsWalk}
 use Rattle.conflict_core.proofs.Gathering.{listed_unset}
 
--- what stands at an index of a literal's list watches it
+-- the clause at an index of a watch list watches the literal
 pub entry_watches : (s : Stored) (l : ℤ) (index id : ℕ) → IsStored s → index < length (list_of s.watches l) → id ≡ slice_index_or (list_of s.watches l) index 0 → Watches s id l
 entry_watches s l index id stored inside is = rw is (stored.only l (slice_index_or (list_of s.watches l) index 0) (Contains-get_or (list_of s.watches l) index 0 inside))
 

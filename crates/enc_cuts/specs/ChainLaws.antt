@@ -5,12 +5,12 @@ use Rattle.chain_core.specs.Steps.{IsSmallChain}
 use Rattle.tt_core.specs.Words.{Words, IsSpec}
 use Rattle.enc_laws.specs.Decoded.{IsFor}
 
--- what holds of each value of which something else holds
+-- an implication between facts about all values
 pub if_ok : {X E : Type 0} (P Q : X → Type 0) (r : Result X E) → ((x : X) → P x → Q x) → IfOk r P → IfOk r Q
 if_ok P Q (Ok x) each holds = each x holds
 if_ok P Q (Err e) each holds = tt
 
--- a chain for tables within the limits is within them
+-- a chain for tables within the program's bounds is within them
 pub small_chain : (w : Words) (basis r : ℕ) (c : Chain) → IsSpec w → r ≤ 16 → c.n ≡ w.n → IsFor w basis r c → IsSmallChain c
 small_chain w basis r c spec low inputs is = record {
   chain = is.is_chain;

@@ -1,4 +1,4 @@
--- How many clauses the cuts have at most, within the program's limits.
+-- Bounds for the number of clauses of the cuts, within the program's bounds.
 use Rattle.std.specs.Prelude.{◌≡◌, ℕ, suc, ◌+◌, ◌-◌, ◌*◌, ◌≤◌, ◌==◌, ℤ, Bool, true, false, List, [], ◌∷◌, ◌++◌, map, length, if◌then◌else◌}
 use Rattle.std.specs.List.{range_with_len, flat_map}
 use Rattle.std.proofs.Common.{arith, length-append}
@@ -19,7 +19,7 @@ use Rattle.enc_frame.specs.Room.{IsSmall}
 use Rattle.enc_frame.specs.Counts.{common-few}
 use Rattle.clause_core.specs.CountLaws.{flat_map-few, pieces-few, written-few, times-few}
 
--- clauses that are listed under a test
+-- clauses that are listed only where a test passes
 pub if-few : (test : Bool) (clauses : List (List ℤ)) (k : ℕ) → length clauses ≤ k → length (if test then clauses else []) ≤ k
 if-few true clauses k few = few
 if-few false clauses k few = omega arith
@@ -110,7 +110,7 @@ again-few (s ∷ later) few =
     let own = times-few (length s.slots) (slot_count later) (length s.slots) 16000 (omega arith) (omega arith) in
     rw length-append (omega (arith, again_by-few s later, own, again-few later (omega arith)))
 
--- ---- inputs that may be exchanged
+-- ---- symmetric inputs
 
 exchange_slot-few : (p q : ℕ) (before : List Raw) (u : Slot) → length (exchange_slot p q before u) ≤ 1
 unfolding exchange_slot

@@ -3,7 +3,7 @@ use Rattle.std.proofs.Common.{◌≡◌, ℕ, List, [], ◌∷◌, ◌++◌, app
 use Rattle.std.specs.List.{flat_map}
 use Rattle.std.proofs.lemmas.Grind.{common_steps}
 
--- one piece behind another
+-- one piece after another
 pub two_pieces : {A : Type 0} (f : ℕ → List A) (xs : List A) (a b : ℕ) → (xs ++ f a) ++ f b ≡ xs ++ flat_map f (a ∷ b ∷ [])
 two_pieces {A} f xs a b = simp (append_assoc, append-nil)
 

@@ -1,4 +1,4 @@
-//! No step is applied again to one of its operands.
+//! No re-application: no step is applied again to one of its operands.
 ghost use Rattle.std.specs.Prelude.{◌≡◌, ◌++◌, [], ◌∷◌, All, IfOk, OnOk, if◌then◌else◌};
 ghost use Rattle.std.specs.List.{flat_map};
 ghost use Rattle.enc_theory.specs.Cuts.{applies_again as applies_again_of, again_pair, again_slot, has_place, reading as reading_of, again_later, again_all, again};
@@ -11,8 +11,8 @@ use enc_theory::Slot;
 use op_basis::Basis;
 use std::alloc::{AllocError, Global};
 
-/// Whether a step with the second pair applies the step at the place, which has the first pair, again
-/// to one of its operands.
+/// Whether a step with the pair `v` applies the step at `place`, which has the pair `u`, again to
+/// one of its operands.
 #[tactic(auto, unfolding(enc_theory::specs::Cuts::applies_again))]
 fn applies_again(place: u32, u: Slot, v: Slot) -> bool
     ensures { result ≡ applies_again_of place u v }
@@ -20,7 +20,7 @@ fn applies_again(place: u32, u: Slot, v: Slot) -> bool
     v.j == place && reads(u, v.k) || v.k == place && reads(u, v.j)
 }
 
-/// The clause that not both pairs are there, where the second applies the step again.
+/// The clause that not both pairs are there, where the second one is a re-application.
 #[tactic(auto, unfolding(enc_theory::specs::Cuts::again_pair))]
 fn push_again_pair(
     alloc: Global,
@@ -153,7 +153,7 @@ fn push_again_all(
     Ok(())
 }
 
-/// That no step is applied again to one of its operands, where the basis is closed under that.
+/// That there is no re-application, where the basis is closed under that.
 #[tactic(auto, unfolding(enc_theory::specs::Cuts::again))]
 pub(crate) fn push_again(
     alloc: Global,

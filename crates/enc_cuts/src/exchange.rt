@@ -1,4 +1,4 @@
-//! Inputs that may be exchanged are read in their order.
+//! Symmetric inputs are read in their order.
 ghost use Rattle.std.specs.Prelude.{◌≡◌, ◌≤◌, ◌<◌, ◌++◌, [], All, OnOk};
 ghost use Rattle.std.specs.List.{flat_map};
 ghost use Rattle.enc_theory.specs.Cuts.{may_exchange as may_exchange_of, reader_without, readers_without, exchange_slot, exchange_steps, exchange_pair, exchange_with, exchange};
@@ -12,7 +12,7 @@ use enc_theory::Slot;
 use std::alloc::{AllocError, Global};
 use tt_core::{Spec, symmetric};
 
-/// Whether exchanging inputs `p` and `q` leaves the tables the same.
+/// Whether `p` and `q` are symmetric: exchanging them leaves the tables unchanged.
 #[tactic(auto, using(crate::proofs::Pieces::exchanging))]
 fn may_exchange(spec: &Spec, p: u32, q: u32) -> bool
     requires { (1 ≤ p) × (p < q) × (q ≤ spec.now.n) }
@@ -49,8 +49,8 @@ fn push_readers_without(
     Ok(())
 }
 
-/// The clause that a step hasn't this pair or that a pair before it is there, where it has `q` and not
-/// `p`.
+/// The clause that a step doesn't have this pair or that a pair before it is there, where it has
+/// `q` and not `p`.
 #[tactic(auto, unfolding(enc_theory::specs::Cuts::exchange_slot))]
 fn push_exchange_slot(
     alloc: Global,
@@ -114,7 +114,7 @@ fn push_exchange_steps(
     Ok(())
 }
 
-/// The clauses for two inputs, where they may be exchanged.
+/// The clauses for two inputs, where they are symmetric.
 #[tactic(auto, unfolding(enc_theory::specs::Cuts::exchange_pair))]
 fn push_exchange_pair(
     alloc: Global,
@@ -154,8 +154,8 @@ fn push_exchange_with(
     Ok(())
 }
 
-/// That of two inputs which may be exchanged the later one is read without the earlier one only
-/// after the earlier one was read without the later one.
+/// That of two symmetric inputs the later one is read without the earlier one only after the
+/// earlier one was read without the later one.
 #[tactic(auto, using(clause_core::specs::RangeLaws::loops), unfolding(enc_theory::specs::Cuts::exchange))]
 pub(crate) fn push_exchange(
     alloc: Global,

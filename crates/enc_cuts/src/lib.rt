@@ -1,15 +1,26 @@
-//! Cuts of encodings by pairs: further clauses, which leave the formula of a least size satisfiable.
-//! They rule out steps that nothing reads, trivial steps, steps out of order, operators that are
-//! applied again, and what comes of exchanging inputs or of complementing steps, each under a test of
-//! the basis that it needs (Kojevnikov, Kulikov and Yaroslavtsev 2009; Knuth, TAOCP 7.2.2.2, exercise
-//! 477; Haaswijk, Soeken, Mishchenko and De Micheli 2020).
+//! Cuts of encodings by pairs: further clauses (symmetry-breaking and structural constraints),
+//! which leave the formula of a least size satisfiable. They rule out unused steps, trivial
+//! operators, steps out of order, re-application, and what symmetric inputs and complemented steps
+//! give twice, each under the test of the basis that it needs (Kojevnikov, Kulikov and Yaroslavtsev
+//! 2009; Knuth, TAOCP 7.2.2.2, exercise 477; Haaswijk, Soeken, Mishchenko and De Micheli 2020).
 //!
 //! ```text
 //! push_common(alloc, &mut list, &live, basis, z, &layout.steps)?; // what a chain is
 //! push_cuts(alloc, &mut list, &live, basis, z, &layout.steps)?;   // and no needless one
 //! ```
 //!
-//! Those that no pair is in, or the parts of them, stand alone too, for encodings of another kind.
+//! Those without pairs can be called alone, for other encodings.
+//!
+//! The cuts, and their names in the field:
+//!
+//! | Here | Field |
+//! |---|---|
+//! | each step is an output or is read | all steps used |
+//! | no step is trivial | non-trivial operators |
+//! | pairs never fall | co-lexicographic order |
+//! | not applied again to an operand | no re-application |
+//! | inputs that may be exchanged | symmetric variables |
+//! | 0 on row 0 | normal functions |
 #![tactic(auto)]
 
 ghost use Rattle.std.specs.Prelude.{◌≡◌, ◌++◌, All, OnOk};
@@ -39,9 +50,9 @@ use op_basis::Basis;
 use std::alloc::{AllocError, Global};
 use tt_core::Spec;
 
-/// Writes the cuts for tables whose outputs are all live: each step is an output or is read; none is
-/// trivial; pairs never fall; none is applied again to one of its operands; inputs that may be
-/// exchanged are read in their order; and a step that is no output is 0 on row 0.
+/// Writes the cuts for tables whose outputs are all live: all steps are used; operators are
+/// non-trivial; pairs never decrease; there is no re-application; symmetric inputs are read in
+/// their order; and a step that is no output is 0 on row 0.
 #[tactic(auto, using(crate::proofs::Pieces::families), unfolding(enc_theory::specs::Cuts::cuts))]
 pub fn push_cuts(
     alloc: Global,

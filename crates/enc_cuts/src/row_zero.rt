@@ -1,4 +1,4 @@
-//! A step that is no output is 0 on row 0.
+//! Normal steps: a step that is no output is 0 on row 0.
 ghost use Rattle.std.specs.Prelude.{◌≡◌, ◌++◌, OnOk};
 ghost use Rattle.std.specs.List.{flat_map};
 ghost use Rattle.enc_theory.specs.Numbering.{places};

@@ -1,4 +1,4 @@
-//! What the cuts ask of pairs, and the literals that are made of them.
+//! The tests of pairs that the cuts need, and the literals made from them.
 ghost use Rattle.std.specs.Prelude.{◌≡◌, ◌++◌, map, OnOk};
 ghost use Rattle.enc_theory.specs.Numbering.{outputs};
 ghost use Rattle.enc_theory.specs.Cuts.{bears, reads as reads_of, reads_without as reads_without_of, not_both};

@@ -1,4 +1,4 @@
-//! No step is trivial.
+//! Non-trivial operators.
 ghost use Rattle.std.specs.Prelude.{◌≡◌, ◌<◌, ◌++◌, All, OnOk};
 ghost use Rattle.op_basis.specs.Closed.{const_closed};
 ghost use Rattle.std.specs.List.{flat_map};
@@ -26,7 +26,7 @@ pub fn push_operator(raws: &mut Vec<Raw>, z: Sizes, i: u32, op: Op) -> Result<()
     Ok(())
 }
 
-/// The clause that step `i` has another operator, where this one is a member.
+/// The clause that step `i` has another operator than `op`, where that is a member.
 #[tactic(auto, unfolding(enc_theory::specs::Cuts::other_operator))]
 fn push_other_operator(
     alloc: Global,
@@ -72,7 +72,7 @@ pub fn push_not_idle(
     push_other_operator(alloc, list, basis, z, i, Op::new(15))
 }
 
-/// What a pair of equal operands asks of the operator.
+/// What a pair of equal operands requires of the operator.
 #[tactic(auto, unfolding(enc_theory::specs::Cuts::equal_raw))]
 fn push_equal(
     alloc: Global,
@@ -97,7 +97,7 @@ fn push_equal(
     list.push(alloc, &[no_pair, high])
 }
 
-/// The same, for any pair.
+/// The same for any pair: nothing where its operands differ.
 #[tactic(auto, unfolding(enc_theory::specs::Cuts::equal_slot))]
 fn push_equal_slot(
     alloc: Global,
@@ -141,8 +141,8 @@ fn push_equal_pairs(raws: &mut Vec<Raw>, slots: &[Slot]) -> Result<(), AllocErro
     Ok(())
 }
 
-/// The clause that a step has another operator than this one, a negation of an operand, or a pair of
-/// equal operands, where it is a member.
+/// The clause that a step has another operator than `op`, a negation of an operand, or a pair of
+/// equal operands, where that is a member.
 #[tactic(auto, unfolding(enc_theory::specs::Cuts::negation_raw))]
 fn push_negation(
     alloc: Global,
@@ -182,7 +182,7 @@ fn push_negations(
     push_negation(alloc, list, basis, z, step, Op::new(12))
 }
 
-/// What pairs of equal operands ask of the operator.
+/// What pairs of equal operands require of the operator.
 #[tactic(auto, using(clause_core::specs::RangeLaws::loops))]
 fn push_equal_slots(
     alloc: Global,

@@ -1,4 +1,4 @@
-//! Each step is an output or is read.
+//! All steps used: each step is an output or is read.
 ghost use Rattle.std.specs.Prelude.{◌≡◌, ◌++◌, All, OnOk};
 ghost use Rattle.std.specs.List.{flat_map};
 ghost use Rattle.enc_theory.specs.Cuts.{reader, readers, used_by, used};
@@ -33,7 +33,7 @@ fn push_readers(raws: &mut Vec<Raw>, place: u32, step: &StepSlots) -> Result<(),
     Ok(())
 }
 
-/// Adds for each pair of some steps with the place that the step has it.
+/// Adds for each pair of later steps with the place that the step has it.
 #[tactic(auto, using(clause_core::specs::RangeLaws::loops))]
 fn push_all_readers(raws: &mut Vec<Raw>, place: u32, steps: &[StepSlots]) -> Result<(), AllocError>
     ensures { OnOk result (raws.new.items ≡ raws.old.items ++ flat_map (readers place) steps.now) }

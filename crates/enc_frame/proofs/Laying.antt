@@ -47,7 +47,7 @@ slot_count-push (r ∷ steps) s = omega (arith, slot_count-push steps s)
 
 pub ruleset laying = (common_steps, laid-none, laid-more, slot_count-none, slot_count-push, length-numbered)
 
--- One more step, with what is laid behind it, is what was to be laid.
+-- One more step, followed by what is laid after it, is what was to be laid.
 pub laid_on : (pairs : ℕ → List Pair) (v count place last : ℕ) (own : List Pair) (slots : List Slot) (old new all : List StepSlots) → place < last → own ≡ pairs place → slots ≡ numbered v own → count ≡ length own → new ≡ old ++ record { place = place; slots = slots } ∷ [] → old ++ laid pairs v place (last - place) ≡ all → new ++ laid pairs (v + count) (place + 1) (last - (place + 1)) ≡ all
 laid_on pairs v count place last own slots old new all low is numbers long push before =
     let step : StepSlots = record { place = place; slots = numbered v (pairs place) } in

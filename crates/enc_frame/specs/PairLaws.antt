@@ -1,4 +1,4 @@
--- Pairs are of places below the step, and few.
+-- Pairs are of places below the step, and their number is bounded.
 use Rattle.std.specs.Prelude.{ℕ, ◌-◌, ◌*◌, ◌≤◌, ◌<◌, Bool, true, false, [], ◌∷◌, All, length}
 use Rattle.std.specs.List.{range_with_len, flat_map}
 use Rattle.std.proofs.Common.{arith}
@@ -19,7 +19,7 @@ of-below place false large small some low high =
     All-cons (IsPair place) (pair small large) (pair large small ∷ []) (is_pair place small large some (omega arith) (omega arith) high)
     (All-cons (IsPair place) (pair large small) [] (is_pair place large small (omega arith) high some (omega arith)) (All-nil (IsPair place)))
 
--- the pairs with this larger operand
+-- the pairs with a given larger operand
 pub with-below : (place : ℕ) (ordered : Bool) (large : ℕ) → 1 ≤ large → large < place → All (IsPair place) (pairs_with ordered large)
 unfolding pairs_with
 with-below place ordered large some high =

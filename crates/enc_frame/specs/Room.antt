@@ -1,4 +1,4 @@
--- How large formulas may be, and what their parts are made of.
+-- How large formulas may be, and the bounds of their parts.
 use Rattle.std.specs.Prelude.{◌≡◌, length, ℕ, ◌+◌, ◌≤◌, ◌<◌, All}
 use Rattle.enc_theory.specs.declared.data.Sizes.{Sizes}
 use Rattle.tt_core.specs.Words.{Words}
@@ -7,13 +7,13 @@ use Rattle.enc_theory.specs.declared.data.Slot.{Slot}
 use Rattle.enc_theory.specs.Numbering.{s_first}
 use Rattle.enc_theory.specs.Pairs.{StepSlots}
 
--- the limits of the program: at most six inputs, sixteen steps and eight outputs
+-- the bounds of the program: at most six inputs, sixteen steps and eight outputs
 pub record IsSmall (z : Sizes) : Type 0 where
   pub inputs : z.n ≤ 6
   pub steps : z.r ≤ 16
   pub outputs : z.m ≤ 8
 
--- among the variables 1 to vars are all those of values, outputs and operators
+-- the variables 1 to vars include all those of values, outputs and operators
 pub record HasRoom (z : Sizes) (vars : ℕ) : Type 0 where
   pub small : IsSmall z
   pub first : s_first z ≤ vars + 1
@@ -43,12 +43,12 @@ pub record IsSlot (vars place : ℕ) (u : Slot) : Type 0 where
 pub record HasPlace (z : Sizes) (s : StepSlots) : Type 0 where
   pub place : IsPlace z s.place
 
--- the place of a step, with pairs that it may have
+-- the place of a step, with given pairs
 pub record HasSlots (z : Sizes) (vars : ℕ) (s : StepSlots) : Type 0 where
   pub place : IsPlace z s.place
   pub slots : All (IsSlot vars s.place) s.slots
 
--- the sizes are those of these tables
+-- the sizes are those of the tables
 pub record AreFor (z : Sizes) (w : Words) : Type 0 where
   pub inputs : z.n ≡ w.n
   pub outputs : z.m ≡ length w.on

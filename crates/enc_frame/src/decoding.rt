@@ -17,7 +17,7 @@ use op_basis::Op;
 use std::alloc::{AllocError, Global};
 use tt_core::{Spec, trivial};
 
-/// The bit of a variable, numbered from 1; those behind the list are 0.
+/// The bit of a variable, numbered from 1; those after the end of the list are 0.
 pub fn bit(bits: &[bool], variable: u32) -> bool
     ensures { result ≡ bits_of bits.now variable }
 {
@@ -110,7 +110,7 @@ fn first_bearer(bits: &[bool], z: Sizes, h: u32) -> u32
     z.n + 1
 }
 
-/// What the live outputs are.
+/// The outs of the live outputs.
 #[tactic(auto, using(clause_core::specs::RangeLaws::loops), unfolding(enc_theory::specs::Decode::decoded_out))]
 fn live_outs(alloc: Global, bits: &[bool], z: Sizes) -> Result<Vec<Out>, AllocError>
     requires { IsSmall z }
@@ -123,7 +123,7 @@ fn live_outs(alloc: Global, bits: &[bool], z: Sizes) -> Result<Vec<Out>, AllocEr
     Ok(outs)
 }
 
-/// What output `h` is: the out that costs nothing, or else the next of the live ones.
+/// The out of output `h`: its trivial out, or else the next of the live ones.
 #[tactic(auto, unfolding(enc_theory::specs::Decode::restored_at))]
 fn restored_out(spec: &Spec, live: &[Out], h: u32, next: usize) -> Out
     requires output { (1 ≤ h) × (h ≤ length spec.now.on) }
@@ -159,7 +159,7 @@ fn live_up_to(spec: &Spec, h: u32, below: usize) -> usize
 fn restored(alloc: Global, spec: &Spec, live: &[Out]) -> Result<Vec<Out>, AllocError>
     ensures { IfOk result (λ outs. outs.items ≡ restored_of (specification spec.now) live.now) }
 {
-    // brings that there are few outputs
+    // for the prover: brings in that there are at most eight outputs
     let _n = spec.n();
     let mut outs = Vec::new(alloc);
     let mut next = 0;
@@ -170,8 +170,8 @@ fn restored(alloc: Global, spec: &Spec, live: &[Out]) -> Result<Vec<Out>, AllocE
     Ok(outs)
 }
 
-/// The chain of these steps for the tables: each live output is the first step whose variable for it
-/// is true, and the trivial outputs are put back in their places. `z` counts the live outputs.
+/// The chain of `steps` for the tables: each live output is the first step whose variable for it is
+/// true, and the trivial outs are put back at their places. `z` has the number of live outputs.
 pub fn with_outs(
     alloc: Global,
     spec: &Spec,

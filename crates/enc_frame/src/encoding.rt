@@ -1,5 +1,5 @@
-//! What an encoding is: the parts of a size, a formula for each, the chain that a solution spells, and the
-//! two laws by which formulas tell of chains.
+//! What an encoding is: the parts of a size, a formula for each, the chain that a solution spells,
+//! and the two laws that connect formulas with chains.
 use chain_core::Chain;
 use cnf_core::{Assign, Cnf};
 use enc_theory::Part;
@@ -7,9 +7,9 @@ use op_basis::Basis;
 use std::alloc::{AllocError, Global};
 use tt_core::Spec;
 
-/// A way to ask for a chain of r steps by formulas. A size has some parts; a chain of that size is
-/// found by satisfying the formula of one of them, and where the formulas of all parts of a size and
-/// of all smaller sizes are refuted, no chain of that size agrees.
+/// A way to ask for a chain of r steps by formulas. A size has parts (subproblems); a chain of that
+/// size is found by satisfying the formula of one of them, and where the formulas of all parts of a
+/// size and of all smaller sizes are refuted, no chain of that size agrees.
 pub trait Encoding {
     ghost use Rattle.std.specs.Prelude.{◌≡◌, ℕ, ◌≤◌, ◌<◌, List, length, Contains, IfOk};
     ghost use Rattle.chain_theory.specs.Agreement.{Agrees, IsOver, HasChain, IsMinimum};
@@ -23,7 +23,7 @@ pub trait Encoding {
     /// The parts of a size, in their order.
     ghost parts_of: { Self → Words → ℕ → List Part };
 
-    /// The formula of tables, a set of operators, a size and a part.
+    /// The formula of truth tables, a set of operators, a size and a part.
     ghost formula_of: { Self → Words → ℕ → ℕ → Part → Formula };
 
     /// The parts of size `r`.
@@ -45,7 +45,8 @@ pub trait Encoding {
         requires part { Contains (parts_of self.now spec.now r) part.now }
         ensures { IfOk result (λ cnf. cnf ≡ formula_of self.now spec.now basis r part.now) };
 
-    /// The chain that a satisfying assignment of that formula spells: it agrees, and is as the part asks.
+    /// The chain that a satisfying assignment of that formula spells: it agrees, and is as the part
+    /// asks.
     fn decode(
         &self,
         alloc: Global,

@@ -66,7 +66,7 @@ fn push_out_value_is(
     )
 }
 
-/// The clause of a cell that isn't free.
+/// The clause of a cell that isn't a don't-care.
 #[tactic(auto, unfolding(enc_theory::specs::Families::out_value, enc_theory::specs::Families::out_value_at))]
 fn push_out_value(
     alloc: Global,
@@ -188,7 +188,7 @@ fn push_pair_exists(
     Ok(())
 }
 
-/// The clause that step `i` has another operator, unless this one is a member.
+/// The clause that step `i` has another operator than `op`, unless that is a member.
 #[tactic(auto, unfolding(enc_theory::specs::Families::operator_clause, enc_theory::specs::Families::operator_raw))]
 fn push_operator_clause(
     alloc: Global,
@@ -252,9 +252,9 @@ pub fn push_operators(
     Ok(())
 }
 
-/// Writes the clauses that say what a chain is, for tables whose outputs are all live: each output is
-/// some step, which has the values of its cells; each step has some pair, its operator's values of
-/// that pair, and a member for its operator.
+/// Writes the clauses that say what a chain is, for tables whose outputs are all live: each output
+/// is some step, which has the values of its cells; each step has some pair, its operator's values
+/// of that pair, and an operator of the basis.
 #[tactic(auto, unfolding(enc_theory::specs::Families::common))]
 pub fn push_common(
     alloc: Global,

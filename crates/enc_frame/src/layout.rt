@@ -25,7 +25,7 @@ impl Model for StepSlots {
 }
 
 impl StepSlots {
-    /// The step at a place with these pairs.
+    /// The step at a place with the given pairs.
     pub fn new(place: u32, slots: Vec<Slot>) -> StepSlots
         ensures { result ≡ record { place = place; slots = slots.items } }
     {
@@ -47,7 +47,7 @@ impl StepSlots {
     }
 }
 
-/// Gives each pair a variable, in their order, from the first on.
+/// Gives each pair a variable, in their order, from `first` on.
 #[tactic(auto, using(crate::proofs::Laying::numbering))]
 fn number(alloc: Global, first: u32, pairs: &[Pair]) -> Result<Vec<Slot>, AllocError>
     requires { first + length pairs.now < 2 ^ 31 }
@@ -79,7 +79,8 @@ pub struct Layout {
 }
 
 impl Layout {
-    /// The steps of a formula of these sizes, whose pairs have the variables behind all others.
+    /// The steps of a formula of the given sizes; the variables of their pairs come after all
+    /// others.
     #[tactic(auto, using(crate::proofs::Laying::laying))]
     pub fn new<P: Pairs>(alloc: Global, pairs: &P, z: Sizes) -> Result<Layout, AllocError>
         requires { IsSmall z }

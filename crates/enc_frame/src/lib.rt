@@ -1,21 +1,21 @@
-//! What all encodings of chains share: the trait that an encoding implements, with its two laws; the
-//! code that writes the clauses which say what a chain is; and the code that takes a chain back out of
-//! an assignment. The clause lists are the definitions of `enc_theory`, and what is written here equals
-//! them literal by literal.
+//! What all encodings of chains share: the trait that an encoding implements, with its two laws;
+//! the code that writes the clauses which say what a chain is; and the code that decodes a chain
+//! from an assignment. The clause lists are the definitions of `enc_theory`, and what is written
+//! here equals them literal by literal.
 //!
-//! - `Encoding` promises that a formula is exactly its definition, that a chain which is decoded has
-//!   the size, is over the basis, agrees and is as its part asks, and two laws: where some assignment satisfies a formula of
-//!   size r, a chain of r steps over the basis agrees (`sound`); and where r is the least size of such
-//!   a chain, some formula of size r is satisfiable (`complete`).
+//! - `Encoding` promises that a formula is exactly its definition, that a decoded chain has the
+//!   size, is over the basis, agrees and is as its part asks, and two laws: where some assignment
+//!   satisfies a formula of size r, a chain of r steps over the basis agrees (`sound`); and where r
+//!   is the least size of such a chain, some formula of size r is satisfiable (`complete`).
 //! - `Layout::new` gives each step its pairs with their variables, in their order.
-//! - `push_common` writes the clauses of any encoding whose steps choose among pairs. Its families of
-//!   outputs and operators, which no pair is in, stand alone too, for encodings of another kind.
-//! - `decode` takes the chain out of an assignment, and `with_outs` puts outs to steps that were taken
-//!   out in another way.
-//! - `cuts` tells which cuts a basis allows; that they lose nothing is a law of `chain_laws`.
+//! - `push_common` writes the clauses of any encoding whose steps choose among pairs. Its families
+//!   of outputs and operators, which have no pairs, can be called alone, for other encodings.
+//! - `decode` decodes the chain of an assignment, and `with_outs` adds outs to steps that were
+//!   decoded in another way.
+//! - `cuts` answers which cuts a basis allows; that they lose nothing is a law of `chain_laws`.
 //!
-//! A call that writes several clauses into a list, or several pairs, may have written some of them where it
-//! refuses for want of memory; `ClauseList::push` alone leaves the list as it was.
+//! A call that writes several clauses into a list, or several pairs, may have written some of them
+//! where memory runs out; `ClauseList::push` alone then leaves the list unchanged.
 #![tactic(auto)]
 
 mod cut_set;

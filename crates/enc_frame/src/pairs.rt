@@ -22,7 +22,7 @@ pub trait Pairs {
     /// Both operands of each pair are places below the step.
     ghost below: { (pairs : Self) (place : ℕ) → All (IsPair place) (pairs_of pairs place) };
 
-    /// A step within the limits of the program has at most a thousand pairs.
+    /// A step within the bounds of the program has at most a thousand pairs.
     ghost few: { (pairs : Self) (place : ℕ) → place ≤ 22 → length (pairs_of pairs place) ≤ 1000 };
 }
 
@@ -50,8 +50,8 @@ fn push_pairs_of(
     Ok(())
 }
 
-/// Adds the pairs whose larger operand is this place, in their order; where they are ordered, those with
-/// j <= k alone.
+/// Adds the pairs whose larger operand is a given place, in their order; where they are ordered,
+/// those with j <= k alone.
 #[tactic(auto, using(clause_core::specs::RangeLaws::loops), unfolding(enc_theory::specs::Pairs::pairs_with))]
 pub fn push_pairs_with(pairs: &mut Vec<Pair>, ordered: bool, large: u32) -> Result<(), AllocError>
     requires { 1 ≤ large }

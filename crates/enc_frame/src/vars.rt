@@ -9,7 +9,7 @@ use clause_core::Raw;
 use enc_theory::Sizes;
 use tt_core::Spec;
 
-/// The sizes of a formula for these tables with `r` steps.
+/// The sizes of a formula for the tables with `r` steps.
 pub fn sizes(spec: &Spec, r: u32) -> Sizes
     requires { r ≤ 16 }
     ensures value { result ≡ sizes_of spec.now r }
@@ -77,7 +77,7 @@ pub fn f_var(z: Sizes, i: u32, b: bool, c: bool) -> u32
     f_first(z) + 4 * (i - (z.n + 1)) + (2 * u32::from(b) + u32::from(c))
 }
 
-/// The first variable behind those of values, outputs and operators.
+/// The first variable after those of values, outputs and operators.
 #[tactic(auto, unfolding(enc_theory::specs::Numbering::s_first))]
 pub fn s_first(z: Sizes) -> u32
     requires { IsSmall z }

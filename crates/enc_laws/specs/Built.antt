@@ -1,4 +1,5 @@
--- An assignment from what its variables are to be: the kind and the numbers of a variable by division.
+-- An assignment built from the values that its variables should have: the kind and the indices of a
+-- variable by division.
 use Rattle.std.proofs.Common.{◌≡◌, ℕ, ◌+◌, ◌-◌, ◌*◌, ◌/◌, ◌%◌, ◌^◌, ◌<◌, ◌≤◌, ◌==◌, Bool, true, false, refl, ◌∙◌, arith}
 use Rattle.std.specs.Prelude.{if◌then◌else◌, nat_lt}
 use Rattle.std.proofs.lemmas.Bool.{lt-ltb, le-ltb}
@@ -10,11 +11,12 @@ use Rattle.enc_theory.specs.Numbering.{x_var, g_var, f_first, bits_word, f_var, 
 use Rattle.enc_laws.specs.Bounds.{word_low}
 use Rattle.enc_laws.specs.Layouts.{IsStepPlace}
 
--- the variables before those of outputs
+-- the number of the last variable before those of outputs
 abbrev pub x_count : Sizes → ℕ
 x_count z = z.r * 2 ^ z.n
 
--- values by place and row, outputs by output and place, operators by place and two bits, and the rest
+-- values by place and row, outputs by output and place, operators by place and two bits, and all
+-- later variables
 unfoldable pub built : Sizes → (ℕ → ℕ → Bool) → (ℕ → ℕ → Bool) → (ℕ → Bool → Bool → Bool) → (ℕ → Bool) → Assignment
 built z value out operator rest x =
     if nat_lt x (x_count z + 1) then value ((x - 1) / 2 ^ z.n + (z.n + 1)) ((x - 1) % 2 ^ z.n)

@@ -1,5 +1,5 @@
--- What the clauses of a chain whose steps choose each operand by itself say of an assignment:
--- properties and clauses come to the same.
+-- What the clauses of an encoding by single operands (MSV) mean for an assignment: they are
+-- equivalent to properties.
 use Rattle.std.proofs.Common.{◌≡◌, ℕ, ◌-◌, ◌^◌, ◌<◌, ◌≤◌, Bool, true, false, not, ◌||◌, map, Contains, refl, sym, ◌∙◌, arith}
 use Rattle.std.specs.List.{list_any}
 use Rattle.sat_theory.specs.Formula.{Assignment}
@@ -17,8 +17,8 @@ use Rattle.enc_laws.specs.Layouts.{IsStepPlace}
 use Rattle.enc_laws.specs.Solves.{x_bit, MeetsTables, place_there, there_place, row_there, there_row, x_is_positive, x_is_value, clause_of, clause_gives, gives_clause, meets_from, bearers_hold, outs_hold, operators_hold}
 use Rattle.enc_laws.specs.SelectVars.{IsBelow, choice_positive, value_positive}
 
--- The assignment gives each step a place below it for each operand, the operand the value of that
--- place, and the step its operator's value of its operands' values; and the tables are met.
+-- The assignment gives each step a lower place for each operand, the operand the value of that
+-- place, and the step its operator's value of its operands' values; and outputs meet their cells.
 pub record Chooses (w : Words) (basis : ℕ) (z : Sizes) (v : Assignment) : Type 0 where
   pub tables : MeetsTables w basis z v
   pub choice : (side : Side) (i : ℕ) → IsStepPlace z i → (j : ℕ) × (1 ≤ j) × (j < i) × (v (choice_var z side i j) ≡ true)
@@ -71,7 +71,7 @@ copy_bits z v side i j t e =
     holds-written v (copy_raw z side i j t e) (choice_positive z side i j, (value_positive z side i t, (x_is_positive z j t (not e), tt)))
     ∙ rw (x_is_value z v j t (not e)) refl
 
--- the clause of the bit that the place has gives the operand that bit
+-- the clause of the place's bit gives the operand that bit
 copied : (a u x : Bool) → a ≡ true → (not a || (same u x || (same x (not x) || false))) ≡ true → u ≡ x
 unfolding same
 copied false u x true_ e = absurd cc

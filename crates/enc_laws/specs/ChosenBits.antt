@@ -1,4 +1,4 @@
--- What a chain makes of the variables, where steps choose each operand by itself.
+-- The assignment of a chain, where steps choose operands one by one (MSV).
 use Rattle.std.proofs.Common.{◌≡◌, ℕ, ◌+◌, ◌-◌, ◌*◌, ◌/◌, ◌%◌, ◌^◌, ◌<◌, ◌==◌, Bool, true, ◌||◌, length, refl, sym, ap, ◌∙◌, arith, ⊎_elim}
 use Rattle.std.specs.Prelude.{if◌then◌else◌, nat_lt}
 use Rattle.std.specs.List.{list_any}
@@ -25,7 +25,7 @@ abbrev pub operand : Side → Step → ℕ
 operand First s = s.j
 operand Second s = s.k
 
--- the variable is that of an operand of some step
+-- the number is that of an operand's value of some step
 abbrev step_chooses : Sizes → Chain → ℕ → ℕ → Bool
 step_chooses z c x i = choice_var z First i (step_at c i).j == x || choice_var z Second i (step_at c i).k == x
 
@@ -41,7 +41,7 @@ select_rest z c x =
     if nat_lt x (value_first z First) then choice_bit z c x
     else (if nat_lt x (value_first z Second) then operand_bit z c First (x - value_first z First) else operand_bit z c Second (x - value_first z Second))
 
--- The variables of choices and of operands' values are those of the chain.
+-- The variables of choices and of operands' values, from those of the chain.
 pub record IsOfChoices (w : Words) (r : ℕ) (c : Chain) (v : Assignment) : Type 0 where
   pub of : IsOfChain w r c v
   pub has : (side : Side) (i : ℕ) → IsStepPlace (sizes_of w r) i → v (choice_var (sizes_of w r) side i (operand side (step_at c i))) ≡ true
@@ -104,7 +104,7 @@ only_its w basis r c side l j is below true_ =
     (λ (second : (choice_var z Second i (step_at c i).k == x) ≡ true). by Second (eqb-true (choice_var z Second i (step_at c i).k) x second))
     (or_cases (choice_var z First i (step_at c i).j == x) (choice_var z Second i (step_at c i).k == x) found.passes)
 
--- What a chain makes of the variables is of it,
+-- The assignment of a chain is of that chain,
 pub select_bits : (w : Words) (basis r : ℕ) (c : Chain) → IsFor w basis r c → IsOfChoices w r c (chain_bits (sizes_of w r) c (select_rest (sizes_of w r) c))
 unfolding choice_bit
 select_bits w basis r c is =

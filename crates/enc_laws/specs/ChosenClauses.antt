@@ -1,4 +1,4 @@
--- The clauses of an encoding whose steps choose each operand by itself are clauses of a formula.
+-- The clauses of an encoding by single operands (MSV) are clauses of a formula.
 use Rattle.std.proofs.Common.{◌≡◌, ℕ, ◌+◌, ◌-◌, ◌^◌, ◌<◌, ◌≤◌, ◌==◌, Bool, true, false, not, ◌&&◌, List, [], ◌∷◌, ◌++◌, map, Contains, arith, ⊎_elim, ◌⊎◌}
 use Rattle.std.specs.Prelude.{ℤ, if◌then◌else◌, nat_lt}
 use Rattle.std.specs.List.{flat_map, range_with_len}

@@ -1,4 +1,4 @@
--- A reduced chain satisfies the cuts, where steps choose each operand by itself.
+-- A reduced chain satisfies the cuts of the encoding by single operands (MSV).
 use Rattle.std.proofs.Common.{◌≡◌, ◌⊎◌, ℕ, ◌+◌, ◌-◌, ◌<◌, ◌≤◌, ◌==◌, Bool, true, false, not, ◌&&◌, ◌||◌, List, [], ◌∷◌, ◌++◌, map, get_or, Contains, refl, sym, ap, ◌∙◌, subst, arith, inl, inr, ⊎_elim}
 use Rattle.std.specs.Prelude.{ℤ, if◌then◌else◌, min, max, nat_lt}
 use Rattle.std.specs.List.{flat_map, range_with_len}
@@ -64,7 +64,7 @@ module _ (w : Words) (basis r : ℕ) (c : Chain) (v : Assignment) (choices : IsO
   has_both : (i j k : ℕ) → IsBelow (sizes_of w r) i j → IsBelow (sizes_of w r) i k → v (choice_var (sizes_of w r) First i j) ≡ true → v (choice_var (sizes_of w r) Second i k) ≡ true → ((step_at c i).j ≡ j) × ((step_at c i).k ≡ k)
   has_both i j k first second j_true k_true = (choices.only First i j first j_true, choices.only Second i k second k_true)
 
-  -- the operands are others, or something else is true
+  -- the operands are others, or another literal is true
   unless_these : (i j k : ℕ) (more : List Raw) → IsBelow (sizes_of w r) i j → IsBelow (sizes_of w r) i k → ((step_at c i).j ≡ j → (step_at c i).k ≡ k → raws_bit v more ≡ true) → raws_bit v (not_these (sizes_of w r) i j k ++ more) ≡ true
   unfolding raws_bit raw_value same
   unless_these i j k more first second each =
@@ -110,7 +110,7 @@ module _ (w : Words) (basis r : ℕ) (c : Chain) (v : Assignment) (choices : IsO
       (flat_map_make (choosers z i) (above z i) l (Var (choice_var z side l i) true) (range_contains (i + 1) (w.n + r - i) l (omega arith) (omega arith)) (chooser_there side i l))
       (ap (λ (j : ℕ). v (choice_var z side l j)) (sym e) ∙ choices.has side l place)
 
-  -- the step that reads a place stands above it
+  -- the step that reads a place is above it
   pub record IsReader (i : ℕ) (a : Step) : Type 0 where
     pub place : ℕ
     pub is_place : IsStepPlace (sizes_of w r) place
@@ -228,7 +228,7 @@ module _ (w : Words) (basis r : ℕ) (c : Chain) (v : Assignment) (choices : IsO
       (both_hold v (negation_step basis z i 10) (negation_step basis z i 12 ++ []) (negation_step_holds i 10 (omega arith) (inr refl) place)
       (both_hold v (negation_step basis z i 12) [] (negation_step_holds i 12 (omega arith) (inl refl) place) refl)))
 
-  -- ---- second operands never fall
+  -- ---- second operands never decrease
 
   falling_pair_holds : (i k l : ℕ) → swap_closed (members basis) ≡ true → IsStepPlace (sizes_of w r) i → IsStepPlace (sizes_of w r) (i + 1) → 1 ≤ l → l < k → k < i → holds v (falling_pair (sizes_of w r) i k l) ≡ true
   unfolding falling_pair raws_bit raw_value same
@@ -260,7 +260,7 @@ module _ (w : Words) (basis r : ℕ) (c : Chain) (v : Assignment) (choices : IsO
       let (l_from, l_to) = there_below k l in_lower in
       falling_pair_holds i k l closed (record { from = from; to = omega arith }) (record { from = omega arith; to = omega arith }) l_from l_to k_to))))
 
-  -- ---- no step is applied again
+  -- ---- no re-application
 
   again_never : (i l : ℕ) → reapply_closed (members basis) ≡ true → IsStepPlace (sizes_of w r) i → IsStepPlace (sizes_of w r) l → i < l → AppliesAgain i (step_at c i) (step_at c l) → ⊥
   again_never i l closed place later less again =
@@ -318,7 +318,7 @@ module _ (w : Words) (basis r : ℕ) (c : Chain) (v : Assignment) (choices : IsO
 
   -- ---- all cuts
 
-  -- What a reduced chain makes of the variables satisfies all cuts.
+  -- The assignment of a reduced chain satisfies all cuts.
   pub chosen_cuts_hold : holds v (chosen_cuts basis (sizes_of w r)) ≡ true
   unfolding chosen_cuts
   chosen_cuts_hold =

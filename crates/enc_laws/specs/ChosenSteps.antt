@@ -1,4 +1,4 @@
--- What an assignment spells, where steps choose each operand by itself, is a chain that agrees.
+-- What an assignment of an encoding by single operands (MSV) spells is a chain that agrees.
 use Rattle.std.proofs.Common.{◌≡◌, ℕ, ◌+◌, ◌^◌, ◌<◌, Bool, true, false, ◌||◌, List, [], ◌∷◌, map, get_or, Some, Contains, refl, sym, ap, ◌∙◌, arith}
 use Rattle.std.specs.Prelude.{if◌then◌else◌, slice_get}
 use Rattle.std.specs.List.{list_any}
@@ -41,7 +41,7 @@ first_choice_is z v side i [] any = absurd cc
 first_choice_is z v side i (j ∷ js) any =
     here_or_later z v side i j js (first_choice z v side i js) (v (choice_var z side i j)) refl (λ e. first_choice_is z v side i js (sym (ap (λ (b : Bool). b || list_any (λ j. v (choice_var z side i j)) js) e) ∙ any))
 
--- the operand that is spelled
+-- the operand that the assignment spells
 abbrev pub spelled_operand : Sizes → Assignment → Side → ℕ → ℕ
 spelled_operand z v side i = first_choice z v side i (below i)
 
@@ -71,7 +71,7 @@ module _ (w : Words) (basis : ℕ) (z : Sizes) (v : Assignment) (is : Chooses w 
       let here : z.n + 1 + k ≡ made.from = sym (get_or-range_with_len (z.n + 1) z.r k 0 low) ∙ get_or_from_slice_get (places z) k made.from 0 made.at in
       record { place = record { from = omega arith; to = omega arith }; is_step = made.is ∙ ap (chosen_step z v) (sym here) }
 
-  -- What has the properties spells steps, and a step for each output.
+  -- An assignment with the properties spells steps, and a step for each output.
   pub chosen_spells : IsSpelled w z v (map (chosen_step z v) (places z)) (λ h. first_bearer z v h (places z))
   unfolding chosen_step
   chosen_spells = record {

@@ -33,35 +33,35 @@ use Rattle.enc_laws.specs.Decoded.{IsFor}
 abbrev pub step_at : Chain → ℕ → Step
 step_at c i = get_or c.steps (i - (c.n + 1)) (record { j = 1; k = 1; op = 0 })
 
--- the out is this place
+-- the out is the given place
 abbrev pub is_place : ℕ → Out → Bool
 is_place i Zero = false
 is_place i One = false
 is_place i (Place p) = p == i
 
--- the slot has the step's pair
+-- the slot has the pair of its step
 abbrev pub is_pair_of : Step → Slot → Bool
 is_pair_of s u = (u.j == s.j) && (u.k == s.k)
 
--- the variable is that of the pair that its step has
+-- the variable is that of a slot with the pair of its step
 unfoldable pub slot_bit : Chain → List StepSlots → ℕ → Bool
 slot_bit c steps x = list_any (λ s. list_any (λ u. (u.var == x) && is_pair_of (step_at c s.place) u) s.slots) steps
 
--- What a chain makes of the variables: the values of its steps, what its outputs are, its operators,
--- and the variables behind these,
+-- The assignment of a chain: the values of its steps, its outputs, its operators, and the variables
+-- after these,
 abbrev pub chain_bits : Sizes → Chain → (ℕ → Bool) → Assignment
 chain_bits z c rest = built z (λ i t. value c t i) (λ h i. is_place i (out_at c.outs h)) (λ i b c'. apply (step_at c i).op b c') rest
 
--- where these are pairs.
+-- which here are those of pairs.
 abbrev pub assignment_of : Sizes → List StepSlots → Chain → Assignment
 assignment_of z steps c = chain_bits z c (slot_bit c steps)
 
--- a variable is that of one slot, and the pair of each step has a slot
+-- a variable is that of at most one slot, and the pair of each step has a slot
 pub record HasPairs (steps : List StepSlots) (c : Chain) : Type 0 where
   pub once : (s s' : StepSlots) (u u' : Slot) → IsSlotOf steps s u → IsSlotOf steps s' u' → u.var ≡ u'.var → IsSameSlot s s' u u'
   pub has : (s : StepSlots) → Contains steps s → HasSlot s.slots (step_at c s.place).j (step_at c s.place).k
 
--- each out is a step's
+-- each out is the place of a step
 pub record HasStepOuts (c : Chain) (m : ℕ) : Type 0 where
   pub each : (h : ℕ) → 1 ≤ h → h ≤ m → IsStepOut c.n (c.n + length c.steps) (out_at c.outs h)
 
@@ -96,7 +96,7 @@ true_slot steps c s u pairs is true_ =
     let same = pairs.once outer.element s inner.element u (record { step = outer.inside; slot = inner.inside }) is (eqb-true inner.element.var u.var var) in
     ap (λ (x : StepSlots). is_pair_of (step_at c x.place) u) (sym same.step) ∙ ap (is_pair_of (step_at c outer.element.place)) (sym same.slot) ∙ pair
 
--- ---- what a chain makes of the variables of values, outputs and operators, whatever comes behind
+-- ---- the assignment's variables of values, outputs and operators, whatever the later ones are
 
 pub record IsOfChain (w : Words) (r : ℕ) (c : Chain) (v : Assignment) : Type 0 where
   pub values : (i t : ℕ) → IsStepPlace (sizes_of w r) i → t < 2 ^ w.n → v (x_var (sizes_of w r) i t) ≡ value c t i
@@ -146,7 +146,7 @@ module _ (w : Words) (basis r : ℕ) (c : Chain) (v : Assignment) (of : IsOfChai
       x_bit-input (sizes_of w r) v p t inp ∙ ap (λ (n : ℕ). input n t p) (sym inputs) ∙ sym (value-input c t p (omega arith)))
       (cases_lt w.n p)
 
-  -- the operator's variables spell it
+  -- the operator's variables spell the operator
   pub operator_is : IsFor w basis r c → (i : ℕ) → IsStepPlace (sizes_of w r) i → (step_at c i).op ≡ operator_in (sizes_of w r) v i
   operator_is is i place = operator_only (λ b b'. v (f_var (sizes_of w r) i b b')) (step_at c i).op (step_below w basis r c is i place).op_below (λ b b'. sym (of.operators i b b' place))
 
@@ -184,7 +184,7 @@ module _ (w : Words) (basis r : ℕ) (steps : List StepSlots) (c : Chain) where
   pub bits_are_values : IsFor w basis r c → (p t : ℕ) → p < w.n + 1 + r → t < 2 ^ w.n → x_bit (sizes_of w r) (assignment_of (sizes_of w r) steps c) p t ≡ value c t p
   bits_are_values is p t low row = bits_are w basis r c (assignment_of (sizes_of w r) steps c) of_pairs is p t low row
 
-  -- What a chain makes of the variables has all properties.
+  -- The assignment of a chain has all properties.
   pub chain_solves : IsFor w basis r c → HasStepOuts c (length w.on) → IsLaid (sizes_of w r) steps → HasPairs steps c → Solves w basis (sizes_of w r) steps (assignment_of (sizes_of w r) steps c)
   chain_solves is outs laid pairs = record {
     tables = chain_meets w basis r c (assignment_of (sizes_of w r) steps c) of_pairs is outs;

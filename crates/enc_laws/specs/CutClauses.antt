@@ -29,7 +29,7 @@ pub are_of-flat_map : {X : Type 0} (vars : ℕ) (f : X → List Raw) (xs : List 
 are_of-flat_map vars f [] each = tt
 are_of-flat_map vars f (x ∷ xs) each = are_of-append vars (f x) (flat_map f xs) (each x (contains_head x xs)) (are_of-flat_map vars f xs (λ y c. each y (contains_tail x y xs c)))
 
--- clauses and literals that are listed under a test
+-- clauses and literals that are listed only where a test passes
 pub clauses_if : (vars : ℕ) (test : Bool) (clauses : List (List ℤ)) → AreClauses vars clauses → AreClauses vars (if test then clauses else [])
 clauses_if vars true clauses are = are
 clauses_if vars false clauses are = no_clauses vars
@@ -38,7 +38,7 @@ one_if : (vars : ℕ) (test : Bool) (raw : Raw) → IsOf vars raw → AreOf vars
 one_if vars true raw is = (is, tt)
 one_if vars false raw is = tt
 
--- ---- what no pair is in
+-- ---- clauses without pairs
 
 module _ (vars basis : ℕ) (z : Sizes) (steps : List StepSlots) (room : HasRoom vars z steps) where
   pub operator_of : (i : ℕ) (b c bit : Bool) → IsStepPlace z i → IsOf vars (Var (f_var z i b c) bit)

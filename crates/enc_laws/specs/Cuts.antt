@@ -68,7 +68,7 @@ module _ (w : Words) (basis r : ℕ) (steps : List StepSlots) (c : Chain) (place
       let slot : IsSlotOf steps s has.slot = record { step = in_steps; slot = has.inside } in
       (has.slot, has.inside, has.is_j, has.is_k, v_s w basis r steps c has.slot.var (placed.laid.behind s has.slot slot) ∙ slot_true steps c s has.slot slot (test_pair (step_at c s.place) has.slot has.is_j has.is_k))
 
-  -- ---- each step is an output or is read
+  -- ---- all steps used
 
   reader_there : (p : ℕ) (u : Slot) → reads u p ≡ true → Contains (reader p u) (chosen u)
   unfolding reader
@@ -89,7 +89,7 @@ module _ (w : Words) (basis r : ℕ) (steps : List StepSlots) (c : Chain) (place
   unfolding readers
   readers_positive p later inside = positive-flat_map (readers p) later (λ s in_later. positive-flat_map (reader p) s.slots (λ u in_slots. reader_positive p s u record { step = inside s in_later; slot = in_slots }))
 
-  -- a step reads places below it alone
+  -- a step reads lower places alone
   reads_below : (k : ℕ) (a : Step) (p : ℕ) → IsStep c k a → Reads a p → p < c.n + 1 + k
   reads_below k a p at (inl e) = let below = placed.is.is_chain.steps.each k a at in let j = below.j_below in omega arith
   reads_below k a p at (inr e) = let below = placed.is.is_chain.steps.each k a at in let k' = below.k_below in omega arith
@@ -124,7 +124,7 @@ module _ (w : Words) (basis r : ℕ) (steps : List StepSlots) (c : Chain) (place
   pub used_holds : IsReduced (members basis) (specification w) c → holds (assignment_of (sizes_of w r) steps c) (used (sizes_of w r) steps) ≡ true
   used_holds reduced = used_each reduced steps (w.n + 1) (rest_all (sizes_of w r) steps placed.laid)
 
-  -- ---- pairs never fall
+  -- ---- co-lexicographic order: pairs never decrease
 
   not_both_holds : (s s' : StepSlots) (u u' : Slot) → IsSlotOf steps s u → IsSlotOf steps s' u'
       → (assignment_of (sizes_of w r) steps c u.var ≡ true → assignment_of (sizes_of w r) steps c u'.var ≡ true → ⊥) → holds (assignment_of (sizes_of w r) steps c) (not_both u u') ≡ true
@@ -165,7 +165,7 @@ module _ (w : Words) (basis r : ℕ) (steps : List StepSlots) (c : Chain) (place
   pub order_holds : IsReduced (members basis) (specification w) c → holds (assignment_of (sizes_of w r) steps c) (order steps) ≡ true
   order_holds reduced = order_each reduced steps (w.n + 1) (rest_all (sizes_of w r) steps placed.laid)
 
-  -- ---- no step is applied again
+  -- ---- no re-application
 
   again_pair_holds : (reduced : IsReduced (members basis) (specification w) c) (s s' : StepSlots) (u u' : Slot) → reapply_closed (members basis) ≡ true → s.place < s'.place → IsSlotOf steps s u → IsSlotOf steps s' u' → holds (assignment_of (sizes_of w r) steps c) (again_pair s.place u u') ≡ true
   unfolding again_pair holds
@@ -196,7 +196,7 @@ module _ (w : Words) (basis r : ℕ) (steps : List StepSlots) (c : Chain) (place
   unfolding again
   again_holds reduced = if_holds (assignment_of (sizes_of w r) steps c) (reapply_closed (members basis)) (again_all steps) (λ closed. again_each reduced steps (w.n + 1) closed (rest_all (sizes_of w r) steps placed.laid))
 
-  -- ---- no step is trivial
+  -- ---- non-trivial operators
 
   equal_pair_there : (u : Slot) → u.j ≡ u.k → Contains (equal_pair u) (chosen u)
   unfolding equal_pair
@@ -271,7 +271,7 @@ module _ (w : Words) (basis r : ℕ) (steps : List StepSlots) (c : Chain) (place
       (both_hold v (negation_raw basis z s 10) (negation_raw basis z s 12 ++ []) (negation_holds reduced s 10 in_steps (omega arith) (inr refl))
       (both_hold v (negation_raw basis z s 12) [] (negation_holds reduced s 12 in_steps (omega arith) (inl refl)) refl)))
 
-  -- ---- inputs that may be exchanged
+  -- ---- symmetric inputs
 
   without_positive : (p q : ℕ) (s : StepSlots) → Contains steps s → ArePositive (readers_without p q s)
   unfolding readers_without reader_without chosen
@@ -346,7 +346,7 @@ module _ (w : Words) (basis r : ℕ) (steps : List StepSlots) (c : Chain) (place
 
   -- ---- all cuts
 
-  -- What a reduced chain makes of the variables satisfies all cuts.
+  -- The assignment of a reduced chain satisfies all cuts.
   pub cuts_hold : IsReduced (members basis) (specification w) c → holds (assignment_of (sizes_of w r) steps c) (cuts w basis (sizes_of w r) steps) ≡ true
   unfolding cuts
   cuts_hold reduced =

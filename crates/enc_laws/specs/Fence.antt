@@ -34,7 +34,7 @@ use Rattle.enc_laws.specs.ByPairs.{whole_has, by_pairs_decodes, reduced_satisfie
 
 -- ---- the places of the level below
 
--- they are places below
+-- they are lower places
 pub under_low : (first count : ℕ) (fence : List ℕ) (k p : ℕ) → Contains (places_under first count fence k) p → (first ≤ p) × (p < first + count + k)
 unfolding places_under
 under_low first count [] k p c = absurd (omega (arith, c.1))
@@ -61,7 +61,7 @@ fence_pairs_are_below ordered n fence = record {
       record { j_from = is.j_from; j_below = omega arith; k_from = is.k_from; k_below = omega arith };
 }
 
--- the level of a place, where the level below the fence's first has so many places from `first` on
+-- the level of a place, where the level below the fence's first has `count` places from `first` on
 abbrev pub level_from : ℕ → ℕ → List ℕ → ℕ → ℕ
 level_from first count fence p = if nat_lt p (first + count) then 0 else level_by fence (p - (first + count))
 
@@ -119,7 +119,7 @@ under_has first count (q ∷ qs) k p low from to e =
 
 -- ---- a chain in its fence
 
--- the level of a place of a chain that stands in the fence
+-- the level of a place of a chain in level order, by its fence
 level_is : (c : Chain) (fence : List ℕ) → StandsIn c fence → (p : ℕ) → 1 ≤ p → p < c.n + 1 + length c.steps → level c p ≡ level_from 1 c.n fence p
 level_is c fence stands p from low = ⊎_elim
     (λ (is_input : p ≤ c.n). input_level c.n p c.steps is_input ∙ sym (level_from_low 1 c.n fence p (omega arith)))
@@ -129,7 +129,7 @@ level_is c fence stands p from low = ⊎_elim
     ap (level c) here ∙ stands.levels is_step.0 is_step.1 ∙ ap (level_by fence) offset ∙ sym (level_from_high 1 c.n fence p (omega arith)))
     (place_cases c.n (length c.steps) p low)
 
--- The pairs of a reduced chain that stands in the fence are there.
+-- The pairs of a reduced chain in its fence are those of the encoding.
 stands_allowed : (w : Words) (basis r : ℕ) (c : Chain) (fence : List ℕ) → IsFor w basis r c → IsReduced (members basis) (specification w) c → StandsIn c fence → IsAllowed (fence_pairs (swap_closed (members basis)) w.n fence) w r c
 unfolding fence_pairs
 stands_allowed w basis r c fence is reduced stands = record {

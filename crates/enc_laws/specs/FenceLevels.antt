@@ -1,5 +1,6 @@
--- What a solution of a fence's formula spells has at most the fence's levels: the fence gives each place a
--- level, a step may have the pairs alone whose places have lower ones, and no step's level is above that.
+-- A solution of a fence's formula spells a chain of at most the fence's levels: the fence gives
+-- each place a level, the pairs of a step have places of lower levels alone, and no step's level is
+-- above that.
 use Rattle.std.proofs.Common.{◌≡◌, ℕ, ◌+◌, ◌-◌, ◌<◌, ◌≤◌, Bool, List, [], ◌∷◌, length, map, Contains, ap, ◌∙◌, subst, arith, ⊎_elim}
 use Rattle.std.specs.Prelude.{nat_lt}
 use Rattle.std.specs.List.{range_with_len}

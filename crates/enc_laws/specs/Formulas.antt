@@ -22,7 +22,7 @@ use Rattle.enc_laws.specs.Layouts.{IsStepPlace, IsSlotOf, IsLaid, AreBelow, numb
 
 -- ---- the families of a chain
 
--- room for all variables but those of pairs, and for those
+-- room for all variables except those of pairs, and for those too
 pub record HasRoom (vars : ℕ) (z : Sizes) (steps : List StepSlots) : Type 0 where
   pub common : s_first z ≤ vars + 1
   pub slots : (s : StepSlots) (u : Slot) → IsSlotOf steps s u → u.var ≤ vars

@@ -1,4 +1,4 @@
--- The laws of the plain encoding, and what they share with every encoding by pairs.
+-- The laws of the plain encoding, and what it shares with every encoding by pairs.
 use Rattle.std.proofs.Common.{◌≡◌, ℕ, ◌≤◌, true, false, List, length, Contains}
 use Rattle.chain_theory.specs.Chain.{Chain}
 use Rattle.chain_theory.specs.Agreement.{HasChain}
@@ -28,7 +28,7 @@ use Rattle.enc_laws.specs.Complete.{step_at, assignment_of, HasPairs, HasStepOut
 pub record AreLive (w : Words) : Type 0 where
   pub each : (h : ℕ) → 1 ≤ h → h ≤ length w.on → is_live (specification w) h ≡ true
 
--- each step's pair is among those that it may have
+-- each step's pair is among its given ones
 pub record IsAllowed (pairs : ℕ → List Pair) (w : Words) (r : ℕ) (c : Chain) : Type 0 where
   pub each : (i : ℕ) → IsStepPlace (sizes_of w r) i → Contains (pairs i) (pair (step_at c i).j (step_at c i).k)
 
@@ -42,7 +42,7 @@ allowed_pairs pairs w r c below allowed = record {
       (allowed.each s.place (laid_is_place (sizes_of w r) (layout pairs (sizes_of w r)) s (layout_is_laid pairs (sizes_of w r) below) c_s));
 }
 
--- A chain whose pairs are allowed satisfies the clauses of a chain.
+-- The assignment of a chain with allowed pairs satisfies the clauses of a chain.
 pub chain_satisfies : (pairs : ℕ → List Pair) (w : Words) (basis r : ℕ) (c : Chain) → AreBelow w.n pairs → AreLive w → IsFor w basis r c → IsAllowed pairs w r c
     → holds (assignment_of (sizes_of w r) (layout pairs (sizes_of w r)) c) (common w basis (sizes_of w r) (layout pairs (sizes_of w r))) ≡ true
 chain_satisfies pairs w basis r c below live is allowed =
@@ -62,7 +62,7 @@ picked_is_for w basis r c is = record {
   agrees = picked_agrees w c is.agrees;
 }
 
--- any pair of places below is allowed
+-- any pair of lower places is allowed
 all_allowed : (w : Words) (basis r : ℕ) (c : Chain) → IsFor w basis r c → IsAllowed (pairs_below false) w r c
 all_allowed w basis r c is = record {
   each = λ i place.

@@ -1,4 +1,4 @@
--- What the steps of a layout and their pairs are.
+-- The steps of a layout and their pairs.
 use Rattle.std.proofs.Common.{◌≡◌, ◌⊎◌, ℕ, zero, suc, ◌+◌, ◌-◌, ◌<◌, ◌≤◌, Bool, true, false, List, [], ◌∷◌, length, Some, Contains, refl, sym, ap, ◌∙◌, subst, arith, ⊎_elim}
 use Rattle.std.specs.Prelude.{slice_get, max}
 use Rattle.std.specs.List.{flat_map, range_with_len}
@@ -16,7 +16,7 @@ pub record IsStepPlace (z : Sizes) (i : ℕ) : Type 0 where
   pub from : z.n + 1 ≤ i
   pub to : i < z.n + 1 + z.r
 
--- both operands are places below
+-- both operands are lower places
 pub record IsPairBelow (place j k : ℕ) : Type 0 where
   pub j_from : 1 ≤ j
   pub j_below : j < place
@@ -28,8 +28,8 @@ pub record IsSlotOf (steps : List StepSlots) (s : StepSlots) (u : Slot) : Type 0
   pub step : Contains steps s
   pub slot : Contains s.slots u
 
--- The steps stand at their places in turn, and the pairs of each are of places below it; the
--- variables of pairs come behind all others.
+-- The steps have consecutive places, and the pairs of each are of lower places; the variables of
+-- pairs come after all others.
 pub record IsLaid (z : Sizes) (steps : List StepSlots) : Type 0 where
   pub count : length steps ≡ z.r
   pub places : (k : ℕ) (s : StepSlots) → slice_get steps k ≡ Some s → s.place ≡ z.n + 1 + k
@@ -124,7 +124,7 @@ laid_place pairs v place (suc count) zero s at =
 laid_place pairs v place (suc count) (suc k) s at =
     let more = laid_place pairs (v + length (pairs place)) (place + 1) count k s at in omega arith
 
--- where a step's variables begin
+-- the first variable of a step's pairs
 pub record IsLaidStep (pairs : ℕ → List Pair) (v place : ℕ) (s : StepSlots) : Type 0 where
   pub first : ℕ
   pub from : v ≤ first
@@ -152,7 +152,7 @@ laid_step pairs v place (suc count) s c = ⊎_elim
     })
     (contains_cases (record { place = place; slots = numbered v (pairs place) }) s (laid pairs (v + length (pairs place)) (place + 1) count) c)
 
--- what a slot of a laid step is
+-- a slot of a laid step, by its step and its number
 pub record IsLaidSlot (pairs : ℕ → List Pair) (v : ℕ) (s : StepSlots) (u : Slot) : Type 0 where
   pub has : Contains (pairs s.place) (pair u.j u.k)
   pub from : v ≤ u.var
@@ -200,7 +200,7 @@ laid_once pairs v place (suc count) s s' u u' is is' e = ⊎_elim
 
 -- ---- layouts
 
--- all pairs that a step may have are of places below it
+-- all pairs of a step are of lower places
 pub record AreBelow (n : ℕ) (pairs : ℕ → List Pair) : Type 0 where
   pub each : (place : ℕ) (p : Pair) → n + 1 ≤ place → Contains (pairs place) p → IsPairBelow place p.j p.k
 
@@ -215,7 +215,7 @@ layout_is_laid pairs z are = record {
 pub layout_once : (pairs : ℕ → List Pair) (z : Sizes) (s s' : StepSlots) (u u' : Slot) → IsSlotOf (layout pairs z) s u → IsSlotOf (layout pairs z) s' u' → u.var ≡ u'.var → IsSameSlot s s' u u'
 layout_once pairs z s s' u u' is is' e = laid_once pairs (s_first z) (z.n + 1) z.r s s' u u' is is' e
 
--- a pair that a step may have has a slot there
+-- each pair of a step has a slot there
 pub layout_has : (pairs : ℕ → List Pair) (z : Sizes) (s : StepSlots) (j k : ℕ) → Contains (layout pairs z) s → Contains (pairs s.place) (pair j k) → HasSlot s.slots j k
 layout_has pairs z s j k c has =
     let step = laid_step pairs (s_first z) (z.n + 1) z.r s c in
@@ -259,7 +259,7 @@ pairs_are_below ordered n = record {
       record { j_from = is.j_from; j_below = omega arith; k_from = is.k_from; k_below = omega arith };
 }
 
--- and all of them are there
+-- and all of them are in the list
 with_has : (ordered : Bool) (large : ℕ) (p : Pair) (small : ℕ) → 1 ≤ small → small < large → Contains (pairs_of ordered large small) p → Contains (pairs_with ordered large) p
 unfolding pairs_with
 with_has ordered large p small some low c =

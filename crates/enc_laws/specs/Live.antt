@@ -1,4 +1,4 @@
--- What the live part of tables has to do with the whole: chains of the one and of the other.
+-- The live part of truth tables and the whole: chains of the one and of the other.
 use Rattle.std.proofs.Common.{◌≡◌, ◌⊎◌, ℕ, zero, suc, ◌+◌, ◌-◌, ◌<◌, ◌≤◌, ◌^◌, Bool, true, false, List, ◌∷◌, [], ◌++◌, length, map, get_or, Option, Some, None, refl, sym, ap, ◌∙◌, subst, arith, inl, inr, ⊎_elim}
 use Rattle.std.specs.Prelude.{slice_index, slice_index_or, Contains, if◌then◌else◌}
 use Rattle.std.proofs.lemmas.Bool.{cases_lt, both_ways, false_from_ne_true}
@@ -31,7 +31,7 @@ pub live_fits_none : (s : Specification) (h : ℕ) → is_live s h ≡ true → 
 unfolding is_live
 live_fits_none s h live out trivial = none_fits s h (none_is (trivial_of s h) live) out trivial
 
--- a place in a list, and what stands there
+-- the index of an element, and the element there
 pub record StandsAt (xs : List ℕ) (i x : ℕ) : Type 0 where
   pub within : i < length xs
   pub is : get_or xs i 0 ≡ x
@@ -50,7 +50,7 @@ pushed_stands true xs y i e last = record {
 }
 pushed_stands false xs y i e last = absurd cc
 
--- A live output has as many live outputs in front of it as there are below it.
+-- A live output has as many live outputs before it as its index in the list.
 pub live_stands : (s : Specification) (k h : ℕ) → 1 ≤ h → h ≤ k → is_live s h ≡ true → StandsAt (live_among s k) (length (live_among s (h - 1))) h
 unfolding live_among
 live_stands s zero h some low live = absurd (omega arith)
@@ -63,7 +63,7 @@ live_stands s (suc k) h some low live = elim (cases_lt h (suc k)) [
       (pushed_stands (is_live s (suc k)) (live_among s k) (suc k) (length (live_among s (h - 1))) (ap (is_live s) same ∙ live) (ap (λ (x : ℕ). length (live_among s x)) below))
 ]
 
--- the output of the whole that output h of the live part is
+-- the output of the whole whose table output h of the live part has
 abbrev pub whole_output : Words → ℕ → ℕ
 whole_output w h = slice_index (live_outputs (specification w)) (h - 1)
 
@@ -109,14 +109,14 @@ pub record IsStepOut (n last : ℕ) (out : Out) : Type 0 where
   pub above : n < place
   pub within : place ≤ last
 
--- an out that doesn't cost nothing is a step's
+-- an out that isn't trivial is a step's place
 out_cases : (n last : ℕ) (out : Out) → NamesPlace last out → (IsTrivial n out → ⊥) → IsStepOut n last out
 out_cases n last Zero names costs = absurd (costs tt)
 out_cases n last One names costs = absurd (costs tt)
 out_cases n last (Place p) names costs = ⊎_elim (λ (above : n < p). record { place = p; is = refl; above = above; within = names.1 })
     (λ (below : p ≤ n). absurd (costs (names.0, below))) (cases_lt n p)
 
--- The out of a live output is a step's, in each chain that agrees.
+-- The out of a live output is a step's place, in each chain that agrees.
 pub live_out_is_step : (s : Specification) (c : Chain) (h : ℕ) → IsChain c → Agrees c s → 1 ≤ h → h ≤ s.outputs → is_live s h ≡ true → IsStepOut c.n (c.n + length c.steps) (slice_index_or c.outs (h - 1) Zero)
 live_out_is_step s c h is agrees some low live =
     let count = agrees.outputs in
@@ -163,7 +163,8 @@ picked_is_chain w c is count = record {
       rw here (is.outs (get_or (live_outputs (specification w)) k 0 - 1) Zero (omega arith));
 }
 
--- A chain that agrees with the tables agrees with their live part, with the outs of the live outputs.
+-- Where a chain agrees with the tables, it agrees with their live part, with the outs of the live
+-- outputs.
 pub picked_agrees : (w : Words) (c : Chain) → Agrees c (specification w) → Agrees (picked w c) (specification (live_words w))
 picked_agrees w c agrees = record {
   inputs = agrees.inputs;
@@ -179,7 +180,7 @@ picked_agrees w c agrees = record {
 abbrev pub whole_chain : Words → Chain → Chain
 whole_chain w c = record { n = c.n; steps = c.steps; outs = restored (specification w) c.outs }
 
--- an out that is restored is a trivial one that fits, or that of an output of the live part
+-- a restored out is a trivial one that fits, or that of an output of the live part
 pub record IsFitting (s : Specification) (h : ℕ) (out : Out) : Type 0 where
   pub trivial : IsTrivial s.inputs out
   pub fitting : fits s h out ≡ true
@@ -248,7 +249,8 @@ restored_met w c h t out agrees row (inr part) =
     rw (part.is) (subst (λ (x : ℕ). is_met (cell_of w x t) (out_value c t (out_at c.outs part.output)) ≡ true) part.whole
     (rw (part_cell w part.output t part.from part.to) at (agrees.cells part.output t part.from part.to row)))
 
--- A chain that agrees with the live part agrees with the tables, with the trivial outs put back.
+-- Where a chain agrees with the live part, it agrees with the tables, with the trivial outs put
+-- back.
 pub restored_agrees : (w : Words) (c : Chain) → Agrees c (specification (live_words w)) → Agrees (whole_chain w c) (specification w)
 restored_agrees w c agrees = record {
   inputs = agrees.inputs;

@@ -1,5 +1,5 @@
--- A reduced chain satisfies the cuts that speak of outputs, operators and values alone, however steps
--- get their operands.
+-- A reduced chain satisfies the cuts about outputs, operators and values alone, whatever way steps
+-- choose their operands.
 use Rattle.std.proofs.Common.{◌≡◌, ℕ, ◌+◌, ◌-◌, ◌<◌, ◌≤◌, Bool, true, false, List, [], ◌∷◌, ◌++◌, length, map, get_or, refl, sym, ap, ◌∙◌, subst, arith, inl, inr, ⊎_elim}
 use Rattle.std.specs.Prelude.{ℤ}
 use Rattle.std.specs.List.{flat_map}

@@ -1,4 +1,4 @@
--- The tests of pairs that the cuts make, and what they say of a chain's steps.
+-- The tests of pairs in the cuts, and what they mean for a chain's steps.
 use Rattle.std.proofs.Common.{◌≡◌, ◌⊎◌, ℕ, ◌^◌, ◌<◌, ◌==◌, Bool, true, false, not, ◌&&◌, ◌||◌, List, [], length, refl, sym, ap, ◌∙◌, subst, arith, inl, inr, ⊎_elim}
 use Rattle.std.specs.Prelude.{ℤ, if◌then◌else◌, nat_lt}
 use Rattle.std.specs.List.{range_with_len}
@@ -29,19 +29,19 @@ never_both true true never = absurd (never refl refl)
 never_both true false never = refl
 never_both false b never = refl
 
--- clauses that are listed under a test
+-- clauses that are listed only where a test passes
 pub if_holds : (v : Assignment) (test : Bool) (clauses : List (List ℤ)) → (test ≡ true → holds v clauses ≡ true) → holds v (if test then clauses else []) ≡ true
 unfolding holds
 if_holds v true clauses all = all refl
 if_holds v false clauses all = refl
 
--- a variable that makes another bit true
+-- a variable that implies a bit
 pub one_implies : (a b : Bool) → (a ≡ true → b ≡ true) → (not a || (b || false)) ≡ true
 one_implies true true e = refl
 one_implies true false e = e refl
 one_implies false b e = refl
 
--- bits that are not 0 and 1 where a variable is true
+-- bits that aren't 0 and 1 where a variable is true
 pub no_copy_bits : (s low high : Bool) → (s ≡ true → low ≡ false → high ≡ true → ⊥) → (not s || (low || (not high || false))) ≡ true
 no_copy_bits false low high never = refl
 no_copy_bits true true high never = refl
@@ -86,7 +86,7 @@ steps_again p u v a b uj uk vj vk e = ⊎_elim
     inr (sym vk ∙ eqb-true v.k p here, subst (Reads a) vj (reads_from u a v.j uj uk other)))
     (or_cases (v.j == p && reads u v.k) (v.k == p && reads u v.j) e)
 
--- ---- inputs that may be exchanged
+-- ---- symmetric inputs
 
 pub same_cells : (a b : Cell) → same_cell a b ≡ true → a ≡ b
 same_cells cells.Zero cells.Zero e = refl
@@ -128,7 +128,7 @@ pub without_test : (u : Slot) (a : Step) (p q : ℕ) → u.j ≡ a.j → u.k ≡
 without_test u a p q j k (one, none) = and_from (reads u p) (not (reads u q)) (reads_test u a p j k one)
     (not_from_false (reads u q) (false_from_ne_true (reads u q) (λ e. none (reads_from u a q j k e))))
 
--- where a true pair of a step before the place has p and not q, one of these literals is true
+-- where a step before the place has a pair with p and not q, one of the literals is true
 pub record HasBefore (steps : List StepSlots) (v : Assignment) (p q place : ℕ) (before : List Raw) : Type 0 where
   pub each : (s : StepSlots) (u : Slot) → IsSlotOf steps s u → s.place < place → reads_without p q u ≡ true → v u.var ≡ true → raws_bit v before ≡ true
 

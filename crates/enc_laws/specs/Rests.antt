@@ -1,4 +1,4 @@
--- The steps of a layout from a place on, and a chain that stands in a layout.
+-- The steps of a layout from a place on, and a chain in a layout.
 use Rattle.std.proofs.Common.{◌≡◌, ℕ, suc, ◌+◌, ◌≤◌, List, ◌∷◌, Some, Contains, refl, ap, ◌∙◌, arith, ⊎_elim}
 use Rattle.std.specs.Prelude.{slice_get}
 use Rattle.std.proofs.lemmas.Option.{slice_get-get_or}
@@ -12,7 +12,7 @@ use Rattle.enc_laws.specs.Layouts.{IsLaid}
 use Rattle.enc_laws.specs.Decoded.{IsFor}
 use Rattle.enc_laws.specs.Complete.{HasPairs}
 
--- ---- the steps behind a step
+-- ---- the steps after a step
 
 -- `later` are the steps of a layout from a place on
 pub record IsRest (steps later : List StepSlots) (place : ℕ) : Type 0 where
@@ -41,7 +41,7 @@ rest_place steps later place s rest (k, low, at) = let p = rest.places k s (slic
 
 -- ---- a chain in a layout
 
--- a chain that agrees, with the outs at steps, in a layout that has its pairs
+-- a chain that agrees, whose outs are places of steps, in a layout that has its pairs
 pub record IsPlaced (w : Words) (basis r : ℕ) (steps : List StepSlots) (c : Chain) : Type 0 where
   pub is : IsFor w basis r c
   pub laid : IsLaid (sizes_of w r) steps

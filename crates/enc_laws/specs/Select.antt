@@ -1,4 +1,4 @@
--- The laws of the encoding whose steps choose each operand by itself.
+-- The laws of the encoding by single operands (MSV).
 use Rattle.std.proofs.Common.{ℕ, map}
 use Rattle.chain_theory.specs.Chain.{Chain}
 use Rattle.chain_theory.specs.Agreement.{HasChain, IsMinimum}
@@ -37,7 +37,7 @@ select_decodes w basis r v satisfies =
 pub select_sound : (w : Words) (basis r : ℕ) → IsSatisfiable (select_formula w basis r) → HasChain (specification w) (members basis) r
 select_sound w basis r (v, satisfies) = for_is_there w basis r (select_decoded w r v) (select_decodes w basis r v satisfies)
 
--- What a reduced chain makes of the variables satisfies the formula.
+-- The assignment of a reduced chain satisfies the formula.
 reduced_selects : (w : Words) (basis r : ℕ) (c : Chain) → IsFor (live_words w) basis r c → IsReduced (members basis) (specification (live_words w)) c → IsSatisfiable (select_live (live_words w) basis r)
 unfolding select_live
 reduced_selects w basis r c is reduced =

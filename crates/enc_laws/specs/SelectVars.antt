@@ -1,5 +1,5 @@
--- The variables of chosen operands and of their values: from which number on, below which one, and
--- each that of one operand.
+-- The variables of chosen operands and of their values: their first number, a bound, and that each
+-- is of one operand.
 use Rattle.std.proofs.Common.{◌≡◌, ℕ, zero, suc, ◌+◌, ◌-◌, ◌*◌, ◌^◌, ◌<◌, ◌≤◌, refl, arith, ⊎_elim}
 use Rattle.std.proofs.Math.Nat.{mul_comm}
 use Rattle.std.proofs.lemmas.Bool.{cases_lt, cases_order}
@@ -21,7 +21,7 @@ count_step n q (suc p) less = ⊎_elim
     (λ (last : p ≤ q). let e : q ≡ p = omega arith in rw e (omega arith))
     (cases_lt q p)
 
--- the place of an operand among those of its side
+-- the number of an operand's choice among those of its side
 abbrev pub offset : Sizes → ℕ → ℕ → ℕ
 offset z i j = operand_count z.n (i - (z.n + 1)) + (j - 1)
 
@@ -90,7 +90,7 @@ choice_once z Second Second i i' j j' is is' e = same_offset z Second i i' j j' 
 
 -- ---- values of operands
 
--- where a row of a step stands among those of its side
+-- the number of a step's row among those of its side
 pub row_low : (z : Sizes) (i t : ℕ) → IsStepPlace z i → t < 2 ^ z.n → (i - (z.n + 1)) * 2 ^ z.n + t < z.r * 2 ^ z.n
 row_low z i t is row =
     let from = is.from in

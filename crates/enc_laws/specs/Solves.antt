@@ -1,4 +1,4 @@
--- What the clauses of a chain say of an assignment: properties and clauses come to the same.
+-- What the clauses of a chain mean for an assignment: they are equivalent to properties.
 use Rattle.std.proofs.Common.{◌≡◌, ◌⊎◌, ℕ, ◌+◌, ◌^◌, ◌<◌, ◌≤◌, Bool, true, false, not, ◌||◌, List, [], ◌∷◌, map, Contains, refl, sym, ap, ◌∙◌, arith, inl, inr, ⊎_elim}
 use Rattle.std.specs.Prelude.{if◌then◌else◌, leb}
 use Rattle.std.specs.List.{range_with_len, list_any}
@@ -30,13 +30,13 @@ unfoldable pub x_bit : Sizes → Assignment → ℕ → ℕ → Bool
 x_bit z v j t = if leb j z.n then input z.n t j else v (x_var z j t)
 
 -- The assignment gives each output a step whose values meet the output's cells, and each step an
--- operator of the basis, however steps get their operands.
+-- operator of the basis, whatever way steps choose their operands.
 pub record MeetsTables (w : Words) (basis : ℕ) (z : Sizes) (v : Assignment) : Type 0 where
   pub bearer : (h : ℕ) → 1 ≤ h → h ≤ z.m → (i : ℕ) × IsStepPlace z i × (v (g_var z h i) ≡ true)
   pub out : (h i t : ℕ) → 1 ≤ h → h ≤ z.m → IsStepPlace z i → t < 2 ^ z.n → v (g_var z h i) ≡ true → is_met (cell_of w h t) (x_bit z v i t) ≡ true
   pub operator : (i : ℕ) → IsStepPlace z i → members basis (operator_in z v i) ≡ true
 
--- It gives each step a pair besides, and the values that follow from the pair and the operator.
+-- It gives each step a pair too, and the values of that pair and the operator.
 pub record Solves (w : Words) (basis : ℕ) (z : Sizes) (steps : List StepSlots) (v : Assignment) : Type 0 where
   pub tables : MeetsTables w basis z v
   pub pair : (s : StepSlots) → Contains steps s → (u : Slot) × Contains s.slots u × (v u.var ≡ true)
@@ -78,7 +78,7 @@ fixed_value true false = refl
 fixed_value false true = refl
 fixed_value false false = refl
 
--- the literal says what it is named for
+-- the literal means what it is named for
 pub x_is_value : (z : Sizes) (v : Assignment) (j t : ℕ) (bit : Bool) → raw_value v (x_is z j t bit) ≡ same (x_bit z v j t) bit
 unfolding x_is x_bit raw_value
 x_is_value z v j t bit = elim (leb j z.n) as (λ b. raw_value v (if b then Fixed (if input z.n t j then bit else not bit) else Var (x_var z j t) bit) ≡ same (if b then input z.n t j else v (x_var z j t)) bit) [
@@ -213,7 +213,7 @@ row_make z v i u t each =
     (both_hold v _ (value_clause z i u t false true true) (both_hold v _ (value_clause z i u t false true false) (both_hold v (value_clause z i u t false false false) (value_clause z i u t false false true) (each false false false) (each false false true)) (each false true false)) (each false true true))
     (both_hold v _ (value_clause z i u t true true true) (both_hold v _ (value_clause z i u t true true false) (both_hold v (value_clause z i u t true false false) (value_clause z i u t true false true) (each true false false) (each true false true)) (each true true false)) (each true true true))
 
--- the clause of the bits that the places have gives the value
+-- the clause of the places' bits gives the step its value
 pub clause_gives : (s x j k f : Bool) → s ≡ true → clause_of s x j k f x j k ≡ true → x ≡ f
 unfolding same
 clause_gives false x j k f true_ e = absurd cc
@@ -286,7 +286,7 @@ pub operator_bits : (z : Sizes) (v : Assignment) (i op : ℕ) → holds v (writt
 unfolding operator_raw raws_bit raw_value
 operator_bits z v i op = holds-written v (operator_raw z i op) (f_positive z i false false, (f_positive z i false true, (f_positive z i true false, (f_positive z i true true, tt))))
 
--- a bit isn't another than it is
+-- a bit isn't different from itself
 never_other : (x bit : Bool) → x ≡ bit → same x (not bit) ≡ false
 unfolding same
 never_other x true e = rw e refl
@@ -315,7 +315,7 @@ operator_from basis z v i all is =
     let low = operator_low (λ b c. v (f_var z i b c)) in
     operator_is_member basis z v i (operator_in z v i) (holds_each v (operator_clause basis z i) (range_with_len 0 16) (operator_in z v i) at_i (range_contains 0 16 (operator_in z v i) (omega arith) low)) refl
 
--- an operator that isn't the step's differs from it somewhere
+-- an operator other than the step's differs from it at some pair of bits
 pub differs_from : (z : Sizes) (v : Assignment) (i op : ℕ) → op < 16 → (op ≡ operator_in z v i → ⊥) → holds v (written (operator_raw z i op)) ≡ true
 differs_from z v i op low other = true_from_ne_false (holds v (written (operator_raw z i op))) (λ no.
     let all = sym (operator_bits z v i op) ∙ no in
@@ -346,7 +346,7 @@ operator_to basis z v each =
     let (from, to) = range_inside 0 16 op in_range in
     operator_holds basis z v i op (members basis op) refl (omega arith) (each i (there_place z i in_places))))
 
--- ---- the families that no pair is in
+-- ---- the families without pairs
 
 pub meets_from : (w : Words) (basis : ℕ) (z : Sizes) (v : Assignment) → holds v (out_exists z) ≡ true → holds v (out_values w z) ≡ true → holds v (operators basis z) ≡ true → MeetsTables w basis z v
 meets_from w basis z v bearers outs all = record {

@@ -38,8 +38,8 @@ pub x_bit-step : (z : Sizes) (v : Assignment) (j t : ℕ) → z.n < j → x_bit 
 unfolding x_bit
 x_bit-step z v j t high = rw (lt-leb j z.n high) refl
 
--- A list of steps whose places have the bits of an assignment, each its operator's of its operands'
--- bits, and for each output a place of a step that meets its cells.
+-- Steps, each place with the assignment's bits, which are the operator's of its operands' bits, and
+-- for each output a step's place that meets its cells.
 pub record IsSpelled (w : Words) (z : Sizes) (v : Assignment) (list : List Step) (bearer : ℕ → ℕ) : Type 0 where
   pub count : length list ≡ z.r
   pub steps : AreSteps z.n list
@@ -138,7 +138,7 @@ bearer_met w basis z v h t meets some low row =
     let first = first_bearer_is z v h (places z) (any_make (λ (i : ℕ). v (g_var z h i)) (places z) i (range_contains (z.n + 1) z.r i place.from place.to) true_) in
     meets.out h (first_bearer z v h (places z)) t some low (bearer_place w basis z v h meets some low) row first.true_
 
--- a step of a list that is made element by element
+-- the element at an index of a list that is made element by element
 pub record IsMade {X Y : Type 0} (f : X → Y) (o : Option X) (y : Y) : Type 0 where
   pub from : X
   pub at : o ≡ Some from
@@ -176,7 +176,7 @@ decoded_is w basis z steps v i d laid solves at =
       is = with_pair z v made.from d made.is first.slot first.is;
     }
 
--- What has the properties spells steps, and a step for each output.
+-- An assignment with the properties spells steps, and a step for each output.
 pub solved_spells : (w : Words) (basis : ℕ) (z : Sizes) (steps : List StepSlots) (v : Assignment) → IsLaid z steps → Solves w basis z steps v → IsSpelled w z v (map (decoded_step z v) steps) (λ h. first_bearer z v h (places z))
 solved_spells w basis z steps v laid solves = record {
   count = length-map steps (decoded_step z v) ∙ laid.count;

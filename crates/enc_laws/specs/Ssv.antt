@@ -1,4 +1,4 @@
--- The laws of the encoding by pairs with cuts.
+-- The laws of the encoding by pairs with cuts (SSV).
 use Rattle.std.proofs.Common.{ℕ, ◌+◌, ◌-◌}
 use Rattle.chain_theory.specs.Chain.{Chain}
 use Rattle.chain_theory.specs.Agreement.{HasChain, IsMinimum}
@@ -30,7 +30,7 @@ ssv_decodes w basis r v satisfies = by_pairs_decodes (pairs_below (swap_closed (
 pub ssv_sound : (w : Words) (basis r : ℕ) → IsSatisfiable (ssv_formula w basis r) → HasChain (specification w) (members basis) r
 ssv_sound w basis r (v, satisfies) = for_is_there w basis r (ssv_decoded w basis r v) (ssv_decodes w basis r v satisfies)
 
--- the pairs of a reduced chain are there
+-- the pairs of a reduced chain are those of the encoding
 reduced_allowed : (w : Words) (basis r : ℕ) (c : Chain) → IsFor w basis r c → IsReduced (members basis) (specification w) c → IsAllowed (pairs_below (swap_closed (members basis))) w r c
 reduced_allowed w basis r c is reduced = record {
   each = λ i place.

@@ -7,7 +7,7 @@ use Rattle.enc_theory.specs.Parts.{FitsPart}
 use Rattle.enc_theory.specs.declared.part.Part.{Part}
 use Rattle.enc_theory.specs.declared.part.Part.TheVariants.{Whole}
 
--- it is there
+-- it is one of the parts
 pub the_whole : Contains (Whole ∷ []) Whole
 the_whole = (0, omega arith, refl)
 

@@ -1,4 +1,4 @@
--- A formula within the program's limits, and the chain that is decoded.
+-- A formula within the program's bounds, and the chain that is decoded.
 use Rattle.std.proofs.Common.{◌≡◌, ℕ, ◌≤◌, arith, refl}
 use Rattle.std.proofs.lemmas.Grind.{common_steps}
 use Rattle.chain_core.specs.Steps.{IsSmallChain}
@@ -12,7 +12,7 @@ use Rattle.enc_cuts.specs.ChainLaws.{small_chain}
 use Rattle.enc_select.specs.Room.{HasChoices}
 use Rattle.enc_select.proofs.Counts.{both-few}
 
--- all variables are there
+-- all variables have room
 pub has_all : (z : Sizes) (vars : ℕ) → HasRoom z vars → vars ≡ select_vars z → HasChoices z vars
 has_all z vars room is = record { room = room; all = omega arith }
 
@@ -22,6 +22,6 @@ inputs_kept : (w : Words) (r : ℕ) (v : Assignment) → (select_decoded w r v).
 unfolding select_decoded
 inputs_kept w r v = refl
 
--- what a satisfying assignment spells is within the limits
+-- what a satisfying assignment spells is within the bounds
 pub select_is_small : (w : Words) (basis r : ℕ) (v : Assignment) → IsSpec w → r ≤ 16 → Satisfies v (select_formula w basis r) → IsSmallChain (select_decoded w r v)
 select_is_small w basis r v spec low sat = small_chain w basis r (select_decoded w r v) spec low (inputs_kept w r v) (select_decodes w basis r v sat)

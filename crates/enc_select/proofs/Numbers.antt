@@ -1,4 +1,4 @@
--- The numbers of variables, as they are computed, and how large they are.
+-- The numbers of variables, as the code computes them, and their bounds.
 use Rattle.std.proofs.Common.{◌≡◌, ℕ, zero, suc, ◌+◌, ◌-◌, ◌*◌, ◌/◌, ◌^◌, ◌<◌, ◌≤◌, arith}
 use Rattle.std.proofs.lemmas.Grind.{common_steps}
 use Rattle.enc_theory.specs.declared.data.Side.{Side}
@@ -34,7 +34,7 @@ part-few n s low few = times-few n s 6 16 low few
 
 pub ruleset counting = (common_steps, count_is, square_from, square-few, part-few)
 
--- the numbers are those of variables
+-- the computed numbers are those of variables
 pub choice_low : (z : Sizes) (side : Side) (i j : ℕ) → IsPlace z i → 1 ≤ j → j < i → choice_var z side i j ≤ select_vars z
 choice_low z side i j place from to = choice_within z side i j (record { place = record { from = place.from; to = place.below }; from = from; to = to })
 

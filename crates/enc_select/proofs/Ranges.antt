@@ -1,4 +1,4 @@
--- Comprehensions over ranges and over a few elements, in the spelling of loops.
+-- Comprehensions over ranges and over a few elements, with the terms of loops.
 use Rattle.std.proofs.Common.{◌≡◌, ℕ, ◌+◌, ◌-◌, ◌<◌, ◌≤◌, ◌==◌, List, [], ◌∷◌, refl, arith, append_assoc, append-nil}
 use Rattle.std.specs.Prelude.{min, max, if◌then◌else◌}
 use Rattle.std.specs.List.{flat_map, range_with_len}

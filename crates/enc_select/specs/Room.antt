@@ -4,7 +4,7 @@ use Rattle.enc_theory.specs.declared.data.Sizes.{Sizes}
 use Rattle.enc_theory.specs.Select.{select_vars}
 use Rattle.enc_frame.specs.Room.{HasRoom}
 
--- among the variables 1 to vars are all of the formula
+-- the variables 1 to vars include all of the formula
 pub record HasChoices (z : Sizes) (vars : ℕ) : Type 0 where
   pub room : HasRoom z vars
   pub all : select_vars z ≤ vars

@@ -1,4 +1,4 @@
-//! No step is applied again to one of its operands.
+//! No re-application: no step is applied again to one of its operands.
 ghost use Rattle.std.specs.Prelude.{◌≡◌, ◌<◌, ◌≤◌, ◌++◌, OnOk};
 ghost use Rattle.std.specs.List.{flat_map};
 ghost use Rattle.clause_core.specs.Clauses.{written};
@@ -22,7 +22,8 @@ struct Read {
     later: u32,
 }
 
-/// The clause that not the step has its operands and the later one has these.
+/// The clause that the step doesn't have its operands or the later one doesn't have `first` and
+/// `second`.
 fn push_not_both(
     alloc: Global,
     list: &mut ClauseList,
@@ -48,8 +49,8 @@ fn push_not_both(
     )
 }
 
-/// The clauses of an operand that the later step has beside the step: behind which the step stands
-/// second, and, where operands don't rise, before which it stands first.
+/// The clauses of an operand that the later step has together with the step: the step second, and,
+/// where operands needn't rise, also the step first.
 #[tactic(auto, unfolding(enc_theory::specs::Select::again_operand))]
 fn push_again_operand(
     alloc: Global,
@@ -95,7 +96,7 @@ fn push_again_different(
     push_again_operand(alloc, list, ordered, z, read, high)
 }
 
-/// The same, unless operands rise and these don't.
+/// The same, unless operands have to rise and these don't.
 #[tactic(auto, unfolding(enc_theory::specs::Select::again_operands))]
 fn push_again_operands(
     alloc: Global,
@@ -199,7 +200,7 @@ fn push_again_steps(
     Ok(())
 }
 
-/// Writes that no step is applied again to one of its operands, where the basis is closed under that.
+/// Writes that there is no re-application, where the basis is closed under that.
 #[tactic(auto, unfolding(enc_theory::specs::Select::again_steps))]
 pub(crate) fn push_again(
     alloc: Global,

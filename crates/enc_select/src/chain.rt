@@ -55,7 +55,7 @@ struct At {
     row: u32,
 }
 
-/// The clause that an operand has a bit if its place has it.
+/// The clause that an operand has a bit if its chosen place has it.
 #[tactic(auto, unfolding(enc_theory::specs::Select::copy_raw))]
 fn push_copy(
     alloc: Global,
@@ -236,9 +236,9 @@ fn push_results(alloc: Global, list: &mut ClauseList, z: Sizes) -> Result<(), Al
     Ok(())
 }
 
-/// Writes the clauses that say what a chain is, for tables whose outputs are all live: each output is
-/// some step, which has the values of its cells; each step has some operands, with the values of their
-/// places, its operator's values of theirs, and a member for its operator.
+/// Writes the clauses that say what a chain is, for tables whose outputs are all live: each output
+/// is some step, which has the values of its cells; each step has operands, with the values of
+/// their places, its operator's values of theirs, and an operator of the basis.
 #[tactic(auto, unfolding(enc_theory::specs::Select::chosen_chain))]
 pub(crate) fn push_chain(
     alloc: Global,

@@ -1,4 +1,5 @@
-//! Second operands never fall, where the basis has each operator with its operands exchanged.
+//! Co-lexicographic order: second operands never decrease, where the basis has each operator with
+//! its operands exchanged.
 ghost use Rattle.std.specs.Prelude.{◌≡◌, ◌+◌, ◌-◌, ◌<◌, ◌≤◌, ◌++◌, OnOk};
 ghost use Rattle.std.specs.List.{flat_map, range_with_len};
 ghost use Rattle.enc_theory.specs.Select.{falling_pair, falling_from, falling_step, falling};
@@ -11,7 +12,7 @@ use enc_theory::{Side, Sizes};
 use op_basis::Basis;
 use std::alloc::{AllocError, Global};
 
-/// The clause that not step `i` has the second operand `k` and the next step has `l`.
+/// The clause that step `i` doesn't have the second operand `k` or the next step doesn't have `l`.
 #[tactic(auto, unfolding(enc_theory::specs::Select::falling_pair))]
 fn push_falling_pair(
     alloc: Global,
@@ -90,7 +91,7 @@ fn push_falling_steps(alloc: Global, list: &mut ClauseList, z: Sizes) -> Result<
     Ok(())
 }
 
-/// Writes that second operands never fall, where the basis is closed under exchanged operands.
+/// Writes that second operands never decrease, where the basis is closed under exchanged operands.
 #[tactic(auto, using(crate::proofs::Ranges::without_steps), unfolding(enc_theory::specs::Select::falling))]
 pub(crate) fn push_falling(
     alloc: Global,

@@ -1,4 +1,4 @@
-//! The literals of chosen operands.
+//! The literals of chosen operands (selection literals).
 ghost use Rattle.std.specs.Prelude.{◌≡◌, ℕ, ◌^◌, ◌<◌, ◌≤◌};
 ghost use Rattle.clause_core.specs.declared.raw.Raw.TheVariants.{Var};
 ghost use Rattle.enc_theory.specs.Select.{choice_var as choice_var_of, value_var as value_var_of};

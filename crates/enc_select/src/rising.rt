@@ -12,7 +12,7 @@ use enc_theory::{Side, Sizes};
 use op_basis::Basis;
 use std::alloc::{AllocError, Global};
 
-/// The clause that the operands of step `i` aren't these.
+/// The clause that the operands of step `i` aren't `j` and `k`.
 #[tactic(auto, unfolding(enc_theory::specs::Select::rising_pair))]
 fn push_rising_pair(
     alloc: Global,

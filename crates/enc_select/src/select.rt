@@ -1,5 +1,5 @@
-//! The encoding by selection of operands. Its laws rest on those properties of an assignment that it shares
-//! with encodings by pairs, and on the law of least chains.
+//! The encoding by single operands (MSV). Its laws follow from the properties of an assignment that
+//! it shares with encodings by pairs, and from the law of least chains.
 ghost use Rattle.std.specs.Prelude.{◌≡◌, ◌++◌, OnOk};
 ghost use Rattle.enc_theory.specs.Select.{chosen_cuts};
 ghost use Rattle.enc_select.specs.Room.{HasChoices};
@@ -22,9 +22,8 @@ use op_basis::Basis;
 use std::alloc::{AllocError, Global};
 use tt_core::{Spec, live_part};
 
-/// Writes the cuts: operands rise; each step is an output or is read; none is trivial; second operands
-/// never fall; no step is applied again to one of its operands; and a step that is no output is 0 on
-/// row 0.
+/// Writes the cuts: operands rise; all steps are used; operators are non-trivial; second operands
+/// never decrease; there is no re-application; and a step that is no output is 0 on row 0.
 #[tactic(auto, unfolding(enc_theory::specs::Select::chosen_cuts))]
 fn push_cuts(alloc: Global, list: &mut ClauseList, basis: Basis, z: Sizes) -> Result<(), AllocError>
     requires { HasChoices z list.old.vars }
@@ -38,8 +37,8 @@ fn push_cuts(alloc: Global, list: &mut ClauseList, basis: Basis, z: Sizes) -> Re
     push_row_0(alloc, list, basis, z)
 }
 
-/// The encoding by selection of operands, with cuts that leave a least chain. A size has one part, the
-/// whole.
+/// The encoding by single operands (MSV), with cuts that leave a least chain. A size has one part,
+/// the whole.
 #[derive(Clone, Copy)]
 pub struct Select;
 
@@ -89,7 +88,7 @@ impl Encoding for Select {
         _part: &Part,
         assign: &Assign,
     ) -> Result<Chain, AllocError> {
-        // brings that the tables are within the limits
+        // for the prover: brings in that the tables are within the bounds
         let _n = spec.n();
         decode_chosen(alloc, spec, r, assign)
     }

@@ -1,4 +1,4 @@
-//! No step is trivial.
+//! Non-trivial operators.
 ghost use Rattle.std.specs.Prelude.{◌≡◌, ◌<◌, ◌≤◌, ◌++◌, [], ◌∷◌, OnOk};
 ghost use Rattle.std.specs.List.{flat_map};
 ghost use Rattle.op_basis.specs.Closed.{const_closed};
@@ -14,7 +14,7 @@ use enc_theory::{Side, Sizes};
 use op_basis::{Basis, Op};
 use std::alloc::{AllocError, Global};
 
-/// What the place `j` for both operands of step `i` asks of the operator.
+/// What the place `j` for both operands of step `i` requires of the operator.
 #[tactic(auto, unfolding(enc_theory::specs::Select::equal_choice))]
 fn push_equal(
     alloc: Global,
@@ -59,8 +59,8 @@ fn push_equals(
     Ok(())
 }
 
-/// The clause that step `i` has another operator than this one or other operands than these, if they
-/// differ.
+/// The clause that step `i` has another operator than `op` or other operands than `j` and `k`, if
+/// they differ.
 #[tactic(auto, using(crate::proofs::Ranges::loops), unfolding(enc_theory::specs::Select::negation_pair))]
 fn push_negation_pair(
     alloc: Global,
@@ -127,8 +127,7 @@ fn push_negation_all(
     Ok(())
 }
 
-/// That step `i` has this operator, a negation of an operand, on equal operands alone, where it is a
-/// member.
+/// That step `i` has `op`, a negation of an operand, on equal operands alone, where it is a member.
 #[tactic(auto, unfolding(enc_theory::specs::Select::negation_step))]
 fn push_negation(
     alloc: Global,

@@ -1,4 +1,4 @@
-//! Each step is an output or is read.
+//! All steps used: each step is an output or is read.
 ghost use Rattle.std.specs.Prelude.{◌≡◌, ◌<◌, ◌≤◌, ◌++◌, OnOk};
 ghost use Rattle.std.specs.List.{flat_map};
 ghost use Rattle.enc_theory.specs.Select.{above, choosers, used_step, used_steps};
@@ -11,7 +11,7 @@ use enc_cuts::push_bearers;
 use enc_theory::{Side, Sizes};
 use std::alloc::{AllocError, Global};
 
-/// Adds that one of the operands of step `i` is this place.
+/// Adds that one of the operands of step `i` is `place`.
 #[tactic(auto, using(crate::proofs::Ranges::loops), unfolding(enc_theory::specs::Select::choosers, enc_theory::specs::Select::chooses))]
 fn push_choosers(raws: &mut Vec<Raw>, z: Sizes, place: u32, i: u32) -> Result<(), AllocError>
     requires small { IsSmall z }
@@ -24,7 +24,7 @@ fn push_choosers(raws: &mut Vec<Raw>, z: Sizes, place: u32, i: u32) -> Result<()
     Ok(())
 }
 
-/// Adds for each later step that one of its operands is this one.
+/// Adds for each later step that one of its operands is this step.
 #[tactic(auto, using(crate::proofs::Ranges::later))]
 fn push_readers(raws: &mut Vec<Raw>, z: Sizes, i: u32) -> Result<(), AllocError>
     requires small { IsSmall z }

@@ -1,5 +1,5 @@
-//! The numbers of the variables that an encoding by pairs hasn't: those of chosen operands and of
-//! their values.
+//! The numbers of the variables that an encoding by pairs doesn't have: those of chosen operands
+//! and of their values.
 ghost use Rattle.std.specs.Prelude.{◌≡◌, ◌+◌, ◌-◌, ◌*◌, ◌^◌, ◌<◌, ◌≤◌};
 ghost use Rattle.enc_theory.specs.Select.{operand_count as operand_count_of, choice_first as choice_first_of, choice_var as choice_var_of, value_first as value_first_of, value_var as value_var_of, select_vars as select_vars_of};
 ghost use Rattle.enc_frame.specs.Room.{IsSmall, HasRoom, IsPlace};
@@ -7,7 +7,7 @@ ghost use Rattle.enc_frame.specs.Room.{IsSmall, HasRoom, IsPlace};
 use enc_frame::{rows, s_first};
 use enc_theory::{Side, Sizes};
 
-/// How many operands the first steps may have.
+/// The number of places that the operands of the first steps may be.
 #[tactic(auto, using(crate::proofs::Numbers::counting))]
 fn operand_count(n: u32, steps: u32) -> u32
     requires { (n ≤ 6) × (steps ≤ 16) }

@@ -1,4 +1,4 @@
--- Formulas within the program's limits.
+-- Formulas within the program's bounds.
 use Rattle.std.proofs.lemmas.Grind.{common_steps}
 use Rattle.enc_frame.specs.Counts.{common-few}
 use Rattle.enc_cuts.specs.Counts.{both-few}

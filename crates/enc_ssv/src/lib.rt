@@ -1,8 +1,9 @@
-//! Encodings with a variable for each pair of operands of a step.
+//! Encodings with a selection variable for each pair of operands of a step (SSV, single selection
+//! variable).
 //!
-//! `Plain` says what a chain is and nothing else. Both laws of `Encoding` hold of it, `complete` even
-//! where a chain of fewer steps agrees too. `Ssv` has cuts besides, which leave a least chain: its law
-//! `complete` stands on the law of least chains.
+//! `Plain` says what a chain is and nothing else. Both laws of `Encoding` hold of it, and
+//! `complete` holds even where a chain of fewer steps agrees too. `Ssv` also has cuts, which leave
+//! a least chain: its law `complete` needs the law of least chains.
 #![tactic(auto)]
 
 mod pairs;

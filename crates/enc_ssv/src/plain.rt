@@ -1,5 +1,5 @@
-//! The plain encoding. Its laws rest on one equivalence, of the clauses and the properties of an assignment
-//! that spells a chain; no chain is cut off.
+//! The plain encoding. Its laws follow from one equivalence, of the clauses and the properties of
+//! an assignment that spells a chain; no chain is cut off.
 use crate::pairs::decode_pairs;
 use chain_core::Chain;
 use clause_core::ClauseList;
@@ -61,7 +61,7 @@ impl Encoding for Plain {
         _part: &Part,
         assign: &Assign,
     ) -> Result<Chain, AllocError> {
-        // brings that the tables are within the limits
+        // for the prover: brings in that the tables are within the bounds
         let _n = spec.n();
         decode_pairs(alloc, spec, false, r, assign)
     }

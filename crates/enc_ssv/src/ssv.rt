@@ -1,5 +1,6 @@
-//! The encoding by pairs with cuts. The formula is made of the live part alone, whose outputs are all steps;
-//! its laws rest on the law of least chains: some least chain meets every cut.
+//! The encoding by pairs with cuts (SSV). The formula is made from the live part alone, whose
+//! outputs are all steps; its laws follow from the law of least chains: some least chain satisfies
+//! every cut.
 use crate::pairs::decode_pairs;
 use chain_core::Chain;
 use clause_core::ClauseList;
@@ -46,7 +47,7 @@ impl Encoding for Ssv {
         _part: &Part,
     ) -> Result<Cnf, AllocError> {
         let live = live_part(alloc, spec)?;
-        // brings that the live part is within the limits
+        // for the prover: brings in that the live part is within the bounds
         let _n = live.n();
         let z = sizes(&live, r);
         let pairs = AllPairs {
@@ -69,7 +70,7 @@ impl Encoding for Ssv {
         _part: &Part,
         assign: &Assign,
     ) -> Result<Chain, AllocError> {
-        // brings that the tables are within the limits
+        // for the prover: brings in that the tables are within the bounds
         let _n = spec.n();
         decode_pairs(alloc, spec, basis.swap_closed(), r, assign)
     }

@@ -7,8 +7,8 @@ use enc_fence::FenceEnc;
 use enc_frame::Encoding;
 use enc_select::Select;
 use enc_ssv::{Plain, Ssv};
-use settings::Method;
 use op_basis::{Basis, read_basis};
+use settings::Method;
 use std::alloc::Global;
 use tt_core::{Spec, read_tables};
 
@@ -31,7 +31,7 @@ fn decoded_by<E: Encoding>(
     encoding.decode(alloc, spec, basis, 1, part, assign).ok()
 }
 
-/// The same for tables and a basis that are given as texts.
+/// The same for tables and a basis in texts.
 fn decoded(
     alloc: Global,
     method: Method,
@@ -76,10 +76,11 @@ const I: bool = true;
 const XOR: &[u8] = b"inputs 2\n0110\n";
 
 const AND_NOT: &[u8] = b"inputs 2\n0100\n";
-/// XOR, with outputs that cost nothing before and behind it.
+/// XOR, with trivial outputs before and after it.
 const THREE: &[u8] = b"inputs 2\n0011\n0110\n----\n";
 
-/// Tables and bases, what is true in a formula of theirs, and the one step and the outs that it spells.
+/// Tables and bases, the true variables of a formula of theirs, and the one step and the outs that
+/// it spells.
 const CHAINS: &[(Method, &[u8], &[u8], &[bool], u32, u32, u8, &[Out])] = &[
     // both orders of the operands are true, and the first is taken
     (

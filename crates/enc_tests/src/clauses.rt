@@ -7,8 +7,8 @@ use enc_theory::Sizes;
 use op_basis::read_basis;
 use std::alloc::{AllocError, Global};
 
-/// The one clause "4, -2"; a clause with an opposite and one with a truth are left out, and what has
-/// nothing in it is the empty clause.
+/// The one clause "4, -2"; a clause with an opposite and one with a constant 1 are left out, and an
+/// empty list of literals is the empty clause.
 #[tactic(auto, unfolding(clause_core::specs::Clauses::IsWithin))]
 fn write_some(alloc: Global, list: &mut ClauseList) -> Result<(), AllocError>
     requires { list.old.vars ≡ 4 }
@@ -49,7 +49,7 @@ fn clauses_are_simplified(rt: HostRuntime) {
     assert!(rt; lits && second.lits().is_empty() && list.vars() == 4);
 }
 
-/// The cuts that a basis allows; None where the text is none.
+/// The cuts that a basis allows; None where the text isn't a basis.
 fn cuts_of(basis: &[u8]) -> Option<CutSet> {
     match read_basis(basis) {
         Ok(basis) => Some(cuts(basis)),
@@ -82,7 +82,7 @@ fn bases_allow_cuts(rt: HostRuntime) {
     }
 }
 
-/// Whether one step over two inputs gets these pairs and variables.
+/// Whether one step over two inputs gets the given pairs and variables.
 fn are_laid(alloc: Global, ordered: bool, vars: u32, slots: &[(u32, u32, u32)]) -> bool {
     let z = Sizes { n: 2, r: 1, m: 1 };
     let Ok(layout) = Layout::new(alloc, &AllPairs { ordered }, z) else {

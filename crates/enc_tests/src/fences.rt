@@ -21,7 +21,7 @@ fn levels_are_kept(rt: HostRuntime) {
     }
 }
 
-/// Whether these are the fences of a size, each with a 0 behind it.
+/// Whether these are the fences of a size, each followed by a 0.
 fn are_listed(alloc: Global, r: u32, outputs: u32, numbers: &[u32]) -> bool
     requires { r ≤ 16 }
 {
@@ -93,7 +93,7 @@ fn live_outputs_decide_the_parts(rt: HostRuntime) {
     for (tables, r, wanted) in [
         (b"inputs 2\n0110\n" as &[u8], 3, 2),
         (b"inputs 2\n0110\n1001\n", 3, 3),
-        // one of two outputs costs nothing
+        // one of two outputs is trivial
         (b"inputs 2\n0110\n0011\n", 3, 2),
         // no step is needed, and none could be listed
         (b"inputs 2\n0011\n", 0, 1),

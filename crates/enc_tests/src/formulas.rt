@@ -6,8 +6,8 @@ use enc_fence::FenceEnc;
 use enc_frame::Encoding;
 use enc_select::Select;
 use enc_ssv::{Plain, Ssv};
-use settings::Method;
 use op_basis::{Basis, read_basis};
+use settings::Method;
 use std::alloc::{AllocError, Global};
 use tt_core::{Spec, read_tables};
 
@@ -28,7 +28,7 @@ fn formula_by<E: Encoding>(
     encoding.formula(alloc, spec, basis, r, part).ok()
 }
 
-/// The formula of a part of a size, for tables and a basis that are given as texts.
+/// The formula of a part of a size, for tables and a basis in texts.
 fn formula(
     alloc: Global,
     method: Method,
@@ -51,7 +51,7 @@ fn formula(
     }
 }
 
-/// Adds the numbers of a clause, and a 0 behind them.
+/// Adds the numbers of a clause, followed by a 0.
 fn push_clause(numbers: &mut Vec<i32>, lits: &[Lit]) -> Result<(), AllocError> {
     for lit in lits {
         numbers.push(lit.get())?;
@@ -60,7 +60,7 @@ fn push_clause(numbers: &mut Vec<i32>, lits: &[Lit]) -> Result<(), AllocError> {
     Ok(())
 }
 
-/// The clauses as numbers, with a 0 behind each.
+/// The clauses as numbers, each followed by a 0.
 fn numbers_of(alloc: Global, cnf: &Cnf) -> Result<Vec<i32>, AllocError> {
     let mut numbers = Vec::new(alloc);
     for clause in cnf.clauses() {
@@ -69,8 +69,8 @@ fn numbers_of(alloc: Global, cnf: &Cnf) -> Result<Vec<i32>, AllocError> {
     Ok(numbers)
 }
 
-/// Whether there is a formula of so many variables whose last clauses are these, the first of them being
-/// the formula's first where all is asked for.
+/// Whether there is a formula of `vars` variables whose last clauses are `wanted`, and no others
+/// where `all`.
 fn ends_with(alloc: Global, formula: Option<Cnf>, vars: u32, all: bool, wanted: &[i32]) -> bool {
     let Some(cnf) = formula else {
         return false;
@@ -94,7 +94,8 @@ fn sum_of(numbers: &[i32]) -> u32 {
     sum
 }
 
-/// Whether there is a formula of so many variables and clauses, with this sum over its clauses.
+/// Whether there is a formula of `vars` variables and `clauses` clauses, with the checksum `sum`
+/// over its clauses.
 fn is_like(alloc: Global, formula: Option<Cnf>, vars: u32, clauses: usize, sum: u32) -> bool {
     let Some(cnf) = formula else {
         return false;
@@ -111,7 +112,8 @@ const THREE: &[u8] = b"inputs 4\n0110100110010110\n0000000000000001\n0----------
 
 const XOR: &[u8] = b"inputs 2\n0110\n";
 
-/// Formulas of parts of sizes, with the numbers of their variables and clauses, and their sums, by another program.
+/// Formulas of parts of sizes, with the numbers of their variables and clauses, and their
+/// checksums, by another program.
 const SUMS: &[(Method, &[u8], &[u8], u32, usize, u32, usize, u32)] = &[
     (Method::Plain, LIGHTS, b"all", 3, 0, 140, 3572, 599009576),
     (Method::Ssv, LIGHTS, b"all", 3, 0, 109, 2433, 2276029920),
@@ -179,7 +181,8 @@ fn formulas_are_those_of_another_program(rt: HostRuntime) {
     }
 }
 
-/// Formulas of two steps for XOR over sets of operators that the five tests tell apart in nine ways.
+/// Formulas of two steps for XOR over sets of operators, nine outcomes of the five tests of a
+/// basis.
 const SUMS_OF_BASES: &[(Method, &[u8], u32, usize, u32)] = &[
     (Method::Ssv, b"0000,0011,0110", 31, 211, 141350951),
     (Method::Select, b"0000,0011,0110", 44, 172, 3144029014),
@@ -210,8 +213,8 @@ fn tests_of_bases_decide_the_cuts(rt: HostRuntime) {
     }
 }
 
-/// The clauses for NOT over AND with one step: that it is the output and has its values, that it has
-/// a pair and its operator's values, and that it is no other operator; behind these the cuts.
+/// The clauses for NOT over AND with one step: that it is the output and has its values, that it
+/// has a pair and its operator's values, and that it is no other operator; after these the cuts.
 const NOT_BY_AND: &[i32] = &[
     3, 0, -3, 1, 0, -3, -2, 0, 8, 0, -8, 1, -4, 0, -8, -1, 4, 0, -8, 2, -7, 0, -8, -2, 7, 0, 4, 5,
     6, 7, 0, 4, 5, -6, 7, 0, 4, 5, -6, -7, 0, 4, -5, 6, 7, 0, 4, -5, 6, -7, 0, 4, -5, -6, 7, 0, 4,
@@ -219,8 +222,8 @@ const NOT_BY_AND: &[i32] = &[
     7, 0, -4, -5, 6, -7, 0, -4, -5, -6, 7, 0, -4, -5, -6, -7, 0, 3, 0, -8, 4, 0, -8, -7, 0,
 ];
 
-/// The same where the step chooses each operand by itself: that it has operands and they have values,
-/// in place of that it has a pair.
+/// The same for single operands: that it has operands and they have values, in place of that it has
+/// a pair.
 const NOT_BY_AND_SELECTED: &[i32] = &[
     3, 0, -3, 1, 0, -3, -2, 0, 8, 0, 9, 0, -8, -10, 0, -8, 11, 0, -9, -12, 0, -9, 13, 0, 1, 10, 12,
     -4, 0, 1, 10, -12, -5, 0, 1, -10, 12, -6, 0, 1, -10, -12, -7, 0, -1, 10, 12, 4, 0, -1, 10, -12,
@@ -232,7 +235,7 @@ const NOT_BY_AND_SELECTED: &[i32] = &[
     0, -8, -9, -7, 0,
 ];
 
-/// The clauses for one step without inputs, where no output needs it: that it has operands, of which
+/// The clauses for one step without inputs, which no output needs: that it has operands, of which
 /// there are none, its operator's values of their values, and the cuts: that it is read, that its
 /// operator is no copy and no constant, and that it is 0.
 const NO_INPUT: &[i32] = &[
@@ -241,15 +244,15 @@ const NO_INPUT: &[i32] = &[
     -5, 0, -2, -3, -4, -5, 0, -1, 0,
 ];
 
-/// The cuts of XOR over all operators: besides that no operator is a copy or a constant, x2 is not read
-/// twice where x1 was not, and row 0 is 0.
+/// The cuts of XOR over all operators: no operator is a copy or a constant, x2 isn't read twice
+/// where x1 wasn't, and row 0 is 0.
 const XOR_CUTS: &[i32] = &[
     5, 0, 6, 7, 8, 9, 0, 6, 7, -8, -9, 0, 6, -7, 8, -9, 0, -6, -7, -8, -9, 0, -10, 6, 0, -10, -9,
     0, -11, 6, 0, -11, -9, 0, -6, 7, -8, 9, 10, 11, 0, -6, -7, 8, 9, 10, 11, 0, -11, 0, -1, 5, 0,
 ];
 
-/// Those of two outputs over an operator and its complement, whose operands can't be exchanged: each step
-/// is read or is an output, equal operands are no copy, and pairs never fall.
+/// Those of two outputs over an operator and its complement, whose operands can't be exchanged:
+/// each step is read or is an output, equal operands are no copy, and pairs never decrease.
 const TWO_CUTS: &[i32] = &[
     9, 11, 29, 30, 31, 32, 33, 0, 10, 12, 0, -21, 13, -16, 0, -22, 13, -16, 0, -25, 17, -20, 0,
     -26, 17, -20, 0, -29, 17, -20, 0, -22, -25, 0, -23, -25, 0, -23, -26, 0, -24, -25, 0, -24, -26,
@@ -288,7 +291,7 @@ const WRITTEN: &[(Method, &[u8], &[u8], u32, u32, bool, &[i32])] = &[
         true,
         NO_INPUT,
     ),
-    // live outputs are no steps where there are none
+    // live outputs can't be steps where there are none
     (
         Method::Plain,
         b"inputs 2\n0110\n1001\n",
@@ -307,7 +310,7 @@ const WRITTEN: &[(Method, &[u8], &[u8], u32, u32, bool, &[i32])] = &[
         true,
         &[0, 0],
     ),
-    // outputs that cost nothing ask for nothing
+    // trivial outputs need no clauses
     (
         Method::Ssv,
         b"inputs 2\n0011\n0--1\n----\n",
@@ -326,7 +329,7 @@ const WRITTEN: &[(Method, &[u8], &[u8], u32, u32, bool, &[i32])] = &[
         true,
         &[],
     ),
-    // the cuts stand behind all else
+    // the cuts come after all else
     (
         Method::Ssv,
         b"inputs 2\n0110\n",

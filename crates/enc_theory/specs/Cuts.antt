@@ -1,8 +1,8 @@
--- Cuts: further clauses, which some least chain meets. They are those of Kojevnikov,
--- Kulikov and Yaroslavtsev ("Finding Efficient Circuits Using SAT-solvers", 2009), Knuth (TAOCP
--- 7.2.2.2, exercise 477) and Haaswijk, Soeken, Mishchenko and De Micheli ("SAT-Based Exact Synthesis",
--- 2020), each under a test of the basis that it needs. Loops run in rising order, the first named
--- outermost.
+-- Cuts: further clauses (symmetry breaking and structural constraints), which some least chain
+-- satisfies. They are those of Kojevnikov, Kulikov and Yaroslavtsev ("Finding Efficient Circuits
+-- Using SAT-solvers", 2009), Knuth (TAOCP 7.2.2.2, exercise 477) and Haaswijk, Soeken, Mishchenko
+-- and De Micheli ("SAT-Based Exact Synthesis", 2020), each under the test of the basis that it
+-- needs. Loops run in rising order, the first named is outermost.
 use Rattle.std.specs.Prelude.{ℕ, suc, ℤ, Bool, true, false, ◌&&◌, ◌||◌, not, List, [], ◌∷◌, ◌++◌, length, map, min, max, nat_lt, ◌==◌, ◌-◌, ◌^◌, if◌then◌else◌}
 use Rattle.std.specs.List.{range_with_len, flat_map, filter, list_all}
 use Rattle.chain_theory.specs.declared.data.Cell.{Cell}
@@ -20,8 +20,8 @@ use Rattle.enc_theory.specs.Numbering.{places, outputs, f_var, x_is}
 use Rattle.enc_theory.specs.Pairs.{StepSlots}
 use Rattle.enc_theory.specs.Families.{bearer, chosen, operator_raw}
 
--- ---- Each step is an output or is read: for step i, one clause "some output is i, or some later step
--- has a pair with i".
+-- ---- All steps used: for step i, one clause "some output is i, or some later step has a pair with
+-- i".
 
 -- output h is step i
 unfoldable pub bears : Sizes → ℕ → ℕ → Raw
@@ -44,9 +44,9 @@ unfoldable pub used : Sizes → List StepSlots → List (List ℤ)
 used z [] = []
 used z (s ∷ later) = used_by z s later ++ used z later
 
--- ---- No step is trivial.
+-- ---- Non-trivial operators.
 
--- "the step's operator isn't this one", where it is a member
+-- "the step's operator isn't op", where op is a member
 unfoldable pub other_operator : ℕ → Sizes → ℕ → ℕ → List (List ℤ)
 other_operator basis z i op = if members basis op then written (operator_raw z i op) else []
 
@@ -57,8 +57,9 @@ idle_operators constants = if constants then 0 ∷ 3 ∷ 5 ∷ 15 ∷ [] else 3 
 unfoldable pub not_idle : Bool → ℕ → Sizes → ℕ → List (List ℤ)
 not_idle constants basis z i = flat_map (other_operator basis z i) (idle_operators constants)
 
--- On equal operands the operator is a negation, where constants can be left out: "the step hasn't
--- this pair, or the operator is 1 at 00", and the same with 0 at 11. Else it is at least no copy.
+-- On equal operands the operator is a negation, where constants can be left out: "the step doesn't
+-- have this pair, or the operator is 1 at 00", and the same with 0 at 11. Otherwise it is at least
+-- no copy.
 unfoldable pub equal_raw : Bool → Sizes → ℕ → Slot → List (List ℤ)
 equal_raw constants z i u =
     if constants then written (Var u.var false ∷ Var (f_var z i false false) true ∷ []) ++ written (Var u.var false ∷ Var (f_var z i true true) false ∷ [])
@@ -84,8 +85,8 @@ not_trivial_at constants basis z s = not_idle constants basis z s.place ++ flat_
 unfoldable pub not_trivial : ℕ → Sizes → List StepSlots → List (List ℤ)
 not_trivial basis z steps = flat_map (not_trivial_at (const_closed (members basis)) basis z) steps
 
--- ---- Pairs never fall: for step i, a pair of it, and a pair of step i + 1 that comes before that one,
--- "not both".
+-- ---- Co-lexicographic order: for step i, a pair of it, and a pair of step i + 1 that comes before
+-- that one, "not both".
 
 abbrev pub larger : Slot → ℕ
 larger u = max u.j u.k
@@ -114,9 +115,8 @@ unfoldable pub order : List StepSlots → List (List ℤ)
 order [] = []
 order (s ∷ later) = order_with s later ++ order later
 
--- ---- No step is applied again to one of its operands, where the basis is closed under that: for step
--- i, a later step, a pair of i, and a pair of the later step with i and one of the places of that,
--- "not both".
+-- ---- No re-application: where the basis is closed under that, for step i, a later step, a pair of
+-- i, and a pair of the later step with i and one of the places of that pair, "not both".
 
 unfoldable pub applies_again : ℕ → Slot → Slot → Bool
 applies_again p u v = (v.j == p && reads u v.k) || (v.k == p && reads u v.j)
@@ -144,9 +144,9 @@ again_all (s ∷ later) = flat_map (again_later s) later ++ again_all later
 unfoldable pub again : ℕ → List StepSlots → List (List ℤ)
 again basis steps = if reapply_closed (members basis) then again_all steps else []
 
--- ---- Of two inputs p < q that the tables let exchange, q is read without p only after p was read
--- without q: for p, q, step i and a pair of it with q and not p, "the step hasn't this pair, or some
--- step before has a pair with p and not q".
+-- ---- Symmetric inputs p < q: q is read without p only after p was read without q: for p, q, step
+-- i and a pair of it with q and not p, "the step doesn't have this pair, or some step before has a
+-- pair with p and not q".
 
 -- the cells are the same
 abbrev pub same_cell : Cell → Cell → Bool
@@ -161,7 +161,7 @@ same_at w p q h t = same_cell (cell_of w h (exchanged w.n p q t)) (cell_of w h t
 unfoldable pub same_output : Words → ℕ → ℕ → ℕ → Bool
 same_output w p q h = list_all (same_at w p q h) (range_with_len 0 (2 ^ w.n))
 
--- exchanging inputs p and q leaves each cell of each output the same
+-- inputs p and q are symmetric: exchanging them leaves each cell of each output the same
 unfoldable pub may_exchange : Words → ℕ → ℕ → Bool
 may_exchange w p q = list_all (same_output w p q) (range_with_len 1 (length w.on))
 
@@ -175,7 +175,7 @@ reader_without p q u = if reads_without p q u then chosen u ∷ [] else []
 unfoldable pub readers_without : ℕ → ℕ → StepSlots → List Raw
 readers_without p q s = flat_map (reader_without p q) s.slots
 
--- `before` are the pairs with p and not q of the steps before
+-- `before` are the literals of pairs with p and not q of the steps before
 unfoldable pub exchange_slot : ℕ → ℕ → List Raw → Slot → List (List ℤ)
 exchange_slot p q before u = if reads_without q p u then written (Var u.var false ∷ before) else []
 
@@ -192,8 +192,8 @@ exchange_with w steps p = flat_map (exchange_pair w steps p) (range_with_len (su
 unfoldable pub exchange : Words → List StepSlots → List (List ℤ)
 exchange w steps = flat_map (exchange_with w steps) (range_with_len 1 w.n)
 
--- ---- A step that is no output is 0 on row 0, where the basis is closed under complements: for step i
--- "i is 0 on row 0, or some output is i".
+-- ---- Normal steps: where the basis is closed under complements, a step that is no output is 0 on
+-- row 0: for step i "i is 0 on row 0, or some output is i".
 
 unfoldable pub row_0_at : Sizes → ℕ → List (List ℤ)
 row_0_at z i = written (x_is z i 0 false ∷ map (bears z i) (outputs z))

@@ -35,7 +35,7 @@ first_bearer z v h (i ∷ is) = if v (g_var z h i) then i else first_bearer z v 
 unfoldable pub decoded_out : Sizes → Assignment → ℕ → Out
 decoded_out z v h = Place (first_bearer z v h (places z))
 
--- A trivial output is the out that costs nothing, and another one is the next of the live outs.
+-- A trivial output is its trivial out, and a live one is the next of the live outs.
 abbrev pub restored_out : Option Out → Out → Out
 restored_out (Some out) next = out
 restored_out None next = next
@@ -43,15 +43,16 @@ restored_out None next = next
 unfoldable pub restored_at : Specification → List Out → ℕ → Out
 restored_at s live h = restored_out (trivial_of s h) (slice_index_or live (length (live_among s (h - 1))) Zero)
 
--- The live outs, with the trivial ones in their places among them.
--- Example: where of three outputs the second is met by x1 and the live outs are x3, x4, it is x3, x1, x4.
+-- The live outs, with the trivial ones at their places among them.
+-- Example: where of three outputs the second is met by x1 and the live outs are x3, x4, it is x3,
+-- x1, x4.
 unfoldable pub restored : Specification → List Out → List Out
 restored s live = map (restored_at s live) (range_with_len 1 s.outputs)
 
--- The chain of these steps for tables, of which `z` counts the live outputs.
+-- The chain of some steps for truth tables; `z` has the number of live outputs.
 abbrev pub with_outs : Words → Sizes → List Step → Assignment → Chain
 with_outs w z steps v = record { n = w.n; steps = steps; outs = restored (specification w) (map (decoded_out z v) (outputs z)) }
 
--- The same, of the steps that choose among pairs.
+-- The same, for steps that choose among pairs.
 unfoldable pub decoded : Words → Sizes → List StepSlots → Assignment → Chain
 decoded w z steps v = with_outs w z (map (decoded_step z v) steps) v

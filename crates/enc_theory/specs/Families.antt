@@ -1,5 +1,5 @@
 -- The clauses that say what a chain is (TAOCP 7.2.2.2), in five families. Each is a comprehension:
--- its loops run in rising order, the first named outermost.
+-- its loops run in rising order, the first named is outermost.
 use Rattle.std.specs.Prelude.{ℕ, ℤ, Bool, true, false, not, List, [], ◌∷◌, ◌++◌, map, if◌then◌else◌}
 use Rattle.std.specs.List.{range_with_len, flat_map}
 use Rattle.chain_theory.specs.Operator.{apply}
@@ -60,8 +60,9 @@ pair_exists_at s = written (map chosen s.slots)
 unfoldable pub pair_exists : List StepSlots → List (List ℤ)
 pair_exists steps = flat_map pair_exists_at steps
 
--- ---- A step has its operator's value of its pair: for step i, pair (j, k), row t and bits a, b, c,
--- "i hasn't this pair, or i isn't a on t, or j isn't b, or k isn't c, or the operator is a at (b, c)".
+-- ---- A step has its operator's value of its pair: for step i, pair (j, k), row t and bits a, b,
+-- c, "i doesn't have this pair, or i isn't a on t, or j isn't b, or k isn't c, or the operator is a
+-- at (b, c)".
 
 unfoldable pub value_raw : Sizes → ℕ → Slot → ℕ → Bool → Bool → Bool → List Raw
 value_raw z i u t a b c = Var u.var false ∷ x_is z i t (not a) ∷ x_is z u.j t (not b) ∷ x_is z u.k t (not c) ∷ Var (f_var z i b c) a ∷ []
@@ -85,8 +86,8 @@ value_step z s = flat_map (value_slot z s.place) s.slots
 unfoldable pub values : Sizes → List StepSlots → List (List ℤ)
 values z steps = flat_map (value_step z) steps
 
--- ---- Each step's operator is a member: for step i and each operator that isn't, one clause "i has
--- another value at 00, or at 01, or at 10, or at 11".
+-- ---- Each step's operator is a member of the basis: for step i and each operator that isn't, one
+-- clause "i has another value at 00, or at 01, or at 10, or at 11".
 
 unfoldable pub operator_raw : Sizes → ℕ → ℕ → List Raw
 operator_raw z i op = Var (f_var z i false false) (not (apply op false false)) ∷ Var (f_var z i false true) (not (apply op false true)) ∷ Var (f_var z i true false) (not (apply op true false)) ∷ Var (f_var z i true true) (not (apply op true true)) ∷ []

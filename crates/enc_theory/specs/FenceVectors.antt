@@ -25,7 +25,8 @@ outline_of v = outline (fence_formula v.vector.tables v.vector.basis v.vector.si
 abbrev pub expected_of : Fenced → Outline
 expected_of v = expected v.vector
 
--- tables, operators, size and fence; then how many variables, clauses and literals, and the checksum
+-- tables, operators, size and fence; then the numbers of variables, clauses and literals, and the
+-- checksum
 abbrev pub fence_vectors : List Fenced
 fence_vectors =
     fenced 1 (1 ∷ []) (3 ∷ []) 2 0 [] 0 1 0 0

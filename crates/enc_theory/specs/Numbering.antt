@@ -7,7 +7,7 @@ use Rattle.clause_core.specs.declared.raw.Raw.{Raw}
 use Rattle.clause_core.specs.declared.raw.Raw.TheVariants.{Fixed, Var}
 use Rattle.enc_theory.specs.declared.data.Sizes.{Sizes}
 
--- a formula for these tables with r steps
+-- a formula for the tables with r steps
 abbrev pub sizes_of : Words → ℕ → Sizes
 sizes_of w r = record { n = w.n; r = r; m = length w.on }
 
@@ -26,7 +26,8 @@ outputs z = range_with_len 1 z.m
 unfoldable pub x_var : Sizes → ℕ → ℕ → ℕ
 x_var z i t = (i - (z.n + 1)) * 2 ^ z.n + t + 1
 
--- Output h is step i: behind these, all steps for the first output, then for the next.
+-- Output h is step i: after the variables of values, all steps for the first output, then for the
+-- next.
 unfoldable pub g_var : Sizes → ℕ → ℕ → ℕ
 g_var z h i = z.r * 2 ^ z.n + (h - 1) * z.r + (i - z.n)
 
@@ -38,17 +39,18 @@ f_first z = z.r * 2 ^ z.n + z.m * z.r + 1
 abbrev pub bits_word : Bool → Bool → ℕ
 bits_word b c = 2 * (if b then 1 else 0) + (if c then 1 else 0)
 
--- The operator of step i has the value 1 at (b, c): behind these, four for each step, at 00, 01, 10
--- and 11.
+-- The operator of step i has the value 1 at (b, c): after those of outputs, four for each step, at
+-- 00, 01, 10 and 11.
 unfoldable pub f_var : Sizes → ℕ → Bool → Bool → ℕ
 f_var z i b c = f_first z + 4 * (i - (z.n + 1)) + bits_word b c
 
--- the first variable behind these; from it on come those of the pairs
+-- the first variable after those of operators; from it on come those of the pairs
 unfoldable pub s_first : Sizes → ℕ
 s_first z = f_first z + 4 * z.r
 
--- Place j has this bit on row t. For an input that is true or false; for a step it is a literal.
--- Example: with 2 inputs, "place 1 has the bit 1 on row 2" is true, and so is left out of no clause
--- but leaves out the clause.
+-- Place j has the given bit on row t. For an input that is true or false; for a step it is a
+-- literal.
+-- Example: with 2 inputs, "place 1 has the bit 1 on row 2" is true, so a clause that has it is a
+-- tautology.
 unfoldable pub x_is : Sizes → ℕ → ℕ → Bool → Raw
 x_is z j t bit = if leb j z.n then Fixed (if input z.n t j then bit else not bit) else Var (x_var z j t) bit

@@ -1,4 +1,5 @@
--- The parts of a size by fences, and what a part asks of a chain.
+-- The parts of a size by fences (the subproblems, one for each fence), and what a part asks of a
+-- chain.
 use Rattle.std.specs.Prelude.{ℕ, ⊤, List, [], map, length}
 use Rattle.chain_theory.specs.Chain.{Chain}
 use Rattle.chain_theory.specs.Levels.{HasLevels}
@@ -17,8 +18,8 @@ unfoldable pub fence_in : Part → List ℕ
 fence_in Whole = []
 fence_in (Levels fence) = fence
 
--- What a part asks of a chain besides its size: nothing where the size is searched whole, and by a fence
--- that the chain has at most the fence's levels.
+-- What a part asks of a chain besides its size: nothing where the size is searched whole, and with
+-- a fence that the chain has at most the fence's levels.
 -- Example: the fence 2, 1 asks for at most two levels.
 unfoldable pub FitsPart : Part → Chain → Type 0
 FitsPart Whole c = ⊤

@@ -14,13 +14,14 @@ use Rattle.enc_theory.specs.Decode.{decoded}
 abbrev pub plain_layout : Sizes → List StepSlots
 plain_layout z = layout (pairs_below false) z
 
--- the formula of tables whose outputs are all live
+-- the formula of truth tables whose outputs are all live
 unfoldable pub plain_live : Words → ℕ → ℕ → Formula
 plain_live w basis r =
     let z = sizes_of w r in
     record { vars = vars_of z (plain_layout z); clauses = common w basis z (plain_layout z) }
 
--- The formula of tables, over the set of operators that a number is: that of their live outputs alone.
+-- The formula of truth tables, over a set of operators given as a number: that of the live outputs
+-- alone.
 unfoldable pub plain_formula : Words → ℕ → ℕ → Formula
 plain_formula w basis r = plain_live (live_words w) basis r
 

@@ -8,7 +8,7 @@ use Rattle.enc_theory.specs.Families.{bearer, out_exists_at, out_exists, out_val
 use Rattle.enc_theory.specs.Plain.{plain_live, plain_formula}
 use Rattle.enc_theory.specs.Vectors.{Vector, vector, with_clause, with_clauses, literal_count, outline, outline_by, expected}
 
--- tables, operators and size; then how many variables, clauses and literals, and the checksum
+-- tables, operators and size; then the numbers of variables, clauses and literals, and the checksum
 abbrev pub plain_vectors : List Vector
 plain_vectors =
     vector 1 (1 ∷ []) (3 ∷ []) 2 0 0 1 0 0

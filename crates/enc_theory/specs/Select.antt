@@ -1,8 +1,8 @@
--- The encoding in which a step chooses its first and its second operand each by itself, and has
--- variables for their values: fewer variables and clauses than with one for each pair of operands
--- (the encoding by selection of Kojevnikov, Kulikov and Yaroslavtsev, "Finding Efficient Circuits
--- Using SAT-solvers", 2009). Its cuts are those of the encoding by pairs, as far as they can be said
--- of one operand at a time. Loops run in rising order, the first named outermost.
+-- The encoding with a selection variable for each single operand (MSV, multiple selection
+-- variables), and with variables for the operands' values: fewer variables and clauses than with
+-- one for each pair of operands (Kojevnikov, Kulikov and Yaroslavtsev, "Finding Efficient Circuits
+-- Using SAT-solvers", 2009). Its cuts are those of the encoding by pairs, as far as they can be
+-- expressed by single operands. Loops run in rising order, the first named is outermost.
 use Rattle.std.specs.Prelude.{ℕ, zero, suc, ℤ, ◌+◌, ◌-◌, ◌*◌, ◌^◌, Bool, true, false, ◌&&◌, not, List, [], ◌∷◌, ◌++◌, map, min, max, nat_lt, ◌==◌, if◌then◌else◌}
 use Rattle.std.specs.List.{range_with_len, flat_map}
 use Rattle.chain_theory.specs.Chain.{Step, Chain}
@@ -22,11 +22,11 @@ use Rattle.enc_theory.specs.Families.{out_exists, out_values, operator_raw, oper
 use Rattle.enc_theory.specs.Cuts.{bears, not_idle, row_0}
 use Rattle.enc_theory.specs.Decode.{operator_in, with_outs}
 
--- ---- Variables: those of values, outputs and operators stand as in an encoding by pairs; behind them
--- come the choices of first operands, those of second operands, the values of first operands and those
--- of second operands.
+-- ---- Variables: those of values, outputs and operators are as in an encoding by pairs; after them
+-- come the choices of first operands, those of second operands, the values of first operands and
+-- those of second operands.
 
--- How many operands the first steps may have: each has the places below it.
+-- The number of places that the operands of the first steps may be: each may be any lower place.
 -- Example: with 2 inputs, 2 for the first step, and 5 for the first two.
 unfoldable pub operand_count : ℕ → ℕ → ℕ
 operand_count n zero = 0
@@ -118,8 +118,8 @@ results z = flat_map (result_step z) (places z)
 unfoldable pub chosen_chain : Words → ℕ → Sizes → List (List ℤ)
 chosen_chain w basis z = out_exists z ++ out_values w z ++ operands_exist z ++ copies z First ++ copies z Second ++ results z ++ operators basis z
 
--- ---- Operands rise, where the basis has each operator with its operands exchanged: for step i, places
--- j below it and k below j, "not j and k".
+-- ---- Operands rise, where the basis has each operator with its operands exchanged: for step i,
+-- places j below it and k below j, "not j and k".
 
 -- "the step's operands aren't these"
 abbrev pub not_these : Sizes → ℕ → ℕ → ℕ → List Raw
@@ -137,8 +137,8 @@ rising_step z i = flat_map (rising_from z i) (below i)
 unfoldable pub rising : ℕ → Sizes → List (List ℤ)
 rising basis z = if swap_closed (members basis) then flat_map (rising_step z) (places z) else []
 
--- ---- Each step is an output or is read: for step i, one clause "some output is i, or some later step
--- has i for its first operand, or for its second".
+-- ---- All steps used: for step i, one clause "some output is i, or some later step has i for its
+-- first operand, or for its second".
 
 unfoldable pub choosers : Sizes → ℕ → ℕ → List Raw
 choosers z p i = chooses z First i p ∷ chooses z Second i p ∷ []
@@ -149,10 +149,10 @@ used_step z i = written (map (bears z i) (outputs z) ++ flat_map (choosers z i) 
 unfoldable pub used_steps : Sizes → List (List ℤ)
 used_steps z = flat_map (used_step z) (places z)
 
--- ---- No step is trivial. Its operator is no copy, and no constant where constants can be left out.
+-- ---- Non-trivial operators: no copy, and no constant where constants can be left out.
 
--- With both operands at place j the operator is a negation, where constants can be left out; else it is
--- at least no copy.
+-- With both operands at place j the operator is a negation, where constants can be left out;
+-- otherwise it is at least no copy.
 unfoldable pub equal_choice : Bool → Sizes → ℕ → ℕ → List (List ℤ)
 equal_choice constants z i j =
     if constants then written (not_these z i j j ++ Var (f_var z i false false) true ∷ []) ++ written (not_these z i j j ++ Var (f_var z i true true) false ∷ [])
@@ -175,8 +175,9 @@ trivial_step constants basis z i = not_idle constants basis z i ++ flat_map (equ
 unfoldable pub trivial_steps : ℕ → Sizes → List (List ℤ)
 trivial_steps basis z = flat_map (trivial_step (const_closed (members basis)) basis z) (places z)
 
--- ---- Second operands never fall, where operands rise, so that the second is the larger: for step i
--- that isn't the last, places k below it and l below k, "i hasn't k, or step i + 1 hasn't l".
+-- ---- Co-lexicographic order: second operands never decrease, where operands rise, so that the
+-- second is the larger: for step i that isn't the last, places k below it and l below k, "i doesn't
+-- have k, or step i + 1 doesn't have l".
 
 unfoldable pub falling_pair : Sizes → ℕ → ℕ → ℕ → List (List ℤ)
 falling_pair z i k l = written (Var (choice_var z Second i k) false ∷ Var (choice_var z Second (i + 1) l) false ∷ [])
@@ -190,9 +191,9 @@ falling_step z i = flat_map (falling_from z i) (below i)
 unfoldable pub falling : ℕ → Sizes → List (List ℤ)
 falling basis z = if swap_closed (members basis) then flat_map (falling_step z) (range_with_len (z.n + 1) (z.r - 1)) else []
 
--- ---- No step is applied again to one of its operands, where the basis is closed under that: for step
--- i, a later step l, places j and k below i, and o among them, "not j and k, or l hasn't o and i", and
--- "or l hasn't i and o". Where operands rise, j is at most k, and only the first is there.
+-- ---- No re-application, where the basis is closed under that: for step i, a later step l, places
+-- j and k below i, and o among them, "not j and k, or l doesn't have o and i", and "or l doesn't
+-- have i and o". Where operands rise, j is at most k, and there is only the first.
 
 -- the operands, each once, the smaller first
 abbrev pub different : ℕ → ℕ → List ℕ
@@ -216,7 +217,7 @@ again_step ordered z i = flat_map (again_after ordered z i) (above z i)
 unfoldable pub again_steps : ℕ → Sizes → List (List ℤ)
 again_steps basis z = if reapply_closed (members basis) then flat_map (again_step (swap_closed (members basis)) z) (places z) else []
 
--- ---- All cuts, in their order; the last is that of an encoding by pairs.
+-- ---- All cuts, in their order; the last one (normal steps) is that of an encoding by pairs.
 unfoldable pub chosen_cuts : ℕ → Sizes → List (List ℤ)
 chosen_cuts basis z = rising basis z ++ used_steps z ++ trivial_steps basis z ++ falling basis z ++ again_steps basis z ++ row_0 basis z
 
@@ -226,7 +227,8 @@ select_live w basis r =
     let z = sizes_of w r in
     record { vars = select_vars z; clauses = chosen_chain w basis z ++ chosen_cuts basis z }
 
--- The formula of tables, over the set of operators that a number is: that of their live outputs alone.
+-- The formula of truth tables, over a set of operators given as a number: that of the live outputs
+-- alone.
 unfoldable pub select_formula : Words → ℕ → ℕ → Formula
 select_formula w basis r = select_live (live_words w) basis r
 

@@ -1,4 +1,4 @@
--- The encoding by selection of operands against the independent program.
+-- The encoding by single operands (MSV) against the independent program.
 use Rattle.std.specs.Prelude.{◌≡◌, List, [], ◌∷◌, map, refl}
 use Rattle.op_basis.specs.Closed.{swapped, complement, first_complemented, second_complemented, every_below, swaps, negates_both, has_no_negation_at, negates_one, keeps_constants, has_complements, is_allowed, left_on_first, left_on_second, right_on_first, right_on_second, reapplies, reapplies_all}
 use Rattle.chain_theory.specs.Rows.{row_of}
@@ -10,7 +10,7 @@ use Rattle.enc_theory.specs.Cuts.{bears, other_operator, not_idle, row_0_at, row
 use Rattle.enc_theory.specs.Select.{operand_count, choice_first, choice_var, value_first, value_var, select_vars, chooses, choice_exists, choices_exist, operands_exist, copy_raw, copy_row, copy_place, copy_step, copies, result_raw, result_clause, result_bit, result_row, result_step, results, chosen_chain, rising_pair, rising_from, rising_step, rising, choosers, used_step, used_steps, equal_choice, negation_pair, negation_from, negation_step, trivial_step, trivial_steps, falling_pair, falling_from, falling_step, falling, again_operand, again_operands, again_from, again_after, again_step, again_steps, chosen_cuts, select_live, select_formula}
 use Rattle.enc_theory.specs.Vectors.{Vector, vector, with_clause, with_clauses, literal_count, outline, outline_by, expected}
 
--- tables, operators and size; then how many variables, clauses and literals, and the checksum
+-- tables, operators and size; then the numbers of variables, clauses and literals, and the checksum
 abbrev pub select_vectors : List Vector
 select_vectors =
     vector 1 (1 ∷ []) (3 ∷ []) 2 0 0 1 0 0

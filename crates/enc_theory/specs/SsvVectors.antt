@@ -11,7 +11,7 @@ use Rattle.enc_theory.specs.Cuts.{bears, reader, readers, used_by, used, other_o
 use Rattle.enc_theory.specs.Ssv.{ssv_live, ssv_formula}
 use Rattle.enc_theory.specs.Vectors.{Vector, vector, with_clause, with_clauses, literal_count, outline, outline_by, expected}
 
--- tables, operators and size; then how many variables, clauses and literals, and the checksum
+-- tables, operators and size; then the numbers of variables, clauses and literals, and the checksum
 abbrev pub ssv_vectors : List Vector
 ssv_vectors =
     vector 1 (1 ∷ []) (3 ∷ []) 2 0 0 1 0 0

@@ -1,4 +1,4 @@
--- What an independent program makes of some inputs, and that the definitions make the same.
+-- What an independent program computes for some inputs, against the definitions.
 use Rattle.std.specs.Prelude.{ℕ, ◌+◌, ◌-◌, ◌*◌, ◌%◌, ℤ, pos, negsuc, List, [], ◌∷◌, length}
 use Rattle.sat_theory.specs.Formula.{Formula}
 use Rattle.tt_core.specs.Words.{Words}
@@ -11,8 +11,8 @@ unfoldable pub with_clause : ℕ → List ℤ → ℕ
 with_clause sum [] = with_literal sum (pos 0)
 with_clause sum (l ∷ ls) = with_clause (with_literal sum l) ls
 
--- over the literals in order, with a 0 behind each clause, all as numbers of 32 bits: 31 times the
--- sum so far, and the next one
+-- over the literals in order, with a 0 after each clause, all as numbers of 32 bits: 31 times the
+-- sum so far, plus the next one
 unfoldable pub with_clauses : ℕ → List (List ℤ) → ℕ
 with_clauses sum [] = sum
 with_clauses sum (c ∷ cs) = with_clauses (with_clause sum c) cs

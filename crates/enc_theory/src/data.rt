@@ -1,4 +1,4 @@
-//! What formulas are spoken of by: sizes, pairs of operands and their variables.
+//! What formulas are described by: sizes, pairs of operands and their variables.
 
 /// What a formula is made for: `n` inputs, `r` steps and `m` outputs.
 #[derive(Clone, Copy)]
@@ -15,7 +15,7 @@ pub struct Pair {
     pub k: u32,
 }
 
-/// A pair that a step may have, with the variable that says that it has it.
+/// A pair that a step may have, with its selection variable, which says that it has it.
 #[derive(Clone, Copy)]
 pub struct Slot {
     pub j: u32,

@@ -1,6 +1,7 @@
-//! What the definitions come to, as contracts of functions that do nothing: an independent program,
-//! written from the same description, makes formulas of the same numbers of variables, clauses and
-//! literals and of the same checksums, over the tables, sets of operators and sizes of the vectors.
+//! The definitions against an independent program, written from the same description: formulas of
+//! the same numbers of variables, clauses and literals and of the same checksums, for the tables,
+//! sets of operators and sizes of the vectors. Each law is the contract of a function that does
+//! nothing.
 ghost use Rattle.std.specs.Prelude.{◌≡◌, map};
 ghost use Rattle.enc_theory.specs.Vectors.{outline_by, expected};
 ghost use Rattle.enc_theory.specs.Plain.{plain_formula};
@@ -26,7 +27,7 @@ pub fn fence_is_that_of_another_program()
     ensures { map outline_of fence_vectors ≡ map expected_of fence_vectors }
 {}
 
-/// The encoding by selection of operands.
+/// The encoding by single operands.
 pub fn select_is_that_of_another_program()
     ensures { map (outline_by select_formula) select_vectors ≡ map expected select_vectors }
 {}

@@ -1,4 +1,4 @@
--- One more first level.
+-- One more size of the first level.
 use Rattle.std.proofs.Common.{◌≡◌, ℕ, zero, suc, ◌+◌, ◌-◌, ◌≤◌, true, false, leb, List, [], ◌∷◌, ◌++◌, ap, ◌∙◌, arith, append-nil}
 use Rattle.std.specs.List.{flat_map, range_with_len}
 use Rattle.std.proofs.lemmas.Bool.{cond-true, cond-false}
@@ -10,7 +10,7 @@ range_push : (a n : ℕ) → range_with_len a (suc n) ≡ range_with_len a n ++ 
 range_push a zero = ap (λ (x : ℕ). x ∷ []) (let e : a ≡ a + 0 = omega arith in e)
 range_push a (suc n) = ap (λ (xs : List ℕ). a ∷ xs) (range_push (a + 1) n ∙ ap (λ (x : ℕ). range_with_len (a + 1) n ++ x ∷ []) (let e : (a + 1) + n ≡ a + suc n = omega arith in e))
 
--- the fences with fewer first steps, and those with this many
+-- the fences with fewer steps on the first level, and those with q there
 pub next_turn : (below : List ℕ) (r m q : ℕ) → 1 ≤ q → flat_map (fences_with below r m) (range_with_len 1 (q + 1 - 1)) ≡ flat_map (fences_with below r m) (range_with_len 1 (q - 1)) ++ fences_with below r m q
 next_turn below r m zero some = absurd (omega arith)
 next_turn below r m (suc q) some =

@@ -1,15 +1,16 @@
--- How the steps of a chain stand in levels.
+-- How the steps of a chain are spread over levels.
 use Rattle.std.specs.Prelude.{ℕ, zero, suc, ◌+◌, ◌≤◌, ◌<◌, ◌≡◌, ◌⊎◌, ⊤, Bool, true, ◌&&◌, leb, List, [], ◌∷◌, ◌++◌, map, sum, All}
 use Rattle.std.specs.List.{Contains, filter}
 
--- so many steps on each level, the first level first
+-- the number of steps on each level, the first level first; none is 0
 -- Example: 2, 1 is a fence of three steps on two levels, and 2, 0, 1 is none.
 abbrev pub IsFence : List ℕ → Type 0
 IsFence levels = All (λ q. 1 ≤ q) levels
 
--- Each level has at most as many steps as all levels above it together have, and m more: a step is read
--- by one above it or is one of m outputs, and a step reads two places.
--- Example: 2, 1 is listed for one output, and 3, 1 isn't, since the step on top reads two places.
+-- Each level has at most as many steps as all levels above it together have, and m more: a step is
+-- read by one above it or is one of m outputs, and a step reads two places.
+-- Example: 2, 1 is listed for one output, and 3, 1 isn't, since the one step of the second level
+-- reads two places.
 abbrev pub IsListed : ℕ → List ℕ → Type 0
 IsListed m [] = ⊤
 IsListed m (q ∷ qs) = (q ≤ sum qs + m) × IsListed m qs
@@ -20,13 +21,14 @@ pub record IsFenceOf (r m : ℕ) (fence : List ℕ) : Type 0 where
   pub whole : sum fence ≡ r
   pub listed : IsListed m fence
 
--- the first number that differs is smaller, or the list is a front of the other
+-- lexicographic order: the first number that differs is smaller, or the list is a prefix of the
+-- other
 abbrev pub IsBefore : List ℕ → List ℕ → Type 0
 IsBefore xs [] = ⊥
 IsBefore [] (y ∷ ys) = ⊤
 IsBefore (x ∷ xs) (y ∷ ys) = (x < y) ⊎ ((x ≡ y) × IsBefore xs ys)
 
--- each list comes before all that stand behind it
+-- each list comes before all that follow it
 abbrev pub IsRising : List (List ℕ) → Type 0
 IsRising [] = ⊤
 IsRising (f ∷ fences) = All (IsBefore f) fences × IsRising fences
@@ -37,7 +39,7 @@ pub record AreListed (r m : ℕ) (fences : List (List ℕ)) : Type 0 where
   pub all : (f : List ℕ) → IsFenceOf r m f → Contains fences f
   pub order : IsRising fences
 
--- ---- the same as a list
+-- ---- the same, computed as a list
 
 -- the list with its first number one greater
 abbrev pub one_more : List ℕ → List ℕ

@@ -75,7 +75,7 @@ all_kept P Q p each (x ∷ xs) all = ⊎_elim
 
 -- ---- fences of a size
 
--- a fence of so many steps
+-- a fence of s steps
 abbrev pub IsOfSize : ℕ → List ℕ → Type 0
 IsOfSize r f = IsFence f × (sum f ≡ r)
 
@@ -103,7 +103,7 @@ unfolding fences_of_size
 all_of_size zero = All-cons (IsOfSize 0) [] [] (All-nil (λ (q : ℕ). 1 ≤ q), refl) (All-nil (IsOfSize 0))
 all_of_size (suc r) = subst (λ (n : ℕ). All (IsOfSize n) (filled_fences r)) (let e : r + 1 ≡ suc r = omega arith in e) (filled_are r)
 
--- each fence of the size is there
+-- each fence of the size is in the list
 filled_has : (r : ℕ) (f : List ℕ) → IsOfSize (r + 1) f → Contains (filled_fences r) f
 unfolding filled_fences
 filled_has r [] (filled, whole) = absurd (omega (arith, whole))

@@ -1,6 +1,6 @@
 //! Fences (Kojevnikov, Kulikov and Yaroslavtsev 2009; Haaswijk, Soeken, Mishchenko and De Micheli
-//! 2018): how many steps of a chain stand on each level, where a step's level is one more than the
-//! larger level of its operands, and inputs have level 0.
+//! 2018): the number of steps of a chain on each level, where a step's level is 1 + the larger
+//! level of its operands, and inputs have level 0.
 //!
 //! ```text
 //! let fence = Fence::new(vec![in alloc; 2, 1]?); // two steps on the first level, one above them

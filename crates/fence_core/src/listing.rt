@@ -1,4 +1,4 @@
-//! Which fences a size has to be searched by.
+//! The fences by which a size is searched.
 ghost use Rattle.std.specs.Prelude.{◌≡◌, ◌≤◌, ◌-◌, ◌+◌, ◌++◌, ◌∷◌, [], leb, IfOk, OnOk};
 ghost use Rattle.fence_core.specs.Fence.{IsFence, AreListed, listed_fences};
 ghost use Rattle.fence_core.specs.ByFirst.{behind};
@@ -16,7 +16,8 @@ fn push_fence(alloc: Global, fences: &mut Vec<Fence>, levels: &[u32]) -> Result<
     Ok(())
 }
 
-/// Whether so many steps may stand on the first level of `left` steps.
+/// Whether `first` of `left` steps may be on the first level: the others and the outputs read
+/// enough.
 fn may_begin(left: u32, outputs: u32, first: u32) -> bool
     requires { (first ≤ left) × (left ≤ 16) }
     ensures { result ≡ leb first (left - first + outputs) }
@@ -52,9 +53,9 @@ fn push_fences(
     Ok(())
 }
 
-/// The fences of `r` steps that some least chain with so many live outputs may stand in: each level has
-/// at most as many steps as all levels above it together, and `outputs` more. They come in lexicographic
-/// order; without steps there is the one fence without levels.
+/// The fences of `r` steps that some least chain with `outputs` live outputs has: each level has at
+/// most as many steps as all levels above it together, and `outputs` more. They are in
+/// lexicographic order; without steps there is the one fence without levels.
 pub fn fences(alloc: Global, r: u32, outputs: u32) -> Result<Vec<Fence>, AllocError>
     requires { r ≤ 16 }
     ensures exact { IfOk result (λ fences. fences.items ≡ listed_fences r outputs) }

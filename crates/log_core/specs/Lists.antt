@@ -32,7 +32,7 @@ ids_of bytes = ids_from 0 (numbers_from 0 bytes)
 unfoldable pub variable_at : ℕ → ℕ
 variable_at n = max 1 (min n 2147483647)
 
--- the literal that a number stands for: of a variable v, 2 v is v and 2 v + 1 is -v
+-- the literal that a number encodes: of a variable v, 2 v is v and 2 v + 1 is -v
 unfoldable pub literal_at : ℕ → ℤ
 literal_at n = signed (variable_at (n / 2)) (n % 2 == 0)
 
@@ -40,7 +40,7 @@ literal_at n = signed (variable_at (n / 2)) (n % 2 == 0)
 unfoldable pub literals_written : List ℤ → List ℕ
 literals_written lits = flat_map (λ l. written (code_of l)) lits
 
--- the literals that numbers stand for
+-- the literals that numbers encode
 unfoldable pub literals_from : List ℕ → List ℤ
 literals_from ns = map literal_at ns
 

@@ -26,7 +26,7 @@ pub(crate) fn push_ids(bytes: &mut Vec<u8>, ids: &[u32]) -> Result<(), AllocErro
     Ok(())
 }
 
-/// The number that stands for a literal.
+/// The number that encodes a literal.
 fn number_of(lit: Lit) -> u64
     ensures value { result ≡ code_of lit }
     ensures whole { IsLit lit }

@@ -27,7 +27,7 @@ fn ids_of(alloc: Global, bytes: &[u8]) -> Result<Vec<u32>, AllocError>
     Ok(ids)
 }
 
-/// The literal that a number stands for, its variable clamped to 1 to 2147483647.
+/// The literal that a number encodes, its variable clamped to 1 to 2147483647.
 #[tactic(auto, unfolding(crate::specs::Lists::literal_at, crate::specs::Lists::variable_at))]
 pub(crate) fn literal_at(number: u64) -> Lit
     ensures { result ≡ spec.literal_at number }

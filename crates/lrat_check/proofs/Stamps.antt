@@ -37,7 +37,7 @@ marked-next stamps time l are =
     (λ (past : length stamps ≤ code_of l). let none : slice_index_or stamps (code_of l) 0 ≡ 0 = grind (arith, common_steps) in rw none (ne_eqb 0 (time + 1) (λ e. omega (arith, e))))
     (cases_lt (code_of l) (length stamps))
 
--- and so it is where all stamps are 0.
+-- and it is empty where all stamps are 0.
 pub marked-fresh : (n : ℕ) (l : ℤ) → marked (record { stamps = replicate n 0; time = 1 }) l ≡ false
 unfolding marked
 marked-fresh n l =

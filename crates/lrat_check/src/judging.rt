@@ -1,5 +1,5 @@
-//! Whether a line holds, and which fault it has if not: the definitions of `Judging`, with marks for the set of
-//! literals.
+//! Whether a line holds, and its fault where it doesn't: the definitions of `Judging`, with marks
+//! for the set of literals.
 ghost use Rattle.std.specs.Prelude.{◌≡◌, ℤ, false, OnOk, IfOk};
 ghost use Rattle.sat_theory.specs.Formula.{IsWithin};
 ghost use Rattle.sat_theory.specs.Holding.{among};

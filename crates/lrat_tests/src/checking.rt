@@ -22,7 +22,7 @@ fn checker(
 /// The variables 1 and 2, and all four clauses over both.
 const CONTRADICTION: [&[u8]; 4] = [b"1 1 2 0 0", b"2 -1 2 0 0", b"3 1 -2 0 0", b"4 -1 -2 0 0"];
 
-/// Whether a new checker of the contradiction gives `answer` to a line.
+/// Whether a new checker of the contradiction gives the answer `expected` to a line.
 fn is_answer_of(
     alloc: Global,
     indexed: bool,

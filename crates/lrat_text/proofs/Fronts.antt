@@ -36,7 +36,7 @@ pub behind_first-blank : (b : ℕ) (bs : List ℕ) → b ≡ 32 → behind_first
 unfolding split_from
 behind_first-blank b bs is = grind (arith, common_steps, is)
 
--- and another byte stands in it.
+-- and another byte is part of it.
 pub first_of-byte : (b : ℕ) (bs : List ℕ) → (b ≡ 32 → ⊥) → first_of (b ∷ bs) ≡ b ∷ first_of bs
 unfolding split_from
 first_of-byte b bs isnt = grind (arith, common_steps, isnt, first_front (b ∷ []) bs)

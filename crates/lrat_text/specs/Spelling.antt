@@ -10,7 +10,7 @@ abbrev pub line_items : Line → List (List ℕ)
 line_items (Add id lits hints) = decimal id ∷ (map signed_decimal lits ++ codes "0" ∷ (map decimal hints ++ codes "0" ∷ []))
 line_items (Delete id ids) = decimal id ∷ codes "d" ∷ (map decimal ids ++ codes "0" ∷ [])
 
--- A blank stands between each two items.
+-- There is a blank between each two items.
 -- Example: the addition of the clause 2 under the id 5 by the hints 1 and 2 is "5 2 0 1 2 0".
 abbrev pub line_body : Line → List ℕ
 line_body l = join_with_byte 32 (line_items l)

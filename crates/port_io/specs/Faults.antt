@@ -9,6 +9,6 @@ last_count = 2 ^ 64 - 1
 abbrev pub next_count : ℕ → ℕ
 next_count count = min (count + 1) last_count
 
--- The count is greater now, or stands at its last value.
+-- The count is greater now, or is saturated.
 abbrev pub Rose : ℕ → ℕ → Type 0
 Rose old new = (old < new) ⊎ (new ≡ last_count)

@@ -31,8 +31,8 @@ abbrev pub HasEmpty : Formula → List Line → Type 0
 HasEmpty f lines = Contains f.clauses [] ⊎ Any AddsEmpty lines
 
 -- A log refutes a formula where it holds and reaches the empty clause.
--- Example: the lines 5: 2 by 1, 2 and 6: (empty) by 5, 3, 4 refute the clauses 1: 1, 2 and 2: -1, 2 and
--- 3: 1, -2 and 4: -1, -2.
+-- Example: the lines 5: 2 by 1, 2 and 6: (empty) by 5, 3, 4 refute the clauses 1: 1, 2 and 2: -1, 2
+-- and 3: 1, -2 and 4: -1, -2.
 pub record Refutes (f : Formula) (lines : List Line) : Type 0 where
   pub holds : LogHolds f lines
   pub reaches : HasEmpty f lines

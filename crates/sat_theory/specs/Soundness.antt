@@ -60,7 +60,7 @@ hints_contradict v live (hint ∷ more ∷ hints) set models (clause, l, is, uni
     hints_contradict v live (more ∷ hints) (with_literal set (opposite l)) models hold
     (λ m member. ⊎_elim (λ (same : m ≡ opposite l). subst (λ (x : ℤ). literal_value v x ≡ false) (sym same) (opposite_value v l one value)) (λ (old : set m ≡ true). false_set m old) (with_literal_cases set (opposite l) m member))
 
--- a member of a list's set stands in the list
+-- a member of a list's set is in the list
 pub Contains-from_among : (lits : List ℤ) (l : ℤ) → among lits l ≡ true → Contains lits l
 Contains-from_among lits l is =
     let found : Any (λ (m : ℤ). int_eq l m ≡ true) lits = Any-from_list_any (λ (m : ℤ). int_eq l m) lits is in

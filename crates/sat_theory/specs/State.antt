@@ -4,7 +4,7 @@ use Rattle.std.specs.List.{list_any}
 use Rattle.sat_theory.specs.Formula.{Formula}
 use Rattle.sat_theory.specs.Line.{Line, Add, Delete}
 
--- the live clauses by their ids, the formula's number of variables, and the greatest id of all clauses so far
+-- the live clauses by their ids, the formula's number of variables, and the greatest id so far
 pub record State : Type 0 where
   pub live : ℕ → Option (List ℤ)
   pub vars : ℕ

@@ -1,4 +1,4 @@
-//! What the definitions come to. Each law is the contract of a function that does nothing.
+//! What follows from the definitions. Each law is the contract of a function that does nothing.
 ghost use Rattle.std.specs.Prelude.{ℕ, ◌*◌, ◌^◌, ◌<◌, List};
 ghost use Rattle.sat_theory.specs.Formula.{Formula, IsFormula, Assignment, Satisfies};
 ghost use Rattle.sat_theory.specs.Line.{Line};

@@ -42,7 +42,7 @@ spelled_once v w is_v is_w e =
 pub known_fact : (basis : Basis) (v : Words) (fewest : ℕ) → IsSpec v → NoneBelow (specification v) basis fewest → IsFact basis (spelled v) fewest
 known_fact basis v fewest is none = λ w spec same. subst (λ (x : Words). NoneBelow (specification x) basis fewest) (spelled_once v w is spec (sym same)) none
 
--- nothing is below 0
+-- no number is below 0
 pub nothing_known : (basis : Basis) (key : List ℕ) (fewest : ℕ) → fewest ≡ 0 → IsFact basis key fewest
 nothing_known basis key fewest none = λ w spec same q low has. absurd (omega (arith, low, none))
 

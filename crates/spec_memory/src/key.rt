@@ -1,4 +1,4 @@
-//! Specifications by their words, compared and hashed as the words are.
+//! Specifications by their words, which are compared and hashed.
 ghost use Rattle.std.specs.Prelude.{◌≡◌, nat_eq, IfOk};
 ghost use Rattle.std.specs.Cmp.Lexicographic.{pointwise};
 ghost use Rattle.std.specs.Cmp.Rules.{comparing, hashing};
@@ -11,7 +11,7 @@ use std::hash::{Hash, Hasher};
 use std::marker::Model;
 use tt_core::Spec;
 
-/// The words of a specification: how many inputs it has, and then its outputs' words.
+/// The words of a specification: the number of inputs, and then its outputs' words.
 #[derive(Drop)]
 pub struct Key(Vec<u64>);
 

@@ -1,8 +1,8 @@
-//! What was found of specifications over a basis, remembered: of how few steps no chain agrees, and a chain.
+//! A cache of results by specification, over a basis: a lower bound of the steps of a chain that agrees, and a chain.
 //!
-//! It stands on `tt_core` for specifications, whose words are the keys. What a memory claims is true whatever its
-//! user asks: the least number of steps of a key is one below which no chain over the memory's basis agrees. Of
-//! its chains it claims nothing; who takes one judges it.
+//! The words of `tt_core`'s specifications are the keys. What a memory claims is true whatever its
+//! user asks: the `fewest` of a key is a lower bound, below which no chain over the memory's basis
+//! agrees. About its chains it claims nothing; whoever takes one has to judge it.
 //!
 //! ```text
 //! let key = Key::of(alloc, &spec)?;

@@ -1,4 +1,4 @@
-//! The memory: a map from the keys to what was found.
+//! The cache: a map from the keys to what was found.
 ghost use Rattle.std.specs.Prelude.{◌≡◌};
 ghost use Rattle.op_basis.specs.Basis.{members};
 ghost use Rattle.spec_memory.specs.Facts.{IsFact};
@@ -10,8 +10,8 @@ use std::alloc::{AllocError, Global};
 use std::collections::HashMap;
 use std::marker::Model;
 
-/// What was found of a specification: a number of steps of which no fewer do, a chain that may agree, and whether the
-/// search of that number was left open.
+/// What was found for a specification: a lower bound `fewest` for the number of steps, a chain that
+/// may agree, and whether the search at that number was left open (conflict limit).
 #[derive(Drop)]
 pub struct Found {
     pub fewest: u32,
@@ -19,8 +19,8 @@ pub struct Found {
     pub open: bool,
 }
 
-/// What was found of specifications over a basis. From outside it is the basis: what it has found is no fact of
-/// its value, but each of its answers is a fact.
+/// What was found for specifications over a basis. Contracts see the basis alone: the entries
+/// aren't part of the value, but each answer is proved.
 #[derive(Drop)]
 pub struct Memory {
     basis: Basis,
@@ -39,7 +39,7 @@ impl Model for Memory {
 }
 
 impl Memory {
-    /// A memory for a basis, which knows nothing.
+    /// An empty memory for a basis.
     #[tactic(auto, using(crate::specs::FactLaws::remembering))]
     pub fn new(alloc: Global, basis: Basis) -> Memory
         ensures { result ≡ basis }
@@ -50,8 +50,7 @@ impl Memory {
         }
     }
 
-    /// A number of steps of which no fewer do: no chain of fewer steps over the basis agrees with the
-    /// specification of this key.
+    /// A lower bound: no chain of fewer steps over the basis agrees with the specification of `key`.
     #[tactic(auto, using(crate::specs::FactLaws::remembering))]
     pub fn fewest(&self, key: &Key) -> u32
         ensures { IsFact (members self.now) key.now result }
@@ -70,7 +69,7 @@ impl Memory {
         }
     }
 
-    /// Whether a search was left open that was noted with the key. It is no fact of chains.
+    /// Whether a search that was noted with the key was left open. This says nothing about chains.
     pub fn is_open(&self, key: &Key) -> bool {
         match self.found.get(key) {
             Some(found) => found.open,
@@ -78,7 +77,8 @@ impl Memory {
         }
     }
 
-    /// Notes what was found of the specification of a key: no chain of fewer steps agrees.
+    /// Notes what was found for the specification of a key: no chain of fewer than `found.fewest`
+    /// steps agrees.
     #[tactic(auto, using(crate::specs::FactLaws::remembering))]
     pub fn note(&mut self, key: Key, found: Found) -> Result<(), AllocError>
         requires { IsFact (members self.old) key found.fewest }

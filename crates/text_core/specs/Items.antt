@@ -1,4 +1,4 @@
--- The items of a line: what stands between its blanks.
+-- The items of a line: what is between its blanks.
 use Rattle.std.specs.Prelude.{ℕ, ◌+◌, List, [], ◌∷◌, ◌++◌, length, Option, Some, None, ◌==◌, if◌then◌else◌}
 use Rattle.std.specs.Borrow.{Bor}
 

@@ -1,4 +1,4 @@
--- What exchanged rows, trivial outs and live outputs come to.
+-- Exchanged rows, trivial outs and live outputs, said without recursion.
 use Rattle.std.proofs.Common.{◌≡◌, ℕ, zero, suc, ◌-◌, ◌^◌, ◌<◌, ◌≤◌, true, refl, ap, ◌∙◌, arith, inl, inr}
 use Rattle.std.proofs.lemmas.Grind.{common_steps}
 use Rattle.std.proofs.lemmas.Bool.{cases_lt}

@@ -1,5 +1,5 @@
-//! What the definitions come to, said without recursion. Each law is the contract of a function
-//! that does nothing.
+//! What follows from the definitions, said without recursion. Each law is the contract of a
+//! function that does nothing.
 ghost use Rattle.std.specs.Prelude.{◌≡◌, ◌↔◌, ℕ, ◌^◌, ◌<◌, ◌≤◌, true, false, Some, None, Contains};
 ghost use Rattle.tt_core.specs.Agreement.{is_met};
 ghost use Rattle.tt_core.specs.Specification.{Specification, input};
