@@ -13,6 +13,9 @@ use crate::words::next_word;
 use net_document::{Cube, NetError};
 use std::alloc::Global;
 
+/// The most cover lines of a table.
+pub const MOST_CUBES: usize = 4096;
+
 /// The byte 0 or 1 alone.
 #[tactic(auto, unfolding(crate::specs::Rows::bit_in))]
 fn bit_in(word: &[u8]) -> Option<bool>
@@ -79,7 +82,7 @@ pub fn take_row(
     let Some((cube, on)) = row_in(table.cover.width, text) else {
         return Err(NetError::Syntax(line));
     };
-    if table.cover.cubes.len() >= 4096 {
+    if table.cover.cubes.len() >= MOST_CUBES {
         return Err(NetError::TooManyRows(line));
     }
     if !table.cover.cubes.is_empty() && !agrees(on, table.cover.on) {

@@ -23,6 +23,9 @@ use net_document::{Cover, LatchLine, Name, NetError, Trigger, add_copies};
 use net_text::{is_long_line, is_name};
 use std::alloc::{AllocError, Global};
 
+/// The most inputs of a table.
+pub const MOST_WIDTH: usize = 256;
+
 /// The name of the model, which may be missing.
 #[tactic(auto, unfolding(crate::specs::Statements::with_model))]
 fn name_model(alloc: Global, line: u32, reading: &mut Reading, text: &[u8]) -> Result<(), NetError>
@@ -125,7 +128,7 @@ fn table_of(alloc: Global, line: u32, text: &[u8]) -> Result<CoverTable, NetErro
     let Some((first, rest)) = next_word(text) else {
         return Err(NetError::Syntax(line));
     };
-    if count_words(rest) > 256 {
+    if count_words(rest) > MOST_WIDTH {
         return Err(NetError::TooWide(line));
     }
     if !are_names(text) {

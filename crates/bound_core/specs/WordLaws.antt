@@ -1,15 +1,17 @@
--- Whether an output uses an input, by the words of its values and of its specified rows: rows t and
--- t + 2 ^ k are compared all at once, by a word and the same word shifted.
-use Rattle.std.proofs.Common.{◌≡◌, ℕ, zero, suc, ◌+◌, ◌-◌, ◌/◌, ◌%◌, ◌^◌, ◌<◌, ◌≤◌, ◌==◌, Bool, true, false, ◌&&◌, not, refl, sym, ap, ap₂, ◌∙◌, arith, inl, inr}
-use Rattle.std.specs.Prelude.{if◌then◌else◌, slice_index, bit_and, bit_xor, min}
-use Rattle.std.specs.Int.{bit_at}
+-- Whether an output uses an input, by the words of its values and of its care set: rows t and t + 2
+-- ^ k are compared all at once, by a word and the same word shifted.
+use Rattle.std.proofs.Common.{◌≡◌, ℕ, zero, suc, ◌+◌, ◌-◌, ◌/◌, ◌%◌, ◌^◌, ◌<◌, ◌≤◌, ◌==◌, Bool, true, false, ◌&&◌, not, refl, sym, ap, ap₂, ◌∙◌, arith, w64, inl, inr}
+use Rattle.std.specs.Prelude.{if◌then◌else◌, slice_index, bit_and, bit_xor}
+use Rattle.std.specs.Int.{bit_at, bit_not}
 use Rattle.std.proofs.lemmas.Grind.{common_steps}
 use Rattle.std.proofs.lemmas.Bool.{cases_lt, cases_Bool}
 use Rattle.std.proofs.lemmas.Bool.Decides.{nat_tests}
 use Rattle.std.proofs.lemmas.Nat.{shr-shr}
-use Rattle.std.proofs.lemmas.Nat.Bits.{bit_at_and, bit_at_xor, bit_at-lt, bit_at-zero, same_from_bits}
+use Rattle.std.proofs.lemmas.Nat.Bits.{bit_at-lt, bit_at-zero, same_from_bits}
 use Rattle.chain_theory.specs.Operator.{digit}
 use Rattle.chain_theory.specs.declared.data.Cell.TheVariants.{Zero, One, Free}
+use Rattle.op_basis.specs.WordOperator.{differ, input_word}
+use Rattle.op_basis.specs.WordOperatorLaws.{digit_and, digit_xor}
 use Rattle.tt_core.specs.Words.{Words, IsSpec, specification}
 use Rattle.tt_core.specs.RowLaws.{row_below}
 use Rattle.bound_core.specs.Used.{are_opposite}
@@ -17,35 +19,6 @@ use Rattle.bound_core.specs.Counts.{some_below, turns_on, uses}
 use Rattle.bound_core.specs.CountLaws.{some_passes, passes_some, and_parts, true_false, no_digit}
 
 -- ---- digits of words
-
-min_one : (x y : ℕ) → x < 2 → y < 2 → (min x y == 1) ≡ ((x == 1) && (y == 1))
-min_one zero zero low_x low_y = refl
-min_one zero (suc zero) low_x low_y = refl
-min_one (suc zero) zero low_x low_y = refl
-min_one (suc zero) (suc zero) low_x low_y = refl
-min_one (suc (suc x)) y low_x low_y = absurd (omega arith)
-min_one zero (suc (suc y)) low_x low_y = absurd (omega arith)
-min_one (suc zero) (suc (suc y)) low_x low_y = absurd (omega arith)
-
--- two bits differ
-abbrev pub other_bit : Bool → Bool → Bool
-other_bit true bit = not bit
-other_bit false bit = bit
-
-sum_one : (x y : ℕ) → x < 2 → y < 2 → ((x + y) % 2 == 1) ≡ other_bit (x == 1) (y == 1)
-sum_one zero zero low_x low_y = refl
-sum_one zero (suc zero) low_x low_y = refl
-sum_one (suc zero) zero low_x low_y = refl
-sum_one (suc zero) (suc zero) low_x low_y = refl
-sum_one (suc (suc x)) y low_x low_y = absurd (omega arith)
-sum_one zero (suc (suc y)) low_x low_y = absurd (omega arith)
-sum_one (suc zero) (suc (suc y)) low_x low_y = absurd (omega arith)
-
-digit_and : (a b i : ℕ) → digit (bit_and a b) i ≡ (digit a i && digit b i)
-digit_and a b i = ap (λ (x : ℕ). x == 1) (bit_at_and a b i) ∙ min_one (bit_at a i) (bit_at b i) (bit_at-lt a i) (bit_at-lt b i)
-
-digit_xor : (a b i : ℕ) → digit (bit_xor a b) i ≡ other_bit (digit a i) (digit b i)
-digit_xor a b i = ap (λ (x : ℕ). x == 1) (bit_at_xor a b i) ∙ sum_one (bit_at a i) (bit_at b i) (bit_at-lt a i) (bit_at-lt b i)
 
 digit_shifted : (a s i : ℕ) → digit (a / 2 ^ s) i ≡ digit a (i + s)
 digit_shifted a s i =
@@ -55,7 +28,7 @@ digit_shifted a s i =
 -- ---- the rows whose digit of 2 ^ k is 0
 
 abbrev pub low_rows : ℕ → ℕ
-low_rows k = if k == 0 then 0x5555_5555_5555_5555 else (if k == 1 then 0x3333_3333_3333_3333 else (if k == 2 then 0x0f0f_0f0f_0f0f_0f0f else (if k == 3 then 0x00ff_00ff_00ff_00ff else (if k == 4 then 0x0000_ffff_0000_ffff else 0x0000_0000_ffff_ffff))))
+low_rows k = bit_not w64 (input_word k)
 
 same_bit : Bool → Bool → Bool
 same_bit true bit = bit
@@ -84,7 +57,7 @@ low_at word k (suc bound) t all low =
     ]
 
 low_is : (k : ℕ) → k < 6 → are_low (low_rows k) k 64 ≡ true
-unfolding are_low same_bit
+unfolding are_low same_bit input_word
 low_is zero low = refl
 low_is (suc zero) low = refl
 low_is (suc (suc zero)) low = refl
@@ -95,12 +68,11 @@ low_is (suc (suc (suc (suc (suc (suc k)))))) low = absurd (omega arith)
 
 -- ---- rows on which the value changes with the input
 
--- the rows t whose digit of weight 2 ^ k is 0, where rows t and t + 2 ^ k are specified and have
--- different values
+-- the rows t whose digit of 2 ^ k is 0, where rows t and t + 2 ^ k are specified and have different values
 abbrev pub turning_rows : ℕ → ℕ → ℕ → ℕ
 turning_rows on care k = bit_and (bit_and (bit_and care (care / 2 ^ 2 ^ k)) (bit_xor on (on / 2 ^ 2 ^ k))) (low_rows k)
 
-opposite_bits : (care care' on on' : Bool) → ((care && care') && other_bit on on') ≡ are_opposite (if care then (if on then One else Zero) else Free) (if care' then (if on' then One else Zero) else Free)
+opposite_bits : (care care' on on' : Bool) → ((care && care') && differ on on') ≡ are_opposite (if care then (if on then One else Zero) else Free) (if care' then (if on' then One else Zero) else Free)
 opposite_bits false care' on on' = refl
 opposite_bits true false true on' = refl
 opposite_bits true false false on' = refl
@@ -109,7 +81,7 @@ opposite_bits true true true false = refl
 opposite_bits true true false true = refl
 opposite_bits true true false false = refl
 
-turning_digit : (on care k t : ℕ) → digit (turning_rows on care k) t ≡ (((digit care t && digit care (t + 2 ^ k)) && other_bit (digit on t) (digit on (t + 2 ^ k))) && digit (low_rows k) t)
+turning_digit : (on care k t : ℕ) → digit (turning_rows on care k) t ≡ (((digit care t && digit care (t + 2 ^ k)) && differ (digit on t) (digit on (t + 2 ^ k))) && digit (low_rows k) t)
 turning_digit on care k t =
     rw (digit_and (bit_and (bit_and care (care / 2 ^ 2 ^ k)) (bit_xor on (on / 2 ^ 2 ^ k))) (low_rows k) t, digit_and (bit_and care (care / 2 ^ 2 ^ k)) (bit_xor on (on / 2 ^ 2 ^ k)) t, digit_and care (care / 2 ^ 2 ^ k) t, digit_xor on (on / 2 ^ 2 ^ k) t, digit_shifted care (2 ^ k) t, digit_shifted on (2 ^ k) t) refl
 

@@ -13,6 +13,7 @@ ghost use Rattle.bound_core.specs.Counts.{count_below};
 ghost use Rattle.bound_core.specs.Counts.{uses as uses_of, inputs_of, is_in_use as is_in_use_of};
 ghost use Rattle.bound_core.specs.Counts.{live_next, differ as differ_of, is_new as is_new_of, single, fewest};
 
+use op_basis::input_word;
 use tt_core::{Cell, Spec, row, trivial};
 
 /// Whether one cell is 0 and the other 1.
@@ -30,14 +31,7 @@ fn low_rows(k: u32) -> u64
     requires { k < 6 }
     ensures { result ≡ low_rows_of k }
 {
-    match k {
-        0 => 0x5555_5555_5555_5555,
-        1 => 0x3333_3333_3333_3333,
-        2 => 0x0f0f_0f0f_0f0f_0f0f,
-        3 => 0x00ff_00ff_00ff_00ff,
-        4 => 0x0000_ffff_0000_ffff,
-        _ => 0x0000_0000_ffff_ffff,
-    }
+    !input_word(k)
 }
 
 /// The rows t whose digit of 2^k is 0, where rows t and t + 2^k are specified and have different

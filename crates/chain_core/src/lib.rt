@@ -40,7 +40,7 @@ pub use difference::first_difference;
 pub use error::ChainError;
 pub use frame::Frame;
 pub use laws::laws_of_blocks;
-pub use lines::{count_at, out_at, step_at};
+pub use lines::{MOST_STEPS, count_at, out_at, step_at};
 pub use op_basis::{Basis, Op};
 pub use outside::first_outside;
 pub use reading::{add_step, read_chain};

@@ -17,6 +17,9 @@ use chain_theory::Out;
 use op_basis::read_operator;
 use text_core::{after, next_item, number_up_to};
 
+/// The most steps of a chain.
+pub const MOST_STEPS: u32 = 16;
+
 /// The greatest number of nine digits.
 const GREATEST: u32 = 999_999_999;
 
@@ -80,7 +83,7 @@ pub fn count_at(first_line: u32, text: &[u8], ended: bool) -> Result<u32, ChainE
         return Err(ChainError::BadCount(first_line));
     };
     match number_up_to(GREATEST, digits) {
-        Some(steps) if steps <= 16 => Ok(steps),
+        Some(steps) if steps <= MOST_STEPS => Ok(steps),
         Some(_) => Err(ChainError::TooManySteps(first_line)),
         None => Err(ChainError::BadCount(first_line)),
     }

@@ -4,11 +4,11 @@ use Rattle.net_theory.specs.declared.data.Sig.TheVariants.{Place}
 use Rattle.net_theory.specs.declared.data.Gate.{Gate}
 use Rattle.lane_sim.specs.Cone.{IsSigAmong, IsGateOver, place_of}
 
--- the places of these leaves and gates
+-- the places of `leaves` and `gates`
 abbrev pub placed : List ℕ → List (ℕ × Gate) → List ℕ
 placed leaves gates = leaves ++ map place_of gates
 
--- a gate's place is none of these places, and its operands are constants or of them
+-- a gate's place is none of the places `ps`, and its operands are constants or of them
 pub record IsNext (ps : List ℕ) (x : ℕ × Gate) : Type 0 where
   pub place : IsSigAmong ps (Place x.0) → ⊥
   pub gate : IsGateOver ps x.1

@@ -43,7 +43,7 @@ taken_back (y ∷ xs) zero k x e = absurd cc
 taken_back (y ∷ xs) (suc i) zero x e = (omega arith, e)
 taken_back (y ∷ xs) (suc i) (suc k) x e = let r = taken_back xs i k x e in (omega (arith, r.0), r.1)
 
--- what stands in two lists behind each other stands in one of them
+-- what stands in one list after another stands in one of them
 in_parts : {A : Type 0} (xs ys : List A) (k : ℕ) (x : A) → slice_get (xs ++ ys) k ≡ Some x → (slice_get xs k ≡ Some x) ⊎ ((j : ℕ) × (k ≡ length xs + j) × (slice_get ys j ≡ Some x))
 in_parts [] ys k x e = inr (k, omega arith, e)
 in_parts (y ∷ xs) ys zero x e = inl e

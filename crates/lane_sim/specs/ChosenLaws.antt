@@ -18,7 +18,7 @@ use Rattle.lane_sim.specs.Rows.{IsOperandOf}
 use Rattle.lane_sim.specs.Seen.{pattern_at, four_of, AreSeen, AreSeenFour, AreRows, AreOperands}
 use Rattle.lane_sim.specs.SeenLaws.{digit_or, digit_or_left, digit_or_right, mask_only, mask_all, both_true}
 use Rattle.lane_sim.specs.ShownLaws.{step_is}
-use Rattle.lane_sim.specs.WordLaws.{digit_and}
+use Rattle.op_basis.specs.WordOperatorLaws.{digit_and}
 use Rattle.lane_sim.specs.Words.{Words, AreWords, ArePatterns, ArePatternsOf, pattern_under, width_of}
 
 -- ---- word after word

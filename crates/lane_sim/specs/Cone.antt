@@ -22,7 +22,7 @@ place_of x = x.0
 abbrev pub places : Cone → List ℕ
 places c = c.leaves ++ map place_of c.gates
 
--- a signal that is a place is one of these
+-- a signal that is a place is one of `ps`
 abbrev pub IsSigAmong : List ℕ → Sig → Type 0
 IsSigAmong ps Zero = Unit {0}
 IsSigAmong ps One = Unit {0}
@@ -32,7 +32,7 @@ IsSigAmong ps (Place p) = (k : ℕ) × (slice_get ps k ≡ Some p)
 abbrev pub AreApart : List ℕ → Type 0
 AreApart ps = (i j p : ℕ) → slice_get ps i ≡ Some p → slice_get ps j ≡ Some p → i ≡ j
 
--- the operands of a gate are constants or of these places
+-- the operands of a gate are constants or of the places `ps`
 pub record IsGateOver (ps : List ℕ) (g : Gate) : Type 0 where
   pub first : IsSigAmong ps g.a
   pub second : IsSigAmong ps g.b

@@ -55,7 +55,7 @@ same_sig f g ps sigs.Zero among same = refl
 same_sig f g ps sigs.One among same = refl
 same_sig f g ps (sigs.Place p) among same = same among.0 p among.1
 
--- the gate at an index, where these places stand before all gates
+-- the gate at an index, where the places `ps` stand before all gates
 gate_holds : (bits : ℕ → Bool) (ps : List ℕ) (xs : List (ℕ × Gate)) (i : ℕ) (x : ℕ × Gate) → AreApart (ps ++ map place_of xs) → slice_get xs i ≡ Some x → IsGateOver (ps ++ map place_of (take i xs)) x.1 → gates_after bits xs x.0 ≡ gate_value (gates_after bits xs) x.1
 unfolding gates_after
 gate_holds bits ps [] i x apart e over = absurd cc

@@ -12,7 +12,8 @@ use Rattle.lane_sim.specs.PatternLaws.{at_nothing, at_one_more}
 use Rattle.lane_sim.specs.Seen.{pattern_at, four_of, AreSeenFour}
 use Rattle.lane_sim.specs.SeenLaws.{above_zero, at_most_32, no_digit, digit_below, digit_not, digit_one, digit_or, digit_or_left, digit_or_right, both_true, zero_plus}
 use Rattle.lane_sim.specs.ShownLaws.{step_is}
-use Rattle.lane_sim.specs.WordLaws.{digit_and, some_bit}
+use Rattle.op_basis.specs.WordOperatorLaws.{digit_and}
+use Rattle.lane_sim.specs.WordLaws.{some_bit}
 
 -- ---- one of four
 

@@ -1,4 +1,4 @@
--- Rows that are put one behind the other are right.
+-- Rows that are appended one after the other are right.
 use Rattle.std.proofs.Common.{◌≡◌, ◌∙◌, ℕ, zero, suc, ◌+◌, ◌-◌, ◌*◌, ◌^◌, replicate, take_all, take_at, ◌≤◌, ◌<◌, ◌≢◌, Bool, true, false, List, [], ◌∷◌, ◌++◌, length, map, take, Some, refl, ap, sym, subst, arith, get_or, length-append, append_assoc, append-nil, ⊎_elim, inl, inr, add-mul, one-mul, suc-mul, mul_comm, mul-le-mul_right, ◌⊎◌, ◌||◌, eq-eqb}
 use Rattle.std.specs.Prelude.{slice_get, if◌then◌else◌, ◌==◌, nat_eq}
 use Rattle.std.specs.List.{list_any}
@@ -12,14 +12,15 @@ use Rattle.net_theory.specs.declared.data.Sig.{Sig}
 use Rattle.net_theory.specs.declared.data.Sig.TheVariants as sigs
 use Rattle.net_theory.specs.declared.data.Gate.{Gate}
 use Rattle.net_theory.specs.Net.{gate_value, sig_value}
-use Rattle.lane_sim.specs.declared.combining.Masks.{Masks}
+use Rattle.op_basis.specs.declared.words.Masks.{Masks}
 use Rattle.lane_sim.specs.declared.rows.Operand.{Operand}
 use Rattle.lane_sim.specs.declared.rows.Operand.TheVariants as operands
-use Rattle.lane_sim.specs.Combining.{masks_of, operand_word, combined, EndsBefore}
+use Rattle.op_basis.specs.WordOperator.{masks_of, combined}
+use Rattle.lane_sim.specs.Combining.{operand_word, EndsBefore}
 use Rattle.lane_sim.specs.Cone.{Cone, IsCone, IsGateOver, AreApart, place_of, places, leaf_bits, gates_after, value_in}
 use Rattle.lane_sim.specs.Rows.{IsWritten, IsRow, IsPut, AreLanes, IsOperandOf, IsGatePut, AreLeaves, AreGatesOf}
 use Rattle.lane_sim.specs.RowLaws.{row_put}
-use Rattle.lane_sim.specs.WordLaws.{combined_bit, digit_spread}
+use Rattle.op_basis.specs.WordOperatorLaws.{combined_bit, digit_spread}
 use Rattle.lane_sim.specs.Words.{Words, AreWords, width_of}
 
 -- ---- places in lists
@@ -38,7 +39,7 @@ at_last (z ∷ xs) x y (suc k) e =
     (λ (r : (k ≡ length xs) × (y ≡ x)). inr (ap suc r.0, r.1))
     (at_last xs x y k e)
 
--- what stands at a place of a list stands there with more behind it
+-- what stands at an index of a list stands there with more after it
 pub at_front : {A : Type 0} (xs ys : List A) (k : ℕ) (x : A) → slice_get xs k ≡ Some x → slice_get (xs ++ ys) k ≡ Some x
 at_front [] ys k x e = absurd cc
 at_front (z ∷ xs) ys zero x e = e
@@ -161,7 +162,7 @@ gate_bit op x y b g bits low same first second =
     ∙ ap (λ (z : Bool). apply g.op z (digit y b)) first
     ∙ ap (apply g.op (sig_value bits g.a)) second
 
--- zeros behind the rows change no operand
+-- zeros after the rows change no operand
 resized_word : (old : List ℕ) (more : List ℕ) (end count : ℕ) (o : Operand) (j : ℕ) → EndsBefore end count o → end ≡ length old → j < count → operand_word (old ++ more) o j ≡ operand_word old o j
 resized_word old more end count operands.Zero j ends e low = refl
 resized_word old more end count operands.One j ends e low = refl
@@ -254,7 +255,7 @@ words_are_lanes c w are = record { size = are.size; values = are.values }
 pub with_new : (xs : List ℕ) (p : ℕ) → ((k q : ℕ) → slice_get xs k ≡ Some q → q ≢ p) → (if list_any (nat_eq p) xs then xs else xs ++ p ∷ []) ≡ xs ++ p ∷ []
 with_new xs p new = cond-false (list_any (nat_eq p) xs) xs (xs ++ p ∷ []) (not_among xs p new)
 
--- A row that was written where the lanes had been filled up was put behind them.
+-- A row that was written where the lanes had been filled up was appended to them.
 filled : (old slice : List ℕ) (start width total : ℕ) → start ≡ length old → total ≡ start + width → slice ≡ take (start + width) old ++ replicate (start + width - start) 0 → slice ≡ old ++ replicate width 0
 filled old slice start width total at whole is =
     let room : start + width - start ≡ width = omega arith in

@@ -6,10 +6,11 @@ use Rattle.std.proofs.lemmas.Grind.{common_steps}
 use Rattle.std.proofs.lemmas.List.{get_or_append_left}
 use Rattle.std.specs.Simd.Lanes.{zip2, put_chunk}
 use Rattle.std.proofs.lemmas.Simd.{length-chunk, get_or-chunk, get_or-put_chunk_below, get_or-put_chunk_at, length-put_chunk, length-zip2, get_or-zip2, length-replicate, get_or-replicate}
-use Rattle.lane_sim.specs.declared.combining.Masks.{Masks}
+use Rattle.op_basis.specs.declared.words.Masks.{Masks}
 use Rattle.lane_sim.specs.declared.rows.Operand.{Operand}
 use Rattle.lane_sim.specs.declared.rows.Operand.TheVariants.{Zero, One, Row}
-use Rattle.lane_sim.specs.Combining.{operand_word, operand_four, EndsBefore, combined, combined_four}
+use Rattle.op_basis.specs.WordOperator.{combined}
+use Rattle.lane_sim.specs.Combining.{operand_word, operand_four, EndsBefore, combined_four}
 use Rattle.chain_theory.specs.Operator.{digit}
 use Rattle.lane_sim.specs.Rows.{IsWritten, IsRow, IsPut}
 
@@ -167,7 +168,7 @@ written_four m a b start j old new is room first second =
 
 pub ruleset writing = (common_steps, written_none, written_one, written_four, ends_less)
 
--- ---- rows whose bits are told
+-- ---- rows whose bits are given
 
 pub row_none : (right : ℕ → Bool) (start : ℕ) (old : List ℕ) → IsRow right start 0 old old
 row_none right start old = record { size = refl; here = λ j b low_j low. absurd (omega arith); before = λ k low. refl }

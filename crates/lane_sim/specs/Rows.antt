@@ -5,10 +5,11 @@ use Rattle.net_theory.specs.declared.data.Sig.{Sig}
 use Rattle.net_theory.specs.declared.data.Sig.TheVariants as sigs
 use Rattle.net_theory.specs.declared.data.Gate.{Gate}
 use Rattle.net_theory.specs.Net.{gate_value}
-use Rattle.lane_sim.specs.declared.combining.Masks.{Masks}
+use Rattle.op_basis.specs.declared.words.Masks.{Masks}
 use Rattle.lane_sim.specs.declared.rows.Operand.{Operand}
 use Rattle.lane_sim.specs.declared.rows.Operand.TheVariants as operands
-use Rattle.lane_sim.specs.Combining.{operand_word, combined}
+use Rattle.op_basis.specs.WordOperator.{combined}
+use Rattle.lane_sim.specs.Combining.{operand_word}
 use Rattle.lane_sim.specs.Cone.{Cone, place_of, leaf_bits, gates_after}
 
 -- The first words of a gate's row are written from a place on, and what stands before it is as it was.
@@ -17,41 +18,41 @@ pub record IsWritten (m : Masks) (a b : Operand) (start count : ℕ) (old new : 
   pub here : (j : ℕ) → j < count → slice_index_or new (start + j) 0 ≡ combined m (operand_word old a j) (operand_word old b j)
   pub before : (k : ℕ) → k < start → slice_index_or new k 0 ≡ slice_index_or old k 0
 
--- The same of a row of which each bit is told.
+-- The same of a row whose bit r is `right r`.
 pub record IsRow (right : ℕ → Bool) (start count : ℕ) (old new : List ℕ) : Type 0 where
   pub size : length new ≡ length old
   pub here : (j b : ℕ) → j < count → b < 64 → digit (slice_index_or new (start + j) 0) b ≡ right (64 * j + b)
   pub before : (k : ℕ) → k < start → slice_index_or new k 0 ≡ slice_index_or old k 0
 
--- A row was put behind the others.
+-- A row was appended to the others.
 pub record IsPut (right : ℕ → Bool) (width : ℕ) (old new : List ℕ) : Type 0 where
   pub size : length new ≡ length old + width
   pub here : (j b : ℕ) → j < width → b < 64 → digit (slice_index_or new (length old + j) 0) b ≡ right (64 * j + b)
   pub before : (k : ℕ) → k < length old → slice_index_or new k 0 ≡ slice_index_or old k 0
 
--- The rows of these places have their bits under so many assignments.
+-- The rows of the places `ps` have their bits under the first `rows` assignments.
 pub record AreLanes (ps : List ℕ) (bits : ℕ → ℕ → Bool) (width rows : ℕ) (lanes : List ℕ) : Type 0 where
   pub size : length lanes ≡ length ps * width
   pub values : (k p j b : ℕ) → slice_get ps k ≡ Some p → b < 64 → 64 * j + b < rows → digit (slice_index_or lanes (k * width + j) 0) b ≡ bits (64 * j + b) p
 
--- where a signal's row begins, among the rows of these places
+-- where a signal's row begins, among the rows of the places `ps`
 abbrev pub IsOperandOf : List ℕ → ℕ → Sig → Operand → Type 0
 IsOperandOf ps width sigs.Zero o = o ≡ operands.Zero
 IsOperandOf ps width sigs.One o = o ≡ operands.One
 IsOperandOf ps width (sigs.Place p) o = (k : ℕ) × (slice_get ps k ≡ Some p) × (o ≡ operands.Row (k * width))
 
--- The row of a gate was put behind the rows of these places, whatever their bits are.
+-- The row of a gate was appended to the rows of the places `ps`, whatever their bits are.
 pub record IsGatePut (ps : List ℕ) (g : Gate) (width : ℕ) (old new : List ℕ) : Type 0 where
   pub size : length new ≡ length old + width
   pub here : (bits : ℕ → ℕ → Bool) → AreLanes ps bits width (64 * width) old → (j b : ℕ) → j < width → b < 64 → digit (slice_index_or new (length old + j) 0) b ≡ gate_value (bits (64 * j + b)) g
   pub before : (k : ℕ) → k < length old → slice_index_or new k 0 ≡ slice_index_or old k 0
 
--- The first leaves have their rows, and these are left.
+-- The first leaves have their rows, and the leaves `left` remain.
 pub record AreLeaves (c : Cone) (width : ℕ) (ks ls left : List ℕ) : Type 0 where
   pub parts : ks ++ left ≡ c.leaves
   pub lanes : AreLanes ks (leaf_bits c.leaves) width (64 * width) ls
 
--- The leaves and the gates that are done have their rows, and these gates are left.
+-- The leaves and the gates that are done have their rows, and the gates `left` remain.
 pub record AreGatesOf (c : Cone) (width : ℕ) (ks ls : List ℕ) (left : List (ℕ × Gate)) : Type 0 where
   pub done : List (ℕ × Gate)
   pub parts : done ++ left ≡ c.gates

@@ -40,6 +40,6 @@ pub record AreRows (rows : ℕ) : Type 0 where
 unfoldable pub AllEnd : ℕ → ℕ → List Operand → Type 0
 AllEnd end count operands = (i : ℕ) (o : Operand) → slice_get operands i ≡ Some o → EndsBefore end count o
 
--- the first operands are the rows of these signals
+-- the first operands are the rows of `signals`
 pub record AreOperands (ps : List ℕ) (width : ℕ) (signals : List Sig) (count : ℕ) (operands : List Operand) : Type 0 where
   pub each : (i : ℕ) (s : Sig) → i < count → slice_get signals i ≡ Some s → IsOperandOf ps width s (slice_index_or operands i Zero)

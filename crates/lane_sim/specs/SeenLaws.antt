@@ -7,7 +7,8 @@ use Rattle.std.proofs.lemmas.Nat.{shl_whole, or_shifted, mul-add-lt}
 use Rattle.std.proofs.lemmas.Nat.Bits.{bit_at-suc, bit_at-zero, bit_at_or, bit_at_ones, bit_at-lt, bit_at_above, bit_at_cat_low, bit_at_cat_high, bit_at_not}
 use Rattle.chain_theory.specs.Operator.{digit}
 use Rattle.lane_sim.specs.Seen.{AreSeen, AreRows}
-use Rattle.lane_sim.specs.WordLaws.{digit_and, some_bit}
+use Rattle.op_basis.specs.WordOperatorLaws.{digit_and}
+use Rattle.lane_sim.specs.WordLaws.{some_bit}
 use Rattle.lane_sim.specs.Words.{width_of}
 
 -- ---- powers

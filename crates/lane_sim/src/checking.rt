@@ -9,7 +9,7 @@ ghost use Rattle.lane_sim.specs.Checking.{placed, IsNext, AreNew, AreNext};
 use crate::showing::{gate_at, leaf_at};
 use net_theory::{Gate, Sig};
 
-/// Whether a place is one of these leaves and gates.
+/// Whether `place` is one of `leaves` or the place of one of `gates`.
 fn is_placed(leaves: &[u32], gates: &[(u32, Gate)], place: u32) -> bool
     ensures yes { IsTrue result → IsSigAmong (placed leaves.now gates.now) (Place place) }
     ensures no { IsFalse result → IsSigAmong (placed leaves.now gates.now) (Place place) → ⊥ }
@@ -23,7 +23,7 @@ fn is_placed(leaves: &[u32], gates: &[(u32, Gate)], place: u32) -> bool
     }
 }
 
-/// Whether a signal is a constant or one of these leaves and gates.
+/// Whether `sig` is a constant, one of `leaves` or one of `gates`.
 pub fn is_known(leaves: &[u32], gates: &[(u32, Gate)], sig: Sig) -> bool
     ensures yes { IsTrue result → IsSigAmong (placed leaves.now gates.now) sig }
     ensures no { IsFalse result → IsSigAmong (placed leaves.now gates.now) sig → ⊥ }
@@ -35,7 +35,7 @@ pub fn is_known(leaves: &[u32], gates: &[(u32, Gate)], sig: Sig) -> bool
     }
 }
 
-/// Whether a gate may stand behind these leaves and gates.
+/// Whether `gate` may come after `leaves` and `gates`: its place is none of theirs, and its operands are known.
 fn is_next(leaves: &[u32], gates: &[(u32, Gate)], gate: &(u32, Gate)) -> bool
     ensures yes { IsTrue result → IsNext (placed leaves.now gates.now) gate.now }
     ensures no { IsFalse result → IsNext (placed leaves.now gates.now) gate.now → ⊥ }
@@ -47,7 +47,7 @@ fn is_next(leaves: &[u32], gates: &[(u32, Gate)], gate: &(u32, Gate)) -> bool
     is_known(leaves, gates, gate.a) && is_known(leaves, gates, gate.b)
 }
 
-/// Whether each gate may stand behind the leaves and the gates before it.
+/// Whether each gate may come after the leaves and the gates before it, which makes the order topological.
 pub fn are_next(leaves: &[u32], gates: &[(u32, Gate)]) -> bool
     ensures yes { IsTrue result → AreNext leaves.now gates.now }
     ensures no { IsFalse result → AreNext leaves.now gates.now → ⊥ }

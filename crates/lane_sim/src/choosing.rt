@@ -16,6 +16,9 @@ use crate::showing::{fill_operands, ones, operand_in, seen, seen_four, word_mask
 use crate::words::{Words, lanes_of, rows_of, width_of};
 use net_theory::Sig;
 
+/// The most signals whose patterns are asked for: their 2^6 patterns are the bits of one word.
+pub const MOST_SIGNALS: usize = 6;
+
 /// The patterns of whole fours of words of the operands' rows, under the assignments at which the chosen row, which
 /// stands among other words, is 1.
 fn seen_in_fours(
@@ -86,7 +89,7 @@ pub fn patterns(words: &Words, cone: &Cone, signals: &[Sig]) -> u64
     let lanes = lanes_of(words);
     let rows = rows_of(words);
     let width = width_of(rows);
-    let mut operands = [Operand::Zero; 6];
+    let mut operands = [Operand::Zero; MOST_SIGNALS];
     fill_operands(&mut operands, cone, width, signals);
     let (used, _) = operands.split_at(signals.len());
     seen_chosen(lanes, rows, used, lanes, Operand::One)
@@ -105,13 +108,13 @@ pub fn patterns_where(words: &Words, cone: &Cone, signals: &[Sig], when: Sig) ->
     let lanes = lanes_of(words);
     let rows = rows_of(words);
     let width = width_of(rows);
-    let mut operands = [Operand::Zero; 6];
+    let mut operands = [Operand::Zero; MOST_SIGNALS];
     fill_operands(&mut operands, cone, width, signals);
     let (used, _) = operands.split_at(signals.len());
     seen_chosen(lanes, rows, used, lanes, operand_in(cone, width, when))
 }
 
-/// The same of the assignments that words name: bit `b` of word `j` is 1 for the assignment `64 * j + b`.
+/// The mask of the patterns that the signals show under the assignments that the words `chosen` name: bit `b` of word `j` is 1 for the assignment `64 * j + b`.
 pub fn patterns_on(words: &Words, cone: &Cone, signals: &[Sig], chosen: &[u64]) -> u64
     requires few { length signals.now ≤ 6 }
     requires known { All (IsSigAmong (places cone.now)) signals.now }
@@ -122,7 +125,7 @@ pub fn patterns_on(words: &Words, cone: &Cone, signals: &[Sig], chosen: &[u64]) 
     let lanes = lanes_of(words);
     let rows = rows_of(words);
     let width = width_of(rows);
-    let mut operands = [Operand::Zero; 6];
+    let mut operands = [Operand::Zero; MOST_SIGNALS];
     fill_operands(&mut operands, cone, width, signals);
     let (used, _) = operands.split_at(signals.len());
     seen_chosen(lanes, rows, used, chosen, Operand::Row(0))

@@ -8,8 +8,11 @@ use crate::checking::{are_new, are_next, is_known};
 use net_theory::{Gate, Sig};
 use std::marker::Model;
 
-/// Leaves, at most 12, and gates above them, each with its place. All places differ, and a gate's operands
-/// are constants, leaves or places of earlier gates.
+/// The most leaves of a cone: with 12 the bits of a signal under all assignments are 64 words.
+pub const MOST_LEAVES: usize = 12;
+
+/// Leaves, at most 12, and gates above them in topological order, each with its
+/// place. All places differ, and a gate's operands are constants, leaves or places of earlier gates.
 #[derive(Drop)]
 pub struct Cone {
     leaves: Vec<u32>,
@@ -28,7 +31,7 @@ impl Model for Cone {
 }
 
 impl Cone {
-    /// The cone of these leaves and gates.
+    /// The cone of the leaves and gates that are handed in.
     pub fn new(leaves: Vec<u32>, gates: Vec<(u32, Gate)>) -> Cone
         requires { IsCone (record { leaves = leaves.items; gates = gates.items }) }
         ensures { result ≡ record { leaves = leaves.items; gates = gates.items } }
@@ -36,7 +39,7 @@ impl Cone {
         Cone { leaves, gates }
     }
 
-    /// The cone of these leaves and gates, where they are one. It takes no memory, and time that grows with the
+    /// The cone of the leaves and gates that are handed in, where they are one. It takes no memory, and time that grows with the
     /// square of the number of places.
     #[tactic(auto, using(crate::specs::CheckingLaws::checked_cone, crate::specs::CheckingLaws::cone_next))]
     pub fn checked(leaves: Vec<u32>, gates: Vec<(u32, Gate)>) -> Option<Cone>
@@ -44,7 +47,7 @@ impl Cone {
         ensures is { IfSome result (λ c. IsCone (record { leaves = leaves.items; gates = gates.items })) }
         ensures none { IfNone result (IsCone (record { leaves = leaves.items; gates = gates.items }) → ⊥) }
     {
-        if leaves.len() > 12 {
+        if leaves.len() > MOST_LEAVES {
             return None;
         }
         if !are_new(&leaves) {

@@ -5,10 +5,13 @@ ghost use Rattle.std.specs.Prelude.{◌≡◌, ℕ, ◌+◌, ◌*◌, ◌≤◌,
 ghost use Rattle.chain_theory.specs.Operator.{digit};
 ghost use Rattle.lane_sim.specs.Rows.{IsRow, IsPut, AreLeaves};
 
-use crate::combining::spread;
 use crate::cone::Cone;
 use indexmap::IndexSet;
+use op_basis::{input_word, spread};
 use std::alloc::AllocError;
+
+/// How many leaves, the last ones, vary within a word of 64 assignments; the others are constant in each word.
+const LEAVES_OF_WORD: usize = 6;
 
 /// Word `j` of a leaf whose bit is digit `k` of the assignment.
 #[tactic(auto, using(crate::specs::WordLaws::leaves))]
@@ -16,14 +19,10 @@ fn leaf_word(j: usize, k: usize) -> u64
     requires { k < 64 }
     ensures { (b : ℕ) → b < 64 → digit result b ≡ digit (64 * j + b) k }
 {
-    match k {
-        0 => 0xaaaa_aaaa_aaaa_aaaa,
-        1 => 0xcccc_cccc_cccc_cccc,
-        2 => 0xf0f0_f0f0_f0f0_f0f0,
-        3 => 0xff00_ff00_ff00_ff00,
-        4 => 0xffff_0000_ffff_0000,
-        5 => 0xffff_ffff_0000_0000,
-        _ => spread((j >> (k - 6)) & 1 == 1),
+    if k < LEAVES_OF_WORD {
+        input_word(k as u32)
+    } else {
+        spread((j >> (k - LEAVES_OF_WORD)) & 1 == 1)
     }
 }
 
@@ -39,7 +38,7 @@ fn write_leaf(lanes: &mut [u64], start: usize, width: usize, k: usize)
     }
 }
 
-/// Puts the row of such a leaf behind the others.
+/// Appends the row of a leaf whose bit is digit `k` of the assignment.
 #[tactic(auto, using(crate::specs::RowLaws::filling))]
 fn push_leaf(lanes: &mut Vec<u64>, width: usize, k: usize) -> Result<(), AllocError>
     requires width { width ≤ 64 }
@@ -52,7 +51,7 @@ fn push_leaf(lanes: &mut Vec<u64>, width: usize, k: usize) -> Result<(), AllocEr
     Ok(())
 }
 
-/// Puts the rows of all leaves behind each other, and takes down the places.
+/// Appends the rows of all leaves, and notes their places.
 pub fn simulate_leaves(
     lanes: &mut Vec<u64>,
     places: &mut IndexSet<u32>,

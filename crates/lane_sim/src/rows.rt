@@ -3,10 +3,12 @@
 
 ghost use Rattle.std.specs.Prelude.{◌≡◌, ◌+◌, ◌≤◌, ◌<◌, ◌^◌, length, slice_set};
 ghost use Rattle.std.specs.Simd.Lanes.{put_chunk};
-ghost use Rattle.lane_sim.specs.Combining.{operand_word, operand_four, EndsBefore, combined, combined_four};
+ghost use Rattle.op_basis.specs.WordOperator.{combined};
+ghost use Rattle.lane_sim.specs.Combining.{operand_word, operand_four, EndsBefore, combined_four};
 ghost use Rattle.lane_sim.specs.Rows.{IsWritten};
 
-use crate::combining::{Masks, combine, combine_four};
+use crate::combining::combine_four;
+use op_basis::{Masks, combine};
 use std::simd::prelude::*;
 
 /// What a gate reads: a constant, or the row that begins at this place of the lanes.
@@ -30,7 +32,7 @@ pub fn word(lanes: &[u64], operand: Operand, j: usize) -> u64
     }
 }
 
-/// Quad words, one after the other.
+/// Four words of a row, one after the other.
 #[derive(Clone, Copy)]
 pub struct Quad {
     pub first: u64,
@@ -39,7 +41,7 @@ pub struct Quad {
     pub fourth: u64,
 }
 
-/// Quad words of an operand, each by itself.
+/// Four words of an operand from word `j` on, each by itself.
 pub fn four_words(lanes: &[u64], operand: Operand, j: usize) -> Quad
     requires { EndsBefore (length lanes.now) (j + 4) operand }
     ensures first { result.first ≡ operand_word lanes.now operand j }
@@ -76,7 +78,7 @@ pub fn four_words(lanes: &[u64], operand: Operand, j: usize) -> Quad
     }
 }
 
-/// Quad words of an operand.
+/// Four words of an operand from word `j` on, as a vector.
 fn four(lanes: &[u64], operand: Operand, j: usize) -> u64x4
     requires { EndsBefore (length lanes.now) (j + 4) operand }
     ensures value { result ≡ operand_four lanes.now operand j }

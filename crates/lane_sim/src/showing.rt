@@ -11,7 +11,7 @@ use crate::cone::Cone;
 use crate::rows::{Operand, four_words, word};
 use net_theory::{Gate, Sig};
 
-/// So many ones.
+/// The word whose lowest `count` bits are 1.
 pub(crate) fn ones(count: u32) -> u64
     requires some { 1 ≤ count }
     requires few { count ≤ 64 }

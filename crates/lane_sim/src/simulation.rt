@@ -1,18 +1,18 @@
 //! The words of a cone's signals: a row for each leaf, and then a row for each gate from the rows of its
-//! operands, which were put down before it.
+//! operands, which stand before it.
 
 ghost use Rattle.std.specs.Prelude.{◌≡◌, ◌+◌, ◌*◌, ◌≤◌, ◌<◌, ◌^◌, [], length, IfOk, OnOk, vec_len};
 ghost use Rattle.lane_sim.specs.Cone.{IsSigAmong, IsGateOver};
 ghost use Rattle.lane_sim.specs.Rows.{IsOperandOf, IsGatePut, AreLeaves, AreGatesOf};
 ghost use Rattle.lane_sim.specs.Words.{AreWords, width_of};
 
-use crate::combining::masks_for;
 use crate::cone::Cone;
 use crate::leaves::simulate_leaves;
 use crate::rows::{Operand, write_gate};
 use crate::words::{Words, width_of};
 use indexmap::IndexSet;
 use net_theory::{Gate, Sig};
+use op_basis::masks_for;
 use std::alloc::{AllocError, Global};
 
 /// For how many signals there is room from the beginning; few cones have more.
@@ -35,7 +35,7 @@ fn operand(places: &IndexSet<u32>, width: usize, sig: Sig) -> Operand
     }
 }
 
-/// Puts the row of a gate behind the others.
+/// Appends the row of a gate.
 fn push_gate(
     lanes: &mut Vec<u64>,
     places: &IndexSet<u32>,
@@ -55,7 +55,7 @@ fn push_gate(
     Ok(())
 }
 
-/// Puts the rows of all gates behind those of the leaves.
+/// Appends the rows of all gates to those of the leaves.
 fn simulate_gates(
     lanes: &mut Vec<u64>,
     places: &mut IndexSet<u32>,

@@ -25,17 +25,17 @@ drop_step zero (x ∷ xs) b rest e = cc
 drop_step (suc i) [] b rest e = cc
 drop_step (suc i) (x ∷ xs) b rest e = rw (add-one (suc i)) (rw (add-one i) at (drop_step i xs b rest e))
 
--- a text is its front and what is left
+-- a text is its prefix and what is left
 cut_at : (i : ℕ) (xs : List ℕ) → xs ≡ take i xs ++ drop i xs
 cut_at zero xs = refl
 cut_at (suc i) [] = refl
 cut_at (suc i) (x ∷ xs) = ap (λ (ys : List ℕ). x ∷ ys) (cut_at i xs)
 
--- the front grows by a byte that is no comma
+-- the prefix grows by a byte that is no comma
 pub free_step : (i : ℕ) (xs : List ℕ) (b : ℕ) (rest : List ℕ) → drop i xs ≡ b ∷ rest → b ≢ 44 → is_item (take i xs) ≡ true → is_item (take (i + 1) xs) ≡ true
 free_step i xs b rest e other free = rw (take_step i xs b rest e) (item_step (take i xs) [] b free other)
 
--- the front ends at a comma
+-- the prefix ends at a comma
 pub comma_found : (i : ℕ) (xs : List ℕ) (b : ℕ) (rest : List ℕ) → drop i xs ≡ b ∷ rest → b ≡ 44 → is_item (take i xs) ≡ true → items_of xs ≡ take i xs ∷ items_of rest
 comma_found i xs b rest e comma free = ap items_of (cut_at i xs ∙ ap (λ (ys : List ℕ). take i xs ++ ys) (e ∙ ap (λ (c : ℕ). c ∷ rest) comma)) ∙ item_ends (take i xs) rest free
 

@@ -7,7 +7,7 @@ use Rattle.chain_theory.specs.Operator.{apply, Basis}
 abbrev pub number : Bool → ℕ
 number bit = if bit then 1 else 0
 
--- the operator with these values at (0,0), (0,1), (1,0) and (1,1)
+-- the operator with the four values at (0,0), (0,1), (1,0) and (1,1)
 abbrev pub of_values : Bool → Bool → Bool → Bool → ℕ
 of_values at_00 at_01 at_10 at_11 = 8 * number at_00 + 4 * number at_01 + 2 * number at_10 + number at_11
 

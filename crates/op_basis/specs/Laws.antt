@@ -28,7 +28,7 @@ operator_values f true true = digit_is (operator_of f) 0 (f true true) (omega (a
 pub operator_low : (f : Bool → Bool → Bool) → operator_of f < 16
 operator_low f = omega (arith, number_low (f false false), number_low (f false true), number_low (f true false), number_low (f true true))
 
--- There is one operator with these values.
+-- There is one operator with the values of a function.
 pub operator_only : (f : Bool → Bool → Bool) (op : ℕ) → op < 16 → ((a b : Bool) → apply op a b ≡ f a b) → op ≡ operator_of f
 operator_only f op low same = sym (operator_is op low) ∙ rw (same false false, same false true, same true false, same true true) refl
 

@@ -1,4 +1,4 @@
--- What is left of a list behind an item.
+-- What is left of a list after an item.
 use Rattle.std.specs.Prelude.{ℕ, ◌+◌, List, [], length, Option, Some, None}
 use Rattle.std.specs.Borrow.{Bor}
 use Rattle.op_basis.specs.Text.{items_of}

@@ -8,3 +8,5 @@ pub mod MemberLaws
 pub mod ReadBack
 pub mod Text
 pub mod Word
+pub mod WordOperator
+pub mod WordOperatorLaws

@@ -87,7 +87,7 @@ basis_of word = if begins_letter word then named word else listed 0 (items_of wo
 
 -- ---- how a basis is written
 
--- a word behind others
+-- a word after others
 abbrev pub with_word : List ℕ → List ℕ → List ℕ
 with_word [] word = word
 with_word (b ∷ bs) word = (b ∷ bs) ++ 44 ∷ word

@@ -20,7 +20,7 @@ impl Model for Basis {
 }
 
 impl Basis {
-    /// The set of these bits: 16384, which is 2^14, for NAND alone.
+    /// The set of the operators whose bits are 1 in `bits`: 16384, which is 2^14, for NAND alone.
     pub fn new(bits: u16) -> Basis
         ensures { result ≡ bits }
     {

@@ -8,6 +8,8 @@
 //!   `polarity_closed` and `reapply_closed`, say which assumptions a search for chains may make. Each
 //!   is true exactly where its definition over functions of two bits holds, and a definition that goes
 //!   over all operators holds exactly where it holds of each (`laws::every_is_each`).
+//! - An operator works on words of 64 bits too, all of them at once (`on_words`, or `combine` with the operator's
+//!   masks), as bit-parallel simulation does; `input_word` is the word of an input, the truth table of a variable.
 //! - A basis is read from a word (`read_basis`) and written as one (`write_basis`). What is read isn't
 //!   empty; a list that is read gives exactly the operators whose words are its items, none of which
 //!   comes twice (`laws::list_is_its_operators`); a basis that was written is read again
@@ -27,6 +29,7 @@ mod op;
 mod text;
 mod values;
 mod word;
+mod words;
 
 pub use basis::Basis;
 pub use error::BasisError;
@@ -34,3 +37,4 @@ pub use op::Op;
 pub use text::{read_basis, write_basis};
 pub use values::swapped;
 pub use word::{read_operator, write_operator};
+pub use words::{Masks, combine, input_word, masks_for, on_words, spread};

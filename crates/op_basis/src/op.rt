@@ -31,7 +31,7 @@ impl Op {
         Op(word)
     }
 
-    /// The operator with these values at (0,0), (0,1), (1,0) and (1,1).
+    /// The operator whose values at (0,0), (0,1), (1,0) and (1,1) are the four arguments.
     pub fn with_values(at_00: bool, at_01: bool, at_10: bool, at_11: bool) -> Op
         ensures values { result ≡ of_values at_00 at_01 at_10 at_11 }
         ensures below { result < 16 }

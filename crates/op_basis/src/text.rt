@@ -11,15 +11,19 @@ ghost use Rattle.op_basis.specs.Word.{word_text};
 use crate::{Basis, BasisError, Op, read_operator, write_operator};
 use std::alloc::AllocError;
 
+/// All sixteen operators.
 const ALL: u16 = 0b1111_1111_1111_1111;
 
+/// All that depend on both operands but XOR and its complement (the basis U2 of Zwick).
 const U2: u16 = 0b0110_1001_1001_0110;
 
+/// AND, OR, XOR and their complements, the gates of the BENCH format.
 const BENCH: u16 = 0b0100_0011_1100_0010;
 
+/// NAND alone.
 const NAND: u16 = 0b0100_0000_0000_0000;
 
-/// Whether two words are the same.
+/// For the prover: `word == name` of two slices, as a function of its own.
 fn is_word(word: &[u8], name: &[u8]) -> bool
     ensures { result ≡ spec.same_text word.now name.now }
 {
@@ -46,7 +50,7 @@ fn named(word: &[u8]) -> Result<Basis, BasisError>
     Err(BasisError::UnknownName)
 }
 
-/// The first item of a list, and what stands behind its comma; None where no comma follows.
+/// The first item of a list, and what stands after its comma; None where no comma follows.
 #[tactic(auto, using(crate::proofs::Items::cutting))]
 fn next_item(text: &[u8]) -> (&[u8], Option<&[u8]>)
     ensures items { spec.items_of text.now ≡ result.0.now ∷ items_left result.1 }
@@ -101,7 +105,7 @@ fn listed(word: &[u8]) -> Result<Basis, BasisError>
 /// complement), `bench` (AND, OR, XOR and their complements) and `nand`, or a list of operators, each
 /// a word of four bits, with commas between them, in any order.
 ///
-/// Where the first character is a letter of either case, the word is a name: one of these four, all
+/// Where the first character is a letter of either case, the word is a name: one of the four above, all
 /// in small letters, or `UnknownName`. Any other word is a list, and so is the empty one. Its items
 /// are judged from the left, and the first fault is the answer; of one item `Empty` comes before
 /// `BadOperator` and this before `Repeated`.

@@ -1,8 +1,8 @@
 //! Specifications with their inputs in a normal order, so that those that differ in the order of inputs alone mostly
-//! become one.
+//! become one: a canonical form under input permutation (of P-classes), as far as counts of minterms tell inputs apart.
 //!
 //! It stands on `tt_core` for specifications and on `chain_laws` for chains whose places are renamed. The one law: a
-//! specification has a chain of so many steps over a basis where it has one with its inputs in any order. Which
+//! specification has a chain of `q` steps over a basis where it has one of `q` with its inputs in any order. Which
 //! order is the normal one is no part of any promise.
 //!
 //! ```text

@@ -1,24 +1,22 @@
-//! The normal order of inputs: by counts of rows that don't depend on their numbers. It decides how often two
+//! The normal order of inputs: by counts of rows, their signatures, that don't depend on the numbers of the inputs. It decides how often two
 //! specifications become one, and nothing else.
 ghost use Rattle.std.specs.Prelude.{◌≡◌, ◌<◌, ◌≤◌, length, IfOk};
 ghost use Rattle.spec_order.specs.Order.{IsInput, IsOrder};
 
+use op_basis::input_word;
 use std::alloc::{AllocError, Global};
-use tt_core::Spec;
+use tt_core::{MOST_INPUTS, Spec};
 
-/// The rows whose digit of 2^k is 1.
-fn high_rows(k: u32) -> u64 {
-    match k {
-        0 => 0xaaaa_aaaa_aaaa_aaaa,
-        1 => 0xcccc_cccc_cccc_cccc,
-        2 => 0xf0f0_f0f0_f0f0_f0f0,
-        3 => 0xff00_ff00_ff00_ff00,
-        4 => 0xffff_0000_ffff_0000,
-        _ => 0xffff_ffff_0000_0000,
-    }
-}
+/// The radix of the count of rows with the value 1: a count has at most the 64 rows of a word.
+const RADIX: u64 = 67;
 
-/// 2^k, for an input's number.
+/// The radix of the count of specified rows.
+const HIGH_RADIX: u64 = 4099;
+
+/// The radix of outputs, of which the first counts most.
+const OUTPUT_RADIX: u64 = 1_000_003;
+
+/// 2^k: how far apart two rows are that differ in one input alone. For the prover by cases, so that it is below 64.
 fn step_of(k: u32) -> u32
     ensures { result < 64 }
 {
@@ -32,26 +30,30 @@ fn step_of(k: u32) -> u32
     }
 }
 
-/// What one output counts of the input that stands for 2^k: its specified rows where the input is 1, those with
-/// the value 1, and those where the input turns the value.
-fn counts(on: u64, care: u64, k: u32) -> u64 {
-    let high = high_rows(k);
+/// What one output, with the values `on` and the specified rows `care`, counts of the input that stands for 2^k: its
+/// specified rows where the input is 1, those with the value 1, and those where the input turns the value.
+fn counts(on: u64, care: u64, k: u32) -> u64
+    requires { k < 6 }
+{
+    let high = input_word(k);
     let step = step_of(k);
     let specified = u64::from((care & high).count_ones());
     let ones = u64::from((on & high).count_ones());
     let turns = u64::from((care & (care >> step) & (on ^ (on >> step)) & !high).count_ones());
     specified
-        .wrapping_mul(4099)
-        .wrapping_add(ones.wrapping_mul(67))
+        .wrapping_mul(HIGH_RADIX)
+        .wrapping_add(ones.wrapping_mul(RADIX))
         .wrapping_add(turns)
 }
 
 /// What all outputs count of the input that stands for 2^k.
-fn weight(spec: &Spec, k: u32) -> u64 {
+fn weight(spec: &Spec, k: u32) -> u64
+    requires { k < 6 }
+{
     let mut weight = 0u64;
     for output in 0..spec.on().len().min(spec.care().len()) {
         weight = weight
-            .wrapping_mul(1_000_003)
+            .wrapping_mul(OUTPUT_RADIX)
             .wrapping_add(counts(spec.on()[output], spec.care()[output], k));
     }
     weight
@@ -62,14 +64,14 @@ fn weights(alloc: Global, spec: &Spec) -> Result<Vec<u64>, AllocError>
     ensures { IfOk result (λ weights. length weights.items ≡ spec.now.n) }
 {
     let n = spec.n();
-    let mut weights = Vec::with_capacity(alloc, 6)?;
+    let mut weights = Vec::with_capacity(alloc, MOST_INPUTS as usize)?;
     for before in 0..n {
         weights.push(weight(spec, n - 1 - before))?;
     }
     Ok(weights)
 }
 
-/// How many weights come before one of them: smaller ones, and equal ones that stand in front of it.
+/// How many weights come before that at `index`: smaller ones, and equal ones at smaller indices.
 fn rank(weights: &[u64], index: usize) -> u32
     requires { index < length weights.now }
 {
@@ -100,7 +102,7 @@ pub fn normal_order(alloc: Global, spec: &Spec) -> Result<Vec<u32>, AllocError>
 {
     let n = spec.n();
     let weights = weights(alloc, spec)?;
-    let mut order = Vec::with_capacity(alloc, 6)?;
+    let mut order = Vec::with_capacity(alloc, MOST_INPUTS as usize)?;
     for before in 0..n {
         order.push(new_number(&weights, before, n))?;
     }
@@ -128,7 +130,7 @@ pub fn inverse(alloc: Global, order: &[u32]) -> Result<Vec<u32>, AllocError>
     ensures { IfOk result (λ back. IsOrder (length order.now) back.items) }
 {
     let n = order.len() as u32;
-    let mut back = Vec::with_capacity(alloc, 6)?;
+    let mut back = Vec::with_capacity(alloc, MOST_INPUTS as usize)?;
     for before in 0..n {
         back.push(place_of(order, before + 1))?;
     }

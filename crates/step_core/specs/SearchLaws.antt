@@ -6,7 +6,8 @@ use Rattle.chain_theory.specs.Specification.{Specification}
 use Rattle.tt_core.specs.Words.{Words}
 use Rattle.bound_core.specs.Counts.{some_below}
 use Rattle.bound_core.specs.CountLaws.{passes_some}
-use Rattle.step_core.specs.Steps.{input_word, misses, meets_all, serves, pair_serves, IsServing, out_for, outs_among}
+use Rattle.op_basis.specs.WordOperator.{input_word}
+use Rattle.step_core.specs.Steps.{misses, meets_all, serves, pair_serves, IsServing, out_for, outs_among}
 
 -- no number yet
 pub some_none : (test : ℕ → Bool) → some_below test 0 ≡ false

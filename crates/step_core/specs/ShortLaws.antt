@@ -25,7 +25,8 @@ use Rattle.chain_core.specs.Steps.{steps_of, IsSmallChain}
 use Rattle.chain_core.specs.declared.step.Step as held
 use Rattle.chain_core.specs.StepLaws.{no_steps, more_in_front}
 use Rattle.step_core.specs.Short.{IsShort}
-use Rattle.step_core.specs.Steps.{input_word, step_word, misses, meets_all, serves, pair_serves, second_serves, first_serves, IsServing, placed, out_for, outs_among}
+use Rattle.op_basis.specs.WordOperator.{input_word, on_words}
+use Rattle.step_core.specs.Steps.{misses, meets_all, serves, pair_serves, second_serves, first_serves, IsServing, placed, out_for, outs_among}
 use Rattle.step_core.specs.WordLaws.{step_row, not_missed, never_missed}
 
 -- ---- numbers that don't pass
@@ -98,7 +99,7 @@ step_value_is c s n t same are e =
 
 -- the word that the walk compares
 abbrev word_of : ℕ → Step → ℕ
-word_of n s = step_word s.op (input_word (n - s.j)) (input_word (n - s.k))
+word_of n s = on_words s.op (input_word (n - s.j)) (input_word (n - s.k))
 
 word_row : (n t : ℕ) (s : Step) → n ≤ 6 → IsStepAt (n + 1) s → t < 2 ^ n → digit (word_of n s) t ≡ apply s.op (input n t s.j) (input n t s.k)
 word_row n t s few at low = step_row n s.op s.j s.k t few at.j_from (omega (arith, at.j_below)) at.k_from (omega (arith, at.k_below)) low
@@ -140,14 +141,14 @@ dead_names : (s : Specification) (h : ℕ) (o : Option Out) → trivial_of s h �
 dead_names s h None e dead = absurd cc
 dead_names s h (Some out) e dead = trivial_names s.inputs s.inputs out (omega arith) (found_first s h out e).trivial
 
--- each output is met, where the live ones are met by the first place behind the inputs
+-- each output is met, where the live ones are met by the first place after the inputs
 placed_met : (s : Specification) (c : Chain) (h t : ℕ) (o : Option Out) → c.n ≡ s.inputs → trivial_of s h ≡ o → t < 2 ^ s.inputs → (is_none o ≡ true → is_met (s.cell h t) (value c t (s.inputs + 1)) ≡ true) → is_met (s.cell h t) (out_value c t (placed s.inputs o)) ≡ true
 placed_met s c h t None same e low live = live refl
 placed_met s c h t (Some out) same e low live =
     let first = found_first s h out e in
     ap (is_met (s.cell h t)) (trivial_is c s.inputs t out same first.trivial) ∙ fits_meets s h out first.fitting t low
 
--- a chain with these steps and these outs
+-- a chain with the steps `steps` and the outs of its outputs
 abbrev made : Specification → List Step → Chain
 made s steps = record { n = s.inputs; steps = steps; outs = outs_among s s.outputs }
 

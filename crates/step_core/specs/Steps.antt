@@ -1,38 +1,14 @@
 -- Which steps serve, by words that hold rows: row t is the binary digit that stands for 2 ^ t.
-use Rattle.std.specs.Prelude.{◌≡◌, ℕ, zero, suc, ◌+◌, ◌-◌, ◌==◌, Bool, true, false, ◌&&◌, not, if◌then◌else◌, List, [], ◌∷◌, ◌++◌, length, slice_index, bit_and, bit_xor, Option, Some, None}
-use Rattle.chain_theory.specs.Operator.{apply, Basis}
+use Rattle.std.specs.Prelude.{◌≡◌, ℕ, zero, suc, ◌+◌, ◌-◌, ◌==◌, Bool, true, ◌&&◌, not, List, [], ◌∷◌, ◌++◌, length, slice_index, bit_and, bit_xor, Option, Some, None}
+use Rattle.chain_theory.specs.Operator.{Basis}
 use Rattle.chain_theory.specs.Chain.{Step, IsStepAt}
 use Rattle.chain_theory.specs.Specification.{Specification}
 use Rattle.chain_theory.specs.declared.data.Out.{Out}
 use Rattle.chain_theory.specs.declared.data.Out.TheVariants.{Place}
+use Rattle.op_basis.specs.WordOperator.{on_words, input_word}
 use Rattle.tt_core.specs.Live.{trivial_of}
 use Rattle.tt_core.specs.Words.{Words}
 use Rattle.bound_core.specs.Counts.{some_below}
-
--- ---- words
-
--- 64 times one bit
-abbrev pub spread : Bool → ℕ
-spread bit = if bit then 0xffff_ffff_ffff_ffff else 0
-
--- exclusive or
-abbrev pub differ : Bool → Bool → Bool
-differ true bit = not bit
-differ false bit = bit
-
--- the rows whose digit of 2 ^ k is 1
-unfoldable pub input_word : ℕ → ℕ
-input_word k = if k == 0 then 0xaaaa_aaaa_aaaa_aaaa else (if k == 1 then 0xcccc_cccc_cccc_cccc else (if k == 2 then 0xf0f0_f0f0_f0f0_f0f0 else (if k == 3 then 0xff00_ff00_ff00_ff00 else (if k == 4 then 0xffff_0000_ffff_0000 else 0xffff_ffff_0000_0000))))
-
--- an operator on each of 64 pairs of bits: the sum without carry of nothing, its first operand, its second, and both,
--- each where the operator has it
-unfoldable pub step_word : ℕ → ℕ → ℕ → ℕ
-step_word op a b =
-    let none = apply op false false in
-    let second = differ none (apply op false true) in
-    let first = differ none (apply op true false) in
-    let both = differ first (differ (apply op false true) (apply op true true)) in
-    bit_xor (bit_xor (bit_xor (spread none) (bit_and (spread first) a)) (bit_and (spread second) b)) (bit_and (spread both) (bit_and a b))
 
 -- ---- steps that serve
 
@@ -44,11 +20,11 @@ misses w word i = not (bit_and (bit_xor word (slice_index w.on i)) (slice_index 
 unfoldable pub meets_all : Words → ℕ → Bool
 meets_all w word = not (some_below (misses w word) (length w.on))
 
--- a member makes such a word of two words
+-- a member makes of two words a word that has the values of all outputs
 unfoldable pub serves : Words → Basis → ℕ → ℕ → ℕ → Bool
-serves w basis a b op = basis op && meets_all w (step_word op a b)
+serves w basis a b op = basis op && meets_all w (on_words op a b)
 
--- some member does of inputs j and k
+-- some member does, of inputs j and k
 unfoldable pub pair_serves : Words → Basis → ℕ → ℕ → Bool
 pair_serves w basis j k = some_below (serves w basis (input_word (w.n - j)) (input_word (w.n - k))) 16
 
@@ -60,14 +36,14 @@ second_serves w basis j i = pair_serves w basis j (i + 1)
 unfoldable pub first_serves : Words → Basis → ℕ → Bool
 first_serves w basis i = some_below (second_serves w basis (i + 1)) w.n
 
--- A step at the first place behind the inputs whose operator is a member, and whose values are those of all outputs.
+-- A step at the first place after the inputs whose operator is a member, and whose values are those of all outputs.
 pub record IsServing (w : Words) (basis : Basis) (s : Step) : Type 0 where
   pub at : IsStepAt (w.n + 1) s
   pub served : serves w basis (input_word (w.n - s.j)) (input_word (w.n - s.k)) s.op ≡ true
 
 -- ---- outs
 
--- the first place behind the inputs, where there is no trivial out
+-- the first place after the inputs, where there is no trivial out
 abbrev pub placed : ℕ → Option Out → Out
 placed n None = Place (n + 1)
 placed n (Some out) = out

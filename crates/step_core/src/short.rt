@@ -46,7 +46,7 @@ pub fn one_step(alloc: Global, spec: &Spec, basis: Basis) -> Result<Option<Chain
     ensures { IfOk result (λ found. IsAnswer (specification spec.now) (members basis) found) }
 {
     let live = live_part(alloc, spec)?;
-    // bring what the type of tables says
+    // bring the invariants of both specifications into the proof
     let _inputs = spec.n();
     let _same_inputs = live.n();
     if live.outputs() == 0 {

@@ -5,9 +5,9 @@ ghost use Rattle.chain_core.specs.Steps.{step_of};
 ghost use Rattle.bound_core.specs.Counts.{some_below};
 ghost use Rattle.step_core.specs.Steps.{serves as serves_of, pair_serves, second_serves, first_serves, IsServing};
 
-use crate::words::{input_word, serves};
+use crate::words::serves;
 use chain_core::Step;
-use op_basis::{Basis, Op};
+use op_basis::{Basis, Op, input_word};
 use tt_core::Spec;
 
 /// The first operator that serves on two words.
@@ -82,7 +82,7 @@ fn any_step(spec: &Spec, basis: Basis) -> Option<Step>
     None
 }
 
-/// A step that serves; where one on a single input does, such a one.
+/// A step that serves; where one on a single input does, one of those.
 pub(crate) fn serving_step(spec: &Spec, basis: Basis) -> Option<Step>
     ensures some { IfSome result (λ step. IsServing spec.now (members basis) (step_of step)) }
     ensures none { IfNone result (some_below (first_serves spec.now (members basis)) spec.now.n ≡ false) }

@@ -35,5 +35,5 @@ pub use chain_theory::{Cell, Out};
 pub use error::SpecError;
 pub use live::{live_part, trivial};
 pub use reading::{Tables, inputs, push_row, read_tables};
-pub use spec::{Spec, row};
+pub use spec::{MOST_INPUTS, MOST_OUTPUTS, Spec, row};
 pub use symmetry::symmetric;

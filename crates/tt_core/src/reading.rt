@@ -13,9 +13,12 @@ ghost use Rattle.tt_core.specs.Spelling.{SpellsTables};
 ghost use Rattle.tt_core.specs.Words.{Words, IsSpec, specification};
 
 use crate::cells::{are_cells, push_both, row_words};
-use crate::{Spec, SpecError};
+use crate::{MOST_INPUTS, MOST_OUTPUTS, Spec, SpecError};
 use std::alloc::{AllocError, Global};
 use text_core::{after, begins_lower, next_line, number_up_to};
+
+/// The greatest number of nine digits.
+const GREATEST: u32 = 999_999_999;
 
 /// What was read of a text: the specification, and how many bytes and lines its tables take.
 #[derive(Drop)]
@@ -36,7 +39,7 @@ pub fn inputs(text: &[u8], ended: bool) -> Option<u32>
     if !ended {
         return None;
     }
-    number_up_to(999_999_999, after(b"inputs ", text)?)
+    number_up_to(GREATEST, after(b"inputs ", text)?)
 }
 
 /// Adds the output that a table line of `0`, `1` and `-` spells to the words of the outputs before
@@ -92,7 +95,7 @@ fn read(alloc: Global, bytes: &[u8]) -> Result<Tables, SpecError>
     let Some(n) = inputs(text, ended) else {
         return Err(SpecError::BadHeader(1));
     };
-    if n > 6 {
+    if n > MOST_INPUTS {
         return Err(SpecError::TooManyInputs);
     }
     let mut on = Vec::new(alloc);
@@ -102,7 +105,7 @@ fn read(alloc: Global, bytes: &[u8]) -> Result<Tables, SpecError>
         if begins_lower(text) {
             return finish(n, on, care, bytes.len() - left.len());
         }
-        if on.len() == 8 {
+        if on.len() == MOST_OUTPUTS {
             return Err(SpecError::TooManyOutputs);
         }
         let number = 2 + on.len() as u32;

@@ -6,6 +6,12 @@ ghost use Rattle.tt_core.specs.Words.{IsSpec, specification};
 use chain_theory::Cell;
 use std::marker::Model;
 
+/// The most inputs of a specification: their 2^6 rows are the bits of one word.
+pub const MOST_INPUTS: u32 = 6;
+
+/// The most outputs of a specification.
+pub const MOST_OUTPUTS: usize = 8;
+
 /// The tables of up to eight outputs over up to six inputs, with don't-cares.
 ///
 /// Bit t of `on[h - 1]` is the value of output h on row t, and bit t of `care[h - 1]` is 1 where

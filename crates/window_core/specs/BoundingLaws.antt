@@ -1,4 +1,4 @@
--- Gates that were taken, with what goes in and out of them, are the window, or there is none.
+-- Gates that were taken, with their inputs and outputs, are the window, or there is none.
 use Rattle.std.specs.Prelude.{ℕ, ◌≤◌, ◌<◌, List, length, Option}
 use Rattle.std.proofs.Common.{arith, refl}
 use Rattle.net_theory.specs.Net.{Net, IsNet}

@@ -1,4 +1,4 @@
--- What goes into some gates, while it is being gathered.
+-- The inputs of some gates, while they are being gathered.
 use Rattle.std.specs.Prelude.{◌≡◌, ℕ, true, List, ◌⊎◌}
 use Rattle.net_theory.specs.Net.{Net}
 use Rattle.window_theory.specs.Places.{among, IsRising}

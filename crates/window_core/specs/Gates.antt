@@ -33,7 +33,7 @@ IsGreaterSig bound best (sigs.Place p) result = IsGreater bound best p result
 abbrev pub IsWanted : Net → ℕ → Option ℕ → List ℕ → ℕ → Type 0
 IsWanted n root partner taken q = IsRootOrPartner root partner q ⊎ IsReadBy n taken q
 
--- The greatest wanted gate below a bound is sought, and these taken gates haven't been looked at. Where none was
+-- The greatest wanted gate below a bound is sought, and the taken gates `left` haven't been looked at. Where none was
 -- found yet, `best` is the last source.
 pub record IsSought (n : Net) (root : ℕ) (partner : Option ℕ) (taken : List ℕ) (bound : ℕ) (left : List ℕ) (best : ℕ) : Type 0 where
   pub within : (q : ℕ) → among left q ≡ true → among taken q ≡ true

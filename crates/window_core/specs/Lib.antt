@@ -16,6 +16,5 @@ pub mod ConeLaws
 pub mod NotingLaws
 pub mod EndsLaws
 pub mod BoundingLaws
-pub mod LookingLaws
 pub mod SeenLaws
 pub mod MaskingLaws

@@ -15,7 +15,7 @@ pub record IsCareMask (n : Net) (places : List ℕ) (mask : ℕ) : Type 0 where
   pub only : (t : ℕ) → digit mask t ≡ true → IsCareRow n places t
   pub all : (t : ℕ) → t < 2 ^ length places → IsCareRow n places t → digit mask t ≡ true
 
--- The gates of the first places were looked up, and these places are left.
+-- The gates of the first places were looked up, and the places `left` remain.
 pub record ArePlaced (n : Net) (places left : List ℕ) (gates : List (ℕ × Gate)) : Type 0 where
   pub parts : gate_places gates ++ left ≡ places
   pub own : (i : ℕ) (x : ℕ × Gate) → slice_get gates i ≡ Some x → IsGateOf n x.0 x.1
@@ -24,7 +24,7 @@ pub record ArePlaced (n : Net) (places left : List ℕ) (gates : List (ℕ × Ga
 abbrev pub HasValues : Cone → ℕ → ℕ → Type 0
 HasValues c p word = (t : ℕ) → t < 2 ^ length c.leaves → digit word t ≡ value_in c t p
 
--- The words of the first outputs were put down, with the care rows alone, and these outputs are left.
+-- The words of the first outputs were put down, with the care rows alone, and the outputs `left` remain.
 pub record AreMasked (c : Cone) (mask : ℕ) (outputs left on care : List ℕ) : Type 0 where
   pub done : List ℕ
   pub parts : done ++ left ≡ outputs

@@ -19,7 +19,7 @@ pub record AreBefore (end : ℕ) (gs : List Gate) : Type 0 where
   pub first : (i : ℕ) (g : Gate) → slice_get gs i ≡ Some g → IsBefore end g.a
   pub second : (i : ℕ) (g : Gate) → slice_get gs i ≡ Some g → IsBefore end g.b
 
--- the numbers of a table grew by these, where 255 stands for all numbers from 255 on
+-- the number of each place p in a table grew by `more p`, where 255 stands for all numbers from 255 on
 pub record AreGrown (more : ℕ → ℕ) (old new : List ℕ) : Type 0 where
   pub size : length new ≡ length old
   pub each : (p : ℕ) → p < length old → slice_index_or new p 0 ≡ min (slice_index_or old p 0 + more p) 255

@@ -101,7 +101,7 @@ place_is p sigs.Zero e = absurd cc
 place_is p sigs.One e = absurd cc
 place_is p (sigs.Place q) e = ap sigs.Place (eqb-true q p e)
 
--- the place behind the first i gates, and the next one
+-- the place after the first i gates, and the next one
 next_above : (sources i : ℕ) → sources + 1 + i < sources + 1 + (i + 1)
 next_above sources i = omega arith
 
@@ -249,7 +249,7 @@ list_code n gates i g place sources last mid next list new e net same low is sou
     let before : AreBefore (length last) n.gates = gates_before n (length last) net was.noted.size in
     list_more n i g place last mid next list new e at (place_is ∙ ap (λ (k : ℕ). k + 1 + i) sources_is) (before.first i g at) (before.second i g at) first second noted_a noted_b grown was
 
--- what is known of the gate at a place of the list, and of the lists behind the last gate
+-- what is known of the gate at a place of the list, and of the lists after the last gate
 pub operands_before : (n : Net) (gates : List Gate) (i : ℕ) (g : Gate) (last : List ℕ) → IsNet n → gates ≡ n.gates → i < length gates → g ≡ slice_index_or gates i g → length last ≡ end_of n → IsBefore (length last) g.a × IsBefore (length last) g.b
 operands_before n gates i g last net same low is size =
     let at : slice_get n.gates i ≡ Some g = ap (λ (xs : List Gate). slice_get xs i) (sym same) ∙ slice_get-get_or gates i g low ∙ ap Some (sym is) in

@@ -5,7 +5,7 @@ use Rattle.window_theory.specs.Places.{among, IsRising}
 use Rattle.window_theory.specs.Window.{IsOutput}
 use Rattle.window_core.specs.Readers.{named_by_gate, sum_gates}
 
--- how often these gates of a net name a place
+-- how often the gates of a net that are among `gates` name a place
 unfoldable pub inside_of : Net → List ℕ → ℕ → ℕ
 inside_of n gates p = sum_gates (λ q g. if among gates q then named_by_gate p g else 0) (n.sources + 1) n.gates
 

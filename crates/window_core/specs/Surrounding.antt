@@ -15,7 +15,7 @@ use Rattle.window_core.specs.Rising.{put_sig}
 abbrev pub gate_places : List (ℕ × Gate) → List ℕ
 gate_places gates = map place_of gates
 
--- The gates stand at these places of the net, rising, and read the leaves or each other.
+-- The gates stand at their places of the net, rising, and read the leaves or each other.
 pub record AreAbove (n : Net) (leaves : List ℕ) (gates : List (ℕ × Gate)) : Type 0 where
   pub few : length leaves ≤ 12
   pub leaves_rising : IsRising leaves
@@ -28,17 +28,17 @@ pub record AreAbove (n : Net) (leaves : List ℕ) (gates : List (ℕ × Gate)) :
 abbrev pub AreCovered : List ℕ → List (ℕ × Gate) → List ℕ → Type 0
 AreCovered leaves gates places = (p : ℕ) → among places p ≡ true → (among leaves p ≡ true) ⊎ (among (gate_places gates) p ≡ true)
 
--- one of the places, or a place from which a path leads to one
+-- one of the places, or in the transitive fanin of one
 pub record IsBehind (n : Net) (places : List ℕ) (p : ℕ) : Type 0 where
   pub place : ℕ
   pub inside : among places place ≡ true
   pub why : (p ≡ place) ⊎ LeadsUp n p place
 
--- the leaves in front of a gate that is opened, with what it reads
+-- the leaves before a gate that is opened, with its fanins
 abbrev pub behind_of : List ℕ → Gate → List ℕ
 behind_of front g = put_sig g.b (put_sig g.a front)
 
--- So far the surround of some places has these leaves and gates.
+-- So far the surround of `places` has the leaves `leaves` and the gates `gates`.
 pub record IsSurround (n : Net) (places leaves : List ℕ) (gates : List (ℕ × Gate)) : Type 0 where
   pub above : AreAbove n leaves gates
   pub below : (p q : ℕ) → among leaves p ≡ true → among (gate_places gates) q ≡ true → p < q

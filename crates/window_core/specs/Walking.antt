@@ -1,5 +1,5 @@
 -- Partners, while they are found from the greatest on.
-use Rattle.std.specs.Prelude.{◌≡◌, ℕ, ◌≤◌, ◌<◌, Bool, true, List, length, ◌⊎◌}
+use Rattle.std.specs.Prelude.{◌≡◌, ℕ, ◌≤◌, ◌<◌, true, List, ◌⊎◌}
 use Rattle.net_theory.specs.declared.data.Gate.{Gate}
 use Rattle.net_theory.specs.Net.{Net}
 use Rattle.window_theory.specs.Places.{among, IsFalling}
@@ -19,11 +19,3 @@ pub record IsWalk (n : Net) (root a b : ℕ) (partners : List ℕ) : Type 0 wher
   pub all : (h : ℕ) → SharesBelow n root h → (among partners h ≡ true) ⊎ (h < bound)
   pub first : IsEarlier n bound (place_of gate.a) a
   pub second : IsEarlier n bound (place_of gate.b) b
-
--- The same walk, of which a flag tells whether a gate is among the partners that were found.
-pub record IsLooking (n : Net) (root h a b count : ℕ) (found : Bool) : Type 0 where
-  pub partners : List ℕ
-  pub walk : IsWalk n root a b partners
-  pub size : length partners ≡ count
-  pub yes : found ≡ true → among partners h ≡ true
-  pub no : among partners h ≡ true → found ≡ true

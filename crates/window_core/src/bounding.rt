@@ -12,7 +12,7 @@ use crate::growing::take_gates;
 use crate::readers::{Readers, readers_of};
 use crate::rising::has;
 use crate::seen::all_outputs;
-use crate::shape::Window;
+use crate::shape::{MOST_INPUTS, Window};
 use net_core::Net;
 use std::alloc::{AllocError, Global};
 
@@ -27,7 +27,7 @@ fn has_partner(partner: Option<u32>, gates: &[u32]) -> bool
     }
 }
 
-/// The window of gates that were taken, if it counts.
+/// The window of the gates `gates`, or None where the partner isn't among them or they have too many inputs.
 fn window_of(
     alloc: Global,
     net: &Net,
@@ -43,12 +43,12 @@ fn window_of(
     ensures some { IfOk result (λ answer. IfSome answer (λ w. IsWindow net.now root partner (length gates.items) w)) }
     ensures none { IfOk result (λ answer. IfNone answer ((w : definition.Window) → IsWindow net.now root partner (length gates.items) w → ⊥)) }
 {
-    let _sources = net.sources(); // says that the net is one
+    let _sources = net.sources(); // brings the net's invariant into the proof
     if !has_partner(partner, &gates) {
         return Ok(None);
     }
     let inputs = all_inputs(alloc, net, &gates)?;
-    if inputs.len() > 6 {
+    if inputs.len() > MOST_INPUTS {
         return Ok(None);
     }
     let outputs = all_outputs(alloc, net, readers, &gates)?;
@@ -56,7 +56,7 @@ fn window_of(
 }
 
 /// The window of a root, a partner or none, and a count from 1 to 8, where it counts, by the index of the net. None
-/// comes exactly where there are no such many gates to take, the partner isn't among them, or they have more than 6
+/// comes exactly where fewer than `count` gates can be taken, the partner isn't among them, or they have more than 6
 /// inputs or 8 outputs.
 pub fn window_by(
     alloc: Global,
@@ -80,7 +80,7 @@ pub fn window_by(
     }
 }
 
-/// The same without an index: it is made for this window alone.
+/// The window of a root, a partner or none, and a count, without an index: it is made for this window alone.
 pub fn window(
     alloc: Global,
     net: &Net,

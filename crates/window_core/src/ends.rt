@@ -1,4 +1,4 @@
-//! What goes in and out of some gates of a net.
+//! The inputs of a part of a net: the fanins of its gates that lie outside.
 
 ghost use Rattle.std.specs.Prelude.{◌≡◌, ℕ, ◌<◌, true, IfOk, OnOk};
 ghost use Rattle.window_theory.specs.Places.{among, IsRising, AreJust};
@@ -8,10 +8,11 @@ ghost use Rattle.window_core.specs.Rising.{put_outside};
 
 use crate::growing::gate_at;
 use crate::rising::{has, put};
+use crate::shape::MOST_GATES;
 use net_core::{Net, Sig};
 use std::alloc::{AllocError, Global};
 
-/// Puts what a signal names, if it isn't one of the gates.
+/// Adds the place that `sig` names to `inputs`, unless it is one of `gates`.
 fn put_outside(inputs: &mut Vec<u32>, gates: &[u32], sig: Sig) -> Result<(), AllocError>
     requires { IsRising inputs.old.items }
     ensures { OnOk result (inputs.new.items ≡ put_outside gates.now sig inputs.old.items) }
@@ -24,12 +25,12 @@ fn put_outside(inputs: &mut Vec<u32>, gates: &[u32], sig: Sig) -> Result<(), All
     Ok(())
 }
 
-/// The places outside that some gates read, rising.
+/// The fanins of `gates` that aren't among them, rising.
 pub fn all_inputs(alloc: Global, net: &Net, gates: &[u32]) -> Result<Vec<u32>, AllocError>
     requires { (p : ℕ) → among gates.now p ≡ true → IsGate net.now p }
     ensures { IfOk result (λ inputs. AreJust (IsInput net.now gates.now) inputs.items) }
 {
-    let mut inputs = Vec::with_capacity(alloc, 16)?;
+    let mut inputs = Vec::with_capacity(alloc, 2 * MOST_GATES)?;
     let mut left = gates;
     while let Some((place, rest)) = left.split_first() {
         let gate = gate_at(net, *place);

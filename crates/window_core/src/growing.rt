@@ -1,5 +1,6 @@
-//! Which gates a window has: the greatest candidate is taken, as often as needed. What could be taken and isn't
-//! stands below the gate that was taken last, so that no candidate has to be looked for among those that are taken.
+//! Which gates a window has. It grows greedily by the greatest candidate: the root, the partner, or a fanin of a gate
+//! that is taken. A candidate that isn't taken stands below the gate that was taken last, so that none has to be looked
+//! for among those that are taken.
 
 ghost use Rattle.std.specs.Prelude.{◌≡◌, ℕ, ◌+◌, true, [], length, IfSome, IfNone, IfOk};
 ghost use Rattle.net_theory.specs.Net.{IsNet};
@@ -9,6 +10,7 @@ ghost use Rattle.window_theory.specs.Window as window;
 ghost use Rattle.window_theory.specs.Places.{among};
 ghost use Rattle.window_core.specs.Gates.{IsGateOf, IsGreater, IsGreaterIn, IsGreaterSig, IsSought, bound_of as bound_of_taken};
 
+use crate::shape::MOST_GATES;
 use net_core::{Gate, Net, Sig};
 use std::alloc::{AllocError, Global};
 
@@ -21,7 +23,7 @@ pub fn gate_at(net: &Net, place: u32) -> &Gate
     &net.gates()[(place - net.sources() - 1) as usize]
 }
 
-/// The greater of two places, if the second is below a bound.
+/// The greater of `best` and `place` where `place` is below `bound`, and else `best`.
 fn greater(bound: u32, best: u32, place: u32) -> u32
     ensures { IsGreater bound best place result }
 {
@@ -32,7 +34,7 @@ fn greater(bound: u32, best: u32, place: u32) -> u32
     }
 }
 
-/// The same where there may be no second.
+/// The greater of `best` and `place` where there is one below `bound`, and else `best`.
 fn greater_in(bound: u32, best: u32, place: Option<u32>) -> u32
     ensures { IsGreaterIn bound best place result }
 {
@@ -42,7 +44,7 @@ fn greater_in(bound: u32, best: u32, place: Option<u32>) -> u32
     }
 }
 
-/// The same of what a signal names.
+/// The greater of `best` and the place that `sig` names where that is below `bound`, and else `best`.
 fn greater_sig(bound: u32, best: u32, sig: Sig) -> u32
     ensures { IsGreaterSig bound best sig result }
 {
@@ -94,8 +96,8 @@ fn next_gate(net: &Net, root: u32, partner: Option<u32>, taken: &[u32]) -> Optio
     Some(best)
 }
 
-/// The gates that a root, a partner or none, and a count take, if there are so many; they rise, since each stands
-/// below those that were taken before it.
+/// The gates that a root, a partner or none, and a count take, or None where there are fewer than `count`. They are
+/// sorted ascending: each gate taken has a smaller place than those taken before it.
 pub fn take_gates(
     alloc: Global,
     net: &Net,
@@ -107,7 +109,7 @@ pub fn take_gates(
     ensures count { IfOk result (λ answer. IfSome answer (λ taken. length taken.items ≡ count)) }
     ensures none { IfOk result (λ answer. IfNone answer ((w : window.Window) → IsWindow net.now root partner count w → ⊥)) }
 {
-    let mut taken = Vec::with_capacity(alloc, 8)?;
+    let mut taken = Vec::with_capacity(alloc, MOST_GATES)?;
     for _taken in 0..count {
         let Some(place) = next_gate(net, root, partner, &taken) else {
             return Ok(None);

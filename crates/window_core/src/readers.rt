@@ -1,5 +1,5 @@
-//! The index of a net, made in two passes over its gates: how often each place is named, and for each gate the
-//! greatest gates below it that read what it reads. It serves all windows of the net.
+//! The index of a net, made in two passes over its gates: the reference count of each place, and linked fanout lists,
+//! in which each gate has the next lower fanout of its fanins. It serves all windows of the net.
 
 ghost use Rattle.std.specs.Prelude.{◌≡◌, ℕ, ◌+◌, ◌<◌, min, List, [], length, slice_index_or, All, IfOk, OnOk};
 ghost use Rattle.net_theory.specs.declared.data.Gate.{Gate as GateValue};
@@ -92,8 +92,8 @@ fn note(last: &mut [u32], sig: Sig, place: u32)
     }
 }
 
-/// The last readers of a gate's operands, which it becomes itself. Both are looked up before it is noted, since a
-/// gate may read one place twice.
+/// The last readers so far of a gate's operands; then the gate is noted as their last reader. Both are looked up before
+/// it is noted, since a gate may read one place twice.
 fn note_gate(last: &mut [u32], place: u32, gate: &Gate) -> Earlier
     requires some { 0 < length last.old }
     requires first { IsBefore (length last.old) gate.now.a }

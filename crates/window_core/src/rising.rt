@@ -7,14 +7,14 @@ ghost use Rattle.window_core.specs.Rising.{put as put_in, put_sig as put_sig_in}
 use net_core::Sig;
 use std::alloc::AllocError;
 
-/// Whether a place is one of these.
+/// Whether `place` is one of `places`.
 pub fn has(places: &[u32], place: u32) -> bool
     ensures { result ≡ among places.now place }
 {
     places.iter().any(|one| place == *one)
 }
 
-/// How many of these places are not above a place.
+/// How many of `places`, which rise, are not above `place`.
 fn rank(places: &[u32], place: u32) -> usize
     ensures within { result ≤ length places.now }
     ensures above { (k d : ℕ) → result ≤ k → k < length places.now → place < slice_index_or places.now k d }
@@ -52,7 +52,7 @@ pub fn put(places: &mut Vec<u32>, place: u32) -> Result<(), AllocError>
     Ok(())
 }
 
-/// Puts what a signal names.
+/// Puts the place that a signal names, if it names one.
 pub fn put_sig(places: &mut Vec<u32>, sig: Sig) -> Result<(), AllocError>
     requires { IsRising places.old.items }
     ensures { OnOk result (places.new.items ≡ put_sig_in sig places.old.items) }

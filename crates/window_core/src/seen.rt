@@ -1,5 +1,5 @@
-//! Which gates of a window are seen outside: a place is named as often by the gates inside as by all, or it is an
-//! output. So no pass over the net is needed.
+//! Which gates of a window are outputs: those with references from outside, more in all than by the gates inside. The
+//! index has the number of all references, so that no pass over the net is needed.
 
 ghost use Rattle.std.specs.Prelude.{◌≡◌, ℕ, ◌≤◌, ◌<◌, true, length, IfOk};
 ghost use Rattle.window_theory.specs.Places.{among, IsRising, AreJust};
@@ -10,6 +10,7 @@ ghost use Rattle.window_core.specs.Seen.{inside_of};
 
 use crate::growing::gate_at;
 use crate::readers::{Readers, uses_at};
+use crate::shape::MOST_OUTPUTS;
 use net_core::{Gate, Net, Sig};
 use std::alloc::{AllocError, Global};
 
@@ -77,7 +78,7 @@ pub fn all_outputs(
     ensures outputs { IfOk result (λ outputs. AreJust (IsOutput net.now gates.now) outputs.items) }
     ensures few { IfOk result (λ outputs. length outputs.items ≤ length gates.now) }
 {
-    let mut outputs = Vec::with_capacity(alloc, 8)?;
+    let mut outputs = Vec::with_capacity(alloc, MOST_OUTPUTS)?;
     let mut left = gates;
     while let Some((place, rest)) = left.split_first() {
         if is_output(net, readers, gates, *place) {

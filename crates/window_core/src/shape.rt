@@ -1,9 +1,19 @@
-//! Windows. That the lists rise and are short is the invariant of the type, so that one word holds a window's rows.
+//! Windows. That the lists rise and are short is the invariant of the type, so that one word holds the truth table of an
+//! output.
 
 ghost use Rattle.std.specs.Prelude.{◌≡◌};
 ghost use Rattle.window_core.specs.Shape.{IsShaped};
 
 use std::marker::Model;
+
+/// The most gates of a window.
+pub const MOST_GATES: usize = 8;
+
+/// The most inputs of a window: as many as a specification may have.
+pub const MOST_INPUTS: usize = tt_core::MOST_INPUTS as usize;
+
+/// The most outputs of a window: as many as a specification may have.
+pub const MOST_OUTPUTS: usize = tt_core::MOST_OUTPUTS;
 
 /// A part of a net: the root that it grew from, its partner, and the places of its 1 to 8 gates, of at most 6 inputs
 /// and of at most 8 outputs, each list rising.

@@ -1,9 +1,9 @@
-//! Partners of a gate: the gates below it that read what it reads, the eight greatest. They are found by going from
-//! each reader of its operands to the reader before, however many readers there are.
+//! Partners of a gate, its siblings: gates below it that share a fanin with it, the eight greatest. They are found by
+//! going down the fanouts of its two fanins from one to the next lower, so that the cost doesn't grow with their number.
 
-ghost use Rattle.std.specs.Prelude.{◌≡◌, ℕ, ◌≤◌, ◌<◌, true, ◌||◌, IfOk};
+ghost use Rattle.std.specs.Prelude.{◌≡◌, ℕ, ◌≤◌, ◌<◌, IfOk};
 ghost use Rattle.window_theory.specs.Paths.{IsGate};
-ghost use Rattle.window_theory.specs.Partner.{ArePartners, IsPartner};
+ghost use Rattle.window_theory.specs.Partner.{ArePartners};
 ghost use Rattle.window_core.specs.Readers.{AreReaders, IsEarlier};
 
 use crate::growing::gate_at;
@@ -11,7 +11,10 @@ use crate::readers::{Readers, earlier_of, place_of, readers_of};
 use net_core::Net;
 use std::alloc::{AllocError, Global};
 
-/// The reader of a place before a gate that was found, where the last one that wasn't passed is known.
+/// The most partners of a gate.
+const MOST_PARTNERS: usize = 8;
+
+/// The next fanout of `place` below the gate `found`: `reader`, or where that is `found` itself, the fanout below it.
 fn onward(net: &Net, readers: &Readers, place: u32, reader: u32, found: u32) -> u32
     requires index { AreReaders net.now readers.now }
     requires found { IsGate net.now found }
@@ -29,7 +32,7 @@ fn onward(net: &Net, readers: &Readers, place: u32, reader: u32, found: u32) -> 
     }
 }
 
-/// The partners of a gate, falling.
+/// The partners of a gate, falling: the lower fanouts of its two fanins, merged from the greatest on.
 pub fn partners_by(
     alloc: Global,
     net: &Net,
@@ -46,8 +49,8 @@ pub fn partners_by(
     let earlier = earlier_of(net, readers, root);
     let mut a = earlier.first;
     let mut b = earlier.second;
-    let mut partners = Vec::with_capacity(alloc, 8)?;
-    for _found in 0..8u32 {
+    let mut partners = Vec::with_capacity(alloc, MOST_PARTNERS)?;
+    for _found in 0..MOST_PARTNERS {
         let next = a.max(b);
         if next == 0 {
             return Ok(partners);
@@ -59,44 +62,11 @@ pub fn partners_by(
     Ok(partners)
 }
 
-/// The partners of a gate, falling.
+/// The partners of a gate, falling, without an index: it is made for this gate alone.
 pub fn partners(alloc: Global, net: &Net, root: u32) -> Result<Vec<u32>, AllocError>
     requires { IsGate net.now root }
     ensures { IfOk result (λ partners. ArePartners net.now root partners.items) }
 {
     let readers = readers_of(alloc, net)?;
     partners_by(alloc, net, &readers, root)
-}
-
-/// Whether one of two holds.
-fn either(a: bool, b: bool) -> bool
-    ensures { result ≡ (a || b) }
-{
-    a || b
-}
-
-/// Whether a place is a partner of a gate. It takes no memory.
-pub fn is_partner_by(net: &Net, readers: &Readers, root: u32, place: u32) -> bool
-    requires readers { AreReaders net.now readers.now }
-    requires root { IsGate net.now root }
-    ensures yes { result ≡ true → IsPartner net.now root place }
-    ensures no { IsPartner net.now root place → result ≡ true }
-{
-    let gate = gate_at(net, root);
-    let first = place_of(gate.a);
-    let second = place_of(gate.b);
-    let earlier = earlier_of(net, readers, root);
-    let mut a = earlier.first;
-    let mut b = earlier.second;
-    let mut found = false;
-    for _found in 0..8u32 {
-        let next = a.max(b);
-        if next == 0 {
-            return found;
-        }
-        a = onward(net, readers, first, a, next);
-        b = onward(net, readers, second, b, next);
-        found = either(found, place == next);
-    }
-    found
 }

@@ -1,5 +1,6 @@
-//! The specification of a window. Its care rows are the patterns that its inputs show in their surround, and its values
-//! come from its gates by themselves, on all rows of its inputs at once.
+//! The specification of a window, its local function with don't-cares. Its care rows are the patterns that its inputs
+//! show in their surround; the other rows are its satisfiability don't-cares. Its values come from its gates by
+//! themselves, on all rows of its inputs at once.
 
 ghost use Rattle.std.specs.Prelude.{◌≡◌, ℕ, ◌+◌, ◌≤◌, ◌<◌, ◌^◌, true, [], length, map, slice_get, Some, All, IfOk};
 ghost use Rattle.chain_theory.specs.Operator.{digit};
@@ -16,14 +17,14 @@ ghost use Rattle.window_core.specs.Surrounding.{AreAbove, gate_places};
 ghost use Rattle.window_core.specs.Masking.{IsCareMask, ArePlaced, HasValues, AreMasked};
 
 use crate::growing::gate_at;
-use crate::shape::Window;
+use crate::shape::{MOST_INPUTS, MOST_OUTPUTS, Window};
 use crate::surrounding::surround;
 use lane_sim::{Cone, Words, cone_words, lanes_of, patterns};
 use net_core::{Gate, Net, Sig};
 use std::alloc::{AllocError, Global};
 use tt_core::Spec;
 
-/// Signals that name these places.
+/// The signals that name `places`.
 pub fn signals_of(alloc: Global, places: &[u32]) -> Result<Vec<Sig>, AllocError>
     ensures { IfOk result (λ signals. signals.items ≡ map sigs.Place places.now) }
 {
@@ -48,7 +49,7 @@ fn care_rows(alloc: Global, net: &Net, places: &[u32]) -> Result<u64, AllocError
     requires within { (p : ℕ) → among places.now p ≡ true → p < end_of net.now }
     ensures { IfOk result (λ mask. IsCareMask net.now places.now mask) }
 {
-    let _sources = net.sources(); // says that the net is one
+    let _sources = net.sources(); // brings the net's invariant into the proof
     let cone = surround(alloc, net, places)?;
     shown_by(alloc, &cone, places)
 }
@@ -82,14 +83,14 @@ fn inner_cone(alloc: Global, net: &Net, window: &Window) -> Result<Cone, AllocEr
     ensures places { IfOk result (λ cone. gate_places cone.gates ≡ window.now.gates) }
     ensures gates { IfOk result (λ cone. AreAbove net.now cone.leaves cone.gates) }
 {
-    let _sources = net.sources(); // says that the net is one
-    let mut inputs = Vec::with_capacity(alloc, 6)?;
+    let _sources = net.sources(); // brings the net's invariant into the proof
+    let mut inputs = Vec::with_capacity(alloc, MOST_INPUTS)?;
     inputs.extend_from_slice(window.inputs())?;
     let gates = placed_gates(alloc, net, window.gates())?;
     Ok(Cone::new(inputs, gates))
 }
 
-/// Where a place stands among some places.
+/// The index of `place` in `places`.
 fn index_of(places: &[u32], place: u32) -> usize
     requires { among places.now place ≡ true }
     ensures { slice_get places.now result ≡ Some place }
@@ -129,8 +130,8 @@ fn masked_spec(
     requires low { (t : ℕ) → digit mask t ≡ true → t < 2 ^ length window.now.inputs }
     ensures { IfOk result (λ s. (s.n ≡ length window.now.inputs) × AreMasked cone.now mask window.now.outputs [] s.on s.care) }
 {
-    let mut on = Vec::with_capacity(alloc, 8)?;
-    let mut cares = Vec::with_capacity(alloc, 8)?;
+    let mut on = Vec::with_capacity(alloc, MOST_OUTPUTS)?;
+    let mut cares = Vec::with_capacity(alloc, MOST_OUTPUTS)?;
     let inputs = window.inputs().len();
     let mut left = window.outputs();
     while let Some((place, rest)) = left.split_first() {
@@ -159,7 +160,7 @@ pub fn spec_of(alloc: Global, net: &Net, window: &Window) -> Result<Spec, AllocE
     requires { Belongs net.now window.now }
     ensures { IfOk result (λ s. IsSpecificationOf net.now window.now (specification s)) }
 {
-    let _sources = net.sources(); // says that the net is one
+    let _sources = net.sources(); // brings the net's invariant into the proof
     let mask = care_rows(alloc, net, window.inputs())?;
     let cone = inner_cone(alloc, net, window)?;
     spec_by(alloc, window, &cone, mask)

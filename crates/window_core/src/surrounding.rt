@@ -1,5 +1,6 @@
-//! The surround of some places: as long as the greatest leaf is a gate, what it reads comes in its place, if at most
-//! 12 leaves are left. Gates are opened from the greatest place down, so that the leaves stand below all of them.
+//! The surround of some places, a bounded fanin cone above a cut: as long as the greatest leaf is a gate it is opened,
+//! its fanins come in its place, if at most 12 leaves are left. Gates are opened from the greatest place down, so that
+//! the leaves stand below all of them.
 
 ghost use Rattle.std.specs.Prelude.{◌≡◌, ℕ, ◌+◌, ◌≤◌, ◌<◌, true, false, List, ◌∷◌, [], ◌++◌, length, reverse, if◌then◌else◌, IfSome, IfNone, IfOk};
 ghost use Rattle.net_theory.specs.Net.{end_of};
@@ -11,11 +12,14 @@ ghost use Rattle.window_core.specs.Surrounding.{AreAbove, AreCovered, IsBehind, 
 
 use crate::growing::gate_at;
 use crate::rising::{has, put_sig};
-use lane_sim::Cone;
+use lane_sim::{Cone, MOST_LEAVES};
 use net_core::{Gate, Net, Sig};
 use std::alloc::{AllocError, Global};
 
-/// Whether a signal names a place that isn't among these.
+/// For how many leaves, and gates, there is room from the beginning; few surrounds have more gates.
+const ROOM: usize = 16;
+
+/// Whether a signal names a place that isn't among `places`.
 fn is_new(places: &[u32], sig: Sig) -> bool
     requires { IsRising places.now }
     ensures { length (put_sig_in sig places.now) ≡ length places.now + (if result then 1 else 0) }
@@ -39,21 +43,21 @@ fn same_place(a: Sig, b: Sig) -> bool
     }
 }
 
-/// Whether the first holds and the second doesn't.
+/// For the prover: `a && !b`, by cases as its clause has it.
 fn and_not(a: bool, b: bool) -> bool
     ensures { result ≡ (if a then (if b then false else true) else false) }
 {
     a && !b
 }
 
-/// One for what holds, and else none.
+/// For the prover: `usize::from(holds)`, by cases as its clause has it.
 fn one_if(holds: bool) -> usize
     ensures { result ≡ (if holds then 1 else 0) }
 {
     if holds { 1 } else { 0 }
 }
 
-/// How many leaves there are when the gate behind the others is opened.
+/// How many leaves there are when the gate at the leaf after `front` is opened.
 fn count_behind(front: &[u32], gate: &Gate) -> usize
     requires { IsRising front.now }
     ensures { result ≡ length (behind_of front.now gate.now) }
@@ -71,7 +75,7 @@ fn is_too_much(leaves: &[u32], gate: &Gate) -> bool
     ensures no { result ≡ false → (front : List ℕ) (p : ℕ) → leaves.now ≡ front ++ p ∷ [] → length (behind_of front gate.now) ≤ 12 }
 {
     match leaves.split_last() {
-        Some((_last, front)) => count_behind(front, gate) > 12,
+        Some((_last, front)) => count_behind(front, gate) > MOST_LEAVES,
         None => false,
     }
 }
@@ -127,14 +131,14 @@ fn cone_of(net: &Net, leaves: Vec<u32>, gates: Vec<(u32, Gate)>) -> Cone
     requires { AreAbove net.now leaves.items (reverse gates.items) }
     ensures { result ≡ record { leaves = leaves.items; gates = reverse gates.items } }
 {
-    let _sources = net.sources(); // says that the net is one
+    let _sources = net.sources(); // brings the net's invariant into the proof
     let mut rising = gates;
     rising.reverse();
     Cone::new(leaves, rising)
 }
 
-/// The surround of some places: a cone whose leaves are those that the places lead to. Its gates are some of the places,
-/// or what these are computed from.
+/// The surround of some places: a cone whose leaves are those that the places lead to. Its gates are among the places
+/// and their transitive fanins.
 pub fn surround(alloc: Global, net: &Net, places: &[u32]) -> Result<Cone, AllocError>
     requires rising { IsRising places.now }
     requires few { length places.now ≤ 12 }
@@ -144,10 +148,10 @@ pub fn surround(alloc: Global, net: &Net, places: &[u32]) -> Result<Cone, AllocE
     ensures covered { IfOk result (λ cone. AreCovered cone.leaves cone.gates places.now) }
     ensures behind { IfOk result (λ cone. (p : ℕ) → among (gate_places cone.gates) p ≡ true → IsBehind net.now places.now p) }
 {
-    let _sources = net.sources(); // says that the net is one
-    let mut leaves = Vec::with_capacity(alloc, 16)?;
+    let _sources = net.sources(); // brings the net's invariant into the proof
+    let mut leaves = Vec::with_capacity(alloc, ROOM)?;
     leaves.extend_from_slice(places)?;
-    let mut gates = Vec::with_capacity(alloc, 16)?;
+    let mut gates = Vec::with_capacity(alloc, ROOM)?;
     while open(net, &mut leaves, &mut gates)? {}
     Ok(cone_of(net, leaves, gates))
 }
