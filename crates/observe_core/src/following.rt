@@ -1,4 +1,4 @@
-//! Followers: gates that read one of some gates and aren't one of them. The index of the net tells the readers of a place
+//! Followers: fanouts of a set of gates that aren't in the set. The index of the net lists the readers of a place
 //! from the last to the first, so that a follower is found without a pass over the net. 0 stands for none.
 
 ghost use Rattle.std.specs.Prelude.{◌≡◌, ℕ, ◌<◌, true, false};

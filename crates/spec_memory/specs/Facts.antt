@@ -13,7 +13,7 @@ use Rattle.spec_memory.specs.declared.memory.Found.{Found}
 abbrev pub spelled : Words → List ℕ
 spelled w = (w.n ∷ w.on) ++ w.care
 
--- No chain over the basis of fewer steps agrees with the specification that these words spell.
+-- No chain over the basis of fewer steps agrees with the specification that the words spell.
 -- Example: over NAND alone, of XOR's words, any number up to 4 is one.
 abbrev pub IsFact : Basis → List ℕ → ℕ → Type 0
 IsFact basis key fewest = (w : Words) → IsSpec w → spelled w ≡ key → NoneBelow (specification w) basis fewest

@@ -1,4 +1,4 @@
-//! What was found of specifications over a basis, remembered: of how few steps no chain agrees, and a chain.
+//! A cache of results by specification, over a basis: a lower bound of the steps of a chain that agrees, and a chain.
 //!
 //! It stands on `tt_core` for specifications, whose words are the keys. What a memory claims is true whatever its
 //! user asks: the least number of steps of a key is one below which no chain over the memory's basis agrees. Of

@@ -50,8 +50,7 @@ impl Memory {
         }
     }
 
-    /// A number of steps of which no fewer do: no chain of fewer steps over the basis agrees with the
-    /// specification of this key.
+    /// A lower bound: no chain of fewer steps over the basis agrees with the specification of `key`.
     #[tactic(auto, using(crate::specs::FactLaws::remembering))]
     pub fn fewest(&self, key: &Key) -> u32
         ensures { IsFact (members self.now) key.now result }
