@@ -1,4 +1,5 @@
-//! The tail of a window, its side inputs, its watchers, and whether the window is seen past it.
+//! The tail of a window (its transitive fanout, at most 16 gates), its side inputs, its watchers, and whether the window
+//! is directly observable past it.
 
 ghost use Rattle.std.specs.Prelude.{◌≡◌, ℕ, true, false, List, [], ◌⊎◌, IfOk, OnOk};
 ghost use Rattle.net_theory.specs.Reach.{is_place};
@@ -42,7 +43,7 @@ fn take_tail(
     Ok(())
 }
 
-/// Those of rising places that are none of the gates.
+/// Those of `places` that are none of `gates`. The places rise.
 fn places_outside(alloc: Global, places: &[u32], gates: &[u32]) -> Result<Vec<u32>, AllocError>
     requires { IsRising places.now }
     ensures { IfOk result (λ kept. AreJust (IsBoth (λ p. among gates.now p ≡ false) places.now) kept.items) }
