@@ -18,7 +18,7 @@ substitute_keeping-requires-clause-fits c =
 pub substitute_keeping-requires-clause-keeps : goal.substitute_keeping-requires-clause-keeps
 substitute_keeping-requires-clause-keeps c =
     same_keeps c.args.net.now c.args.window.now (window_of c.lists_of-lists.result) c.args.chain.now c.lists_of-lists.ensures
-    (seen_keeps c.args.net.now c.args.window.now c.args.chain.now c.gates.ensures.net c.requires.belongs c.requires.meets)
+    (seen_keeps c.args.net.now c.args.window.now c.args.chain.now c.gates-gates.ensures.net c.requires.belongs c.requires.meets)
 
 pub substitute_keeping-requires-clause-room : goal.substitute_keeping-requires-clause-room
 substitute_keeping-requires-clause-room c =

@@ -4,4 +4,4 @@ use Rattle.subst_core.proofs.replacing.replace.Goals as goal
 
 pub replace_keeping-requires-clause-keeps : goal.replace_keeping-requires-clause-keeps
 replace_keeping-requires-clause-keeps c =
-    agrees_keeps c.args.net.now (window_of c.args.window.now) c.args.chain.now c.gates.ensures.net c.requires.belongs c.requires.meets
+    agrees_keeps c.args.net.now (window_of c.args.window.now) c.args.chain.now c.gates-gates.ensures.net c.requires.belongs c.requires.meets

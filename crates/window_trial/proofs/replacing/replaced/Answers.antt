@@ -18,12 +18,12 @@ replace_keeping-requires-clause-fits c =
 pub replace_keeping-requires-clause-keeps : goal.replace_keeping-requires-clause-keeps
 replace_keeping-requires-clause-keeps c =
     same_keeps c.args.net.now c.args.window.now (window_of c.lists_of-lists.result) c.args.chain.now c.lists_of-lists.ensures
-    (asked_keeps c.args.settings.observe c.args.net.now c.args.window.now c.args.chain.now c.gates.ensures.net c.requires.belongs c.requires.meets)
+    (asked_keeps c.args.settings.observe c.args.net.now c.args.window.now c.args.chain.now c.gates-gates.ensures.net c.requires.belongs c.requires.meets)
 
 pub replace_keeping-requires-clause-room : goal.replace_keeping-requires-clause-room
 replace_keeping-requires-clause-room c =
     same_room c.args.net.now c.args.window.now (window_of c.lists_of-lists.result) c.args.chain.now c.lists_of-lists.ensures
-    (room_there c.args.net.now c.args.window.now c.args.chain.now c.gates.ensures.net c.requires.fewer)
+    (room_there c.args.net.now c.args.window.now c.args.chain.now c.gates-gates.ensures.net c.requires.fewer)
 
 pub returns-clause-leads : goal.returns-clause-leads
 returns-clause-leads c =
