@@ -47,7 +47,7 @@ fn is_open(verdict: Verdict) -> bool
 /// What a search with a certificate says.
 #[tactic(auto, using(crate::specs::DecidedLaws::deciding))]
 pub fn search_whole<S: Solver>(alloc: Global, question: Question) -> Result<Decided, AllocError>
-    ensures { IfOk result (λ decided. IsDecided question.heading.now decided) }
+    ensures { IfOk result (λ decided. IsDecided question.entry.heading.now decided) }
 {
     let heading = question.heading;
     let bundle = search::<S>(
@@ -82,7 +82,7 @@ pub fn search_from<S: Solver>(
 ) -> Result<Sized, AllocError>
     requires fewer { Fewer question.heading.now from }
     requires from { from ≤ question.heading.now.max }
-    ensures { IfOk result (λ sized. IsSized question.heading.now sized) }
+    ensures { IfOk result (λ sized. IsSized question.entry.heading.now sized) }
 {
     for size in from..question.heading.max + 1 {
         match search_size::<S>(alloc, question.heading, size)? {

@@ -38,9 +38,9 @@ fn first_conflicts(conflicts: u32) -> u32
 fn turned_heading(alloc: Global, question: Question, order: &[u32]) -> Result<Heading, AllocError>
     requires { IsOrder question.heading.now.spec.n order.now }
     ensures heading { IfOk result (λ turned. IsHeading turned) }
-    ensures turned { IfOk result (λ turned. IsTurned (specification question.heading.now.spec) (specification turned.spec) order.now) }
-    ensures basis { IfOk result (λ turned. turned.basis ≡ question.heading.now.basis) }
-    ensures max { IfOk result (λ turned. turned.max ≡ question.heading.now.max) }
+    ensures turned { IfOk result (λ turned. IsTurned (specification question.entry.heading.now.spec) (specification turned.spec) order.now) }
+    ensures basis { IfOk result (λ turned. turned.basis ≡ question.entry.heading.now.basis) }
+    ensures max { IfOk result (λ turned. turned.max ≡ question.entry.heading.now.max) }
 {
     let heading = question.heading;
     let spec = turned_spec(alloc, &heading.spec, order)?;
@@ -84,7 +84,7 @@ fn decide_turned<S: Solver>(
     question: Question,
 ) -> Result<Decided, AllocError>
     requires basis { memory.old ≡ question.heading.now.basis }
-    ensures decided { IfOk result (λ decided. IsDecided question.heading.now decided) }
+    ensures decided { IfOk result (λ decided. IsDecided question.entry.heading.now decided) }
     ensures basis { memory.new ≡ memory.old }
 {
     let heading = question.heading;

@@ -95,7 +95,7 @@ fn first_size(memory: &Memory, key: &Key, question: Question, counted: u32) -> u
     requires basis { memory.now ≡ question.heading.now.basis }
     requires key { key.now ≡ spelled question.heading.now.spec }
     requires fewer { Fewer question.heading.now counted }
-    ensures { Fewer question.heading.now result }
+    ensures { Fewer question.entry.heading.now result }
 {
     let known = memory.fewest(key);
     if known <= counted {
@@ -139,7 +139,7 @@ fn search_new<S: Solver>(
     requires key { key ≡ spelled question.heading.now.spec }
     requires fewer { Fewer question.heading.now from }
     requires from { from ≤ question.heading.now.max }
-    ensures sized { IfOk result (λ sized. IsSized question.heading.now sized) }
+    ensures sized { IfOk result (λ sized. IsSized question.entry.heading.now sized) }
     ensures basis { memory.new ≡ memory.old }
 {
     match search_from::<S>(alloc, question, from)? {
@@ -169,7 +169,7 @@ pub fn decide_sizes<S: Solver>(
 ) -> Result<Sized, AllocError>
     requires basis { memory.old ≡ question.heading.now.basis }
     requires fewer { Fewer question.heading.now counted }
-    ensures sized { IfOk result (λ sized. IsSized question.heading.now sized) }
+    ensures sized { IfOk result (λ sized. IsSized question.entry.heading.now sized) }
     ensures basis { memory.new ≡ memory.old }
 {
     let key = Key::of(alloc, &question.heading.spec)?;
@@ -195,7 +195,7 @@ pub fn decide_whole<S: Solver>(
     question: Question,
 ) -> Result<Decided, AllocError>
     requires basis { memory.old ≡ question.heading.now.basis }
-    ensures decided { IfOk result (λ decided. IsDecided question.heading.now decided) }
+    ensures decided { IfOk result (λ decided. IsDecided question.entry.heading.now decided) }
     ensures basis { memory.new ≡ memory.old }
 {
     let heading = question.heading;
