@@ -1,47 +1,37 @@
-//! Netlists through reading, dropping of dead gates and writing, with the report, and the refusals of
-//! whole documents.
+//! Netlists of which nothing but dead gates is dropped, and the refusals of whole documents.
 
-use crate::refusals::names;
-use improve_core::improve;
+use crate::asking::{Asked, is_improved, refused};
+use improve_windows::NetError;
 use std::alloc::Global;
 
-/// Whether a netlist is improved to this text with the report behind it.
-fn is_improved(alloc: Global, bytes: &[u8], wanted: &[u8]) -> bool {
-    if bytes.len() > 100_000 {
-        return false;
+/// As BLIF, without windows.
+const IDLE: Asked = Asked::Blif(0, 1000, 100_000, false);
+
+/// The word of a document's fault, and the name.
+fn named(error: &NetError) -> (&'static str, &[u8]) {
+    match error {
+        NetError::DrivenTwice(told) => ("DrivenTwice", told.get()),
+        NetError::Undriven(told) => ("Undriven", told.get()),
+        NetError::Cycle(told) => ("Cycle", told.get()),
+        NetError::NotSupported(_, told) => ("NotSupported", told.get()),
+        _ => ("another", b""),
     }
-    let improved = match improve(alloc, bytes) {
-        Ok(improved) => improved,
-        Err(error) => {
-            drop(error);
-            return false;
-        }
-    };
-    if improved.text.len() > wanted.len() {
-        return false;
-    }
-    let (text, report) = wanted.split_at(improved.text.len());
-    improved.text.as_slice() == text && improved.report.as_slice() == report
 }
 
 /// Whether a netlist is refused by this word and this name.
 fn is_refused(alloc: Global, bytes: &[u8], word: &str, name: &[u8]) -> bool {
-    if bytes.len() > 100_000 {
-        return false;
-    }
-    let error = match improve(alloc, bytes) {
-        Ok(improved) => {
-            drop(improved);
-            return false;
+    match refused(alloc, bytes, IDLE) {
+        None => false,
+        Some(error) => {
+            let (told, at) = named(&error);
+            let same = told == word && at == name;
+            drop(error);
+            same
         }
-        Err(error) => error,
-    };
-    let told = names(&error, word, name);
-    drop(error);
-    told
+    }
 }
 
-/// Netlists, and their texts and reports.
+/// Netlists, and what is left of them with the report after it.
 const IMPROVED: &[(&[u8], &[u8])] = &[
     // each cover of two rows is one gate
     (
@@ -78,7 +68,7 @@ const IMPROVED: &[(&[u8], &[u8])] = &[
 #[test]
 fn netlists_keep_what_their_sinks_read(rt: HostRuntime) {
     for &(text, wanted) in IMPROVED {
-        assert!(rt; is_improved(rt.alloc(), text, wanted));
+        assert!(rt; is_improved(rt.alloc(), text, IDLE, wanted));
     }
 }
 

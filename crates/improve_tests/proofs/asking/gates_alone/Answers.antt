@@ -1,7 +1,7 @@
 use Rattle.improve_settings.specs.declared.improve.ImproveSettings.{ImproveSettings}
 use Rattle.improve_settings.specs.Improve.{usual}
 use Rattle.improve_windows.specs.FitsLaws.{all_fit}
-use Rattle.improve_tests.proofs.shrinking.gates_alone.Goals as goal
+use Rattle.improve_tests.proofs.asking.gates_alone.Goals as goal
 
 pub returns-clause-fits : goal.returns-clause-fits
 returns-clause-fits c =
