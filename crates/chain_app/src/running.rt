@@ -5,13 +5,14 @@ ghost use Rattle.frame_core.specs.Run.{Outcome, IsRun, run_of, before_after};
 ghost use Rattle.chain_app.specs.Tasks.{task_of};
 ghost use Rattle.chain_app.specs.KeepsPromises.{KeepsPromises};
 
-use crate::jobs::{Agree, Equiv, Gen, Improve};
-use crate::least_depth::LeastDepth;
-use crate::recheck::Recheck;
-use crate::recheck_depth::RecheckDepth;
-use crate::synth::Synth;
+use cmd_agree::Agree;
+use cmd_equiv::Equiv;
+use cmd_gen::Gen;
+use cmd_improve::Improve;
+use cmd_recheck::{Recheck, RecheckDepth};
+use cmd_synth::{LeastDepth, Synth};
 use command_line::{Command, read_words};
-use frame_core::{ErrorLine, Status, perform, perform_stream, tell_error};
+use frame_core::{AtOnce, ErrorLine, Status, perform, perform_stream, tell_error};
 use port_io::{Sink, Source};
 use std::alloc::Global;
 
@@ -32,16 +33,20 @@ fn obey<S: Source, O: Sink, N: Sink>(
         result) outcome }
 {
     match command {
-        Command::Agree => perform(alloc, &Agree, source, out, note),
+        Command::Agree => perform(alloc, &AtOnce(Agree), source, out, note),
         Command::Recheck => perform_stream(alloc, &Recheck, source, out, note),
         Command::RecheckDepth => perform_stream(alloc, &RecheckDepth, source, out, note),
         Command::Synth(settings) => perform(alloc, &Synth(settings), source, out, note),
-        Command::LeastDepth(settings) => perform(alloc, &LeastDepth(settings), source, out, note),
-        Command::Improve { format, settings } => {
-            perform(alloc, &Improve { format, settings }, source, out, note)
+        Command::LeastDepth(settings) => {
+            perform(alloc, &AtOnce(LeastDepth(settings)), source, out, note)
         }
-        Command::Equiv(budget) => perform(alloc, &Equiv(budget), source, out, note),
-        Command::Gen { blocks, deed } => perform(alloc, &Gen { blocks, deed }, source, out, note),
+        Command::Improve { format, settings } => {
+            perform(alloc, &AtOnce(Improve { format, settings }), source, out, note)
+        }
+        Command::Equiv(budget) => perform(alloc, &AtOnce(Equiv { budget }), source, out, note),
+        Command::Gen { blocks, deed } => {
+            perform(alloc, &AtOnce(Gen { blocks, deed }), source, out, note)
+        }
     }
 }
 

@@ -13,7 +13,7 @@ use Rattle.frame_core.specs.declared.replies.Ended.TheVariants as ended
 use Rattle.frame_core.specs.Outside.{Side, IsQuiet, Writes}
 use Rattle.frame_core.specs.Told as told
 use Rattle.frame_core.specs.Told.{error_line}
-use Rattle.frame_core.specs.Task.{Task, Tells, IsBeyond, IsTask}
+use Rattle.frame_core.specs.Task.{Task, Tells, IsBeyond}
 use Rattle.frame_core.specs.Run.{Outcome, ReadFault, TooLong, Memory, Answered, CutShort, Starved, ReportCut, NoAnswer, IsInput, HasInput, IsLeft, IsOutcome, IsReadToEnd, SourceRead, SourceAfter, OutAfter, Reports, ReportsFront, run_of, IsRun, LineAfter}
 use Rattle.frame_core.specs.Views.{reply_value, refusal_value, status_in, line_in, Judges}
 use Rattle.frame_core.specs.Performing.{IsJudged, Answers, Performs, IsSent, OutSent, Sent, Finishes}
@@ -151,8 +151,8 @@ sent_out task bytes reply (ReportCut x) old new tells is out = (subst (λ (y : t
 sent_out task bytes reply (NoAnswer refusal) old new tells is out = absurd is
 
 -- What judged the bytes rightly, and was sent out, answers them.
-pub answered : (task : Task) (bytes : List ℕ) (x : Result Reply Stop) (e : Ended) (out note : Side × Side) → IsTask task → Judges task bytes x → Finishes x e out note → Answers task bytes e out note
-answered task bytes (Ok reply) e out note task_is judges sent = record {
+pub answered : (task : Task) (bytes : List ℕ) (x : Result Reply Stop) (e : Ended) (out note : Side × Side) → Judges task bytes x → Finishes x e out note → Answers task bytes e out note
+answered task bytes (Ok reply) e out note judges sent = record {
   outcome = sent.outcome;
   ends = sent.ends;
   judged = sent_judged task bytes (reply_value reply) sent.outcome judges sent.is;
@@ -160,7 +160,7 @@ answered task bytes (Ok reply) e out note task_is judges sent = record {
   on_note = sent.on_note;
   never_falls = sent.never_falls;
 }
-answered task bytes (Err stops.NoMemory) e out note task_is judges held = record {
+answered task bytes (Err stops.NoMemory) e out note judges held = record {
   outcome = Memory;
   ends = held.ends;
   judged = tt;
@@ -168,7 +168,7 @@ answered task bytes (Err stops.NoMemory) e out note task_is judges held = record
   on_note = held.on_note;
   never_falls = let counts : note.1.faults ≡ note.0.faults = ap (λ (s : Side). s.faults) held.on_note in omega arith;
 }
-answered task bytes (Err (stops.NoAnswer refusal)) e out note task_is judges held = record {
+answered task bytes (Err (stops.NoAnswer refusal)) e out note judges held = record {
   outcome = NoAnswer (refusal_value refusal);
   ends = held.ends;
   judged = judges;

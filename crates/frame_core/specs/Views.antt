@@ -25,7 +25,7 @@ shown [] = []
 shown (Nothing ∷ fs) = shown fs
 shown (Known word ∷ fs) = Word word.now ∷ shown fs
 shown (Count number ∷ fs) = Number number ∷ shown fs
-shown (Name name ∷ fs) = Word name ∷ shown fs
+shown (Name name ∷ fs) = Word name.items ∷ shown fs
 
 abbrev pub line_value : ErrorLine → List told.Field
 line_value line = shown line.fields
@@ -35,7 +35,7 @@ abbrev pub part_text : Field → List ℕ
 part_text Nothing = []
 part_text (Known word) = 32 ∷ word.now
 part_text (Count number) = 32 ∷ decimal number
-part_text (Name name) = 32 ∷ name
+part_text (Name name) = 32 ∷ name.items
 
 unfoldable pub parts_text : List Field → List ℕ
 parts_text [] = []

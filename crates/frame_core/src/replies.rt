@@ -4,7 +4,6 @@ ghost use Rattle.frame_core.specs.Told.{Word, plain as plain_of, at as at_of};
 ghost use Rattle.frame_core.specs.Views.{shown, line_value, report_text, status_in};
 
 use crate::status::Status;
-use net_core::Name;
 
 /// A field of an error line.
 #[derive(Drop)]
@@ -15,8 +14,8 @@ pub enum Field {
     Known(&'static [u8]),
     /// A number.
     Count(u32),
-    /// A name of the input.
-    Name(Name),
+    /// A name of the input, by its bytes.
+    Name(Vec<u8>),
 }
 
 /// What an error line names: a variant, and its fields. There are as many as the longest line has, of

@@ -37,7 +37,7 @@ fn write_field<N: Sink>(note: &mut N, field: &Field) -> Result<(), WriteFault>
             let mut buffer = Buffer::new();
             write_two(note, b" ", buffer.format(*number).as_bytes())
         }
-        Field::Name(name) => write_two(note, b" ", name.get()),
+        Field::Name(name) => write_two(note, b" ", name),
     }
 }
 
