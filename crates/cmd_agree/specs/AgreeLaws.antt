@@ -28,6 +28,7 @@ use Rattle.frame_core.specs.ReadOffLaws.{gets}
 use Rattle.cmd_lines.specs.TableLineLaws.{not_refused as tables_apart}
 
 -- ---- `agree` is a command
+
 -- bytes ask one question
 pub one_question : (input : List ℕ) (p q : Question) → IsQuestion input p → IsQuestion input q → p ≡ q
 one_question input p q is_p is_q = cc

@@ -11,6 +11,7 @@ use Rattle.frame_core.specs.Task.{Tells, Refuses}
 use Rattle.cmd_equiv.specs.EquivReport.{equiv_reply, equiv_refusal, equiv_task}
 
 -- ---- what is answered
+
 pub tells : (budget : ℕ) (bytes text : List ℕ) (standing : Standing) (reply : Reply) → length bytes ≤ most_of_two → IsAnswer budget bytes text standing → reply ≡ equiv_reply (record { text = text; standing = standing }) → Tells (equiv_task budget) bytes reply
 tells budget bytes text standing reply within answer is = record {
   answer = record { text = text; standing = standing };

@@ -31,6 +31,7 @@ use Rattle.net_document.specs.FormatLaws.{fault_never}
 use Rattle.blif_text.specs.ListingLaws.{texts_list}
 
 -- ---- `equiv` is a command
+
 answer_statuses : (s : Standing) → IsAnswerStatus (standing_status s)
 answer_statuses standings.Equal = inl refl
 answer_statuses standings.Undecided = inr (inl refl)
@@ -54,6 +55,7 @@ equiv_is_task budget =
     (λ bytes error fault. fault.within)
 
 -- ---- what it promises besides
+
 -- a text is split at one place, and lists one document
 place_one : (r : Option ℕ) (p q : ℕ) → r ≡ Some p → r ≡ Some q → p ≡ q
 place_one r p q x y = cc

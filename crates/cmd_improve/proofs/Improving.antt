@@ -16,6 +16,7 @@ use Rattle.frame_core.specs.Told.{Reply, Refusal}
 use Rattle.frame_core.specs.Task.{Tells, Refuses}
 
 -- ---- what is answered
+
 pub tells : (format : FormatAsked) (asked : ImproveSettings) (bytes text report : List ℕ) (reply : Reply) → length bytes ≤ most_of_netlist → IsReported (format_of format) asked bytes text report → reply ≡ improve_reply (record { text = text; report = report }) → Tells (improve_task format asked) bytes reply
 tells format asked bytes text report reply within reported is = record {
   answer = record { text = text; report = report };

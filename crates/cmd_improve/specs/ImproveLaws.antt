@@ -31,6 +31,7 @@ lists_well Blif = tables.texts_list
 lists_well Bench = gates.texts_list
 
 -- ---- `improve` is a command
+
 IsStatus : NetError → Type 0
 IsStatus e = IsRefusalStatus (net_status e) ⊎ (improve_refusal e ≡ memory_refusal)
 
@@ -68,6 +69,7 @@ improve_is_task format asked =
     (λ bytes error fault. fault.within)
 
 -- ---- what it promises besides
+
 -- a netlist has no fault
 answerable : (format : FormatAsked) (asked : ImproveSettings) (input : List ℕ) → length input ≤ most_of_netlist → IsNetlist (format_of format) input → IsAnswerable (improve_task format asked) input
 answerable format asked input within netlist = record {

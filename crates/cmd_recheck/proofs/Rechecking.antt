@@ -21,6 +21,8 @@ use Rattle.frame_core.specs.Task.{Tells, Refuses}
 use Rattle.frame_core.specs.PerformingLaws.{answered}
 use Rattle.cmd_verdicts.specs.VerdictLaws.{is_verdict}
 
+-- ---- what the judge of bundles answers
+
 no_verdict : (read : Result Verdict BundleError) (e : BundleError) (w : Verdict) → read ≡ Err e → read ≡ Ok w → ⊥
 no_verdict read e w is other = cc
 
@@ -53,6 +55,7 @@ stops bytes e refusal within other fails is = refuses bytes e refusal within (to
 pub ruleset stopping = (common_steps, stops)
 
 -- ---- what is kept of the bytes
+
 pub is_reader : (kept : Reading) (reader : BundleReader) → kept ≡ Good reader → IsWhole kept → IsReader (seen reader)
 is_reader kept reader same whole = subst (λ (k : Reading). IsWhole k) same whole
 

@@ -29,6 +29,7 @@ use Rattle.cmd_recheck.specs.RecheckDepthReport.{named_inside, depth_reply, dept
 use Rattle.frame_core.specs.PerformingLaws.{answered}
 
 -- ---- error lines
+
 inside_by : (e : BundleError) → (e ≡ bundles.Memory → ⊥) → named_inside e ≡ Word (codes "Bundle") ∷ named_bundle e
 inside_by (bundles.Syntax line) other = refl
 inside_by (bundles.SizeOutOfOrder line) other = refl
@@ -47,6 +48,7 @@ named_as_inside e line other is = is ∙ sym (inside_by e other)
 pub ruleset inside = (common_steps, named_as_inside)
 
 -- ---- what the judge of depth bundles answers
+
 -- an error that isn't want of memory is that of the definition
 told_fault : (e : DepthError) (answer : Answer) → (e ≡ depths.Memory → ⊥) → Fails e answer → Err e ≡ answer
 told_fault (depths.Bundle d) answer other fails = sym fails
@@ -90,6 +92,7 @@ stops bytes e refusal within other judged is =
 pub ruleset telling = (common_steps, tells, stops)
 
 -- ---- what is kept of the bytes
+
 pub is_reader : (kept : DepthReading) (reader : DepthReader) → kept ≡ Good reader → IsWhole kept → IsReader (seen reader)
 is_reader kept reader same whole = subst (λ (k : DepthReading). IsWhole k) same whole
 

@@ -34,6 +34,7 @@ one_fault : (answer : Answer) (d e : DepthError) → answer ≡ Err d → answer
 one_fault answer d e is other = cc
 
 -- ---- `recheck --depth yes` is a command
+
 IsStatus : DepthError → Type 0
 IsStatus e = IsRefusalStatus (depth_status e) ⊎ (depth_refusal e ≡ memory_refusal)
 
@@ -78,9 +79,14 @@ depth_is_task =
     (λ bytes error fault. fault.within)
 
 -- ---- what it promises besides
+
+complete : (r : Run) (input : List ℕ) (b : DepthBundle) → CommandPromise depth_task r → r.source.bytes ≡ Some input → length input ≤ most_of_bundle → IsDepthText input b → OutputHeld r → Replies depth_task r input
+complete r input b promise told within is held =
+    gets depth_task r input (λ verdict. refl) promise told (record { within = λ long. omega arith; sound = λ error fault. fault.none b is }) held
+
 accepted : (r : Run) (input : List ℕ) (b : DepthBundle) → CommandPromise depth_task r → r.source.bytes ≡ Some input → length input ≤ most_of_bundle → IsDepthText input b → OutputHeld r → Stands r (depth_reply b.verdict)
 accepted r input b promise told within is held =
-    let got : Replies depth_task r input = gets depth_task r input (λ verdict. refl) promise told (record { within = λ long. omega arith; sound = λ error fault. fault.none b is }) held in
+    let got : Replies depth_task r input = complete r input b promise told within is held in
     let gives : GivesLevels input got.answer = got.has in
     subst (λ (v : DepthVerdict). Stands r (depth_reply v)) (sym (gives.only b is)) got.stands
 
@@ -158,6 +164,7 @@ decided r promise is =
 -- All that `recheck --depth yes` promises besides.
 pub depth_promised : (r : Run) → (AsksFor r.words RecheckDepth → CommandPromise depth_task r) → RecheckDepthPromise r
 depth_promised r keeps = record {
+  complete = λ input b run within is held. complete r input b (keeps run.asks) run.told within is held;
   accepted = λ input b run within is held. accepted r input b (keeps run.asks) run.told within is held;
   accepted_only = λ input run is. accepted_only r input (keeps run.asks) run.told is;
   answers = λ input run is. answers r input (keeps run.asks) run.told is;

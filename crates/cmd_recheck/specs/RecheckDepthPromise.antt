@@ -38,7 +38,14 @@ pub record TellsLevels (r : Run) (input : List ℕ) : Type 0 where
       → IsLeftOpen input has.has.bundle.bundle.heading steps low
 
 pub record RecheckDepthPromise (r : Run) : Type 0 where
-  -- A depth bundle gets the line of its verdict, and the status is 0.
+  -- A depth bundle gets an answer,
+  pub complete : (input : List ℕ) (b : DepthBundle)
+      → Runs RecheckDepth r input
+      → length input ≤ most_of_bundle
+      → IsDepthText input b
+      → OutputHeld r
+      → Replies depth_task r input
+  -- which is the line of its verdict, and the status is 0.
   pub accepted : (input : List ℕ) (b : DepthBundle)
       → Runs RecheckDepth r input
       → length input ≤ most_of_bundle

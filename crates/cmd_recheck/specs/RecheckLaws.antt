@@ -26,6 +26,7 @@ use Rattle.frame_core.specs.KeepingLaws.{of_input}
 use Rattle.frame_core.specs.ReadOffLaws.{gets}
 
 -- ---- `recheck` is a command
+
 IsStatus : BundleError → Type 0
 IsStatus e = IsRefusalStatus (bundle_status e) ⊎ (recheck_refusal e ≡ memory_refusal)
 
@@ -63,9 +64,14 @@ recheck_is_task =
     (λ bytes error fault. fault.within)
 
 -- ---- what it promises besides
+
+complete : (r : Run) (input : List ℕ) (b : Bundle) → CommandPromise recheck_task r → r.source.bytes ≡ Some input → length input ≤ most_of_bundle → IsBundle input b → OutputHeld r → Replies recheck_task r input
+complete r input b promise told within is held =
+    gets recheck_task r input (λ verdict. refl) promise told (record { within = λ long. omega arith; sound = λ error fault. fault.none b is }) held
+
 accepted : (r : Run) (input : List ℕ) (b : Bundle) → CommandPromise recheck_task r → r.source.bytes ≡ Some input → length input ≤ most_of_bundle → IsBundle input b → OutputHeld r → Stands r (recheck_reply b.verdict)
 accepted r input b promise told within is held =
-    let got : Replies recheck_task r input = gets recheck_task r input (λ verdict. refl) promise told (record { within = λ long. omega arith; sound = λ error fault. fault.none b is }) held in
+    let got : Replies recheck_task r input = complete r input b promise told within is held in
     let gives : GivesVerdict input got.answer = got.has in
     subst (λ (v : Verdict). Stands r (recheck_reply v)) (sym (gives.is_verdict.only b is)) got.stands
 
@@ -128,6 +134,7 @@ decided r promise is =
 -- All that `recheck` promises besides.
 pub recheck_promised : (r : Run) → (AsksFor r.words Recheck → CommandPromise recheck_task r) → RecheckPromise r
 recheck_promised r keeps = record {
+  complete = λ input b run within is held. complete r input b (keeps run.asks) run.told within is held;
   accepted = λ input b run within is held. accepted r input b (keeps run.asks) run.told within is held;
   accepted_only = λ input run is. accepted_only r input (keeps run.asks) run.told is;
   answers = λ input run is. answers r input (keeps run.asks) run.told is;

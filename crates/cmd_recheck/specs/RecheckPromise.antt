@@ -29,7 +29,14 @@ pub record TellsVerdict (r : Run) (input : List ℕ) : Type 0 where
       → Means (specification tables) (members basis) verdict
 
 pub record RecheckPromise (r : Run) : Type 0 where
-  -- A valid bundle gets its verdict line, and the status is 0.
+  -- A valid bundle gets an answer,
+  pub complete : (input : List ℕ) (b : Bundle)
+      → Runs Recheck r input
+      → length input ≤ most_of_bundle
+      → IsBundle input b
+      → OutputHeld r
+      → Replies recheck_task r input
+  -- which is its verdict line, and the status is 0.
   pub accepted : (input : List ℕ) (b : Bundle)
       → Runs Recheck r input
       → length input ≤ most_of_bundle

@@ -63,6 +63,7 @@ found_accepted asked bytes text (Least v) c within = levels_given asked bytes te
 found_accepted asked bytes text (Other v) c within = its_recheck asked bytes text v c.certificate within
 
 -- ---- what the search answers
+
 pub tells : (asked : SynthSettings) (bytes text : List ℕ) (found : Found) (reply : Reply) → length bytes ≤ most_of_tables → IsCertificate bytes asked text found → reply ≡ least_depth_reply (record { text = text; found = found }) → Tells (least_depth_task asked) bytes reply
 tells asked bytes text found reply within certificate is = record {
   answer = record { text = text; found = found };

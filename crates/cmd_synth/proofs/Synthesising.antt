@@ -15,6 +15,7 @@ use Rattle.frame_core.specs.Told.{Refusal}
 use Rattle.frame_core.specs.Task.{Refuses}
 
 -- ---- what the search answers
+
 pub told_fault : (e : SpecError) (read : Result Words SpecError) → Fails e read → (e ≡ tables.Memory → ⊥) → read ≡ Err e
 told_fault (tables.BadHeader line) read fails other = fails
 told_fault (tables.BadRow line) read fails other = fails

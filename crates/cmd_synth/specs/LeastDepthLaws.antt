@@ -36,6 +36,7 @@ use Rattle.cmd_synth.specs.CertifiedLaws.{tables_are}
 use Rattle.cmd_synth.specs.SynthLaws.{answer_statuses, statuses_of, no_fault, one_error, not_refused, not_refused_by}
 
 -- ---- what a certificate comes to
+
 means_as : (w x : Words) (a b steps : ℕ) (u v : DepthVerdict) → w ≡ x → a ≡ b → u ≡ v → depths.Means (specification w) (members a) steps u → depths.Means (specification x) (members b) steps v
 means_as w x a b steps u v same_words same_basis same_verdict means =
     subst (λ (y : DepthVerdict). depths.Means (specification x) (members b) steps y) same_verdict
@@ -63,6 +64,7 @@ left_open asked bytes text low d c w are =
     (log_is_spent text c.bundle low d c.is_text c.verdict_is)
 
 -- ---- `synth --least-depth yes` is a command
+
 found_statuses : (f : Found) → IsAnswerStatus (found_status f)
 found_statuses (Least (Levels d)) = inl refl
 found_statuses (Least (Bounded low d)) = inr (inl refl)
@@ -84,6 +86,7 @@ least_depth_is_task asked =
     (λ bytes error fault. fault.within)
 
 -- ---- what it promises besides
+
 complete : (r : Run) (asked : SynthSettings) (input : List ℕ) (w : Words) → CommandPromise (least_depth_task asked) r → r.source.bytes ≡ Some input → AreTables input w → OutputHeld r → Replies (least_depth_task asked) r input
 complete r asked input w promise told are held =
     let within = are.within in

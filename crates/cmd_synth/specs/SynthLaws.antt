@@ -30,6 +30,7 @@ use Rattle.frame_core.specs.ReadOffLaws.{gets, no_report}
 use Rattle.cmd_lines.specs.TableLineLaws.{not_refused}
 
 -- ---- `synth` is a command
+
 pub answer_statuses : (v : Verdict) → IsAnswerStatus (verdict_status v)
 answer_statuses (verdicts.Minimum r) = inl refl
 answer_statuses (verdicts.NoChain x) = inl refl
@@ -83,6 +84,7 @@ synth_is_task asked =
     (λ bytes text begins long. not_beyond bytes begins.are.within long)
 
 -- ---- what it promises besides
+
 complete : (r : Run) (asked : SynthSettings) (input : List ℕ) (w : Words) → CommandPromise (synth_task asked) r → r.source.bytes ≡ Some input → AreTables input w → OutputHeld r → Replies (synth_task asked) r input
 complete r asked input w promise told tables held =
     let within = tables.within in

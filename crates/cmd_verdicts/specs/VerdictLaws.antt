@@ -15,7 +15,6 @@ use Rattle.cert_laws.specs.BundlesAgain.{text_again}
 use Rattle.cert_laws.specs.Meanings.{verdict_true}
 use Rattle.cmd_verdicts.specs.Verdicts.{IsVerdict}
 
--- ---- what the judge of bundles answers
 same_verdict : (read : Result Verdict BundleError) (v w : Verdict) → read ≡ Ok v → read ≡ Ok w → w ≡ v
 same_verdict read v w is other = cc
 
