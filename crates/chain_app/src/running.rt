@@ -5,6 +5,7 @@ ghost use Rattle.frame_core.specs.Run.{Outcome, IsRun, run_of, before_after};
 ghost use Rattle.chain_app.specs.Tasks.{task_of};
 ghost use Rattle.chain_app.specs.KeepsPromises.{KeepsPromises};
 
+use cdcl_core::Cdcl;
 use cmd_agree::Agree;
 use cmd_equiv::Equiv;
 use cmd_gen::Gen;
@@ -15,6 +16,7 @@ use command_line::{Command, read_words};
 use frame_core::{AtOnce, ErrorLine, Status, perform, perform_stream, tell_error};
 use port_io::{Sink, Source};
 use std::alloc::Global;
+use std::marker::PhantomData;
 
 /// Performs a command.
 fn obey<S: Source, O: Sink, N: Sink>(
@@ -32,20 +34,35 @@ fn obey<S: Source, O: Sink, N: Sink>(
         (before_after N.written N.faults note.old note.new)
         result) outcome }
 {
+    let solver = PhantomData::<Cdcl>;
     match command {
         Command::Agree => perform(alloc, &AtOnce(Agree), source, out, note),
         Command::Recheck => perform_stream(alloc, &Recheck, source, out, note),
         Command::RecheckDepth => perform_stream(alloc, &RecheckDepth, source, out, note),
-        Command::Synth(settings) => perform(alloc, &Synth(settings), source, out, note),
+        Command::Synth(settings) => perform(alloc, &Synth { settings, solver }, source, out, note),
         Command::LeastDepth(settings) => {
-            perform(alloc, &AtOnce(LeastDepth(settings)), source, out, note)
+            let job = AtOnce(LeastDepth { settings, solver });
+            perform(alloc, &job, source, out, note)
         }
         Command::Improve { format, settings } => {
-            perform(alloc, &AtOnce(Improve { format, settings }), source, out, note)
+            let job = AtOnce(Improve {
+                format,
+                settings,
+                solver,
+            });
+            perform(alloc, &job, source, out, note)
         }
-        Command::Equiv(budget) => perform(alloc, &AtOnce(Equiv { budget }), source, out, note),
+        Command::Equiv(budget) => {
+            let job = AtOnce(Equiv { budget, solver });
+            perform(alloc, &job, source, out, note)
+        }
         Command::Gen { blocks, deed } => {
-            perform(alloc, &AtOnce(Gen { blocks, deed }), source, out, note)
+            let job = AtOnce(Gen {
+                blocks,
+                deed,
+                solver,
+            });
+            perform(alloc, &job, source, out, note)
         }
     }
 }

@@ -11,7 +11,9 @@ use cmd_lines::{name_net, net_status};
 use equiv_run::{CompareError, Compared, Standing, compare_texts};
 use frame_core::{ErrorLine, Field, Refusal, Replier, Reply, Status, Stop};
 use net_core::NetError;
+use sat_solve::Solver;
 use std::alloc::Global;
+use std::marker::PhantomData;
 
 /// The most bytes that `equiv` reads.
 const MOST_BYTES: usize = 33_554_432;
@@ -74,14 +76,16 @@ fn refusal_of(error: CompareError) -> Refusal
     }
 }
 
-/// Whether two netlists have the same outputs and next states, decided within `budget` conflicts.
+/// Whether two netlists have the same outputs and next states, decided with the solver `S`.
 #[derive(Drop)]
-pub struct Equiv {
-    /// The most conflicts.
+pub struct Equiv<S> {
+    /// The most learnt clauses.
     pub budget: u32,
+    /// The solver.
+    pub solver: PhantomData<S>,
 }
 
-impl Replier for Equiv {
+impl<S: Solver> Replier for Equiv<S> {
     ghost task = { λ job. equiv_task job.budget };
 
     ghost ready = { λ job. IsBudget job.budget };

@@ -14,7 +14,9 @@ use gen_laws::{generated_netlists_are_netlists, generated_netlists_are_small};
 use improve_settings::ImproveSettings;
 use improve_windows::improve_blif;
 use net_core::NetError;
+use sat_solve::Solver;
 use std::alloc::{AllocError, Global};
+use std::marker::PhantomData;
 
 /// The netlist of `blocks` blocks.
 fn text_of(alloc: Global, blocks: u32) -> Result<Vec<u8>, AllocError>
@@ -49,7 +51,7 @@ fn written(alloc: Global, blocks: u32) -> Result<Reply, Stop>
 
 /// The reply of `gen` where the netlist is improved.
 #[tactic(auto, using(crate::proofs::Generating::telling))]
-fn improved(alloc: Global, blocks: u32) -> Result<Reply, Stop>
+fn improved<S: Solver>(alloc: Global, blocks: u32) -> Result<Reply, Stop>
     requires { blocks ≤ most_blocks }
     ensures { (bytes : List ℕ) → Judges (gen_task blocks Improve) bytes result }
 {
@@ -65,16 +67,18 @@ fn improved(alloc: Global, blocks: u32) -> Result<Reply, Stop>
     }
 }
 
-/// A generated netlist of `blocks` blocks, written or improved.
+/// A generated netlist of `blocks` blocks, written or improved with the solver `S`.
 #[derive(Drop)]
-pub struct Gen {
+pub struct Gen<S> {
     /// The number of blocks.
     pub blocks: u32,
     /// Whether the netlist is written as it stands or improved.
     pub deed: Deed,
+    /// The solver.
+    pub solver: PhantomData<S>,
 }
 
-impl Replier for Gen {
+impl<S: Solver> Replier for Gen<S> {
     ghost task = { λ job. gen_task job.blocks job.deed };
 
     ghost ready = { λ job. (1 ≤ job.blocks) × (job.blocks ≤ most_blocks) };
@@ -86,7 +90,7 @@ impl Replier for Gen {
     fn reply(&self, alloc: Global, _bytes: &[u8]) -> Result<Reply, Stop> {
         match self.deed {
             Deed::Write => written(alloc, self.blocks),
-            Deed::Improve => improved(alloc, self.blocks),
+            Deed::Improve => improved::<S>(alloc, self.blocks),
         }
     }
 }

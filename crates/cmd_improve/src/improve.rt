@@ -12,7 +12,9 @@ use frame_core::{Field, Refusal, Replier, Reply, Report, Status, Stop};
 use improve_settings::ImproveSettings;
 use improve_windows::{ImprovedText, improve_bench, improve_blif};
 use net_core::NetError;
+use sat_solve::Solver;
 use std::alloc::Global;
+use std::marker::PhantomData;
 
 /// The most bytes that `improve` reads.
 const MOST_BYTES: usize = 16_777_216;
@@ -42,7 +44,7 @@ pub fn reply_of(improved: ImprovedText) -> Reply
 
 /// A netlist of a format improved.
 #[tactic(auto, using(crate::proofs::Improving::telling))]
-fn improve_text(
+fn improve_text<S: Solver>(
     alloc: Global,
     format: Format,
     bytes: &[u8],
@@ -59,16 +61,18 @@ fn improve_text(
     }
 }
 
-/// A netlist with no more gates, and a report.
+/// A netlist with no more gates, and a report; windows are searched with the solver `S`.
 #[derive(Drop)]
-pub struct Improve {
+pub struct Improve<S> {
     /// The format of the netlist.
     pub format: Format,
     /// What the windows are tried with.
     pub settings: ImproveSettings,
+    /// The solver.
+    pub solver: PhantomData<S>,
 }
 
-impl Replier for Improve {
+impl<S: Solver> Replier for Improve<S> {
     ghost task = { λ job. improve_task job.format job.settings };
 
     ghost ready = { λ job. IsAsked job.format job.settings };
@@ -79,7 +83,7 @@ impl Replier for Improve {
 
     #[tactic(auto, using(crate::proofs::Improving::telling))]
     fn reply(&self, alloc: Global, bytes: &[u8]) -> Result<Reply, Stop> {
-        match improve_text(alloc, self.format, bytes, &self.settings) {
+        match improve_text::<S>(alloc, self.format, bytes, &self.settings) {
             Ok(improved) => Ok(reply_of(improved)),
             Err(NetError::Memory) => Err(Stop::NoMemory),
             Err(error) => Err(Stop::NoAnswer(refusal_of(error))),

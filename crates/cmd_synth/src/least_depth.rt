@@ -10,8 +10,10 @@ use crate::synth::{refusal_of, verdict_status};
 use cmd_lines::MOST_BYTES_OF_TABLES;
 use depth_run::{DepthCertificate, DepthVerdict, Found, certify_depth};
 use frame_core::{Replier, Reply, Status, Stop};
+use sat_solve::Solver;
 use settings::SynthSettings;
 use std::alloc::Global;
+use std::marker::PhantomData;
 use tt_core::SpecError;
 
 /// The status of what was found.
@@ -36,14 +38,19 @@ fn reply_of(certificate: DepthCertificate) -> Reply
     }
 }
 
-/// A certificate of the fewest steps and levels for tables.
+/// A certificate of the fewest steps and levels for tables, searched with the solver `S`.
 #[derive(Drop)]
-pub struct LeastDepth(pub SynthSettings);
+pub struct LeastDepth<S> {
+    /// What the search is asked with.
+    pub settings: SynthSettings,
+    /// The solver.
+    pub solver: PhantomData<S>,
+}
 
-impl Replier for LeastDepth {
-    ghost task = { λ job. least_depth_task job.0 };
+impl<S: Solver> Replier for LeastDepth<S> {
+    ghost task = { λ job. least_depth_task job.settings };
 
-    ghost ready = { λ job. IsInRange job.0 × (job.0.method ≡ Fence) };
+    ghost ready = { λ job. IsInRange job.settings × (job.settings.method ≡ Fence) };
 
     fn reads(&self) -> Option<usize> {
         Some(MOST_BYTES_OF_TABLES)
@@ -51,7 +58,7 @@ impl Replier for LeastDepth {
 
     #[tactic(auto, using(crate::proofs::LeastDepths::telling))]
     fn reply(&self, alloc: Global, bytes: &[u8]) -> Result<Reply, Stop> {
-        match certify_depth(alloc, bytes, &self.0) {
+        match certify_depth(alloc, bytes, &self.settings) {
             Ok(certificate) => Ok(reply_of(certificate)),
             Err(SpecError::Memory) => Err(Stop::NoMemory),
             Err(error) => Err(Stop::NoAnswer(refusal_of(error))),

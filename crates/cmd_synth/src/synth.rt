@@ -15,8 +15,10 @@ ghost use Rattle.frame_core.specs.Views.{refusal_value, Judges};
 use cmd_lines::{MOST_BYTES_OF_TABLES, name_spec, spec_status};
 use frame_core::{Ended, Job, Refusal, Status, Stop, finish};
 use port_io::{Sink, WriteFault, write_all};
+use sat_solve::Solver;
 use size_loop::Search;
 use std::alloc::Global;
+use std::marker::PhantomData;
 use synth_core::{Begun, Piece, SynthSettings, Verdict, begin, go_on};
 use tt_core::SpecError;
 
@@ -51,7 +53,7 @@ pub(crate) enum Next {
 
 /// Searches the next size, and writes what it adds to the certificate.
 #[tactic(auto, using(crate::proofs::Writing::writing))]
-fn write_next<O: Sink>(alloc: Global, search: Search, out: &mut O) -> Next
+fn write_next<S: Solver, O: Sink>(alloc: Global, search: Search, out: &mut O) -> Next
     ensures comes { (asked : SynthSettings) (bytes : List ℕ) (first : Side) → length bytes ≤ most_of_tables →
         IsOut asked bytes first (side O.written O.faults out.old) search →
         Comes asked bytes first (side O.written O.faults out.new) result }
@@ -74,14 +76,14 @@ fn write_next<O: Sink>(alloc: Global, search: Search, out: &mut O) -> Next
 
 /// Writes the sections of a search and the ending, each as soon as it stands.
 #[tactic(auto, using(crate::proofs::Writing::writing))]
-fn write_sections<O: Sink>(alloc: Global, search: Search, out: &mut O) -> Ended
+fn write_sections<S: Solver, O: Sink>(alloc: Global, search: Search, out: &mut O) -> Ended
     ensures { (asked : SynthSettings) (bytes : List ℕ) (first : Side) → length bytes ≤ most_of_tables →
         IsOut asked bytes first (side O.written O.faults out.old) search →
         GoesOut asked bytes result first (side O.written O.faults out.new) }
 {
     let mut search = search;
     loop {
-        match write_next(alloc, search, out) {
+        match write_next::<S, O>(alloc, search, out) {
             Next::On(next) => search = next,
             Next::End(ended) => return ended,
         }
@@ -90,7 +92,11 @@ fn write_sections<O: Sink>(alloc: Global, search: Search, out: &mut O) -> Ended
 
 /// Writes a certificate from its heading on.
 #[tactic(auto, using(crate::proofs::Writing::writing))]
-fn write_certificate<O: Sink>(alloc: Global, begun: Begun, out: &mut O) -> Ended
+fn write_certificate<S: Solver, O: Sink>(
+    alloc: Global,
+    begun: Begun,
+    out: &mut O,
+) -> Ended
     ensures { (asked : SynthSettings) (bytes : List ℕ) → length bytes ≤ most_of_tables →
         IsUnderWay bytes asked begun.search begun.text.items →
         GoesOut asked bytes result (side O.written O.faults out.old) (side O.written O.faults out.new) }
@@ -98,7 +104,7 @@ fn write_certificate<O: Sink>(alloc: Global, begun: Begun, out: &mut O) -> Ended
     if let Err(WriteFault::WriteFault) = write_all(out, &begun.text) {
         return Ended::CutShort;
     }
-    write_sections(alloc, begun.search, out)
+    write_sections::<S, O>(alloc, begun.search, out)
 }
 
 /// Why there is no certificate.
@@ -113,14 +119,19 @@ fn stop_of(error: SpecError) -> Stop
     }
 }
 
-/// A certificate of the fewest steps for tables.
+/// A certificate of the fewest steps for tables, searched with the solver `S`.
 #[derive(Drop)]
-pub struct Synth(pub SynthSettings);
+pub struct Synth<S> {
+    /// What the search is asked with.
+    pub settings: SynthSettings,
+    /// The solver.
+    pub solver: PhantomData<S>,
+}
 
-impl Job for Synth {
-    ghost task = { λ job. synth_task job.0 };
+impl<S: Solver> Job for Synth<S> {
+    ghost task = { λ job. synth_task job.settings };
 
-    ghost ready = { λ job. IsInRange job.0 };
+    ghost ready = { λ job. IsInRange job.settings };
 
     fn reads(&self) -> Option<usize> {
         Some(MOST_BYTES_OF_TABLES)
@@ -134,8 +145,8 @@ impl Job for Synth {
         out: &mut O,
         note: &mut N,
     ) -> Ended {
-        match begin(alloc, bytes, &self.0) {
-            Ok(begun) => write_certificate(alloc, begun, out),
+        match begin(alloc, bytes, &self.settings) {
+            Ok(begun) => write_certificate::<S, O>(alloc, begun, out),
             Err(error) => finish(Err(stop_of(error)), out, note),
         }
     }

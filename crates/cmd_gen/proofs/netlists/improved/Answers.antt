@@ -9,7 +9,7 @@ use Rattle.cmd_gen.proofs.Generating.{tells_improved}
 use Rattle.cmd_gen.proofs.netlists.improved.Goals as goal
 
 pub returns-in-Ok-improve_blif : goal.returns-in-Ok-improve_blif
-returns-in-Ok-improve_blif c bytes =
+returns-in-Ok-improve_blif g c bytes =
     let text = c.in-Ok-improve_blif.improved.text.items in
     let report = c.in-Ok-improve_blif.improved.report.items in
     let netlist = c.deref.result.now in

@@ -1,7 +1,7 @@
 use Rattle.cmd_gen.proofs.netlists.GenReplier.reply.Goals as goal
 
 pub returns-in-Write : goal.returns-in-Write
-returns-in-Write c = rw c.in-Write.is (c.written.ensures c.args.bytes.now)
+returns-in-Write g c = rw c.in-Write.is (c.written.ensures c.args.bytes.now)
 
 pub returns-in-Improve : goal.returns-in-Improve
-returns-in-Improve c = rw c.in-Improve.is (c.improved.ensures c.args.bytes.now)
+returns-in-Improve g c = rw c.in-Improve.is (c.improved.ensures c.args.bytes.now)
