@@ -18,7 +18,7 @@ use port_io::{Sink, Source};
 use std::alloc::Global;
 use std::marker::PhantomData;
 
-/// Performs a command.
+/// Dispatches a command to its crate.
 fn obey<S: Source, O: Sink, N: Sink>(
     alloc: Global,
     command: Command,

@@ -80,9 +80,9 @@ end_back : (number : ℕ) → end_in number (end_line ∷ []) ≡ Ok tt
 unfolding end_in
 end_back number = refl
 
--- ---- the chain and the end behind it
+-- ---- the chain and the end after it
 
--- a chain, spelled by lines with the end behind it
+-- a chain, spelled by lines with the end after it
 record SpellsChain (n m : ℕ) (ls : List Line) (c : Chain) : Type 0 where
   chain : IsChain c
   inputs : c.n ≡ n
@@ -107,7 +107,7 @@ chain_spells read c e =
     } in
     subst (λ (x : Chain). SpellsChain read.words.n (length read.words.on) read.rest x) same here
 
--- a chain that is spelled so is read, and the end behind it
+-- a chain that is spelled so is read, and the end after it
 chain_back : (w : Words) (c : Chain) (ls : List Line) → IsSpec w → SpellsChain w.n (length w.on) ls c → chain_behind (record { words = w; rest = ls }) ≡ Ok c
 unfolding chain_behind
 chain_back w c ls spec spells =

@@ -40,12 +40,12 @@ abbrev pub nothing_in : ℕ → List Line → Result Unit AgreeError
 nothing_in number [] = Ok tt
 nothing_in number (l ∷ ls) = Err (BadEnd number)
 
--- the line `end`, with nothing behind it
+-- the line `end`, with nothing after it
 unfoldable pub end_in : ℕ → List Line → Result Unit AgreeError
 end_in number [] = Err (BadEnd number)
 end_in number (l ∷ ls) = if l.ended && bytes_eq l.text (codes "end") then nothing_in (number + 1) ls else Err (BadEnd number)
 
--- the chain block behind the tables, and the end behind it
+-- the chain block after the tables, and the end after it
 unfoldable pub chain_behind : tables.Read → Result Chain AgreeError
 chain_behind read = do
   found ← chain_in (block.chain_of (2 + length read.words.on) read.words.n (length read.words.on) read.rest)

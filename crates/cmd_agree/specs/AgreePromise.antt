@@ -44,7 +44,7 @@ pub record AgreePromise (r : Run) : Type 0 where
       → r.status ≡ Refused
       → TellsDifference r input
   pub decided : AsksFor r.words Agree → r.status ≡ Undecided → ⊥
-  -- Bytes that ask nothing are told their first fault.
+  -- For bytes that ask nothing their first fault is reported.
   pub refused : (input : List ℕ) (error : AgreeError)
       → Runs Agree r input
       → HasFault input error

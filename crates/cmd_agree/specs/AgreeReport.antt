@@ -1,4 +1,4 @@
--- What `agree` tells.
+-- What `agree` reports: its reply to an answer, its refusal of an error, and its task.
 use Rattle.std.specs.Prelude.{ℕ, List, ◌++◌, None, codes, decimal}
 use Rattle.chain_core.specs.declared.error.ChainError.{ChainError}
 use Rattle.chain_core.specs.declared.error.ChainError.TheVariants as chains

@@ -12,7 +12,7 @@ abbrev pub end_line : Line
 end_line = record { text = codes "end"; ended = true }
 
 -- The lines of the bytes are the tables, then the chain's block and the line `end`, with nothing
--- behind it. The tables are a specification in words; the chain has their inputs and outputs, and at most 16
+-- after it. The tables are a specification in words; the chain has their inputs and outputs, and at most 16
 -- steps. Example:
 --
 --     inputs 2

@@ -36,7 +36,7 @@ pub(crate) enum AgreeError {
 }
 
 impl Answer {
-    /// The status that tells of the answer.
+    /// The status of the answer.
     pub(crate) fn status(self) -> Status
         ensures { result ≡ answer_status self }
     {
@@ -48,7 +48,7 @@ impl Answer {
 }
 
 impl AgreeError {
-    /// The status that tells of the error.
+    /// The status of the error.
     pub(crate) fn status(self) -> Status
         ensures { result ≡ error_status self }
     {

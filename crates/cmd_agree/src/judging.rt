@@ -13,7 +13,7 @@ use std::alloc::Global;
 use text_core::next_line;
 use tt_core::{Spec, SpecError, Tables, read_tables};
 
-/// The tables at the front.
+/// The tables with which `bytes` begin.
 fn tables_at(alloc: Global, bytes: &[u8]) -> Result<Tables, AgreeError>
     requires { length bytes.now < 2 ^ 31 }
     ensures exact { Gives (λ x. record { words = x.spec; rest = lines_of (drop x.used bytes.now) }) result (tables_in (tables_of (lines_of bytes.now))) }
@@ -27,7 +27,7 @@ fn tables_at(alloc: Global, bytes: &[u8]) -> Result<Tables, AgreeError>
     }
 }
 
-/// The line `end`, which is the line of this number, and nothing behind it.
+/// The line `end`, of the number `line`, and nothing after it.
 #[tactic(auto, unfolding(crate::specs::Agree::end_in))]
 fn end_at(bytes: &[u8], line: u32) -> Result<(), AgreeError>
     requires { line < 2 ^ 31 }
@@ -45,7 +45,7 @@ fn end_at(bytes: &[u8], line: u32) -> Result<(), AgreeError>
     }
 }
 
-/// The chain block at the front.
+/// The chain block with which `bytes` begin.
 fn chain_at(
     alloc: Global,
     bytes: &[u8],
@@ -69,7 +69,7 @@ fn chain_at(
     }
 }
 
-/// The chain block for a specification, and the end behind it.
+/// The chain block for `spec`, and the end after it.
 #[tactic(auto, unfolding(crate::specs::Agree::chain_behind))]
 fn chain_after(alloc: Global, spec: &Spec, bytes: &[u8]) -> Result<Chain, AgreeError>
     requires length { length bytes.now < 2 ^ 31 }

@@ -101,7 +101,7 @@ complete : (budget : ℕ) (r : Run) (input : List ℕ) → CommandPromise (equiv
 complete budget r input promise told within are held =
     gets (equiv_task budget) r input (λ answer. refl) promise told (answerable budget input within are) held
 
--- a reply of this status tells this standing
+-- a reply of the status of `standing` reports `standing`
 stood : (budget : ℕ) (r : Run) (input : List ℕ) (standing : Standing) (got : Replies (equiv_task budget) r input) → got.answer.standing ≡ standing → TellsStanding budget standing r input
 stood budget r input standing got is = subst (λ (s : Standing). TellsStanding budget s r input) is (record {
   text = got.answer.text;

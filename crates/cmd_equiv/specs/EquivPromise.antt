@@ -20,13 +20,13 @@ pub record AreComparable (bytes : List ℕ) : Type 0 where
   pub two : AreTwo bytes first second
   pub interface : ShareInterface first second
 
--- A text stands on the output which tells that they compare so, and shows it.
+-- A text stands on the output which reports `standing`, and proves it.
 pub record TellsStanding (budget : ℕ) (standing : Standing) (r : Run) (input : List ℕ) : Type 0 where
   pub text : List ℕ
   pub told : IsAnswer budget input text standing
   pub stands : Stands r (equiv_reply (record { text = text; standing = standing }))
 
--- The netlists have different interfaces, which is told.
+-- The netlists have different interfaces, which is reported.
 pub record TellsInterface (r : Run) (input : List ℕ) : Type 0 where
   pub other : HasOtherInterface input
   pub told : TellsError r (equiv_refusal DifferentInterface)
@@ -49,12 +49,12 @@ pub record EquivPromise (r : Run) : Type 0 where
       → Runs (Equiv budget) r input
       → r.status ≡ Undecided
       → TellsStanding budget standings.Undecided r input
-  -- and 8 where they differ as is told, or have different interfaces.
+  -- and 8 where they differ as is reported, or have different interfaces.
   pub differ_only : (budget : ℕ) (input : List ℕ)
       → Runs (Equiv budget) r input
       → r.status ≡ Refused
       → TellsStanding budget standings.Differ r input ⊎ TellsInterface r input
-  -- Bytes that can't be compared are told their first fault.
+  -- For bytes that can't be compared their first fault is reported.
   pub refused : (budget : ℕ) (input : List ℕ) (error : CompareError)
       → Runs (Equiv budget) r input
       → HasComparedFault input error

@@ -1,4 +1,4 @@
--- What `equiv` tells.
+-- What `equiv` reports: its reply to a comparison, its refusal of a fault, and its task.
 use Rattle.std.specs.Prelude.{ℕ, ◌≤◌, List, ◌∷◌, length, None, codes}
 use Rattle.equiv_run.specs.declared.answer.Standing.{Standing}
 use Rattle.equiv_run.specs.declared.answer.Standing.TheVariants as standings
@@ -45,7 +45,7 @@ equiv_reply c = record { text = c.text; report = None; status = standing_status 
 abbrev pub equiv_refusal : CompareError → Refusal
 equiv_refusal error = record { status = pair_status error; named = named_pair error }
 
--- The bytes are two netlists of one interface, and the text tells and shows how they compare.
+-- The bytes are two netlists of one interface, and the text reports and proves how they compare.
 pub record IsComparison (budget : ℕ) (bytes : List ℕ) (c : Comparison) : Type 0 where
   pub within : length bytes ≤ most_of_two
   pub answer : IsAnswer budget bytes c.text c.standing

@@ -17,7 +17,7 @@ pub record ImprovesNetlist (blocks : ℕ) (r : Run) : Type 0 where
   pub stands : Stands r (improve_reply improvement)
 
 pub record GenPromise (r : Run) : Type 0 where
-  -- The netlist of so many blocks stands on the output,
+  -- The netlist of `blocks` blocks stands on the output,
   pub complete : (blocks : ℕ)
       → AsksFor r.words (Gen blocks Write)
       → OutputHeld r

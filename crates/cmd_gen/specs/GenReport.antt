@@ -1,4 +1,4 @@
--- What `gen` tells.
+-- What `gen` reports: its replies, and its task.
 use Rattle.std.specs.Prelude.{ℕ, None}
 use Rattle.gen_core.specs.Generated.{generated_text}
 use Rattle.improve_settings.specs.Improve.{usual}
@@ -10,7 +10,7 @@ use Rattle.frame_core.specs.Told.{Reply}
 use Rattle.frame_core.specs.Task.{Task, from_nothing}
 use Rattle.cmd_improve.specs.ImproveReport.{Improvement, improve_reply, IsImprovement}
 
--- the netlist of so many blocks
+-- the netlist of `blocks` blocks
 abbrev pub gen_reply : ℕ → Reply
 gen_reply blocks = record { text = generated_text blocks; report = None; status = Done }
 

@@ -34,7 +34,7 @@ pub record ImprovePromise (r : Run) : Type 0 where
       → Replies (improve_task format asked) r input
   pub decided : (format : FormatAsked) (asked : ImproveSettings) → AsksFor r.words (Improve format asked) → r.status ≡ Undecided → ⊥
   pub never_refused : (format : FormatAsked) (asked : ImproveSettings) → AsksFor r.words (Improve format asked) → r.status ≡ Refused → ⊥
-  -- Other bytes are told their first fault.
+  -- For other bytes their first fault is reported.
   pub refused : (format : FormatAsked) (asked : ImproveSettings) (input : List ℕ) (error : NetError)
       → Runs (Improve format asked) r input
       → HasNetlistFault format input error

@@ -1,4 +1,4 @@
--- What `improve` tells.
+-- What `improve` reports: its reply, its refusal of a fault, and its task.
 use Rattle.std.specs.Prelude.{ℕ, ◌≤◌, List, length, Some}
 use Rattle.net_core.specs.declared.error.NetError.{NetError}
 use Rattle.net_document.specs.Format.{Format, HasNetFault}

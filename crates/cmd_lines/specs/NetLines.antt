@@ -1,4 +1,4 @@
--- How faults of netlists are told.
+-- How faults of netlists are reported.
 use Rattle.std.specs.Prelude.{ℕ, List, [], ◌∷◌, codes}
 use Rattle.net_core.specs.declared.error.NetError.{NetError}
 use Rattle.net_core.specs.declared.error.NetError.TheVariants as nets
@@ -6,7 +6,7 @@ use Rattle.frame_core.specs.declared.status.Status.{Status}
 use Rattle.frame_core.specs.declared.status.Status.TheVariants.{Malformed, Limit, Memory}
 use Rattle.frame_core.specs.Told.{Field, Word, Number, at, memory}
 
--- Faults of form are malformed, and what is beyond a limit is told as that.
+-- Faults of form are malformed, and what is beyond a limit has the status `Limit`.
 abbrev pub net_status : NetError → Status
 net_status (nets.Syntax line) = Malformed
 net_status (nets.NotSupported line name) = Malformed

@@ -4,7 +4,7 @@ use Rattle.command_line.specs.declared.command.Command.{Command}
 use Rattle.command_line.specs.CommandLine.{AsksFor}
 use Rattle.frame_core.specs.Run.{Run}
 
--- The words asked for this command, and the source told these bytes.
+-- The words of `r` asked for `command`, and its source held `input`.
 pub record Runs (command : Command) (r : Run) (input : List ℕ) : Type 0 where
   pub asks : AsksFor r.words command
   pub told : r.source.bytes ≡ Some input

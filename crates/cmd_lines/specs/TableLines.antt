@@ -1,4 +1,4 @@
--- How faults of tables are told, and how many bytes of tables are read.
+-- How faults of tables are reported, and how many bytes of tables are read.
 use Rattle.std.specs.Prelude.{ℕ, List, codes}
 use Rattle.tt_core.specs.declared.error.SpecError.{SpecError}
 use Rattle.tt_core.specs.declared.error.SpecError.TheVariants as tables
@@ -10,7 +10,7 @@ use Rattle.frame_core.specs.Told.{Field, plain, at, memory}
 abbrev pub most_of_tables : ℕ
 most_of_tables = 65536
 
--- Faults of form are malformed, and what is beyond a limit is told as that.
+-- Faults of form are malformed, and what is beyond a limit has the status `Limit`.
 abbrev pub spec_status : SpecError → Status
 spec_status (tables.BadHeader line) = Malformed
 spec_status (tables.BadRow line) = Malformed

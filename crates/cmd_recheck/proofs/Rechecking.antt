@@ -69,7 +69,7 @@ refused_still kept e bytes same keeps = subst (λ (k : Reading). Keeps k bytes) 
 pub fault_stands : (kept : Reading) (e : BundleError) (bytes : List ℕ) → kept ≡ Refused e → Keeps kept bytes → Fails e (bundle_of (lines_of bytes))
 fault_stands kept e bytes same keeps = subst (λ (text : List ℕ). Fails e (bundle_of (lines_of text))) (append-nil bytes) (refused_still kept e bytes same keeps [])
 
--- and of what goes on behind them
+-- and of what goes on after them
 pub drops : (kept : Reading) (e : BundleError) (bytes piece : List ℕ) → kept ≡ Refused e → Keeps kept bytes → Keeps (Refused e) (bytes ++ piece)
 drops kept e bytes piece same keeps = λ rest. subst (λ (text : List ℕ). Fails e (bundle_of (lines_of text))) (sym (append_assoc bytes piece rest)) (refused_still kept e bytes same keeps (piece ++ rest))
 

@@ -107,7 +107,7 @@ pub fault_stands : (kept : DepthReading) (e : DepthError) (bytes : List ℕ) →
 fault_stands kept e bytes same keeps =
     subst (λ (text : List ℕ). Judged (Gives (λ (v : DepthVerdict). v) (Err e)) (lines_of text)) (append-nil bytes) (refused_still kept e bytes same keeps [])
 
--- and of what goes on behind them
+-- and of what goes on after them
 pub drops : (kept : DepthReading) (e : DepthError) (bytes piece : List ℕ) → kept ≡ RefusedAt e → Keeps kept bytes → Keeps (RefusedAt e) (bytes ++ piece)
 drops kept e bytes piece same keeps = λ rest.
     subst (λ (text : List ℕ). Judged (Gives (λ (v : DepthVerdict). v) (Err e)) (lines_of text)) (sym (append_assoc bytes piece rest)) (refused_still kept e bytes same keeps (piece ++ rest))

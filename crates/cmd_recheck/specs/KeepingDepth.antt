@@ -14,7 +14,7 @@ abbrev pub IsWhole : DepthReading → Type 0
 IsWhole (Good reader) = IsReader (seen reader)
 IsWhole (Refused error) = Unit {0}
 
--- how many bytes a reader was fed; behind a fault they aren't counted
+-- how many bytes a reader was fed; after a fault they aren't counted
 abbrev pub count_of : DepthReading → ℕ
 count_of (Good reader) = reader.fed
 count_of (Refused error) = 0

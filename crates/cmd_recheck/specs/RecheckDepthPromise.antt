@@ -20,10 +20,10 @@ use Rattle.frame_core.specs.Run.{Run}
 use Rattle.cmd_lines.specs.Runs.{Runs}
 use Rattle.frame_core.specs.Promise.{InputHeld, OutputHeld, Stands, TellsError, Replies, Faults}
 
--- The verdict that the bytes have stands on the output. Behind their first line they spell tables and a basis. For
--- whatever tables and basis they spell there, so many steps are the fewest, some chain of so many has the levels that
--- the verdict tells, and none has fewer than these, or than the lower number where it tells two; in the bytes the log of
--- a fence of so many levels is spent then.
+-- The verdict that the bytes have stands on the output. After their first line they spell tables and a basis. For
+-- whatever tables and basis they spell there, `steps` steps are the fewest, some chain of `steps` steps has the levels
+-- of the verdict, and none has fewer levels, or fewer than the lower number where the verdict has two; in the bytes the
+-- log of a fence of the lower number of levels is spent then.
 pub record TellsLevels (r : Run) (input : List ℕ) : Type 0 where
   pub verdict : DepthVerdict
   pub has : GivesLevels input verdict
@@ -62,7 +62,7 @@ pub record RecheckDepthPromise (r : Run) : Type 0 where
       → Runs RecheckDepth r input
       → r.status ≡ Done
       → TellsLevels r input
-  -- Other bytes are told their first fault.
+  -- For other bytes their first fault is reported.
   pub refused : (input : List ℕ) (error : DepthError)
       → Runs RecheckDepth r input
       → HasDepthFault input error

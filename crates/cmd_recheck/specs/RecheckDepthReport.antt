@@ -1,4 +1,4 @@
--- What `recheck --depth yes` tells.
+-- What `recheck --depth yes` reports: its reply to a verdict, its refusal of a fault, and its task.
 use Rattle.std.specs.Prelude.{ℕ, ◌≤◌, List, ◌∷◌, ◌++◌, length, None, codes, Err}
 use Rattle.text_core.specs.Lines.{lines_of}
 use Rattle.cert_theory.specs.declared.data.BundleError.{BundleError}
@@ -33,7 +33,7 @@ depth_status (depths.OpenTooShort line) = Refused
 depth_status (depths.WrongLevels line) = Refused
 depth_status depths.Memory = Memory
 
--- A fault of the bundle stands behind that word. Want of memory stands in nothing.
+-- A fault of the bundle comes after the word `Bundle`; want of memory comes alone.
 -- Example: Bundle StepRefused 13 NotUnit 22.
 abbrev pub named_inside : BundleError → List Field
 named_inside bundles.Memory = memory

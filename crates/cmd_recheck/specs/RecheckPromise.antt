@@ -17,7 +17,7 @@ use Rattle.frame_core.specs.Run.{Run}
 use Rattle.cmd_lines.specs.Runs.{Runs}
 use Rattle.frame_core.specs.Promise.{InputHeld, OutputHeld, Stands, TellsError, Replies, Faults}
 
--- The verdict that the bytes have stands on the output. Behind their first line they spell tables and a
+-- The verdict that the bytes have stands on the output. After their first line they spell tables and a
 -- basis, and what it says of all chains is true of whatever tables and basis they spell there.
 pub record TellsVerdict (r : Run) (input : List ℕ) : Type 0 where
   pub verdict : Verdict
@@ -53,7 +53,7 @@ pub record RecheckPromise (r : Run) : Type 0 where
       → Runs Recheck r input
       → r.status ≡ Done
       → TellsVerdict r input
-  -- Other bytes are told their first fault.
+  -- For other bytes their first fault is reported.
   pub refused : (input : List ℕ) (error : BundleError)
       → Runs Recheck r input
       → HasBundleFault input error

@@ -1,4 +1,4 @@
--- What `recheck` tells.
+-- What `recheck` reports: its reply to a verdict, its refusal of a fault, and its task.
 use Rattle.std.specs.Prelude.{◌≡◌, ℕ, ◌≤◌, List, [], ◌∷◌, ◌++◌, length, None, codes, Err}
 use Rattle.text_core.specs.Lines.{lines_of}
 use Rattle.lrat_check.specs.declared.error.CheckError.{CheckError}

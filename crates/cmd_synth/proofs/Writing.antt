@@ -30,11 +30,11 @@ use Rattle.cmd_synth.specs.CertifiedLaws.{certified}
 
 -- ---- what was written
 
--- a call that failed behind quiet ones
+-- a call that failed after quiet ones
 rose_since : (first now new : Side) → IsQuiet first now → Rose now.faults new.faults → Rose first.faults new.faults
 rose_since first now new quiet rose = subst (λ (n : ℕ). Rose n new.faults) quiet rose
 
--- what a search has left behind it begins a certificate
+-- the text that a search has written begins a certificate
 begins : (asked : SynthSettings) (bytes text : List ℕ) (s : State) → length bytes ≤ most_of_tables → IsUnderWay bytes asked s text → BeginsCertificate asked bytes text
 begins asked bytes text s within under = record {
   tables = s.heading.spec;

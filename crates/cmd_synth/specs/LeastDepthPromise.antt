@@ -31,9 +31,9 @@ pub record LeastDepthPromise (r : Run) : Type 0 where
       → (r.status ≡ Done) ⊎ (r.status ≡ Undecided)
       → Replies (least_depth_task asked) r input
   pub never_refused : (asked : SynthSettings) → AsksFor r.words (LeastDepth asked) → r.status ≡ Refused → ⊥
-  -- A depth bundle whose last verdict tells one number of levels has the status 0: so many steps are the fewest, some
-  -- chain of so many has these levels, and none has fewer. One that tells two has the status 4: none has fewer than
-  -- the lower, and in the text the log of a fence of so many levels is spent.
+  -- A depth bundle whose last verdict is `Levels d` has the status 0: `steps` steps are the fewest, some chain of
+  -- `steps` steps has `d` levels, and none has fewer. One whose last verdict is `Bounded low d` has the status 4: none
+  -- has fewer than `low` levels, and in the text the log of a fence of `low` levels is spent.
   pub least : (asked : SynthSettings) (input text : List ℕ) (tables : Words) (d : ℕ)
       → Runs (LeastDepth asked) r input
       → AreTables input tables
@@ -46,7 +46,7 @@ pub record LeastDepthPromise (r : Run) : Type 0 where
       → IsCertified asked input (record { text = text; found = Least (Bounded low d) })
       → Stands r (least_depth_reply (record { text = text; found = Least (Bounded low d) }))
       → (steps : ℕ) × IsBoundedDepth (specification tables) (members asked.basis) steps low d × IsLeftOpen text (heading_of tables asked) steps low × (r.status ≡ Undecided)
-  -- Other bytes are told their first fault.
+  -- For other bytes their first fault is reported.
   pub refused : (asked : SynthSettings) (input : List ℕ) (error : SpecError)
       → Runs (LeastDepth asked) r input
       → HasTablesFault input error

@@ -1,4 +1,4 @@
--- What `synth --least-depth yes` tells.
+-- What `synth --least-depth yes` reports: its reply, its refusal of a fault, and its task.
 use Rattle.std.specs.Prelude.{◌≡◌, ℕ, ◌≤◌, List, length, None, Ok}
 use Rattle.text_core.specs.Lines.{lines_of}
 use Rattle.chain_theory.specs.Operator.{Basis}
@@ -39,7 +39,7 @@ pub record Certified : Type 0 where
 abbrev pub least_depth_reply : Certified → Reply
 least_depth_reply c = record { text = c.text; report = None; status = found_status c.found }
 
--- what was found says this of chains; so many steps are the fewest
+-- what was found says this of chains; `steps` steps are the fewest
 abbrev pub Means : Specification → Basis → Found → Type 0
 Means s basis (Least verdict) = (steps : ℕ) × depths.Means s basis steps verdict
 Means s basis (Other verdict) = sizes.Means s basis verdict

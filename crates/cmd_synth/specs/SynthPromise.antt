@@ -16,7 +16,7 @@ use Rattle.cmd_lines.specs.Runs.{Runs}
 use Rattle.frame_core.specs.Promise.{InputHeld, OutputHeld, TellsError, Replies}
 
 -- What stands on the output is the beginning of a certificate for the tables in the bytes and for what is asked,
--- or of its heading and of whole sections behind it.
+-- or of its heading and of whole sections after it.
 pub record LeavesFront (r : Run) (asked : SynthSettings) (input : List ℕ) : Type 0 where
   pub tables : Words
   pub are : AreTables input tables
@@ -39,13 +39,13 @@ pub record SynthPromise (r : Run) : Type 0 where
       → (r.status ≡ Done) ⊎ (r.status ≡ Undecided)
       → Replies (synth_task asked) r input
   pub never_refused : (asked : SynthSettings) → AsksFor r.words (Synth asked) → r.status ≡ Refused → ⊥
-  -- Other bytes are told their first fault.
+  -- For other bytes their first fault is reported.
   pub refused : (asked : SynthSettings) (input : List ℕ) (error : SpecError)
       → Runs (Synth asked) r input
       → HasTablesFault input error
       → InputHeld r
       → TellsError r (synth_refusal error)
-  -- Where the output failed a front stands there, and nothing else; and where memory ran out, it or nothing.
+  -- Where the output failed a prefix stands there, and nothing else; and where memory ran out, a prefix or nothing.
   pub cut : (asked : SynthSettings) (input : List ℕ)
       → Runs (Synth asked) r input
       → r.status ≡ WriteFault

@@ -1,4 +1,4 @@
--- What `synth` tells.
+-- What `synth` reports: its reply, its refusal of a fault, and its task.
 use Rattle.std.specs.Prelude.{◌≡◌, ℕ, ◌≤◌, List, [], length, Some, None, Ok, Err}
 use Rattle.text_core.specs.Lines.{lines_of}
 use Rattle.tt_core.specs.Words.{Words, IsSpec, specification}
@@ -43,7 +43,7 @@ synth_reply c = record { text = c.text; report = None; status = verdict_status c
 abbrev pub synth_refusal : SpecError → Refusal
 synth_refusal error = record { status = spec_status error; named = named_spec error }
 
--- The bytes are those of tables with nothing behind them, and no more than are read.
+-- The bytes are those of tables with nothing after them, and no more than are read.
 pub record AreTables (bytes : List ℕ) (tables : Words) : Type 0 where
   pub within : length bytes ≤ most_of_tables
   pub are : IsSpec tables
@@ -67,7 +67,7 @@ pub record HasTablesFault (bytes : List ℕ) (error : SpecError) : Type 0 where
   pub fault : tables_alone (lines_of bytes) ≡ Err error
 
 -- The text is that of the heading of a certificate for the tables in the bytes and for what is asked, and of
--- whole sections behind it: those of the sizes 0, 1, 2 and so on.
+-- whole sections after it: those of the sizes 0, 1, 2 and so on.
 pub record BeginsCertificate (asked : SynthSettings) (bytes text : List ℕ) : Type 0 where
   pub tables : Words
   pub are : AreTables bytes tables

@@ -16,7 +16,7 @@ use Rattle.cmd_synth.specs.SynthReport.{synth_task}
 use Rattle.cmd_synth.specs.declared.synth.Next.{Next}
 use Rattle.cmd_synth.specs.declared.synth.Next.TheVariants.{On, End}
 
--- What stands on the output since a moment is what was written of the certificate of a search, and no call failed.
+-- What was written on the output since `first` is what the search `s` has of its certificate, and no call failed.
 pub record IsOut (asked : SynthSettings) (bytes : List ℕ) (first now : Side) (s : State) : Type 0 where
   pub text : List ℕ
   pub under_way : IsUnderWay bytes asked s text

@@ -109,9 +109,9 @@ want_read task most source out note same quiet on_out on_note = record {
   never_falls = let counts : note.1.faults ≡ note.0.faults = ap (λ (s : Side). s.faults) on_note in omega arith;
 }
 
--- ---- what is told at once
+-- ---- replies that are sent at once
 
--- A front of an answer's text may be left of it.
+-- A prefix of an answer's text may be left of it.
 pub left_of : (task : Task) (bytes : List ℕ) (reply : told.Reply) (old new : Side) → Tells task bytes reply → AppendsFront old.bytes new.bytes reply.text → IsLeft task bytes old new
 left_of task bytes reply old new tells front =
     let text : List ℕ = (task.reply tells.answer).text in
@@ -177,9 +177,9 @@ answered task bytes (Err (stops.NoAnswer refusal)) e out note judges held = reco
   never_falls = let counts : note.1.faults ≡ note.0.faults = ap (λ (s : Side). s.faults) held.on_note in omega arith;
 }
 
--- ---- with the error line behind it
+-- ---- with the error line after it
 
--- What was performed, and whose error line was told, is a run.
+-- What was performed, and whose error line was written, is a run.
 pub is_run : (task : Task) (words : List (List ℕ)) (e : Ended) (status : Status) (source out : Side × Side) (note between note' : Side) → Performs task e source out (note, between) → status ≡ status_in e → LineAfter between note' (line_in e) → between.faults ≤ note'.faults → (outcome : Outcome) × IsRun task (run_of words source out (note, note') status) outcome
 is_run task words e status source out note between note' performs same line then = (
   performs.outcome,
@@ -271,6 +271,6 @@ pieces_starved task bytes out note pieces left quiet on_note = record {
 
 -- ---- lines
 
--- Fields by another name are told as they are.
+-- Fields by another name are written as they are.
 pub named_as : (old new : Side) (a b : List told.Field) → a ≡ b → Writes old new (error_line a) → Writes old new (error_line b)
 named_as old new a b same writes = subst (λ (n : List told.Field). Writes old new (error_line n)) same writes
