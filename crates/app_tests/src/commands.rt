@@ -175,14 +175,14 @@ const AND: &str = ".model p\n.inputs a b\n.outputs y\n.names a b y\n11 1\n.end\n
 
 const ZERO: &str = ".model q\n.inputs a b\n.outputs y\n.names y\n.end\n";
 
-/// Those texts one behind the other.
+/// Those texts one after the other.
 fn joined(alloc: Global, first: &str, second: &str) -> Result<String, AllocError> {
     let mut both = String::from_str(alloc, first)?;
     both.push_str(second)?;
     Ok(both)
 }
 
-/// Whether `equiv` of two texts tells this.
+/// Whether `equiv` of two texts ends with `status`, and writes `out` and `note`.
 fn are_judged(alloc: Global, first: &str, second: &str, status: u8, out: &str, note: &str) -> bool {
     match joined(alloc, first, second) {
         Ok(input) => tells(alloc, "equiv", input.as_bytes(), status, out, note),
@@ -232,14 +232,14 @@ const TREE: &str =
 const ROW: &str =
     ".inputs a b c d\n.outputs y\n.names a b p\n10 1\n01 1\n.names p c q\n10 1\n01 1\n.names q d y\n10 1\n01 1\n.end\n";
 
-/// Whether a run told a log behind this word, and nothing on the notes.
+/// Whether a run answered with a log after `word`, and nothing on the notes.
 fn is_log(seen: &Seen, status: u8, word: &str) -> bool {
     let out = seen.out.written();
     let log = out.starts_with(word.as_bytes()) && out.ends_with(b"done\n");
     seen.status == status && log && seen.note.written().is_empty()
 }
 
-/// Whether a line of `equiv` on two texts tells a log behind this word, and nothing on the notes.
+/// Whether a line of `equiv` on two texts answers with a log after `word`, and nothing on the notes.
 fn tells_log(alloc: Global, line: &str, first: &str, second: &str, status: u8, word: &str) -> bool {
     let Ok(input) = joined(alloc, first, second) else {
         return false;
@@ -250,7 +250,7 @@ fn tells_log(alloc: Global, line: &str, first: &str, second: &str, status: u8, w
     }
 }
 
-/// Lines of `equiv`, two netlists, the status, and the word in front of the log.
+/// Lines of `equiv`, two netlists, the status, and the word before the log.
 const LOGS: &[(&str, &str, &str, u8, &str)] = &[
     ("equiv", THREE_GATES, ONE_GATE, 0, "equal\n"),
     ("equiv", TREE, ROW, 0, "equal\n"),

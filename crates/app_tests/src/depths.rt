@@ -1,4 +1,4 @@
-//! Chains of the fewest levels: what `synth --least-depth yes` writes, and what `recheck --depth yes` tells of it and
+//! Chains of the fewest levels: what `synth --least-depth yes` writes, and what `recheck --depth yes` reports of it and
 //! of what it isn't.
 use crate::running::{tells, told};
 use std::alloc::{AllocError, Global};
@@ -7,7 +7,7 @@ const SYNTH: &str = "synth --method fence --least-depth yes";
 
 const RECHECK: &str = "recheck --depth yes";
 
-/// The front of a certificate of x1 AND x2, and of that AND x3: two steps, on two levels.
+/// The first lines of a certificate of x1 AND x2, and of that AND x3: two steps, on two levels.
 const FRONT: &str =
     "chains 1\ninputs 3\n00000011\n00000001\nbasis all\nmethod fence\nconflicts 100000\nmax 16\nsize 0\nfence\nrefuted\ndone\nsize 1\nfence 1\nrefuted\n132 0 1 2 9 17 0\ndone\nchain 2\nx4 x1 x2 0001\nx5 x3 x4 0001\nout x4\nout x5\nminimum 2\nend\n";
 
@@ -28,7 +28,7 @@ fn joined(alloc: Global, parts: [&str; 4]) -> Result<String, AllocError> {
     Ok(text)
 }
 
-/// Whether `recheck --depth yes` tells this of the text of these parts.
+/// Whether `recheck --depth yes` reports this of the text of these parts.
 fn is_judged(alloc: Global, parts: [&str; 4], status: u8, out: &str, note: &str) -> bool {
     match joined(alloc, parts) {
         Ok(text) => tells(alloc, RECHECK, text.as_bytes(), status, out, note),
@@ -77,7 +77,7 @@ fn fewest_levels_are_found(rt: HostRuntime) {
     }
 }
 
-/// The front of a bundle, its line of the depth, its logs and its ending; the status, and what is told.
+/// The first lines of a bundle, its line of the depth, its logs and its ending; the status, and what is reported.
 const JUDGED: &[(&str, &str, &str, &str, u8, &str, &str)] = &[
     // a budget that is spent leaves levels open
     (

@@ -50,8 +50,8 @@ fn failing(
     }
 }
 
-/// Whether a call that failed was told, and what it has to leave of the whole text stands on the output: nothing where
-/// it was a read, a front where it was a write, and the whole where it was one on the notes.
+/// Whether a call that failed was reported, and what it has to leave of the whole text stands on the output: nothing where
+/// it was a read, a prefix where it was a write, and the whole where it was one on the notes.
 fn leaves(seen: &Seen, port: Port, whole: &[u8]) -> bool {
     match port {
         Port::Reads => seen.is(5, b"", b"error: ReadFault\n"),
@@ -63,7 +63,7 @@ fn leaves(seen: &Seen, port: Port, whole: &[u8]) -> bool {
     }
 }
 
-/// How many calls of a port a run makes that ends with this status; None where one of them that fails isn't told, or
+/// How many calls of a port a run makes that ends with this status; None where a failure of one isn't reported, or
 /// leaves something else than it has to.
 fn calls_of(
     alloc: Global,
@@ -87,7 +87,7 @@ fn calls_of(
     None
 }
 
-/// Whether a run makes calls of a port, or none, and each that fails is told and leaves what it has to.
+/// Whether a run makes calls of a port, or none, and each that fails is reported and leaves what it has to.
 fn makes(alloc: Global, run: (&str, &[u8], u8), whole: &[u8], port: Port, some: bool) -> bool {
     match calls_of(alloc, run.0, run.1, port, whole, run.2) {
         Some(calls) => (calls > 0) == some,
@@ -95,7 +95,7 @@ fn makes(alloc: Global, run: (&str, &[u8], u8), whole: &[u8], port: Port, some: 
     }
 }
 
-/// Whether each call of a run that fails is told and leaves what it has to, where the run writes, and reads and makes
+/// Whether each call of a run that fails is reported and leaves what it has to, where the run writes, and reads and makes
 /// notes as it is given.
 fn withstands(alloc: Global, run: (&str, &[u8], u8), reads: bool, notes: bool) -> bool {
     let Ok(seen) = told(alloc, run.0, run.1) else {
@@ -160,7 +160,7 @@ fn long(alloc: Global, front: &str) -> Result<Vec<u8>, AllocError> {
     Ok(text)
 }
 
-/// Whether a run on a refused text makes three reads, of which the last finds the end, and each that fails is told.
+/// Whether a run on a refused text makes three reads, of which the last finds the end, and each that fails is reported.
 fn is_read_on(alloc: Global, line: &str, front: &str) -> bool {
     match long(alloc, front) {
         Ok(text) => calls_of(alloc, line, &text, Port::Reads, b"", 2) == Some(3),
@@ -186,7 +186,7 @@ fn reads_that_fail_behind_a_refused_line_are_told(rt: HostRuntime) {
     }
 }
 
-/// Whether a run with this status keeps it where its first hundred calls on the notes fail, and tells nothing there.
+/// Whether a run with this status keeps it where its first hundred calls on the notes fail, and reports nothing there.
 fn keeps_status(alloc: Global, line: &str, input: &[u8], status: u8) -> bool {
     let notes = Fails::UpTo(100);
     match run_on(alloc, line, input, Fails::None, Fails::None, notes) {
@@ -222,7 +222,7 @@ fn notes_that_fail_change_no_other_status(rt: HostRuntime) {
     }
 }
 
-/// The line that comes behind a text, counted by its line feeds.
+/// The line that comes after a text, counted by its line feeds.
 fn line_behind(text: &[u8]) -> u32 {
     let mut line = 1;
     for byte in text {
@@ -233,7 +233,7 @@ fn line_behind(text: &[u8]) -> u32 {
     line
 }
 
-/// Whether a certificate that is cut off behind so many bytes is refused at the line where it ends.
+/// Whether a certificate that is cut off after `length` bytes is refused at the line where it ends.
 fn is_cut_off(alloc: Global, length: usize) -> bool {
     let (front, _) = NONE.as_bytes().split_at(length.min(NONE.len()));
     match format!(in alloc; "error: Syntax {}\n", line_behind(front)) {

@@ -2,13 +2,13 @@
 use crate::running::{Seen, told};
 use std::alloc::{AllocError, Global};
 
-/// Appends a byte so many times.
+/// Appends `byte`, `count` times.
 fn push_bytes(text: &mut Vec<u8>, byte: u8, count: usize) -> Result<(), AllocError> {
     let length = text.len().saturating_add(count);
     text.resize(length, byte)
 }
 
-/// A text of a front, a byte so many times, and an end.
+/// A text: the first of `ends`, `byte` `count` times, and the second of `ends`.
 fn long(alloc: Global, ends: Ends, byte: u8, count: usize) -> Result<Vec<u8>, AllocError> {
     let mut text = Vec::from_slice(alloc, ends.0)?;
     push_bytes(&mut text, byte, count)?;
@@ -20,10 +20,10 @@ const BLIF: &str = "improve --cap 0";
 
 const BENCH: &str = "improve --cap 0 --format bench";
 
-/// What stands before and behind something long.
+/// What stands before and after something long.
 type Ends = (&'static [u8], &'static [u8]);
 
-/// What stands before and behind a name, or a comment, that may be long.
+/// What stands before and after a name, or a comment, that may be long.
 const NAME: Ends = (b".model l\n.inputs a ", b"\n.outputs a\n.end\n");
 
 const COMMENT: Ends = (b".model l\n#", b"\n.inputs a\n.outputs a\n.end\n");
@@ -35,7 +35,7 @@ const BENCH_COMMENT: Ends = (b"INPUT(a)\n#", b"\nOUTPUT(a)\n");
 /// What is long alone.
 const BARE: Ends = (b"", b"");
 
-/// A table of so many inputs, all of them a, whose one cube asks nothing.
+/// A table of `width` inputs, all of them a, whose one cube asks nothing.
 fn wide(alloc: Global, width: usize) -> Result<Vec<u8>, AllocError> {
     let mut text = Vec::from_slice(alloc, b".inputs a\n.outputs y\n.names")?;
     for _ in 0..width {
@@ -47,7 +47,7 @@ fn wide(alloc: Global, width: usize) -> Result<Vec<u8>, AllocError> {
     Ok(text)
 }
 
-/// An AND of a and of itself, with so many operands.
+/// An AND of `operands` operands, all of them a.
 fn wide_gate(alloc: Global, operands: usize) -> Result<Vec<u8>, AllocError> {
     let mut text = Vec::from_slice(alloc, b"INPUT(a)\nOUTPUT(y)\ny = AND(a")?;
     for _ in 1..operands {
@@ -105,15 +105,15 @@ fn ladder(alloc: Global, gates: usize) -> Result<Vec<u8>, AllocError> {
 enum Made {
     /// This one.
     Text(&'static str),
-    /// One with a byte so many times.
+    /// One with a byte, repeated that number of times.
     Long(Ends, u8, usize),
-    /// A table with so many inputs.
+    /// A table with that number of inputs.
     Inputs(usize),
-    /// A gate in BENCH with so many operands.
+    /// A gate in BENCH with that number of operands.
     Operands(usize),
-    /// A table with so many rows.
+    /// A table with that number of rows.
     Rows(usize),
-    /// So many gates.
+    /// A netlist of that number of gates.
     Gates(usize),
 }
 
@@ -129,7 +129,7 @@ fn bytes_of(alloc: Global, text: Made) -> Result<Vec<u8>, AllocError> {
     }
 }
 
-/// Whether a run came to this status, and this is told on the notes. A refusal leaves nothing on the output.
+/// Whether a run came to this status, and this is reported on the notes. A refusal leaves nothing on the output.
 fn is_answer(seen: &Seen, status: u8, note: &str) -> bool {
     let out = seen.out.written().is_empty() == (status != 0);
     out && seen.status == status && seen.note.written() == note.as_bytes()
@@ -146,10 +146,10 @@ fn notes(alloc: Global, line: &str, text: Made, status: u8, note: &str) -> bool 
     }
 }
 
-/// What is told of a netlist without gates.
+/// What is reported of a netlist without gates.
 const EMPTY: &str = "gates 0 -> 0\nsettled\n";
 
-/// Lines, texts, the status, and what is told on the notes.
+/// Lines, texts, the status, and what is reported on the notes.
 type Runs = &'static [(&'static str, Made, u8, &'static str)];
 
 const LIMITS: Runs = &[
@@ -242,7 +242,7 @@ fn netlists_have_a_greatest_number_of_gates(rt: HostRuntime) {
     }
 }
 
-/// Lines, netlists with a loop or with one name for two, the status, and what is told on the notes.
+/// Lines, netlists with a loop or with one name for two, the status, and what is reported on the notes.
 const LOOPS: Runs = &[
     (
         "improve",

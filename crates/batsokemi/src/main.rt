@@ -7,7 +7,7 @@ use port_io::{InputPort, OutputPort};
 use std::process::ExitCode;
 use std::{env, io};
 
-/// The words behind the program's name. A word that isn't UTF-8 is no word of a command.
+/// The words after the program's name. A word that isn't UTF-8 is no word of a command.
 fn words_of(rt: &HostRuntime) -> Result<Vec<String>, Status> {
     let collected = match env::args(rt) {
         Ok(words) => words.skip(1).collect(rt.alloc()),

@@ -39,7 +39,7 @@
 //! | `tidy`, `idle`, `forget` | `reduceDB`, its candidates, deletion |
 //! | `review`, `containing` | eager subsumption of recent learnt clauses |
 //! | log, line, hint | LRAT proof, its step, antecedent id |
-//! | kept, thrifty | at least half of the additions are live at the end |
+//! | kept | at least half of the additions are live at the end |
 //! | thinned, `thin` | at most about three quarters are; the deletions at the end for that |
 //! | `Ending`: `Valued`, `Refuted`, `Spent` | SAT, UNSAT, limit reached |
 //! | `IsGuarded`, `IsVisited`, `IsSettled` | watch invariant, it up to `head`, neither unit nor falsified |

@@ -11,21 +11,21 @@ use Rattle.chain_app.specs.Ending.{Ending, Idle, Ran, IsIdle, IsEnding}
 use Rattle.frame_core.specs.Promise.{AllSteady, CommandPromise}
 use Rattle.improve_settings.specs.declared.improve.ImproveSettings.{ImproveSettings}
 use Rattle.net_document.specs.Format.{IsNetlist}
-use Rattle.chain_app.specs.ImproveReport.{FormatAsked, format_of, most_of_netlist}
-use Rattle.chain_app.specs.Runs.{Runs}
+use Rattle.cmd_improve.specs.ImproveReport.{FormatAsked, format_of, most_of_netlist}
+use Rattle.cmd_lines.specs.Runs.{Runs}
 use Rattle.chain_app.specs.Tasks.{task_of}
 use Rattle.chain_app.specs.RunPromise.{RunPromise}
 use Rattle.chain_app.specs.KeepsPromises.{KeepsPromises}
 use Rattle.frame_core.specs.KeepingLaws.{not_usage, promised}
 use Rattle.chain_app.proofs.Commands.{is_task}
-use Rattle.chain_app.proofs.AgreeKeeping.{agree_promised}
-use Rattle.chain_app.proofs.Rechecking.{recheck_promised}
-use Rattle.chain_app.proofs.RecheckingDepth.{depth_promised}
-use Rattle.chain_app.proofs.Synthesising.{synth_promised}
-use Rattle.chain_app.proofs.LeastDepths.{least_depth_promised}
-use Rattle.chain_app.proofs.Improving.{improve_promised}
-use Rattle.chain_app.proofs.Equating.{equiv_promised}
-use Rattle.chain_app.proofs.Generating.{gen_promised}
+use Rattle.cmd_agree.specs.AgreeLaws.{agree_promised}
+use Rattle.cmd_recheck.specs.RecheckLaws.{recheck_promised}
+use Rattle.cmd_recheck.specs.RecheckDepthLaws.{depth_promised}
+use Rattle.cmd_synth.specs.SynthLaws.{synth_promised}
+use Rattle.cmd_synth.specs.LeastDepthLaws.{least_depth_promised}
+use Rattle.cmd_improve.specs.ImproveLaws.{improve_promised}
+use Rattle.cmd_equiv.specs.EquivLaws.{equiv_promised}
+use Rattle.cmd_gen.specs.GenLaws.{gen_promised}
 
 -- words ask for one command
 one_command : (words : List (List ℕ)) (a b : Command) → AsksFor words a → AsksFor words b → a ≡ b

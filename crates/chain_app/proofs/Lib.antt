@@ -1,16 +1,3 @@
-pub mod AgreeKeeping
-pub mod Agreeing
-pub mod Asking
-pub mod Certified
 pub mod Commands
 pub mod Ends
-pub mod Equating
-pub mod Generating
-pub mod Improving
-pub mod LeastDepths
 pub mod Obeying
-pub mod Rechecking
-pub mod RecheckingDepth
-pub mod Synthesising
-pub mod Writing
-pub mod TablesRead

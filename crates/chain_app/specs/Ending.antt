@@ -13,7 +13,7 @@ pub data Ending : Type 0 where
   Idle : Ending
   Ran : (command : Command) (outcome : Outcome) → Ending
 
--- Words that are no command line are told so, and nothing else is touched.
+-- Words that are no command line are reported as that, and nothing else is touched.
 pub record IsIdle (r : Run) : Type 0 where
   pub no_line : (command : Command) → AsksFor r.words command → ⊥
   pub status_is : r.status ≡ Usage

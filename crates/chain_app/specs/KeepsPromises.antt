@@ -2,14 +2,14 @@
 use Rattle.frame_core.specs.Run.{Run}
 use Rattle.chain_app.specs.Ending.{Ending, IsEnding}
 use Rattle.chain_app.specs.RunPromise.{RunPromise}
-use Rattle.chain_app.specs.AgreePromise.{AgreePromise}
-use Rattle.chain_app.specs.RecheckPromise.{RecheckPromise}
-use Rattle.chain_app.specs.RecheckDepthPromise.{RecheckDepthPromise}
-use Rattle.chain_app.specs.SynthPromise.{SynthPromise}
-use Rattle.chain_app.specs.LeastDepthPromise.{LeastDepthPromise}
-use Rattle.chain_app.specs.ImprovePromise.{ImprovePromise}
-use Rattle.chain_app.specs.EquivPromise.{EquivPromise}
-use Rattle.chain_app.specs.GenPromise.{GenPromise}
+use Rattle.cmd_agree.specs.AgreePromise.{AgreePromise}
+use Rattle.cmd_recheck.specs.RecheckPromise.{RecheckPromise}
+use Rattle.cmd_recheck.specs.RecheckDepthPromise.{RecheckDepthPromise}
+use Rattle.cmd_synth.specs.SynthPromise.{SynthPromise}
+use Rattle.cmd_synth.specs.LeastDepthPromise.{LeastDepthPromise}
+use Rattle.cmd_improve.specs.ImprovePromise.{ImprovePromise}
+use Rattle.cmd_equiv.specs.EquivPromise.{EquivPromise}
+use Rattle.cmd_gen.specs.GenPromise.{GenPromise}
 
 pub record KeepsPromises (r : Run) : Type 0 where
   -- The run had an ending, from which all follows that can be seen of it.

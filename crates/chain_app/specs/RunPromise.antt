@@ -9,7 +9,7 @@ use Rattle.frame_core.specs.Promise.{CommandPromise}
 use Rattle.chain_app.specs.Tasks.{task_of}
 
 pub record RunPromise (r : Run) : Type 0 where
-  -- Words that ask for nothing are told so, and nothing else is touched.
+  -- Words that ask for nothing are reported as that, and nothing else is touched.
   pub usage : ((command : Command) → AsksFor r.words command → ⊥) → IsIdle r
   pub usage_only : r.status ≡ Usage → (command : Command) → AsksFor r.words command → ⊥
   -- A command keeps what every command promises.

@@ -2,14 +2,14 @@
 use Rattle.command_line.specs.declared.command.Command.{Command}
 use Rattle.command_line.specs.declared.command.Command.TheVariants.{Agree, Recheck, RecheckDepth, Synth, LeastDepth, Improve, Equiv, Gen}
 use Rattle.frame_core.specs.Task.{Task}
-use Rattle.chain_app.specs.AgreeReport.{agree_task}
-use Rattle.chain_app.specs.RecheckReport.{recheck_task}
-use Rattle.chain_app.specs.RecheckDepthReport.{depth_task}
-use Rattle.chain_app.specs.SynthReport.{synth_task}
-use Rattle.chain_app.specs.LeastDepthReport.{least_depth_task}
-use Rattle.chain_app.specs.ImproveReport.{improve_task}
-use Rattle.chain_app.specs.EquivReport.{equiv_task}
-use Rattle.chain_app.specs.GenReport.{gen_task}
+use Rattle.cmd_agree.specs.AgreeReport.{agree_task}
+use Rattle.cmd_recheck.specs.RecheckReport.{recheck_task}
+use Rattle.cmd_recheck.specs.RecheckDepthReport.{depth_task}
+use Rattle.cmd_synth.specs.SynthReport.{synth_task}
+use Rattle.cmd_synth.specs.LeastDepthReport.{least_depth_task}
+use Rattle.cmd_improve.specs.ImproveReport.{improve_task}
+use Rattle.cmd_equiv.specs.EquivReport.{equiv_task}
+use Rattle.cmd_gen.specs.GenReport.{gen_task}
 
 abbrev pub task_of : Command → Task
 task_of Agree = agree_task

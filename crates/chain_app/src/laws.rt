@@ -1,25 +1,17 @@
 //! What the definitions come to, each law the contract of a function that does nothing.
-ghost use Rattle.std.specs.Prelude.{◌≡◌, ◌↔◌, ℕ, ◌≤◌, List, length, Ok};
+ghost use Rattle.std.specs.Prelude.{◌≡◌, ℕ, ◌≤◌, List, length};
 ghost use Rattle.command_line.specs.declared.command.Command.{Command};
 ghost use Rattle.command_line.specs.declared.command.Command.TheVariants.{Improve};
 ghost use Rattle.improve_settings.specs.declared.improve.ImproveSettings.{ImproveSettings};
 ghost use Rattle.net_document.specs.Format.{IsNetlist};
-ghost use Rattle.chain_app.specs.Agree.{Question, question_of};
-ghost use Rattle.chain_app.specs.Asked.{AsksQuestion};
 ghost use Rattle.frame_core.specs.declared.status.Status.TheVariants.{Done};
-ghost use Rattle.chain_app.specs.ImproveReport.{FormatAsked, format_of, most_of_netlist};
+ghost use Rattle.cmd_improve.specs.ImproveReport.{FormatAsked, format_of, most_of_netlist};
 ghost use Rattle.chain_app.specs.KeepsPromises.{KeepsPromises};
 ghost use Rattle.frame_core.specs.Promise.{AllSteady};
 ghost use Rattle.frame_core.specs.Run.{Run};
-ghost use Rattle.chain_app.specs.Runs.{Runs};
+ghost use Rattle.cmd_lines.specs.Runs.{Runs};
 ghost use Rattle.frame_core.specs.Task.{IsTask};
 ghost use Rattle.chain_app.specs.Tasks.{task_of};
-
-/// Bytes ask a question exactly where it is spelled so, each line of it.
-pub fn laws_of_questions()
-    ensures { (bytes : List ℕ) (question : Question) →
-        (question_of bytes ≡ Ok question) ↔ AsksQuestion bytes question }
-{}
 
 /// Every command keeps to what a task is: its bytes have answers or one refusal at most, never both, and
 /// beyond its limit neither.

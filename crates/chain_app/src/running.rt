@@ -5,17 +5,20 @@ ghost use Rattle.frame_core.specs.Run.{Outcome, IsRun, run_of, before_after};
 ghost use Rattle.chain_app.specs.Tasks.{task_of};
 ghost use Rattle.chain_app.specs.KeepsPromises.{KeepsPromises};
 
-use crate::jobs::{Agree, Equiv, Gen, Improve};
-use crate::least_depth::LeastDepth;
-use crate::recheck::Recheck;
-use crate::recheck_depth::RecheckDepth;
-use crate::synth::Synth;
+use cdcl_core::Cdcl;
+use cmd_agree::Agree;
+use cmd_equiv::Equiv;
+use cmd_gen::Gen;
+use cmd_improve::Improve;
+use cmd_recheck::{Recheck, RecheckDepth};
+use cmd_synth::{LeastDepth, Synth};
 use command_line::{Command, read_words};
-use frame_core::{ErrorLine, Status, perform, perform_stream, tell_error};
+use frame_core::{AtOnce, ErrorLine, Status, perform, perform_stream, tell_error};
 use port_io::{Sink, Source};
 use std::alloc::Global;
+use std::marker::PhantomData;
 
-/// Performs a command.
+/// Dispatches a command to its crate.
 fn obey<S: Source, O: Sink, N: Sink>(
     alloc: Global,
     command: Command,
@@ -31,17 +34,36 @@ fn obey<S: Source, O: Sink, N: Sink>(
         (before_after N.written N.faults note.old note.new)
         result) outcome }
 {
+    let solver = PhantomData::<Cdcl>;
     match command {
-        Command::Agree => perform(alloc, &Agree, source, out, note),
+        Command::Agree => perform(alloc, &AtOnce(Agree), source, out, note),
         Command::Recheck => perform_stream(alloc, &Recheck, source, out, note),
         Command::RecheckDepth => perform_stream(alloc, &RecheckDepth, source, out, note),
-        Command::Synth(settings) => perform(alloc, &Synth(settings), source, out, note),
-        Command::LeastDepth(settings) => perform(alloc, &LeastDepth(settings), source, out, note),
-        Command::Improve { format, settings } => {
-            perform(alloc, &Improve { format, settings }, source, out, note)
+        Command::Synth(settings) => perform(alloc, &Synth { settings, solver }, source, out, note),
+        Command::LeastDepth(settings) => {
+            let job = AtOnce(LeastDepth { settings, solver });
+            perform(alloc, &job, source, out, note)
         }
-        Command::Equiv(budget) => perform(alloc, &Equiv(budget), source, out, note),
-        Command::Gen { blocks, deed } => perform(alloc, &Gen { blocks, deed }, source, out, note),
+        Command::Improve { format, settings } => {
+            let job = AtOnce(Improve {
+                format,
+                settings,
+                solver,
+            });
+            perform(alloc, &job, source, out, note)
+        }
+        Command::Equiv(budget) => {
+            let job = AtOnce(Equiv { budget, solver });
+            perform(alloc, &job, source, out, note)
+        }
+        Command::Gen { blocks, deed } => {
+            let job = AtOnce(Gen {
+                blocks,
+                deed,
+                solver,
+            });
+            perform(alloc, &job, source, out, note)
+        }
     }
 }
 

@@ -46,7 +46,7 @@ found_behind basis place found s ss in' more = record {
   outside = more.outside;
 }
 
--- nothing is found exactly by a step inside and a search after it that finds nothing
+-- where neither a step nor the search after it finds a place, the step and all after it are inside
 none_by : (basis : Basis) (s : Step) (ss : List Step) (test : Bool) (place : ℕ) (more : Option ℕ) → basis s.op ≡ test → (more ≡ None → AllByRecursion (IsInside basis) ss) → (if test then more else Some place) ≡ None → AllByRecursion (IsInside basis) (s ∷ ss)
 none_by basis s ss true place more is onward e = (is, onward e)
 none_by basis s ss false place more is onward e = absurd cc
@@ -61,7 +61,7 @@ none_outside basis place (s ∷ ss) e = none_by basis s ss (basis s.op) place (o
 same_place : (x y : ℕ) → Some x ≡ Some y → x ≡ y
 same_place x y e = cc
 
--- a place is found at the first step or by the search after it
+-- where a step or the search after it finds a place, that is of the first step outside
 some_by : (basis : Basis) (s : Step) (ss : List Step) (test : Bool) (place found : ℕ) (more : Option ℕ) → basis s.op ≡ test → (more ≡ Some found → Found basis (place + 1) ss found) → (if test then more else Some place) ≡ Some found → Found basis place (s ∷ ss) found
 some_by basis s ss true place found more is onward e = found_behind basis place found s ss is (onward e)
 some_by basis s ss false place found more is onward e = found_here basis place found s ss is (same_place place found e)

@@ -64,7 +64,7 @@ none_found p (x ∷ xs) none = both_false (p x) (list_any p xs) none.0 (none_fou
 
 -- ---- words of pairs
 
--- the word behind a name is that of the first pair with it
+-- the word after a name is that of the first pair with it
 behind_is : (name : List ℕ) (pairs : List Pair) → word_behind name (flat pairs) ≡ lookup (is_word name) pairs
 unfolding word_behind
 behind_is name [] = refl

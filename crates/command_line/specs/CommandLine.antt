@@ -26,7 +26,7 @@ spelled words = map string_bytes words.items
 
 -- ---- options, as names and values by turns
 
--- the word behind a name
+-- the word after a name
 unfoldable pub word_behind : List ℕ → List (List ℕ) → Option (List ℕ)
 word_behind name [] = None
 word_behind name (found ∷ []) = None

@@ -22,7 +22,7 @@ is_word = pointwise nat_eq
 abbrev pub is_among : List ℕ → List (List ℕ) → Bool
 is_among name names = list_any (is_word name) names
 
--- An option: its name, how the word behind it is read, and what holds where it isn't named. An option
+-- An option: its name, how the word after it is read, and what holds where it isn't named. An option
 -- without a default has to be named.
 pub record Row (A : Type 0) : Type 0 where
   pub name : List ℕ

@@ -13,7 +13,7 @@ use Rattle.command_line.specs.declared.command.Deed.{Deed}
 use Rattle.command_line.specs.declared.command.Format.{Format}
 use Rattle.command_line.specs.Options.{Row, is_word, is_among, basis_row, format_basis_row, method_row, max_row, conflicts_row, cap_row, rounds_row, format_row, observe_row, blocks_row, run_row, least_depth_row, depth_row, kind_text, options_of}
 
--- a name and the word behind it
+-- a name and the word after it
 abbrev pub Pair : Type 0
 Pair = List ℕ × List ℕ
 
@@ -24,7 +24,7 @@ both p = p.0 ∷ p.1 ∷ []
 abbrev pub flat : List Pair → List (List ℕ)
 flat pairs = flat_map both pairs
 
--- Pairs give an option this value: what the word behind its name reads as, and its default where the
+-- Pairs give an option this value: what the word after its name reads as, and its default where the
 -- name isn't there.
 pub record Gives {A : Type 0} (row : Row A) (pairs : List Pair) (x : A) : Type 0 where
   pub named : (word : List ℕ) → Contains pairs (row.name, word) → row.read word ≡ Some x

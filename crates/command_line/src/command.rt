@@ -30,16 +30,16 @@ pub enum Command {
     RecheckDepth,
     /// Find a chain with the fewest steps, and write the certificate.
     Synth(SynthSettings),
-    /// Find a chain with the fewest steps, and of these one with the fewest levels, by fences.
+    /// Find a chain with the fewest steps, and of the chains of so few steps one with the fewest levels, by fences.
     LeastDepth(SynthSettings),
     /// Write a netlist of a format again that does the same with no more gates, by its windows.
     Improve {
         format: Format,
         settings: ImproveSettings,
     },
-    /// Say whether two netlists do the same, with a budget of so many learnt clauses.
+    /// Decide whether two netlists are equivalent, within a budget of learnt clauses.
     Equiv(u32),
-    /// Make a netlist of so many blocks, 1 to 10,000, and write it or improve it.
+    /// Generate a netlist of `blocks` blocks, 1 to 10,000, and write it or improve it.
     Gen {
         blocks: u32,
         deed: Deed,

@@ -1,4 +1,4 @@
-//! Names and values by turns, as words have them behind a command.
+//! Names and values by turns, as the words after a command.
 ghost use Rattle.std.specs.Prelude.{◌≡◌, ℕ, List, map};
 ghost use Rattle.std.specs.Borrow.{Bor};
 ghost use Rattle.std.specs.Option.{option_map};
@@ -15,7 +15,7 @@ pub(crate) fn is_word(word: &[u8], name: &[u8]) -> bool
     word == name
 }
 
-/// The word behind a name; None where it isn't named.
+/// The word after a name; None where it isn't named.
 #[tactic(auto, unfolding(crate::specs::CommandLine::word_behind))]
 pub(crate) fn word_behind<'a>(name: &[u8], words: &'a [String]) -> Option<&'a [u8]>
     ensures { option_map (λ (x : Bor (List ℕ)). x.now) result ≡ spec.word_behind name.now (map string_bytes words.now) }

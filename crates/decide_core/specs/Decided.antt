@@ -1,4 +1,4 @@
--- What is known of chains of at most so many steps as a heading says.
+-- What is known of the chains of at most as many steps as a heading says.
 use Rattle.std.specs.Prelude.{◌≡◌, ℕ, ◌+◌}
 use Rattle.chain_theory.specs.Chain.{Chain}
 use Rattle.chain_theory.specs.Agreement.{NoneBelow}
@@ -18,7 +18,7 @@ use Rattle.decide_core.specs.declared.deciding.Decided.TheVariants.{Shorter, Lea
 abbrev pub Fewer : Heading → ℕ → Type 0
 Fewer h size = NoneBelow (specification h.spec) (members h.basis) size
 
--- no chain of at most so many steps does
+-- no chain of at most `max` steps does
 abbrev pub HasNone : Heading → Type 0
 HasNone h = Fewer h (h.max + 1)
 
@@ -40,13 +40,13 @@ pub record IsLeftOpen (h : Heading) (b : Bundle) : Type 0 where
   pub verdict : IsOpenVerdict b.verdict
 
 abbrev pub IsDecided : Heading → Decided → Type 0
-IsDecided h (Shorter c low) = IsShorter h c × Fewer h low
+IsDecided h (Shorter c) = IsShorter h c
 IsDecided h Least = HasNone h
 IsDecided h (Open b) = IsLeftOpen h b
 
 -- no size is left open
 abbrev pub IsClosed : Decided → Type 0
-IsClosed (Shorter c low) = Unit {0}
+IsClosed (Shorter c) = Unit {0}
 IsClosed Least = Unit {0}
 IsClosed (Open b) = ⊥
 

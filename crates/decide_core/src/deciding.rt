@@ -1,22 +1,20 @@
-//! What searches say: of a size behind which no chain stands, and of all sizes with a certificate.
-ghost use Rattle.std.specs.Prelude.{◌≡◌, ◌≤◌, ◌<◌, true, false, length, IfOk};
-ghost use Rattle.tt_core.specs.Words.{specification};
-ghost use Rattle.op_basis.specs.Basis.{members};
-ghost use Rattle.chain_theory.specs.Agreement.{NoneBelow};
-ghost use Rattle.cert_theory.specs.Bundle.{IsHeading};
-ghost use Rattle.decide_core.specs.Decided.{IsDecided, IsSized, IsShorter, IsOpenVerdict};
+//! What searches say: of a size below which no chain agrees, and of all sizes with a certificate.
+ghost use Rattle.std.specs.Prelude.{◌≡◌, ◌≤◌, true, false, length, IfOk};
+ghost use Rattle.decide_core.specs.Decided.{Fewer, IsDecided, IsSized, IsShorter, IsOpenVerdict};
 
+use crate::question::Question;
 use bundle_core::{Bundle, Heading, Verdict};
 use chain_core::Chain;
+use sat_solve::Solver;
 use size_loop::{SizeOutcome, search, search_size};
 use std::alloc::{AllocError, Global};
 
-/// What is known of the chains that agree, of at most so many steps as the heading says.
+/// What is known of the chains of at most as many steps as a heading says.
 #[derive(Drop)]
 pub enum Decided {
-    /// There is one, and none of fewer than `low` steps.
-    Shorter { chain: Chain, low: u32 },
-    /// There is none.
+    /// One agrees.
+    Shorter(Chain),
+    /// None agrees.
     Least,
     /// A search has spent its budget: its certificate.
     Open(Bundle),
@@ -27,7 +25,7 @@ pub enum Decided {
 pub enum Sized {
     /// A chain agrees, and none of fewer than `low` steps.
     Found { chain: Chain, low: u32 },
-    /// No chain of at most so many steps as the heading says does.
+    /// No chain of at most as many steps as the heading says does.
     Nothing,
     /// A search has spent its budget; none of fewer than `low` steps does.
     Open { low: u32 },
@@ -48,12 +46,11 @@ fn is_open(verdict: Verdict) -> bool
 
 /// What a search with a certificate says.
 #[tactic(auto, using(crate::specs::DecidedLaws::deciding))]
-pub fn search_whole(alloc: Global, heading: &Heading) -> Result<Decided, AllocError>
-    requires heading { IsHeading heading.now }
-    requires output { 0 < length heading.now.spec.on }
-    ensures { IfOk result (λ decided. IsDecided heading.now decided) }
+pub fn search_whole<S: Solver>(alloc: Global, question: Question) -> Result<Decided, AllocError>
+    ensures { IfOk result (λ decided. IsDecided question.entry.heading.now decided) }
 {
-    let bundle = search(
+    let heading = question.heading;
+    let bundle = search::<S>(
         alloc,
         &heading.spec,
         heading.basis,
@@ -71,22 +68,24 @@ pub fn search_whole(alloc: Global, heading: &Heading) -> Result<Decided, AllocEr
         verdict: _,
     } = bundle;
     match chain {
-        Some(chain) => Ok(Decided::Shorter { chain, low: 0 }),
+        Some(chain) => Ok(Decided::Shorter(chain)),
         None => Ok(Decided::Least),
     }
 }
 
 /// What a search says that begins at a size, where no chain of fewer steps agrees.
 #[tactic(auto, using(crate::specs::DecidedLaws::deciding))]
-pub fn search_from(alloc: Global, heading: &Heading, from: u32) -> Result<Sized, AllocError>
-    requires heading { IsHeading heading.now }
-    requires fewer { NoneBelow (specification heading.now.spec) (members heading.now.basis) from }
-    requires from { from ≤ heading.now.max }
-    requires output { 0 < length heading.now.spec.on }
-    ensures { IfOk result (λ sized. IsSized heading.now sized) }
+pub fn search_from<S: Solver>(
+    alloc: Global,
+    question: Question,
+    from: u32,
+) -> Result<Sized, AllocError>
+    requires fewer { Fewer question.heading.now from }
+    requires from { from ≤ question.heading.now.max }
+    ensures { IfOk result (λ sized. IsSized question.entry.heading.now sized) }
 {
-    for size in from..heading.max + 1 {
-        match search_size(alloc, heading, size)? {
+    for size in from..question.heading.max + 1 {
+        match search_size::<S>(alloc, question.heading, size)? {
             SizeOutcome::Found(chain) => return Ok(Sized::Found { chain, low: size }),
             SizeOutcome::Logged(section) => {
                 if section.is_open() {
@@ -101,7 +100,6 @@ pub fn search_from(alloc: Global, heading: &Heading, from: u32) -> Result<Sized,
 /// The chain without steps and outs, where no output is asked for.
 #[tactic(auto, using(crate::specs::DecidedLaws::deciding))]
 pub fn no_steps(alloc: Global, heading: &Heading) -> Chain
-    requires heading { IsHeading heading.now }
     requires output { length heading.now.spec.on ≡ 0 }
     ensures { IsShorter heading.now result }
 {

@@ -1,5 +1,5 @@
-//! Whether a specification has a chain of fewer steps than some number: for the windows of a net, of which
-//! most have none, by counting, and the others few steps.
+//! Whether a specification has a chain of at most `max` steps: for the windows of a net, of which most have none, by
+//! counting (a lower bound by the size of the support), and the others few steps.
 //!
 //! It stands on `bound_core` for what counting says, on `step_core` for whether one step is enough, where no more are
 //! asked for, and on `size_loop` for the search of a size. The search begins at the size that counting leaves, and has few
@@ -11,12 +11,13 @@
 //! ```text
 //! let heading = Heading { spec, basis, method, conflicts, max: 2 };
 //! let mut memory = Memory::new(alloc, basis);
-//! decide(alloc, &mut memory, &heading)? // Shorter(chain) of at most 2 steps, Least, or Open(bundle)
+//! decide::<S>(alloc, &mut memory, &heading)? // Shorter(chain) of at most 2 steps, Least, or Open(bundle)
 //! ```
 #![tactic(auto)]
 
 mod deciding;
 mod ordering;
+mod question;
 mod remembering;
 
 pub use bundle_core::{Bundle, Heading};

@@ -1,25 +1,27 @@
 //! Counting first, for at most one step then the steps that there are, and else what is remembered and searched, with
-//! the inputs in a normal order: so windows that differ in the order of their inputs share what was found. A chain is
-//! turned back and judged. The first search has few conflicts; where it is left open, the tables as they are asked for
+//! the inputs in a normal order (the P-class of the tables): so windows that differ in the order of their inputs share
+//! what was found. A chain is turned back and judged. The first search has few conflicts; where it is left open, the tables as they are asked for
 //! are searched with a certificate and the whole budget.
-ghost use Rattle.std.specs.Prelude.{◌≡◌, ◌<◌, ◌≤◌, length, IfSome, IfOk};
+ghost use Rattle.std.specs.Prelude.{◌≡◌, ◌≤◌, length, IfSome, IfOk};
 ghost use Rattle.tt_core.specs.Words.{specification};
 ghost use Rattle.cert_theory.specs.Bundle.{IsHeading};
 ghost use Rattle.spec_order.specs.Order.{IsOrder, IsTurned};
 ghost use Rattle.decide_core.specs.Decided.{IsDecided, IsClosed, IsShorter};
 
 use crate::deciding::{Decided, Sized, no_steps};
+use crate::question::Question;
 use crate::remembering::{decide_sizes, decide_whole, serves};
 use bound_core::lower_bound;
 use bundle_core::Heading;
 use chain_core::Chain;
+use sat_solve::Solver;
 use spec_memory::Memory;
 use spec_order::{inverse, normal_order, turned_chain, turned_spec};
 use std::alloc::{AllocError, Global};
 use step_core::one_step;
 
-/// So many conflicts at most has the first search of a size, which keeps nothing. What isn't decided by then is
-/// searched with a certificate, with the whole budget.
+/// The most conflicts of the first search of a size, which keeps no certificate. What isn't decided by then is searched
+/// with a certificate, with the whole budget.
 const FIRST_CONFLICTS: u32 = 10_000;
 
 /// The budget of the first search.
@@ -33,16 +35,16 @@ fn first_conflicts(conflicts: u32) -> u32
 
 /// The heading for tables whose inputs are in another order, for the first search.
 #[tactic(auto, using(crate::specs::OrderedLaws::ordering))]
-fn turned_heading(alloc: Global, heading: &Heading, order: &[u32]) -> Result<Heading, AllocError>
-    requires heading { IsHeading heading.now }
-    requires order { IsOrder heading.now.spec.n order.now }
+fn turned_heading(alloc: Global, question: Question, order: &[u32]) -> Result<Heading, AllocError>
+    requires { IsOrder question.heading.now.spec.n order.now }
     ensures heading { IfOk result (λ turned. IsHeading turned) }
-    ensures turned { IfOk result (λ turned. IsTurned (specification heading.now.spec) (specification turned.spec) order.now) }
-    ensures basis { IfOk result (λ turned. turned.basis ≡ heading.now.basis) }
-    ensures max { IfOk result (λ turned. turned.max ≡ heading.now.max) }
+    ensures turned { IfOk result (λ turned. IsTurned (specification question.entry.heading.now.spec) (specification turned.spec) order.now) }
+    ensures basis { IfOk result (λ turned. turned.basis ≡ question.entry.heading.now.basis) }
+    ensures max { IfOk result (λ turned. turned.max ≡ question.entry.heading.now.max) }
 {
+    let heading = question.heading;
     let spec = turned_spec(alloc, &heading.spec, order)?;
-    // brings what the type of tables says
+    // brings the type invariant into the proof
     let _inputs = spec.n();
     Ok(Heading {
         spec,
@@ -76,26 +78,25 @@ fn turned_back(
 
 /// Decides by the inputs in their normal order what counting leaves.
 #[tactic(auto, using(crate::specs::OrderedLaws::ordering))]
-fn decide_turned(
+fn decide_turned<S: Solver>(
     alloc: Global,
     memory: &mut Memory,
-    heading: &Heading,
+    question: Question,
 ) -> Result<Decided, AllocError>
-    requires heading { IsHeading heading.now }
-    requires basis { memory.old ≡ heading.now.basis }
-    requires output { 0 < length heading.now.spec.on }
-    ensures decided { IfOk result (λ decided. IsDecided heading.now decided) }
+    requires basis { memory.old ≡ question.heading.now.basis }
+    ensures decided { IfOk result (λ decided. IsDecided question.entry.heading.now decided) }
     ensures basis { memory.new ≡ memory.old }
 {
+    let heading = question.heading;
     let order = normal_order(alloc, &heading.spec)?;
-    let turned = turned_heading(alloc, heading, &order)?;
+    let turned = turned_heading(alloc, question, &order)?;
     let counted = lower_bound(&turned.spec);
-    match decide_sizes(alloc, memory, &turned, counted)? {
+    match decide_sizes::<S>(alloc, memory, Question::new(&turned), counted)? {
         Sized::Nothing => Ok(Decided::Least),
-        Sized::Open { low: _ } => decide_whole(alloc, memory, heading),
+        Sized::Open { low: _ } => decide_whole::<S>(alloc, memory, question),
         Sized::Found { chain, low: _ } => match turned_back(alloc, heading, &chain, &order)? {
-            Some(chain) => Ok(Decided::Shorter { chain, low: 0 }),
-            None => decide_whole(alloc, memory, heading),
+            Some(chain) => Ok(Decided::Shorter(chain)),
+            None => decide_whole::<S>(alloc, memory, question),
         },
     }
 }
@@ -108,16 +109,20 @@ fn decide_step(alloc: Global, heading: &Heading) -> Result<Decided, AllocError>
     ensures closed { IfOk result IsClosed }
 {
     match one_step(alloc, &heading.spec, heading.basis)? {
-        Some(chain) => Ok(Decided::Shorter { chain, low: 0 }),
+        Some(chain) => Ok(Decided::Shorter(chain)),
         None => Ok(Decided::Least),
     }
 }
 
-/// Decides whether a chain of at most so many steps as the heading says agrees with its tables, by counting, for at most
-/// one step by going over all of them, and else by a memory for the heading's basis, and by a search, from which the
+/// Decides whether a chain of at most `heading.max` steps agrees with the heading's tables, by counting, for at most one
+/// step by going over all of them, and else by a memory for the heading's basis, and by a search, from which the
 /// memory learns. A certificate comes only where a search has spent its budget.
 #[tactic(auto, using(crate::specs::OrderedLaws::ordering))]
-pub fn decide(alloc: Global, memory: &mut Memory, heading: &Heading) -> Result<Decided, AllocError>
+pub fn decide<S: Solver>(
+    alloc: Global,
+    memory: &mut Memory,
+    heading: &Heading,
+) -> Result<Decided, AllocError>
     requires heading { IsHeading heading.now }
     requires basis { memory.old ≡ heading.now.basis }
     ensures decided { IfOk result (λ decided. IsDecided heading.now decided) }
@@ -126,10 +131,7 @@ pub fn decide(alloc: Global, memory: &mut Memory, heading: &Heading) -> Result<D
     ensures basis { memory.new ≡ memory.old }
 {
     if heading.spec.outputs() == 0 {
-        return Ok(Decided::Shorter {
-            chain: no_steps(alloc, heading),
-            low: 0,
-        });
+        return Ok(Decided::Shorter(no_steps(alloc, heading)));
     }
     let counted = lower_bound(&heading.spec);
     if heading.max < counted {
@@ -138,5 +140,5 @@ pub fn decide(alloc: Global, memory: &mut Memory, heading: &Heading) -> Result<D
     if heading.max == 1 {
         return decide_step(alloc, heading);
     }
-    decide_turned(alloc, memory, heading)
+    decide_turned::<S>(alloc, memory, Question::new(heading))
 }

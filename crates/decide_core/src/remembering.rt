@@ -1,18 +1,18 @@
 //! What was found is remembered, so that a specification that was decided isn't searched again. A refutation is a
 //! fact of the memory; a chain that is remembered is judged before it is used.
-ghost use Rattle.std.specs.Prelude.{◌≡◌, ◌≤◌, ◌<◌, true, length, IfSome, IfOk};
+ghost use Rattle.std.specs.Prelude.{◌≡◌, ◌≤◌, true, length, IfSome, IfOk};
 ghost use Rattle.tt_core.specs.Words.{specification};
 ghost use Rattle.op_basis.specs.Basis.{members};
-ghost use Rattle.chain_theory.specs.Agreement.{IsOver, Agrees, NoneBelow};
-ghost use Rattle.cert_theory.specs.declared.data.Heading.{Heading as HeadingValue};
-ghost use Rattle.cert_theory.specs.Bundle.{IsHeading};
+ghost use Rattle.chain_theory.specs.Agreement.{IsOver, Agrees};
 ghost use Rattle.spec_memory.specs.Facts.{spelled};
-ghost use Rattle.decide_core.specs.Decided.{IsDecided, IsSized, IsShorter};
+ghost use Rattle.decide_core.specs.Decided.{Fewer, IsDecided, IsSized, IsShorter};
 
 use crate::deciding::{Decided, Sized, search_from, search_whole};
+use crate::question::Question;
 use bundle_core::Heading;
 use chain_core::{Chain, first_difference, first_outside};
 use op_basis::Basis;
+use sat_solve::Solver;
 use spec_memory::{Found, Key, Memory};
 use std::alloc::{AllocError, Global};
 use tt_core::Spec;
@@ -91,8 +91,11 @@ fn remembered(
 
 /// A number of steps of which no fewer do, by counting or by memory.
 #[tactic(auto, using(crate::specs::RememberedLaws::remembering))]
-fn first_size(memory: &Memory, key: &Key, counted: u32) -> u32
-    ensures { (heading : HeadingValue) → IsHeading heading → memory.now ≡ heading.basis → key.now ≡ spelled heading.spec → NoneBelow (specification heading.spec) (members heading.basis) counted → NoneBelow (specification heading.spec) (members heading.basis) result }
+fn first_size(memory: &Memory, key: &Key, question: Question, counted: u32) -> u32
+    requires basis { memory.now ≡ question.heading.now.basis }
+    requires key { key.now ≡ spelled question.heading.now.spec }
+    requires fewer { Fewer question.heading.now counted }
+    ensures { Fewer question.entry.heading.now result }
 {
     let known = memory.fewest(key);
     if known <= counted {
@@ -125,29 +128,27 @@ fn with_chain(fewest: u32, chain: Chain) -> Found
 
 /// Searches, and notes what was found.
 #[tactic(auto, using(crate::specs::RememberedLaws::remembering))]
-fn search_new(
+fn search_new<S: Solver>(
     alloc: Global,
     memory: &mut Memory,
     key: Key,
-    heading: &Heading,
+    question: Question,
     from: u32,
 ) -> Result<Sized, AllocError>
-    requires heading { IsHeading heading.now }
-    requires basis { memory.old ≡ heading.now.basis }
-    requires key { key ≡ spelled heading.now.spec }
-    requires fewer { NoneBelow (specification heading.now.spec) (members heading.now.basis) from }
-    requires from { from ≤ heading.now.max }
-    requires output { 0 < length heading.now.spec.on }
-    ensures sized { IfOk result (λ sized. IsSized heading.now sized) }
+    requires basis { memory.old ≡ question.heading.now.basis }
+    requires key { key ≡ spelled question.heading.now.spec }
+    requires fewer { Fewer question.heading.now from }
+    requires from { from ≤ question.heading.now.max }
+    ensures sized { IfOk result (λ sized. IsSized question.entry.heading.now sized) }
     ensures basis { memory.new ≡ memory.old }
 {
-    match search_from(alloc, heading, from)? {
+    match search_from::<S>(alloc, question, from)? {
         Sized::Open { low } => {
             memory.note(key, without_chain(low, true))?;
             Ok(Sized::Open { low })
         }
         Sized::Nothing => {
-            memory.note(key, without_chain(heading.max + 1, false))?;
+            memory.note(key, without_chain(question.heading.max + 1, false))?;
             Ok(Sized::Nothing)
         }
         Sized::Found { chain, low } => {
@@ -160,64 +161,61 @@ fn search_new(
 
 /// Decides by memory, and searches what it doesn't know.
 #[tactic(auto, using(crate::specs::RememberedLaws::remembering))]
-pub fn decide_sizes(
+pub fn decide_sizes<S: Solver>(
     alloc: Global,
     memory: &mut Memory,
-    heading: &Heading,
+    question: Question,
     counted: u32,
 ) -> Result<Sized, AllocError>
-    requires heading { IsHeading heading.now }
-    requires basis { memory.old ≡ heading.now.basis }
-    requires fewer { NoneBelow (specification heading.now.spec) (members heading.now.basis) counted }
-    requires output { 0 < length heading.now.spec.on }
-    ensures sized { IfOk result (λ sized. IsSized heading.now sized) }
+    requires basis { memory.old ≡ question.heading.now.basis }
+    requires fewer { Fewer question.heading.now counted }
+    ensures sized { IfOk result (λ sized. IsSized question.entry.heading.now sized) }
     ensures basis { memory.new ≡ memory.old }
 {
-    let key = Key::of(alloc, &heading.spec)?;
-    let from = first_size(memory, &key, counted);
-    if heading.max < from {
+    let key = Key::of(alloc, &question.heading.spec)?;
+    let from = first_size(memory, &key, question, counted);
+    if question.heading.max < from {
         return Ok(Sized::Nothing);
     }
     if memory.is_open(&key) {
         return Ok(Sized::Open { low: from });
     }
-    match remembered(alloc, memory, &key, heading)? {
+    match remembered(alloc, memory, &key, question.heading)? {
         Some(chain) => Ok(Sized::Found { chain, low: 0 }),
-        None => search_new(alloc, memory, key, heading, from),
+        None => search_new::<S>(alloc, memory, key, question, from),
     }
 }
 
 /// Searches the tables as they are asked for with a certificate, unless the memory knows what comes of it, which it
 /// learns here too.
 #[tactic(auto, using(crate::specs::RememberedLaws::remembering))]
-pub fn decide_whole(
+pub fn decide_whole<S: Solver>(
     alloc: Global,
     memory: &mut Memory,
-    heading: &Heading,
+    question: Question,
 ) -> Result<Decided, AllocError>
-    requires heading { IsHeading heading.now }
-    requires basis { memory.old ≡ heading.now.basis }
-    requires output { 0 < length heading.now.spec.on }
-    ensures decided { IfOk result (λ decided. IsDecided heading.now decided) }
+    requires basis { memory.old ≡ question.heading.now.basis }
+    ensures decided { IfOk result (λ decided. IsDecided question.entry.heading.now decided) }
     ensures basis { memory.new ≡ memory.old }
 {
+    let heading = question.heading;
     let key = Key::of(alloc, &heading.spec)?;
     let known = memory.fewest(&key);
     if heading.max < known {
         return Ok(Decided::Least);
     }
     if let Some(chain) = remembered(alloc, memory, &key, heading)? {
-        return Ok(Decided::Shorter { chain, low: 0 });
+        return Ok(Decided::Shorter(chain));
     }
-    match search_whole(alloc, heading)? {
+    match search_whole::<S>(alloc, question)? {
         Decided::Least => {
             memory.note(key, without_chain(heading.max + 1, false))?;
             Ok(Decided::Least)
         }
-        Decided::Shorter { chain, low: _ } => {
+        Decided::Shorter(chain) => {
             let found = with_chain(0, copied(alloc, &chain)?);
             memory.note(key, found)?;
-            Ok(Decided::Shorter { chain, low: 0 })
+            Ok(Decided::Shorter(chain))
         }
         Decided::Open(bundle) => Ok(Decided::Open(bundle)),
     }

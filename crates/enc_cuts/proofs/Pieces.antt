@@ -14,7 +14,7 @@ use Rattle.enc_cuts.specs.Vars.{steps_have_vars}
 -- a filter, element by element
 pub ruleset keeping = (common_steps, filter_more)
 
--- the pairs and places of a formula's steps
+-- the variables of a formula's pairs are within the formula's
 pub ruleset families = (common_steps, steps_have_vars)
 
 -- the test of symmetric inputs

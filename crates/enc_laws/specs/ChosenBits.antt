@@ -25,7 +25,7 @@ abbrev pub operand : Side → Step → ℕ
 operand First s = s.j
 operand Second s = s.k
 
--- the number is that of an operand's value of some step
+-- the number is that of the choice of an operand that the chain's step i has
 abbrev step_chooses : Sizes → Chain → ℕ → ℕ → Bool
 step_chooses z c x i = choice_var z First i (step_at c i).j == x || choice_var z Second i (step_at c i).k == x
 

@@ -38,8 +38,8 @@ pub x_bit-step : (z : Sizes) (v : Assignment) (j t : ℕ) → z.n < j → x_bit 
 unfolding x_bit
 x_bit-step z v j t high = rw (lt-leb j z.n high) refl
 
--- Steps, each place with the assignment's bits, which are the operator's of its operands' bits, and
--- for each output a step's place that meets its cells.
+-- A list of steps: the assignment's bit of a step's place is its operator's of its operands' bits,
+-- and each output has a step's place whose bits meet its cells.
 pub record IsSpelled (w : Words) (z : Sizes) (v : Assignment) (list : List Step) (bearer : ℕ → ℕ) : Type 0 where
   pub count : length list ≡ z.r
   pub steps : AreSteps z.n list

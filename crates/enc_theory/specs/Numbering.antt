@@ -31,7 +31,7 @@ x_var z i t = (i - (z.n + 1)) * 2 ^ z.n + t + 1
 unfoldable pub g_var : Sizes → ℕ → ℕ → ℕ
 g_var z h i = z.r * 2 ^ z.n + (h - 1) * z.r + (i - z.n)
 
--- the variables before those of operators
+-- the first variable of operators
 abbrev pub f_first : Sizes → ℕ
 f_first z = z.r * 2 ^ z.n + z.m * z.r + 1
 

@@ -40,7 +40,7 @@ parts_are [] = refl
 parts_are (Nothing ∷ fs) = parts_are fs
 parts_are (Known word ∷ fs) = ap (λ (xs : List ℕ). (32 ∷ word.now) ++ xs) (parts_are fs)
 parts_are (Count number ∷ fs) = ap (λ (xs : List ℕ). (32 ∷ decimal number) ++ xs) (parts_are fs)
-parts_are (Name name ∷ fs) = ap (λ (xs : List ℕ). (32 ∷ name) ++ xs) (parts_are fs)
+parts_are (Name name ∷ fs) = ap (λ (xs : List ℕ). (32 ∷ name.items) ++ xs) (parts_are fs)
 
 line_is : (fields : List Field) → codes "error:" ++ (parts_text fields ++ codes "\n") ≡ error_line (shown fields)
 unfolding error_line

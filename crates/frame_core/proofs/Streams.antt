@@ -5,7 +5,7 @@ use Rattle.port_io.specs.TextLaws.{prepended-none, prepended-twice, all_taken, n
 use Rattle.frame_core.specs.Run.{IsWhole}
 use Rattle.frame_core.specs.Streaming.{WereTaken}
 
--- These bytes were taken, this holds of them, and there is room for so many more.
+-- `bytes` were taken, `Holds` holds of them, and there is room for `room` more.
 pub record IsTaking (most room : ℕ) (old now : Option (List ℕ)) (Holds : List ℕ → Type 0) : Type 0 where
   pub bytes : List ℕ
   pub consumes : Consumes old now bytes
@@ -43,7 +43,7 @@ taking_long most room old now new piece input Holds then beyond taking told =
     let count = length-append taking.bytes piece in
     omega (arith, count, least, taking.room_is, beyond)
 
--- what was taken is what was told, and it was read to its end
+-- what was taken is what the source held, and it was read to its end
 pub taken_whole : (most : ℕ) (old new : Option (List ℕ)) (Holds : List ℕ → Type 0) → (taken : WereTaken most old new Holds) → IsWhole old taken.bytes
 taken_whole most old new Holds taken = λ input told. all_taken old new taken.bytes input taken.consumes taken.end told
 

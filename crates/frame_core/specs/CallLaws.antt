@@ -34,7 +34,7 @@ read_by Starved most source source' input read long told a b c = read.end input 
 read_by (ReportCut reply) most source source' input read long told a b c = read.end input told
 read_by (NoAnswer refusal) most source source' input read long told a b c = read.end input told
 
--- and what is told to be too long is
+-- and what is reported as too long is
 too_long_is : (task : Task) (r : Run) (o : Outcome) (most : ℕ) (input : List ℕ) → IsRun task r o → task.reads ≡ Some most → r.source.bytes ≡ Some input → o ≡ TooLong → most < length input
 too_long_is task r TooLong most input run reads told is =
     subst (λ (m : Option ℕ). IsBeyond m input) reads (run.judged input (subst (λ (m : Option ℕ). HasInput m r.source.bytes input) (sym reads) told))

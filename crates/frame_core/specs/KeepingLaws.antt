@@ -198,7 +198,7 @@ too_long_told task r (NoAnswer refusal) input is run told long held =
 
 -- ---- what a status says
 
--- a status that an outcome hasn't
+-- a status that an outcome does not have
 apart : {A : Type 0} (task : Task) (r : Run) (o : Outcome) (s : Status) → IsRun task r o → r.status ≡ s → (status_of o ≡ s → ⊥) → A
 apart task r o s run is other = absurd (other (sym run.status_is ∙ is))
 
@@ -341,7 +341,7 @@ memory_only task r Starved is_task run is = inr (starved task r run)
 memory_only task r (ReportCut reply) is_task run is = apart task r (ReportCut reply) statuses.Memory run is (λ e. cc)
 memory_only task r (NoAnswer refusal) is_task run is = inl (memory_refused task r refusal is_task run is)
 
--- no command is told to be none
+-- no command is reported as none
 pub not_usage : {A : Type 0} (task : Task) (r : Run) (o : Outcome) → IsTask task → IsRun task r o → r.status ≡ statuses.Usage → A
 not_usage task r ReadFault is_task run is = apart task r ReadFault statuses.Usage run is (λ e. cc)
 not_usage task r TooLong is_task run is = apart task r TooLong statuses.Usage run is (λ e. cc)

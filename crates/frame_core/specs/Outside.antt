@@ -3,8 +3,8 @@ use Rattle.std.specs.Prelude.{◌≡◌, ℕ, List, Option}
 use Rattle.port_io.specs.Bytes.{Appends, AppendsFront}
 use Rattle.port_io.specs.Faults.{Rose}
 
--- a source or a sink at a moment: the bytes that it has left or that were written to it, where it
--- tells them, and its count of faults
+-- a source or a sink at a moment: the bytes that it has left or that were written to it, where
+-- they are known, and its count of faults
 pub record Side : Type 0 where
   pub bytes : Option (List ℕ)
   pub faults : ℕ
@@ -16,7 +16,7 @@ side bytes faults x = record { bytes = bytes x; faults = faults x }
 abbrev pub IsQuiet : Side → Side → Type 0
 IsQuiet old new = new.faults ≡ old.faults
 
--- A text was written: a front of it, and all of it where no call failed.
+-- A text was written: a prefix of it, and all of it where no call failed.
 pub record Writes (old new : Side) (text : List ℕ) : Type 0 where
   pub front : AppendsFront old.bytes new.bytes text
   pub whole : (Rose old.faults new.faults → ⊥) → Appends old.bytes new.bytes text

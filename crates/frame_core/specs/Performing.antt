@@ -52,7 +52,7 @@ IsSent reply CutShort = Unit {0}
 IsSent reply (ReportCut sent) = sent ≡ reply
 IsSent reply outcome = ⊥
 
--- Its text stands on the output, or a front of it where the output failed.
+-- Its text stands on the output, or a prefix of it where the output failed.
 abbrev pub OutSent : List ℕ → Side → Side → Outcome → Type 0
 OutSent text old new CutShort = AppendsFront old.bytes new.bytes text × Rose old.faults new.faults
 OutSent text old new outcome = Appends old.bytes new.bytes text × IsQuiet old new
@@ -71,7 +71,7 @@ pub record Withheld (outcome : Outcome) (e : Ended) (out note : Side × Side) : 
   pub on_out : out.1 ≡ out.0
   pub on_note : note.1 ≡ note.0
 
--- What was told at once was sent out, or there was nothing to send.
+-- A reply was sent out, or there was none to send.
 abbrev pub Finishes : Result Reply Stop → Ended → Side × Side → Side × Side → Type 0
 Finishes (Ok reply) e out note = Sent (reply_value reply) e out note
 Finishes (Err stops.NoMemory) e out note = Withheld Memory e out note

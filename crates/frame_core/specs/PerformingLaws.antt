@@ -13,7 +13,7 @@ use Rattle.frame_core.specs.declared.replies.Ended.TheVariants as ended
 use Rattle.frame_core.specs.Outside.{Side, IsQuiet, Writes}
 use Rattle.frame_core.specs.Told as told
 use Rattle.frame_core.specs.Told.{error_line}
-use Rattle.frame_core.specs.Task.{Task, Tells, IsBeyond, IsTask}
+use Rattle.frame_core.specs.Task.{Task, Tells, IsBeyond}
 use Rattle.frame_core.specs.Run.{Outcome, ReadFault, TooLong, Memory, Answered, CutShort, Starved, ReportCut, NoAnswer, IsInput, HasInput, IsLeft, IsOutcome, IsReadToEnd, SourceRead, SourceAfter, OutAfter, Reports, ReportsFront, run_of, IsRun, LineAfter}
 use Rattle.frame_core.specs.Views.{reply_value, refusal_value, status_in, line_in, Judges}
 use Rattle.frame_core.specs.Performing.{IsJudged, Answers, Performs, IsSent, OutSent, Sent, Finishes}
@@ -109,9 +109,9 @@ want_read task most source out note same quiet on_out on_note = record {
   never_falls = let counts : note.1.faults ≡ note.0.faults = ap (λ (s : Side). s.faults) on_note in omega arith;
 }
 
--- ---- what is told at once
+-- ---- replies that are sent at once
 
--- A front of an answer's text may be left of it.
+-- A prefix of an answer's text may be left of it.
 pub left_of : (task : Task) (bytes : List ℕ) (reply : told.Reply) (old new : Side) → Tells task bytes reply → AppendsFront old.bytes new.bytes reply.text → IsLeft task bytes old new
 left_of task bytes reply old new tells front =
     let text : List ℕ = (task.reply tells.answer).text in
@@ -151,8 +151,8 @@ sent_out task bytes reply (ReportCut x) old new tells is out = (subst (λ (y : t
 sent_out task bytes reply (NoAnswer refusal) old new tells is out = absurd is
 
 -- What judged the bytes rightly, and was sent out, answers them.
-pub answered : (task : Task) (bytes : List ℕ) (x : Result Reply Stop) (e : Ended) (out note : Side × Side) → IsTask task → Judges task bytes x → Finishes x e out note → Answers task bytes e out note
-answered task bytes (Ok reply) e out note task_is judges sent = record {
+pub answered : (task : Task) (bytes : List ℕ) (x : Result Reply Stop) (e : Ended) (out note : Side × Side) → Judges task bytes x → Finishes x e out note → Answers task bytes e out note
+answered task bytes (Ok reply) e out note judges sent = record {
   outcome = sent.outcome;
   ends = sent.ends;
   judged = sent_judged task bytes (reply_value reply) sent.outcome judges sent.is;
@@ -160,7 +160,7 @@ answered task bytes (Ok reply) e out note task_is judges sent = record {
   on_note = sent.on_note;
   never_falls = sent.never_falls;
 }
-answered task bytes (Err stops.NoMemory) e out note task_is judges held = record {
+answered task bytes (Err stops.NoMemory) e out note judges held = record {
   outcome = Memory;
   ends = held.ends;
   judged = tt;
@@ -168,7 +168,7 @@ answered task bytes (Err stops.NoMemory) e out note task_is judges held = record
   on_note = held.on_note;
   never_falls = let counts : note.1.faults ≡ note.0.faults = ap (λ (s : Side). s.faults) held.on_note in omega arith;
 }
-answered task bytes (Err (stops.NoAnswer refusal)) e out note task_is judges held = record {
+answered task bytes (Err (stops.NoAnswer refusal)) e out note judges held = record {
   outcome = NoAnswer (refusal_value refusal);
   ends = held.ends;
   judged = judges;
@@ -177,9 +177,9 @@ answered task bytes (Err (stops.NoAnswer refusal)) e out note task_is judges hel
   never_falls = let counts : note.1.faults ≡ note.0.faults = ap (λ (s : Side). s.faults) held.on_note in omega arith;
 }
 
--- ---- with the error line behind it
+-- ---- with the error line after it
 
--- What was performed, and whose error line was told, is a run.
+-- What was performed, and whose error line was written, is a run.
 pub is_run : (task : Task) (words : List (List ℕ)) (e : Ended) (status : Status) (source out : Side × Side) (note between note' : Side) → Performs task e source out (note, between) → status ≡ status_in e → LineAfter between note' (line_in e) → between.faults ≤ note'.faults → (outcome : Outcome) × IsRun task (run_of words source out (note, note') status) outcome
 is_run task words e status source out note between note' performs same line then = (
   performs.outcome,
@@ -271,6 +271,6 @@ pieces_starved task bytes out note pieces left quiet on_note = record {
 
 -- ---- lines
 
--- Fields by another name are told as they are.
+-- Fields by another name are written as they are.
 pub named_as : (old new : Side) (a b : List told.Field) → a ≡ b → Writes old new (error_line a) → Writes old new (error_line b)
 named_as old new a b same writes = subst (λ (n : List told.Field). Writes old new (error_line n)) same writes

@@ -1,4 +1,4 @@
--- Texts that go out in pieces, one behind the other.
+-- Texts that go out in pieces, one after the other.
 use Rattle.std.proofs.Common.{◌≡◌, ℕ, List, [], ◌∷◌, length, Option, sym, subst, arith}
 use Rattle.std.proofs.lemmas.Grind.{common_steps}
 use Rattle.port_io.specs.Bytes.{Appends, AppendsFront}
@@ -6,7 +6,7 @@ use Rattle.port_io.specs.TextLaws.{appended-none, front_none, front_whole, front
 use Rattle.port_io.specs.CountLaws.{counts}
 use Rattle.frame_core.specs.Told.{joined}
 
--- Of texts that were to be written behind `first` these are left, whatever comes of them.
+-- Of texts that were to be written after `first` these are left, whatever comes of them.
 pub record IsWriting (first now : Option (List ℕ)) (texts left : List (List ℕ)) : Type 0 where
   pub whole : (later : Option (List ℕ)) → Appends now later (joined left) → Appends first later (joined texts)
   pub front : (later : Option (List ℕ)) → AppendsFront now later (joined left) → AppendsFront first later (joined texts)

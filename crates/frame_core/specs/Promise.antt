@@ -39,7 +39,7 @@ pub record Stands (r : Run) (reply : Reply) : Type 0 where
   pub out_quiet : IsQuiet r.out r.out'
   pub note_quiet : IsQuiet r.note r.note'
 
--- The output is as before, and the error is told.
+-- The output is as before, and the error is reported.
 pub record TellsError (r : Run) (refusal : Refusal) : Type 0 where
   pub status_is : r.status ≡ refusal.status
   pub on_out : r.out' ≡ r.out
@@ -51,13 +51,13 @@ pub record Replies (task : Task) (r : Run) (input : List ℕ) : Type 0 where
   pub has : task.Has input answer
   pub stands : Stands r (task.reply answer)
 
--- It has a fault, which is told.
+-- It has a fault, which is reported.
 pub record Faults (task : Task) (r : Run) (input : List ℕ) : Type 0 where
   pub fault : task.Fault
   pub meets : task.Meets input fault
   pub told : TellsError r (task.refusal fault)
 
--- The output failed in the text of an answer: a front of it stands there, and the fault is told.
+-- The output failed in the text of an answer: a prefix of it stands there, and the fault is reported.
 pub record ReplyCut (task : Task) (r : Run) (input : List ℕ) : Type 0 where
   pub front : List ℕ
   pub leaves : MayStand task input front
@@ -65,8 +65,8 @@ pub record ReplyCut (task : Task) (r : Run) (input : List ℕ) : Type 0 where
   pub rose : Rose r.out.faults r.out'.faults
   pub on_note : Writes r.note r.note' (error_line write_fault)
 
--- The notes failed in the report of an answer: its text stands on the output, whole, a front of its report
--- on the notes, and then the fault is told.
+-- The notes failed in the report of an answer: its text stands on the output, whole, a prefix of its report
+-- on the notes, and then the fault is reported.
 pub record ReportCut (task : Task) (r : Run) (input : List ℕ) : Type 0 where
   pub answer : task.Answer
   pub has : task.Has input answer
@@ -80,8 +80,8 @@ pub record ReportCut (task : Task) (r : Run) (input : List ℕ) : Type 0 where
   pub first : r.note.faults ≤ between.faults
   pub then : between.faults ≤ r.note'.faults
 
--- Memory ran out while the text of an answer went out in pieces: a front of it stands there, and the want
--- is told.
+-- Memory ran out while the text of an answer went out in pieces: a prefix of it stands there, and the want
+-- is reported.
 pub record ReplyStarved (task : Task) (r : Run) (input : List ℕ) : Type 0 where
   pub in_pieces : task.in_pieces ≡ true
   pub front : List ℕ
@@ -90,13 +90,13 @@ pub record ReplyStarved (task : Task) (r : Run) (input : List ℕ) : Type 0 wher
   pub out_quiet : IsQuiet r.out r.out'
   pub on_note : Writes r.note r.note' (error_line memory)
 
--- This holds of what the command judged: of all that the source told, where it tells its bytes.
+-- `Holds` holds of what the command judged: of all that the source held, where its bytes are known.
 pub record OfInput (task : Task) (r : Run) (Holds : List ℕ → Type 0) : Type 0 where
   pub bytes : List ℕ
   pub are : IsInput task.reads r.source.bytes bytes
   pub holds : Holds bytes
 
--- The input was longer than the command reads, which is told.
+-- The input was longer than the command reads, which is reported.
 pub record IsTooLong (task : Task) (r : Run) : Type 0 where
   pub beyond : (input : List ℕ) → HasInput task.reads r.source.bytes input → IsBeyond task.reads input
   pub told : TellsError r too_long_refusal
@@ -116,7 +116,7 @@ pub record CommandPromise (task : Task) (r : Run) : Type 0 where
       → IsAnswerable task input
       → OutputHeld r
       → Replies task r input ⊎ ReportCut task r input
-  -- Input with a fault is told it, and so is input that is too long.
+  -- The fault of input that has one is reported, and so is input that is too long.
   pub refused : (input : List ℕ) (fault : task.Fault)
       → HasInput task.reads r.source.bytes input
       → task.Meets input fault
@@ -137,11 +137,11 @@ pub record CommandPromise (task : Task) (r : Run) : Type 0 where
   pub write_fault_only : r.status ≡ WriteFault → OfInput task r (λ input. ReplyCut task r input ⊎ ReportCut task r input)
   pub write_rose : r.status ≡ WriteFault → Rose r.out.faults r.out'.faults ⊎ Rose r.note.faults r.note'.faults
   pub memory_only : r.status ≡ Memory → TellsError r memory_refusal ⊎ OfInput task r (ReplyStarved task r)
-  -- Where a call on the source or on the output failed, that is told and nothing else. One on the notes that fails in
-  -- a report is told too: without it the reply wouldn't stand.
+  -- Where a call on the source or on the output failed, that is reported and nothing else. One on the notes that fails
+  -- in a report is reported too: without it the reply wouldn't stand.
   pub read_failed : r.source.faults < r.source'.faults → r.status ≡ ReadFault
   pub write_failed : r.out.faults < r.out'.faults → r.status ≡ WriteFault
-  -- A command without a report is never told a fault of the notes.
+  -- A command without a report never ends with a fault of the notes.
   pub out_rose : HasNoReport task → r.status ≡ WriteFault → Rose r.out.faults r.out'.faults
   -- Without an answer the output is as before.
   pub unchanged : r.status ≢ Done
@@ -150,7 +150,7 @@ pub record CommandPromise (task : Task) (r : Run) : Type 0 where
       → r.status ≢ WriteFault
       → (r.status ≡ Memory → task.in_pieces ≡ false)
       → r.out' ≡ r.out
-  -- What was judged was read to its end, whatever is told of it: all but input that is too long.
+  -- What was judged was read to its end, whatever is reported of it: all but input that is too long.
   pub read_to_end : (most : ℕ) (input : List ℕ)
       → task.reads ≡ Some most
       → r.source.bytes ≡ Some input
@@ -164,6 +164,6 @@ pub record CommandPromise (task : Task) (r : Run) : Type 0 where
       → r.source.bytes ≡ Some input
       → (r.source'.bytes ≡ Some [] → ⊥)
       → r.out' ≡ r.out
-  -- A command that reads nothing makes no call on its source, and is told no fault of it.
+  -- A command that reads nothing makes no call on its source, and reports no fault of it.
   pub untouched : task.reads ≡ None → r.source' ≡ r.source
   pub never_read : task.reads ≡ None → r.status ≢ ReadFault

@@ -42,7 +42,7 @@ line_of Starved = Some memory
 line_of (ReportCut reply) = Some write_fault
 line_of (NoAnswer refusal) = Some refusal.named
 
--- where the source told its bytes, these are all of them
+-- where the bytes of the source are known, these are all of them
 abbrev pub IsWhole : Option (List ℕ) → List ℕ → Type 0
 IsWhole left bytes = (input : List ℕ) → left ≡ Some input → bytes ≡ input
 
@@ -51,7 +51,7 @@ abbrev pub IsInput : Option ℕ → Option (List ℕ) → List ℕ → Type 0
 IsInput None left bytes = bytes ≡ []
 IsInput (Some most) left bytes = IsWhole left bytes
 
--- The input is known to be this: the source told it, or the command reads nothing.
+-- The input is known to be this: the source held it, or the command reads nothing.
 abbrev pub HasInput : Option ℕ → Option (List ℕ) → List ℕ → Type 0
 HasInput None left input = input ≡ []
 HasInput (Some most) left input = left ≡ Some input
@@ -73,7 +73,7 @@ IsOutcome task left bytes Starved = IsInput task.reads left bytes × (task.in_pi
 IsOutcome task left bytes (ReportCut reply) = IsInput task.reads left bytes × Tells task bytes reply
 IsOutcome task left bytes (NoAnswer refusal) = IsInput task.reads left bytes × Refuses task bytes refusal
 
--- What was told to be left was read to its end, and no call failed.
+-- What was known to be left was read to its end, and no call failed.
 pub record IsReadToEnd (old new : Side) : Type 0 where
   pub end : (input : List ℕ) → old.bytes ≡ Some input → new.bytes ≡ Some []
   pub quiet : IsQuiet old new
@@ -99,7 +99,7 @@ abbrev pub SourceAfter : Option ℕ → Side → Side → Outcome → Type 0
 SourceAfter None old new outcome = SourceLeft old new outcome
 SourceAfter (Some most) old new outcome = SourceRead old new outcome
 
--- The reply's text stands on the output whole, and a front of one where the output failed, or memory ran
+-- The reply's text stands on the output whole, and a prefix of one where the output failed, or memory ran
 -- out. With every other outcome the output is as before. Where a call failed, that is the outcome.
 abbrev pub OutAfter : Task → List ℕ → Side → Side → Outcome → Type 0
 OutAfter task bytes old new ReadFault = new ≡ old
@@ -111,7 +111,7 @@ OutAfter task bytes old new Starved = IsLeft task bytes old new × IsQuiet old n
 OutAfter task bytes old new (ReportCut reply) = Appends old.bytes new.bytes reply.text × IsQuiet old new
 OutAfter task bytes old new (NoAnswer refusal) = new ≡ old
 
--- A report went to the notes whole, or a front of it. Without one they are as before.
+-- A report went to the notes whole, or a prefix of it. Without one they are as before.
 abbrev pub Reports : Side → Side → Option (List ℕ) → Type 0
 Reports old new None = new ≡ old
 Reports old new (Some text) = Appends old.bytes new.bytes text
@@ -125,13 +125,13 @@ ReportAfter old new (Answered reply) = Reports old new reply.report × IsQuiet o
 ReportAfter old new (ReportCut reply) = ReportsFront old new reply.report
 ReportAfter old new outcome = new ≡ old
 
--- the error line behind it, where there is one
+-- the error line after it, where there is one
 abbrev pub LineAfter : Side → Side → Option (List Field) → Type 0
 LineAfter old new None = new ≡ old
 LineAfter old new (Some fields) = Writes old new (error_line fields)
 
 -- The report, and then the error line. The count of faults between them is between the counts before and
--- behind.
+-- after.
 pub record NoteAfter (old new : Side) (outcome : Outcome) : Type 0 where
   pub between : Side
   pub report : ReportAfter old between outcome

@@ -2,7 +2,7 @@
 use Rattle.std.specs.Prelude.{◌≡◌, ℕ, ◌≤◌, List, length, Option, Some, None}
 use Rattle.port_io.specs.Bytes.{Consumes, IsAtEnd}
 
--- so many bytes are no more than are read, and none where nothing is
+-- `count` bytes are no more than are read, and none where nothing is
 abbrev pub IsCount : Option ℕ → ℕ → Type 0
 IsCount None count = count ≡ 0
 IsCount (Some most) count = count ≤ most

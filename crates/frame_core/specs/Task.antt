@@ -7,11 +7,11 @@ use Rattle.frame_core.specs.Told.{Reply, Refusal, memory_refusal}
 pub record Task : Type 1 where
   -- the most bytes that it reads; one without a number makes no call on its source
   pub reads : Option ℕ
-  -- its answers, the bytes that have them, and how it tells them
+  -- its answers, the bytes that have them, and how it reports them
   pub Answer : Type 0
   pub Has : List ℕ → Answer → Type 0
   pub reply : Answer → Reply
-  -- the faults of bytes without an answer, the bytes that have them, and how it tells them
+  -- the faults of bytes without an answer, the bytes that have them, and how it reports them
   pub Fault : Type 0
   pub Meets : List ℕ → Fault → Type 0
   pub refusal : Fault → Refusal
@@ -21,7 +21,7 @@ pub record Task : Type 1 where
   -- the texts that may have gone out for bytes whose answer isn't known yet
   pub Begins : List ℕ → List ℕ → Type 0
 
--- The front is one of the text.
+-- `front` is a prefix of the text.
 pub record IsFront (front text : List ℕ) : Type 0 where
   pub rest : List ℕ
   pub is : text ≡ front ++ rest
@@ -88,13 +88,13 @@ from_nothing Answer Is reply = record {
   Begins = begins_none;
 }
 
--- The bytes have an answer that this reply tells.
+-- The bytes have an answer that this reply reports.
 pub record Tells (task : Task) (bytes : List ℕ) (reply : Reply) : Type 0 where
   pub answer : task.Answer
   pub has : task.Has bytes answer
   pub is : reply ≡ task.reply answer
 
--- They have a fault that this refusal tells.
+-- They have a fault that this refusal reports.
 pub record Refuses (task : Task) (bytes : List ℕ) (refusal : Refusal) : Type 0 where
   pub fault : task.Fault
   pub meets : task.Meets bytes fault

@@ -1,4 +1,4 @@
--- What a command tells: a reply or a refusal.
+-- What a command reports: a reply or a refusal.
 use Rattle.std.specs.Prelude.{ℕ, List, [], ◌∷◌, ◌++◌, Option, codes, decimal}
 use Rattle.frame_core.specs.declared.status.Status.{Status}
 use Rattle.frame_core.specs.declared.status.Status.TheVariants as statuses
@@ -9,7 +9,7 @@ pub record Reply : Type 0 where
   pub report : Option (List ℕ)
   pub status : Status
 
--- texts, one behind the other
+-- texts, one after the other
 unfoldable pub joined : List (List ℕ) → List ℕ
 joined [] = []
 joined (text ∷ texts) = text ++ joined texts
@@ -39,7 +39,7 @@ abbrev pub field_text : Field → List ℕ
 field_text (Word word) = word
 field_text (Number number) = decimal number
 
--- fields, each behind a blank
+-- fields, each after a blank
 unfoldable pub fields_text : List Field → List ℕ
 fields_text [] = []
 fields_text (f ∷ fs) = (32 ∷ field_text f) ++ fields_text fs
@@ -64,7 +64,7 @@ too_long = plain (codes "TooLong")
 unfoldable pub memory : List Field
 memory = plain (codes "Memory")
 
--- what every command may tell that has no answer: its input is too long, reading failed, want of memory
+-- what every command may report that has no answer: its input is too long, reading failed, want of memory
 abbrev pub too_long_refusal : Refusal
 too_long_refusal = record { status = statuses.Limit; named = too_long }
 

@@ -25,7 +25,7 @@ shown [] = []
 shown (Nothing ∷ fs) = shown fs
 shown (Known word ∷ fs) = Word word.now ∷ shown fs
 shown (Count number ∷ fs) = Number number ∷ shown fs
-shown (Name name ∷ fs) = Word name ∷ shown fs
+shown (Name name ∷ fs) = Word name.items ∷ shown fs
 
 abbrev pub line_value : ErrorLine → List told.Field
 line_value line = shown line.fields
@@ -35,7 +35,7 @@ abbrev pub part_text : Field → List ℕ
 part_text Nothing = []
 part_text (Known word) = 32 ∷ word.now
 part_text (Count number) = 32 ∷ decimal number
-part_text (Name name) = 32 ∷ name
+part_text (Name name) = 32 ∷ name.items
 
 unfoldable pub parts_text : List Field → List ℕ
 parts_text [] = []
@@ -54,7 +54,7 @@ reply_value reply = record { text = reply.text.items; report = option_map report
 abbrev pub refusal_value : Refusal → told.Refusal
 refusal_value refusal = record { status = refusal.status; named = line_value refusal.line }
 
--- the status that an ending tells, and what its error line names
+-- the status of an ending, and what its error line names
 abbrev pub status_in : Ended → Status
 status_in ended.ReadFault = statuses.ReadFault
 status_in ended.TooLong = statuses.Limit
@@ -75,7 +75,7 @@ line_in ended.Starved = Some memory
 line_in ended.ReportCut = Some write_fault
 line_in (ended.NoAnswer refusal) = Some (line_value refusal.line)
 
--- An ending is told as this outcome is: by its status, and by its error line.
+-- An ending has the status of `outcome`, and its error line.
 pub record Ends (e : Ended) (outcome : Outcome) : Type 0 where
   pub status_is : status_in e ≡ status_of outcome
   pub line_is : line_in e ≡ line_of outcome

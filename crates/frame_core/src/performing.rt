@@ -67,7 +67,7 @@ fn attempt<J: StreamJob, S: Source, O: Sink, N: Sink>(
     job.answer(alloc, kept, out, note)
 }
 
-/// Does what a command asks that takes its input in pieces, and tells how that ended. It promises what
+/// Does what a command asks that takes its input in pieces, and reports how that ended. It promises what
 /// `perform` does.
 pub fn perform_stream<J: StreamJob, S: Source, O: Sink, N: Sink>(
     alloc: Global,
@@ -97,7 +97,7 @@ pub fn perform_stream<J: StreamJob, S: Source, O: Sink, N: Sink>(
     ended.status()
 }
 
-/// Does what a command asks, and tells how that ended: reads `source` where the command reads, writes its
+/// Does what a command asks, and reports how that ended: reads `source` where the command reads, writes its
 /// answer on `out`, and on `note` its report, and one error line where there is no answer.
 pub fn perform<J: Job, S: Source, O: Sink, N: Sink>(
     alloc: Global,

@@ -1,10 +1,9 @@
-//! What a command tells: a reply or a refusal, and how its run ended.
+//! What a command reports: a reply or a refusal, and how its run ended.
 ghost use Rattle.std.specs.Prelude.{◌≡◌, ◌++◌, ◌∷◌, []};
 ghost use Rattle.frame_core.specs.Told.{Word, plain as plain_of, at as at_of};
 ghost use Rattle.frame_core.specs.Views.{shown, line_value, report_text, status_in};
 
 use crate::status::Status;
-use net_core::Name;
 
 /// A field of an error line.
 #[derive(Drop)]
@@ -15,8 +14,8 @@ pub enum Field {
     Known(&'static [u8]),
     /// A number.
     Count(u32),
-    /// A name of the input.
-    Name(Name),
+    /// A name of the input, by its bytes.
+    Name(Vec<u8>),
 }
 
 /// What an error line names: a variant, and its fields. There are as many as the longest line has, of
@@ -44,7 +43,7 @@ impl ErrorLine {
         ErrorLine::of(name, Field::Count(number), Field::Nothing, Field::Nothing)
     }
 
-    /// A variant with at most two fields, behind a word where `lead` is one.
+    /// A variant with at most two fields, after the word `lead` where it is one.
     #[tactic(auto, unfolding(crate::specs::Views::shown), using(crate::proofs::Leads::leading))]
     pub fn led(lead: Field, name: &'static [u8], first: Field, second: Field) -> ErrorLine
         ensures { line_value result ≡ shown (lead ∷ []) ++ (Word name.now ∷ shown (first ∷ second ∷ [])) }
@@ -64,7 +63,7 @@ impl ErrorLine {
         }
     }
 
-    /// A variant with at most three fields, behind a word where `lead` is one.
+    /// A variant with at most three fields, after the word `lead` where it is one.
     #[tactic(auto, unfolding(crate::specs::Views::shown), using(crate::proofs::Leads::leading))]
     pub fn behind(
         lead: Field,
@@ -81,12 +80,12 @@ impl ErrorLine {
     }
 }
 
-/// A report in parts, which go to the notes one behind the other.
+/// A report in parts, which go to the notes one after the other.
 #[derive(Drop)]
 pub struct Report {
     /// What comes first.
     pub first: Vec<u8>,
-    /// The parts behind it.
+    /// The parts after it.
     pub parts: Vec<Vec<u8>>,
     /// What comes last.
     pub last: Vec<u8>,
@@ -158,7 +157,7 @@ pub enum Ended {
 }
 
 impl Ended {
-    /// The status that tells of it.
+    /// The status of the ending.
     pub fn status(&self) -> Status
         ensures { result ≡ status_in self.now }
     {

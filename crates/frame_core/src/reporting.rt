@@ -23,7 +23,7 @@ fn write_two<N: Sink>(note: &mut N, first: &[u8], second: &[u8]) -> Result<(), W
     write_all(note, second)
 }
 
-/// Writes a field behind a blank, and nothing where there is none.
+/// Writes a blank and a field, and nothing where there is none.
 fn write_field<N: Sink>(note: &mut N, field: &Field) -> Result<(), WriteFault>
     ensures all { OnOk result (Appends (N.written note.old) (N.written note.new) (part_text field.now)) }
     ensures front { AppendsFront (N.written note.old) (N.written note.new) (part_text field.now) }
@@ -37,11 +37,11 @@ fn write_field<N: Sink>(note: &mut N, field: &Field) -> Result<(), WriteFault>
             let mut buffer = Buffer::new();
             write_two(note, b" ", buffer.format(*number).as_bytes())
         }
-        Field::Name(name) => write_two(note, b" ", name.get()),
+        Field::Name(name) => write_two(note, b" ", name),
     }
 }
 
-/// Writes fields, each behind a blank.
+/// Writes fields, each after a blank.
 #[tactic(auto, unfolding(crate::specs::Views::parts_text), using(port_io::specs::TextLaws::texts, port_io::specs::CountLaws::counts))]
 fn write_fields<N: Sink>(note: &mut N, fields: &[Field]) -> Result<(), WriteFault>
     ensures all { OnOk result (Appends (N.written note.old) (N.written note.new) (parts_text fields.now)) }
@@ -56,7 +56,7 @@ fn write_fields<N: Sink>(note: &mut N, fields: &[Field]) -> Result<(), WriteFaul
     write_fields(note, rest)
 }
 
-/// Writes fields, and a text behind them.
+/// Writes fields, and a text after them.
 #[tactic(auto, using(port_io::specs::TextLaws::texts, port_io::specs::CountLaws::counts))]
 fn write_ended<N: Sink>(note: &mut N, fields: &[Field], end: &[u8]) -> Result<(), WriteFault>
     ensures all { OnOk result (Appends (N.written note.old) (N.written note.new) (parts_text fields.now ++ end.now)) }
@@ -85,7 +85,7 @@ fn write_line<N: Sink>(
     write_ended(note, fields, end)
 }
 
-/// Writes texts, one behind the other.
+/// Writes texts, one after the other.
 #[tactic(auto, using(crate::specs::PiecesLaws::texts_left))]
 fn write_parts<N: Sink>(note: &mut N, parts: &[Vec<u8>]) -> Result<(), WriteFault>
     ensures all { OnOk result (Appends (N.written note.old) (N.written note.new) (joined (texts_of parts.now))) }
@@ -102,7 +102,7 @@ fn write_parts<N: Sink>(note: &mut N, parts: &[Vec<u8>]) -> Result<(), WriteFaul
     Ok(())
 }
 
-/// Writes texts, and a last one behind them.
+/// Writes texts, and a last one after them.
 #[tactic(auto, using(port_io::specs::TextLaws::texts, port_io::specs::CountLaws::counts))]
 fn write_to_last<N: Sink>(note: &mut N, parts: &[Vec<u8>], last: &[u8]) -> Result<(), WriteFault>
     ensures all { OnOk result (Appends (N.written note.old) (N.written note.new) (joined (texts_of parts.now) ++ last.now)) }
@@ -128,7 +128,7 @@ pub(crate) fn write_report<N: Sink>(note: &mut N, report: &Report) -> Result<(),
     write_to_last(note, &report.parts, &report.last)
 }
 
-/// Writes an error line. It takes no memory, so that it also tells of its want. A fault in writing it is
+/// Writes an error line. It takes no memory, so that it also reports want of memory. A fault in writing it is
 /// let pass: the run's status has been decided.
 pub fn tell_error<N: Sink>(note: &mut N, line: &ErrorLine)
     ensures line { Writes (side N.written N.faults note.old) (side N.written N.faults note.new) (error_line (line_value line.now)) }

@@ -1,4 +1,4 @@
-//! What a command told at once, sent out.
+//! The reply of a command, sent out.
 ghost use Rattle.frame_core.specs.Run.{before_after};
 ghost use Rattle.frame_core.specs.Performing.{Sent, Finishes};
 ghost use Rattle.frame_core.specs.Views.{reply_value};
@@ -25,7 +25,7 @@ fn send<O: Sink, N: Sink>(out: &mut O, note: &mut N, reply: &Reply) -> Ended
     }
 }
 
-/// Ends what a command told at once: sends its reply out, and writes nothing where there is none.
+/// Ends a command by its reply: sends it out, and writes nothing where there is none.
 pub fn finish<O: Sink, N: Sink>(told: Result<Reply, Stop>, out: &mut O, note: &mut N) -> Ended
     ensures { Finishes told result
         (before_after O.written O.faults out.old out.new)

@@ -2,7 +2,7 @@
 ghost use Rattle.std.specs.Prelude.{◌≡◌};
 ghost use Rattle.frame_core.specs.Statuses.{number_of};
 
-/// How a run ended, as its caller is told.
+/// How a run ended, for its caller.
 #[derive(Clone, Copy)]
 pub enum Status {
     /// The answer stands on the output.

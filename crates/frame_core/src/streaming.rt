@@ -22,7 +22,7 @@ pub trait StreamJob {
     /// What it keeps of its input.
     type Kept: Drop;
 
-    /// This is what it keeps of these bytes.
+    /// What it keeps of bytes that it was given.
     ghost holds: { Self → Self.Kept → List ℕ → Type 0 };
 
     /// What has to hold of what it keeps.

@@ -1,20 +1,16 @@
 -- The small commands are what their tasks say.
 use Rattle.std.specs.Prelude.{◌≡◌, ℕ, ◌≤◌, List, length}
-use Rattle.std.proofs.Common.{refl, sym, subst, inl}
+use Rattle.std.proofs.Common.{refl, sym, subst}
 use Rattle.std.proofs.lemmas.Grind.{common_steps}
 use Rattle.frame_core.specs.declared.status.Status.{Status}
 use Rattle.frame_core.specs.declared.replies.Ended.{Ended}
 use Rattle.frame_core.specs.declared.replies.Ended.TheVariants as ended
 use Rattle.frame_core.specs.Outside.{Side}
 use Rattle.frame_core.specs.Told.{Reply}
-use Rattle.frame_core.specs.Task.{Tells, IsTask}
-use Rattle.frame_core.specs.TaskLaws.{from_nothing_task}
+use Rattle.frame_core.specs.Task.{Tells}
 use Rattle.frame_core.specs.Performing.{Answers}
-use Rattle.frame_core.specs.PerformingLaws.{left_of, answered, pieces_sent, pieces_cut, pieces_starved}
+use Rattle.frame_core.specs.PerformingLaws.{left_of, pieces_sent, pieces_cut, pieces_starved}
 use Rattle.frame_tests.specs.Small.{greeting, greeting_task, lines_reply, lines_task, WritesLines}
-
-pub greeting_is_task : IsTask greeting_task
-greeting_is_task = from_nothing_task (Unit {0}) (λ (u : Unit {0}). Unit {0}) greeting (λ u. inl refl)
 
 pub greets : (bytes : List ℕ) (reply : Reply) → reply ≡ greeting tt → Tells greeting_task bytes reply
 greets bytes reply is = record { answer = tt; has = tt; is = is }
@@ -36,4 +32,4 @@ lines_answered bytes ended.Starved out note within writes same =
 lines_answered bytes ended.ReportCut out note within writes same = absurd writes
 lines_answered bytes (ended.NoAnswer refusal) out note within writes same = absurd writes
 
-pub ruleset telling = (common_steps, greeting_is_task, greets, answered)
+pub ruleset telling = (common_steps, greets)

@@ -1,10 +1,9 @@
 //! A command that reads nothing and reports in parts.
-ghost use Rattle.std.specs.Prelude.{◌≡◌, ℕ, List, [], ◌∷◌, codes, IfOk};
-ghost use Rattle.frame_core.specs.Views.{texts_of, reply_value, Judges};
+ghost use Rattle.std.specs.Prelude.{◌≡◌, [], ◌∷◌, codes, IfOk};
+ghost use Rattle.frame_core.specs.Views.{texts_of, reply_value};
 ghost use Rattle.frame_tests.specs.Small.{greeting, greeting_task};
 
-use frame_core::{Ended, Job, Reply, Report, Status, Stop, finish};
-use port_io::Sink;
+use frame_core::{Replier, Reply, Report, Status, Stop};
 use std::alloc::{AllocError, Global};
 
 /// A command that reads nothing, greets, and reports in parts.
@@ -35,18 +34,7 @@ fn greet(alloc: Global) -> Result<Reply, AllocError>
     })
 }
 
-/// What it tells.
-#[tactic(auto, using(crate::proofs::Smalls::telling))]
-fn told(alloc: Global) -> Result<Reply, Stop>
-    ensures { (bytes : List ℕ) → Judges greeting_task bytes result }
-{
-    match greet(alloc) {
-        Ok(reply) => Ok(reply),
-        Err(AllocError) => Err(Stop::NoMemory),
-    }
-}
-
-impl Job for Greeting {
+impl Replier for Greeting {
     ghost task = { λ _. greeting_task };
 
     ghost ready = { λ _. Unit {0} };
@@ -56,14 +44,10 @@ impl Job for Greeting {
     }
 
     #[tactic(auto, using(crate::proofs::Smalls::telling))]
-    fn answer<O: Sink, N: Sink>(
-        &self,
-        alloc: Global,
-        bytes: &[u8],
-        out: &mut O,
-        note: &mut N,
-    ) -> Ended {
-        let _nothing = bytes;
-        finish(told(alloc), out, note)
+    fn reply(&self, alloc: Global, _bytes: &[u8]) -> Result<Reply, Stop> {
+        match greet(alloc) {
+            Ok(reply) => Ok(reply),
+            Err(AllocError) => Err(Stop::NoMemory),
+        }
     }
 }

@@ -9,7 +9,7 @@ pub fn small_commands_are_tasks()
     ensures in_pieces { IsTask lines_task }
 {}
 
-/// What may stand outside of a text in pieces that was cut is a front of the answer's text.
+/// What may stand outside of a text in pieces that was cut is a prefix of the answer's text.
 pub fn cut_lines_are_fronts()
     ensures { (bytes front : List ℕ) → MayStand lines_task bytes front → IsFront front (lines_text bytes) }
 {}

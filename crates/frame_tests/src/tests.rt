@@ -50,7 +50,7 @@ fn ports(alloc: Global, run: &Run) -> Result<Outside, AllocError> {
 fn performed(alloc: Global, greets: bool, ports: &mut Outside) -> u8 {
     let (source, out, note) = (&mut ports.source, &mut ports.out, &mut ports.note);
     if greets {
-        return perform(alloc, &Greeting, source, out, note).number();
+        return perform(alloc, &AtOnce(Greeting), source, out, note).number();
     }
     perform(alloc, &Lines, source, out, note).number()
 }

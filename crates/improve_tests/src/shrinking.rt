@@ -1,83 +1,7 @@
-//! Netlists through the improvement by windows, with settings, and the report.
-ghost use Rattle.improve_settings.specs.Improve.{IsInRange};
-ghost use Rattle.bench_core.specs.Bench.{bench_format};
-ghost use Rattle.improve_windows.specs.Improving.{FitsFormat};
+//! Netlists that become smaller by their windows, with settings, and what stays undecided.
 
-use improve_windows::{ImproveSettings, ImprovedText, improve_bench, improve_blif};
-use op_basis::Basis;
+use crate::asking::{Asked, improved, is_improved};
 use std::alloc::Global;
-
-/// The usual settings, with windows of at most so many gates, so many rounds, this budget, and rows that nobody sees
-/// left out of account or not.
-fn settings(cap: u32, rounds: u32, conflicts: u32, observe: bool) -> ImproveSettings
-    ensures { IsInRange result }
-{
-    let usual = ImproveSettings::usual();
-    ImproveSettings {
-        basis: usual.basis,
-        method: usual.method,
-        cap: cap.min(8),
-        rounds: rounds.clamp(1, 1000),
-        conflicts: conflicts.clamp(1, 100_000),
-        observe,
-    }
-}
-
-/// Whether a text with a report behind it is what is wanted.
-fn are_together(text: &[u8], report: &[u8], wanted: &[u8]) -> bool {
-    let long = text.len().checked_add(report.len()) == Some(wanted.len());
-    long && wanted.starts_with(text) && wanted.ends_with(report)
-}
-
-/// The usual settings with all operators of gates in BENCH.
-fn gates_alone() -> ImproveSettings
-    ensures range { IsInRange result }
-    ensures fits { FitsFormat bench_format result }
-{
-    let usual = ImproveSettings::usual();
-    ImproveSettings {
-        basis: Basis::new(17_346),
-        method: usual.method,
-        cap: usual.cap,
-        rounds: usual.rounds,
-        conflicts: usual.conflicts,
-        observe: usual.observe,
-    }
-}
-
-/// How a netlist is improved.
-#[derive(Clone, Copy)]
-enum Asked {
-    /// As BLIF: the cap of windows, the rounds, the budget, and whether rows that nobody sees are left out of account.
-    Blif(u32, u32, u32, bool),
-    /// As BENCH, with the usual settings.
-    Bench,
-}
-
-/// An improved netlist, if it isn't refused.
-fn improved(alloc: Global, bytes: &[u8], asked: Asked) -> Option<ImprovedText> {
-    if bytes.len() > 100_000 {
-        return None;
-    }
-    let made = match asked {
-        Asked::Blif(cap, rounds, conflicts, observe) => {
-            improve_blif(alloc, bytes, settings(cap, rounds, conflicts, observe))
-        }
-        Asked::Bench => improve_bench(alloc, bytes, gates_alone()),
-    };
-    match made {
-        Ok(improved) => Some(improved),
-        Err(_) => None,
-    }
-}
-
-/// Whether a netlist is improved to what is wanted, with the report behind it.
-fn is_improved(alloc: Global, bytes: &[u8], asked: Asked, wanted: &[u8]) -> bool {
-    match improved(alloc, bytes, asked) {
-        Some(improved) => are_together(&improved.text, &improved.report, wanted),
-        None => false,
-    }
-}
 
 const EXCLUSIVE: &[u8] =
     b".model x\n.inputs a b\n.outputs y\n.names a b p\n10 1\n.names a b q\n01 1\n.names p q y\n1- 1\n-1 1\n.end\n";
@@ -100,7 +24,7 @@ const BARE: &[u8] =
 const ADDER: &[u8] =
     b".model a\n.inputs a b c\n.outputs s k\n.names a b p\n01 1\n10 1\n.names p c s\n01 1\n10 1\n.names a b q\n11 1\n.names p c r\n11 1\n.names q r k\n1- 1\n-1 1\n.end\n";
 
-/// Netlists, how they are improved, and the improved ones with the report behind them.
+/// Netlists, how they are improved, and the improved ones with the report after them.
 const IMPROVED: &[(&[u8], Asked, &[u8])] = &[
     // three gates are one
     (

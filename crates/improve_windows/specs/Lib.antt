@@ -6,3 +6,4 @@ pub mod ReportLaws
 pub mod Improving
 pub mod ImprovingLaws
 pub mod FitsLaws
+pub mod CostLaws

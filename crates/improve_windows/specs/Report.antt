@@ -18,7 +18,7 @@ unfoldable pub partner_text : List Name → ℕ → Option ℕ → List ℕ
 partner_text names sources None = []
 partner_text names sources (Some partner) = 32 ∷ name_at names sources partner
 
--- The line of a window that was left undecided, and behind it the certificate of its search.
+-- The line of a window that was left undecided, and after it the certificate of its search.
 -- Example: `undecided y 4`, or `undecided y g1 4` where the gate g1 is its partner.
 unfoldable pub window_text : List Name → ℕ → Undecided → List ℕ
 window_text names sources u =

@@ -10,9 +10,10 @@ ghost use Rattle.improve_settings.specs.Improve.{IsInRange};
 ghost use Rattle.window_trial.specs.Improvement.{Leaves};
 ghost use Rattle.improve_windows.specs.Improving.{IsBetter};
 
+use crate::costing::{CostedDocument, costed};
 use blif_core::Circuit;
-use improve_core::{CostedDocument, costed};
 use net_document::Document;
+use sat_solve::Solver;
 use std::alloc::{AllocError, Global};
 use window_trial::{ImproveSettings, ImprovedNet, Undecided, improve_net};
 
@@ -46,7 +47,11 @@ struct Left {
 }
 
 /// What the settings leave of a circuit.
-fn left_of(alloc: Global, circuit: Circuit, settings: ImproveSettings) -> Result<Left, AllocError>
+fn left_of<S: Solver>(
+    alloc: Global,
+    circuit: Circuit,
+    settings: ImproveSettings,
+) -> Result<Left, AllocError>
     requires { IsInRange settings }
     ensures circuit { IfOk result (λ left. left.circuit ≡ record circuit { net = left.circuit.net }) }
     ensures left { IfOk result (λ left. Leaves settings circuit.net left.circuit.net left.settled left.undecided.items) }
@@ -63,7 +68,7 @@ fn left_of(alloc: Global, circuit: Circuit, settings: ImproveSettings) -> Result
         net,
         settled,
         undecided,
-    } = improve_net(alloc, &net, settings)?;
+    } = improve_net::<S>(alloc, &net, settings)?;
     let circuit = Circuit {
         model,
         inputs,
@@ -81,7 +86,7 @@ fn left_of(alloc: Global, circuit: Circuit, settings: ImproveSettings) -> Result
 
 /// A circuit improved, and the document as which BLIF writes it.
 #[tactic(auto, using(crate::specs::ImprovingLaws::improving))]
-pub(crate) fn improve_written(
+pub(crate) fn improve_written<S: Solver>(
     alloc: Global,
     circuit: Circuit,
     settings: ImproveSettings,
@@ -100,7 +105,7 @@ pub(crate) fn improve_written(
         circuit,
         settled,
         undecided,
-    } = left_of(alloc, circuit, settings)?;
+    } = left_of::<S>(alloc, circuit, settings)?;
     let CostedDocument { document, cost } = costed(alloc, &circuit)?;
     let improved = Improved {
         circuit,
@@ -113,8 +118,8 @@ pub(crate) fn improve_written(
 }
 
 /// Improves a circuit: drops its dead gates, and then puts shorter chains in the place of windows, until no window
-/// up to the cap has one, or so many rounds as the settings say have changed something.
-pub fn improve_circuit(
+/// up to the cap has one, or `settings.rounds` rounds have changed something.
+pub fn improve_circuit<S: Solver>(
     alloc: Global,
     circuit: Circuit,
     settings: ImproveSettings,
@@ -126,6 +131,6 @@ pub fn improve_circuit(
     let Written {
         improved,
         document: _,
-    } = improve_written(alloc, circuit, settings)?;
+    } = improve_written::<S>(alloc, circuit, settings)?;
     Ok(improved)
 }

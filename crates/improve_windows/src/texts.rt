@@ -22,6 +22,7 @@ use blif_core::{Circuit, NetError, read_blif, write_document};
 use blif_laws::blif_is_a_format;
 use net_core::gate_names;
 use net_document::Document;
+use sat_solve::Solver;
 use std::alloc::{AllocError, Global};
 use window_trial::ImproveSettings;
 
@@ -76,11 +77,11 @@ fn gates_of(alloc: Global, circuit: &Circuit, document: &Document) -> Result<Vec
 /// Improves a BLIF netlist by the settings, writes the netlist that is left, and reports what it cost and costs
 /// now, the windows that stay undecided with their certificates, and whether all others are settled.
 ///
-/// Lines are judged in their order, and the first at fault is told; then a control that a table drives,
+/// Lines are judged in their order, and the first fault is reported; then a control that a table drives,
 /// more than 100,000 gates, a name that is driven twice, one that is used and not driven, and a table
 /// that depends on itself. A well-formed netlist is refused for want of memory alone.
 #[tactic(auto, using(crate::specs::ImprovingLaws::improving))]
-pub fn improve_blif(
+pub fn improve_blif<S: Solver>(
     alloc: Global,
     bytes: &[u8],
     settings: ImproveSettings,
@@ -93,7 +94,7 @@ pub fn improve_blif(
 {
     blif_is_a_format();
     let circuit = read_blif(alloc, bytes)?;
-    let Written { improved, document } = improve_written(alloc, circuit, settings)?;
+    let Written { improved, document } = improve_written::<S>(alloc, circuit, settings)?;
     let text = text_of(alloc, &document)?;
     let report = told(alloc, &improved)?;
     Ok(ImprovedText { text, report })
@@ -102,11 +103,11 @@ pub fn improve_blif(
 /// Improves a BENCH netlist as `improve_blif` does a BLIF netlist, by a basis of operators that gates may have in
 /// BENCH.
 ///
-/// Lines are judged in their order, and the first at fault is told; then more than 100,000 gates, a name that is
+/// Lines are judged in their order, and the first fault is reported; then more than 100,000 gates, a name that is
 /// driven twice, one that is used and not driven, and a gate that depends on itself. A well-formed netlist is
 /// refused for want of memory alone.
 #[tactic(auto, using(crate::specs::ImprovingLaws::improving))]
-pub fn improve_bench(
+pub fn improve_bench<S: Solver>(
     alloc: Global,
     bytes: &[u8],
     settings: ImproveSettings,
@@ -121,7 +122,7 @@ pub fn improve_bench(
     bench_is_a_format();
     circuits_cost_the_same();
     let circuit = read_bench(alloc, bytes)?;
-    let Written { improved, document } = improve_written(alloc, circuit, settings)?;
+    let Written { improved, document } = improve_written::<S>(alloc, circuit, settings)?;
     let text = gates_of(alloc, &improved.circuit, &document)?;
     let report = told(alloc, &improved)?;
     Ok(ImprovedText { text, report })

@@ -38,6 +38,13 @@ impl Name {
         &self.0
     }
 
+    /// The bytes, in place of the name.
+    pub fn into_bytes(self) -> Vec<u8>
+        ensures { result.items ≡ self }
+    {
+        self.0
+    }
+
     /// The name with a copy of `bytes`.
     pub fn of(alloc: Global, bytes: &[u8]) -> Result<Name, AllocError>
         ensures { IfOk result (λ name. name ≡ bytes.now) }

@@ -1,7 +1,7 @@
-//! Tests of the public calls of the crates of netlists, from `graph_core` to `improve_core`, `bench_core` and
+//! Tests of the public calls of the crates of netlists, from `graph_core` to `bench_core` and
 //! `gen_core`: values straight from the definitions, orders of graphs, tables and their gates, nets without dead
-//! gates, what the lines of a BLIF and of a BENCH text list, what comes of whole netlists that are read, improved and
-//! written, and the first blocks of the generator.
+//! gates, what the lines of a BLIF and of a BENCH text list, what comes of whole netlists that are read and written,
+//! and the first blocks of the generator.
 #![tactic(auto)]
 
 #[cfg(test)]
@@ -12,8 +12,6 @@ mod gate_lines;
 mod generating;
 #[cfg(test)]
 mod graphs;
-#[cfg(test)]
-mod improving;
 #[cfg(test)]
 mod listing;
 #[cfg(test)]

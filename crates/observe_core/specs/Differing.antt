@@ -57,12 +57,12 @@ pub record ArePutWords (n : Net) (outputs : List ℕ) (bits : ℕ) (surround : C
   pub is : IsPutCone n outputs bits surround tail cone
   pub are : AreWords cone words
 
--- The words name the assignments under which it was told which of the first numbers was put.
+-- The words name the assignments that distinguish the first numbers in the place of the outputs from 0.
 pub record AreTold (n : Net) (outputs : List ℕ) (surround : Cone) (watchers : List ℕ) (count : ℕ) (differ : List ℕ) : Type 0 where
   pub only : (j t : ℕ) → j < length differ → t < 64 → 64 * j + t < 2 ^ length surround.leaves → bit_in differ j t ≡ true → IsTold n surround.leaves outputs watchers (64 * j + t)
   pub none : (j t b p : ℕ) (f g : ℕ → Bool) → j < length differ → t < 64 → 64 * j + t < 2 ^ length surround.leaves → bit_in differ j t ≡ false → b < count → HasRow f surround.leaves (64 * j + t) → HasRow g surround.leaves (64 * j + t) → HasRow f outputs 0 → HasRow g outputs b → among watchers p ≡ true → put_bits n surround.leaves outputs f p ≡ put_bits n surround.leaves outputs g p
 
--- The words name just the assignments under which it is told what was put.
+-- The words name just the assignments that distinguish two values of the outputs.
 pub record AreTelling (n : Net) (leaves outputs watchers : List ℕ) (differ : List ℕ) : Type 0 where
   pub only : (j t : ℕ) → j < length differ → t < 64 → 64 * j + t < 2 ^ length leaves → bit_in differ j t ≡ true → IsTold n leaves outputs watchers (64 * j + t)
   pub none : (j t p : ℕ) (f g : ℕ → Bool) → j < length differ → t < 64 → 64 * j + t < 2 ^ length leaves → bit_in differ j t ≡ false → HasRow f leaves (64 * j + t) → HasRow g leaves (64 * j + t) → among watchers p ≡ true → put_bits n leaves outputs f p ≡ put_bits n leaves outputs g p

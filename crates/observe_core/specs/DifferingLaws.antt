@@ -1,4 +1,4 @@
--- How the words that tell what was put are made.
+-- How the words are made that distinguish the values of the outputs.
 use Rattle.std.proofs.Common.{◌≡◌, ◌∙◌, ℕ, zero, suc, ◌+◌, ◌-◌, ◌*◌, ◌%◌, ◌^◌, ◌≤◌, ◌<◌, Bool, true, false, List, [], ◌∷◌, ◌++◌, length, set, get_or, Some, refl, ap, sym, subst, arith, inl, inr, ◌⊎◌, ⊎_elim, length-set, get_or-set_same, get_or-set_other, length-append, replicate, take, mul-le-mul_left}
 use Rattle.std.specs.Prelude.{slice_get, slice_index_or, bit_or, bit_xor, if◌then◌else◌}
 use Rattle.std.proofs.lemmas.Bool.{cases_lt, both_ways, cond-true, cond-false}
@@ -207,7 +207,7 @@ told_code n outputs bits s c tail watchers none w first second a b old new net a
     told_more n outputs bits s c tail watchers none w (a + b) old new net above (omega (arith, few)) words is are (omega (arith, places_count s, a_is, b_is)) size inside
     (subst (λ (xs : List ℕ). AreAdded xs w.lanes (a + b) tail watchers (length tail) old new) first_is (subst (λ (ys : List ℕ). AreAdded first ys (a + b) tail watchers (length tail) old new) second_is added)) was
 
--- Before any number but 0 is put nothing is told.
+-- Before any number but 0 is put nothing differs.
 pub told_start : (n : Net) (outputs : List ℕ) (s : Cone) (tail watchers : List ℕ) (none : Words) (differ : List ℕ) → IsNet n → IsAbove n outputs s tail → ArePutWords n outputs 0 s tail none → ((p : ℕ) → among watchers p ≡ true → among tail p ≡ true) → ((j : ℕ) → j < length differ → get_or differ j 0 ≡ 0) → AreTold n outputs s watchers 1 differ
 told_start n outputs s tail watchers none differ net above first inside empty =
     record {

@@ -30,7 +30,7 @@ pub record IsNextFollower (n : Net) (gates : List ℕ) (r : ℕ) : Type 0 where
   pub found : (r ≡ 0) ⊎ IsFollower n gates r
   pub most : (x : ℕ) → IsFollower n gates x → (1 ≤ r) × (r ≤ x)
 
--- The least follower is sought, and the readers of these gates weren't looked at.
+-- The least follower is sought, and the readers of the gates left weren't looked at.
 pub record IsSought (n : Net) (gates left : List ℕ) (best : ℕ) : Type 0 where
   pub within : (q : ℕ) → among left q ≡ true → among gates q ≡ true
   pub found : (best ≡ 0) ⊎ IsFollower n gates best

@@ -30,7 +30,7 @@ pub record ArePutGates (n : Net) (outputs : List ℕ) (bits : ℕ) (tail : List 
   pub places : gate_places gates ≡ tail
   pub own : (i : ℕ) (x : ℕ × Gate) → slice_get gates i ≡ Some x → (g : Gate) × IsGateOf n x.0 g × (x.1 ≡ put_gate outputs bits g)
 
--- Some gates were put behind others, as far as they aren't left.
+-- Some gates were put after others, but for those that are left.
 pub record HasPut (n : Net) (outputs : List ℕ) (bits : ℕ) (tail left : List ℕ) (old new : List (ℕ × Gate)) : Type 0 where
   pub done : List ℕ
   pub parts : done ++ left ≡ tail

@@ -118,7 +118,7 @@ places_joined : (xs ys : List (ℕ × Gate)) → gate_places (xs ++ ys) ≡ gate
 places_joined [] ys = refl
 places_joined (x ∷ xs) ys = ap (λ (ps : List ℕ). x.0 ∷ ps) (places_joined xs ys)
 
--- the places of a surround with gates behind it
+-- the places of a surround with gates after it
 pub all_places : (s : Cone) (put : List (ℕ × Gate)) (tail : List ℕ) → gate_places put ≡ tail → s.leaves ++ gate_places (s.gates ++ put) ≡ places s ++ tail
 all_places s put tail are =
     ap (λ (ps : List ℕ). s.leaves ++ ps) (places_joined s.gates put ∙ ap (λ (ps : List ℕ). gate_places s.gates ++ ps) are)
@@ -198,7 +198,7 @@ put_value v outputs bits (sigs.Place p) = refl
 put_gate_value : (v : ℕ → Bool) (outputs : List ℕ) (bits : ℕ) (g : Gate) → gate_value v (put_gate outputs bits g) ≡ gate_value (λ p. sig_value v (put_place outputs bits p)) g
 put_gate_value v outputs bits g = rw (put_value v outputs bits g.a, put_value v outputs bits g.b) refl
 
--- The values of the cone of a tail are those of the net where the leaves and the outputs have these bits.
+-- The values of the cone of a tail are those of the net where the leaves and the outputs have the bits.
 pub put_values : (n : Net) (outputs : List ℕ) (bits : ℕ) (s c : Cone) (tail : List ℕ) (row : ℕ) (f : ℕ → Bool) (p : ℕ) → IsNet n → IsAbove n outputs s tail → IsPutCone n outputs bits s tail c
     → HasRow f s.leaves row → HasRow f outputs bits
     → among tail p ≡ true → value_in c row p ≡ values_with n (among (s.leaves ++ outputs)) f p

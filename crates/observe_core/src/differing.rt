@@ -1,5 +1,6 @@
-//! The assignments of a surround's leaves under which it is seen what bits are put in the place of a window's outputs: the
-//! tail is evaluated with each number in their place, and its watchers' words are compared with those for the number 0.
+//! The assignments of a surround's leaves under which forcing the window's outputs changes a watcher, an output of the TFO
+//! window (observability): the tail is simulated with each number in place of the outputs, and the watchers' words are
+//! compared with those for the number 0.
 
 ghost use Rattle.std.specs.Prelude.{◌≡◌, ℕ, ◌+◌, ◌*◌, ◌≤◌, ◌<◌, ◌^◌, true, length, slice_index_or, slice_set, bit_or, bit_xor, IfOk, OnOk};
 ghost use Rattle.lane_sim.specs.Words.{width_of};
@@ -12,7 +13,7 @@ use lane_sim::{Cone, Words, cone_words, lanes_of};
 use std::alloc::{AllocError, Global};
 use window_core::{Net, has};
 
-/// Adds the bits in which two words of rows differ that begin at a place of the words.
+/// ORs into `differ[j]` the bits in which word `j` of two rows differs that begin at `start`.
 fn add_one(differ: &mut [u64], first: &[u64], second: &[u64], start: usize, j: usize)
     requires within { j < length differ.old }
     requires one { start + j < length first.now }
@@ -22,7 +23,7 @@ fn add_one(differ: &mut [u64], first: &[u64], second: &[u64], start: usize, j: u
     differ[j] |= first[start + j] ^ second[start + j];
 }
 
-/// The same of all words.
+/// The same for all words of the rows.
 fn add_difference(differ: &mut [u64], first: &[u64], second: &[u64], start: usize)
     requires one { start + length differ.old ≤ length first.now }
     requires two { start + length differ.old ≤ length second.now }
@@ -33,7 +34,8 @@ fn add_difference(differ: &mut [u64], first: &[u64], second: &[u64], start: usiz
     }
 }
 
-/// Adds the bits in which the rows of the watchers differ. The tail's rows stand one after the other, behind others.
+/// ORs in the bits in which the rows of the watchers differ. The tail's rows stand one after the other, after the first
+/// `start` rows.
 fn add_watchers(
     differ: &mut [u64],
     first: &[u64],
@@ -57,7 +59,7 @@ fn add_watchers(
     }
 }
 
-/// The words of the cone of a tail with bits in the place of the outputs.
+/// The words of the cone of a tail with the outputs forced to `bits`.
 fn put_words(
     alloc: Global,
     net: &Net,
@@ -74,7 +76,7 @@ fn put_words(
     cone_words(alloc, &cone)
 }
 
-/// Adds the assignments under which it is told that bits were put in place of 0.
+/// ORs in the assignments that distinguish the output value `bits` from 0.
 fn add_bits(
     alloc: Global,
     net: &Net,
@@ -95,7 +97,7 @@ fn add_bits(
     ensures told { OnOk result (AreTold net.now outputs.now surround.now watchers.now (bits + 1) differ.new) }
     ensures size { length differ.new ≡ length differ.old }
 {
-    let _sources = net.sources(); // says that the net is one
+    let _sources = net.sources(); // brings the type invariant into the proof
     let words = put_words(alloc, net, outputs, bits, surround, tail)?;
     let start = surround.leaves().len() + surround.gates().len();
     add_watchers(
@@ -109,7 +111,7 @@ fn add_bits(
     Ok(())
 }
 
-/// Adds the assignments under which it is told what other number than 0 was put.
+/// ORs in the assignments that distinguish some output value from 0.
 fn add_all_bits(
     alloc: Global,
     net: &Net,
@@ -137,8 +139,7 @@ fn add_all_bits(
     Ok(())
 }
 
-/// The assignments of the surround's leaves under which it is told what bits are put in the place of the outputs, as the
-/// bits of words.
+/// The assignments of the surround's leaves that distinguish some value of the outputs from another, as the bits of words.
 pub(crate) fn telling(
     alloc: Global,
     net: &Net,
@@ -153,7 +154,7 @@ pub(crate) fn telling(
     ensures size { IfOk result (λ differ. length differ.items ≡ width_of (2 ^ length surround.now.leaves)) }
     ensures telling { IfOk result (λ differ. AreTelling net.now surround.now.leaves outputs.now watchers.now differ.items) }
 {
-    let _sources = net.sources(); // says that the net is one
+    let _sources = net.sources(); // brings the type invariant into the proof
     let zero = put_words(alloc, net, outputs, 0, surround, tail)?;
     let rows = 1usize << surround.leaves().len();
     let mut differ = vec![in alloc; 0u64; (rows + 63) / 64]?;

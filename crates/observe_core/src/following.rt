@@ -1,4 +1,4 @@
-//! Followers: gates that read one of some gates and aren't one of them. The index of the net tells the readers of a place
+//! Followers: fanouts of a set of gates that aren't in the set. The index of the net lists the readers of a place
 //! from the last to the first, so that a follower is found without a pass over the net. 0 stands for none.
 
 ghost use Rattle.std.specs.Prelude.{◌≡◌, ℕ, ◌<◌, true, false};
@@ -10,7 +10,7 @@ ghost use Rattle.observe_core.specs.Following.{IsLeastReader, IsLesser, IsNextFo
 
 use window_core::{Net, Readers, earlier_of, gate_at, has, last_reader, place_of};
 
-/// The greatest gate below a gate that reads a place which it reads.
+/// The next lower fanout of `place`, below its fanout `gate`; 0 where there is none.
 fn reader_before(net: &Net, readers: &Readers, gate: u32, place: u32) -> u32
     requires index { AreReaders net.now readers.now }
     requires reads { Reads net.now gate place }
@@ -23,7 +23,7 @@ fn reader_before(net: &Net, readers: &Readers, gate: u32, place: u32) -> u32
     earlier.second
 }
 
-/// The first, if it isn't one of the gates, and else the second.
+/// `first`, if it isn't one of `gates`, and else `second`.
 fn if_outside(gates: &[u32], first: u32, second: u32) -> u32
     ensures inside { among gates.now first ≡ true → result ≡ second }
     ensures outside { among gates.now first ≡ false → result ≡ first }
@@ -34,7 +34,7 @@ fn if_outside(gates: &[u32], first: u32, second: u32) -> u32
     first
 }
 
-/// The least gate outside some gates that reads a place.
+/// The least fanout of `place` outside `gates`; 0 where there is none.
 fn least_reader(net: &Net, readers: &Readers, gates: &[u32], place: u32) -> u32
     requires index { AreReaders net.now readers.now }
     requires place { place < end_of net.now }
@@ -49,7 +49,7 @@ fn least_reader(net: &Net, readers: &Readers, gates: &[u32], place: u32) -> u32
     least
 }
 
-/// The lesser of two, each of which may be none.
+/// The lesser of two places, of which 0 stands for none.
 fn lesser(first: u32, second: u32) -> u32
     ensures { IsLesser first second result }
 {
@@ -62,7 +62,7 @@ fn lesser(first: u32, second: u32) -> u32
     second
 }
 
-/// The least follower of some gates.
+/// The least follower of `gates`; 0 where there is none.
 pub(crate) fn next_follower(net: &Net, readers: &Readers, gates: &[u32]) -> u32
     requires index { AreReaders net.now readers.now }
     requires gates { (p : ℕ) → among gates.now p ≡ true → p < end_of net.now }

@@ -1,5 +1,6 @@
-//! The rows of a window's inputs on which somebody sees the window: under some assignment of the observing surround's
-//! leaves that gives the row it is told what bits are put in the place of the window's outputs.
+//! The rows of a window's inputs on which somebody sees the window, all but the observability don't-cares: under some
+//! assignment of the observing surround's leaves that gives the row, some watcher distinguishes two values of the window's
+//! outputs.
 
 ghost use Rattle.std.specs.Prelude.{◌≡◌, ℕ, ◌≤◌, ◌<◌, ◌++◌, true, false, length, IfOk};
 ghost use Rattle.window_theory.specs.Places.{among, AreJust};

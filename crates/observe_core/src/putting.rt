@@ -80,7 +80,7 @@ fn same_gates(alloc: Global, cone: &Cone) -> Result<Vec<(u32, Gate)>, AllocError
     Ok(gates)
 }
 
-/// The gates of the tail behind those of its surround.
+/// The gates of the tail after those of its surround.
 fn put_tail(
     net: &Net,
     outputs: &[u32],

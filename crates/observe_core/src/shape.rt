@@ -2,8 +2,9 @@
 
 use std::marker::Model;
 
-/// The gates above a window through which it is seen first, at most 16, what they read beside the window, and those of
-/// them that are seen by others; whether others see the window itself. Each list rises.
+/// The gates above a window through which it is seen first (its transitive fanout, at most 16 gates), what they read
+/// beside the window (side inputs), and those of them that others see (watchers); whether others see the window itself.
+/// Each list rises.
 #[derive(Drop)]
 pub struct Tail {
     pub gates: Vec<u32>,

@@ -1,4 +1,5 @@
-//! The tail of a window, its side inputs, its watchers, and whether the window is seen past it.
+//! The tail of a window (its transitive fanout, at most 16 gates), its side inputs, its watchers, and whether the window
+//! is directly observable past it.
 
 ghost use Rattle.std.specs.Prelude.{◌≡◌, ℕ, true, false, List, [], ◌⊎◌, IfOk, OnOk};
 ghost use Rattle.net_theory.specs.Reach.{is_place};
@@ -42,7 +43,7 @@ fn take_tail(
     Ok(())
 }
 
-/// Those of rising places that are none of the gates.
+/// Those of `places` that are none of `gates`. The places rise.
 fn places_outside(alloc: Global, places: &[u32], gates: &[u32]) -> Result<Vec<u32>, AllocError>
     requires { IsRising places.now }
     ensures { IfOk result (λ kept. AreJust (IsBoth (λ p. among gates.now p ≡ false) places.now) kept.items) }
@@ -79,7 +80,7 @@ fn reads(gate: &Gate, place: u32) -> bool
     names(gate.a, place) || names(gate.b, place)
 }
 
-/// Whether some of these gates reads a place.
+/// Whether some of `gates` reads `place`.
 fn is_read_by(net: &Net, gates: &[u32], place: u32) -> bool
     requires { (p : ℕ) → among gates.now p ≡ true → IsGate net.now p }
     ensures yes { result ≡ true → IsReadBy net.now gates.now place }
@@ -95,7 +96,7 @@ fn is_read_by(net: &Net, gates: &[u32], place: u32) -> bool
     false
 }
 
-/// Those of rising places that some of these gates reads.
+/// Those of `places` that some of `gates` reads. The places rise.
 fn places_read(
     alloc: Global,
     net: &Net,
@@ -144,7 +145,7 @@ fn sides_of(alloc: Global, net: &Net, all: &[u32], gates: &[u32]) -> Result<Vec<
     places_read(alloc, net, &inputs, gates)
 }
 
-/// The tail of a window by its gates, where all gates are these and the window's.
+/// The tail of a window by its gates, where `all` are those and the window's.
 fn tail_of(
     alloc: Global,
     net: &Net,

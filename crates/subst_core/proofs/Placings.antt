@@ -1,4 +1,4 @@
--- A chain's steps behind the gates that are kept, and its outs.
+-- A chain's steps after the gates that are kept, and its outs.
 use Rattle.std.proofs.Common.{◌≡◌, ℕ, zero, suc, ◌+◌, ◌-◌, ◌≤◌, ◌<◌, Bool, true, List, [], ◌∷◌, ◌++◌, length, length-append, map, set, get_or, ltb, if◌then◌else◌, add-zero, refl, ◌∙◌, ap, sym, subst, arith, ⊎_elim}
 use Rattle.std.specs.Prelude.{Some, slice_index_or, ◌==◌}
 use Rattle.std.proofs.lemmas.Bool.{cases_eq, cases_lt, lt-ltb, le-ltb, cond-true, cond-false, eq-eqb, ne_eqb}
@@ -34,7 +34,7 @@ put_at places place s = cond-true (place == place) s (places place) (eq-eqb plac
 put_below : (places : ℕ → Sig) (place : ℕ) (s : Sig) (p : ℕ) → p < place → put_sig places place s p ≡ places p
 put_below places place s p low = cond-false (p == place) s (places p) (ne_eqb p place (λ (same : p ≡ place). omega (arith, same, low)))
 
--- they stand behind each other
+-- they stand one after the other
 all_places : (sources : ℕ) (k : Kept) (place : ℕ) (gs : List Gate) (i : ℕ) → i < length gs → (kept_after all sources k place gs).places (place + i) ≡ Place (sources + 1 + length k.gates + i)
 unfolding kept_after
 all_places sources k place [] i low = absurd (omega arith)

@@ -3,7 +3,7 @@ use Rattle.std.specs.Prelude.{◌≡◌, ℕ, ◌<◌, List, All, None}
 use Rattle.window_theory.specs.Window.{Window}
 use Rattle.subst_core.specs.declared.lists.WindowLists.{WindowLists}
 
--- The window of these lists. It is given no root, and nothing here speaks of one.
+-- The window of the lists. It is given no root, and nothing here speaks of one.
 abbrev pub window_of : WindowLists → Window
 window_of l = record { root = 0; partner = None; gates = l.gates.now; inputs = l.inputs.now; outputs = l.outputs.now }
 
@@ -13,6 +13,6 @@ pub record HaveSameLists (w v : Window) : Type 0 where
   pub inputs : w.inputs ≡ v.inputs
   pub outputs : w.outputs ≡ v.outputs
 
--- each of these places is below a bound
+-- each of the places is below a bound
 abbrev pub AreBelow : ℕ → List ℕ → Type 0
 AreBelow bound places = All (λ (p : ℕ). p < bound) places

@@ -1,6 +1,6 @@
 -- What is said of a window is said of every window that has its lists.
 use Rattle.std.specs.Prelude.{◌≡◌, ℕ, ◌+◌, ◌-◌, ◌≤◌, ◌<◌, ◌^◌, Bool, true, not, ◌&&◌, List, length, map, slice_index_or}
-use Rattle.std.proofs.Common.{sym, ◌∙◌, ap, subst}
+use Rattle.std.proofs.Common.{arith, sym, ◌∙◌, ap, subst}
 use Rattle.chain_theory.specs.Specification.{Specification}
 use Rattle.chain_theory.specs.Chain.{Chain}
 use Rattle.chain_theory.specs.Value.{values_after}
@@ -12,7 +12,10 @@ use Rattle.window_theory.specs.Window.{Window, IsInput, IsOutput, Belongs}
 use Rattle.window_theory.specs.Care.{values_with, HasRow, IsCareRow, cell_of, IsSpecificationOf}
 use Rattle.window_theory.specs.Splice.{Fits, out_bit, with_bits, step_gate, passing, IsSpliced}
 use Rattle.subst_core.specs.Lists.{HaveSameLists}
-use Rattle.subst_core.specs.Substitution.{Meets}
+use Rattle.subst_core.specs.Substitution.{HasRoom, Meets, KeepsSinks, IsSubstituted}
+
+pub same_turned : (w v : Window) → HaveSameLists w v → HaveSameLists v w
+same_turned w v same = record { gates = sym same.gates; inputs = sym same.inputs; outputs = sym same.outputs }
 
 pub same_belongs : (n : Net) (w v : Window) → HaveSameLists w v → Belongs n w → Belongs n v
 same_belongs n w v same is =
@@ -83,3 +86,21 @@ same_spliced n m w v c same is =
       still = is.still;
       equal = is.equal;
     }
+
+-- what the sinks are worth in the net itself, where a chain takes the place of inputs and outputs
+abbrev KeepsByLists : Net → Chain → List ℕ → List ℕ → Type 0
+KeepsByLists n c inputs outputs = (given : ℕ → Bool) → map (sig_value (values_with n (among outputs) (with_bits given outputs (map (out_bit (values_after (λ j. value n given (slice_index_or inputs (j - 1) 0)) (c.n + 1) c.steps)) c.outs)))) n.sinks ≡ sink_values n given
+
+pub same_keeps : (n : Net) (w v : Window) (c : Chain) → HaveSameLists w v → KeepsSinks n w c → KeepsSinks n v c
+same_keeps n w v c same keeps = along (KeepsByLists n c) w.inputs w.outputs v.inputs v.outputs same.inputs same.outputs keeps
+
+pub same_substituted : (n m : Net) (w v : Window) (c : Chain) → HaveSameLists w v → IsSubstituted n w c m → IsSubstituted n v c m
+same_substituted n m w v c same is = record { spliced = same_spliced n m w v c same is.spliced; values = is.values }
+
+-- ---- sizes
+
+pub same_size : (w v : Window) → HaveSameLists w v → length w.gates ≡ length v.gates
+same_size w v same = ap (length {A = ℕ}) same.gates
+
+pub same_room : (n : Net) (w v : Window) (c : Chain) → HaveSameLists w v → HasRoom n w c → HasRoom n v c
+same_room n w v c same room = let size : length w.gates ≡ length v.gates = same_size w v same in omega (arith, room, size)

@@ -10,7 +10,7 @@ use Rattle.window_theory.specs.Places.{among}
 use Rattle.window_theory.specs.Window.{Window}
 use Rattle.window_theory.specs.Splice.{input_place, step_gate, out_sig, with_sigs}
 
--- the marks, and these places too
+-- the marks, and the places too
 abbrev pub with_places : (ℕ → Bool) → List ℕ → ℕ → Bool
 with_places marks places p = among places p || marks p
 
@@ -24,7 +24,7 @@ chain_sig places inputs first j = if nat_lt (j - 1) (length inputs) then places 
 abbrev pub chain_gate : (ℕ → Sig) → List ℕ → ℕ → Step → Gate
 chain_gate places inputs first s = gate_of s.op (chain_sig places inputs first s.j) (chain_sig places inputs first s.k)
 
--- the steps behind the gates that are kept, by the chain's own places
+-- the steps after the gates that are kept, by the chain's own places
 abbrev pub steps_kept : ℕ → Window → Chain → Kept → Kept
 steps_kept sources w c k = kept_after (λ p. true) sources (record { places = λ j. k.places (input_place w j); gates = k.gates }) (c.n + 1) (map step_gate c.steps)
 

@@ -23,7 +23,7 @@ pub record Meets (n : Net) (w : Window) (c : Chain) : Type 0 where
   pub agrees : Agrees c specification
 
 -- Each sink of n has the value that it had, where the window's outputs take the values of the chain's outs. A chain
--- that agrees does so, and so does one that differs where no sink tells it.
+-- that agrees does so, and so does one that differs where no sink shows it.
 -- Example: where the gate 4 is AND of the gate 3 and the source 1, and the only sink, a chain for the window of 3 may
 -- differ where the source 1 is 0.
 abbrev pub KeepsSinks : Net → Window → Chain → Type 0
@@ -33,7 +33,7 @@ KeepsSinks n w c = (given : ℕ → Bool) → map (sig_value (spliced_value n w 
 abbrev pub HasGates : Window → List ℕ → Type 0
 HasGates w gates = (p : ℕ) → among w.gates p ≡ true → among gates p ≡ true
 
--- What is seen of these gates outside has the values that it had, where the window's outputs take the values of the
+-- What is seen of the gates from outside has the values that it had, where the window's outputs take the values of the
 -- chain's outs. So the outs may differ as far as the gates that read them hide it.
 -- Example: where the gate 4 is AND of the gate 3 and the source 1, and nothing else reads the gate 3, then of the
 -- gates 3 and 4 only 4 is seen.

@@ -23,7 +23,7 @@ pub fn roots_do_not_matter()
 
 /// A net in which a chain that agrees has taken a window's place, and with it what is left of that net, can stand
 /// in the old one's place, where the chain has no more steps than the window has gates. All its gates have operators
-/// of the net or of the chain. It is enough that no sink tells the chain's outs from the window's outputs, and for that,
+/// of the net or of the chain. It is enough that no sink distinguishes the chain's outs from the window's outputs, and for that,
 /// that what is seen of more gates than the window's keeps its values.
 pub fn substitution_keeps_the_sinks()
     ensures values { (n m : Net) (w : Window) (c : Chain) → IsNet n → Belongs n w →

@@ -42,7 +42,7 @@ fn turn(marks: &mut [bool])
     }
 }
 
-/// Marks what wasn't marked and is none of these places, and nothing else.
+/// Marks what wasn't marked and is none of `places`, and nothing else.
 pub(crate) fn mark_others(marks: &mut [bool], places: &[u32])
     requires { AreBelow (length marks.old) places.now }
     ensures { (p : ℕ) → p < length marks.old →

@@ -5,20 +5,45 @@ ghost use Rattle.net_theory.specs.Net as nets;
 ghost use Rattle.net_theory.specs.Answers.{IsPruned};
 ghost use Rattle.net_theory.specs.Dead.{dropped};
 ghost use Rattle.window_theory.specs.Window.{Belongs};
-ghost use Rattle.window_theory.specs.Splice.{spliced};
+ghost use Rattle.window_theory.specs.Splice.{Fits, spliced};
 ghost use Rattle.subst_core.specs.Lists.{window_of};
-ghost use Rattle.subst_core.specs.Substitution.{HasRoom, Meets, HasOldOperators};
+ghost use Rattle.subst_core.specs.Substitution.{HasRoom, KeepsSinks, Meets, HasOldOperators};
 
 use crate::lists::WindowLists;
-use crate::substitution::substitute;
+use crate::substitution::substitute_keeping;
 use chain_core::Chain;
 use net_core::{Net, drop_dead};
 use std::alloc::{AllocError, Global};
 
-/// The net in which the chain has taken the window's place, without the gates that no sink reads then. Its
-/// sinks have the values that they had, and each gate has an operator of the net or of the chain. Where the net
-/// is what is left of a first one, and the chain has no more steps than the window has gates, the new net is left
-/// of the first one too.
+/// The net in which the chain has taken the window's place, where no sink distinguishes the chain's outs from the
+/// window's outputs, without the gates that no sink reads then. Its sinks have the values that they had, and each gate has an
+/// operator of the net or of the chain. Where the net is what is left of a first one, and the chain has no more steps
+/// than the window has gates, the new net is left of the first one too.
+pub fn replace_keeping(
+    alloc: Global,
+    net: &Net,
+    window: &WindowLists,
+    chain: &Chain,
+) -> Result<Net, AllocError>
+    requires belongs { Belongs net.now (window_of window.now) }
+    requires fits { Fits (window_of window.now) chain.now }
+    requires keeps { KeepsSinks net.now (window_of window.now) chain.now }
+    requires room { HasRoom net.now (window_of window.now) chain.now }
+    ensures exact { IfOk result (λ new. new ≡ dropped (spliced net.now (window_of window.now) chain.now)) }
+    ensures pruned { (first : nets.Net) → IsPruned first net.now → length chain.now.steps ≤ length window.now.gates.now →
+        IfOk result (IsPruned first) }
+    ensures fewer { IfOk result (λ new.
+        length new.gates + length window.now.gates.now ≤ length net.now.gates + length chain.now.steps) }
+    ensures operators { IfOk result (HasOldOperators net.now chain.now) }
+{
+    let substituted = substitute_keeping(alloc, net, window, chain)?;
+    drop_dead(alloc, &substituted)
+}
+
+/// The net in which a chain that agrees with what the window has to compute has taken its place, without the gates
+/// that no sink reads then. Its sinks have the values that they had, and each gate has an operator of the net or of
+/// the chain. Where the net is what is left of a first one, and the chain has no more steps than the window has gates,
+/// the new net is left of the first one too.
 pub fn replace(
     alloc: Global,
     net: &Net,
@@ -35,6 +60,7 @@ pub fn replace(
         length new.gates + length window.now.gates.now ≤ length net.now.gates + length chain.now.steps) }
     ensures operators { IfOk result (HasOldOperators net.now chain.now) }
 {
-    let substituted = substitute(alloc, net, window, chain)?;
-    drop_dead(alloc, &substituted)
+    // brings the type invariant into the proof
+    let _gates = net.gates();
+    replace_keeping(alloc, net, window, chain)
 }

@@ -1,5 +1,5 @@
 //! A chain's steps as gates of a net. Its inputs are where the window's inputs went, and its steps have the places
-//! behind the gates that are there.
+//! after the gates that are there.
 
 ghost use Rattle.std.specs.Prelude.{◌≡◌, ◌+◌, ◌-◌, ◌≤◌, ◌<◌, ◌^◌, ◌++◌};
 ghost use Rattle.std.specs.Prelude.{length, map, All, OnOk, IfOk, vec_len};
@@ -46,7 +46,7 @@ fn step_gate(places: &[Sig], inputs: &[u32], first: u32, step: &Step) -> Gate
     }
 }
 
-/// Puts a gate for each step behind the gates.
+/// Puts a gate for each step after the gates.
 fn push_steps(
     places: &[Sig],
     inputs: &[u32],
@@ -112,7 +112,7 @@ fn put_sigs(places: &mut [Sig], outputs: &[u32], sigs: &[Sig])
     }
 }
 
-/// Puts the chain's steps behind the gates, and lets the window's outputs be where the chain's outs are.
+/// Puts the chain's steps after the gates, and lets the window's outputs be where the chain's outs are.
 pub(crate) fn put_chain(
     alloc: Global,
     sources: u32,

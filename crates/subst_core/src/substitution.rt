@@ -1,17 +1,37 @@
-//! A chain that agrees with what a window has to compute takes its place.
+//! A chain takes a window's place, and every sink keeps its values: for whatever reason that is known, or since
+//! the chain agrees with what the window has to compute.
 
 ghost use Rattle.std.specs.Prelude.{◌≡◌, ◌≤◌, length, IfOk};
 ghost use Rattle.net_theory.specs.Answers.{Answers};
 ghost use Rattle.window_theory.specs.Window.{Belongs};
-ghost use Rattle.window_theory.specs.Splice.{spliced};
+ghost use Rattle.window_theory.specs.Splice.{Fits, spliced};
 ghost use Rattle.subst_core.specs.Lists.{window_of};
-ghost use Rattle.subst_core.specs.Substitution.{HasRoom, Meets, IsSubstituted};
+ghost use Rattle.subst_core.specs.Substitution.{HasRoom, KeepsSinks, Meets, IsSubstituted};
 
 use crate::lists::WindowLists;
 use crate::splicing::splice;
 use chain_core::Chain;
 use net_core::Net;
 use std::alloc::{AllocError, Global};
+
+/// The net in which the chain has taken the window's place, where no sink distinguishes the chain's outs from the
+/// window's outputs. Where the chain has no more steps than the window has gates, it can stand in the old net's place.
+pub fn substitute_keeping(
+    alloc: Global,
+    net: &Net,
+    window: &WindowLists,
+    chain: &Chain,
+) -> Result<Net, AllocError>
+    requires belongs { Belongs net.now (window_of window.now) }
+    requires fits { Fits (window_of window.now) chain.now }
+    requires keeps { KeepsSinks net.now (window_of window.now) chain.now }
+    requires room { HasRoom net.now (window_of window.now) chain.now }
+    ensures exact { IfOk result (λ new. new ≡ spliced net.now (window_of window.now) chain.now) }
+    ensures substituted { IfOk result (IsSubstituted net.now (window_of window.now) chain.now) }
+    ensures answers { length chain.now.steps ≤ length window.now.gates.now → IfOk result (Answers net.now) }
+{
+    splice(alloc, net, window, chain)
+}
 
 /// The net in which the chain has taken the window's place, with the values that the sinks had. Where the chain has
 /// no more steps than the window has gates, it can stand in the old net's place.
@@ -28,5 +48,7 @@ pub fn substitute(
     ensures substituted { IfOk result (IsSubstituted net.now (window_of window.now) chain.now) }
     ensures answers { length chain.now.steps ≤ length window.now.gates.now → IfOk result (Answers net.now) }
 {
-    splice(alloc, net, window, chain)
+    // brings the type invariant into the proof
+    let _gates = net.gates();
+    substitute_keeping(alloc, net, window, chain)
 }

@@ -1,4 +1,4 @@
--- What is named in the order of visits, part behind part.
+-- What is named in the order of visits, part after part.
 use Rattle.std.specs.Prelude.{◌≡◌, zero, suc, List, [], ◌∷◌, ◌++◌, Contains, refl}
 use Rattle.std.proofs.Common.{arith, sym, ◌∙◌, ap, subst, ⊎_elim, append_assoc, append-nil}
 use Rattle.std.proofs.lemmas.List.{map-append}
@@ -55,7 +55,7 @@ adds_one P named u is = record {
   each = λ v there. subst P (sym (contains_one u.visit v there)) is;
 }
 
--- one part behind another
+-- one part after another
 pub adds_on : (P Q R : Visit → Type 0) (xs ys zs : List Undecided) → Adds P xs ys → Adds Q ys zs → ((v : Visit) → P v → R v) → ((v : Visit) → Q v → R v) → ((v w : Visit) → P v → Q w → ComesBefore v w) → Adds R xs zs
 adds_on P Q R xs ys zs first second p q before =
     let both : visits (first.more ++ second.more) ≡ visits first.more ++ visits second.more = map-append visit_of first.more second.more in

@@ -1,4 +1,4 @@
--- A round that begins with gates that are alike, and makes all visits behind that.
+-- A round that begins with gates that are alike, and makes all visits after that.
 use Rattle.std.specs.Prelude.{◌≡◌, true, false}
 use Rattle.std.proofs.Common.{sym, subst, inl, inr, ⊎_elim}
 use Rattle.std.proofs.lemmas.Bool.{cases_Bool, both_ways}
@@ -42,7 +42,7 @@ behind_none : (P : Visit → Type 0) (a b c : Stage) → IsSwept IsNoVisit a b �
 behind_none P a b c first second =
     swept_on IsNoVisit P P a b c first second (λ off same v is. inl (inr is)) (λ v none. absurd none) (λ v is. is) (λ v w none. absurd none)
 
--- All visits behind that.
+-- All visits after that.
 pub round_made : (a b c : Stage) → IsSwept IsNoVisit a b → IsSwept (IsOfRoots b.settings.cap (end_of b.net)) b c → IsSwept (IsOfRoots a.settings.cap (end_of a.net)) a c
 round_made a b c first second =
     let visits : IsSwept (IsOfRoots a.settings.cap (end_of b.net)) b c = subst (λ (s : ImproveSettings). IsSwept (IsOfRoots s.cap (end_of b.net)) b c) first.asked second in

@@ -51,7 +51,7 @@ pub record IsSwept (P : Visit → Type 0) (a b : Stage) : Type 0 where
   pub sound : b.round.changed ≡ false → All (IsUndecided a.net a.settings) a.round.named → All (IsUndecided b.net b.settings) b.round.named
   pub fell : a.round.changed ≡ false → b.round.changed ≡ true → length b.net.gates < length a.net.gates
 
--- After so many rounds that each changed the net.
+-- After `rounds` rounds that each changed the net.
 pub record HasRounds (rounds : ℕ) (s t : ImproveSettings) (n m : Net) : Type 0 where
   pub asked : t ≡ s
   pub leads : Leads (members s.basis) n m

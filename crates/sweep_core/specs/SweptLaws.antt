@@ -123,7 +123,7 @@ swept_none P a none =
       fell = λ off on. absurd (both_ways a.round.changed off on);
     }
 
--- One part behind another.
+-- One part after another.
 pub swept_on : (P Q R : Visit → Type 0) (a b c : Stage)
     → IsSwept P a b
     → IsSwept Q b c

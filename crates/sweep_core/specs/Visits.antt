@@ -72,7 +72,7 @@ TurnsBefore (Some h) (Some k) = k < h
 abbrev pub ComesBefore : Visit → Visit → Type 0
 ComesBefore v w = (v.root < w.root) ⊎ ((v.root ≡ w.root) × (TurnsBefore v.partner w.partner ⊎ ((v.partner ≡ w.partner) × (v.count < w.count))))
 
--- Each visit comes before all behind it, so each is there once.
+-- Each visit comes before all after it, so each is there once.
 unfoldable pub IsRising : List Visit → Type 0
 IsRising [] = Unit {0}
 IsRising (v ∷ vs) = ((w : Visit) → Contains vs w → ComesBefore v w) × IsRising vs

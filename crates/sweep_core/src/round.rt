@@ -1,4 +1,4 @@
-//! One round: gates that are alike become one, and then come the visits in their order.
+//! One round, a pass over the net: gates that are alike become one, and then every window is tried in its order.
 ghost use Rattle.std.specs.Prelude.{◌+◌, ◌≤◌, ◌<◌, None, Some, IfOk, OnOk};
 ghost use Rattle.sweep_core.specs.Visits.{IsNoVisit, IsThis, IsOfCounts, IsOfPartners, IsOfRoot, IsOfRoots, IsNextPartner};
 ghost use Rattle.net_theory.specs.Net.{end_of};
@@ -160,7 +160,7 @@ fn visit_all<T: Trial>(alloc: Global, trial: &mut T, round: &mut Round) -> Resul
     Ok(())
 }
 
-/// Makes gates that are alike one.
+/// Makes gates that are alike one (structural hashing).
 #[tactic(auto, using(crate::specs::RoundLaws::merging))]
 fn merge_gates<T: Trial>(alloc: Global, trial: &mut T, round: &mut Round) -> Result<(), AllocError>
     ensures { OnOk result (IsSwept IsNoVisit

@@ -20,7 +20,7 @@ pub struct Swept {
     pub undecided: Vec<Undecided>,
 }
 
-/// Sweeps the net of a trial: rounds, until one changes nothing or so many as the settings say have changed
+/// Sweeps the net of a trial: rounds, until one changes nothing (a fixpoint) or `settings.rounds` of them have changed
 /// something. The cap is 1 at least.
 ///
 /// What the net could stand for it can stand for in the end. Settled, it has no window up to the cap with a shorter

@@ -8,11 +8,12 @@ use std::alloc::{AllocError, Global};
 /// What a visit came to.
 #[derive(Drop)]
 pub enum Tried {
-    /// There is no such window, or it doesn't count, or it has no chain of fewer steps than it has gates.
+    /// No gain: there is no window of this root, partner and count, or it has too many inputs or outputs, or it has no
+    /// chain of fewer steps than it has gates.
     Passed,
-    /// A search has spent its budget: its certificate.
+    /// The conflict limit was reached: the certificate of the search.
     Open(Bundle),
-    /// A shorter chain took the window's place, and the net is smaller.
+    /// A gain: a shorter chain took the window's place, and the net is smaller.
     Smaller,
 }
 
@@ -41,13 +42,13 @@ pub trait Trial {
     fn net(&self) -> &Net
         ensures { result.now ≡ net_of self.now };
 
-    /// Makes gates that are alike one, where that is to be done. Whether the net has become smaller.
+    /// Merges gates that are alike (structural hashing), where that is to be done. Whether the net has become smaller.
     fn merge_alike(&mut self, alloc: Global) -> Result<bool, AllocError>
         ensures asked { IfOk result (λ _. settings_of self.new ≡ settings_of self.old) }
         ensures shrunk { IfOk result (λ merged. IsShrunk (settings_of self.old) (net_of self.old) (net_of self.new) merged) };
 
-    /// Tries the window of a root, a partner or none, and a count from 1 to the cap. There may be no such
-    /// window, and the place of the partner may be none of a partner.
+    /// Tries the window of a root, a partner or none, and a count from 1 to the cap. There may be no window of them,
+    /// and the place of the partner may be none of a partner.
     fn attempt(&mut self, alloc: Global, visit: Visit) -> Result<Tried, AllocError>
         requires gate { IsGate (net_of self.old) visit.root }
         requires from { 1 ≤ visit.count }

@@ -1,7 +1,6 @@
 //! A visit.
 
-/// A window that is visited: the places of its root and of its partner, if it has one, and how many gates it
-/// takes.
+/// A window that is tried: the places of its root and of its partner, if it has one, and the number of its gates.
 #[derive(Clone, Copy)]
 pub struct Visit {
     pub root: u32,

@@ -91,14 +91,14 @@ trial_apart s n v none = record { done = λ gate partner. absurd (none partner) 
 pub trial_none : (s : ImproveSettings) (n : Net) (v : Visit) → ((w : Window) → IsWindow n v.root v.partner v.count w → ⊥) → IsDone s n v
 trial_none s n v none = record { done = λ gate partner. record { least = λ w is. absurd (none w is) } }
 
-shorter_meets : (s : ImproveSettings) (n : Net) (w : Window) (c : Chain) (low : ℕ) → IsDecidedFor s n w (decisions.Shorter c low) → MeetsAsked s.observe n w c
-shorter_meets s n w c low is = record { chain = is.decided.0.found.chain; specification = specification is.heading.spec; is = is.asks.tables; agrees = is.decided.0.found.agrees }
+shorter_meets : (s : ImproveSettings) (n : Net) (w : Window) (c : Chain) → IsDecidedFor s n w (decisions.Shorter c) → MeetsAsked s.observe n w c
+shorter_meets s n w c is = record { chain = is.decided.found.chain; specification = specification is.heading.spec; is = is.asks.tables; agrees = is.decided.found.agrees }
 
-shorter_fewer : (s : ImproveSettings) (n : Net) (w : Window) (c : Chain) (low : ℕ) → IsDecidedFor s n w (decisions.Shorter c low) → length c.steps < length w.gates
-shorter_fewer s n w c low is = omega (arith, is.decided.0.found.size_is, is.decided.0.found.size_to, is.asks.max_is)
+shorter_fewer : (s : ImproveSettings) (n : Net) (w : Window) (c : Chain) → IsDecidedFor s n w (decisions.Shorter c) → length c.steps < length w.gates
+shorter_fewer s n w c is = omega (arith, is.decided.found.size_is, is.decided.found.size_to, is.asks.max_is)
 
-shorter_over : (s : ImproveSettings) (n : Net) (w : Window) (c : Chain) (low : ℕ) → IsDecidedFor s n w (decisions.Shorter c low) → IsOver (members s.basis) c
-shorter_over s n w c low is = subst (λ (b : ℕ). IsOver (members b) c) is.asks.basis_is is.decided.0.found.over
+shorter_over : (s : ImproveSettings) (n : Net) (w : Window) (c : Chain) → IsDecidedFor s n w (decisions.Shorter c) → IsOver (members s.basis) c
+shorter_over s n w c is = subst (λ (b : ℕ). IsOver (members b) c) is.asks.basis_is is.decided.found.over
 
 -- ---- what stays open
 
@@ -128,14 +128,14 @@ trial_open s n v w d b net listed is decided e = left_by s n v w b net listed is
 
 -- ---- shorter chains
 
-pub trial_meets : (s : ImproveSettings) (n : Net) (w : Window) (d : Decided) (c : Chain) (low : ℕ) → IsDecidedFor s n w d → d ≡ decisions.Shorter c low → MeetsAsked s.observe n w c
-trial_meets s n w d c low decided e = shorter_meets s n w c low (decided_as s n w d (decisions.Shorter c low) e decided)
+pub trial_meets : (s : ImproveSettings) (n : Net) (w : Window) (d : Decided) (c : Chain) → IsDecidedFor s n w d → d ≡ decisions.Shorter c → MeetsAsked s.observe n w c
+trial_meets s n w d c decided e = shorter_meets s n w c (decided_as s n w d (decisions.Shorter c) e decided)
 
-pub trial_fewer : (s : ImproveSettings) (n : Net) (w : Window) (d : Decided) (c : Chain) (low : ℕ) → IsDecidedFor s n w d → d ≡ decisions.Shorter c low → length c.steps < length w.gates
-trial_fewer s n w d c low decided e = shorter_fewer s n w c low (decided_as s n w d (decisions.Shorter c low) e decided)
+pub trial_fewer : (s : ImproveSettings) (n : Net) (w : Window) (d : Decided) (c : Chain) → IsDecidedFor s n w d → d ≡ decisions.Shorter c → length c.steps < length w.gates
+trial_fewer s n w d c decided e = shorter_fewer s n w c (decided_as s n w d (decisions.Shorter c) e decided)
 
-pub trial_over : (s : ImproveSettings) (n : Net) (w : Window) (d : Decided) (c : Chain) (low : ℕ) → IsDecidedFor s n w d → d ≡ decisions.Shorter c low → IsOver (members s.basis) c
-trial_over s n w d c low decided e = shorter_over s n w c low (decided_as s n w d (decisions.Shorter c low) e decided)
+pub trial_over : (s : ImproveSettings) (n : Net) (w : Window) (d : Decided) (c : Chain) → IsDecidedFor s n w d → d ≡ decisions.Shorter c → IsOver (members s.basis) c
+trial_over s n w d c decided e = shorter_over s n w c (decided_as s n w d (decisions.Shorter c) e decided)
 
 -- ---- visits
 

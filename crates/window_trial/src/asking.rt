@@ -11,7 +11,8 @@ use std::alloc::{AllocError, Global};
 use tt_core::Spec;
 use window_core::{Readers, Window, spec_of};
 
-/// The specification of a window, or, where rows that nobody sees are left out of account, its observed one.
+/// The specification of a window with satisfiability don't-cares alone, or, where `observe` is set, its observed one,
+/// which has observability don't-cares too.
 #[tactic(auto, using(crate::specs::AskingLaws::asking))]
 pub fn asked_spec(
     alloc: Global,

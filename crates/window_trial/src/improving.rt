@@ -6,6 +6,7 @@ ghost use Rattle.window_trial.specs.Improvement.{Leaves};
 use crate::trying::WindowTrial;
 use improve_settings::ImproveSettings;
 use net_core::{Net, drop_dead};
+use sat_solve::Solver;
 use std::alloc::{AllocError, Global};
 use sweep_core::{Swept, Undecided, sweep};
 
@@ -20,9 +21,9 @@ pub struct ImprovedNet {
 }
 
 /// Drops the dead gates of a net, and then puts shorter chains in the place of windows, until no window up to
-/// the cap has one, or so many rounds as the settings say have changed something.
+/// the cap has one, or `settings.rounds` rounds have changed something.
 #[tactic(auto, using(crate::specs::ImprovementLaws::improving))]
-pub fn improve_net(
+pub fn improve_net<S: Solver>(
     alloc: Global,
     net: &Net,
     settings: ImproveSettings,
@@ -30,7 +31,7 @@ pub fn improve_net(
     requires { IsInRange settings }
     ensures { IfOk result (λ left. Leaves settings net.now left.net left.settled left.undecided.items) }
 {
-    // brings what the type of a net says
+    // brings the type invariant into the proof
     let _gates = net.gates();
     let tidy = drop_dead(alloc, net)?;
     if settings.cap == 0 {
@@ -40,7 +41,7 @@ pub fn improve_net(
             undecided: Vec::new(alloc),
         });
     }
-    let mut trial = WindowTrial::new(alloc, tidy, settings)?;
+    let mut trial = WindowTrial::<S>::new(alloc, tidy, settings)?;
     let Swept { settled, undecided } = sweep(alloc, &mut trial)?;
     Ok(ImprovedNet {
         net: trial.into_net(),

@@ -3,14 +3,15 @@
 //!
 //! It stands on `window_core` for the windows and what they have to compute, on `observe_core` for what those who see
 //! them ask, on `decide_core` for the search of a shorter chain, on `subst_core` for the net in which a chain has taken
-//! a window's place, on `merge_core` for gates that are alike, and it is a `Trial` of `sweep_core`. The net and its index are kept together; the index is made anew when the net changes.
+//! a window's place, on `merge_core` for gates that are alike, on any `Solver` of `sat_solve`, and it is a `Trial` of
+//! `sweep_core`. The net and its index are kept together; the index is made anew when the net changes.
 //!
 //! The one theorem is that of `improve_net`, which drops dead gates and then sweeps: what is left answers what the
 //! net answers, and once it is settled no window up to the cap has a shorter chain for what the settings ask of it, but
 //! for those that are named.
 //!
 //! ```text
-//! let left = improve_net(alloc, &net, ImproveSettings::usual())?;
+//! let left = improve_net::<S>(alloc, &net, ImproveSettings::usual())?;
 //! left.net; // no window of at most 5 gates has a shorter chain, if left.settled
 //! ```
 #![tactic(auto)]

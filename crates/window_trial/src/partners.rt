@@ -10,7 +10,7 @@ use net_core::Net;
 use std::alloc::{AllocError, Global};
 use window_core::{Readers, partners_by};
 
-/// The first of falling places that is below a place.
+/// The first of `places` that is below `below`. The places fall.
 #[tactic(auto, unfolding(crate::specs::PartnerLaws::first_below))]
 fn first_below(places: &[u32], below: u32) -> Option<u32>
     ensures { result ≡ first_below_of places.now below }
@@ -25,7 +25,7 @@ fn first_below(places: &[u32], below: u32) -> Option<u32>
     None
 }
 
-/// The greatest partner of a gate below a place.
+/// The greatest partner of the gate `root` below the place `below`.
 #[tactic(auto, using(crate::specs::PartnerLaws::choosing))]
 pub fn next_partner(
     alloc: Global,
@@ -42,7 +42,7 @@ pub fn next_partner(
     Ok(first_below(&partners, below))
 }
 
-/// Whether a place, if there is one, is that of a partner of a gate.
+/// Whether `partner`, if there is one, is a partner of the gate `root`.
 #[tactic(auto, using(crate::specs::PartnerLaws::choosing))]
 pub fn is_partner_or_none(
     alloc: Global,

@@ -11,25 +11,27 @@ ghost use Rattle.window_trial.specs.Trying.{IsDecidedFor, IsOutcome};
 use crate::asking::asked_spec;
 use crate::merging::merged;
 use crate::partners::{is_partner_or_none, next_partner};
-use crate::replacing::with_chain;
+use crate::replacing::replaced;
 use decide_core::{Decided, Heading, Memory, decide};
 use improve_settings::ImproveSettings;
 use net_core::Net;
+use sat_solve::Solver;
 use std::alloc::{AllocError, Global};
-use std::marker::Model;
+use std::marker::{Model, PhantomData};
 use sweep_core::{Trial, Tried, Visit};
 use window_core::{Readers, Window, readers_of, window_by};
 
-/// A net whose windows are tried, with its index, the settings, and what was found of windows before.
+/// A net whose windows are tried by a solver, with its index, the settings, and what was found of windows before.
 #[derive(Drop)]
-pub struct WindowTrial {
+pub struct WindowTrial<S> {
     settings: ImproveSettings,
     net: Net,
     readers: Readers,
     memory: Memory,
+    solver: PhantomData<S>,
 }
 
-impl Model for WindowTrial {
+impl<S> Model for WindowTrial<S> {
     ghost use Rattle.window_trial.specs.Trying.{Trying, IsTrying};
 
     ghost Value = { Trying };
@@ -41,7 +43,7 @@ impl Model for WindowTrial {
 
 /// Whether a window of a net has a shorter chain, by a heading that asks for what the settings ask of it.
 #[tactic(auto, using(crate::specs::TryingLaws::trying))]
-fn decide_window(
+fn decide_window<S: Solver>(
     alloc: Global,
     net: &Net,
     readers: &Readers,
@@ -58,7 +60,7 @@ fn decide_window(
 {
     let max = window.gates().len() as u32 - 1;
     let spec = asked_spec(alloc, net, readers, window, settings.observe)?;
-    // brings what the types of tables and bases say
+    // brings the type invariants into the proof
     let _inputs = spec.n();
     let _operators = settings.basis.get();
     let heading = Heading {
@@ -68,7 +70,7 @@ fn decide_window(
         conflicts: settings.conflicts,
         max,
     };
-    let decided = decide(alloc, memory, &heading)?;
+    let decided = decide::<S>(alloc, memory, &heading)?;
     Ok(decided)
 }
 
@@ -82,7 +84,7 @@ enum Outcome {
 
 /// Tries a window of a net.
 #[tactic(auto, using(crate::specs::TryingLaws::trying))]
-fn try_window(
+fn try_window<S: Solver>(
     alloc: Global,
     net: &Net,
     readers: &Readers,
@@ -97,12 +99,12 @@ fn try_window(
     ensures outcome { (visit : VisitValue) → IsWindow net.now visit.root visit.partner visit.count window.now → IsListed net.now settings.cap visit → IfOk result (λ outcome. IsOutcome settings net.now visit outcome) }
     ensures basis { memory.new ≡ memory.old }
 {
-    // brings what the type of a net says
+    // brings the type invariant into the proof
     let _gates = net.gates();
-    match decide_window(alloc, net, readers, window, settings, memory)? {
+    match decide_window::<S>(alloc, net, readers, window, settings, memory)? {
         Decided::Least => Ok(Outcome::Passed),
         Decided::Open(search) => Ok(Outcome::Open(search)),
-        Decided::Shorter { chain, low: _ } => Ok(Outcome::Smaller(with_chain(
+        Decided::Shorter(chain) => Ok(Outcome::Smaller(replaced(
             alloc, net, window, &chain, settings,
         )?)),
     }
@@ -110,7 +112,7 @@ fn try_window(
 
 /// Tries the window of a visit, if there is one that counts.
 #[tactic(auto, using(crate::specs::TryingLaws::trying))]
-fn try_visit(
+fn try_visit<S: Solver>(
     alloc: Global,
     net: &Net,
     readers: &Readers,
@@ -127,24 +129,24 @@ fn try_visit(
     ensures outcome { IfOk result (λ outcome. IsOutcome settings net.now visit outcome) }
     ensures basis { memory.new ≡ memory.old }
 {
-    // brings what the type of a net says
+    // brings the type invariant into the proof
     let _gates = net.gates();
     if !is_partner_or_none(alloc, net, readers, visit.root, visit.partner)? {
         return Ok(Outcome::Passed);
     }
     match window_by(alloc, net, readers, visit.root, visit.partner, visit.count)? {
         None => Ok(Outcome::Passed),
-        Some(window) => try_window(alloc, net, readers, &window, settings, memory),
+        Some(window) => try_window::<S>(alloc, net, readers, &window, settings, memory),
     }
 }
 
-impl WindowTrial {
+impl<S> WindowTrial<S> {
     /// A net whose windows are to be tried by some settings.
     pub fn new(
         alloc: Global,
         net: Net,
         settings: ImproveSettings,
-    ) -> Result<WindowTrial, AllocError>
+    ) -> Result<WindowTrial<S>, AllocError>
         requires { IsInRange settings }
         ensures net { IfOk result (λ trial. trial.net ≡ net) }
         ensures settings { IfOk result (λ trial. trial.settings ≡ settings) }
@@ -156,6 +158,7 @@ impl WindowTrial {
             net,
             readers,
             memory,
+            solver: PhantomData,
         })
     }
 
@@ -168,6 +171,7 @@ impl WindowTrial {
             net,
             readers: _,
             memory: _,
+            solver: _,
         } = self;
         net
     }
@@ -183,7 +187,7 @@ impl WindowTrial {
     }
 }
 
-impl Trial for WindowTrial {
+impl<S: Solver> Trial for WindowTrial<S> {
     ghost settings_of = { λ t. t.settings };
 
     ghost net_of = { λ t. t.net };
@@ -213,7 +217,7 @@ impl Trial for WindowTrial {
 
     #[tactic(auto, using(crate::specs::TryingLaws::trying))]
     fn attempt(&mut self, alloc: Global, visit: Visit) -> Result<Tried, AllocError> {
-        match try_visit(
+        match try_visit::<S>(
             alloc,
             &self.net,
             &self.readers,

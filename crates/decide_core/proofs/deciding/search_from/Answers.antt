@@ -7,11 +7,11 @@ use Rattle.decide_core.specs.DecidedLaws.{size_refuted}
 use Rattle.decide_core.proofs.deciding.search_from.Goals as goal
 
 pub loop-size-preserved : goal.loop-size-preserved
-loop-size-preserved c =
-    let h = c.args.heading.now in
+loop-size-preserved g c =
+    let h = c.args.question.heading.now in
     let sized = subst (λ (outcome : SizeOutcome). IsSized h c.loop-size.size outcome) c.in-Logged.is c.in_ok-chain.ensures in
-    let few : c.loop-size.size ≤ c.args.heading.now.max = omega (arith, c.loop-size-test.true) in
-    size_refuted h c.loop-size.size c.in-Logged.section c.requires.heading few sized.0 (sym c.is_open.ensures ∙ c.if-is_open.false) c.loop-size.invariant
+    let few : c.loop-size.size ≤ c.args.question.heading.now.max = omega (arith, c.loop-size-test.true) in
+    size_refuted h c.loop-size.size c.in-Logged.section c.args.question.checked few sized.0 (sym c.is_open.ensures ∙ c.if-is_open.false) c.loop-size.invariant
 
 pub returns : goal.returns
-returns c = λ q low has. c.loop-size.invariant q (omega (arith, low, c.loop-size-test.false)) has
+returns g c = λ q low has. c.loop-size.invariant q (omega (arith, low, c.loop-size-test.false)) has

@@ -5,17 +5,17 @@ use Rattle.decide_core.specs.RememberedLaws.{noted, recalled, whole_least}
 use Rattle.decide_core.proofs.remembering.decide_whole.Goals as goal
 
 pub returns-then-heading-known-clause-decided : goal.returns-then-heading-known-clause-decided
-returns-then-heading-known-clause-decided c =
-    fewer_below c.args.heading.now c.fewest-known.result c.if-heading-known.true
-    (recalled c.args.heading.now c.args.memory.now c.fewest-known.result c.in_ok-key.key c.requires.heading c.requires.basis c.in_ok-key.ensures c.fewest-known.ensures)
+returns-then-heading-known-clause-decided g c =
+    fewer_below c.args.question.heading.now c.fewest-known.result c.if-heading-known.true
+    (recalled c.args.question.heading.now c.args.memory.now c.fewest-known.result c.in_ok-key.key c.args.question.checked c.requires.basis c.in_ok-key.ensures c.fewest-known.ensures)
 
 pub note-requires : goal.note-requires
-note-requires c =
+note-requires g c =
     rw c.without_chain.ensures
-    (noted c.args.heading.now c.args.memory.now (c.args.heading.now.max + 1) c.in_ok-key.key c.requires.heading c.requires.basis c.in_ok-key.ensures
-    (whole_least c.args.heading.now c.in_ok-search_whole.field-0 c.in_ok-search_whole.ensures c.in-Least.is))
+    (noted c.args.question.heading.now c.args.memory.now (c.args.question.heading.now.max + 1) c.in_ok-key.key c.args.question.checked c.requires.basis c.in_ok-key.ensures
+    (whole_least c.args.question.heading.now c.in_ok-search_whole.field-0 c.in_ok-search_whole.ensures c.in-Least.is))
 
 pub note-requires-in-Shorter : goal.note-requires-in-Shorter
-note-requires-in-Shorter c =
+note-requires-in-Shorter g c =
     rw c.with_chain-found.ensures
-    (noted c.args.heading.now c.args.memory.now 0 c.in_ok-key.key c.requires.heading c.requires.basis c.in_ok-key.ensures (fewer_none c.args.heading.now))
+    (noted c.args.question.heading.now c.args.memory.now 0 c.in_ok-key.key c.args.question.checked c.requires.basis c.in_ok-key.ensures (fewer_none c.args.question.heading.now))

@@ -1,4 +1,4 @@
--- The pieces of a window's line, one behind the other, and its certificate.
+-- The pieces of a window's line, one after the other, and its certificate.
 use Rattle.std.specs.Prelude.{◌≡◌, ◌++◌, decimal}
 use Rattle.std.proofs.Common.{subst}
 use Rattle.cert_theory.specs.Spelling.{bundle_text}

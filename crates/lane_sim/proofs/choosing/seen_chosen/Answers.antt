@@ -1,4 +1,4 @@
-use Rattle.std.proofs.Common.{◌+◌, ◌-◌, length, arith}
+use Rattle.std.proofs.Common.{◌+◌, length, arith}
 use Rattle.lane_sim.specs.ChosenLaws.{chosen_more}
 use Rattle.lane_sim.specs.PatternLaws.{all_end_less}
 use Rattle.lane_sim.specs.Seen.{pattern_at}

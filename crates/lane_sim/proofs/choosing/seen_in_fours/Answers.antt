@@ -1,4 +1,4 @@
-use Rattle.std.proofs.Common.{◌≡◌, ◌∙◌, ℕ, ◌+◌, ◌-◌, ◌*◌, ◌/◌, length, arith, subst}
+use Rattle.std.proofs.Common.{◌≡◌, ◌∙◌, ℕ, ◌+◌, ◌*◌, ◌/◌, length, arith, subst}
 use Rattle.std.specs.Prelude.{bit_or}
 use Rattle.lane_sim.specs.Chosen.{chosen_at, AreChosenBelow}
 use Rattle.lane_sim.specs.ChosenLaws.{four_more, chosen_full}

@@ -5,6 +5,6 @@ use Rattle.window_trial.specs.MergedLaws.{shrunk_by}
 use Rattle.window_trial.proofs.trying.WindowTrialTrial.merge_alike.Goals as goal
 
 pub returns-in_ok-put-in-Some-clause-shrunk : goal.returns-in_ok-put-in-Some-clause-shrunk
-returns-in_ok-put-in-Some-clause-shrunk c =
+returns-in_ok-put-in-Some-clause-shrunk g c =
     shrunk_by c.args.self.now.settings c.args.self.now.net c.self.inside.net c.put.new.self.net c.in-Some.net c.in_ok-merged.field-0
     (ap (λ (t : Trying). t.net) c.self.view_is) c.in_ok-put-in-Some.ensures.net c.in-Some.is c.in_ok-merged.ensures.leads c.in_ok-merged.ensures.less

@@ -1,5 +1,0 @@
--- One section more, and what it comes to.
-use Rattle.chain_app.proofs.synth.write_sections.Goals as goal
-
-pub loop-next-preserved : goal.loop-next-preserved
-loop-next-preserved g c = λ asked bytes first within out. c.in-On.ensures.comes asked bytes first within (c.loop-next.invariant asked bytes first within out)

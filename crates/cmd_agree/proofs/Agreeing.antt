@@ -1,0 +1,31 @@
+-- What `agree` answers to bytes.
+use Rattle.std.specs.Prelude.{◌≡◌, ℕ, ◌≤◌, List, length}
+use Rattle.std.proofs.Common.{refl}
+use Rattle.std.proofs.lemmas.Grind.{common_steps}
+use Rattle.cmd_agree.specs.declared.agree.Answer.{Answer}
+use Rattle.cmd_agree.specs.declared.agree.AgreeError.{AgreeError}
+use Rattle.cmd_agree.specs.declared.agree.AgreeError.TheVariants as errors
+use Rattle.cmd_agree.specs.Agree.{HasFault, question_of, IsCause, Fails, HasAnswer}
+use Rattle.cmd_lines.specs.TableLines.{most_of_tables}
+use Rattle.cmd_agree.specs.AgreeReport.{agree_reply, agree_task}
+use Rattle.frame_core.specs.Told.{Reply}
+use Rattle.frame_core.specs.Task.{Tells}
+
+-- What the readers answer within the limit is the cause of their error.
+pub cause_of : (bytes : List ℕ) (error : AgreeError) → length bytes ≤ most_of_tables → Fails error (question_of bytes) → IsCause bytes error
+cause_of bytes (errors.Tables e) within fails = record { within = within; fault = fails }
+cause_of bytes (errors.Chained e) within fails = record { within = within; fault = fails }
+cause_of bytes (errors.BadEnd line) within fails = record { within = within; fault = fails }
+cause_of bytes errors.Memory within fails = tt
+
+-- A cause within the limit that isn't want of memory is a fault.
+pub fault_of : (bytes : List ℕ) (error : AgreeError) → length bytes ≤ most_of_tables → IsCause bytes error → (error ≡ errors.Memory → ⊥) → HasFault bytes error
+fault_of bytes (errors.Tables e) within cause other = cause
+fault_of bytes (errors.Chained e) within cause other = cause
+fault_of bytes (errors.BadEnd line) within cause other = cause
+fault_of bytes errors.Memory within cause other = absurd (other refl)
+
+pub tells : (bytes : List ℕ) (answer : Answer) (reply : Reply) → HasAnswer bytes answer → reply ≡ agree_reply answer → Tells agree_task bytes reply
+tells bytes answer reply has is = record { answer = answer; has = has; is = is }
+
+pub ruleset telling = (common_steps, tells)

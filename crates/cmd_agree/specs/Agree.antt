@@ -1,0 +1,100 @@
+-- What `agree` is asked, and what it answers.
+use Rattle.std.specs.Prelude.{◌≡◌, ℕ, ◌+◌, ◌*◌, ◌&&◌, List, [], ◌∷◌, length, codes, Result, Ok, Err, ◌≤◌, if◌then◌else◌}
+use Rattle.std.specs.Str.{bytes_eq}
+use Rattle.chain_theory.specs.Specification.{Specification}
+use Rattle.chain_theory.specs.Chain.{Chain}
+use Rattle.chain_theory.specs.Agreement as agreement
+use Rattle.chain_theory.specs.Difference.{IsFirstDifference}
+use Rattle.text_core.specs.Lines.{Line, lines_of}
+use Rattle.tt_core.specs.Words.{specification}
+use Rattle.tt_core.specs.declared.error.SpecError.{SpecError}
+use Rattle.chain_core.specs.declared.error.ChainError.{ChainError}
+use Rattle.tt_core.specs.Tables as tables
+use Rattle.chain_core.specs.Block as block
+use Rattle.cmd_agree.specs.declared.agree.Answer.{Answer}
+use Rattle.cmd_agree.specs.declared.agree.Answer.TheVariants.{Agrees, Differs}
+use Rattle.cmd_agree.specs.declared.agree.AgreeError.{AgreeError}
+use Rattle.cmd_agree.specs.declared.agree.AgreeError.TheVariants.{Tables, Chained, BadEnd, Memory}
+use Rattle.cmd_lines.specs.TableLines.{most_of_tables}
+
+-- whether a chain agrees with tables
+pub record Question : Type 0 where
+  pub tables : Specification
+  pub chain : Chain
+
+infixl 10 ◌>>=◌
+abbrev pub ◌>>=◌ : {A B : Type 0} → Result A AgreeError → (A → Result B AgreeError) → Result B AgreeError
+(Ok x) >>= f = f x
+(Err e) >>= f = Err e
+
+abbrev pub tables_in : Result tables.Read SpecError → Result tables.Read AgreeError
+tables_in (Ok read) = Ok read
+tables_in (Err fault) = Err (Tables fault)
+
+abbrev pub chain_in : Result block.Read ChainError → Result block.Read AgreeError
+chain_in (Ok read) = Ok read
+chain_in (Err fault) = Err (Chained fault)
+
+-- no line more
+abbrev pub nothing_in : ℕ → List Line → Result Unit AgreeError
+nothing_in number [] = Ok tt
+nothing_in number (l ∷ ls) = Err (BadEnd number)
+
+-- the line `end`, with nothing after it
+unfoldable pub end_in : ℕ → List Line → Result Unit AgreeError
+end_in number [] = Err (BadEnd number)
+end_in number (l ∷ ls) = if l.ended && bytes_eq l.text (codes "end") then nothing_in (number + 1) ls else Err (BadEnd number)
+
+-- the chain block after the tables, and the end after it
+unfoldable pub chain_behind : tables.Read → Result Chain AgreeError
+chain_behind read = do
+  found ← chain_in (block.chain_of (2 + length read.words.on) read.words.n (length read.words.on) read.rest)
+  end ← end_in (3 + 2 * length read.words.on + length found.chain.steps) found.rest
+  Ok found.chain
+
+-- tables, a chain block for their inputs and outputs, and the line `end`
+unfoldable pub question_in : List Line → Result Question AgreeError
+question_in ls = do
+  read ← tables_in (tables.tables_of ls)
+  chain ← chain_behind read
+  Ok (record { tables = specification read.words; chain = chain })
+
+-- what the bytes ask
+abbrev pub question_of : List ℕ → Result Question AgreeError
+question_of bytes = question_in (lines_of bytes)
+
+-- The bytes ask this question.
+pub record IsQuestion (bytes : List ℕ) (question : Question) : Type 0 where
+  pub within : length bytes ≤ most_of_tables
+  pub read : question_of bytes ≡ Ok question
+
+-- The bytes have this fault, though they are no more than are read.
+pub record HasFault (bytes : List ℕ) (error : AgreeError) : Type 0 where
+  pub within : length bytes ≤ most_of_tables
+  pub fault : question_of bytes ≡ Err error
+
+-- the cause of an error; want of memory has none
+abbrev pub IsCause : List ℕ → AgreeError → Type 0
+IsCause bytes Memory = Unit {0}
+IsCause bytes error = HasFault bytes error
+
+-- An error of the readers is the first fault of what was read, and want of memory may come anywhere.
+abbrev pub Fails : {Y : Type 0} → AgreeError → Result Y AgreeError → Type 0
+Fails Memory read = Unit {0}
+Fails error read = read ≡ Err error
+
+-- What a function returned, seen by view, is what was read.
+abbrev pub Gives : {X Y : Type 0} → (X → Y) → Result X AgreeError → Result Y AgreeError → Type 0
+Gives view (Ok x) read = read ≡ Ok (view x)
+Gives view (Err e) read = Fails e read
+
+-- the answer to a question: agreement, or the first difference
+abbrev pub IsAnswer : Question → Answer → Type 0
+IsAnswer question Agrees = agreement.Agrees question.chain question.tables
+IsAnswer question (Differs output row) = IsFirstDifference question.chain question.tables output row
+
+-- The bytes ask a question that has this answer.
+pub record HasAnswer (bytes : List ℕ) (answer : Answer) : Type 0 where
+  pub question : Question
+  pub asked : IsQuestion bytes question
+  pub is_answer : IsAnswer question answer

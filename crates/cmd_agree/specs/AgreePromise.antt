@@ -1,0 +1,52 @@
+-- What `agree` promises besides, in its own words.
+use Rattle.std.specs.Prelude.{◌≡◌, ℕ, List}
+use Rattle.command_line.specs.declared.command.Command.TheVariants.{Agree}
+use Rattle.command_line.specs.CommandLine.{AsksFor}
+use Rattle.cmd_agree.specs.declared.agree.Answer.{Answer}
+use Rattle.cmd_agree.specs.declared.agree.Answer.TheVariants.{Agrees, Differs}
+use Rattle.cmd_agree.specs.declared.agree.AgreeError.{AgreeError}
+use Rattle.frame_core.specs.declared.status.Status.TheVariants.{Done, Undecided, Refused}
+use Rattle.cmd_agree.specs.Agree.{Question, IsQuestion, IsAnswer, HasAnswer, HasFault}
+use Rattle.cmd_agree.specs.AgreeReport.{agree_reply, agree_refusal, agree_task}
+use Rattle.frame_core.specs.Run.{Run}
+use Rattle.cmd_lines.specs.Runs.{Runs}
+use Rattle.frame_core.specs.Promise.{InputHeld, OutputHeld, Stands, TellsError, Replies}
+
+-- The first difference stands on the output.
+pub record TellsDifference (r : Run) (input : List ℕ) : Type 0 where
+  pub output : ℕ
+  pub row : ℕ
+  pub has : HasAnswer input (Differs output row)
+  pub stands : Stands r (agree_reply (Differs output row))
+
+pub record AgreePromise (r : Run) : Type 0 where
+  -- Every question is answered,
+  pub complete : (input : List ℕ) (question : Question)
+      → Runs Agree r input
+      → IsQuestion input question
+      → OutputHeld r
+      → Replies agree_task r input
+  -- with `agrees` and the status 0 where the chain has every specified value, else with the least output
+  -- and for it the least row at which it doesn't, and the status 8.
+  pub answers : (input : List ℕ) (question : Question) (answer : Answer)
+      → Runs Agree r input
+      → IsQuestion input question
+      → IsAnswer question answer
+      → OutputHeld r
+      → Stands r (agree_reply answer)
+  -- These statuses come for no other cause, and 4 never.
+  pub agrees_only : (input : List ℕ)
+      → Runs Agree r input
+      → r.status ≡ Done
+      → HasAnswer input Agrees × Stands r (agree_reply Agrees)
+  pub differs_only : (input : List ℕ)
+      → Runs Agree r input
+      → r.status ≡ Refused
+      → TellsDifference r input
+  pub decided : AsksFor r.words Agree → r.status ≡ Undecided → ⊥
+  -- For bytes that ask nothing their first fault is reported.
+  pub refused : (input : List ℕ) (error : AgreeError)
+      → Runs Agree r input
+      → HasFault input error
+      → InputHeld r
+      → TellsError r (agree_refusal error)

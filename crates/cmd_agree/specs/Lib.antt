@@ -1,0 +1,5 @@
+pub mod Agree
+pub mod AgreeLaws
+pub mod AgreePromise
+pub mod AgreeReport
+pub mod Asked

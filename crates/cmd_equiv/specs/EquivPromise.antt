@@ -1,0 +1,62 @@
+-- What `equiv` promises besides, in its own words.
+use Rattle.std.specs.Prelude.{◌≡◌, ℕ, ◌≤◌, ◌⊎◌, List, length}
+use Rattle.net_theory.specs.Document.{Document}
+use Rattle.equiv_run.specs.declared.answer.Standing.{Standing}
+use Rattle.equiv_run.specs.declared.answer.Standing.TheVariants as standings
+use Rattle.equiv_run.specs.declared.answer.CompareError.{CompareError}
+use Rattle.equiv_run.specs.declared.answer.CompareError.TheVariants.{DifferentInterface}
+use Rattle.equiv_run.specs.Pairs.{most_of_two, AreTwo, ShareInterface, IsAnswer, HasOtherInterface}
+use Rattle.command_line.specs.declared.command.Command.TheVariants.{Equiv}
+use Rattle.frame_core.specs.declared.status.Status.TheVariants.{Done, Undecided, Refused}
+use Rattle.frame_core.specs.Run.{Run}
+use Rattle.frame_core.specs.Promise.{InputHeld, OutputHeld, Stands, TellsError, Replies}
+use Rattle.cmd_equiv.specs.EquivReport.{equiv_reply, equiv_refusal, HasComparedFault, equiv_task}
+use Rattle.cmd_lines.specs.Runs.{Runs}
+
+-- The bytes are two netlists of one interface.
+pub record AreComparable (bytes : List ℕ) : Type 0 where
+  pub first : Document
+  pub second : Document
+  pub two : AreTwo bytes first second
+  pub interface : ShareInterface first second
+
+-- A text stands on the output which reports `standing`, and proves it.
+pub record TellsStanding (budget : ℕ) (standing : Standing) (r : Run) (input : List ℕ) : Type 0 where
+  pub text : List ℕ
+  pub told : IsAnswer budget input text standing
+  pub stands : Stands r (equiv_reply (record { text = text; standing = standing }))
+
+-- The netlists have different interfaces, which is reported.
+pub record TellsInterface (r : Run) (input : List ℕ) : Type 0 where
+  pub other : HasOtherInterface input
+  pub told : TellsError r (equiv_refusal DifferentInterface)
+
+pub record EquivPromise (r : Run) : Type 0 where
+  -- Two netlists of one interface are compared.
+  pub complete : (budget : ℕ) (input : List ℕ)
+      → Runs (Equiv budget) r input
+      → length input ≤ most_of_two
+      → AreComparable input
+      → OutputHeld r
+      → Replies (equiv_task budget) r input
+  -- The status 0 comes where they do the same alone, with a log that refutes that they differ,
+  pub equal_only : (budget : ℕ) (input : List ℕ)
+      → Runs (Equiv budget) r input
+      → r.status ≡ Done
+      → TellsStanding budget standings.Equal r input
+  -- 4 with a log that has spent the budget,
+  pub undecided_only : (budget : ℕ) (input : List ℕ)
+      → Runs (Equiv budget) r input
+      → r.status ≡ Undecided
+      → TellsStanding budget standings.Undecided r input
+  -- and 8 where they differ as is reported, or have different interfaces.
+  pub differ_only : (budget : ℕ) (input : List ℕ)
+      → Runs (Equiv budget) r input
+      → r.status ≡ Refused
+      → TellsStanding budget standings.Differ r input ⊎ TellsInterface r input
+  -- For bytes that can't be compared their first fault is reported.
+  pub refused : (budget : ℕ) (input : List ℕ) (error : CompareError)
+      → Runs (Equiv budget) r input
+      → HasComparedFault input error
+      → InputHeld r
+      → TellsError r (equiv_refusal error)

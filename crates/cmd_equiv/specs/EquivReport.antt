@@ -1,0 +1,59 @@
+-- What `equiv` reports: its reply to a comparison, its refusal of a fault, and its task.
+use Rattle.std.specs.Prelude.{ℕ, ◌≤◌, List, ◌∷◌, length, None, codes}
+use Rattle.equiv_run.specs.declared.answer.Standing.{Standing}
+use Rattle.equiv_run.specs.declared.answer.Standing.TheVariants as standings
+use Rattle.equiv_run.specs.declared.answer.CompareError.{CompareError}
+use Rattle.equiv_run.specs.declared.answer.CompareError.TheVariants.{NoSecond, First, Second, DifferentInterface, Memory}
+use Rattle.equiv_run.specs.Pairs.{most_of_two, IsAnswer, HasPairFault}
+use Rattle.frame_core.specs.declared.status.Status.{Status}
+use Rattle.frame_core.specs.declared.status.Status.TheVariants as statuses
+use Rattle.frame_core.specs.Told.{Reply, Field, Word, Refusal, plain, memory}
+use Rattle.frame_core.specs.Task.{Task, at_once}
+use Rattle.cmd_lines.specs.NetLines.{net_status, named_net}
+
+-- Where they do the same that is an answer; where they differ what was claimed is refused.
+abbrev pub standing_status : Standing → Status
+standing_status standings.Equal = statuses.Done
+standing_status standings.Differ = statuses.Refused
+standing_status standings.Undecided = statuses.Undecided
+
+-- a fault of one of the two has that netlist's status
+abbrev pub pair_status : CompareError → Status
+pair_status NoSecond = statuses.Malformed
+pair_status (First e) = net_status e
+pair_status (Second e) = net_status e
+pair_status DifferentInterface = statuses.Refused
+pair_status Memory = statuses.Memory
+
+-- Examples: `NoSecond`, `First NotSupported 6 .model`
+unfoldable pub named_pair : CompareError → List Field
+named_pair NoSecond = plain (codes "NoSecond")
+named_pair (First e) = Word (codes "First") ∷ named_net e
+named_pair (Second e) = Word (codes "Second") ∷ named_net e
+named_pair DifferentInterface = plain (codes "DifferentInterface")
+named_pair Memory = memory
+
+-- a text, and how the two compare
+pub record Comparison : Type 0 where
+  pub text : List ℕ
+  pub standing : Standing
+
+-- that as a reply, and a fault as a refusal
+abbrev pub equiv_reply : Comparison → Reply
+equiv_reply c = record { text = c.text; report = None; status = standing_status c.standing }
+
+abbrev pub equiv_refusal : CompareError → Refusal
+equiv_refusal error = record { status = pair_status error; named = named_pair error }
+
+-- The bytes are two netlists of one interface, and the text reports and proves how they compare.
+pub record IsComparison (budget : ℕ) (bytes : List ℕ) (c : Comparison) : Type 0 where
+  pub within : length bytes ≤ most_of_two
+  pub answer : IsAnswer budget bytes c.text c.standing
+
+-- The bytes aren't that, and this is their first fault.
+pub record HasComparedFault (bytes : List ℕ) (error : CompareError) : Type 0 where
+  pub within : length bytes ≤ most_of_two
+  pub fault : HasPairFault bytes error
+
+abbrev pub equiv_task : ℕ → Task
+equiv_task budget = at_once most_of_two Comparison (IsComparison budget) equiv_reply CompareError HasComparedFault equiv_refusal

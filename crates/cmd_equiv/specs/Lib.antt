@@ -1,0 +1,3 @@
+pub mod EquivLaws
+pub mod EquivPromise
+pub mod EquivReport

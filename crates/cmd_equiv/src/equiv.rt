@@ -1,0 +1,105 @@
+//! The command `equiv`: whether two netlists have the same outputs and next states.
+ghost use Rattle.std.specs.Prelude.{◌≡◌, ◌≤◌, ◌∷◌, length};
+ghost use Rattle.equiv_run.specs.Pairs.{most_of_two};
+ghost use Rattle.command_line.specs.CommandLine.{IsBudget};
+ghost use Rattle.frame_core.specs.Told.{Word, plain};
+ghost use Rattle.frame_core.specs.Views.{reply_value, refusal_value, Judges};
+ghost use Rattle.cmd_lines.specs.NetLines.{net_status as net_status_of, named_net};
+ghost use Rattle.cmd_equiv.specs.EquivReport.{standing_status as standing_status_of, equiv_reply, equiv_refusal, equiv_task};
+
+use cmd_lines::{name_net, net_status};
+use equiv_run::{CompareError, Compared, Standing, compare_texts};
+use frame_core::{ErrorLine, Field, Refusal, Replier, Reply, Status, Stop};
+use net_core::NetError;
+use sat_solve::Solver;
+use std::alloc::Global;
+use std::marker::PhantomData;
+
+/// The most bytes that `equiv` reads.
+const MOST_BYTES: usize = 33_554_432;
+
+/// The status of how two netlists compare.
+fn standing_status(standing: Standing) -> Status
+    ensures { result ≡ standing_status_of standing }
+{
+    match standing {
+        Standing::Equal => Status::Done,
+        Standing::Differ => Status::Refused,
+        Standing::Undecided => Status::Undecided,
+    }
+}
+
+/// A comparison as a reply.
+fn reply_of(compared: Compared) -> Reply
+    ensures { reply_value result ≡ equiv_reply (record { text = compared.text.items; standing = compared.standing }) }
+{
+    Reply {
+        text: compared.text,
+        report: None,
+        status: standing_status(compared.standing),
+    }
+}
+
+/// A fault of one of the two as a refusal.
+#[tactic(auto, unfolding(frame_core::specs::Views::shown))]
+fn fault_of(netlist: &'static [u8], error: NetError) -> Refusal
+    ensures { refusal_value result ≡ record { status = net_status_of error; named = Word netlist.now ∷ named_net error } }
+{
+    let status = net_status(&error);
+    Refusal {
+        status,
+        line: name_net(Field::Known(netlist), error),
+    }
+}
+
+/// A refusal without fields.
+fn plainly(status: Status, name: &'static [u8]) -> Refusal
+    ensures { refusal_value result ≡ record { status = status; named = plain name.now } }
+{
+    Refusal {
+        status,
+        line: ErrorLine::plain(name),
+    }
+}
+
+/// Why two netlists weren't compared as a refusal.
+#[tactic(auto, unfolding(crate::specs::EquivReport::named_pair, frame_core::specs::Told::memory))]
+fn refusal_of(error: CompareError) -> Refusal
+    ensures { refusal_value result ≡ equiv_refusal error }
+{
+    match error {
+        CompareError::NoSecond => plainly(Status::Malformed, b"NoSecond"),
+        CompareError::First(error) => fault_of(b"First", error),
+        CompareError::Second(error) => fault_of(b"Second", error),
+        CompareError::DifferentInterface => plainly(Status::Refused, b"DifferentInterface"),
+        CompareError::Memory => plainly(Status::Memory, b"Memory"),
+    }
+}
+
+/// Whether two netlists have the same outputs and next states, decided with the solver `S`.
+#[derive(Drop)]
+pub struct Equiv<S> {
+    /// The most learnt clauses.
+    pub budget: u32,
+    /// The solver.
+    pub solver: PhantomData<S>,
+}
+
+impl<S: Solver> Replier for Equiv<S> {
+    ghost task = { λ job. equiv_task job.budget };
+
+    ghost ready = { λ job. IsBudget job.budget };
+
+    fn reads(&self) -> Option<usize> {
+        Some(MOST_BYTES)
+    }
+
+    #[tactic(auto, using(crate::proofs::Equating::telling))]
+    fn reply(&self, alloc: Global, bytes: &[u8]) -> Result<Reply, Stop> {
+        match compare_texts(alloc, bytes, self.budget) {
+            Ok(compared) => Ok(reply_of(compared)),
+            Err(CompareError::Memory) => Err(Stop::NoMemory),
+            Err(error) => Err(Stop::NoAnswer(refusal_of(error))),
+        }
+    }
+}

@@ -1,0 +1,24 @@
+-- What `gen` reports: its replies, and its task.
+use Rattle.std.specs.Prelude.{ℕ, None}
+use Rattle.gen_core.specs.Generated.{generated_text}
+use Rattle.improve_settings.specs.Improve.{usual}
+use Rattle.command_line.specs.declared.command.Deed.{Deed}
+use Rattle.command_line.specs.declared.command.Deed.TheVariants.{Write, Improve}
+use Rattle.command_line.specs.declared.command.Format.TheVariants.{Blif}
+use Rattle.frame_core.specs.declared.status.Status.TheVariants.{Done}
+use Rattle.frame_core.specs.Told.{Reply}
+use Rattle.frame_core.specs.Task.{Task, from_nothing}
+use Rattle.cmd_improve.specs.ImproveReport.{Improvement, improve_reply, IsImprovement}
+
+-- the netlist of `blocks` blocks
+abbrev pub gen_reply : ℕ → Reply
+gen_reply blocks = record { text = generated_text blocks; report = None; status = Done }
+
+-- What `improve` answers to that netlist where nothing is named.
+abbrev pub IsImprovedNetlist : ℕ → Improvement → Type 0
+IsImprovedNetlist blocks i = IsImprovement Blif usual (generated_text blocks) i
+
+-- It reads nothing. Written, the netlist is the one answer; improved, it has those of `improve`.
+abbrev pub gen_task : ℕ → Deed → Task
+gen_task blocks Write = from_nothing (Unit {0}) (λ (u : Unit {0}). Unit {0}) (λ (u : Unit {0}). gen_reply blocks)
+gen_task blocks Improve = from_nothing Improvement (IsImprovedNetlist blocks) improve_reply

@@ -1,0 +1,3 @@
+pub mod GenLaws
+pub mod GenPromise
+pub mod GenReport

@@ -1,0 +1,109 @@
+-- `improve` is a task, and a run of it keeps what it promises.
+use Rattle.std.specs.Prelude.{◌≡◌, ℕ, ◌≤◌, ◌⊎◌, List, length, Some}
+use Rattle.std.proofs.Common.{arith, sym, ◌∙◌, ap, refl, inl, inr}
+use Rattle.std.proofs.Math.Logic.{⊎_elim}
+use Rattle.net_core.specs.declared.error.NetError.{NetError}
+use Rattle.net_core.specs.declared.error.NetError.TheVariants as nets
+use Rattle.net_document.specs.Format.{IsNetlist, ListsWell}
+use Rattle.net_document.specs.FormatLaws.{fault_one, fault_never}
+use Rattle.blif_text.specs.ListingLaws as tables
+use Rattle.bench_text.specs.ListingLaws as gates
+use Rattle.improve_settings.specs.declared.improve.ImproveSettings.{ImproveSettings}
+use Rattle.improve_windows.specs.Improving.{IsReported}
+use Rattle.command_line.specs.declared.command.Command.TheVariants.{Improve}
+use Rattle.command_line.specs.declared.command.Format.TheVariants.{Blif, Bench}
+use Rattle.command_line.specs.CommandLine.{AsksFor}
+use Rattle.frame_core.specs.declared.status.Status.{Status}
+use Rattle.frame_core.specs.declared.status.Status.TheVariants.{Done, Undecided, Refused}
+use Rattle.cmd_improve.specs.ImproveReport.{FormatAsked, format_of, most_of_netlist, Improvement, improve_reply, improve_refusal, IsImprovement, HasNetlistFault, improve_task}
+use Rattle.cmd_lines.specs.NetLines.{net_status, named_net}
+use Rattle.frame_core.specs.Told.{memory_refusal}
+use Rattle.frame_core.specs.Task.{IsRefusalStatus, IsAnswerable, IsTask}
+use Rattle.frame_core.specs.Run.{Run}
+use Rattle.frame_core.specs.Promise.{Stands, Replies, Faults, CommandPromise}
+use Rattle.cmd_improve.specs.ImprovePromise.{ImprovePromise}
+use Rattle.frame_core.specs.TaskLaws.{at_once_task}
+use Rattle.frame_core.specs.KeepingLaws.{of_input}
+use Rattle.cmd_lines.specs.NetLineLaws.{not_refused}
+
+lists_well : (format : FormatAsked) → ListsWell (format_of format)
+lists_well Blif = tables.texts_list
+lists_well Bench = gates.texts_list
+
+-- ---- `improve` is a command
+
+IsStatus : NetError → Type 0
+IsStatus e = IsRefusalStatus (net_status e) ⊎ (improve_refusal e ≡ memory_refusal)
+
+statuses : (e : NetError) → IsStatus e
+unfolding IsStatus named_net
+statuses (nets.Syntax line) = inl (inl refl)
+statuses (nets.NotSupported line name) = inl (inl refl)
+statuses (nets.MixedCover line) = inl (inl refl)
+statuses (nets.TooWide line) = inl (inr (inl refl))
+statuses (nets.TooManyGates count) = inl (inr (inl refl))
+statuses (nets.DrivenTwice name) = inl (inl refl)
+statuses (nets.Undriven name) = inl (inl refl)
+statuses (nets.Cycle name) = inl (inl refl)
+statuses (nets.LineTooLong line) = inl (inr (inl refl))
+statuses (nets.TooManyRows line) = inl (inr (inl refl))
+statuses (nets.NameTooLong line) = inl (inr (inl refl))
+statuses nets.Memory = inr refl
+
+statuses_of : (e : NetError) → IsRefusalStatus (net_status e) ⊎ (improve_refusal e ≡ memory_refusal)
+unfolding IsStatus
+statuses_of e = statuses e
+
+-- what was improved is a netlist
+reported_netlist : (format : FormatAsked) (asked : ImproveSettings) (bytes text report : List ℕ) → IsReported (format_of format) asked bytes text report → IsNetlist (format_of format) bytes
+reported_netlist format asked bytes text report is = record { listed = is.improved.read; said = is.improved.said; well = is.improved.well }
+
+pub improve_is_task : (format : FormatAsked) (asked : ImproveSettings) → IsTask (improve_task format asked)
+improve_is_task format asked =
+    at_once_task most_of_netlist Improvement (IsImprovement format asked) improve_reply NetError (HasNetlistFault format) improve_refusal
+    (λ i. inl refl)
+    (λ bytes fault meets. statuses_of fault)
+    (λ bytes i error has fault. fault_never (format_of format) bytes error (lists_well format) (reported_netlist format asked bytes i.text i.report has.reported) fault.fault)
+    (λ bytes a b x y. ap improve_refusal (fault_one (format_of format) bytes a b x.fault y.fault))
+    (λ bytes i has. has.within)
+    (λ bytes error fault. fault.within)
+
+-- ---- what it promises besides
+
+-- a netlist has no fault
+answerable : (format : FormatAsked) (asked : ImproveSettings) (input : List ℕ) → length input ≤ most_of_netlist → IsNetlist (format_of format) input → IsAnswerable (improve_task format asked) input
+answerable format asked input within netlist = record {
+  within = λ long. omega arith;
+  sound = λ error fault. fault_never (format_of format) input error (lists_well format) netlist fault.fault;
+}
+
+done_only : (r : Run) (format : FormatAsked) (asked : ImproveSettings) (input : List ℕ) → CommandPromise (improve_task format asked) r → r.source.bytes ≡ Some input → r.status ≡ Done → Replies (improve_task format asked) r input
+done_only r format asked input promise told is = of_input (improve_task format asked) r (Replies (improve_task format asked) r) input (promise.done_only is) told
+
+-- a netlist has the status 0
+not_done : (r : Run) (s : Status) (i : Improvement) → Stands r (improve_reply i) → r.status ≡ s → (Done ≡ s → ⊥) → ⊥
+not_done r s i stands is other = other (sym stands.status_is ∙ is)
+
+never_refused : (r : Run) (format : FormatAsked) (asked : ImproveSettings) → CommandPromise (improve_task format asked) r → r.status ≡ Refused → ⊥
+never_refused r format asked promise is =
+    let of = promise.refused_only is in
+    ⊎_elim
+    (λ (got : Replies (improve_task format asked) r of.bytes). not_done r Refused got.answer got.stands is (λ e. cc))
+    (λ (none : Faults (improve_task format asked) r of.bytes). not_refused none.fault (sym none.told.status_is ∙ is))
+    of.holds
+
+decided : (r : Run) (format : FormatAsked) (asked : ImproveSettings) → CommandPromise (improve_task format asked) r → r.status ≡ Undecided → ⊥
+decided r format asked promise is =
+    let got = promise.undecided_only is in
+    not_done r Undecided got.holds.answer got.holds.stands is (λ e. cc)
+
+-- All that `improve` promises besides.
+pub improve_promised : (r : Run) → ((format : FormatAsked) (asked : ImproveSettings) → AsksFor r.words (Improve format asked) → CommandPromise (improve_task format asked) r) → ImprovePromise r
+improve_promised r keeps = record {
+  complete = λ format asked input run within netlist steady. (keeps format asked run.asks).complete input run.told (answerable format asked input within netlist) steady;
+  answered = λ format asked input run within netlist held. (keeps format asked run.asks).answered input run.told (answerable format asked input within netlist) held;
+  done_only = λ format asked input run is. done_only r format asked input (keeps format asked run.asks) run.told is;
+  decided = λ format asked asks is. decided r format asked (keeps format asked asks) is;
+  never_refused = λ format asked asks is. never_refused r format asked (keeps format asked asks) is;
+  refused = λ format asked input error run fault held. (keeps format asked run.asks).refused input error run.told fault held;
+}

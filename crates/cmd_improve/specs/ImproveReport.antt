@@ -1,0 +1,53 @@
+-- What `improve` reports: its reply, its refusal of a fault, and its task.
+use Rattle.std.specs.Prelude.{ℕ, ◌≤◌, List, length, Some}
+use Rattle.net_core.specs.declared.error.NetError.{NetError}
+use Rattle.net_document.specs.Format.{Format, HasNetFault}
+use Rattle.blif_core.specs.Blif.{blif_format}
+use Rattle.bench_core.specs.Bench.{bench_format}
+use Rattle.command_line.specs.declared.command.Format as asked_format
+use Rattle.command_line.specs.declared.command.Format.TheVariants.{Blif, Bench}
+use Rattle.improve_settings.specs.declared.improve.ImproveSettings.{ImproveSettings}
+use Rattle.improve_windows.specs.Improving.{IsReported}
+use Rattle.frame_core.specs.declared.status.Status.TheVariants.{Done}
+use Rattle.frame_core.specs.Told.{Reply, Refusal}
+use Rattle.frame_core.specs.Task.{Task, at_once}
+use Rattle.cmd_lines.specs.NetLines.{net_status, named_net}
+
+-- the most bytes of a netlist that are read
+abbrev pub most_of_netlist : ℕ
+most_of_netlist = 16777216
+
+-- the format that was asked for
+abbrev pub FormatAsked : Type 0
+FormatAsked = asked_format.Format
+
+abbrev pub format_of : FormatAsked → Format
+format_of Blif = blif_format
+format_of Bench = bench_format
+
+-- a netlist's text, and the report on it
+pub record Improvement : Type 0 where
+  pub text : List ℕ
+  pub report : List ℕ
+
+-- that as a reply, and a fault as a refusal
+abbrev pub improve_reply : Improvement → Reply
+improve_reply i = record { text = i.text; report = Some i.report; status = Done }
+
+abbrev pub improve_refusal : NetError → Refusal
+improve_refusal error = record { status = net_status error; named = named_net error }
+
+-- The bytes are a netlist, and the text is one that does the same with no more gates, as the settings leave it.
+-- The report says what both cost, which windows are undecided, each with a certificate, and whether all others
+-- are settled.
+pub record IsImprovement (format : FormatAsked) (asked : ImproveSettings) (bytes : List ℕ) (i : Improvement) : Type 0 where
+  pub within : length bytes ≤ most_of_netlist
+  pub reported : IsReported (format_of format) asked bytes i.text i.report
+
+-- The bytes are no netlist, and this is their first fault.
+pub record HasNetlistFault (format : FormatAsked) (bytes : List ℕ) (error : NetError) : Type 0 where
+  pub within : length bytes ≤ most_of_netlist
+  pub fault : HasNetFault (format_of format) bytes error
+
+abbrev pub improve_task : FormatAsked → ImproveSettings → Task
+improve_task format asked = at_once most_of_netlist Improvement (IsImprovement format asked) improve_reply NetError (HasNetlistFault format) improve_refusal

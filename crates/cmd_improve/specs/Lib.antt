@@ -1,0 +1,3 @@
+pub mod ImproveLaws
+pub mod ImprovePromise
+pub mod ImproveReport

@@ -1,0 +1,92 @@
+//! The command `improve`: a netlist with no more gates.
+ghost use Rattle.std.specs.Prelude.{◌≡◌, ◌≤◌, length, IfOk, IfErr};
+ghost use Rattle.net_document.specs.Format.{IsRefusedText};
+ghost use Rattle.improve_windows.specs.Improving.{IsReported};
+ghost use Rattle.command_line.specs.CommandLine.{IsAsked};
+ghost use Rattle.cmd_improve.specs.ImproveReport.{format_of, most_of_netlist, improve_reply, improve_refusal, improve_task};
+ghost use Rattle.frame_core.specs.Views.{reply_value, refusal_value, Judges};
+
+use cmd_lines::{name_net, net_status};
+use command_line::Format;
+use frame_core::{Field, Refusal, Replier, Reply, Report, Status, Stop};
+use improve_settings::ImproveSettings;
+use improve_windows::{ImprovedText, improve_bench, improve_blif};
+use net_core::NetError;
+use sat_solve::Solver;
+use std::alloc::Global;
+use std::marker::PhantomData;
+
+/// The most bytes that `improve` reads.
+const MOST_BYTES: usize = 16_777_216;
+
+/// A fault of a netlist as a refusal.
+#[tactic(auto, unfolding(frame_core::specs::Views::shown))]
+fn refusal_of(error: NetError) -> Refusal
+    ensures { refusal_value result ≡ improve_refusal error }
+{
+    let status = net_status(&error);
+    Refusal {
+        status,
+        line: name_net(Field::Nothing, error),
+    }
+}
+
+/// A netlist that was improved as a reply.
+pub fn reply_of(improved: ImprovedText) -> Reply
+    ensures { reply_value result ≡ improve_reply (record { text = improved.text.items; report = improved.report.items }) }
+{
+    Reply {
+        text: improved.text,
+        report: Some(Report::whole(improved.report)),
+        status: Status::Done,
+    }
+}
+
+/// A netlist of a format improved.
+#[tactic(auto, using(crate::proofs::Improving::telling))]
+fn improve_text<S: Solver>(
+    alloc: Global,
+    format: Format,
+    bytes: &[u8],
+    settings: &ImproveSettings,
+) -> Result<ImprovedText, NetError>
+    requires length { length bytes.now ≤ most_of_netlist }
+    requires asked { IsAsked format settings.now }
+    ensures improved { IfOk result (λ i. IsReported (format_of format) settings.now bytes.now i.text.items i.report.items) }
+    ensures refused { IfErr result (IsRefusedText (format_of format) bytes.now) }
+{
+    match format {
+        Format::Blif => improve_blif(alloc, bytes, *settings),
+        Format::Bench => improve_bench(alloc, bytes, *settings),
+    }
+}
+
+/// A netlist with no more gates, and a report; windows are searched with the solver `S`.
+#[derive(Drop)]
+pub struct Improve<S> {
+    /// The format of the netlist.
+    pub format: Format,
+    /// What the windows are tried with.
+    pub settings: ImproveSettings,
+    /// The solver.
+    pub solver: PhantomData<S>,
+}
+
+impl<S: Solver> Replier for Improve<S> {
+    ghost task = { λ job. improve_task job.format job.settings };
+
+    ghost ready = { λ job. IsAsked job.format job.settings };
+
+    fn reads(&self) -> Option<usize> {
+        Some(MOST_BYTES)
+    }
+
+    #[tactic(auto, using(crate::proofs::Improving::telling))]
+    fn reply(&self, alloc: Global, bytes: &[u8]) -> Result<Reply, Stop> {
+        match improve_text::<S>(alloc, self.format, bytes, &self.settings) {
+            Ok(improved) => Ok(reply_of(improved)),
+            Err(NetError::Memory) => Err(Stop::NoMemory),
+            Err(error) => Err(Stop::NoAnswer(refusal_of(error))),
+        }
+    }
+}

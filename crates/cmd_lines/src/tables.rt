@@ -1,0 +1,39 @@
+//! Faults of tables as statuses and error lines, for each command that reads tables.
+ghost use Rattle.std.specs.Prelude.{◌≡◌};
+ghost use Rattle.frame_core.specs.Views.{line_value};
+ghost use Rattle.cmd_lines.specs.TableLines.{spec_status as spec_status_of, named_spec};
+
+use frame_core::{ErrorLine, Status};
+use tt_core::SpecError;
+
+/// The most bytes that a command reads of tables.
+pub const MOST_BYTES_OF_TABLES: usize = 65_536;
+
+/// The status of a fault of tables.
+pub fn spec_status(error: SpecError) -> Status
+    ensures { result ≡ spec_status_of error }
+{
+    match error {
+        SpecError::BadHeader(_) | SpecError::BadRow(_) | SpecError::WrongLength(_) =>
+            Status::Malformed,
+        SpecError::TooManyInputs | SpecError::TooManyOutputs => Status::Limit,
+        SpecError::NoOutput => Status::Malformed,
+        SpecError::Memory => Status::Memory,
+    }
+}
+
+/// What the error line of tables names.
+#[tactic(auto, unfolding(crate::specs::TableLines::named_spec, frame_core::specs::Told::memory))]
+pub fn name_spec(error: SpecError) -> ErrorLine
+    ensures { line_value result ≡ named_spec error }
+{
+    match error {
+        SpecError::BadHeader(line) => ErrorLine::at(b"BadHeader", line),
+        SpecError::BadRow(line) => ErrorLine::at(b"BadRow", line),
+        SpecError::WrongLength(line) => ErrorLine::at(b"WrongLength", line),
+        SpecError::TooManyInputs => ErrorLine::plain(b"TooManyInputs"),
+        SpecError::TooManyOutputs => ErrorLine::plain(b"TooManyOutputs"),
+        SpecError::NoOutput => ErrorLine::plain(b"NoOutput"),
+        SpecError::Memory => ErrorLine::plain(b"Memory"),
+    }
+}

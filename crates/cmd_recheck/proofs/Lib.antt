@@ -1,0 +1,2 @@
+pub mod Rechecking
+pub mod RecheckingDepth

@@ -1,0 +1,124 @@
+-- What `recheck --depth yes` answers to bytes.
+use Rattle.std.specs.Prelude.{◌≡◌, ℕ, ◌≤◌, List, [], ◌∷◌, ◌++◌, length, codes, Ok, Err}
+use Rattle.std.proofs.Common.{sym, ◌∙◌, ap, subst, refl, append_assoc, append-nil}
+use Rattle.std.proofs.lemmas.Grind.{common_steps}
+use Rattle.text_core.specs.Lines.{Line, lines_of}
+use Rattle.tt_core.specs.Words.{specification}
+use Rattle.op_basis.specs.Basis.{members}
+use Rattle.cert_theory.specs.declared.data.BundleError.{BundleError}
+use Rattle.cert_theory.specs.declared.data.BundleError.TheVariants as bundles
+use Rattle.depth_theory.specs.declared.data.DepthVerdict.{DepthVerdict}
+use Rattle.depth_theory.specs.declared.data.DepthError.{DepthError}
+use Rattle.depth_theory.specs.declared.data.DepthError.TheVariants as depths
+use Rattle.depth_theory.specs.DepthBundle.{DepthBundle}
+use Rattle.depth_theory.specs.DepthGives.{Fails, Gives}
+use Rattle.depth_theory.specs.DepthJudging.{Answer, Judged, IsJudged}
+use Rattle.depth_theory.specs.DepthMeaning.{Means}
+use Rattle.depth_theory.specs.DepthSpelling.{IsDepthText, HasDepth}
+use Rattle.depth_theory.specs.DepthAgain.{judged_again}
+use Rattle.frame_core.specs.Told.{Reply, Field, Word, Refusal}
+use Rattle.frame_core.specs.Task.{Tells, Refuses}
+use Rattle.depth_file.specs.Reader.{seen, IsReader, StandsFor, IsRefused}
+use Rattle.depth_file.specs.declared.reader.DepthReader.{DepthReader}
+use Rattle.cmd_recheck.specs.declared.recheck_depth.DepthReading.{DepthReading}
+use Rattle.cmd_recheck.specs.declared.recheck_depth.DepthReading.TheVariants.{Good, Refused as RefusedAt}
+use Rattle.cmd_recheck.specs.KeepingDepth.{Keeps, IsWhole, count_of}
+use Rattle.cmd_verdicts.specs.Verdicts.{most_of_bundle}
+use Rattle.cmd_recheck.specs.RecheckReport.{named_bundle}
+use Rattle.cmd_recheck.specs.RecheckDepthReport.{named_inside, depth_reply, depth_refusal, depth_task}
+use Rattle.frame_core.specs.PerformingLaws.{answered}
+
+-- ---- error lines
+
+inside_by : (e : BundleError) → (e ≡ bundles.Memory → ⊥) → named_inside e ≡ Word (codes "Bundle") ∷ named_bundle e
+inside_by (bundles.Syntax line) other = refl
+inside_by (bundles.SizeOutOfOrder line) other = refl
+inside_by (bundles.StepRefused line e) other = refl
+inside_by (bundles.NotRefuted line) other = refl
+inside_by (bundles.ChainDiffers output row) other = refl
+inside_by (bundles.OperatorNotInBasis place) other = refl
+inside_by (bundles.OpenTooShort line) other = refl
+inside_by (bundles.NotNew line) other = refl
+inside_by (bundles.WrongVerdict line) other = refl
+inside_by bundles.Memory other = absurd (other refl)
+
+pub named_as_inside : (e : BundleError) (line : List Field) → (e ≡ bundles.Memory → ⊥) → line ≡ Word (codes "Bundle") ∷ named_bundle e → line ≡ named_inside e
+named_as_inside e line other is = is ∙ sym (inside_by e other)
+
+pub ruleset inside = (common_steps, named_as_inside)
+
+-- ---- what the judge of depth bundles answers
+
+-- an error that isn't want of memory is that of the definition
+told_fault : (e : DepthError) (answer : Answer) → (e ≡ depths.Memory → ⊥) → Fails e answer → Err e ≡ answer
+told_fault (depths.Bundle d) answer other fails = sym fails
+told_fault depths.NotLeastForm answer other fails = sym fails
+told_fault (depths.Syntax line) answer other fails = sym fails
+told_fault (depths.WrongDepth line) answer other fails = sym fails
+told_fault (depths.StepRefused line d) answer other fails = sym fails
+told_fault (depths.NotNew line) answer other fails = sym fails
+told_fault (depths.NotRefuted line) answer other fails = sym fails
+told_fault (depths.OpenTooShort line) answer other fails = sym fails
+told_fault (depths.WrongLevels line) answer other fails = sym fails
+told_fault depths.Memory answer other fails = absurd (other refl)
+
+judged_fault : (e : DepthError) (lines : List Line) → (e ≡ depths.Memory → ⊥) → Judged (Gives (λ (v : DepthVerdict). v) (Err e)) lines → IsJudged lines (Err e)
+judged_fault e lines other judged = record {
+  refused = λ d is. told_fault e _ other (judged.refused d is);
+  behind = λ b valid output same. told_fault e _ other (judged.behind b valid output same);
+}
+
+-- what is judged as a fault is no depth bundle
+no_bundle : (bytes : List ℕ) (e : DepthError) (b : DepthBundle) → IsJudged (lines_of bytes) (Err e) → IsDepthText bytes b → ⊥
+no_bundle bytes e b judged is = let bad : Err e ≡ Ok b.verdict = judged_again bytes b (Err e) is judged in cc
+
+one_verdict : (answer : Answer) (v w : DepthVerdict) → answer ≡ Ok v → answer ≡ Ok w → v ≡ w
+one_verdict answer v w is other = cc
+
+-- So an answer is a verdict that the bytes have, or a fault.
+pub tells : (bytes : List ℕ) (v : DepthVerdict) (reply : Reply) → length bytes ≤ most_of_bundle → HasDepth bytes v → ((b : DepthBundle) → IsDepthText bytes b → Gives (λ (x : DepthVerdict). x) (Ok v) (Ok b.verdict))
+    → ((b : DepthBundle) (is : IsDepthText bytes b) → Means (specification b.bundle.heading.spec) (members b.bundle.heading.basis) (length is.is_depth.chain.steps) v) → reply ≡ depth_reply v → Tells depth_task bytes reply
+tells bytes v reply within has accepted means is = record {
+  answer = v;
+  has = record { within = within; has = has; only = λ b text. one_verdict (Ok b.verdict) b.verdict v refl (accepted b text); means = means };
+  is = is;
+}
+
+pub stops : (bytes : List ℕ) (e : DepthError) (refusal : Refusal) → length bytes ≤ most_of_bundle → (e ≡ depths.Memory → ⊥) → Judged (Gives (λ (v : DepthVerdict). v) (Err e)) (lines_of bytes) → refusal ≡ depth_refusal e → Refuses depth_task bytes refusal
+stops bytes e refusal within other judged is =
+    let fault = judged_fault e (lines_of bytes) other judged in
+    record { fault = e; meets = record { within = within; none = λ b text. no_bundle bytes e b fault text; fault = fault }; is = is }
+
+pub ruleset telling = (common_steps, tells, stops)
+
+-- ---- what is kept of the bytes
+
+pub is_reader : (kept : DepthReading) (reader : DepthReader) → kept ≡ Good reader → IsWhole kept → IsReader (seen reader)
+is_reader kept reader same whole = subst (λ (k : DepthReading). IsWhole k) same whole
+
+pub reader_stands : (kept : DepthReading) (reader : DepthReader) (bytes : List ℕ) → kept ≡ Good reader → Keeps kept bytes → StandsFor (seen reader) bytes
+reader_stands kept reader bytes same keeps = subst (λ (k : DepthReading). Keeps k bytes) same keeps
+
+refused_still : (kept : DepthReading) (e : DepthError) (bytes : List ℕ) → kept ≡ RefusedAt e → Keeps kept bytes → IsRefused e bytes
+refused_still kept e bytes same keeps = subst (λ (k : DepthReading). Keeps k bytes) same keeps
+
+-- a fault that was kept is that of the bytes
+pub fault_stands : (kept : DepthReading) (e : DepthError) (bytes : List ℕ) → kept ≡ RefusedAt e → Keeps kept bytes → Judged (Gives (λ (v : DepthVerdict). v) (Err e)) (lines_of bytes)
+fault_stands kept e bytes same keeps =
+    subst (λ (text : List ℕ). Judged (Gives (λ (v : DepthVerdict). v) (Err e)) (lines_of text)) (append-nil bytes) (refused_still kept e bytes same keeps [])
+
+-- and of what goes on after them
+pub drops : (kept : DepthReading) (e : DepthError) (bytes piece : List ℕ) → kept ≡ RefusedAt e → Keeps kept bytes → Keeps (RefusedAt e) (bytes ++ piece)
+drops kept e bytes piece same keeps = λ rest.
+    subst (λ (text : List ℕ). Judged (Gives (λ (v : DepthVerdict). v) (Err e)) (lines_of text)) (sym (append_assoc bytes piece rest)) (refused_still kept e bytes same keeps (piece ++ rest))
+
+-- a reader has counted what it was fed
+pub counts : (kept : DepthReading) (reader : DepthReader) → kept ≡ Good reader → count_of kept ≡ reader.fed
+counts kept reader same = ap count_of same
+
+pub ruleset keeping = (common_steps, is_reader, reader_stands, fault_stands)
+
+pub ruleset taking = (common_steps, is_reader, reader_stands, drops, counts)
+
+-- What was found of bytes, sent out, answers them.
+pub ruleset answering = (common_steps, answered)

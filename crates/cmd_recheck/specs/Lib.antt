@@ -1,0 +1,10 @@
+pub mod AnswerLaws
+pub mod Keeping
+pub mod KeepingDepth
+pub mod QuestionLaws
+pub mod RecheckDepthLaws
+pub mod RecheckDepthPromise
+pub mod RecheckDepthReport
+pub mod RecheckLaws
+pub mod RecheckPromise
+pub mod RecheckReport

@@ -1,0 +1,68 @@
+-- What `recheck --depth yes` reports: its reply to a verdict, its refusal of a fault, and its task.
+use Rattle.std.specs.Prelude.{ℕ, ◌≤◌, List, ◌∷◌, ◌++◌, length, None, codes, Err}
+use Rattle.text_core.specs.Lines.{lines_of}
+use Rattle.cert_theory.specs.declared.data.BundleError.{BundleError}
+use Rattle.cert_theory.specs.declared.data.BundleError.TheVariants as bundles
+use Rattle.depth_theory.specs.declared.data.DepthVerdict.{DepthVerdict}
+use Rattle.depth_theory.specs.declared.data.DepthError.{DepthError}
+use Rattle.depth_theory.specs.declared.data.DepthError.TheVariants as depths
+use Rattle.depth_theory.specs.DepthBundle.{DepthBundle}
+use Rattle.depth_theory.specs.DepthSpelling.{levels_line, IsDepthText}
+use Rattle.depth_theory.specs.DepthJudging.{IsJudged}
+use Rattle.frame_core.specs.declared.status.Status.{Status}
+use Rattle.frame_core.specs.declared.status.Status.TheVariants.{Done, Malformed, Memory, Refused}
+use Rattle.frame_core.specs.Told.{Reply, Field, Word, Refusal, plain, at, memory}
+use Rattle.frame_core.specs.Task.{Task, at_once}
+use Rattle.cmd_verdicts.specs.Verdicts.{most_of_bundle, GivesLevels}
+use Rattle.cmd_recheck.specs.RecheckReport.{bundle_status, named_step, named_bundle}
+
+-- what goes out: the line of the levels
+unfoldable pub levels_text : DepthVerdict → List ℕ
+levels_text verdict = levels_line verdict ++ codes "\n"
+
+-- What isn't of the form of a depth bundle is malformed, and what is and isn't valid is refused.
+abbrev pub depth_status : DepthError → Status
+depth_status (depths.Bundle e) = bundle_status e
+depth_status depths.NotLeastForm = Refused
+depth_status (depths.Syntax line) = Malformed
+depth_status (depths.WrongDepth line) = Refused
+depth_status (depths.StepRefused line e) = Refused
+depth_status (depths.NotNew line) = Refused
+depth_status (depths.NotRefuted line) = Refused
+depth_status (depths.OpenTooShort line) = Refused
+depth_status (depths.WrongLevels line) = Refused
+depth_status depths.Memory = Memory
+
+-- A fault of the bundle comes after the word `Bundle`; want of memory comes alone.
+-- Example: Bundle StepRefused 13 NotUnit 22.
+abbrev pub named_inside : BundleError → List Field
+named_inside bundles.Memory = memory
+named_inside e = Word (codes "Bundle") ∷ named_bundle e
+
+unfoldable pub named_depth : DepthError → List Field
+named_depth (depths.Bundle e) = named_inside e
+named_depth depths.NotLeastForm = plain (codes "NotLeastForm")
+named_depth (depths.Syntax line) = at (codes "Syntax") line
+named_depth (depths.WrongDepth line) = at (codes "WrongDepth") line
+named_depth (depths.StepRefused line e) = named_step line e
+named_depth (depths.NotNew line) = at (codes "NotNew") line
+named_depth (depths.NotRefuted line) = at (codes "NotRefuted") line
+named_depth (depths.OpenTooShort line) = at (codes "OpenTooShort") line
+named_depth (depths.WrongLevels line) = at (codes "WrongLevels") line
+named_depth depths.Memory = memory
+
+-- a verdict as a reply, and an error as a refusal
+abbrev pub depth_reply : DepthVerdict → Reply
+depth_reply verdict = record { text = levels_text verdict; report = None; status = Done }
+
+abbrev pub depth_refusal : DepthError → Refusal
+depth_refusal error = record { status = depth_status error; named = named_depth error }
+
+-- The bytes aren't the spelling of a depth bundle, and this is their first fault.
+pub record HasDepthFault (bytes : List ℕ) (error : DepthError) : Type 0 where
+  pub within : length bytes ≤ most_of_bundle
+  pub none : (b : DepthBundle) → IsDepthText bytes b → ⊥
+  pub fault : IsJudged (lines_of bytes) (Err error)
+
+abbrev pub depth_task : Task
+depth_task = at_once most_of_bundle DepthVerdict GivesLevels depth_reply DepthError HasDepthFault depth_refusal

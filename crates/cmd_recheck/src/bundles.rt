@@ -1,0 +1,97 @@
+//! Faults of certificates as statuses and error lines, for both kinds of certificates.
+ghost use Rattle.std.specs.Prelude.{◌≡◌, ◌++◌, ◌∷◌, []};
+ghost use Rattle.frame_core.specs.Told.{at as at_of};
+ghost use Rattle.frame_core.specs.Views.{shown, line_value};
+ghost use Rattle.cmd_recheck.specs.RecheckReport.{bundle_status as bundle_status_of, refused_step, two_of, named_step, named_bundle};
+
+use cert_file::BundleError;
+use frame_core::{ErrorLine, Field, Status};
+use lrat_check::CheckError;
+
+/// The status of a fault.
+pub(crate) fn bundle_status(error: BundleError) -> Status
+    ensures { result ≡ bundle_status_of error }
+{
+    match error {
+        BundleError::Syntax(_) => Status::Malformed,
+        BundleError::Memory => Status::Memory,
+        BundleError::SizeOutOfOrder(_)
+        | BundleError::StepRefused(_, _)
+        | BundleError::NotRefuted(_)
+        | BundleError::ChainDiffers(_, _)
+        | BundleError::OperatorNotInBasis(_)
+        | BundleError::OpenTooShort(_)
+        | BundleError::NotNew(_)
+        | BundleError::WrongVerdict(_) => Status::Refused,
+    }
+}
+
+/// A refused step: its line, the name of its fault, and the identifier or variable that the fault names.
+#[tactic(auto, unfolding(frame_core::specs::Views::shown))]
+fn step(lead: Field, line: u32, word: &'static [u8], of: Field) -> ErrorLine
+    ensures { line_value result ≡ shown (lead ∷ []) ++ refused_step line word.now (shown (of ∷ [])) }
+{
+    ErrorLine::behind(
+        lead,
+        b"StepRefused",
+        Field::Count(line),
+        Field::Known(word),
+        of,
+    )
+}
+
+/// What the error line of a refused step names, after the word `lead` where it is one.
+#[tactic(auto, unfolding(crate::specs::RecheckReport::named_step, frame_core::specs::Views::shown))]
+pub(crate) fn name_step(lead: Field, line: u32, error: CheckError) -> ErrorLine
+    ensures { line_value result ≡ shown (lead ∷ []) ++ named_step line error }
+{
+    match error {
+        CheckError::UnknownId(id) => step(lead, line, b"UnknownId", Field::Count(id)),
+        CheckError::NotUnit(id) => step(lead, line, b"NotUnit", Field::Count(id)),
+        CheckError::NoConflict => step(lead, line, b"NoConflict", Field::Nothing),
+        CheckError::UnknownDelete(id) => step(lead, line, b"UnknownDelete", Field::Count(id)),
+        CheckError::IdNotGreater(id) => step(lead, line, b"IdNotGreater", Field::Count(id)),
+        CheckError::UnknownVariable(variable) => step(
+            lead,
+            line,
+            b"UnknownVariable",
+            Field::Count(variable),
+        ),
+        CheckError::Memory => step(lead, line, b"Memory", Field::Nothing),
+    }
+}
+
+/// A variant with two numbers.
+#[tactic(auto, unfolding(frame_core::specs::Views::shown))]
+fn two(lead: Field, name: &'static [u8], number: u32, last: u32) -> ErrorLine
+    ensures { line_value result ≡ shown (lead ∷ []) ++ two_of name.now number last }
+{
+    ErrorLine::led(lead, name, Field::Count(number), Field::Count(last))
+}
+
+/// A variant with a number.
+#[tactic(auto, unfolding(frame_core::specs::Views::shown))]
+fn at(lead: Field, name: &'static [u8], number: u32) -> ErrorLine
+    ensures { line_value result ≡ shown (lead ∷ []) ++ at_of name.now number }
+{
+    ErrorLine::led(lead, name, Field::Count(number), Field::Nothing)
+}
+
+/// What a fault's error line names, after the word `lead` where it is one.
+#[tactic(auto, unfolding(crate::specs::RecheckReport::named_bundle, frame_core::specs::Told::memory, frame_core::specs::Views::shown))]
+pub(crate) fn name_bundle(lead: Field, error: BundleError) -> ErrorLine
+    ensures { line_value result ≡ shown (lead ∷ []) ++ named_bundle error }
+{
+    match error {
+        BundleError::Syntax(line) => at(lead, b"Syntax", line),
+        BundleError::SizeOutOfOrder(line) => at(lead, b"SizeOutOfOrder", line),
+        BundleError::StepRefused(line, error) => name_step(lead, line, error),
+        BundleError::NotRefuted(line) => at(lead, b"NotRefuted", line),
+        BundleError::ChainDiffers(output, row) => two(lead, b"ChainDiffers", output, row),
+        BundleError::OperatorNotInBasis(place) => at(lead, b"OperatorNotInBasis", place),
+        BundleError::OpenTooShort(line) => at(lead, b"OpenTooShort", line),
+        BundleError::NotNew(line) => at(lead, b"NotNew", line),
+        BundleError::WrongVerdict(line) => at(lead, b"WrongVerdict", line),
+        BundleError::Memory => ErrorLine::led(lead, b"Memory", Field::Nothing, Field::Nothing),
+    }
+}

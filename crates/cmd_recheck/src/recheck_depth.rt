@@ -1,0 +1,226 @@
+//! The command `recheck --depth yes`, for certificates of the fewest levels.
+ghost use Rattle.std.specs.Prelude.{◌≡◌, ℕ, ◌+◌, ◌^◌, ◌<◌, ◌≤◌, List, ◌++◌, Err, IfOk, length};
+ghost use Rattle.text_core.specs.Lines.{lines_of};
+ghost use Rattle.depth_theory.specs.declared.data.DepthVerdict.{DepthVerdict};
+ghost use Rattle.depth_theory.specs.DepthGives.{Gives};
+ghost use Rattle.depth_theory.specs.DepthJudging.{Judged};
+ghost use Rattle.depth_file.specs.Reader.{seen, IsReader, StandsFor};
+ghost use Rattle.frame_core.specs.Views.{line_value, reply_value, refusal_value, Judges};
+ghost use Rattle.cmd_recheck.specs.KeepingDepth.{Keeps, IsWhole, count_of};
+ghost use Rattle.cmd_verdicts.specs.Verdicts.{most_of_bundle};
+ghost use Rattle.cmd_recheck.specs.RecheckDepthReport.{levels_text, depth_status as depth_status_of, named_inside, named_depth, depth_reply, depth_refusal, depth_task};
+
+use crate::bundles::{bundle_status, name_bundle, name_step};
+use crate::recheck::MOST_BYTES;
+use cert_file::BundleError;
+use depth_file::{DepthError, DepthReader, DepthVerdict};
+use frame_core::{Ended, ErrorLine, Field, Refusal, Reply, Status, Stop, StreamJob, finish};
+use port_io::Sink;
+use std::alloc::{AllocError, Global};
+use text_core::push_number;
+
+/// The status of a fault.
+fn depth_status(error: DepthError) -> Status
+    ensures { result ≡ depth_status_of error }
+{
+    match error {
+        DepthError::Bundle(error) => bundle_status(error),
+        DepthError::Syntax(_) => Status::Malformed,
+        DepthError::Memory => Status::Memory,
+        DepthError::NotLeastForm
+        | DepthError::WrongDepth(_)
+        | DepthError::StepRefused(_, _)
+        | DepthError::NotNew(_)
+        | DepthError::NotRefuted(_)
+        | DepthError::OpenTooShort(_)
+        | DepthError::WrongLevels(_) => Status::Refused,
+    }
+}
+
+/// What the error line of a fault of the bundle names.
+#[tactic(auto, unfolding(frame_core::specs::Told::memory, frame_core::specs::Views::shown), using(crate::proofs::RecheckingDepth::inside))]
+fn name_inside(error: BundleError) -> ErrorLine
+    ensures { line_value result ≡ named_inside error }
+{
+    match error {
+        BundleError::Memory => ErrorLine::plain(b"Memory"),
+        error => name_bundle(Field::Known(b"Bundle"), error),
+    }
+}
+
+/// What a fault's error line names.
+#[tactic(auto, unfolding(crate::specs::RecheckDepthReport::named_depth, frame_core::specs::Told::memory, frame_core::specs::Views::shown))]
+fn name_depth(error: DepthError) -> ErrorLine
+    ensures { line_value result ≡ named_depth error }
+{
+    match error {
+        DepthError::Bundle(error) => name_inside(error),
+        DepthError::NotLeastForm => ErrorLine::plain(b"NotLeastForm"),
+        DepthError::Syntax(line) => ErrorLine::at(b"Syntax", line),
+        DepthError::WrongDepth(line) => ErrorLine::at(b"WrongDepth", line),
+        DepthError::StepRefused(line, error) => name_step(Field::Nothing, line, error),
+        DepthError::NotNew(line) => ErrorLine::at(b"NotNew", line),
+        DepthError::NotRefuted(line) => ErrorLine::at(b"NotRefuted", line),
+        DepthError::OpenTooShort(line) => ErrorLine::at(b"OpenTooShort", line),
+        DepthError::WrongLevels(line) => ErrorLine::at(b"WrongLevels", line),
+        DepthError::Memory => ErrorLine::plain(b"Memory"),
+    }
+}
+
+/// A fault as a refusal.
+fn refusal_of(error: DepthError) -> Refusal
+    ensures { refusal_value result ≡ depth_refusal error }
+{
+    Refusal {
+        status: depth_status(error),
+        line: name_depth(error),
+    }
+}
+
+/// The text of a verdict.
+#[tactic(auto, unfolding(crate::specs::RecheckDepthReport::levels_text, depth_theory::specs::DepthSpelling::levels_line))]
+fn text_of(alloc: Global, verdict: DepthVerdict) -> Result<Vec<u8>, AllocError>
+    ensures { IfOk result (λ text. text.items ≡ levels_text verdict) }
+{
+    let mut text = Vec::new(alloc);
+    match verdict {
+        DepthVerdict::Levels(levels) => {
+            text.extend_from_slice(b"levels ")?;
+            push_number(&mut text, levels)?;
+        }
+        DepthVerdict::Bounded { low, levels } => {
+            text.extend_from_slice(b"levels-bounded ")?;
+            push_number(&mut text, low)?;
+            text.extend_from_slice(b" ")?;
+            push_number(&mut text, levels)?;
+        }
+    }
+    text.extend_from_slice(b"\n")?;
+    Ok(text)
+}
+
+/// A verdict as a reply.
+fn reply_of(alloc: Global, verdict: DepthVerdict) -> Result<Reply, AllocError>
+    ensures { IfOk result (λ reply. reply_value reply ≡ depth_reply verdict) }
+{
+    Ok(Reply {
+        text: text_of(alloc, verdict)?,
+        report: None,
+        status: Status::Done,
+    })
+}
+
+/// What `recheck --depth yes` keeps of a certificate.
+#[derive(Drop)]
+pub enum DepthReading {
+    /// What was read of it.
+    Good(DepthReader),
+    /// The fault of a line. What comes after it is read, and dropped.
+    Refused(DepthError),
+}
+
+/// Why a certificate has no verdict.
+#[tactic(auto, using(crate::proofs::RecheckingDepth::telling))]
+fn stop_of(error: DepthError) -> Stop
+    ensures { (bytes : List ℕ) → length bytes ≤ most_of_bundle →
+        Judged (Gives (λ (v : DepthVerdict). v) (Err error)) (lines_of bytes) → Judges depth_task bytes (Err result) }
+{
+    match error {
+        DepthError::Memory => Stop::NoMemory,
+        error => Stop::NoAnswer(refusal_of(error)),
+    }
+}
+
+/// The reply of `recheck --depth yes` to a certificate that was read to its end.
+#[tactic(auto, using(crate::proofs::RecheckingDepth::telling))]
+fn tell(alloc: Global, reader: DepthReader) -> Result<Reply, Stop>
+    requires { IsReader (seen reader) }
+    ensures { (bytes : List ℕ) → StandsFor (seen reader) bytes → length bytes ≤ most_of_bundle → Judges depth_task bytes result }
+{
+    match reader.finish() {
+        Ok(verdict) => match reply_of(alloc, verdict) {
+            Ok(reply) => Ok(reply),
+            Err(AllocError) => Err(Stop::NoMemory),
+        },
+        Err(error) => Err(stop_of(error)),
+    }
+}
+
+/// The reply of `recheck --depth yes` to what it kept.
+#[tactic(auto, using(crate::proofs::RecheckingDepth::keeping))]
+fn tell_kept(alloc: Global, kept: DepthReading) -> Result<Reply, Stop>
+    requires { IsWhole kept }
+    ensures { (bytes : List ℕ) → Keeps kept bytes → length bytes ≤ most_of_bundle → Judges depth_task bytes result }
+{
+    match kept {
+        DepthReading::Good(reader) => tell(alloc, reader),
+        DepthReading::Refused(error) => Err(stop_of(error)),
+    }
+}
+
+/// Reads the next piece of a certificate.
+#[tactic(auto, using(crate::proofs::RecheckingDepth::taking))]
+fn read_on(reader: DepthReader, piece: &[u8]) -> Result<DepthReading, AllocError>
+    requires whole { IsReader (seen reader) }
+    requires room { reader.fed + length piece.now < 2 ^ 31 }
+    ensures whole { IfOk result IsWhole }
+    ensures keeps { (bytes : List ℕ) → StandsFor (seen reader) bytes →
+        IfOk result (λ next. Keeps next (bytes ++ piece.now)) }
+    ensures count { IfOk result (λ next. count_of next ≤ reader.fed + length piece.now) }
+{
+    match reader.feed(piece) {
+        Ok(reader) => Ok(DepthReading::Good(reader)),
+        Err(DepthError::Memory) => Err(AllocError),
+        Err(error) => Ok(DepthReading::Refused(error)),
+    }
+}
+
+/// The verdict of a certificate of the fewest levels.
+#[derive(Drop)]
+pub struct RecheckDepth;
+
+impl StreamJob for RecheckDepth {
+    ghost task = { λ _. depth_task };
+
+    ghost ready = { λ _. Unit {0} };
+
+    type Kept = DepthReading;
+
+    ghost holds = { λ _ kept bytes. Keeps kept bytes };
+
+    ghost whole = { λ _ kept. IsWhole kept };
+
+    ghost count = { λ _ kept. count_of kept };
+
+    fn reads(&self) -> Option<usize> {
+        Some(MOST_BYTES)
+    }
+
+    fn begin(&self, alloc: Global) -> DepthReading {
+        DepthReading::Good(DepthReader::new(alloc))
+    }
+
+    #[tactic(auto, using(crate::proofs::RecheckingDepth::taking))]
+    fn take(
+        &self,
+        _alloc: Global,
+        kept: DepthReading,
+        piece: &[u8],
+    ) -> Result<DepthReading, AllocError> {
+        match kept {
+            DepthReading::Good(reader) => read_on(reader, piece),
+            DepthReading::Refused(error) => Ok(DepthReading::Refused(error)),
+        }
+    }
+
+    #[tactic(auto, using(crate::proofs::RecheckingDepth::answering))]
+    fn answer<O: Sink, N: Sink>(
+        &self,
+        alloc: Global,
+        kept: DepthReading,
+        out: &mut O,
+        note: &mut N,
+    ) -> Ended {
+        finish(tell_kept(alloc, kept), out, note)
+    }
+}

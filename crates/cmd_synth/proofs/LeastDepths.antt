@@ -1,0 +1,81 @@
+-- What `synth --least-depth yes` answers to bytes.
+use Rattle.std.specs.Prelude.{◌≡◌, ℕ, ◌≤◌, List, length, Ok}
+use Rattle.std.proofs.Common.{sym, subst, refl}
+use Rattle.std.proofs.lemmas.Grind.{common_steps}
+use Rattle.text_core.specs.Lines.{lines_of}
+use Rattle.tt_core.specs.Words.{Words, specification}
+use Rattle.tt_core.specs.Gives.{Fails}
+use Rattle.tt_core.specs.declared.error.SpecError.{SpecError}
+use Rattle.tt_core.specs.declared.error.SpecError.TheVariants as tables
+use Rattle.op_basis.specs.Basis.{members}
+use Rattle.depth_theory.specs.declared.data.DepthVerdict.{DepthVerdict}
+use Rattle.depth_theory.specs.DepthMeaning as depths
+use Rattle.depth_theory.specs.DepthMeanings.{depth_means}
+use Rattle.depth_theory.specs.DepthAgain.{judged_again}
+use Rattle.depth_theory.specs.DepthBundle.{DepthBundle}
+use Rattle.depth_theory.specs.DepthJudging.{Answer, IsJudged}
+use Rattle.depth_theory.specs.DepthSpelling.{IsDepthText}
+use Rattle.depth_file.specs.JudgedLaws.{text_judged}
+use Rattle.settings.specs.declared.synth.SynthSettings.{SynthSettings}
+use Rattle.synth_core.specs.Tables.{tables_alone}
+use Rattle.depth_run.specs.declared.certificate.Found.{Found}
+use Rattle.depth_run.specs.declared.certificate.Found.TheVariants.{Least, Other}
+use Rattle.depth_run.specs.Certifying.{IsLeast, IsCertificate}
+use Rattle.frame_core.specs.Told.{Reply, Refusal}
+use Rattle.frame_core.specs.Task.{Tells, Refuses}
+use Rattle.cmd_lines.specs.TableLines.{most_of_tables}
+use Rattle.cmd_synth.specs.SynthReport.{synth_refusal, AreTables}
+use Rattle.cmd_synth.specs.LeastDepthReport.{least_depth_reply, Means, IsJudgedSo, IsAcceptedSo, least_depth_task}
+use Rattle.cmd_verdicts.specs.Verdicts.{most_of_bundle, GivesLevels}
+use Rattle.cmd_synth.specs.CertifiedLaws.{its_meaning, its_verdict, its_recheck}
+use Rattle.cmd_synth.proofs.Synthesising.{told_fault}
+use Rattle.cmd_synth.specs.LeastDepthLaws.{least_levels}
+
+least_means : (asked : SynthSettings) (bytes text : List ℕ) (v : DepthVerdict) → IsLeast bytes asked text v → (w : Words) → AreTables bytes w → Means (specification w) (members asked.basis) (Least v)
+least_means asked bytes text v c w are = (length c.is_text.is_depth.chain.steps, least_levels asked bytes text v c w are)
+
+found_means : (asked : SynthSettings) (bytes text : List ℕ) (f : Found) → IsCertificate bytes asked text f → (w : Words) → AreTables bytes w → Means (specification w) (members asked.basis) f
+found_means asked bytes text (Least v) c w are = least_means asked bytes text v c w are
+found_means asked bytes text (Other v) c w are = its_meaning asked bytes text v c.certificate w are.are are.spelled
+
+-- Who judges the text again has the same verdict ..
+found_judged : (asked : SynthSettings) (bytes text : List ℕ) (f : Found) → IsCertificate bytes asked text f → IsJudgedSo text f
+found_judged asked bytes text (Least v) c = subst (λ (x : DepthVerdict). IsJudged (lines_of text) (Ok x)) c.verdict_is (text_judged text c.bundle c.is_text)
+found_judged asked bytes text (Other v) c = its_verdict asked bytes text v c.certificate
+
+one_verdict : (v w : DepthVerdict) (one two : Answer) → one ≡ Ok v → two ≡ Ok w → one ≡ two → v ≡ w
+one_verdict v w one two is other same = cc
+
+levels_given : (asked : SynthSettings) (bytes text : List ℕ) (v : DepthVerdict) → IsLeast bytes asked text v → length text ≤ most_of_bundle → GivesLevels text v
+levels_given asked bytes text v c within =
+    let judged = found_judged asked bytes text (Least v) c in
+    let only : (b : DepthBundle) → IsDepthText text b → b.verdict ≡ v = λ b is. one_verdict b.verdict v (Ok b.verdict) (Ok v) refl refl (sym (judged_again text b (Ok v) is judged)) in
+    record {
+      within = within;
+      has = record { bundle = c.bundle; is_text = c.is_text; verdict = c.verdict_is };
+      only = only;
+      means = λ b is. subst (λ (x : DepthVerdict). depths.Means (specification b.bundle.heading.spec) (members b.bundle.heading.basis) (length is.is_depth.chain.steps) x) (only b is) (depth_means b is.is_depth);
+    }
+
+-- .. and so has `recheck`
+found_accepted : (asked : SynthSettings) (bytes text : List ℕ) (f : Found) → IsCertificate bytes asked text f → length text ≤ most_of_bundle → IsAcceptedSo text f
+found_accepted asked bytes text (Least v) c within = levels_given asked bytes text v c within
+found_accepted asked bytes text (Other v) c within = its_recheck asked bytes text v c.certificate within
+
+-- ---- what the search answers
+
+pub tells : (asked : SynthSettings) (bytes text : List ℕ) (found : Found) (reply : Reply) → length bytes ≤ most_of_tables → IsCertificate bytes asked text found → reply ≡ least_depth_reply (record { text = text; found = found }) → Tells (least_depth_task asked) bytes reply
+tells asked bytes text found reply within certificate is = record {
+  answer = record { text = text; found = found };
+  has = record { within = within; certificate = certificate; means = found_means asked bytes text found certificate; judged = found_judged asked bytes text found certificate; rechecked = found_accepted asked bytes text found certificate };
+  is = is;
+}
+
+pub refuses : (asked : SynthSettings) (bytes : List ℕ) (e : SpecError) (refusal : Refusal) → length bytes ≤ most_of_tables → (e ≡ tables.Memory → ⊥) → Fails e (tables_alone (lines_of bytes)) → refusal ≡ synth_refusal e → Refuses (least_depth_task asked) bytes refusal
+refuses asked bytes e refusal within other fails is = record {
+  fault = e;
+  meets = record { within = within; fault = told_fault e (tables_alone (lines_of bytes)) fails other };
+  is = is;
+}
+
+pub ruleset telling = (common_steps, tells, refuses)

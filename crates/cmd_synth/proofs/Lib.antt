@@ -1,0 +1,3 @@
+pub mod LeastDepths
+pub mod Synthesising
+pub mod Writing

@@ -1,0 +1,74 @@
+-- What a certificate comes to: its verdict is true, and is found again.
+use Rattle.std.specs.Prelude.{◌≡◌, ℕ, ◌≤◌, List, [], length, Result, Ok}
+use Rattle.std.proofs.Common.{ap, subst}
+use Rattle.text_core.specs.Lines.{lines_of}
+use Rattle.tt_core.specs.Words.{Words, IsSpec, specification}
+use Rattle.tt_core.specs.Spelling.{SpellsTables}
+use Rattle.tt_core.specs.declared.error.SpecError.{SpecError}
+use Rattle.tt_core.specs.ReadBack.{tables_again}
+use Rattle.op_basis.specs.Basis.{members}
+use Rattle.cert_theory.specs.declared.data.Heading.{Heading}
+use Rattle.cert_theory.specs.declared.data.Verdict.{Verdict}
+use Rattle.cert_theory.specs.Bundle.{Bundle}
+use Rattle.cert_laws.specs.CodingLaws.{method_is_coding}
+use Rattle.cert_theory.specs.Meaning.{Means}
+use Rattle.cert_theory.specs.Spelling.{IsBundle}
+use Rattle.cert_theory.specs.Judging.{bundle_of}
+use Rattle.cert_laws.specs.BundlesAgain.{text_again}
+use Rattle.cert_laws.specs.Meanings.{verdict_means}
+use Rattle.settings.specs.declared.synth.SynthSettings.{SynthSettings}
+use Rattle.synth_core.specs.Certifying.{IsCertificate}
+use Rattle.synth_core.specs.Tables.{words_alone, tables_alone}
+use Rattle.cmd_verdicts.specs.Verdicts.{most_of_bundle, GivesVerdict}
+use Rattle.cmd_lines.specs.TableLines.{most_of_tables}
+use Rattle.cmd_synth.specs.SynthReport.{Certified, IsCertified}
+use Rattle.cmd_verdicts.specs.VerdictLaws.{is_verdict}
+
+-- the verdict of a valid bundle is true
+bundle_means : (b : Bundle) (bytes : List ℕ) → IsBundle bytes b → Means (specification b.heading.spec) (members b.heading.basis) b.verdict
+bundle_means b bytes is = verdict_means b (method_is_coding b.heading.method) is.valid
+
+means_as : (w x : Words) (a b : ℕ) (u v : Verdict) → w ≡ x → a ≡ b → u ≡ v → Means (specification w) (members a) u → Means (specification x) (members b) v
+means_as w x a b u v same_words same_basis same_verdict means =
+    subst (λ (y : Verdict). Means (specification x) (members b) y) same_verdict
+    (subst (λ (n : ℕ). Means (specification x) (members n) u) same_basis
+    (subst (λ (y : Words). Means (specification y) (members a) u) same_words means))
+
+same_tables : (read : Result Words SpecError) (a b : Words) → read ≡ Ok a → read ≡ Ok b → a ≡ b
+same_tables read a b is other = cc
+
+-- the tables that bytes spell are one
+pub tables_are : (a b : Words) (bytes : List ℕ) → IsSpec a → IsSpec b → SpellsTables (specification a) (lines_of bytes) [] → SpellsTables (specification b) (lines_of bytes) [] → a ≡ b
+tables_are a b bytes spec other spelled again =
+    same_tables (tables_alone (lines_of bytes)) a b (ap words_alone (tables_again a (lines_of bytes) [] spec spelled)) (ap words_alone (tables_again b (lines_of bytes) [] other again))
+
+pub its_meaning : (asked : SynthSettings) (bytes text : List ℕ) (verdict : Verdict) → IsCertificate bytes asked text verdict → (w : Words) → IsSpec w → SpellsTables (specification w) (lines_of bytes) [] → Means (specification w) (members asked.basis) verdict
+its_meaning asked bytes text verdict c w spec spelled =
+    means_as c.bundle.heading.spec w c.bundle.heading.basis asked.basis c.bundle.verdict verdict
+    (tables_are c.bundle.heading.spec w bytes c.is_bundle.valid.heading.tables spec c.tables spelled)
+    (ap (λ (h : Heading). h.basis) c.heading_is)
+    c.verdict_is
+    (bundle_means c.bundle text c.is_bundle)
+
+judged_as : (text : List ℕ) (b : Bundle) (verdict : Verdict) → IsBundle text b → b.verdict ≡ verdict → bundle_of (lines_of text) ≡ Ok verdict
+judged_as text b verdict is same = subst (λ (v : Verdict). bundle_of (lines_of text) ≡ Ok v) same (text_again text b is)
+
+pub its_verdict : (asked : SynthSettings) (bytes text : List ℕ) (verdict : Verdict) → IsCertificate bytes asked text verdict → bundle_of (lines_of text) ≡ Ok verdict
+its_verdict asked bytes text verdict c = judged_as text c.bundle verdict c.is_bundle c.verdict_is
+
+pub its_recheck : (asked : SynthSettings) (bytes text : List ℕ) (verdict : Verdict) → IsCertificate bytes asked text verdict → length text ≤ most_of_bundle → GivesVerdict text verdict
+its_recheck asked bytes text verdict c within = record {
+  within = within;
+  read = its_verdict asked bytes text verdict c;
+  is_verdict = is_verdict text verdict (its_verdict asked bytes text verdict c);
+}
+
+-- All that a certificate comes to.
+pub certified : (asked : SynthSettings) (bytes : List ℕ) (c : Certified) → length bytes ≤ most_of_tables → IsCertificate bytes asked c.text c.verdict → IsCertified asked bytes c
+certified asked bytes c within certificate = record {
+  within = within;
+  certificate = certificate;
+  means = λ w tables. its_meaning asked bytes c.text c.verdict certificate w tables.are tables.spelled;
+  judged = its_verdict asked bytes c.text c.verdict certificate;
+  rechecked = its_recheck asked bytes c.text c.verdict certificate;
+}

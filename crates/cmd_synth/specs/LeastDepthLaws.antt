@@ -1,0 +1,126 @@
+-- `synth --least-depth yes` is a task, and a run of it keeps what it promises.
+use Rattle.std.specs.Prelude.{◌≡◌, ℕ, ◌⊎◌, List, length, Some, Err}
+use Rattle.std.proofs.Common.{arith, sym, ◌∙◌, ap, subst, refl, inl, inr}
+use Rattle.std.proofs.Math.Logic.{⊎_elim}
+use Rattle.text_core.specs.Lines.{lines_of}
+use Rattle.tt_core.specs.Words.{Words, specification}
+use Rattle.tt_core.specs.declared.error.SpecError.{SpecError}
+use Rattle.op_basis.specs.Basis.{members}
+use Rattle.cert_theory.specs.declared.data.Heading.{Heading}
+use Rattle.depth_theory.specs.declared.data.DepthVerdict.{DepthVerdict}
+use Rattle.depth_theory.specs.declared.data.DepthVerdict.TheVariants.{Levels, Bounded}
+use Rattle.depth_theory.specs.DepthMeaning as depths
+use Rattle.depth_theory.specs.DepthMeanings.{depth_means}
+use Rattle.depth_file.specs.Spent.{IsLeftOpen}
+use Rattle.depth_file.specs.SpentLaws.{log_is_spent}
+use Rattle.synth_core.specs.Asking.{heading_of}
+use Rattle.settings.specs.declared.synth.SynthSettings.{SynthSettings}
+use Rattle.synth_core.specs.Tables.{tables_alone}
+use Rattle.depth_run.specs.declared.certificate.Found.{Found}
+use Rattle.depth_run.specs.declared.certificate.Found.TheVariants.{Least, Other}
+use Rattle.depth_run.specs.Certifying.{IsLeast, IsCertificate}
+use Rattle.command_line.specs.CommandLine.{AsksFor}
+use Rattle.command_line.specs.declared.command.Command.TheVariants.{LeastDepth}
+use Rattle.frame_core.specs.declared.status.Status.TheVariants.{Done, Undecided, Refused}
+use Rattle.frame_core.specs.Task.{IsAnswerStatus, IsTask}
+use Rattle.frame_core.specs.Run.{Run}
+use Rattle.frame_core.specs.Promise.{OutputHeld, Replies, Faults, CommandPromise}
+use Rattle.frame_core.specs.TaskLaws.{at_once_task}
+use Rattle.frame_core.specs.KeepingLaws.{of_input}
+use Rattle.frame_core.specs.ReadOffLaws.{gets}
+use Rattle.cmd_lines.specs.TableLines.{most_of_tables}
+use Rattle.cmd_synth.specs.SynthReport.{synth_refusal, AreTables, HasTablesFault}
+use Rattle.cmd_synth.specs.LeastDepthReport.{found_status, Certified, least_depth_reply, IsCertified, least_depth_task}
+use Rattle.cmd_synth.specs.LeastDepthPromise.{LeastDepthPromise}
+use Rattle.cmd_synth.specs.CertifiedLaws.{tables_are}
+use Rattle.cmd_synth.specs.SynthLaws.{answer_statuses, statuses_of, no_fault, one_error, not_refused, not_refused_by}
+
+-- ---- what a certificate comes to
+
+means_as : (w x : Words) (a b steps : ℕ) (u v : DepthVerdict) → w ≡ x → a ≡ b → u ≡ v → depths.Means (specification w) (members a) steps u → depths.Means (specification x) (members b) steps v
+means_as w x a b steps u v same_words same_basis same_verdict means =
+    subst (λ (y : DepthVerdict). depths.Means (specification x) (members b) steps y) same_verdict
+    (subst (λ (n : ℕ). depths.Means (specification x) (members n) steps u) same_basis
+    (subst (λ (y : Words). depths.Means (specification y) (members a) steps u) same_words means))
+
+pub least_levels : (asked : SynthSettings) (bytes text : List ℕ) (v : DepthVerdict) → (c : IsLeast bytes asked text v) → (w : Words) → AreTables bytes w → depths.Means (specification w) (members asked.basis) (length c.is_text.is_depth.chain.steps) v
+least_levels asked bytes text v c w are =
+    let is = c.is_text.is_depth in
+    let h = c.bundle.bundle.heading in
+    means_as h.spec w h.basis asked.basis (length is.chain.steps) c.bundle.verdict v
+    (tables_are h.spec w bytes is.valid.heading.tables are.are c.tables are.spelled)
+    (ap (λ (x : Heading). x.basis) c.heading_is)
+    c.verdict_is
+    (depth_means c.bundle is)
+
+-- the log of a fence of the lower number of levels is spent
+own_heading : (asked : SynthSettings) (bytes text : List ℕ) (v : DepthVerdict) → (c : IsLeast bytes asked text v) → (w : Words) → AreTables bytes w → c.bundle.bundle.heading ≡ heading_of w asked
+own_heading asked bytes text v c w are =
+    c.heading_is ∙ ap (λ (x : Words). heading_of x asked) (tables_are c.bundle.bundle.heading.spec w bytes c.is_text.is_depth.valid.heading.tables are.are c.tables are.spelled)
+
+left_open : (asked : SynthSettings) (bytes text : List ℕ) (low d : ℕ) → (c : IsLeast bytes asked text (Bounded low d)) → (w : Words) → AreTables bytes w → IsLeftOpen text (heading_of w asked) (length c.is_text.is_depth.chain.steps) low
+left_open asked bytes text low d c w are =
+    subst (λ (h : Heading). IsLeftOpen text h (length c.is_text.is_depth.chain.steps) low) (own_heading asked bytes text (Bounded low d) c w are)
+    (log_is_spent text c.bundle low d c.is_text c.verdict_is)
+
+-- ---- `synth --least-depth yes` is a command
+
+found_statuses : (f : Found) → IsAnswerStatus (found_status f)
+found_statuses (Least (Levels d)) = inl refl
+found_statuses (Least (Bounded low d)) = inr (inl refl)
+found_statuses (Other v) = answer_statuses v
+
+-- the tables of a certificate are ones, and have no fault
+sound : {A : Type 0} (asked : SynthSettings) (bytes text : List ℕ) (f : Found) (e : SpecError) → IsCertificate bytes asked text f → tables_alone (lines_of bytes) ≡ Err e → A
+sound asked bytes text (Least v) e c bad = no_fault c.bundle.bundle.heading.spec (lines_of bytes) e c.is_text.is_depth.valid.heading.tables c.tables bad
+sound asked bytes text (Other v) e c bad = no_fault c.certificate.bundle.heading.spec (lines_of bytes) e c.certificate.is_bundle.valid.heading.tables c.certificate.tables bad
+
+pub least_depth_is_task : (asked : SynthSettings) → IsTask (least_depth_task asked)
+least_depth_is_task asked =
+    at_once_task most_of_tables Certified (IsCertified asked) least_depth_reply SpecError HasTablesFault synth_refusal
+    (λ c. found_statuses c.found)
+    (λ bytes fault meets. statuses_of fault)
+    (λ bytes c error has fault. sound asked bytes c.text c.found error has.certificate fault.fault)
+    (λ bytes a b x y. ap synth_refusal (one_error (tables_alone (lines_of bytes)) a b x.fault y.fault))
+    (λ bytes c has. has.within)
+    (λ bytes error fault. fault.within)
+
+-- ---- what it promises besides
+
+complete : (r : Run) (asked : SynthSettings) (input : List ℕ) (w : Words) → CommandPromise (least_depth_task asked) r → r.source.bytes ≡ Some input → AreTables input w → OutputHeld r → Replies (least_depth_task asked) r input
+complete r asked input w promise told are held =
+    let within = are.within in
+    gets (least_depth_task asked) r input (λ c. refl) promise told (record { within = λ long. omega arith; sound = λ error fault. no_fault w (lines_of input) error are.are are.spelled fault.fault }) held
+
+answer_only : (r : Run) (asked : SynthSettings) (input : List ℕ) → CommandPromise (least_depth_task asked) r → r.source.bytes ≡ Some input → (r.status ≡ Done) ⊎ (r.status ≡ Undecided) → Replies (least_depth_task asked) r input
+answer_only r asked input promise told is =
+    ⊎_elim
+    (λ (done : r.status ≡ Done). of_input (least_depth_task asked) r (Replies (least_depth_task asked) r) input (promise.done_only done) told)
+    (λ (left : r.status ≡ Undecided). of_input (least_depth_task asked) r (Replies (least_depth_task asked) r) input (promise.undecided_only left) told)
+    is
+
+not_refused_found : (f : Found) → found_status f ≡ Refused → ⊥
+not_refused_found (Least (Levels d)) is = cc
+not_refused_found (Least (Bounded low d)) is = cc
+not_refused_found (Other v) is = not_refused_by v is
+
+never_refused : (r : Run) (asked : SynthSettings) → CommandPromise (least_depth_task asked) r → r.status ≡ Refused → ⊥
+never_refused r asked promise is =
+    let of = promise.refused_only is in
+    ⊎_elim
+    (λ (got : Replies (least_depth_task asked) r of.bytes). not_refused_found got.answer.found (sym got.stands.status_is ∙ is))
+    (λ (none : Faults (least_depth_task asked) r of.bytes). not_refused none.fault (sym none.told.status_is ∙ is))
+    of.holds
+
+-- All that `synth --least-depth yes` promises besides.
+pub least_depth_promised : (r : Run) → ((asked : SynthSettings) → AsksFor r.words (LeastDepth asked) → CommandPromise (least_depth_task asked) r) → LeastDepthPromise r
+least_depth_promised r keeps = record {
+  complete = λ asked input w run are held. complete r asked input w (keeps asked run.asks) run.told are held;
+  answer_only = λ asked input run is. answer_only r asked input (keeps asked run.asks) run.told is;
+  never_refused = λ asked asks is. never_refused r asked (keeps asked asks) is;
+  least = λ asked input text w d run are has stands. let means = has.means w are in (means.0, means.1, stands.status_is);
+  bounded = λ asked input text w low d run are has stands.
+      let c = has.certificate in
+      (length c.is_text.is_depth.chain.steps, least_levels asked input text (Bounded low d) c w are, left_open asked input text low d c w are, stands.status_is);
+  refused = λ asked input error run fault held. (keeps asked run.asks).refused input error run.told fault held;
+}

@@ -1,0 +1,70 @@
+-- What `synth --least-depth yes` reports: its reply, its refusal of a fault, and its task.
+use Rattle.std.specs.Prelude.{◌≡◌, ℕ, ◌≤◌, List, length, None, Ok}
+use Rattle.text_core.specs.Lines.{lines_of}
+use Rattle.chain_theory.specs.Operator.{Basis}
+use Rattle.chain_theory.specs.Specification.{Specification}
+use Rattle.tt_core.specs.Words.{Words, specification}
+use Rattle.tt_core.specs.declared.error.SpecError.{SpecError}
+use Rattle.op_basis.specs.Basis.{members}
+use Rattle.settings.specs.declared.synth.SynthSettings.{SynthSettings}
+use Rattle.cert_theory.specs.Meaning as sizes
+use Rattle.cert_theory.specs.Judging.{bundle_of}
+use Rattle.depth_theory.specs.declared.data.DepthVerdict.TheVariants.{Levels, Bounded}
+use Rattle.depth_theory.specs.DepthMeaning as depths
+use Rattle.depth_theory.specs.DepthJudging.{IsJudged}
+use Rattle.depth_run.specs.declared.certificate.Found.{Found}
+use Rattle.depth_run.specs.declared.certificate.Found.TheVariants.{Least, Other}
+use Rattle.depth_run.specs.Certifying.{IsCertificate}
+use Rattle.frame_core.specs.declared.status.Status.{Status}
+use Rattle.frame_core.specs.declared.status.Status.TheVariants.{Done, Undecided}
+use Rattle.frame_core.specs.Told.{Reply}
+use Rattle.frame_core.specs.Task.{Task, at_once}
+use Rattle.cmd_lines.specs.TableLines.{most_of_tables}
+use Rattle.cmd_verdicts.specs.Verdicts.{most_of_bundle, GivesVerdict}
+use Rattle.cmd_verdicts.specs.Verdicts.{GivesLevels}
+use Rattle.cmd_synth.specs.SynthReport.{verdict_status, synth_refusal, AreTables, HasTablesFault}
+
+-- Where the fewest levels are known, that is an answer; a budget that was spent before leaves them undecided.
+-- Without a minimum the status is that of the verdict.
+abbrev pub found_status : Found → Status
+found_status (Least (Levels d)) = Done
+found_status (Least (Bounded low d)) = Undecided
+found_status (Other verdict) = verdict_status verdict
+
+-- a text, and what was found
+pub record Certified : Type 0 where
+  pub text : List ℕ
+  pub found : Found
+
+abbrev pub least_depth_reply : Certified → Reply
+least_depth_reply c = record { text = c.text; report = None; status = found_status c.found }
+
+-- what was found says this of chains; `steps` steps are the fewest
+abbrev pub Means : Specification → Basis → Found → Type 0
+Means s basis (Least verdict) = (steps : ℕ) × depths.Means s basis steps verdict
+Means s basis (Other verdict) = sizes.Means s basis verdict
+
+-- Who judges the text has this verdict: as a depth bundle, or as a certificate of the fewest steps.
+abbrev pub IsJudgedSo : List ℕ → Found → Type 0
+IsJudgedSo text (Least verdict) = IsJudged (lines_of text) (Ok verdict)
+IsJudgedSo text (Other verdict) = bundle_of (lines_of text) ≡ Ok verdict
+
+-- `recheck --depth yes` has it, or `recheck`.
+abbrev pub IsAcceptedSo : List ℕ → Found → Type 0
+IsAcceptedSo text (Least verdict) = GivesLevels text verdict
+IsAcceptedSo text (Other verdict) = GivesVerdict text verdict
+
+-- The text is that of a depth bundle for the tables in the bytes and for what is asked, or that of a certificate of
+-- the fewest steps whose verdict is no minimum. What it says of chains is true. Who judges the text again has the same
+-- verdict; so has `recheck --depth yes`, or `recheck`, of a text within its limit.
+pub record IsCertified (asked : SynthSettings) (bytes : List ℕ) (c : Certified) : Type 0 where
+  pub within : length bytes ≤ most_of_tables
+  pub certificate : IsCertificate bytes asked c.text c.found
+  pub means : (tables : Words)
+      → AreTables bytes tables
+      → Means (specification tables) (members asked.basis) c.found
+  pub judged : IsJudgedSo c.text c.found
+  pub rechecked : length c.text ≤ most_of_bundle → IsAcceptedSo c.text c.found
+
+abbrev pub least_depth_task : SynthSettings → Task
+least_depth_task asked = at_once most_of_tables Certified (IsCertified asked) least_depth_reply SpecError HasTablesFault synth_refusal

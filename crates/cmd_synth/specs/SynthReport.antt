@@ -1,0 +1,79 @@
+-- What `synth` reports: its reply, its refusal of a fault, and its task.
+use Rattle.std.specs.Prelude.{◌≡◌, ℕ, ◌≤◌, List, [], length, Some, None, Ok, Err}
+use Rattle.text_core.specs.Lines.{lines_of}
+use Rattle.tt_core.specs.Words.{Words, IsSpec, specification}
+use Rattle.tt_core.specs.Spelling.{SpellsTables}
+use Rattle.tt_core.specs.declared.error.SpecError.{SpecError}
+use Rattle.op_basis.specs.Basis.{members}
+use Rattle.cert_theory.specs.declared.data.Verdict.{Verdict}
+use Rattle.cert_theory.specs.declared.data.Verdict.TheVariants as verdicts
+use Rattle.cert_theory.specs.Bundle.{Section}
+use Rattle.cert_theory.specs.Front.{IsBegun}
+use Rattle.cert_theory.specs.Meaning.{Means}
+use Rattle.cert_theory.specs.Judging.{bundle_of}
+use Rattle.settings.specs.declared.synth.SynthSettings.{SynthSettings}
+use Rattle.synth_core.specs.Asking.{heading_of}
+use Rattle.synth_core.specs.Certifying.{IsCertificate}
+use Rattle.synth_core.specs.Tables.{tables_alone}
+use Rattle.frame_core.specs.declared.status.Status.{Status}
+use Rattle.frame_core.specs.declared.status.Status.TheVariants.{Done, Undecided}
+use Rattle.cmd_lines.specs.TableLines.{most_of_tables}
+use Rattle.cmd_lines.specs.TableLines.{spec_status, named_spec}
+use Rattle.cmd_verdicts.specs.Verdicts.{most_of_bundle, GivesVerdict}
+use Rattle.frame_core.specs.Told.{Reply, Refusal}
+use Rattle.frame_core.specs.Task.{Task, in_pieces}
+
+-- Where the fewest steps are known, or no chain is within the limit, that is an answer; a budget that
+-- was spent before leaves it undecided.
+abbrev pub verdict_status : Verdict → Status
+verdict_status (verdicts.Minimum r) = Done
+verdict_status (verdicts.NoChain x) = Done
+verdict_status (verdicts.Bounded low r) = Undecided
+verdict_status (verdicts.Open low) = Undecided
+
+-- a text, and the verdict that stands at its end
+pub record Certified : Type 0 where
+  pub text : List ℕ
+  pub verdict : Verdict
+
+-- a certificate as a reply, and a fault of the tables as a refusal
+abbrev pub synth_reply : Certified → Reply
+synth_reply c = record { text = c.text; report = None; status = verdict_status c.verdict }
+
+abbrev pub synth_refusal : SpecError → Refusal
+synth_refusal error = record { status = spec_status error; named = named_spec error }
+
+-- The bytes are those of tables with nothing after them, and no more than are read.
+pub record AreTables (bytes : List ℕ) (tables : Words) : Type 0 where
+  pub within : length bytes ≤ most_of_tables
+  pub are : IsSpec tables
+  pub spelled : SpellsTables (specification tables) (lines_of bytes) []
+
+-- The text is that of a valid certificate for the tables in the bytes, and for what is asked. What its
+-- verdict says of chains is true, by whatever method. Who judges the text again has the same verdict; so
+-- has `recheck`, of a text within its limit.
+pub record IsCertified (asked : SynthSettings) (bytes : List ℕ) (c : Certified) : Type 0 where
+  pub within : length bytes ≤ most_of_tables
+  pub certificate : IsCertificate bytes asked c.text c.verdict
+  pub means : (tables : Words)
+      → AreTables bytes tables
+      → Means (specification tables) (members asked.basis) c.verdict
+  pub judged : bundle_of (lines_of c.text) ≡ Ok c.verdict
+  pub rechecked : length c.text ≤ most_of_bundle → GivesVerdict c.text c.verdict
+
+-- The bytes aren't tables alone, and this is their first fault.
+pub record HasTablesFault (bytes : List ℕ) (error : SpecError) : Type 0 where
+  pub within : length bytes ≤ most_of_tables
+  pub fault : tables_alone (lines_of bytes) ≡ Err error
+
+-- The text is that of the heading of a certificate for the tables in the bytes and for what is asked, and of
+-- whole sections after it: those of the sizes 0, 1, 2 and so on.
+pub record BeginsCertificate (asked : SynthSettings) (bytes text : List ℕ) : Type 0 where
+  pub tables : Words
+  pub are : AreTables bytes tables
+  pub sections : List Section
+  pub begun : IsBegun (heading_of tables asked) sections text
+
+-- It goes out a section at a time.
+abbrev pub synth_task : SynthSettings → Task
+synth_task asked = in_pieces (Some most_of_tables) Certified (IsCertified asked) synth_reply SpecError HasTablesFault synth_refusal (BeginsCertificate asked)

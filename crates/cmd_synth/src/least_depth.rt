@@ -1,0 +1,67 @@
+//! The command `synth --least-depth yes`.
+ghost use Rattle.std.specs.Prelude.{◌≡◌, ◌≤◌, length};
+ghost use Rattle.settings.specs.declared.methods.Method.TheVariants.{Fence};
+ghost use Rattle.settings.specs.Synth.{IsInRange};
+ghost use Rattle.frame_core.specs.Views.{reply_value, Judges};
+ghost use Rattle.cmd_lines.specs.TableLines.{most_of_tables};
+ghost use Rattle.cmd_synth.specs.LeastDepthReport.{found_status as found_status_of, least_depth_reply, least_depth_task};
+
+use crate::synth::{refusal_of, verdict_status};
+use cmd_lines::MOST_BYTES_OF_TABLES;
+use depth_run::{DepthCertificate, DepthVerdict, Found, certify_depth};
+use frame_core::{Replier, Reply, Status, Stop};
+use sat_solve::Solver;
+use settings::SynthSettings;
+use std::alloc::Global;
+use std::marker::PhantomData;
+use tt_core::SpecError;
+
+/// The status of what was found.
+fn found_status(found: Found) -> Status
+    ensures { result ≡ found_status_of found }
+{
+    match found {
+        Found::Least(DepthVerdict::Levels(_)) => Status::Done,
+        Found::Least(DepthVerdict::Bounded { .. }) => Status::Undecided,
+        Found::Other(verdict) => verdict_status(verdict),
+    }
+}
+
+/// A certificate as a reply.
+fn reply_of(certificate: DepthCertificate) -> Reply
+    ensures { reply_value result ≡ least_depth_reply (record { text = certificate.text.items; found = certificate.found }) }
+{
+    Reply {
+        text: certificate.text,
+        report: None,
+        status: found_status(certificate.found),
+    }
+}
+
+/// A certificate of the fewest steps and levels for tables, searched with the solver `S`.
+#[derive(Drop)]
+pub struct LeastDepth<S> {
+    /// What the search is asked with.
+    pub settings: SynthSettings,
+    /// The solver.
+    pub solver: PhantomData<S>,
+}
+
+impl<S: Solver> Replier for LeastDepth<S> {
+    ghost task = { λ job. least_depth_task job.settings };
+
+    ghost ready = { λ job. IsInRange job.settings × (job.settings.method ≡ Fence) };
+
+    fn reads(&self) -> Option<usize> {
+        Some(MOST_BYTES_OF_TABLES)
+    }
+
+    #[tactic(auto, using(crate::proofs::LeastDepths::telling))]
+    fn reply(&self, alloc: Global, bytes: &[u8]) -> Result<Reply, Stop> {
+        match certify_depth(alloc, bytes, &self.settings) {
+            Ok(certificate) => Ok(reply_of(certificate)),
+            Err(SpecError::Memory) => Err(Stop::NoMemory),
+            Err(error) => Err(Stop::NoAnswer(refusal_of(error))),
+        }
+    }
+}

@@ -1,0 +1,153 @@
+//! The command `synth`: a certificate that goes out while it is searched. What was written is dropped.
+ghost use Rattle.std.specs.Prelude.{◌≡◌, ℕ, ◌≤◌, List, length, Err};
+ghost use Rattle.text_core.specs.Lines.{lines_of};
+ghost use Rattle.tt_core.specs.Gives.{Fails};
+ghost use Rattle.settings.specs.declared.synth.SynthSettings.{SynthSettings};
+ghost use Rattle.synth_core.specs.Pieces.{IsUnderWay};
+ghost use Rattle.synth_core.specs.Tables.{tables_alone};
+ghost use Rattle.frame_core.specs.Outside.{Side, side};
+ghost use Rattle.cmd_synth.specs.SynthWriting.{IsOut, Comes, GoesUpTo, GoesOut};
+ghost use Rattle.settings.specs.Synth.{IsInRange};
+ghost use Rattle.cmd_lines.specs.TableLines.{most_of_tables};
+ghost use Rattle.cmd_synth.specs.SynthReport.{verdict_status as verdict_status_of, synth_refusal, synth_task};
+ghost use Rattle.frame_core.specs.Views.{refusal_value, Judges};
+
+use cmd_lines::{MOST_BYTES_OF_TABLES, name_spec, spec_status};
+use frame_core::{Ended, Job, Refusal, Status, Stop, finish};
+use port_io::{Sink, WriteFault, write_all};
+use sat_solve::Solver;
+use size_loop::Search;
+use std::alloc::Global;
+use std::marker::PhantomData;
+use synth_core::{Begun, Piece, SynthSettings, Verdict, begin, go_on};
+use tt_core::SpecError;
+
+/// The status of a verdict.
+pub(crate) fn verdict_status(verdict: Verdict) -> Status
+    ensures { result ≡ verdict_status_of verdict }
+{
+    match verdict {
+        Verdict::Minimum(_) | Verdict::NoChain(_) => Status::Done,
+        Verdict::Bounded { .. } | Verdict::Open { .. } => Status::Undecided,
+    }
+}
+
+/// A fault of the tables as a refusal.
+pub(crate) fn refusal_of(error: SpecError) -> Refusal
+    ensures { refusal_value result ≡ synth_refusal error }
+{
+    Refusal {
+        status: spec_status(error),
+        line: name_spec(error),
+    }
+}
+
+/// What one piece more of a certificate came to.
+#[derive(Drop)]
+pub(crate) enum Next {
+    /// The search goes on.
+    On(Search),
+    /// The command has ended so.
+    End(Ended),
+}
+
+/// Searches the next size, and writes what it adds to the certificate.
+#[tactic(auto, using(crate::proofs::Writing::writing))]
+fn write_next<S: Solver, O: Sink>(alloc: Global, search: Search, out: &mut O) -> Next
+    ensures comes { (asked : SynthSettings) (bytes : List ℕ) (first : Side) → length bytes ≤ most_of_tables →
+        IsOut asked bytes first (side O.written O.faults out.old) search →
+        Comes asked bytes first (side O.written O.faults out.new) result }
+    ensures up { GoesUpTo search result }
+{
+    let Ok(piece) = go_on(alloc, search) else {
+        return Next::End(Ended::Starved);
+    };
+    match piece {
+        Piece::Section { search, text } => match write_all(out, &text) {
+            Ok(()) => Next::On(search),
+            Err(WriteFault::WriteFault) => Next::End(Ended::CutShort),
+        },
+        Piece::Ending { text, verdict } => match write_all(out, &text) {
+            Ok(()) => Next::End(Ended::Answered(verdict_status(verdict))),
+            Err(WriteFault::WriteFault) => Next::End(Ended::CutShort),
+        },
+    }
+}
+
+/// Writes the sections of a search and the ending, each as soon as it stands.
+#[tactic(auto, using(crate::proofs::Writing::writing))]
+fn write_sections<S: Solver, O: Sink>(alloc: Global, search: Search, out: &mut O) -> Ended
+    ensures { (asked : SynthSettings) (bytes : List ℕ) (first : Side) → length bytes ≤ most_of_tables →
+        IsOut asked bytes first (side O.written O.faults out.old) search →
+        GoesOut asked bytes result first (side O.written O.faults out.new) }
+{
+    let mut search = search;
+    loop {
+        match write_next::<S, O>(alloc, search, out) {
+            Next::On(next) => search = next,
+            Next::End(ended) => return ended,
+        }
+    }
+}
+
+/// Writes a certificate from its heading on.
+#[tactic(auto, using(crate::proofs::Writing::writing))]
+fn write_certificate<S: Solver, O: Sink>(
+    alloc: Global,
+    begun: Begun,
+    out: &mut O,
+) -> Ended
+    ensures { (asked : SynthSettings) (bytes : List ℕ) → length bytes ≤ most_of_tables →
+        IsUnderWay bytes asked begun.search begun.text.items →
+        GoesOut asked bytes result (side O.written O.faults out.old) (side O.written O.faults out.new) }
+{
+    if let Err(WriteFault::WriteFault) = write_all(out, &begun.text) {
+        return Ended::CutShort;
+    }
+    write_sections::<S, O>(alloc, begun.search, out)
+}
+
+/// Why there is no certificate.
+#[tactic(auto, using(crate::proofs::Synthesising::telling))]
+fn stop_of(error: SpecError) -> Stop
+    ensures { (asked : SynthSettings) (bytes : List ℕ) → length bytes ≤ most_of_tables →
+        Fails error (tables_alone (lines_of bytes)) → Judges (synth_task asked) bytes (Err result) }
+{
+    match error {
+        SpecError::Memory => Stop::NoMemory,
+        error => Stop::NoAnswer(refusal_of(error)),
+    }
+}
+
+/// A certificate of the fewest steps for tables, searched with the solver `S`.
+#[derive(Drop)]
+pub struct Synth<S> {
+    /// What the search is asked with.
+    pub settings: SynthSettings,
+    /// The solver.
+    pub solver: PhantomData<S>,
+}
+
+impl<S: Solver> Job for Synth<S> {
+    ghost task = { λ job. synth_task job.settings };
+
+    ghost ready = { λ job. IsInRange job.settings };
+
+    fn reads(&self) -> Option<usize> {
+        Some(MOST_BYTES_OF_TABLES)
+    }
+
+    #[tactic(auto, using(crate::proofs::Writing::answering))]
+    fn answer<O: Sink, N: Sink>(
+        &self,
+        alloc: Global,
+        bytes: &[u8],
+        out: &mut O,
+        note: &mut N,
+    ) -> Ended {
+        match begin(alloc, bytes, &self.settings) {
+            Ok(begun) => write_certificate::<S, O>(alloc, begun, out),
+            Err(error) => finish(Err(stop_of(error)), out, note),
+        }
+    }
+}

@@ -1,0 +1,25 @@
+//! What is asked: a heading that was checked.
+ghost use Rattle.std.specs.Prelude.{◌≡◌, ◌<◌, length};
+ghost use Rattle.cert_theory.specs.Bundle.{IsHeading};
+
+use bundle_core::Heading;
+
+/// A heading whose settings are in their ranges, and whose tables have an output at least: whether a chain of at most
+/// `heading.max` steps over its basis agrees with its tables.
+#[derive(Clone, Copy)]
+pub struct Question<'a> {
+    pub heading: &'a Heading,
+    ghost checked: { IsHeading heading.now },
+    ghost output: { 0 < length heading.now.spec.on },
+}
+
+impl<'a> Question<'a> {
+    /// The question of a heading.
+    pub fn new(heading: &'a Heading) -> Question<'a>
+        requires checked { IsHeading heading.now }
+        requires output { 0 < length heading.now.spec.on }
+        ensures { result.heading.now ≡ heading.now }
+    {
+        Question { heading }
+    }
+}

@@ -1,0 +1,54 @@
+//! Commands that find their reply before anything goes out, as jobs.
+ghost use Rattle.std.specs.Prelude.{◌≡◌};
+ghost use Rattle.frame_core.specs.Task.{Task, IsWithin};
+ghost use Rattle.frame_core.specs.Views.{Judges};
+
+use crate::performing::Job;
+use crate::replies::{Ended, Reply, Stop};
+use crate::sending::finish;
+use port_io::Sink;
+use std::alloc::Global;
+
+/// A command that finds its reply before anything goes out.
+pub trait Replier {
+    /// What it is to its caller.
+    ghost task: { Self → Task };
+
+    /// What has to hold of what it is asked with.
+    ghost ready: { Self → Type 0 };
+
+    /// The most bytes that it reads; None where it makes no call on its source.
+    fn reads(&self) -> Option<usize>
+        ensures { result ≡ (task self.now).reads };
+
+    /// The reply to bytes, no more than it reads, or why they have none.
+    fn reply(&self, alloc: Global, bytes: &[u8]) -> Result<Reply, Stop>
+        requires within { IsWithin (task self.now).reads bytes.now }
+        requires ready { ready self.now }
+        ensures { Judges (task self.now) bytes.now result };
+}
+
+/// The job of a command that finds its reply before anything goes out.
+#[derive(Drop)]
+pub struct AtOnce<R>(pub R);
+
+impl<R: Replier> Job for AtOnce<R> {
+    ghost task = { λ job. R.task job.0 };
+
+    ghost ready = { λ job. R.ready job.0 };
+
+    fn reads(&self) -> Option<usize> {
+        self.0.reads()
+    }
+
+    #[tactic(auto, using(crate::specs::PerformingLaws::answered))]
+    fn answer<O: Sink, N: Sink>(
+        &self,
+        alloc: Global,
+        bytes: &[u8],
+        out: &mut O,
+        note: &mut N,
+    ) -> Ended {
+        finish(self.0.reply(alloc, bytes), out, note)
+    }
+}

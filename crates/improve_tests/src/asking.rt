@@ -1,0 +1,96 @@
+//! How a netlist is improved: the settings, and what is to come of it.
+ghost use Rattle.improve_settings.specs.Improve.{IsInRange};
+ghost use Rattle.bench_core.specs.Bench.{bench_format};
+ghost use Rattle.improve_windows.specs.Improving.{FitsFormat};
+
+use cdcl_core::Cdcl;
+use improve_windows::{ImproveSettings, ImprovedText, NetError, improve_bench, improve_blif};
+use op_basis::Basis;
+use std::alloc::Global;
+
+/// The usual settings with this cap of windows, these rounds and this budget, and rows that nobody sees left out of
+/// account or not.
+fn settings(cap: u32, rounds: u32, conflicts: u32, observe: bool) -> ImproveSettings
+    ensures { IsInRange result }
+{
+    let usual = ImproveSettings::usual();
+    ImproveSettings {
+        basis: usual.basis,
+        method: usual.method,
+        cap: cap.min(8),
+        rounds: rounds.clamp(1, 1000),
+        conflicts: conflicts.clamp(1, 100_000),
+        observe,
+    }
+}
+
+/// The usual settings with all operators of gates in BENCH.
+fn gates_alone() -> ImproveSettings
+    ensures range { IsInRange result }
+    ensures fits { FitsFormat bench_format result }
+{
+    let usual = ImproveSettings::usual();
+    ImproveSettings {
+        basis: Basis::new(17_346),
+        method: usual.method,
+        cap: usual.cap,
+        rounds: usual.rounds,
+        conflicts: usual.conflicts,
+        observe: usual.observe,
+    }
+}
+
+/// How a netlist is improved.
+#[derive(Clone, Copy)]
+pub enum Asked {
+    /// As BLIF: the cap of windows, the rounds, the budget, and whether rows that nobody sees are left out of account.
+    Blif(u32, u32, u32, bool),
+    /// As BENCH, with the usual settings.
+    Bench,
+}
+
+/// An improved netlist, or why it is refused.
+fn answered(alloc: Global, bytes: &[u8], asked: Asked) -> Option<Result<ImprovedText, NetError>> {
+    if bytes.len() > 100_000 {
+        return None;
+    }
+    match asked {
+        Asked::Blif(cap, rounds, conflicts, observe) => {
+            let settings = settings(cap, rounds, conflicts, observe);
+            Some(improve_blif::<Cdcl>(alloc, bytes, settings))
+        }
+        Asked::Bench => Some(improve_bench::<Cdcl>(alloc, bytes, gates_alone())),
+    }
+}
+
+/// An improved netlist, if it isn't refused.
+pub fn improved(alloc: Global, bytes: &[u8], asked: Asked) -> Option<ImprovedText> {
+    match answered(alloc, bytes, asked) {
+        Some(Ok(improved)) => Some(improved),
+        Some(Err(_)) => None,
+        None => None,
+    }
+}
+
+/// Why a netlist is refused, if it is.
+pub fn refused(alloc: Global, bytes: &[u8], asked: Asked) -> Option<NetError> {
+    match answered(alloc, bytes, asked) {
+        Some(Ok(_)) => None,
+        Some(Err(error)) => Some(error),
+        None => None,
+    }
+}
+
+/// Whether a text with its report after it is what is wanted.
+fn are_together(text: &[u8], report: &[u8], wanted: &[u8]) -> bool {
+    let long = text.len().checked_add(report.len()) == Some(wanted.len());
+    long && wanted.starts_with(text) && wanted.ends_with(report)
+}
+
+/// Whether a netlist is improved to what is wanted, with the report after it.
+pub fn is_improved(alloc: Global, bytes: &[u8], asked: Asked, wanted: &[u8]) -> bool {
+    match improved(alloc, bytes, asked) {
+        Some(improved) => are_together(&improved.text, &improved.report, wanted),
+        None => false,
+    }
+}

@@ -1,0 +1,96 @@
+//! Netlists of which nothing but dead gates is dropped, and the refusals of whole documents.
+
+use crate::asking::{Asked, is_improved, refused};
+use improve_windows::NetError;
+use std::alloc::Global;
+
+/// As BLIF, without windows.
+const IDLE: Asked = Asked::Blif(0, 1000, 100_000, false);
+
+/// The word of a document's fault, and the name.
+fn named(error: &NetError) -> (&'static str, &[u8]) {
+    match error {
+        NetError::DrivenTwice(told) => ("DrivenTwice", told.get()),
+        NetError::Undriven(told) => ("Undriven", told.get()),
+        NetError::Cycle(told) => ("Cycle", told.get()),
+        NetError::NotSupported(_, told) => ("NotSupported", told.get()),
+        _ => ("another", b""),
+    }
+}
+
+/// Whether a netlist is refused by this word and this name.
+fn is_refused(alloc: Global, bytes: &[u8], word: &str, name: &[u8]) -> bool {
+    match refused(alloc, bytes, IDLE) {
+        None => false,
+        Some(error) => {
+            let (told, at) = named(&error);
+            let same = told == word && at == name;
+            drop(error);
+            same
+        }
+    }
+}
+
+/// Netlists, and what is left of them with the report after it.
+const IMPROVED: &[(&[u8], &[u8])] = &[
+    // each cover of two rows is one gate
+    (
+        b".model x\n.inputs a b\n.outputs y\n.names a b p\n10 1\n.names a b q\n01 1\n.names p q y\n1- 1\n-1 1\n.end\n",
+        b".model x\n.inputs a b\n.outputs y\n.names a b g1\n10 1\n.names a b g2\n01 1\n.names g1 g2 y\n01 1\n10 1\n11 1\n.end\ngates 3 -> 3\nsettled\n",
+    ),
+    // gates that nothing reads go
+    (
+        b".model x\n.inputs a b\n.outputs p\n.names a b p\n10 1\n.names a b q\n01 1\n.names p q y\n1- 1\n-1 1\n.end\n",
+        b".model x\n.inputs a b\n.outputs p\n.names a b p\n10 1\n.end\ngates 3 -> 1\nsettled\n",
+    ),
+    // a line that goes on, an output that is an input, an off-set cover, two outputs on one gate
+    (
+        b".model m\n.inputs a b \\\nclk\n.outputs a y z\n.latch d q re clk 2\n.names a b w\n00 0\n.names w q d\n11 1\n.names d y\n1 1\n.names d z\n1 1\n.end\n",
+        b".model m\n.inputs a b clk\n.outputs a y z\n.latch y q re clk 2\n.names a b g1\n01 1\n10 1\n11 1\n.names g1 q y\n11 1\n.names y z\n1 1\n.end\ngates 2 -> 2\nsettled\n",
+    ),
+    // a table that is constant by its form
+    (
+        b".model t\n.inputs a b c\n.outputs y\n.names a b c y\n--- 1\n.end\n",
+        b".model t\n.inputs a b c\n.outputs y\n.names y\n1\n.end\ngates 0 -> 0\nsettled\n",
+    ),
+    // a loop through a latch is none, and stays byte for byte
+    (
+        b".model c\n.inputs a\n.outputs n1\n.latch n1 n2 0\n.names a n2 n1\n11 1\n.end\n",
+        b".model c\n.inputs a\n.outputs n1\n.latch n1 n2 0\n.names a n2 n1\n11 1\n.end\ngates 1 -> 1\nsettled\n",
+    ),
+    // constants that latches need
+    (
+        b".inputs\n.outputs\n.latch k q\n.latch l r\n.names k\n1\n.names l\n.end\n",
+        b".model top\n.inputs\n.outputs\n.latch g2 q\n.latch g1 r\n.names g1\n.names g2\n1\n.end\ngates 0 -> 0\nsettled\n",
+    ),
+];
+
+#[test]
+fn netlists_keep_what_their_sinks_read(rt: HostRuntime) {
+    for &(text, wanted) in IMPROVED {
+        assert!(rt; is_improved(rt.alloc(), text, IDLE, wanted));
+    }
+}
+
+/// Documents that are refused, by which word and which name.
+const REFUSED: &[(&[u8], &str, &[u8])] = &[
+    (
+        b".model c\n.inputs a\n.outputs n1\n.names a n2 n1\n11 1\n.names n1 n2\n1 1\n.end\n",
+        "Cycle",
+        b"n1",
+    ),
+    (b".model u\n.inputs a\n.outputs y\n.end\n", "Undriven", b"y"),
+    (
+        b".model u\n.inputs a a\n.outputs a\n.end\n",
+        "DrivenTwice",
+        b"a",
+    ),
+    (b".model u\n.subckt x\n.end\n", "NotSupported", b".subckt"),
+];
+
+#[test]
+fn documents_are_refused(rt: HostRuntime) {
+    for &(text, word, name) in REFUSED {
+        assert!(rt; is_refused(rt.alloc(), text, word, name), "{word}");
+    }
+}
