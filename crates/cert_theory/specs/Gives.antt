@@ -26,6 +26,11 @@ abbrev pub PartFails : {Y : Type 0} → PartError → Result Y PartError → Typ
 PartFails part_errors.Memory read = Unit {0}
 PartFails e read = read ≡ Err e
 
+-- what was read of a part, with its fault as one of the whole
+abbrev pub with_fault : {A E : Type 0} → (PartError → E) → Result A PartError → Result A E
+with_fault fault (Ok x) = Ok x
+with_fault fault (Err e) = Err (fault e)
+
 abbrev pub GivesPart : {X Y : Type 0} → (X → Y) → Result X PartError → Result Y PartError → Type 0
 GivesPart view (Ok x) read = read ≡ Ok (view x)
 GivesPart view (Err e) read = PartFails e read

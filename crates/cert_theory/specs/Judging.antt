@@ -37,7 +37,7 @@ use Rattle.cert_theory.specs.declared.data.BundleError.TheVariants.{Syntax, Size
 use Rattle.cert_theory.specs.declared.data.PartError.{PartError}
 use Rattle.cert_theory.specs.declared.data.PartError.TheVariants as part_errors
 use Rattle.cert_theory.specs.Coding.{is_titled}
-use Rattle.cert_theory.specs.Gives.{◌>>=◌}
+use Rattle.cert_theory.specs.Gives.{◌>>=◌, with_fault}
 use Rattle.cert_theory.specs.PartLines.{is_line, title_in, ended_in, part_in}
 use Rattle.cert_theory.specs.Bundle.{parts_of, formula_of, found, not_found}
 use Rattle.cert_theory.specs.Difference.{difference_of}
@@ -108,28 +108,32 @@ fault_at number part_errors.Memory = Memory
 
 -- what was read of a part, or the fault at this line
 abbrev pub at_line : {A : Type 0} → ℕ → Result A PartError → Result A BundleError
-at_line number (Ok x) = Ok x
-at_line number (Err e) = Err (fault_at number e)
+at_line number read = with_fault (fault_at number) read
 
 -- ---- verdicts, as they are written
 
 abbrev pub number_behind : List ℕ → Line → Option ℕ
 number_behind word l = option_and_then block.number_in (value_of word l)
 
-abbrev pub both : Option ℕ → Option ℕ → Option Verdict
-both (Some low) (Some r) = Some (verdicts.Bounded low r)
-both low r = None
+-- a verdict of two numbers
+abbrev pub both : {V : Type 0} → (ℕ → ℕ → V) → Option ℕ → Option ℕ → Option V
+both bounded (Some low) (Some r) = Some (bounded low r)
+both bounded low r = None
 
-abbrev pub bounded_in : List (List ℕ) → Option Verdict
-bounded_in (low ∷ r ∷ []) = both (block.number_in low) (block.number_in r)
-bounded_in items = None
+abbrev pub bounded_in : {V : Type 0} → (ℕ → ℕ → V) → List (List ℕ) → Option V
+bounded_in bounded (low ∷ r ∷ []) = both bounded (block.number_in low) (block.number_in r)
+bounded_in bounded items = None
+
+-- a verdict of one number after the first word, or of two after the second
+abbrev pub numbered_in : {V : Type 0} → (ℕ → V) → (ℕ → ℕ → V) → List ℕ → List ℕ → Line → Option V
+numbered_in one bounded first second l =
+    if begins first l
+    then option_map one (number_behind first l)
+    else option_and_then (λ pair. bounded_in bounded (items_of pair)) (value_of second l)
 
 -- the verdict of a line, where a chain stands before it
 unfoldable pub found_in : Line → Option Verdict
-found_in l =
-    if begins (codes "minimum ") l
-    then option_map (λ r. verdicts.Minimum r) (number_behind (codes "minimum ") l)
-    else option_and_then (λ pair. bounded_in (items_of pair)) (value_of (codes "bounded ") l)
+found_in l = numbered_in (λ r. verdicts.Minimum r) (λ low r. verdicts.Bounded low r) (codes "minimum ") (codes "bounded ") l
 
 -- the verdict of a line, where none does
 unfoldable pub not_found_in : Line → Option Verdict

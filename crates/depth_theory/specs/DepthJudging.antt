@@ -1,14 +1,11 @@
 -- What lines say as a depth bundle, and the first fault where they aren't one. Lines are judged from the top; what
 -- the lines of one part say is that of bundles. Each function is given the number that the first of its lines has
 -- in the whole text.
-use Rattle.std.specs.Prelude.{◌≡◌, ℕ, ◌+◌, Bool, false, ◌&&◌, ◌||◌, ◌==◌, if◌then◌else◌, List, [], ◌∷◌, ◌++◌, length, codes, Option, Some, None, is_some, Result, Ok, Err, option_and_then}
-use Rattle.std.specs.Option.{option_map}
+use Rattle.std.specs.Prelude.{◌≡◌, ℕ, ◌+◌, Bool, false, ◌&&◌, ◌||◌, ◌==◌, if◌then◌else◌, List, [], ◌∷◌, ◌++◌, length, codes, Option, Some, None, is_some, Result, Ok, Err}
 use Rattle.chain_theory.specs.Chain.{Chain}
 use Rattle.chain_theory.specs.Levels.{depth}
 use Rattle.text_core.specs.Lines.{Line}
-use Rattle.text_core.specs.Items.{items_of}
 use Rattle.sat_theory.specs.Line as theory
-use Rattle.chain_core.specs.Block.{number_in}
 use Rattle.enc_theory.specs.declared.part.Part.TheVariants.{Levels}
 use Rattle.settings.specs.declared.methods.Method.{Method}
 use Rattle.settings.specs.declared.methods.Method.TheVariants as methods
@@ -19,11 +16,11 @@ use Rattle.cert_theory.specs.declared.data.Verdict.TheVariants.{Minimum}
 use Rattle.cert_theory.specs.declared.data.BundleError.{BundleError}
 use Rattle.cert_theory.specs.declared.data.PartError.{PartError}
 use Rattle.cert_theory.specs.declared.data.PartError.TheVariants as part_errors
-use Rattle.cert_theory.specs.Gives.{◌>>=◌}
+use Rattle.cert_theory.specs.Gives.{◌>>=◌, with_fault}
 use Rattle.cert_theory.specs.Bundle.{Bundle, formula_of, IsValid, HasOutput}
 use Rattle.cert_theory.specs.Spelling.{end_text, bundle_lines}
 use Rattle.cert_theory.specs.PartLines.{is_line, title_in, ended_in, part_in}
-use Rattle.cert_theory.specs.Judging.{begins, value_of, number_behind, is_title, low_with, bundle_of}
+use Rattle.cert_theory.specs.Judging.{number_behind, numbered_in, is_title, low_with, bundle_of}
 use Rattle.depth_theory.specs.declared.data.DepthVerdict.{DepthVerdict}
 use Rattle.depth_theory.specs.declared.data.DepthVerdict.TheVariants as verdicts
 use Rattle.depth_theory.specs.declared.data.DepthError.{DepthError}
@@ -53,25 +50,13 @@ fault_at number part_errors.Memory = Memory
 
 -- what was read of a part, or the fault at this line
 abbrev pub at_line : {A : Type 0} → ℕ → Result A PartError → Result A DepthError
-at_line number (Ok x) = Ok x
-at_line number (Err e) = Err (fault_at number e)
+at_line number read = with_fault (fault_at number) read
 
 -- ---- verdicts, as they are written
 
-abbrev pub both : Option ℕ → Option ℕ → Option DepthVerdict
-both (Some low) (Some d) = Some (verdicts.Bounded low d)
-both low d = None
-
-abbrev pub bounded_in : List (List ℕ) → Option DepthVerdict
-bounded_in (low ∷ d ∷ []) = both (number_in low) (number_in d)
-bounded_in items = None
-
 -- the verdict of a line
 unfoldable pub levels_in : Line → Option DepthVerdict
-levels_in l =
-    if begins (codes "levels ") l
-    then option_map (λ d. verdicts.Levels d) (number_behind (codes "levels ") l)
-    else option_and_then (λ pair. bounded_in (items_of pair)) (value_of (codes "levels-bounded ") l)
+levels_in l = numbered_in (λ d. verdicts.Levels d) (λ low d. verdicts.Bounded low d) (codes "levels ") (codes "levels-bounded ") l
 
 abbrev pub is_same : DepthVerdict → DepthVerdict → Bool
 is_same (verdicts.Levels d) (verdicts.Levels e) = d == e

@@ -17,9 +17,7 @@
 //! computed here, for the search and the judge alike (`depth_of`).
 #![tactic(auto)]
 
-mod chain_depth;
 mod data;
 pub mod laws;
 
-pub use chain_depth::depth_of;
 pub use data::{DepthError, DepthVerdict};
