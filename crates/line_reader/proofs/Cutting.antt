@@ -15,10 +15,10 @@ Standing S = S → ℕ → List Line → List Line → Type 0
 
 -- ---- readers
 
-pub stands_new : {S : Type 0} (stands : Standing S) (stage : S) (unfinished : List ℕ) → unfinished ≡ [] → ((all : List Line) → stands stage 1 all all) → StandsFor stands (record { stage = stage; number = 1; unfinished = unfinished; fed = 0 }) []
+pub stands_new : {S : Type 0} (stands : Standing S) (stage : S) (unfinished : List ℕ) → unfinished ≡ [] → ((text : List ℕ) → stands stage 1 (lines_of text) (lines_of text)) → StandsFor stands (record { stage = stage; number = 1; unfinished = unfinished; fed = 0 }) []
 stands_new {S} stands stage unfinished none begins =
     subst (λ (xs : List ℕ). StandsFor stands (record { stage = stage; number = 1; unfinished = xs; fed = 0 }) []) (sym none)
-    (record { fed_is = refl; cut = cut_none; stands = λ rest. begins (lines_of rest) })
+    (record { fed_is = refl; cut = cut_none; stands = begins })
 
 -- a text without an LF joins the unfinished line
 part_stands : {S : Type 0} (stands : Standing S) (stage : S) (number fed : ℕ) (unfinished before text : List ℕ) → HasNoEnd text → StandsFor stands (record { stage = stage; number = number; unfinished = unfinished; fed = fed }) before → StandsFor stands (record { stage = stage; number = number; unfinished = unfinished ++ text; fed = fed + length text }) (before ++ text)

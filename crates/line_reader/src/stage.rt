@@ -1,6 +1,6 @@
 //! What takes the lines of a text, one after the other.
 ghost use Rattle.std.specs.Prelude.{◌≡◌, ℕ, ◌+◌, ◌^◌, ◌<◌, ◌≤◌, List, [], ◌∷◌, length, Result, Err, IfOk};
-ghost use Rattle.text_core.specs.Lines.{Line, line_bytes};
+ghost use Rattle.text_core.specs.Lines.{Line, lines_of, line_bytes};
 ghost use Rattle.line_reader.specs.TextLines.{line_of};
 ghost use Rattle.line_reader.specs.Cuts.{HasNoEnd, IsPlace};
 ghost use Rattle.line_reader.specs.Reader.{Judged};
@@ -38,7 +38,7 @@ pub trait LineStage: Drop + Sized {
     fn start(alloc: Global) -> Self
         ensures whole { whole result 1 }
         ensures held { held result ≡ 0 }
-        ensures stands { (all : List Line) → stands result 1 all all };
+        ensures stands { (text : List ℕ) → stands result 1 (lines_of text) (lines_of text) };
 
     /// Takes the next line. A refusal is that of every text that goes on so.
     fn take(self, alloc: Global, line: &TextLine) -> Result<Self, Self::Fault>
