@@ -31,6 +31,7 @@ mod lines;
 mod outside;
 mod reading;
 mod step;
+mod step_levels;
 mod values;
 mod writing;
 
@@ -45,5 +46,6 @@ pub use op_basis::{Basis, Op};
 pub use outside::first_outside;
 pub use reading::{add_step, read_chain};
 pub use step::Step;
+pub use step_levels::{depth_of, levels};
 pub use values::{out_value, value};
 pub use writing::write_chain;
