@@ -7,6 +7,7 @@ ghost use Rattle.chain_core.specs.Steps.{steps_of};
 ghost use Rattle.text_core.specs.Items.{items_of};
 ghost use Rattle.cert_theory.specs.Gives.{Gives};
 ghost use Rattle.cert_theory.specs.Coding.{is_titled};
+ghost use Rattle.cert_theory.specs.declared.data.Verdict.TheVariants as verdicts;
 ghost use Rattle.cert_theory.specs.Judging as judging;
 ghost use Rattle.cert_file.specs.Asking.{heading_in};
 ghost use Rattle.cert_file.specs.Refusals.{IsRefusal};
@@ -211,7 +212,7 @@ fn is_same(verdict: Verdict, due: Verdict) -> bool
 
 /// The two numbers of a bounded verdict.
 fn bounded_in(text: &[u8]) -> Option<Verdict>
-    ensures { result ≡ judging.bounded_in (items_of text.now) }
+    ensures { result ≡ judging.bounded_in (λ low r. verdicts.Bounded low r) (items_of text.now) }
 {
     let (low, Some(rest)) = next_item(text) else {
         return None;
