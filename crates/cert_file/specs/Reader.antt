@@ -34,7 +34,7 @@ HasNoEnd text = is_free 10 text ≡ true
 abbrev pub with_end : List ℕ → List ℕ
 with_end text = text ++ 10 ∷ []
 
--- A text is that of some lines, each with its LF, and of an unfinished one behind them, which would be the
+-- A text is that of some lines, each with its LF, and of an unfinished one after them, which would be the
 -- line of this number.
 pub record IsCut (text : List ℕ) (number : ℕ) (unfinished : List ℕ) : Type 0 where
   pub lines : List (List ℕ)
@@ -43,15 +43,15 @@ pub record IsCut (text : List ℕ) (number : ℕ) (unfinished : List ℕ) : Type
   pub text_is : text ≡ flat_map with_end lines ++ unfinished
   pub number_is : number ≡ length lines + 1
 
--- A reader stands for a text: it was fed so many bytes, it keeps the unfinished line, and whatever comes
--- behind the text, the whole has the answer for which the stage stands, and the heading and the chain that it keeps.
+-- A reader stands for a text: it was fed `fed` bytes, it keeps the unfinished line, and whatever comes
+-- after the text, the whole has the answer for which the stage stands, and the heading and the chain that it keeps.
 pub record StandsFor (r : Reader) (text : List ℕ) : Type 0 where
   pub fed_is : r.fed ≡ length text
   pub cut : IsCut text r.number r.unfinished
   pub stands : (rest : List ℕ) → Stands r.stage r.number (lines_from r.unfinished rest) (bundle_of (lines_of (text ++ rest)))
   pub tells : (rest : List ℕ) → Tells r.stage r.number (lines_from r.unfinished rest) (lines_of (text ++ rest))
 
--- Whatever comes behind the text, the whole is refused so.
+-- Whatever comes after the text, the whole is refused so.
 abbrev pub IsRefused : BundleError → List ℕ → Type 0
 IsRefused e text = (rest : List ℕ) → Fails e (bundle_of (lines_of (text ++ rest)))
 

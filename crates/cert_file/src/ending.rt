@@ -7,6 +7,7 @@ ghost use Rattle.chain_core.specs.Steps.{steps_of};
 ghost use Rattle.text_core.specs.Items.{items_of};
 ghost use Rattle.cert_theory.specs.Gives.{Gives};
 ghost use Rattle.cert_theory.specs.Coding.{is_titled};
+ghost use Rattle.cert_theory.specs.declared.data.Verdict.TheVariants as verdicts;
 ghost use Rattle.cert_theory.specs.Judging as judging;
 ghost use Rattle.cert_file.specs.Asking.{heading_in};
 ghost use Rattle.cert_file.specs.Refusals.{IsRefusal};
@@ -211,7 +212,7 @@ fn is_same(verdict: Verdict, due: Verdict) -> bool
 
 /// The two numbers of a bounded verdict.
 fn bounded_in(text: &[u8]) -> Option<Verdict>
-    ensures { result ≡ judging.bounded_in (items_of text.now) }
+    ensures { result ≡ judging.bounded_in (λ low r. verdicts.Bounded low r) (items_of text.now) }
 {
     let (low, Some(rest)) = next_item(text) else {
         return None;
@@ -249,7 +250,7 @@ pub(crate) fn not_found_in(line: &TextLine) -> Option<Verdict>
     Some(Verdict::Open { low })
 }
 
-/// The verdict behind a chain.
+/// The verdict after a chain.
 #[tactic(auto, unfolding(cert_theory::specs::Judging::behind_chain))]
 pub(crate) fn at_found(
     heading: Heading,
@@ -278,7 +279,7 @@ pub(crate) fn at_found(
     })
 }
 
-/// The verdict of a line where no chain stands. By fences a title behind a section, where no part is due
+/// The verdict of a line where no chain stands. By fences a title after a section, where no part is due
 /// any more, is a fault of its own.
 fn verdict_at(method: Method, size: u32, line: &TextLine) -> Result<Verdict, BundleError>
     ensures { Gives (λ v. v) result (judging.verdict_at (is_titled method && nat_lt 0 size) line.now.number (line_of line.now)) }

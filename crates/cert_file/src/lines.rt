@@ -51,7 +51,7 @@ pub fn begins(word: &[u8], line: &TextLine) -> bool
     after(word, line.text).is_some()
 }
 
-/// What stands behind a word, up to the LF.
+/// What stands after a word, up to the LF.
 pub fn value_of<'a>(word: &[u8], line: &TextLine<'a>) -> Option<&'a [u8]>
     ensures { option_copied result ≡ judging.value_of word.now (line_of line.now) }
 {
@@ -61,7 +61,7 @@ pub fn value_of<'a>(word: &[u8], line: &TextLine<'a>) -> Option<&'a [u8]>
     after(word, line.text)
 }
 
-/// The number behind a word.
+/// The number after a word.
 pub fn number_behind(word: &[u8], line: &TextLine) -> Option<u32>
     ensures { result ≡ judging.number_behind word.now (line_of line.now) }
 {

@@ -1,5 +1,5 @@
 //! A text that comes in pieces, wherever it is cut. A reader keeps the stage that its whole lines have come to,
-//! and the unfinished line behind them; so what is fed decides what it is, and not where the pieces end.
+//! and the unfinished line after them; so what is fed decides what it is, and not where the pieces end.
 ghost use Rattle.std.specs.Prelude.{◌≡◌, ◌+◌, ◌^◌, ◌<◌, ◌≤◌, List, ℕ, [], ◌∷◌, ◌++◌, true, length, Ok, IfOk};
 ghost use Rattle.text_core.specs.Lines.{Line, lines_of, last_line, line_bytes};
 ghost use Rattle.cert_theory.specs.Gives.{Gives};
@@ -49,7 +49,7 @@ fn take_text(alloc: Global, stage: Stage, number: u32, text: &[u8]) -> Result<St
     take(alloc, stage, &line)
 }
 
-/// Judges what no LF ends, where something stands there, and the end behind it.
+/// Judges what no LF ends, where something stands there, and the end after it.
 fn close(stage: Stage, number: u32, unfinished: &Vec<u8>) -> Result<Told, BundleError>
     requires stage { IsStage stage number }
     requires number { number + length unfinished.now.items ≤ 2 ^ 31 }
@@ -135,7 +135,7 @@ impl BundleReader {
         })
     }
 
-    /// Takes the end of a line, and the LF behind it. A line that stands in one piece isn't copied.
+    /// Takes the end of a line, and the LF after it. A line that stands in one piece isn't copied.
     fn end_line(self, text: &[u8]) -> Result<BundleReader, BundleError>
         requires whole { IsReader (seen self) }
         requires room { self.fed + length text.now + 1 < 2 ^ 31 }
@@ -176,7 +176,7 @@ impl BundleReader {
         })
     }
 
-    /// Judges the text, which ends here, and hands out what it tells, where it is the text of a valid bundle;
+    /// Judges the text, which ends here, and hands out what it states, where it is the text of a valid bundle;
     /// else its first fault.
     pub fn tell(self) -> Result<Told, BundleError>
         requires { IsReader (seen self) }

@@ -29,14 +29,14 @@ pub record IsReader (r : Reader) : Type 0 where
   pub held : fed_of r.stage + length r.unfinished ≤ r.fed
   pub fed : r.fed < 2 ^ 31
 
--- A reader stands for a text: it was fed so many bytes, it keeps the unfinished line, and whatever comes
--- behind the text, the whole has the answer for which the stage stands.
+-- A reader stands for a text: it was fed `fed` bytes, it keeps the unfinished line, and whatever comes
+-- after the text, the whole has the answer for which the stage stands.
 pub record StandsFor (r : Reader) (text : List ℕ) : Type 0 where
   pub fed_is : r.fed ≡ length text
   pub cut : IsCut text r.number r.unfinished
   pub stands : (rest : List ℕ) (answer : Answer) → IsAnswer (lines_of (text ++ rest)) answer → Stands r.stage r.number (lines_from r.unfinished rest) answer
 
--- Whatever comes behind the text, the whole is refused so.
+-- Whatever comes after the text, the whole is refused so.
 abbrev pub IsRefused : DepthError → List ℕ → Type 0
 IsRefused e text = (rest : List ℕ) → judging.Judged (Gives (λ (v : DepthVerdict). v) (Err e)) (lines_of (text ++ rest))
 

@@ -1,5 +1,5 @@
 //! A depth bundle that comes in pieces, wherever it is cut. A reader keeps the stage that its whole lines have come to,
-//! and the unfinished line behind them; so what is fed decides what it is, and not where the pieces end.
+//! and the unfinished line after them; so what is fed decides what it is, and not where the pieces end.
 ghost use Rattle.std.specs.Prelude.{◌≡◌, ◌+◌, ◌^◌, ◌<◌, ◌≤◌, List, ℕ, [], ◌∷◌, ◌++◌, true, length, Ok, IfOk};
 ghost use Rattle.text_core.specs.Lines.{Line, lines_of, last_line, line_bytes};
 ghost use Rattle.op_basis.specs.Basis.{members};
@@ -51,7 +51,7 @@ fn take_text(alloc: Global, stage: Stage, number: u32, text: &[u8]) -> Result<St
     take(alloc, stage, &line)
 }
 
-/// Judges what no LF ends, where something stands there, and the end behind it.
+/// Judges what no LF ends, where something stands there, and the end after it.
 fn close(stage: Stage, number: u32, unfinished: &Vec<u8>) -> Result<DepthVerdict, DepthError>
     requires stage { IsStage stage }
     requires number { number + length unfinished.now.items ≤ 2 ^ 31 }
@@ -138,7 +138,7 @@ impl DepthReader {
         })
     }
 
-    /// Takes the end of a line, and the LF behind it. A line that stands in one piece isn't copied.
+    /// Takes the end of a line, and the LF after it. A line that stands in one piece isn't copied.
     fn end_line(self, text: &[u8]) -> Result<DepthReader, DepthError>
         requires whole { IsReader (seen self) }
         requires room { self.fed + length text.now + 1 < 2 ^ 31 }
@@ -187,7 +187,7 @@ impl DepthReader {
         // What has a verdict is the text of a depth bundle that has it, and each such text has one.
         ensures verdict { (text : List ℕ) → StandsFor (seen self) text → IfOk result (λ v. HasDepth text v) }
         ensures accepted { (text : List ℕ) (b : DepthBundle) → StandsFor (seen self) text → IsDepthText text b → Gives (λ v. v) result (Ok b.verdict) }
-        // The verdict is true of the tables and the basis that the text tells.
+        // The verdict is true of the tables and the basis that the text states.
         ensures means { (text : List ℕ) → StandsFor (seen self) text → IfOk result (λ v. (b : DepthBundle) (is : IsDepthText text b) →
             Means (specification b.bundle.heading.spec) (members b.bundle.heading.basis) (length is.is_depth.chain.steps) v) }
     {

@@ -1,6 +1,6 @@
 -- Lines as they walk through the stages.
 use Rattle.text_core.specs.Lines.{Line}
-use Rattle.cert_file.specs.declared.lines.TextLine.{TextLine}
+use Rattle.line_reader.specs.declared.line.TextLine.{TextLine}
 
 -- the line, without its number
 abbrev pub line_of : TextLine → Line

@@ -7,8 +7,7 @@ use Rattle.std.proofs.lemmas.List.Elements.{All-push, recursion_from_All}
 use Rattle.text_core.specs.Lines.{Line, lines_from, lines_of, last_line, line_bytes}
 use Rattle.text_core.specs.Words.{is_free}
 use Rattle.text_core.specs.ReadBack.{lines_spell, free_both}
-use Rattle.cert_file.specs.Reader.{HasNoEnd, with_end, IsCut}
-use Rattle.cert_file.specs.Telling.{IsPlace}
+use Rattle.line_reader.specs.Cuts.{HasNoEnd, with_end, IsCut, IsPlace}
 
 -- ---- lines
 
