@@ -96,7 +96,7 @@ impl<S: Solver> Replier for Equiv<S> {
 
     #[tactic(auto, using(crate::proofs::Equating::telling))]
     fn reply(&self, alloc: Global, bytes: &[u8]) -> Result<Reply, Stop> {
-        match compare_texts(alloc, bytes, self.budget) {
+        match compare_texts::<S>(alloc, bytes, self.budget) {
             Ok(compared) => Ok(reply_of(compared)),
             Err(CompareError::Memory) => Err(Stop::NoMemory),
             Err(error) => Err(Stop::NoAnswer(refusal_of(error))),

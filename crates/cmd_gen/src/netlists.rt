@@ -60,7 +60,7 @@ fn improved<S: Solver>(alloc: Global, blocks: u32) -> Result<Reply, Stop>
     let Ok(text) = text_of(alloc, blocks) else {
         return Err(Stop::NoMemory);
     };
-    match improve_blif(alloc, &text, ImproveSettings::usual()) {
+    match improve_blif::<S>(alloc, &text, ImproveSettings::usual()) {
         Ok(improved) => Ok(improved_reply(improved)),
         Err(NetError::Memory) => Err(Stop::NoMemory),
         Err(_) => unreachable!(),

@@ -56,8 +56,8 @@ fn improve_text<S: Solver>(
     ensures refused { IfErr result (IsRefusedText (format_of format) bytes.now) }
 {
     match format {
-        Format::Blif => improve_blif(alloc, bytes, *settings),
-        Format::Bench => improve_bench(alloc, bytes, *settings),
+        Format::Blif => improve_blif::<S>(alloc, bytes, *settings),
+        Format::Bench => improve_bench::<S>(alloc, bytes, *settings),
     }
 }
 

@@ -58,7 +58,7 @@ impl<S: Solver> Replier for LeastDepth<S> {
 
     #[tactic(auto, using(crate::proofs::LeastDepths::telling))]
     fn reply(&self, alloc: Global, bytes: &[u8]) -> Result<Reply, Stop> {
-        match certify_depth(alloc, bytes, &self.settings) {
+        match certify_depth::<S>(alloc, bytes, &self.settings) {
             Ok(certificate) => Ok(reply_of(certificate)),
             Err(SpecError::Memory) => Err(Stop::NoMemory),
             Err(error) => Err(Stop::NoAnswer(refusal_of(error))),

@@ -59,7 +59,7 @@ fn write_next<S: Solver, O: Sink>(alloc: Global, search: Search, out: &mut O) ->
         Comes asked bytes first (side O.written O.faults out.new) result }
     ensures up { GoesUpTo search result }
 {
-    let Ok(piece) = go_on(alloc, search) else {
+    let Ok(piece) = go_on::<S>(alloc, search) else {
         return Next::End(Ended::Starved);
     };
     match piece {
