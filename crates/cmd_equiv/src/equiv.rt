@@ -1,9 +1,8 @@
 //! The command `equiv`: whether two netlists have the same outputs and next states.
-ghost use Rattle.std.specs.Prelude.{◌≡◌, ◌≤◌, ◌∷◌, length};
-ghost use Rattle.equiv_run.specs.Pairs.{most_of_two};
+ghost use Rattle.std.specs.Prelude.{◌≡◌, ◌∷◌};
 ghost use Rattle.command_line.specs.CommandLine.{IsBudget};
 ghost use Rattle.frame_core.specs.Told.{Word, plain};
-ghost use Rattle.frame_core.specs.Views.{reply_value, refusal_value, Judges};
+ghost use Rattle.frame_core.specs.Views.{reply_value, refusal_value};
 ghost use Rattle.cmd_lines.specs.NetLines.{net_status as net_status_of, named_net};
 ghost use Rattle.cmd_equiv.specs.EquivReport.{standing_status as standing_status_of, equiv_reply, equiv_refusal, equiv_task};
 
