@@ -1,6 +1,0 @@
--- How many clauses a search may be asked to learn before it leaves a formula open: so few that all ids have
--- room in 32 bits.
-use Rattle.std.specs.Prelude.{ℕ}
-
-abbrev pub most_budget : ℕ
-most_budget = 10000000
