@@ -11,7 +11,7 @@ use Rattle.sat_theory.specs.Formula.{Formula, IsClause, IsWithin}
 use Rattle.sat_theory.specs.Line.{Line, Add, Delete, IsAdding}
 use Rattle.sat_theory.specs.State.{State, start, next, is_listed}
 use Rattle.sat_theory.specs.Holding.{among}
-use Rattle.sat_theory.specs.Log.{after, EachLine, IsStep, IsFresh, IsNew, AddsEmpty, added_ids, additions, live_additions, IsSpent, IsThrifty, DeletesNothing}
+use Rattle.sat_theory.specs.Log.{after, EachLine, IsStep, IsFresh, IsNew, AddsEmpty, added_ids, additions, live_additions, IsSpent, IsKept, DeletesNothing}
 use Rattle.sat_theory.specs.Pigeonholes.{different_below}
 use Rattle.sat_theory.specs.Ternary.{code, code_low, inside, some_code}
 
@@ -260,10 +260,10 @@ all_live f lines steps adding =
     omega arith
 
 -- A budget that a log of half live additions has spent is small,
-pub budget_kept : (f : Formula) (lines : List Line) (budget : ℕ) → IsSpent f lines budget → IsThrifty f lines → budget < 2 * 3 ^ f.vars
-budget_kept f lines budget spent thrifty =
+pub budget_kept : (f : Formula) (lines : List Line) (budget : ℕ) → IsSpent f lines budget → IsKept f lines → budget < 2 * 3 ^ f.vars
+budget_kept f lines budget spent is_kept =
     let few : live_additions (after (start f) lines) lines < 3 ^ f.vars = few_live f lines spent.holds spent.fresh (adds_some lines (λ there. spent.open_yet (inr there))) in
-    let kept : additions lines ≤ 2 * live_additions (after (start f) lines) lines = thrifty.kept spent.open_yet in
+    let kept : additions lines ≤ 2 * live_additions (after (start f) lines) lines = is_kept in
     let enough : budget ≤ additions lines = spent.enough in
     omega arith
 

@@ -61,15 +61,15 @@ additions lines = length (added_ids lines)
 abbrev pub live_additions : State → List Line → ℕ
 live_additions s lines = count_by (λ id. is_some (s.live id)) (added_ids lines)
 
--- A log has spent a budget on a formula where it holds, doesn't reach the empty clause, and has at
--- least so many additions, each of a new clause.
+-- A log has spent a budget on a formula where it holds, doesn't reach the empty clause, and has at least `budget`
+-- additions, each of a new clause.
 pub record IsSpent (f : Formula) (lines : List Line) (budget : ℕ) : Type 0 where
   pub holds : LogHolds f lines
   pub open_yet : HasEmpty f lines → ⊥
   pub enough : budget ≤ additions lines
   pub fresh : EachLine IsFresh (start f) lines
 
--- At the end of the log at least half of its additions are live.
+-- A log is kept where at its end at least half of its additions are live.
 abbrev pub IsKept : Formula → List Line → Type 0
 IsKept f lines = additions lines ≤ 2 * live_additions (after (start f) lines) lines
 
@@ -87,7 +87,3 @@ pub record IsThinned (f : Formula) (lines : List Line) : Type 0 where
 -- the log deletes nothing
 abbrev pub DeletesNothing : List Line → Type 0
 DeletesNothing lines = All IsAdding lines
-
--- What a log owes besides what it shows: where it leaves the formula open, it keeps half of its additions.
-pub record IsThrifty (f : Formula) (lines : List Line) : Type 0 where
-  pub kept : (HasEmpty f lines → ⊥) → IsKept f lines

@@ -40,5 +40,5 @@ returns-in_ok-log_of-in-Spent-clause-thinned c = λ f logged.
 pub returns-in_ok-log_of-in-Spent-clause-decides : goal.returns-in_ok-log_of-in-Spent-clause-decides
 returns-in_ok-log_of-in-Spent-clause-decides c = λ f logged none enough.
     let spent : IsSpent f c.in_ok-log_of-in-Spent.field-0 c.args.budget = returns-in_ok-log_of-in-Spent-clause-open c f logged none in
-    let few : c.args.budget < 2 * 3 ^ f.vars = budget_kept f c.in_ok-log_of-in-Spent.field-0 c.args.budget spent (record { kept = λ open_yet. returns-in_ok-log_of-in-Spent-clause-kept c f logged }) in
+    let few : c.args.budget < 2 * 3 ^ f.vars = budget_kept f c.in_ok-log_of-in-Spent.field-0 c.args.budget spent (returns-in_ok-log_of-in-Spent-clause-kept c f logged) in
     omega (arith, few, enough)
