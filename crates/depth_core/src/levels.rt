@@ -12,7 +12,6 @@ use bundle_core::{Ended, Heading, PartLog};
 use chain_core::Chain;
 use enc_fence::FenceEnc;
 use enc_theory::Part;
-use fence_core::Fence;
 use sat_solve::Solver;
 use size_loop::{PartOutcome, try_part};
 use std::alloc::{AllocError, Global};
@@ -43,7 +42,7 @@ fn copied(alloc: Global, part: &Part) -> Result<Part, AllocError>
     match part {
         Part::Levels(fence) => {
             let levels = Vec::from_slice(alloc, fence.levels())?;
-            Ok(Part::Levels(Fence::new(levels)))
+            Ok(Part::Levels(fence_core::Fence::new(levels)))
         }
         Part::Whole => Ok(Part::Whole),
     }
