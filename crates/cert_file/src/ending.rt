@@ -7,12 +7,14 @@ ghost use Rattle.chain_core.specs.Steps.{steps_of};
 ghost use Rattle.text_core.specs.Items.{items_of};
 ghost use Rattle.cert_theory.specs.Gives.{Gives};
 ghost use Rattle.cert_theory.specs.Coding.{is_titled};
+ghost use Rattle.cert_theory.specs.declared.data.Verdict.TheVariants as verdicts;
 ghost use Rattle.cert_theory.specs.Judging as judging;
 ghost use Rattle.cert_file.specs.Asking.{heading_in};
 ghost use Rattle.cert_file.specs.Refusals.{IsRefusal};
-ghost use Rattle.cert_file.specs.TextLines.{line_of};
+ghost use Rattle.line_reader.specs.TextLines.{line_of};
+ghost use Rattle.line_reader.specs.Cuts.{IsPlace};
 ghost use Rattle.cert_file.specs.Stages.{Answer, Judged, IsStage, IsKnown, AreRead, AreNamed, outs_then, steps_then};
-ghost use Rattle.cert_file.specs.Telling.{IsPlace, IsBlock, IsHeld, HasEnded, Tells};
+ghost use Rattle.cert_file.specs.Telling.{IsBlock, IsHeld, HasEnded, Tells};
 
 use crate::lines::{GREATEST, TextLine, begins, is_line, number_behind, value_of};
 use crate::stage::Stage;
@@ -211,7 +213,7 @@ fn is_same(verdict: Verdict, due: Verdict) -> bool
 
 /// The two numbers of a bounded verdict.
 fn bounded_in(text: &[u8]) -> Option<Verdict>
-    ensures { result ≡ judging.bounded_in (items_of text.now) }
+    ensures { result ≡ judging.bounded_in (λ low r. verdicts.Bounded low r) (items_of text.now) }
 {
     let (low, Some(rest)) = next_item(text) else {
         return None;
