@@ -251,7 +251,7 @@ pub(crate) fn not_found_in(line: &TextLine) -> Option<Verdict>
     Some(Verdict::Open { low })
 }
 
-/// The verdict behind a chain.
+/// The verdict after a chain.
 #[tactic(auto, unfolding(cert_theory::specs::Judging::behind_chain))]
 pub(crate) fn at_found(
     heading: Heading,
@@ -280,7 +280,7 @@ pub(crate) fn at_found(
     })
 }
 
-/// The verdict of a line where no chain stands. By fences a title behind a section, where no part is due
+/// The verdict of a line where no chain stands. By fences a title after a section, where no part is due
 /// any more, is a fault of its own.
 fn verdict_at(method: Method, size: u32, line: &TextLine) -> Result<Verdict, BundleError>
     ensures { Gives (λ v. v) result (judging.verdict_at (is_titled method && nat_lt 0 size) line.now.number (line_of line.now)) }

@@ -13,9 +13,8 @@ ghost use Rattle.cert_file.specs.Telling.{Tells};
 use crate::lines::{TextLine, is_line, value_of};
 use crate::stage::Stage;
 use cert_theory::{BundleError, Heading};
-use settings::Method;
 use op_basis::{Basis, read_basis, write_basis};
-use settings::{MOST_CONFLICTS, MOST_STEPS, method_named};
+use settings::{MOST_CONFLICTS, MOST_STEPS, Method, method_named};
 use std::alloc::{AllocError, Global};
 use text_core::{begins_lower, number_up_to};
 use tt_core::{Spec, are_cells, inputs, push_row};
@@ -75,7 +74,7 @@ pub fn basis_in(alloc: Global, line: &TextLine) -> Result<Option<Basis>, AllocEr
     Ok(Some(basis))
 }
 
-/// The line behind the tables, which is that of the basis.
+/// The line after the tables, which is that of the basis.
 #[tactic(auto, unfolding(cert_theory::specs::Judging::with_tables, cert_theory::specs::Judging::behind_tables, crate::specs::Asking::heading_by, crate::specs::Asking::with_basis))]
 fn at_basis(
     alloc: Global,
@@ -102,7 +101,7 @@ fn at_basis(
     })
 }
 
-/// A table, or the line behind the tables.
+/// A table, or the line after the tables.
 #[tactic(auto, unfolding(cert_theory::specs::Judging::with_tables, tt_core::specs::Tables::rows_of, crate::specs::Asking::heading_by))]
 pub(crate) fn at_tables(
     alloc: Global,

@@ -77,7 +77,7 @@ pub(crate) fn take(alloc: Global, stage: Stage, line: &TextLine) -> Result<Stage
     }
 }
 
-/// What the text tells, where nothing is due.
+/// What the text states, where nothing is due.
 fn told_in(stage: Stage) -> Option<Told>
     ensures { result ≡ stages.told_in stage }
 {

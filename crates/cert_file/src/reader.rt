@@ -69,7 +69,7 @@ impl BundleReader {
         }
     }
 
-    /// Judges the text, which ends here, and hands out what it tells, where it is the text of a valid bundle;
+    /// Judges the text, which ends here, and hands out what it states, where it is the text of a valid bundle;
     /// else its first fault.
     pub fn tell(self) -> Result<Told, BundleError>
         requires { IsReader (seen self) }

@@ -32,7 +32,7 @@ fn size_at(heading: &Heading, size: u32, line: &TextLine) -> Result<(), BundleEr
     Ok(())
 }
 
-/// What comes behind the line of a size, or behind a part: the next part, or the next size.
+/// What comes after the line of a size, or after a part: the next part, or the next size.
 pub(crate) fn due(running: Running) -> Stage
     requires known { IsKnown running.heading }
     requires size { running.size ≤ running.heading.max }

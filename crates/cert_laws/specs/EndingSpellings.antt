@@ -200,13 +200,13 @@ le_is a b e = grind (arith, nat_tests)
 unit_ok : (r : Result (Unit {0}) BundleError) (x : Unit {0}) → r ≡ Ok x → r ≡ Ok tt
 unit_ok r x e = e
 
--- the verdict behind a chain
+-- the verdict after a chain
 behind_is : (number size : ℕ) (low : Option ℕ) (ls : List Line) (v : Verdict) → behind_chain number size low ls ≡ Ok v → IsLast ls (found size low) v
 unfolding behind_chain
 behind_is number size low [] v e = absurd cc
 behind_is number size low (l ∷ ls) v e = (last_by number true (found size low) v l ls (found_in l) (found_spells l) e).1
 
--- the number of steps that a first line tells
+-- the number of steps that a first line states
 count_is : (number k r : ℕ) → k ≤ 16 → count_at number (line (count_text k)) ≡ Ok r → k ≡ r
 unfolding count_at
 count_is number k r few e =

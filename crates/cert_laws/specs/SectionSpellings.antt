@@ -49,7 +49,7 @@ pub record Rest (h : Heading) (size : ℕ) (low : Option ℕ) (ls : List Line) (
   pub ending : IsEnding h (size + length sections) (low_or low (first_open sections)) chain v
   pub lines : ls ≡ flat_map section_lines sections ++ ending_lines chain v
 
--- the logs of the parts that are due, and what stands behind the section
+-- the logs of the parts that are due, and what stands after the section
 pub record PartsRest (h : Heading) (size : ℕ) (low : Option ℕ) (due : List Part) (ls : List Line) (v : Verdict) : Type 0 where
   pub parts : List PartLog
   pub parts_are : map part_of parts ≡ due
@@ -106,7 +106,7 @@ ended_rest h size low ls v few ended =
       lines = ended.lines;
     }
 
--- ---- a section more in front
+-- ---- a section more at the head
 
 abbrev pub any_open : List PartLog → Bool
 any_open ps = list_any (λ p. is_open_end p.ended) ps
@@ -116,7 +116,7 @@ unfolding low_after
 low_some low size [] = refl
 low_some low size (p ∷ ps) = low_some low size ps
 
--- the first open size with a section's parts, and those of the sections behind it
+-- the first open size with a section's parts, and those of the sections after it
 low_first : (ended : Ended) (size : ℕ) (ps : List PartLog) (o : Option ℕ) → low_or (low_after None size ps) o ≡ cond (any_open ps) (Some size) o → low_or (low_after (low_with None ended size) size ps) o ≡ cond (is_open_end ended || any_open ps) (Some size) o
 low_first ends.Refuted size ps o rest = rest
 low_first ends.Open size ps o rest = ap (λ (q : Option ℕ). low_or q o) (low_some size size ps)
@@ -155,7 +155,7 @@ size_rest h size low l ls v first parts =
 
 -- ---- parts
 
--- the lines of a part, and those behind it
+-- the lines of a part, and those after it
 pub part_text : (part : Part) (ended : Ended) (log : List theory.Line) (behind : List Line) → part_lines (record { part = part; ended = ended; log = log }) ++ behind ≡ title_lines part ++ (line (ended_text ended) ∷ (map log_line log ++ line done_text ∷ behind))
 unfolding part_lines
 part_text part ended log behind =

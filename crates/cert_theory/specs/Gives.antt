@@ -5,7 +5,7 @@ use Rattle.cert_theory.specs.declared.data.BundleError.TheVariants.{Memory}
 use Rattle.cert_theory.specs.declared.data.PartError.{PartError}
 use Rattle.cert_theory.specs.declared.data.PartError.TheVariants as part_errors
 
--- one reader behind another; the first refusal is that of both
+-- one reader after another; the first refusal is that of both
 infixl 10 ◌>>=◌
 abbrev pub ◌>>=◌ : {A B E : Type 0} → Result A E → (A → Result B E) → Result B E
 (Ok x) >>= f = f x

@@ -1,4 +1,4 @@
--- One reader behind another.
+-- One reader after another.
 use Rattle.std.proofs.Common.{◌≡◌, Result, Ok, Err, Bool, true, false, cond, ℕ, Option, Some, None, refl, ap, ◌∙◌}
 use Rattle.cert_theory.specs.declared.data.BundleError.{BundleError}
 use Rattle.cert_theory.specs.declared.data.BundleError.TheVariants.{Syntax, SizeOutOfOrder, StepRefused, NotRefuted, ChainDiffers, OperatorNotInBasis, OpenTooShort, NotNew, WrongVerdict, Memory}

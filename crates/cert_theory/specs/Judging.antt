@@ -58,7 +58,7 @@ as_syntax place (Err e) = Err (Syntax (place e))
 abbrev pub begins : List ℕ → Line → Bool
 begins word l = is_some (after word l.text)
 
--- what stands behind a word, up to the LF
+-- what stands after a word, up to the LF
 abbrev pub value_of : List ℕ → Line → Option (List ℕ)
 value_of word l = if l.ended then after word l.text else None
 
@@ -145,7 +145,7 @@ not_found_in l =
 -- ---- sections
 
 -- Where the lines of a section have come: none is read; the title of a fence is due; a part is named,
--- and its log is due; or the log of a part has begun, and has these lines. Behind each stand the parts
+-- and its log is due; or the log of a part has begun, and has these lines. After each stand the parts
 -- that are due later.
 pub data Place : Type 0 where
   Between : Place
@@ -201,12 +201,12 @@ abbrev pub is_count : Option ℕ → Bool
 is_count None = false
 is_count (Some r) = nat_le r 16
 
--- Whether a line could stand where a title is due: another title, or what stands behind a section,
+-- Whether a line could stand where a title is due: another title, or what stands after a section,
 -- which is a size, the first line of a chain block, or a verdict.
 unfoldable pub may_follow : Line → Bool
 may_follow l = is_title l || is_some (number_behind (codes "size ") l) || is_count (number_behind (codes "chain ") l) || is_some (not_found_in l)
 
--- what comes behind a line of a log, or behind its end
+-- what comes after a line of a log, or after its end
 abbrev pub behind_line : ℕ → Option ℕ → Part → List Part → Ended → List theory.Line → Option theory.Line → Progress
 behind_line size low part later ended log None = before size (low_with low ended size) later
 behind_line size low part later ended log (Some line) = record { size = size; low = low; place = Within part later ended (log ++ line ∷ []) }
@@ -242,12 +242,12 @@ abbrev pub nothing_behind : ℕ → Verdict → List Line → Result Verdict Bun
 nothing_behind number v [] = Ok v
 nothing_behind number v (l ∷ ls) = Err (Syntax number)
 
--- the line `end`, and nothing behind it
+-- the line `end`, and nothing after it
 unfoldable pub end_of : ℕ → Verdict → List Line → Result Verdict BundleError
 end_of number v [] = Err (Syntax number)
 end_of number v (l ∷ ls) = if is_line (codes "end") l then nothing_behind (number + 1) v ls else Err (Syntax number)
 
--- the verdict behind a chain
+-- the verdict after a chain
 unfoldable pub behind_chain : ℕ → ℕ → Option ℕ → List Line → Result Verdict BundleError
 behind_chain number size low [] = Err (Syntax number)
 behind_chain number size low (l ∷ ls) = do
@@ -284,7 +284,7 @@ or_outside (Some place) next = Err (OperatorNotInBasis place)
 unfoldable pub chain_judged : Heading → Chain → Result Unit BundleError
 chain_judged h c = or_outside (outside_from (members h.basis) (c.n + 1) c.steps) (or_differs (difference_of c (specification h.spec)))
 
--- what was read of a chain block, and what stands behind it
+-- what was read of a chain block, and what stands after it
 unfoldable pub with_block : Heading → Frame → Option ℕ → Result block.Read ChainError → Result Verdict BundleError
 with_block h f low read = do
   r ← as_syntax chain_place read
@@ -294,7 +294,7 @@ with_block h f low read = do
 abbrev pub chain_at : Heading → ℕ → ℕ → Option ℕ → Line → List Line → Result Verdict BundleError
 chain_at h number size low l ls = steps_at h number size l >>= λ steps. with_block h (frame_of h number steps) low (block.body_from (frame_of h number steps) ls)
 
--- By fences a title behind a section, where no part is due any more, is a fault of its own.
+-- By fences a title after a section, where no part is due any more, is a fault of its own.
 abbrev pub verdict_at : Bool → ℕ → Line → Result Verdict BundleError
 verdict_at titled number l = if titled && is_title l then Err (NotRefuted number) else or_syntax number (not_found_in l)
 
@@ -335,7 +335,7 @@ unfoldable pub behind_tables : Words → ℕ → List Line → Result Verdict Bu
 behind_tables w number [] = Err (Syntax number)
 behind_tables w number (l ∷ ls) = or_syntax number (basis_in l) >>= λ basis. behind_basis w basis (number + 1) ls
 
--- what was read of the tables, and the lines behind them
+-- what was read of the tables, and the lines after them
 unfoldable pub with_tables : Result tables.Read SpecError → Result Verdict BundleError
 with_tables read = as_syntax table_place read >>= λ r. behind_tables r.words (3 + length r.words.on) r.rest
 

@@ -25,7 +25,7 @@ fn fault_of(error: BundleError) -> DepthError
     }
 }
 
-/// What comes behind a bundle that was read to its end.
+/// What comes after a bundle that was read to its end.
 #[tactic(auto, using(crate::proofs::Behind::behind))]
 pub(crate) fn behind_bundle(alloc: Global, reader: BundleReader) -> Result<Stage, DepthError>
     requires { IsReader (seen reader) }

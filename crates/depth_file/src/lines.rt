@@ -1,4 +1,4 @@
-//! Single lines behind a bundle.
+//! Single lines after a bundle.
 ghost use Rattle.std.specs.Prelude.{◌≡◌};
 ghost use Rattle.text_core.specs.Items.{items_of};
 ghost use Rattle.cert_theory.specs.Judging as bundles;
@@ -101,7 +101,7 @@ fn may_follow(line: &TextLine) -> bool
     is_title(line) || levels_in(line).is_some()
 }
 
-/// The title of a fence with so many steps on each level.
+/// The title of a fence, with the number of steps on each level.
 #[tactic(auto, unfolding(cert_theory::specs::PartLines::title_in))]
 pub(crate) fn title_at(alloc: Global, line: &TextLine, fence: &[u32]) -> Result<(), DepthError>
     ensures { Gives (λ x. x) result (judging.at_line line.now.number (parts.title_in (judging.may_follow (line_of line.now)) fence.now (line_of line.now))) }

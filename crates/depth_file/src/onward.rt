@@ -155,7 +155,7 @@ fn low_with(low: Option<u32>, end: Ended, levels: u32) -> Option<u32>
     }
 }
 
-/// What comes behind a fence whose log ends so.
+/// What comes after a fence whose log ends so.
 #[tactic(auto, using(crate::proofs::Going::going))]
 fn behind(flat: Flat, end: Ended) -> Stage
     requires { IsRunning flat }

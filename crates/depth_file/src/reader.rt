@@ -62,7 +62,7 @@ impl DepthReader {
         // What has a verdict is the text of a depth bundle that has it, and each such text has one.
         ensures verdict { (text : List ℕ) → StandsFor (seen self) text → IfOk result (λ v. HasDepth text v) }
         ensures accepted { (text : List ℕ) (b : DepthBundle) → StandsFor (seen self) text → IsDepthText text b → Gives (λ v. v) result (Ok b.verdict) }
-        // The verdict is true of the tables and the basis that the text tells.
+        // The verdict is true of the tables and the basis that the text states.
         ensures means { (text : List ℕ) → StandsFor (seen self) text → IfOk result (λ v. (b : DepthBundle) (is : IsDepthText text b) →
             Means (specification b.bundle.heading.spec) (members b.bundle.heading.basis) (length is.is_depth.chain.steps) v) }
     {

@@ -165,7 +165,7 @@ formula_by m w basis size fence same = subst (λ (x : Method). IsFormula ((codin
 head_part : (p : PartLog) (ps : List PartLog) (f : List ℕ) (fs : List (List ℕ)) → map part_of (p ∷ ps) ≡ map Levels (f ∷ fs) → (p.part ≡ Levels f) × (map part_of ps ≡ map Levels fs)
 head_part p ps f fs e = (cc, cc)
 
--- the parts, and the verdict behind them
+-- the parts, and the verdict after them
 flat_again : (ps : List PartLog) (due : List (List ℕ)) (h : Heading) (size d number : ℕ) (low : Option ℕ) (v : DepthVerdict) → h.method ≡ Fence → IsShort v → map part_of ps ≡ map Levels due → AllByRecursion (IsPartLog h size) ps → v ≡ levels_found (low_or low (open_levels ps)) d → flat_from h size d number low (Due due) (flat_lines ps v) ≡ Ok v
 flat_again [] [] h size d number low v by_fences short same logs is = ending_again h size d number low v short (is ∙ ap (λ (o : Option ℕ). levels_found o d) (sym (low_same low)))
 flat_again [] (f ∷ fs) h size d number low v by_fences short same logs is = absurd cc
@@ -181,7 +181,7 @@ flat_again (p ∷ ps) (f ∷ fs) h size d number low v by_fences short same logs
     ∙ part_again h size d number low f fs p.ended p.log (flat_lines ps v) v (formula_by h.method h.spec h.basis size f by_fences) ends_as
     (λ n. flat_again ps fs h size d n (low_with low p.ended (length f)) v by_fences short each.1 logs.1 (is ∙ low_is))
 
--- ---- behind the bundle
+-- ---- after the bundle
 
 depth_again : (number d : ℕ) → d < 1000000000 → depth_at number d (line (depth_line d)) ≡ Ok tt
 unfolding depth_at depth_line
@@ -223,7 +223,7 @@ short b is =
 levels_is : (b : DepthBundle) (is : IsDepth b) → levels_of b.verdict ≡ depth is.chain
 levels_is b is = ap levels_of is.verdict_is ∙ found_depth (open_levels b.parts) (depth is.chain)
 
--- the lines behind the bundle of a depth bundle are judged as its verdict
+-- the lines after the bundle of a depth bundle are judged as its verdict
 pub behind_again : (b : DepthBundle) (number : ℕ) → IsDepth b → behind_bundle b.bundle number (line (depth_line (levels_of b.verdict)) ∷ flat_lines b.parts b.verdict) ≡ Ok b.verdict
 behind_again b number is =
     let h = b.bundle.heading in
@@ -278,7 +278,7 @@ depth_lines_again b is =
 abbrev behind_lines : DepthBundle → List Line
 behind_lines b = line (depth_line (levels_of b.verdict)) ∷ flat_lines b.parts b.verdict
 
--- lines of a depth bundle: those of its bundle, and the others behind it
+-- lines of a depth bundle: those of its bundle, and the others after it
 pub depth_front : (bytes : List ℕ) (b : DepthBundle) → IsDepthText bytes b → front_of (lines_of bytes) ≡ bundle_lines b.bundle
 depth_front bytes b is = ap (λ (xs : List ℕ). front_of (lines_of xs)) is.text ∙ ap front_of (depth_lines_again b is.is_depth) ∙ front_is b.bundle (behind_lines b) is.is_depth.valid
 

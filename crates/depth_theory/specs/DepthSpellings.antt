@@ -122,13 +122,13 @@ IsAt h size (Due fences) = Unit {0}
 IsAt h size (Begun fence later) = Unit {0}
 IsAt h size (Within fence later ended log) = IsLog (formula_of h size (Levels fence)) ended log
 
--- the first open fence, with one fence more in front
+-- the first open fence, with one fence more before it
 pub low_step : (low : Option ℕ) (fence : List ℕ) (ended : Ended) (log : List theory.Line) (ps : List PartLog) → low_or (low_with low ended (length fence)) (open_levels ps) ≡ low_or low (open_levels (record { part = Levels fence; ended = ended; log = log } ∷ ps))
 low_step (Some low) fence ended log ps = refl
 low_step None fence ends.Refuted log ps = refl
 low_step None fence ends.Open log ps = refl
 
--- one fence more in front
+-- one fence more at the head
 begun_more : (h : Heading) (size d : ℕ) (low : Option ℕ) (fence : List ℕ) (later : List (List ℕ)) (l : Line) (ls : List Line) (v : DepthVerdict) → l ≡ line (title_text fence) → BegunRest h size d low fence later ls v → FlatRest h size d low (fence ∷ later) (l ∷ ls) v
 unfolding title_lines
 begun_more h size d low fence later l ls v first begun =
@@ -146,7 +146,7 @@ begun_more h size d low fence later l ls v first begun =
           ∙ sym (append_assoc (part_lines p) (flat_map part_lines flat.parts) (line (levels_line v) ∷ line end_text ∷ []));
     }
 
--- one line of a log more in front
+-- one line of a log more at the head
 logged_more : (h : Heading) (size d : ℕ) (low : Option ℕ) (fence : List ℕ) (later : List (List ℕ)) (ended : Ended) (log : List theory.Line) (x : theory.Line) (l : Line) (ls : List Line) (v : DepthVerdict) → l ≡ log_line x → LogRest h size d low fence later ended (log ++ x ∷ []) ls v → LogRest h size d low fence later ended log (l ∷ ls) v
 logged_more h size d low fence later ended log x l ls v first rest = record {
   more = x ∷ rest.more;
@@ -216,7 +216,7 @@ flat_spells (l ∷ ls) h size d number low (Within fence later ended log) v is e
     within_by h size d number low fence later ended log l ls v read.0 is (located_ok (fault_at number) part read.0 read.1) read.2
     (λ p o at next. flat_spells ls h size d (number + 1) o p v at next)
 
--- ---- behind a bundle
+-- ---- after a bundle
 
 depth_spells : (number d : ℕ) (l : Line) → depth_at number d l ≡ Ok tt → l ≡ line (depth_line d)
 unfolding depth_at depth_line
@@ -232,7 +232,7 @@ found_depth (Some low) d = refl
 unit_ok : (r : Result (Unit {0}) DepthError) (x : Unit {0}) → r ≡ Ok x → r ≡ Ok tt
 unit_ok r x e = e
 
--- the logs and the verdict behind a bundle
+-- the logs and the verdict after a bundle
 record ReadFlat (h : Heading) (size d : ℕ) (ls : List Line) (v : DepthVerdict) : Type 0 where
   parts : List PartLog
   parts_are : map part_of parts ≡ map Levels (flatter h.spec size d)

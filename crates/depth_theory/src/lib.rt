@@ -1,7 +1,7 @@
 //! What a depth bundle is: the certificate that a chain of the fewest steps has the fewest levels too. Here is
 //! when one is valid, how it is written, what is wrong with a text, and what its verdict means.
 //!
-//! A depth bundle is a bundle by fences whose verdict is a minimum. Behind it stand the levels of its chain, a
+//! A depth bundle is a bundle by fences whose verdict is a minimum. After it stand the levels of its chain, a
 //! part for each listed fence of that size with fewer levels, and the verdict that follows: so many levels and
 //! no fewer, or, where a fence is left open, none of fewer than its levels.
 //!
