@@ -1,8 +1,8 @@
 //! What certificates hold beside chains and logs, and what may be wrong with them: the data that the
 //! definitions of this crate speak of.
-use settings::Method;
 use lrat_check::CheckError;
 use op_basis::Basis;
+use settings::Method;
 use std::alloc::{AllocError, AllocFailed};
 use tt_core::Spec;
 

@@ -10,6 +10,7 @@
 //!   specification, and None exactly where the chain agrees.
 //! - `first_outside` is the first place whose operator isn't in a basis, and None exactly where the
 //!   chain is over the basis.
+//! - `levels` gives the level of each step, and `depth_of` the greatest of them.
 //! - `read_chain` reads a chain block off the front of a text exactly where the grammar of
 //!   `specs/Block.antt` gives a chain, and else tells the first fault with its line. `count_at`,
 //!   `step_at`, `add_step` and `out_at` are its lines, for texts that are read a line at a time.
@@ -31,6 +32,7 @@ mod lines;
 mod outside;
 mod reading;
 mod step;
+mod step_levels;
 mod values;
 mod writing;
 
@@ -45,5 +47,6 @@ pub use op_basis::{Basis, Op};
 pub use outside::first_outside;
 pub use reading::{add_step, read_chain};
 pub use step::Step;
+pub use step_levels::{depth_of, levels};
 pub use values::{out_value, value};
 pub use writing::write_chain;

@@ -12,7 +12,7 @@ use crate::DepthBundle;
 use crate::levels::{Level, flatter_than, open_levels, search_level};
 use bundle_core::{Bundle, Heading, PartLog, Section, Verdict};
 use chain_core::Chain;
-use depth_theory::{DepthVerdict, depth_of};
+use depth_theory::DepthVerdict;
 use settings::Method;
 use op_basis::Basis;
 use size_loop::search;

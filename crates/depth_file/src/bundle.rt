@@ -11,7 +11,8 @@ ghost use Rattle.depth_file.specs.Stages.{IsStage, IsBehindFront, Judged, fed_of
 
 use crate::stage::Stage;
 use cert_file::{BundleError, BundleReader, TextLine, Told, Verdict, is_line};
-use depth_theory::{DepthError, depth_of};
+use chain_core::depth_of;
+use depth_theory::DepthError;
 use settings::Method;
 use std::alloc::Global;
 

@@ -1,4 +1,3 @@
 pub mod Walks
 pub mod Layouts
 pub mod Formulas
-pub mod Places

@@ -1,2 +1,1 @@
 pub mod StepPairs
-pub mod Heights

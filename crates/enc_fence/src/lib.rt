@@ -12,8 +12,7 @@
 
 mod encoding;
 mod pairs;
-mod step_levels;
 
+pub use chain_core::levels;
 pub use encoding::FenceEnc;
 pub use pairs::FencePairs;
-pub use step_levels::levels;

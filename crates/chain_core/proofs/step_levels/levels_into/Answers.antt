@@ -1,9 +1,9 @@
 use Rattle.std.proofs.Common.{◌+◌, ◌<◌, ◌≤◌, arith, ap, length, ◌∙◌}
 use Rattle.chain_core.specs.Steps.{step_of, steps_of}
 use Rattle.chain_core.specs.StepLaws.{other_steps}
-use Rattle.enc_fence.specs.Heights.{heights}
-use Rattle.enc_fence.proofs.Places.{low_written, run-set}
-use Rattle.enc_fence.proofs.step_levels.levels_into.Goals as goal
+use Rattle.chain_core.specs.Heights.{heights}
+use Rattle.chain_core.proofs.LevelRuns.{low_written, run-set}
+use Rattle.chain_core.proofs.step_levels.levels_into.Goals as goal
 
 pub overflow_add-levels : goal.overflow_add-levels
 unfolding heights

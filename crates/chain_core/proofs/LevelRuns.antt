@@ -2,15 +2,15 @@
 use Rattle.std.proofs.Common.{◌≡◌, ℕ, ◌+◌, ◌-◌, ◌<◌, ◌≤◌, List, [], ◌∷◌, length, replicate, map, ◌++◌, refl, sym, ap, ◌∙◌, arith, ⊎_elim}
 use Rattle.std.specs.Prelude.{slice_index_or, slice_set}
 use Rattle.std.proofs.lemmas.Grind.{common_steps}
+use Rattle.std.proofs.lemmas.List.FromFn.{map-range_with_len_more}
 use Rattle.std.proofs.lemmas.Bool.{cases_eq, cases_lt}
 use Rattle.std.proofs.lemmas.List.{get_or-set_same, get_or-set_other, get_or-replicate, get_or_past, length-replicate}
 use Rattle.std.specs.List.{range_with_len}
-use Rattle.clause_core.specs.RangeLaws.{map-turn_from}
 use Rattle.chain_theory.specs.Chain.{Step}
 use Rattle.chain_core.specs.StepLaws.{first_step}
 use Rattle.chain_theory.specs.Levels.{placed, step_level, levels_after, level_in}
 use Rattle.chain_theory.specs.LevelLaws.{placed-same, placed-other}
-use Rattle.enc_fence.specs.Heights.{heights}
+use Rattle.chain_core.specs.Heights.{heights}
 
 -- a level that is written is that of its place
 height_at : (levels : List ℕ) (place own p : ℕ) → place < length levels → heights (slice_set levels place own) p ≡ placed (heights levels) place own p
@@ -56,6 +56,11 @@ levels_are written n steps e = e ∙ ap (λ (given : ℕ → ℕ). levels_after 
 -- one more place
 pub next_place : (written levels : List ℕ) (first place own : ℕ) → first ≤ place → own ≡ heights written place → levels ≡ map (heights written) (range_with_len first (place - first)) → levels ++ own ∷ [] ≡ map (heights written) (range_with_len first (place + 1 - first))
 next_place written levels first place own from e so_far =
-    ap (λ (xs : List ℕ). xs ++ own ∷ []) so_far ∙ ap (λ (x : ℕ). map (heights written) (range_with_len first (place - first)) ++ x ∷ []) e ∙ sym (map-turn_from (heights written) first place from)
+    let one_more : place - first + 1 ≡ place + 1 - first = omega (arith, from) in
+    let last : first + (place - first) ≡ place = omega (arith, from) in
+    ap (λ (xs : List ℕ). xs ++ own ∷ []) so_far
+    ∙ ap (λ (x : ℕ). map (heights written) (range_with_len first (place - first)) ++ x ∷ []) e
+    ∙ sym (map-range_with_len_more (heights written) first (place - first) place last)
+    ∙ ap (λ (k : ℕ). map (heights written) (range_with_len first k)) one_more
 
 pub ruleset standing = (common_steps, first_step)

@@ -2,8 +2,8 @@ use Rattle.std.proofs.Common.{◌≡◌, ℕ, ◌+◌, ◌≤◌, length}
 use Rattle.chain_theory.specs.Chain.{AreSteps}
 use Rattle.chain_core.specs.Steps.{steps_of}
 use Rattle.chain_theory.specs.Levels.{levels_after}
-use Rattle.enc_fence.specs.Heights.{heights}
-use Rattle.enc_fence.proofs.step_levels.levels_into.Given as goal
+use Rattle.chain_core.specs.Heights.{heights}
+use Rattle.chain_core.proofs.step_levels.levels_into.Given as goal
 
 abbrev pub invariant-loop-step : goal.invariant-loop-step
 invariant-loop-step l = record {

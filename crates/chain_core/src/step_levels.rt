@@ -1,15 +1,16 @@
-//! On which levels the steps of a chain stand.
+//! The levels of a chain's steps, and how many levels it has.
 ghost use Rattle.std.specs.Prelude.{◌≡◌, ℕ, ◌+◌, ◌<◌, ◌≤◌, length, IfOk};
 ghost use Rattle.chain_theory.specs.Chain.{AreSteps};
+ghost use Rattle.chain_theory.specs.Levels.{levels_after, depth};
 ghost use Rattle.chain_core.specs.Steps.{steps_of};
-ghost use Rattle.chain_theory.specs.Levels.{levels_after};
-ghost use Rattle.enc_fence.specs.Heights.{heights, levels_of};
+ghost use Rattle.chain_core.specs.Heights.{heights, levels_of};
 
-use chain_core::{Chain, Step};
+use crate::chain::Chain;
+use crate::step::Step;
 use std::alloc::{AllocError, Global};
 
-/// The levels of the places of the steps, each from those in front of it. Place p stands at index p.
-#[tactic(auto, using(crate::proofs::Places::standing), unfolding(chain_theory::specs::Levels::levels_after))]
+/// The levels of the places of the steps, each from those of its operands. Place p stands at index p.
+#[tactic(auto, using(crate::specs::StepLaws::standing), unfolding(chain_theory::specs::Levels::levels_after))]
 fn levels_into(levels: &mut [u32], n: u32, steps: &[Step])
     requires steps { AreSteps n (steps_of steps.now) }
     requires room { (n + length steps.now < length levels.old) × (length levels.old ≤ 23) }
@@ -29,7 +30,7 @@ fn levels_into(levels: &mut [u32], n: u32, steps: &[Step])
 
 /// The level of each step, in the order of their places: one more than the larger level of its
 /// operands, where inputs have the level 0.
-#[tactic(auto, using(clause_core::specs::RangeLaws::loops), unfolding(crate::specs::Heights::levels_of))]
+#[tactic(auto, unfolding(crate::specs::Heights::levels_of))]
 pub fn levels(alloc: Global, chain: &Chain) -> Result<Vec<u32>, AllocError>
     ensures { IfOk result (λ levels. levels.items ≡ levels_of chain.now) }
 {
@@ -42,4 +43,17 @@ pub fn levels(alloc: Global, chain: &Chain) -> Result<Vec<u32>, AllocError>
         levels.push(of_places[place])?;
     }
     Ok(levels)
+}
+
+/// The depth of a chain: the greatest level of its steps, 0 where it has none.
+#[tactic(auto, using(crate::proofs::Depths::depths))]
+pub fn depth_of(alloc: Global, chain: &Chain) -> Result<u32, AllocError>
+    ensures { IfOk result (λ d. d ≡ depth chain.now) }
+{
+    let levels = levels(alloc, chain)?;
+    let mut deepest = 0u32;
+    for level in &levels {
+        deepest = deepest.max(*level);
+    }
+    Ok(deepest)
 }

@@ -4,9 +4,9 @@ use Rattle.std.proofs.lemmas.List.{length-map}
 use Rattle.chain_theory.specs.Chain as chain
 use Rattle.chain_core.specs.Steps.{step_of, steps_of}
 use Rattle.chain_theory.specs.Levels.{level_in}
-use Rattle.enc_fence.specs.Heights.{heights, levels_of}
-use Rattle.enc_fence.proofs.Places.{none_is_high, levels_are, next_place}
-use Rattle.enc_fence.proofs.step_levels.levels.Goals as goal
+use Rattle.chain_core.specs.Heights.{heights, levels_of}
+use Rattle.chain_core.proofs.LevelRuns.{none_is_high, levels_are, next_place}
+use Rattle.chain_core.proofs.step_levels.levels.Goals as goal
 
 pub levels_into-requires-clause-low : goal.levels_into-requires-clause-low
 levels_into-requires-clause-low c = none_is_high c.n-n.result
