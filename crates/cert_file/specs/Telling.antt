@@ -17,12 +17,6 @@ use Rattle.cert_file.specs.declared.told.Told.{Told}
 use Rattle.cert_file.specs.declared.stage.Stage.{Stage}
 use Rattle.cert_file.specs.declared.stage.Stage.TheVariants as stages
 
--- these lines stand at the end of all, and the first of them has this number
-pub record IsPlace (number : ℕ) (lines all : List Line) : Type 0 where
-  pub front : List Line
-  pub all_is : all ≡ front ++ lines
-  pub number_is : number ≡ length front + 1
-
 abbrev pub chain_read : Result block.Read ChainError → Option Chain
 chain_read (Ok read) = Some read.chain
 chain_read (Err e) = None

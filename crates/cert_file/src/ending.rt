@@ -11,9 +11,10 @@ ghost use Rattle.cert_theory.specs.declared.data.Verdict.TheVariants as verdicts
 ghost use Rattle.cert_theory.specs.Judging as judging;
 ghost use Rattle.cert_file.specs.Asking.{heading_in};
 ghost use Rattle.cert_file.specs.Refusals.{IsRefusal};
-ghost use Rattle.cert_file.specs.TextLines.{line_of};
+ghost use Rattle.line_reader.specs.TextLines.{line_of};
+ghost use Rattle.line_reader.specs.Cuts.{IsPlace};
 ghost use Rattle.cert_file.specs.Stages.{Answer, Judged, IsStage, IsKnown, AreRead, AreNamed, outs_then, steps_then};
-ghost use Rattle.cert_file.specs.Telling.{IsPlace, IsBlock, IsHeld, HasEnded, Tells};
+ghost use Rattle.cert_file.specs.Telling.{IsBlock, IsHeld, HasEnded, Tells};
 
 use crate::lines::{GREATEST, TextLine, begins, is_line, number_behind, value_of};
 use crate::stage::Stage;

@@ -5,7 +5,7 @@ ghost use Rattle.tt_core.specs.Words.{IsSpec};
 ghost use Rattle.tt_core.specs.Tables as tables;
 ghost use Rattle.settings.specs.Synth.{most_steps};
 ghost use Rattle.cert_theory.specs.Judging as judging;
-ghost use Rattle.cert_file.specs.TextLines.{line_of};
+ghost use Rattle.line_reader.specs.TextLines.{line_of};
 ghost use Rattle.cert_file.specs.Asking.{with_max, with_conflicts, with_method, heading_by, heading_in};
 ghost use Rattle.cert_file.specs.Stages.{Answer, Judged, IsStage};
 ghost use Rattle.cert_file.specs.Telling.{Tells};

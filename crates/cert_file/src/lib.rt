@@ -18,6 +18,7 @@ mod checking;
 mod ending;
 mod formulas;
 mod heading;
+mod line_stage;
 mod lines;
 mod logs;
 mod onward;

@@ -3,24 +3,14 @@ ghost use Rattle.std.specs.Prelude.{◌≡◌};
 ghost use Rattle.std.specs.Option.{option_copied};
 ghost use Rattle.cert_theory.specs.Judging as judging;
 ghost use Rattle.cert_theory.specs.PartLines as parts;
-ghost use Rattle.cert_file.specs.TextLines.{line_of};
+ghost use Rattle.line_reader.specs.TextLines.{line_of};
 
 use cert_theory::{BundleError, PartError};
+pub use line_reader::TextLine;
 use text_core::{after, number_up_to};
 
 /// The greatest number of nine digits.
 pub(crate) const GREATEST: u32 = 999_999_999;
-
-/// A line of a text.
-#[derive(Clone, Copy)]
-pub struct TextLine<'a> {
-    /// Its bytes, without the LF.
-    pub text: &'a [u8],
-    /// Whether an LF ends it.
-    pub ended: bool,
-    /// Which line of the text it is, from 1 on.
-    pub number: u32,
-}
 
 /// A fault of a part, at a line.
 pub(crate) fn fault_at(number: u32, fault: PartError) -> BundleError

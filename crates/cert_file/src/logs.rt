@@ -7,7 +7,7 @@ ghost use Rattle.cert_theory.specs.PartLines as parts;
 ghost use Rattle.cert_theory.specs.Bundle as bundles;
 ghost use Rattle.enc_theory.specs.declared.part.Part.{Part};
 ghost use Rattle.cert_file.specs.Asking.{heading_in};
-ghost use Rattle.cert_file.specs.TextLines.{line_of};
+ghost use Rattle.line_reader.specs.TextLines.{line_of};
 ghost use Rattle.cert_file.specs.Stages.{Answer, Judged, Stands, IsStage, IsRunning, IsPart, later_of, IsBegun, IsLogging};
 ghost use Rattle.cert_file.specs.Telling.{Tells};
 

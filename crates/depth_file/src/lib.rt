@@ -14,6 +14,7 @@
 mod bundle;
 mod checking;
 mod fences;
+mod line_stage;
 mod lines;
 mod onward;
 mod reader;

@@ -3,7 +3,7 @@ ghost use Rattle.std.specs.Prelude.{◌≡◌};
 ghost use Rattle.text_core.specs.Items.{items_of};
 ghost use Rattle.cert_theory.specs.Judging as bundles;
 ghost use Rattle.cert_theory.specs.PartLines as parts;
-ghost use Rattle.cert_file.specs.TextLines.{line_of};
+ghost use Rattle.line_reader.specs.TextLines.{line_of};
 ghost use Rattle.depth_theory.specs.declared.data.DepthVerdict.TheVariants as verdicts;
 ghost use Rattle.depth_theory.specs.DepthGives.{Gives};
 ghost use Rattle.depth_theory.specs.DepthJudging as judging;
