@@ -1,9 +1,10 @@
 //! Solves the formula at the front of a text, of the same form as `check` reads.
 use crate::check::{Fault, formula};
-use cdcl_core::{Solved, solve};
+use cdcl_core::{Cdcl, Solved};
 use cnf_core::Cnf;
 use log_core::Log;
 use lrat_text::Line;
+use sat_solve::Solver;
 use std::alloc::{AllocError, Global};
 
 /// The most clauses that the solver may learn.
@@ -51,7 +52,7 @@ fn outcome_of(alloc: Global, answer: Answer, log: &Log) -> Result<Outcome, Alloc
 
 /// Solves a formula.
 fn solve_cnf(alloc: Global, cnf: &Cnf) -> Result<Outcome, AllocError> {
-    match solve(alloc, cnf, BUDGET)? {
+    match Cdcl::solve(alloc, cnf, BUDGET)? {
         Solved::Sat(_) => Ok(Outcome {
             answer: Answer::Satisfied,
             conflicts: 0,

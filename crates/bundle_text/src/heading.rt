@@ -4,9 +4,8 @@ ghost use Rattle.cert_theory.specs.Spelling as spelling;
 ghost use Rattle.bundle_text.specs.Texts.{spelled, heading_text};
 
 use crate::tables::{push_numbered, push_tables};
-use settings::Method;
 use op_basis::{Basis, write_basis};
-use settings::method_name;
+use settings::{Method, method_name};
 use std::alloc::AllocError;
 use tt_core::Spec;
 

@@ -5,7 +5,7 @@
 //! The theorem is that of `write_bundle`: what it appends is the spelling. `write_heading`,
 //! `write_section` and `write_ending` append its three pieces, so that a certificate can be written
 //! while it is found: the heading, each section as soon as it stands, and the ending. `write_parts` appends
-//! parts that stand behind a certificate.
+//! parts that stand after a certificate.
 //!
 //! ```text
 //! let mut text = Vec::new(alloc);

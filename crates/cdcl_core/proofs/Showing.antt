@@ -6,7 +6,7 @@ use Rattle.std.proofs.lemmas.List.Elements.{All-contains, All-cons, All-nil}
 use Rattle.sat_theory.specs.Formula.{variable, opposite, Formula, IsFormula, IsClause, IsWithin, bits_of, IsTrueClause, Satisfies}
 use Rattle.sat_theory.specs.Line.{Line, Add, Delete}
 use Rattle.sat_theory.specs.State.{State, by_id, start}
-use Rattle.sat_theory.specs.Log.{EachLine, IsStep, AddsEmpty, additions, Refutes, IsSpent, IsThrifty, IsThinned, SparesFormula, after, added_ids, live_additions}
+use Rattle.sat_theory.specs.Log.{EachLine, IsStep, AddsEmpty, additions, Refutes, IsSpent, IsThinned, SparesFormula, after, added_ids, live_additions}
 use Rattle.sat_theory.specs.FewAdditions.{AddsSome}
 use Rattle.cdcl_theory.specs.Falling.{AllSettled, IsSettled}
 use Rattle.cdcl_theory.specs.Trails.{Trailed, fell}
@@ -78,10 +78,6 @@ log_spent f s lines deleted least budget log new none enough = record {
   enough = enough;
   fresh = new.fresh;
 }
-
--- a log that reaches the empty clause is thrifty
-pub refuted_thrifty : (f : Formula) (lines : List Line) → Refutes f lines → IsThrifty f lines
-refuted_thrifty f lines refutes = record { kept = λ open_yet. absurd (open_yet refutes.reaches) }
 
 nothing : (f : Formula) → 4 * live_additions (after (start f) []) [] ≤ 3 * additions [] + 4 * f.vars + 8000
 unfolding added_ids

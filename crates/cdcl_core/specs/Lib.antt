@@ -1,11 +1,9 @@
-pub mod Budgets
 pub mod Verdicts
 pub mod Levels
 pub mod Choosing
 pub mod Luby
 pub mod Searching
 pub mod Endings
-pub mod Answering
 pub mod Guarding
 pub mod Visiting
 pub mod Forgetting

@@ -1,35 +1,34 @@
-//! The answers of the solver, made of how its search ended.
+//! The answers of the solver, made of how its search ended, and the solver as one of the trait.
 ghost use Rattle.std.specs.Prelude.{◌≡◌, ℕ, ◌*◌, ◌^◌, ◌<◌, ◌≤◌, [], length, Contains, IfOk};
 ghost use Rattle.sat_theory.specs.Formula.{Formula, IsFormula, bits_of, Satisfies};
-ghost use Rattle.sat_theory.specs.Log.{Refutes, IsSpent, IsKept, IsThrifty, IsThinned};
+ghost use Rattle.sat_theory.specs.Log.{Refutes, IsSpent, IsKept, IsThinned};
+ghost use Rattle.sat_solve.specs.Budgets.{most_budget};
+ghost use Rattle.sat_solve.specs.Answering.{IfSat, IfUnsat, IfOpen, IfLogged, IsDecided};
 ghost use Rattle.clause_db.specs.Stored.{IsStored};
-ghost use Rattle.cdcl_core.specs.Budgets.{most_budget};
 ghost use Rattle.cdcl_core.specs.Searching.{IsSearching, IsAccounted, IsLogged};
 ghost use Rattle.cdcl_core.specs.Endings.{HasRefuted, HasSpent};
-ghost use Rattle.cdcl_core.specs.Answering.{IfSat, IfUnsat, IfOpen, IfLogged, IsDecided};
 
 use crate::search::{Ending, Search};
-use cnf_core::{Assign, Cnf};
+use cnf_core::Cnf;
 use log_core::Log;
+use sat_solve::{Solved, Solver};
 use std::alloc::{AllocError, Global};
 use std::mem;
 
-/// What is known of a formula.
-#[derive(Drop)]
-pub enum Solved {
-    /// The assignment satisfies it.
-    Sat(Assign),
-    /// The log refutes it.
-    Unsat(Log),
-    /// The log holds and has spent the budget.
-    Open(Log),
+/// The solver of this crate, where one of the trait is asked for.
+pub struct Cdcl;
+
+impl Solver for Cdcl {
+    fn solve(alloc: Global, cnf: &Cnf, budget: u32) -> Result<Solved, AllocError> {
+        solve(alloc, cnf, budget)
+    }
 }
 
 /// A search reckons with so many additions, where the budget isn't less: half of them may go at any time.
 const RECKONED: u32 = 40_000;
 
-/// Decides a formula, unless it takes more than `budget` learnt clauses, from 1 to 10,000,000: the answer
-/// is Open at the first decision that is due after so many.
+/// Decides a formula, unless it takes more than `budget` learnt clauses, from 1 to 10,000,000: the answer is Open
+/// at the first decision that is due after `budget` of them.
 pub fn solve(alloc: Global, cnf: &Cnf, budget: u32) -> Result<Solved, AllocError>
     requires some { 0 < budget }
     requires most { budget ≤ most_budget }
@@ -38,8 +37,6 @@ pub fn solve(alloc: Global, cnf: &Cnf, budget: u32) -> Result<Solved, AllocError
     ensures unsat { IfOk result (λ s. IfUnsat s (Refutes cnf.now)) }
     ensures open { IfOk result (λ s. IfOpen s (λ lines. IsSpent cnf.now lines budget)) }
     ensures kept { IfOk result (λ s. IfOpen s (IsKept cnf.now)) }
-    // Of every log.
-    ensures thrifty { IfOk result (λ s. IfLogged s (IsThrifty cnf.now)) }
     ensures thinned { IfOk result (λ s. IfLogged s (IsThinned cnf.now)) }
     // A budget of twice 3 to the number of variables decides every formula.
     ensures decides { 2 * 3 ^ cnf.now.vars ≤ budget → IfOk result IsDecided }
@@ -65,7 +62,6 @@ fn answer(search: &mut Search, alloc: Global, budget: u32) -> Result<Solved, All
     ensures unsat { (f : Formula) → IsLogged f search.old → IfOk result (λ s. IfUnsat s (Refutes f)) }
     ensures open { (f : Formula) → IsLogged f search.old → (Contains f.clauses [] → ⊥) → IfOk result (λ s. IfOpen s (λ lines. IsSpent f lines budget)) }
     ensures kept { (f : Formula) → IsLogged f search.old → IfOk result (λ s. IfOpen s (IsKept f)) }
-    ensures thrifty { (f : Formula) → IsLogged f search.old → IfOk result (λ s. IfLogged s (IsThrifty f)) }
     ensures thinned { (f : Formula) → IsLogged f search.old → IfOk result (λ s. IfLogged s (IsThinned f)) }
     ensures decides { (f : Formula) → IsLogged f search.old → (Contains f.clauses [] → ⊥) → 2 * 3 ^ f.vars ≤ budget → IfOk result IsDecided }
 {

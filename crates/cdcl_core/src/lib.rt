@@ -56,4 +56,5 @@ mod search;
 mod units;
 mod visiting;
 
-pub use answering::{Solved, solve};
+pub use answering::{Cdcl, solve};
+pub use sat_solve::Solved;

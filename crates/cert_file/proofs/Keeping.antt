@@ -9,7 +9,8 @@ use Rattle.chain_core.specs.declared.frame.Frame.{Frame}
 use Rattle.chain_core.specs.declared.error.ChainError.{ChainError}
 use Rattle.cert_theory.specs.declared.data.Heading.{Heading}
 use Rattle.cert_file.specs.Stages.{IsFrame, steps_then, outs_then}
-use Rattle.cert_file.specs.Telling.{IsPlace, IsBlock, IsHeld, chain_read}
+use Rattle.line_reader.specs.Cuts.{IsPlace}
+use Rattle.cert_file.specs.Telling.{IsBlock, IsHeld, chain_read}
 use Rattle.cert_file.proofs.Blocks.{body_is}
 
 -- ---- the block

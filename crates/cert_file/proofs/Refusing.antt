@@ -27,7 +27,7 @@ pub block_fails : (h : Heading) (f : Frame) (low : Option ℕ) (read : Result bl
 unfolding with_block
 block_fails h f low read error e fails is = fails_bind e (as_syntax chain_place read) _ (refusal_fails error e read fails is)
 
--- what refuses in front of another reader refuses with it
+-- what refuses before another reader refuses with it
 pub fails_on : {A B : Type 0} (error : ChainError) (read : Result A ChainError) (more : Result B ChainError) → ((d : ChainError) → read ≡ Err d → more ≡ Err d) → reading.Fails error read → reading.Fails error more
 fails_on (BadStep line) read more on fails = on (BadStep line) fails
 fails_on (ForwardPlace line) read more on fails = on (ForwardPlace line) fails

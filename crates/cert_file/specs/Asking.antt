@@ -30,7 +30,7 @@ unfoldable pub heading_by : Result tables.Read SpecError → Option Heading
 heading_by (Ok read) = with_basis read.words read.rest
 heading_by (Err e) = None
 
--- the heading of the lines of a bundle: behind the first stand the tables, and then the basis, the method, the
+-- the heading of the lines of a bundle: after the first stand the tables, and then the basis, the method, the
 -- conflicts and the greatest size
 unfoldable pub heading_in : List Line → Option Heading
 heading_in [] = None

@@ -5,12 +5,11 @@ pub use Rattle.cert_theory.specs.PartLines
 pub use Rattle.cert_theory.specs.Judging
 pub use Rattle.cert_theory.specs.Gives
 pub mod Asking
-pub mod CuttingLaws
 pub mod Logged
 pub mod Reader
 pub mod Refusals
 pub mod Stages
+pub mod Standing
 pub mod Telling
-pub mod TextLines
 pub mod Titled
 pub mod ToldLaws

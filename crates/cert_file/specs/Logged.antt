@@ -18,12 +18,12 @@ use Rattle.cert_file.specs.declared.part.PartReader.{PartReader}
 use Rattle.cert_file.specs.declared.part.PartStep.{PartStep}
 use Rattle.cert_file.specs.declared.part.PartStep.TheVariants.{More, Done}
 
--- the test tells of an addition whether its clause is new
+-- the test says of an addition whether its clause is new
 abbrev pub is_new_to : Checked → theory.Line → Bool → Type 0
 is_new_to checker (theory.Add id lits hints) test = (test ≡ true) ↔ IsNew (live_at checker.live) lits
 is_new_to checker (theory.Delete id ids) test = test ≡ true
 
--- and of a log, whether it may have the line behind the others
+-- and of a log, whether it may have the line after the others
 abbrev pub MayAdd : Checked → Ended → theory.Line → Bool → Type 0
 MayAdd checker Refuted line test = test ≡ true
 MayAdd checker Open line test = is_new_to checker line test
@@ -38,7 +38,7 @@ abbrev pub added_by : theory.Line → ℕ
 added_by (theory.Add id lits hints) = 1
 added_by (theory.Delete id ids) = 0
 
--- a line was taken: the checker has accepted it behind the others
+-- a line was taken: the checker has accepted it after the others
 pub record IsTaken (f : Formula) (ended : Ended) (log : List theory.Line) (l : Line) (checker : Checked) (added : ℕ) : Type 0 where
   pub line : theory.Line
   pub read : logged_in f ended log l ≡ Ok line

@@ -43,7 +43,7 @@ pub record IsRunning (r : Running) : Type 0 where
   pub parts : r.parts.items ≡ parts_of r.heading r.size
   pub at : r.at < length r.parts.items
 
--- behind the first line of a chain block
+-- after the first line of a chain block
 pub record IsFrame (h : Heading) (f : Frame) : Type 0 where
   pub known : IsKnown h
   pub n : f.n ≡ h.spec.n
@@ -84,12 +84,12 @@ IsStage (stages.Found h low c) number = IsKnown h
 IsStage (stages.End told) number = IsKnown told.heading
 IsStage (stages.Done told) number = IsKnown told.heading
 
--- what the text tells, where nothing is due
+-- what the text states, where nothing is due
 abbrev pub told_in : Stage → Option Told
 told_in (stages.Done told) = Some told
 told_in stage = None
 
--- the parts behind the one that is read or due
+-- the parts after the one that is read or due
 abbrev pub later_of : Running → List Part
 later_of r = drop (r.at + 1) r.parts.items
 
@@ -97,7 +97,7 @@ later_of r = drop (r.at + 1) r.parts.items
 abbrev pub IsPart : Running → Part → Type 0
 IsPart r part = drop r.at r.parts.items ≡ part ∷ later_of r
 
--- Behind the title of a part.
+-- After the title of a part.
 pub record IsBegun (r : Running) (number : ℕ) (lines : List Line) (answer : Answer) : Type 0 where
   pub part : Part
   pub is_part : IsPart r part

@@ -17,12 +17,6 @@ use Rattle.cert_file.specs.declared.told.Told.{Told}
 use Rattle.cert_file.specs.declared.stage.Stage.{Stage}
 use Rattle.cert_file.specs.declared.stage.Stage.TheVariants as stages
 
--- these lines stand at the end of all, and the first of them has this number
-pub record IsPlace (number : ℕ) (lines all : List Line) : Type 0 where
-  pub front : List Line
-  pub all_is : all ≡ front ++ lines
-  pub number_is : number ≡ length front + 1
-
 abbrev pub chain_read : Result block.Read ChainError → Option Chain
 chain_read (Ok read) = Some read.chain
 chain_read (Err e) = None
@@ -35,7 +29,7 @@ pub record IsBlock (f : Frame) (all : List Line) (read : Result block.Read Chain
   pub place : f.first_line ≡ length front + 1
   pub read_is : block.chain_of f.first_line f.n f.outputs lines ≡ read
 
--- This chain was read from its block, behind which so many lines stand before the next.
+-- This chain was read from its block, after which so many lines stand before the next.
 pub record IsHeld (h : Heading) (c : Chain) (behind number : ℕ) (all : List Line) : Type 0 where
   pub front : List Line
   pub lines : List Line

@@ -112,7 +112,7 @@ chain_is b h c own all valid lines same is steps held =
     ap chain_read (lines_read (length held.front + 1) own (v ∷ e ∷ []) (small_chain b.heading (length b.sections) own valid.heading found)) in
     some_same c own (sym held.read_is ∙ (λ i. chain_read (block.chain_of (length held.front + 1) (inputs i) (outs i) (behind i))) ∙ read)
 
--- ---- the verdict tells whether a chain stands there
+-- ---- the verdict says whether a chain stands there
 
 size_found : (m n : ℕ) (low most : Option ℕ) → found m low ≡ found n most → m ≡ n
 size_found m n None None e = cc

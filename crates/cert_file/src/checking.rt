@@ -31,10 +31,10 @@ pub fn check_bundle(alloc: Global, bytes: &[u8]) -> Result<Verdict, BundleError>
     // What has a verdict is the text of a valid bundle that has it, and each such text has one.
     ensures verdict { IfOk result (λ v. HasVerdict bytes.now v) }
     ensures accepted { (b : Bundle) → IsBundle bytes.now b → Gives (λ v. v) result (Ok b.verdict) }
-    // The verdict is true of the tables and the basis that the text tells.
+    // The verdict is true of the tables and the basis that the text states.
     ensures means { IfOk result (λ v. (b : Bundle) → IsBundle bytes.now b →
         Means (specification b.heading.spec) (members b.heading.basis) v) }
-    // It is true as well of the tables and the basis that the lines spell: those behind the first line.
+    // It is true as well of the tables and the basis that the lines spell: those after the first line.
     ensures asks { IfOk result (λ v. (w : Words) × (basis : ℕ) × HasQuestion bytes.now w basis) }
     ensures answers { IfOk result (λ v. (w : Words) (basis : ℕ) → HasQuestion bytes.now w basis →
         Means (specification w) (members basis) v) }

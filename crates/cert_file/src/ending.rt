@@ -7,12 +7,14 @@ ghost use Rattle.chain_core.specs.Steps.{steps_of};
 ghost use Rattle.text_core.specs.Items.{items_of};
 ghost use Rattle.cert_theory.specs.Gives.{Gives};
 ghost use Rattle.cert_theory.specs.Coding.{is_titled};
+ghost use Rattle.cert_theory.specs.declared.data.Verdict.TheVariants as verdicts;
 ghost use Rattle.cert_theory.specs.Judging as judging;
 ghost use Rattle.cert_file.specs.Asking.{heading_in};
 ghost use Rattle.cert_file.specs.Refusals.{IsRefusal};
-ghost use Rattle.cert_file.specs.TextLines.{line_of};
+ghost use Rattle.line_reader.specs.TextLines.{line_of};
+ghost use Rattle.line_reader.specs.Cuts.{IsPlace};
 ghost use Rattle.cert_file.specs.Stages.{Answer, Judged, IsStage, IsKnown, AreRead, AreNamed, outs_then, steps_then};
-ghost use Rattle.cert_file.specs.Telling.{IsPlace, IsBlock, IsHeld, HasEnded, Tells};
+ghost use Rattle.cert_file.specs.Telling.{IsBlock, IsHeld, HasEnded, Tells};
 
 use crate::lines::{GREATEST, TextLine, begins, is_line, number_behind, value_of};
 use crate::stage::Stage;
@@ -211,7 +213,7 @@ fn is_same(verdict: Verdict, due: Verdict) -> bool
 
 /// The two numbers of a bounded verdict.
 fn bounded_in(text: &[u8]) -> Option<Verdict>
-    ensures { result ≡ judging.bounded_in (items_of text.now) }
+    ensures { result ≡ judging.bounded_in (λ low r. verdicts.Bounded low r) (items_of text.now) }
 {
     let (low, Some(rest)) = next_item(text) else {
         return None;
@@ -249,7 +251,7 @@ pub(crate) fn not_found_in(line: &TextLine) -> Option<Verdict>
     Some(Verdict::Open { low })
 }
 
-/// The verdict behind a chain.
+/// The verdict after a chain.
 #[tactic(auto, unfolding(cert_theory::specs::Judging::behind_chain))]
 pub(crate) fn at_found(
     heading: Heading,
@@ -278,7 +280,7 @@ pub(crate) fn at_found(
     })
 }
 
-/// The verdict of a line where no chain stands. By fences a title behind a section, where no part is due
+/// The verdict of a line where no chain stands. By fences a title after a section, where no part is due
 /// any more, is a fault of its own.
 fn verdict_at(method: Method, size: u32, line: &TextLine) -> Result<Verdict, BundleError>
     ensures { Gives (λ v. v) result (judging.verdict_at (is_titled method && nat_lt 0 size) line.now.number (line_of line.now)) }

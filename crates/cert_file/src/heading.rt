@@ -5,7 +5,7 @@ ghost use Rattle.tt_core.specs.Words.{IsSpec};
 ghost use Rattle.tt_core.specs.Tables as tables;
 ghost use Rattle.settings.specs.Synth.{most_steps};
 ghost use Rattle.cert_theory.specs.Judging as judging;
-ghost use Rattle.cert_file.specs.TextLines.{line_of};
+ghost use Rattle.line_reader.specs.TextLines.{line_of};
 ghost use Rattle.cert_file.specs.Asking.{with_max, with_conflicts, with_method, heading_by, heading_in};
 ghost use Rattle.cert_file.specs.Stages.{Answer, Judged, IsStage};
 ghost use Rattle.cert_file.specs.Telling.{Tells};
@@ -13,9 +13,8 @@ ghost use Rattle.cert_file.specs.Telling.{Tells};
 use crate::lines::{TextLine, is_line, value_of};
 use crate::stage::Stage;
 use cert_theory::{BundleError, Heading};
-use settings::Method;
 use op_basis::{Basis, read_basis, write_basis};
-use settings::{MOST_CONFLICTS, MOST_STEPS, method_named};
+use settings::{MOST_CONFLICTS, MOST_STEPS, Method, method_named};
 use std::alloc::{AllocError, Global};
 use text_core::{begins_lower, number_up_to};
 use tt_core::{Spec, are_cells, inputs, push_row};
@@ -75,7 +74,7 @@ pub fn basis_in(alloc: Global, line: &TextLine) -> Result<Option<Basis>, AllocEr
     Ok(Some(basis))
 }
 
-/// The line behind the tables, which is that of the basis.
+/// The line after the tables, which is that of the basis.
 #[tactic(auto, unfolding(cert_theory::specs::Judging::with_tables, cert_theory::specs::Judging::behind_tables, crate::specs::Asking::heading_by, crate::specs::Asking::with_basis))]
 fn at_basis(
     alloc: Global,
@@ -102,7 +101,7 @@ fn at_basis(
     })
 }
 
-/// A table, or the line behind the tables.
+/// A table, or the line after the tables.
 #[tactic(auto, unfolding(cert_theory::specs::Judging::with_tables, tt_core::specs::Tables::rows_of, crate::specs::Asking::heading_by))]
 pub(crate) fn at_tables(
     alloc: Global,

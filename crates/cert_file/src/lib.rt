@@ -3,7 +3,7 @@
 //! `lrat_check` for logs, and on the encodings for the formulas that logs refute.
 //!
 //! The theorem is that of `check_bundle`: bytes get a verdict exactly where they are the text of a
-//! valid bundle that has it, and the verdict is true; else the first fault is told. A text is judged
+//! valid bundle that has it, and the verdict is true; else the first fault is reported. A text is judged
 //! a line at a time, and of the logs no more is kept than one part's checker: `PartReader` takes the log of a
 //! part wherever it stands, and `Stage` walks from part to part. `BundleReader` takes the text in pieces, wherever
 //! it is cut; a whole text is one piece. Single lines are read by functions of their own, for texts that have such
@@ -18,6 +18,7 @@ mod checking;
 mod ending;
 mod formulas;
 mod heading;
+mod line_stage;
 mod lines;
 mod logs;
 mod onward;

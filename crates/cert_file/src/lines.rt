@@ -3,24 +3,14 @@ ghost use Rattle.std.specs.Prelude.{◌≡◌};
 ghost use Rattle.std.specs.Option.{option_copied};
 ghost use Rattle.cert_theory.specs.Judging as judging;
 ghost use Rattle.cert_theory.specs.PartLines as parts;
-ghost use Rattle.cert_file.specs.TextLines.{line_of};
+ghost use Rattle.line_reader.specs.TextLines.{line_of};
 
 use cert_theory::{BundleError, PartError};
+pub use line_reader::TextLine;
 use text_core::{after, number_up_to};
 
 /// The greatest number of nine digits.
 pub(crate) const GREATEST: u32 = 999_999_999;
-
-/// A line of a text.
-#[derive(Clone, Copy)]
-pub struct TextLine<'a> {
-    /// Its bytes, without the LF.
-    pub text: &'a [u8],
-    /// Whether an LF ends it.
-    pub ended: bool,
-    /// Which line of the text it is, from 1 on.
-    pub number: u32,
-}
 
 /// A fault of a part, at a line.
 pub(crate) fn fault_at(number: u32, fault: PartError) -> BundleError
@@ -51,7 +41,7 @@ pub fn begins(word: &[u8], line: &TextLine) -> bool
     after(word, line.text).is_some()
 }
 
-/// What stands behind a word, up to the LF.
+/// What stands after a word, up to the LF.
 pub fn value_of<'a>(word: &[u8], line: &TextLine<'a>) -> Option<&'a [u8]>
     ensures { option_copied result ≡ judging.value_of word.now (line_of line.now) }
 {
@@ -61,7 +51,7 @@ pub fn value_of<'a>(word: &[u8], line: &TextLine<'a>) -> Option<&'a [u8]>
     after(word, line.text)
 }
 
-/// The number behind a word.
+/// The number after a word.
 pub fn number_behind(word: &[u8], line: &TextLine) -> Option<u32>
     ensures { result ≡ judging.number_behind word.now (line_of line.now) }
 {

@@ -1,5 +1,5 @@
 //! The lines of a log, and its end, as lines of a bundle: each goes to the reader of the part, and what comes
-//! behind the end is the next part or the next size.
+//! after the end is the next part or the next size.
 ghost use Rattle.std.specs.Prelude.{◌≡◌, ℕ, ◌+◌, ◌<◌, List, ◌∷◌, Some, IfOk};
 ghost use Rattle.text_core.specs.Lines as lines;
 ghost use Rattle.cert_theory.specs.Judging as judging;
@@ -7,7 +7,7 @@ ghost use Rattle.cert_theory.specs.PartLines as parts;
 ghost use Rattle.cert_theory.specs.Bundle as bundles;
 ghost use Rattle.enc_theory.specs.declared.part.Part.{Part};
 ghost use Rattle.cert_file.specs.Asking.{heading_in};
-ghost use Rattle.cert_file.specs.TextLines.{line_of};
+ghost use Rattle.line_reader.specs.TextLines.{line_of};
 ghost use Rattle.cert_file.specs.Stages.{Answer, Judged, Stands, IsStage, IsRunning, IsPart, later_of, IsBegun, IsLogging};
 ghost use Rattle.cert_file.specs.Telling.{Tells};
 
@@ -73,7 +73,7 @@ fn low_with(low: Option<u32>, end: Ended, size: u32) -> Option<u32>
     }
 }
 
-/// What comes behind a part whose log ends so.
+/// What comes after a part whose log ends so.
 fn behind(running: Running, end: Ended) -> Stage
     requires { IsRunning running }
     ensures keeps { (number : ℕ) → IsStage result number }

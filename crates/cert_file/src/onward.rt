@@ -3,10 +3,11 @@
 ghost use Rattle.std.specs.Prelude.{◌≡◌, ◌+◌, ◌^◌, ◌<◌, List, [], ◌∷◌, IfOk};
 ghost use Rattle.text_core.specs.Lines.{Line};
 ghost use Rattle.cert_theory.specs.Gives.{Gives};
-ghost use Rattle.cert_file.specs.TextLines.{line_of};
+ghost use Rattle.line_reader.specs.TextLines.{line_of};
+ghost use Rattle.line_reader.specs.Cuts.{IsPlace};
 ghost use Rattle.cert_file.specs.Stages as stages;
 ghost use Rattle.cert_file.specs.Stages.{Answer, IsStage, IsKnown, Stands, Judged};
-ghost use Rattle.cert_file.specs.Telling.{IsPlace, Tells, HasTold};
+ghost use Rattle.cert_file.specs.Telling.{Tells, HasTold};
 
 use crate::ending::{at_end, at_found, at_outs, at_steps};
 use crate::heading::{at_conflicts, at_inputs, at_max, at_method, at_start, at_tables};
@@ -76,7 +77,7 @@ pub(crate) fn take(alloc: Global, stage: Stage, line: &TextLine) -> Result<Stage
     }
 }
 
-/// What the text tells, where nothing is due.
+/// What the text states, where nothing is due.
 fn told_in(stage: Stage) -> Option<Told>
     ensures { result ≡ stages.told_in stage }
 {

@@ -174,7 +174,7 @@ fn refusal(fault: CheckError) -> PartError
     }
 }
 
-/// Takes a line of a log, and tells how many clauses it adds.
+/// Takes a line of a log, and reports how many clauses it adds.
 fn logged(
     alloc: Global,
     checker: &mut Checker,

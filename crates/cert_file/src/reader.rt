@@ -1,22 +1,21 @@
 //! A text that comes in pieces, wherever it is cut. A reader keeps the stage that its whole lines have come to,
-//! and the unfinished line behind them; so what is fed decides what it is, and not where the pieces end.
-ghost use Rattle.std.specs.Prelude.{◌≡◌, ◌+◌, ◌^◌, ◌<◌, ◌≤◌, List, ℕ, [], ◌∷◌, ◌++◌, true, length, Ok, IfOk};
-ghost use Rattle.text_core.specs.Lines.{Line, lines_of, last_line, line_bytes};
+//! and the unfinished line after them; so what is fed decides what it is, and not where the pieces end.
+ghost use Rattle.std.specs.Prelude.{◌≡◌, ◌+◌, ◌^◌, ◌<◌, List, ℕ, [], ◌++◌, length, Ok, IfOk};
+ghost use Rattle.text_core.specs.Lines.{lines_of, line_bytes};
+ghost use Rattle.line_reader.specs.Cuts.{HasNoEnd};
+ghost use Rattle.line_reader.specs.Seen as pieces;
 ghost use Rattle.cert_theory.specs.Gives.{Gives};
 ghost use Rattle.cert_theory.specs.Bundle.{Bundle};
 ghost use Rattle.cert_theory.specs.Spelling.{IsBundle, HasVerdict};
 ghost use Rattle.cert_theory.specs.Judging.{bundle_of};
-ghost use Rattle.cert_file.specs.Stages.{Answer, IsStage, IsKnown, Stands, Judged};
-ghost use Rattle.cert_file.specs.Telling.{IsPlace, Tells, HasTold, IsTold};
-ghost use Rattle.cert_file.specs.Reader.{seen, IsReader, StandsFor, HasRead, HasNoEnd, with_end};
+ghost use Rattle.cert_file.specs.Telling.{IsTold};
+ghost use Rattle.cert_file.specs.Reader.{seen, IsReader, StandsFor, HasRead};
 
-use crate::lines::TextLine;
-use crate::onward::{take, told_of};
 use crate::stage::Stage;
 use crate::told::Told;
 use cert_theory::{BundleError, Verdict};
+use line_reader::PieceReader;
 use std::alloc::Global;
-use text_core::next_line;
 
 /// A certificate, as far as it was read. It keeps what its stage keeps, which of the logs is one part's checker,
 /// and the unfinished line; nothing of the lines before.
@@ -31,59 +30,14 @@ pub struct BundleReader {
     pub(crate) fed: usize,
 }
 
-/// Takes a whole line, which an LF ends.
-fn take_text(alloc: Global, stage: Stage, number: u32, text: &[u8]) -> Result<Stage, BundleError>
-    requires stage { IsStage stage number }
-    requires number { number < 2 ^ 31 }
-    ensures keeps { IfOk result (λ s. IsStage s (number + 1)) }
-    ensures answer { (lines ls : List Line) (answer : Answer) → Stands stage number lines answer →
-        lines ≡ record { text = text.now; ended = true } ∷ ls → Judged result (number + 1) ls answer }
-    ensures tells { (lines ls all : List Line) → IsPlace number lines all → Tells stage number lines all →
-        lines ≡ record { text = text.now; ended = true } ∷ ls → IfOk result (λ s. Tells s (number + 1) ls all) }
-{
-    let line = TextLine {
-        text,
-        ended: true,
-        number,
-    };
-    take(alloc, stage, &line)
-}
-
-/// Judges what no LF ends, where something stands there, and the end behind it.
-fn close(stage: Stage, number: u32, unfinished: &Vec<u8>) -> Result<Told, BundleError>
-    requires stage { IsStage stage number }
-    requires number { number + length unfinished.now.items ≤ 2 ^ 31 }
-    ensures answer { (answer : Answer) → Stands stage number (last_line unfinished.now.items) answer → Gives (λ t. t.verdict) result answer }
-    ensures tells { (all : List Line) → IsPlace number (last_line unfinished.now.items) all →
-        Tells stage number (last_line unfinished.now.items) all → IfOk result (λ t. HasTold t all) }
-    ensures known { IfOk result (λ t. IsKnown t.heading) }
-{
-    if unfinished.is_empty() {
-        return told_of(stage, number);
-    }
-    let line = TextLine {
-        text: unfinished,
-        ended: false,
-        number,
-    };
-    let stage = take(*unfinished.allocator(), stage, &line)?;
-    told_of(stage, number + 1)
-}
-
 impl BundleReader {
     /// Nothing was fed yet. It takes no memory.
-    #[tactic(auto, using(crate::proofs::Cutting::readers))]
     pub fn new(alloc: Global) -> BundleReader
         ensures whole { IsReader (seen result) }
         ensures stands { StandsFor (seen result) [] }
         ensures fed { result.fed ≡ 0 }
     {
-        BundleReader {
-            stage: Stage::Start,
-            number: 1,
-            unfinished: Vec::new(alloc),
-            fed: 0,
-        }
+        BundleReader::of(PieceReader::new(alloc))
     }
 
     /// Takes the next piece of the text. A refusal is that of every text that goes on so.
@@ -94,13 +48,10 @@ impl BundleReader {
         ensures read { (text : List ℕ) → StandsFor (seen self) text → HasRead result (text ++ piece.now) }
         ensures fed { IfOk result (λ reader. reader.fed ≡ self.fed + length piece.now) }
     {
-        let mut reader = self;
-        let mut left = piece;
-        while let Some((text, ended, rest)) = next_line(left) {
-            reader = reader.feed_line(text, ended)?;
-            left = rest;
+        match self.pieces().feed(piece) {
+            Ok(reader) => Ok(BundleReader::of(reader)),
+            Err(error) => Err(error),
         }
-        Ok(reader)
     }
 
     /// Takes a text without an LF, and then the LF where one ends it.
@@ -112,71 +63,13 @@ impl BundleReader {
             HasRead result (before ++ line_bytes (record { text = text.now; ended = ended })) }
         ensures fed { IfOk result (λ reader. reader.fed ≡ self.fed + length (line_bytes (record { text = text.now; ended = ended }))) }
     {
-        if ended {
-            return self.end_line(text);
+        match self.pieces().feed_line(text, ended) {
+            Ok(reader) => Ok(BundleReader::of(reader)),
+            Err(error) => Err(error),
         }
-        let BundleReader {
-            stage,
-            number,
-            unfinished,
-            fed,
-        } = self;
-        let mut unfinished = unfinished;
-        if unfinished.extend_from_slice(text).is_err() {
-            // dropped here at once: left to the exit, each of its fields would be
-            drop(stage);
-            return Err(BundleError::Memory);
-        }
-        Ok(BundleReader {
-            stage,
-            number,
-            unfinished,
-            fed: fed + text.len(),
-        })
     }
 
-    /// Takes the end of a line, and the LF behind it. A line that stands in one piece isn't copied.
-    fn end_line(self, text: &[u8]) -> Result<BundleReader, BundleError>
-        requires whole { IsReader (seen self) }
-        requires room { self.fed + length text.now + 1 < 2 ^ 31 }
-        ensures whole { IfOk result (λ reader. IsReader (seen reader)) }
-        ensures read { (before : List ℕ) → HasNoEnd text.now → StandsFor (seen self) before →
-            HasRead result (before ++ with_end text.now) }
-        ensures fed { IfOk result (λ reader. reader.fed ≡ self.fed + length text.now + 1) }
-    {
-        let BundleReader {
-            stage,
-            number,
-            unfinished,
-            fed,
-        } = self;
-        let alloc = *unfinished.allocator();
-        if unfinished.is_empty() {
-            let stage = take_text(alloc, stage, number, text)?;
-            return Ok(BundleReader {
-                stage,
-                number: number + 1,
-                unfinished,
-                fed: fed + text.len() + 1,
-            });
-        }
-        let mut line = unfinished;
-        if line.extend_from_slice(text).is_err() {
-            // dropped here at once: left to the exit, each of its fields would be
-            drop(stage);
-            return Err(BundleError::Memory);
-        }
-        let stage = take_text(alloc, stage, number, &line)?;
-        line.clear();
-        Ok(BundleReader {
-            stage,
-            number: number + 1,
-            unfinished: line,
-            fed: fed + text.len() + 1,
-        })
-    }
-
-    /// Judges the text, which ends here, and hands out what it tells, where it is the text of a valid bundle;
+    /// Judges the text, which ends here, and hands out what it states, where it is the text of a valid bundle;
     /// else its first fault.
     pub fn tell(self) -> Result<Told, BundleError>
         requires { IsReader (seen self) }
@@ -186,13 +79,7 @@ impl BundleReader {
         ensures told { (text : List ℕ) (b : Bundle) → StandsFor (seen self) text → IsBundle text b → IfOk result (λ t. IsTold b t) }
         ensures operators { IfOk result (λ t. 0 < t.heading.basis) }
     {
-        let BundleReader {
-            stage,
-            number,
-            unfinished,
-            ..
-        } = self;
-        close(stage, number, &unfinished)
+        self.pieces().finish()
     }
 
     /// Judges the text, which ends here: its verdict where it is the text of a valid bundle, else its first
@@ -210,5 +97,41 @@ impl BundleReader {
         // dropped here at once: left to the exit, each of its fields would be
         drop(told);
         Ok(verdict)
+    }
+
+    /// The reader of lines that it is.
+    fn pieces(self) -> PieceReader<Stage>
+        ensures { pieces.seen result ≡ seen self }
+    {
+        let BundleReader {
+            stage,
+            number,
+            unfinished,
+            fed,
+        } = self;
+        PieceReader {
+            stage,
+            number,
+            unfinished,
+            fed,
+        }
+    }
+
+    /// The certificate that a reader of lines reads.
+    fn of(reader: PieceReader<Stage>) -> BundleReader
+        ensures { seen result ≡ pieces.seen reader }
+    {
+        let PieceReader {
+            stage,
+            number,
+            unfinished,
+            fed,
+        } = reader;
+        BundleReader {
+            stage,
+            number,
+            unfinished,
+            fed,
+        }
     }
 }

@@ -4,10 +4,11 @@ ghost use Rattle.text_core.specs.Lines.{Line};
 ghost use Rattle.cert_theory.specs.Gives.{Gives};
 ghost use Rattle.cert_theory.specs.Judging as judging;
 ghost use Rattle.cert_theory.specs.Bundle.{parts_of};
-ghost use Rattle.cert_file.specs.TextLines.{line_of};
+ghost use Rattle.line_reader.specs.TextLines.{line_of};
+ghost use Rattle.line_reader.specs.Cuts.{IsPlace};
 ghost use Rattle.cert_file.specs.Asking.{heading_in};
 ghost use Rattle.cert_file.specs.Stages.{Answer, Judged, Stands, IsStage, IsKnown};
-ghost use Rattle.cert_file.specs.Telling.{IsPlace, Tells};
+ghost use Rattle.cert_file.specs.Telling.{Tells};
 
 use crate::ending::at_ending;
 use crate::formulas::parts_of;
@@ -31,7 +32,7 @@ fn size_at(heading: &Heading, size: u32, line: &TextLine) -> Result<(), BundleEr
     Ok(())
 }
 
-/// What comes behind the line of a size, or behind a part: the next part, or the next size.
+/// What comes after the line of a size, or after a part: the next part, or the next size.
 pub(crate) fn due(running: Running) -> Stage
     requires known { IsKnown running.heading }
     requires size { running.size ≤ running.heading.max }

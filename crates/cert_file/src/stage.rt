@@ -27,7 +27,7 @@ pub(crate) enum Stage {
     Start,
     /// The number of inputs.
     Inputs,
-    /// A table, or the basis behind the tables.
+    /// A table, or the basis after the tables.
     Tables {
         n: u32,
         on: Vec<u64>,
@@ -85,7 +85,7 @@ pub(crate) enum Stage {
         steps: Vec<Step>,
         outs: Vec<Out>,
     },
-    /// The verdict behind this chain.
+    /// The verdict after this chain.
     Found {
         heading: Heading,
         low: Option<u32>,

@@ -3,7 +3,7 @@ ghost use Rattle.std.specs.Prelude.{◌≡◌, ◌+◌, ◌<◌, ◌^◌, List, 
 ghost use Rattle.text_core.specs.Lines.{Line};
 ghost use Rattle.text_core.specs.Items.{items_of};
 ghost use Rattle.cert_theory.specs.Judging as judging;
-ghost use Rattle.cert_file.specs.TextLines.{line_of};
+ghost use Rattle.line_reader.specs.TextLines.{line_of};
 ghost use Rattle.cert_file.specs.Stages.{Answer, Judged, IsStage, IsRunning, IsPart};
 ghost use Rattle.cert_file.specs.Asking.{heading_in};
 ghost use Rattle.cert_file.specs.Telling.{Tells};
@@ -65,7 +65,7 @@ fn is_count(line: &TextLine) -> bool
     }
 }
 
-/// Whether a line could stand where a title is due: another title, or what stands behind a section.
+/// Whether a line could stand where a title is due: another title, or what stands after a section.
 #[tactic(auto, unfolding(cert_theory::specs::Judging::may_follow))]
 fn may_follow(line: &TextLine) -> bool
     ensures { result ≡ judging.may_follow (line_of line.now) }
@@ -76,7 +76,7 @@ fn may_follow(line: &TextLine) -> bool
         || not_found_in(line).is_some()
 }
 
-/// Reads the title of a part, and tells whether it bears one. `follows` tells whether the line could stand
+/// Reads the title of a part, and reports whether it bears one. `follows` says whether the line could stand
 /// there otherwise.
 #[tactic(auto, unfolding(cert_theory::specs::PartLines::title_in))]
 fn title_in(alloc: Global, part: &Part, line: &TextLine, follows: bool) -> Result<bool, PartError>

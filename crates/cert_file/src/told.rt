@@ -1,4 +1,4 @@
-//! What the text of a bundle tells.
+//! What the text of a bundle states.
 use cert_theory::{Heading, Verdict};
 use chain_core::Chain;
 

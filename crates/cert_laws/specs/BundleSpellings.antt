@@ -21,7 +21,7 @@ use Rattle.cert_laws.specs.LineSpellings.{as_ok, is_line_spells, basis_spells, m
 use Rattle.cert_laws.specs.TableSpellings.{tables_read}
 use Rattle.cert_laws.specs.SectionSpellings.{Rest, sections_spell}
 
--- what is read behind the tables
+-- what is read after the tables
 record Read (w : Words) (ls : List Line) (v : Verdict) : Type 0 where
   h : Heading
   spec_is : h.spec ≡ w

@@ -92,7 +92,7 @@ basis_next : (w : Words) (number basis : ℕ) (ls : List Line) → 0 < basis →
 unfolding behind_tables
 basis_next w number basis ls some low = ap (λ (o : Option ℕ). or_syntax number o >>= λ b. behind_basis w b (number + 1) ls) (basis_again basis some low)
 
--- the lines of a heading are read, and those behind them are sections
+-- the lines of a heading are read, and those after them are sections
 heading_again : (h : Heading) (rest : List Line) (v : Verdict) → IsHeading h → 0 < length h.spec.on → ((number : ℕ) → sections_of h number beginning rest ≡ Ok v) → bundle_of (heading_lines h ++ rest) ≡ Ok v
 unfolding bundle_of with_tables
 heading_again h rest v is output onward =

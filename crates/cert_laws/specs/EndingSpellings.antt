@@ -34,7 +34,7 @@ use Rattle.cert_theory.specs.Bundle.{found, not_found, IsEnding}
 use Rattle.cert_theory.specs.Spelling.{verdict_line, end_text, ending_lines}
 use Rattle.cert_theory.specs.Gives.{◌>>=◌}
 use Rattle.cert_theory.specs.PartLines.{is_line}
-use Rattle.cert_theory.specs.Judging.{or_syntax, as_syntax, begins, value_of, is_same, number_behind, both, bounded_in, found_in, not_found_in, follows, nothing_behind, end_of, behind_chain, chain_place, steps_at, frame_of, or_differs, or_outside, chain_judged, with_block, chain_at, no_chain_at, ending_at, is_title}
+use Rattle.cert_theory.specs.Judging.{or_syntax, as_syntax, begins, value_of, is_same, number_behind, both, bounded_in, numbered_in, found_in, not_found_in, follows, nothing_behind, end_of, behind_chain, chain_place, steps_at, frame_of, or_differs, or_outside, chain_judged, with_block, chain_at, no_chain_at, ending_at, is_title}
 use Rattle.cert_theory.specs.GivesLaws.{bind_ok, test_ok, read_ok}
 use Rattle.cert_laws.specs.BlockReads.{chain_read}
 use Rattle.cert_laws.specs.DifferenceLaws.{difference_compares}
@@ -49,34 +49,38 @@ map_some f (Some x) y e = (x, refl, some_is (f x) y e)
 pub number_spelled : (word : List ℕ) (l : Line) (n : ℕ) → number_behind word l ≡ Some n → l ≡ line (word ++ decimal n)
 number_spelled word l n e = (number_at 999999999 word l n (omega arith) e).1
 
-both_some : (a b : Option ℕ) (v : Verdict) → both a b ≡ Some v → (low : ℕ) × (r : ℕ) × (a ≡ Some low) × (b ≡ Some r) × (verdicts.Bounded low r ≡ v)
-both_some (Some low) (Some r) v e = (low, r, refl, refl, some_is (verdicts.Bounded low r) v e)
-both_some (Some low) None v e = absurd cc
-both_some None b v e = absurd cc
+both_some : {V : Type 0} (bounded : ℕ → ℕ → V) (a b : Option ℕ) (v : V) → both bounded a b ≡ Some v → (low : ℕ) × (r : ℕ) × (a ≡ Some low) × (b ≡ Some r) × (bounded low r ≡ v)
+both_some bounded (Some low) (Some r) v e = (low, r, refl, refl, some_is (bounded low r) v e)
+both_some bounded (Some low) None v e = absurd cc
+both_some bounded None b v e = absurd cc
 
-bounded_some : (items : List (List ℕ)) (v : Verdict) → bounded_in items ≡ Some v → (low : ℕ) × (r : ℕ) × (items ≡ decimal low ∷ decimal r ∷ []) × (verdicts.Bounded low r ≡ v)
-bounded_some [] v e = absurd cc
-bounded_some (a ∷ []) v e = absurd cc
-bounded_some (a ∷ b ∷ []) v e =
-    let parts = both_some (number_in a) (number_in b) v e in
+bounded_some : {V : Type 0} (bounded : ℕ → ℕ → V) (items : List (List ℕ)) (v : V) → bounded_in bounded items ≡ Some v → (low : ℕ) × (r : ℕ) × (items ≡ decimal low ∷ decimal r ∷ []) × (bounded low r ≡ v)
+bounded_some bounded [] v e = absurd cc
+bounded_some bounded (a ∷ []) v e = absurd cc
+bounded_some bounded (a ∷ b ∷ []) v e =
+    let parts = both_some bounded (number_in a) (number_in b) v e in
     let first = number_spells 999999999 parts.0 a (omega arith) parts.2 in
     let second = number_spells 999999999 parts.1 b (omega arith) parts.3 in
     (parts.0, parts.1, (λ i. first.1 i ∷ second.1 i ∷ []), parts.4)
-bounded_some (a ∷ b ∷ c ∷ ws) v e = absurd cc
+bounded_some bounded (a ∷ b ∷ c ∷ ws) v e = absurd cc
+
+-- A verdict of one number or of two is the line that spells it.
+pub numbered_spells : {V : Type 0} (one : ℕ → V) (bounded : ℕ → ℕ → V) (first second : List ℕ) (text : V → List ℕ) (l : Line) (v : V) → ((r : ℕ) → text (one r) ≡ first ++ decimal r) → ((low r : ℕ) → text (bounded low r) ≡ second ++ (decimal low ++ 32 ∷ decimal r)) → numbered_in one bounded first second l ≡ Some v → l ≡ line (text v)
+numbered_spells {V} one bounded first second text l v spells_one spells_two e =
+    ⊎_elim
+    (λ (least : (begins first l ≡ true) × (option_map one (number_behind first l) ≡ Some v)).
+    let parts = map_some one (number_behind first l) v least.1 in
+    number_spelled first l parts.0 parts.1 ∙ ap (λ (ds : List ℕ). line ds) (sym (spells_one parts.0)) ∙ ap (λ (w : V). line (text w)) parts.2)
+    (λ (rest : (begins first l ≡ false) × (option_and_then (λ pair. bounded_in bounded (items_of pair)) (value_of second l) ≡ Some v)).
+    option_and_then_some (λ pair. bounded_in bounded (items_of pair)) (value_of second l) v rest.1 (λ pair behind is.
+    let parts = bounded_some bounded (items_of pair) v is in
+    let spelled : pair ≡ decimal parts.0 ++ 32 ∷ decimal parts.1 = sym (items_spell pair) ∙ ap (join_with_byte 32) parts.2 in
+    value_spells second l pair behind ∙ ap (λ (ds : List ℕ). line (second ++ ds)) spelled ∙ ap (λ (ds : List ℕ). line ds) (sym (spells_two parts.0 parts.1)) ∙ ap (λ (w : V). line (text w)) parts.3))
+    (chosen (begins first l) (option_map one (number_behind first l)) (option_and_then (λ pair. bounded_in bounded (items_of pair)) (value_of second l)) (Some v) e)
 
 pub found_spells : (l : Line) (v : Verdict) → found_in l ≡ Some v → l ≡ line (verdict_line v)
 unfolding found_in verdict_line
-found_spells l v e =
-    ⊎_elim
-    (λ (least : (begins (codes "minimum ") l ≡ true) × (option_map (λ r. verdicts.Minimum r) (number_behind (codes "minimum ") l) ≡ Some v)).
-    let parts = map_some (λ (r : ℕ). verdicts.Minimum r) (number_behind (codes "minimum ") l) v least.1 in
-    number_spelled (codes "minimum ") l parts.0 parts.1 ∙ ap (λ (w : Verdict). line (verdict_line w)) parts.2)
-    (λ (rest : (begins (codes "minimum ") l ≡ false) × (option_and_then (λ pair. bounded_in (items_of pair)) (value_of (codes "bounded ") l) ≡ Some v)).
-    option_and_then_some (λ pair. bounded_in (items_of pair)) (value_of (codes "bounded ") l) v rest.1 (λ pair behind is.
-    let parts = bounded_some (items_of pair) v is in
-    let spelled : pair ≡ decimal parts.0 ++ 32 ∷ decimal parts.1 = sym (items_spell pair) ∙ ap (join_with_byte 32) parts.2 in
-    value_spells (codes "bounded ") l pair behind ∙ ap (λ (ds : List ℕ). line (codes "bounded " ++ ds)) spelled ∙ ap (λ (w : Verdict). line (verdict_line w)) parts.3))
-    (chosen (begins (codes "minimum ") l) (option_map (λ r. verdicts.Minimum r) (number_behind (codes "minimum ") l)) (option_and_then (λ pair. bounded_in (items_of pair)) (value_of (codes "bounded ") l)) (Some v) e)
+found_spells l v e = numbered_spells (λ r. verdicts.Minimum r) (λ low r. verdicts.Bounded low r) (codes "minimum ") (codes "bounded ") verdict_line l v (λ r. refl) (λ low r. refl) e
 
 pub not_found_spells : (l : Line) (v : Verdict) → not_found_in l ≡ Some v → l ≡ line (verdict_line v)
 unfolding not_found_in verdict_line
@@ -196,13 +200,13 @@ le_is a b e = grind (arith, nat_tests)
 unit_ok : (r : Result (Unit {0}) BundleError) (x : Unit {0}) → r ≡ Ok x → r ≡ Ok tt
 unit_ok r x e = e
 
--- the verdict behind a chain
+-- the verdict after a chain
 behind_is : (number size : ℕ) (low : Option ℕ) (ls : List Line) (v : Verdict) → behind_chain number size low ls ≡ Ok v → IsLast ls (found size low) v
 unfolding behind_chain
 behind_is number size low [] v e = absurd cc
 behind_is number size low (l ∷ ls) v e = (last_by number true (found size low) v l ls (found_in l) (found_spells l) e).1
 
--- the number of steps that a first line tells
+-- the number of steps that a first line states
 count_is : (number k r : ℕ) → k ≤ 16 → count_at number (line (count_text k)) ≡ Ok r → k ≡ r
 unfolding count_at
 count_is number k r few e =

@@ -70,7 +70,7 @@ value_spells word l rest e =
 pub value_back : (word rest : List ℕ) → value_of word (line (word ++ rest)) ≡ Some rest
 value_back word rest = word_back word rest
 
--- a number behind a word
+-- a number after a word
 pub number_at : (limit : ℕ) (word : List ℕ) (l : Line) (n : ℕ) → limit < 2 ^ 64 → option_and_then (number_up_to limit) (value_of word l) ≡ Some n → (n ≤ limit) × (l ≡ line (word ++ decimal n))
 number_at limit word l n narrow e =
     option_and_then_some (number_up_to limit) (value_of word l) n e (λ digits behind is.

@@ -105,6 +105,12 @@ two_items low r short little =
     item_back (decimal low) (decimal r) (free_decimal 32 low (omega arith) (omega arith))
     ∙ ap (λ (xs : List (List ℕ)). decimal low ∷ xs) (last_item_back (decimal r) (free_decimal 32 r (omega arith) (omega arith)))
 
+pub two_again : {V : Type 0} (bounded : ℕ → ℕ → V) (low r : ℕ) → low < 1000000000 → r < 1000000000 → bounded_in bounded (items_of (decimal low ++ 32 ∷ decimal r)) ≡ Some (bounded low r)
+two_again bounded low r short little =
+    ap (bounded_in bounded) (two_items low r short little)
+    ∙ ap (λ (o : Option ℕ). both bounded o (number_in (decimal r))) (number_back 999999999 low (omega arith) (omega arith))
+    ∙ ap (λ (o : Option ℕ). both bounded (Some low) o) (number_back 999999999 r (omega arith) (omega arith))
+
 pub minimum_again : (r : ℕ) → r < 1000000000 → found_in (line (verdict_line (verdicts.Minimum r))) ≡ Some (verdicts.Minimum r)
 unfolding found_in verdict_line after
 minimum_again r short = ap (option_map (λ n. verdicts.Minimum n)) (number_again (codes "minimum ") r short)
@@ -112,9 +118,7 @@ minimum_again r short = ap (option_map (λ n. verdicts.Minimum n)) (number_again
 pub bounded_again : (low r : ℕ) → low < 1000000000 → r < 1000000000 → found_in (line (verdict_line (verdicts.Bounded low r))) ≡ Some (verdicts.Bounded low r)
 unfolding found_in verdict_line after
 bounded_again low r short little =
-    ap bounded_in (two_items low r short little)
-    ∙ ap (λ (o : Option ℕ). both o (number_in (decimal r))) (number_back 999999999 low (omega arith) (omega arith))
-    ∙ ap (λ (o : Option ℕ). both (Some low) o) (number_back 999999999 r (omega arith) (omega arith))
+    two_again verdicts.Bounded low r short little
 
 pub none_again : (x : ℕ) → x < 1000000000 → not_found_in (line (verdict_line (verdicts.NoChain x))) ≡ Some (verdicts.NoChain x)
 unfolding not_found_in verdict_line after

@@ -23,7 +23,7 @@ use Rattle.cert_theory.specs.Bundle.{Section, IsPartLog, EndsAs, AreSections, fi
 use Rattle.cert_theory.specs.Spelling.{size_line, ended_text, done_text, log_line, title_lines, part_lines, section_lines, ending_lines, title_text}
 use Rattle.cert_theory.specs.Gives.{◌>>=◌}
 use Rattle.cert_theory.specs.PartLines.{is_line, logged_in, done_in, title_in, ended_in, part_in}
-use Rattle.cert_theory.specs.Judging.{begins, Place, Between, Begun, Within, Progress, low_with, size_at, section_at, ending_at, sections_of, Due, before, may_follow, or_syntax, at_line, behind_line}
+use Rattle.cert_theory.specs.Judging.{begins, Place, Between, Begun, Within, Progress, low_with, size_at, section_at, ending_at, sections_of, Due, before, may_follow, or_syntax, fault_at, at_line, behind_line}
 use Rattle.cert_theory.specs.GivesLaws.{bind_ok, read_ok, located_ok}
 use Rattle.cert_laws.specs.LineSpellings.{chosen, is_line_spells, size_spells, ended_spells}
 use Rattle.cert_laws.specs.EndingSpellings.{IsEnded, ending_spells}
@@ -49,7 +49,7 @@ pub record Rest (h : Heading) (size : ℕ) (low : Option ℕ) (ls : List Line) (
   pub ending : IsEnding h (size + length sections) (low_or low (first_open sections)) chain v
   pub lines : ls ≡ flat_map section_lines sections ++ ending_lines chain v
 
--- the logs of the parts that are due, and what stands behind the section
+-- the logs of the parts that are due, and what stands after the section
 pub record PartsRest (h : Heading) (size : ℕ) (low : Option ℕ) (due : List Part) (ls : List Line) (v : Verdict) : Type 0 where
   pub parts : List PartLog
   pub parts_are : map part_of parts ≡ due
@@ -106,7 +106,7 @@ ended_rest h size low ls v few ended =
       lines = ended.lines;
     }
 
--- ---- a section more in front
+-- ---- a section more at the head
 
 abbrev pub any_open : List PartLog → Bool
 any_open ps = list_any (λ p. is_open_end p.ended) ps
@@ -116,7 +116,7 @@ unfolding low_after
 low_some low size [] = refl
 low_some low size (p ∷ ps) = low_some low size ps
 
--- the first open size with a section's parts, and those of the sections behind it
+-- the first open size with a section's parts, and those of the sections after it
 low_first : (ended : Ended) (size : ℕ) (ps : List PartLog) (o : Option ℕ) → low_or (low_after None size ps) o ≡ cond (any_open ps) (Some size) o → low_or (low_after (low_with None ended size) size ps) o ≡ cond (is_open_end ended || any_open ps) (Some size) o
 low_first ends.Refuted size ps o rest = rest
 low_first ends.Open size ps o rest = ap (λ (q : Option ℕ). low_or q o) (low_some size size ps)
@@ -155,7 +155,7 @@ size_rest h size low l ls v first parts =
 
 -- ---- parts
 
--- the lines of a part, and those behind it
+-- the lines of a part, and those after it
 pub part_text : (part : Part) (ended : Ended) (log : List theory.Line) (behind : List Line) → part_lines (record { part = part; ended = ended; log = log }) ++ behind ≡ title_lines part ++ (line (ended_text ended) ∷ (map log_line log ++ line done_text ∷ behind))
 unfolding part_lines
 part_text part ended log behind =
@@ -251,7 +251,7 @@ due_case h number size low sizes later l ls v e =
     let title = title_in (may_follow l) sizes l in
     let read = bind_ok (at_line number title) (λ titled. come (progress size low (Begun (Levels sizes) later))) next.0 next.1 in
     let same : progress size low (Begun (Levels sizes) later) ≡ next.0 = progress_is _ next.0 read.2 in
-    record { text = title_spells (may_follow l) sizes l (unit_is title read.0 (located_ok number title read.0 read.1)); next = ap (go_on h number ls) same ∙ next.2 }
+    record { text = title_spells (may_follow l) sizes l (unit_is title read.0 (located_ok (fault_at number) title read.0 read.1)); next = ap (go_on h number ls) same ∙ next.2 }
 
 record BegunCase (h : Heading) (number size : ℕ) (low : Option ℕ) (part : Part) (later : List Part) (l : Line) (ls : List Line) (v : Verdict) : Type 0 where
   ended : Ended
@@ -324,7 +324,7 @@ within_cases h number size low part later ended log l ls v e =
     let next = bind_ok (section_at h number size low (Within part later ended log) l) (go_on h number ls) v e in
     let step = bind_ok (at_line number read) (λ step. come (behind_line size low part later ended log step)) next.0 next.1 in
     let same : behind_line size low part later ended log step.0 ≡ next.0 = progress_is _ next.0 step.2 in
-    within_step h number size low part later ended log l ls v step.0 (located_ok number read step.0 step.1) (ap (go_on h number ls) same ∙ next.2)
+    within_step h number size low part later ended log l ls v step.0 (located_ok (fault_at number) read step.0 step.1) (ap (go_on h number ls) same ∙ next.2)
 
 done_rest : (h : Heading) (number size : ℕ) (low : Option ℕ) (part : Part) (later : List Part) (ended : Ended) (log : List theory.Line) (l : Line) (ls : List Line) (v : Verdict) → IsLog (formula_of h size part) ended log → DoneCase h number size low part later ended log l ls v → PartsRest h size (low_with low ended size) later ls v → LogRest h size low part later ended log (l ∷ ls) v
 done_rest h number size low part later ended log l ls v is done rest = record {

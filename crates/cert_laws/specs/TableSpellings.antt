@@ -82,7 +82,7 @@ table_is w h l is = line_is l (table_text w h) is.ended (fill_by_all (λ t. char
 line_some : (l m : Line) → Some l ≡ Some m → l ≡ m
 line_some l m e = cc
 
--- the tables of the outputs behind the first k
+-- the tables of the outputs after the first k
 tables_from : (w : Words) (m k : ℕ) (ls rest : List Line) → ((i : ℕ) → i < m → slice_get ls i ≡ Some (table_line w (k + i + 1))) → rest ≡ drop m ls → ls ≡ map (λ i. table_line w (i + 1)) (range_with_len k m) ++ rest
 tables_from w zero k ls rest each is = sym is
 tables_from w (suc m) k [] rest each is = let first = each 0 (omega arith) in absurd cc
@@ -98,7 +98,7 @@ table_of w ls rest l spells i low =
     let same : suc i ≡ 0 + i + 1 = omega arith in
     table.1 ∙ ap (λ (m : Line). Some m) (table_is w (suc i) table.0 table.2) ∙ ap (λ (n : ℕ). Some (table_line w n)) same
 
--- the lines of tables that were read, and those behind them
+-- the lines of tables that were read, and those after them
 pub tables_are : (w : Words) (ls rest : List Line) → SpellsTables (specification w) ls rest → ls ≡ tables_lines w ++ rest
 tables_are w [] rest spells = let header = spells.header in absurd cc
 tables_are w (l ∷ ls) rest spells =

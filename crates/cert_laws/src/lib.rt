@@ -6,7 +6,7 @@
 //!   (`specs/BundlesAgain.antt`) walks over what was spelled.
 //! - The verdict of a valid certificate is true (`specs/Meanings.antt`): a size whose parts are all refuted
 //!   has no least chain, by the laws of the method's formulas (`specs/CodingLaws.antt`).
-//! - The text tells for which tables and which basis (`specs/QuestionLaws.antt`).
+//! - The text states for which tables and which basis (`specs/QuestionLaws.antt`).
 //!
 //! The theorems are the contracts of `laws`.
 #![tactic(auto)]

@@ -1,7 +1,8 @@
 //! The search for a chain of the fewest steps.
 use bundle_core::{Bundle, Verdict};
-use settings::Method;
+use cdcl_core::Cdcl;
 use op_basis::Basis;
+use settings::Method;
 use size_loop::{Advance, Search, search};
 use std::alloc::Global;
 use tt_core::read_tables;
@@ -26,7 +27,7 @@ fn searched(
     let Ok(tables) = read_tables(alloc, text) else {
         return None;
     };
-    match search(alloc, &tables.spec, Basis::new(basis), method, max, budget) {
+    match search::<Cdcl>(alloc, &tables.spec, Basis::new(basis), method, max, budget) {
         Ok(bundle) => Some(bundle),
         Err(_) => None,
     }
@@ -195,19 +196,19 @@ fn has_ended(advance: &Advance) -> bool {
 
 /// Whether the next size is the last, with a chain of one step.
 fn ends(alloc: Global, search: Search) -> bool {
-    match search.advance(alloc) {
+    match search.advance::<Cdcl>(alloc) {
         Ok(advance) => has_ended(&advance),
         Err(_) => false,
     }
 }
 
-/// Whether the search for a chain for XOR goes on behind size 0 and ends behind size 1.
+/// Whether the search for a chain for XOR goes on after size 0 and ends after size 1.
 fn goes_on(alloc: Global) -> bool {
     let Ok(tables) = read_tables(alloc, b"inputs 2\n0110\n") else {
         return false;
     };
     let search = Search::new(tables.spec, Basis::new(ALL), Method::Plain, 16, 100_000);
-    match search.advance(alloc) {
+    match search.advance::<Cdcl>(alloc) {
         Ok(Advance::Section { rest, section }) => ends(alloc, rest) && section.size == 0,
         _ => false,
     }

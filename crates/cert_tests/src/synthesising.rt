@@ -3,6 +3,7 @@ ghost use Rattle.std.specs.Prelude.{◌^◌, ◌<◌, length};
 ghost use Rattle.settings.specs.Synth.{IsInRange};
 
 use bundle_core::Verdict;
+use cdcl_core::Cdcl;
 use op_basis::Basis;
 use settings::Method;
 use size_loop::Search;
@@ -33,7 +34,7 @@ fn certified(
         max,
         conflicts,
     };
-    synthesise(alloc, text, &asked)
+    synthesise::<Cdcl>(alloc, text, &asked)
 }
 
 /// What is wanted of a text.
@@ -166,7 +167,7 @@ fn push_piece(
     search: Search,
     whole: &mut Vec<u8>,
 ) -> Result<Option<Search>, AllocError> {
-    match go_on(alloc, search)? {
+    match go_on::<Cdcl>(alloc, search)? {
         Piece::Section { search, text } => {
             whole.extend_from_slice(&text)?;
             Ok(Some(search))
@@ -208,7 +209,7 @@ fn is_in_pieces(alloc: Global, text: &[u8]) -> bool {
     }
     let asked = SynthSettings::usual();
     let pieces = piece_by_piece(alloc, text, &asked);
-    match (synthesise(alloc, text, &asked), pieces) {
+    match (synthesise::<Cdcl>(alloc, text, &asked), pieces) {
         (Ok(certificate), Ok(whole)) => certificate.text.as_slice() == whole.as_slice(),
         (Err(error), Err(told)) => error == told,
         _ => false,

@@ -100,7 +100,7 @@ first_open sections = option_map size_of (find is_open sections)
 
 -- ---- the ending
 
--- the verdict with a chain of so many steps, and without one, where the first open size is given
+-- the verdict with a chain of `size` steps, and without one, where the first open size is given
 abbrev pub found : ℕ → Option ℕ → Verdict
 found size None = verdicts.Minimum size
 found size (Some low) = verdicts.Bounded low size

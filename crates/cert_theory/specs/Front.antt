@@ -6,7 +6,7 @@ use Rattle.cert_theory.specs.declared.data.Heading.{Heading}
 use Rattle.cert_theory.specs.Bundle.{Section, Bundle, IsHeading, AreSections}
 use Rattle.cert_theory.specs.Spelling.{heading_lines, section_lines, text_of, IsBundle}
 
--- the lines of a heading and of some sections behind it
+-- the lines of a heading and of some sections after it
 abbrev pub begun_lines : Heading → List Section → List Line
 begun_lines h sections = heading_lines h ++ flat_map section_lines sections
 
@@ -19,7 +19,7 @@ pub record IsBegun (h : Heading) (sections : List Section) (written : List ℕ) 
   pub sizes_to : length sections ≤ h.max + 1
   pub text : written ≡ text_of (begun_lines h sections)
 
--- A front for a heading is the text of a valid certificate with this heading, or that of the heading and of
+-- A prefix for a heading is the text of a valid certificate with this heading, or that of the heading and of
 -- some whole sections.
 -- Example: of the example of the spelling the first seven lines, the first ten, and all fifteen.
 abbrev pub IsFront : Heading → List ℕ → Type 0

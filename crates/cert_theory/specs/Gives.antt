@@ -5,7 +5,7 @@ use Rattle.cert_theory.specs.declared.data.BundleError.TheVariants.{Memory}
 use Rattle.cert_theory.specs.declared.data.PartError.{PartError}
 use Rattle.cert_theory.specs.declared.data.PartError.TheVariants as part_errors
 
--- one reader behind another; the first refusal is that of both
+-- one reader after another; the first refusal is that of both
 infixl 10 ◌>>=◌
 abbrev pub ◌>>=◌ : {A B E : Type 0} → Result A E → (A → Result B E) → Result B E
 (Ok x) >>= f = f x
@@ -25,6 +25,11 @@ Gives view (Err e) read = Fails e read
 abbrev pub PartFails : {Y : Type 0} → PartError → Result Y PartError → Type 0
 PartFails part_errors.Memory read = Unit {0}
 PartFails e read = read ≡ Err e
+
+-- what was read of a part, with its fault as one of the whole
+abbrev pub with_fault : {A E : Type 0} → (PartError → E) → Result A PartError → Result A E
+with_fault fault (Ok x) = Ok x
+with_fault fault (Err e) = Err (fault e)
 
 abbrev pub GivesPart : {X Y : Type 0} → (X → Y) → Result X PartError → Result Y PartError → Type 0
 GivesPart view (Ok x) read = read ≡ Ok (view x)

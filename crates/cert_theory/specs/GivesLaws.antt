@@ -1,8 +1,8 @@
--- One reader behind another.
+-- One reader after another.
 use Rattle.std.proofs.Common.{◌≡◌, Result, Ok, Err, Bool, true, false, cond, ℕ, Option, Some, None, refl, ap, ◌∙◌}
 use Rattle.cert_theory.specs.declared.data.BundleError.{BundleError}
 use Rattle.cert_theory.specs.declared.data.BundleError.TheVariants.{Syntax, SizeOutOfOrder, StepRefused, NotRefuted, ChainDiffers, OperatorNotInBasis, OpenTooShort, NotNew, WrongVerdict, Memory}
-use Rattle.cert_theory.specs.Gives.{◌>>=◌, Fails, PartFails}
+use Rattle.cert_theory.specs.Gives.{◌>>=◌, Fails, PartFails, with_fault}
 use Rattle.cert_theory.specs.declared.data.PartError.{PartError}
 use Rattle.cert_theory.specs.declared.data.PartError.TheVariants as part_errors
 use Rattle.cert_theory.specs.Judging.{or_syntax, fault_at, at_line}
@@ -76,6 +76,6 @@ located_fails number part_errors.TooShort read is = ap (at_line number) is
 located_fails number part_errors.EmptyStands read is = ap (at_line number) is
 located_fails number part_errors.Memory read is = tt
 
-pub located_ok : {A : Type 0} (number : ℕ) (read : Result A PartError) (x : A) → at_line number read ≡ Ok x → read ≡ Ok x
-located_ok number (Ok y) x e = cc
-located_ok number (Err d) x e = absurd cc
+pub located_ok : {A E : Type 0} (fault : PartError → E) (read : Result A PartError) (x : A) → with_fault fault read ≡ Ok x → read ≡ Ok x
+located_ok fault (Ok y) x e = cc
+located_ok fault (Err d) x e = absurd cc

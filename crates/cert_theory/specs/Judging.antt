@@ -37,7 +37,7 @@ use Rattle.cert_theory.specs.declared.data.BundleError.TheVariants.{Syntax, Size
 use Rattle.cert_theory.specs.declared.data.PartError.{PartError}
 use Rattle.cert_theory.specs.declared.data.PartError.TheVariants as part_errors
 use Rattle.cert_theory.specs.Coding.{is_titled}
-use Rattle.cert_theory.specs.Gives.{◌>>=◌}
+use Rattle.cert_theory.specs.Gives.{◌>>=◌, with_fault}
 use Rattle.cert_theory.specs.PartLines.{is_line, title_in, ended_in, part_in}
 use Rattle.cert_theory.specs.Bundle.{parts_of, formula_of, found, not_found}
 use Rattle.cert_theory.specs.Difference.{difference_of}
@@ -58,7 +58,7 @@ as_syntax place (Err e) = Err (Syntax (place e))
 abbrev pub begins : List ℕ → Line → Bool
 begins word l = is_some (after word l.text)
 
--- what stands behind a word, up to the LF
+-- what stands after a word, up to the LF
 abbrev pub value_of : List ℕ → Line → Option (List ℕ)
 value_of word l = if l.ended then after word l.text else None
 
@@ -108,28 +108,32 @@ fault_at number part_errors.Memory = Memory
 
 -- what was read of a part, or the fault at this line
 abbrev pub at_line : {A : Type 0} → ℕ → Result A PartError → Result A BundleError
-at_line number (Ok x) = Ok x
-at_line number (Err e) = Err (fault_at number e)
+at_line number read = with_fault (fault_at number) read
 
 -- ---- verdicts, as they are written
 
 abbrev pub number_behind : List ℕ → Line → Option ℕ
 number_behind word l = option_and_then block.number_in (value_of word l)
 
-abbrev pub both : Option ℕ → Option ℕ → Option Verdict
-both (Some low) (Some r) = Some (verdicts.Bounded low r)
-both low r = None
+-- a verdict of two numbers
+abbrev pub both : {V : Type 0} → (ℕ → ℕ → V) → Option ℕ → Option ℕ → Option V
+both bounded (Some low) (Some r) = Some (bounded low r)
+both bounded low r = None
 
-abbrev pub bounded_in : List (List ℕ) → Option Verdict
-bounded_in (low ∷ r ∷ []) = both (block.number_in low) (block.number_in r)
-bounded_in items = None
+abbrev pub bounded_in : {V : Type 0} → (ℕ → ℕ → V) → List (List ℕ) → Option V
+bounded_in bounded (low ∷ r ∷ []) = both bounded (block.number_in low) (block.number_in r)
+bounded_in bounded items = None
+
+-- a verdict of one number after the first word, or of two after the second
+abbrev pub numbered_in : {V : Type 0} → (ℕ → V) → (ℕ → ℕ → V) → List ℕ → List ℕ → Line → Option V
+numbered_in one bounded first second l =
+    if begins first l
+    then option_map one (number_behind first l)
+    else option_and_then (λ pair. bounded_in bounded (items_of pair)) (value_of second l)
 
 -- the verdict of a line, where a chain stands before it
 unfoldable pub found_in : Line → Option Verdict
-found_in l =
-    if begins (codes "minimum ") l
-    then option_map (λ r. verdicts.Minimum r) (number_behind (codes "minimum ") l)
-    else option_and_then (λ pair. bounded_in (items_of pair)) (value_of (codes "bounded ") l)
+found_in l = numbered_in (λ r. verdicts.Minimum r) (λ low r. verdicts.Bounded low r) (codes "minimum ") (codes "bounded ") l
 
 -- the verdict of a line, where none does
 unfoldable pub not_found_in : Line → Option Verdict
@@ -141,7 +145,7 @@ not_found_in l =
 -- ---- sections
 
 -- Where the lines of a section have come: none is read; the title of a fence is due; a part is named,
--- and its log is due; or the log of a part has begun, and has these lines. Behind each stand the parts
+-- and its log is due; or the log of a part has begun, and has these lines. After each stand the parts
 -- that are due later.
 pub data Place : Type 0 where
   Between : Place
@@ -197,12 +201,12 @@ abbrev pub is_count : Option ℕ → Bool
 is_count None = false
 is_count (Some r) = nat_le r 16
 
--- Whether a line could stand where a title is due: another title, or what stands behind a section,
+-- Whether a line could stand where a title is due: another title, or what stands after a section,
 -- which is a size, the first line of a chain block, or a verdict.
 unfoldable pub may_follow : Line → Bool
 may_follow l = is_title l || is_some (number_behind (codes "size ") l) || is_count (number_behind (codes "chain ") l) || is_some (not_found_in l)
 
--- what comes behind a line of a log, or behind its end
+-- what comes after a line of a log, or after its end
 abbrev pub behind_line : ℕ → Option ℕ → Part → List Part → Ended → List theory.Line → Option theory.Line → Progress
 behind_line size low part later ended log None = before size (low_with low ended size) later
 behind_line size low part later ended log (Some line) = record { size = size; low = low; place = Within part later ended (log ++ line ∷ []) }
@@ -238,12 +242,12 @@ abbrev pub nothing_behind : ℕ → Verdict → List Line → Result Verdict Bun
 nothing_behind number v [] = Ok v
 nothing_behind number v (l ∷ ls) = Err (Syntax number)
 
--- the line `end`, and nothing behind it
+-- the line `end`, and nothing after it
 unfoldable pub end_of : ℕ → Verdict → List Line → Result Verdict BundleError
 end_of number v [] = Err (Syntax number)
 end_of number v (l ∷ ls) = if is_line (codes "end") l then nothing_behind (number + 1) v ls else Err (Syntax number)
 
--- the verdict behind a chain
+-- the verdict after a chain
 unfoldable pub behind_chain : ℕ → ℕ → Option ℕ → List Line → Result Verdict BundleError
 behind_chain number size low [] = Err (Syntax number)
 behind_chain number size low (l ∷ ls) = do
@@ -280,7 +284,7 @@ or_outside (Some place) next = Err (OperatorNotInBasis place)
 unfoldable pub chain_judged : Heading → Chain → Result Unit BundleError
 chain_judged h c = or_outside (outside_from (members h.basis) (c.n + 1) c.steps) (or_differs (difference_of c (specification h.spec)))
 
--- what was read of a chain block, and what stands behind it
+-- what was read of a chain block, and what stands after it
 unfoldable pub with_block : Heading → Frame → Option ℕ → Result block.Read ChainError → Result Verdict BundleError
 with_block h f low read = do
   r ← as_syntax chain_place read
@@ -290,7 +294,7 @@ with_block h f low read = do
 abbrev pub chain_at : Heading → ℕ → ℕ → Option ℕ → Line → List Line → Result Verdict BundleError
 chain_at h number size low l ls = steps_at h number size l >>= λ steps. with_block h (frame_of h number steps) low (block.body_from (frame_of h number steps) ls)
 
--- By fences a title behind a section, where no part is due any more, is a fault of its own.
+-- By fences a title after a section, where no part is due any more, is a fault of its own.
 abbrev pub verdict_at : Bool → ℕ → Line → Result Verdict BundleError
 verdict_at titled number l = if titled && is_title l then Err (NotRefuted number) else or_syntax number (not_found_in l)
 
@@ -331,7 +335,7 @@ unfoldable pub behind_tables : Words → ℕ → List Line → Result Verdict Bu
 behind_tables w number [] = Err (Syntax number)
 behind_tables w number (l ∷ ls) = or_syntax number (basis_in l) >>= λ basis. behind_basis w basis (number + 1) ls
 
--- what was read of the tables, and the lines behind them
+-- what was read of the tables, and the lines after them
 unfoldable pub with_tables : Result tables.Read SpecError → Result Verdict BundleError
 with_tables read = as_syntax table_place read >>= λ r. behind_tables r.words (3 + length r.words.on) r.rest
 

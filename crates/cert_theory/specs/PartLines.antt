@@ -81,7 +81,7 @@ abbrev pub or_not_new : Ended → State → theory.Line → Result theory.Line P
 or_not_new Refuted s line = Ok line
 or_not_new Open s line = if is_fresh s line then Ok line else Err NotNew
 
--- a line of a log behind others: it can be read, it holds, and then it is new where it has to be
+-- a line of a log after others: it can be read, it holds, and then it is new where it has to be
 unfoldable pub logged_in : Formula → Ended → List theory.Line → Line → Result theory.Line PartError
 logged_in f ended log l = do
   line ← spelled_in l
@@ -95,11 +95,11 @@ abbrev pub closed : Bool → Bool → Ended → Result Unit PartError
 closed empty enough Refuted = if empty then Ok tt else Err NotRefuted
 closed empty enough Open = if empty then Err EmptyStands else (if enough then Ok tt else Err TooShort)
 
--- the line `done` behind a log that has so many additions at least, where it leaves its part open
+-- the line `done` after a log that has so many additions at least, where it leaves its part open
 unfoldable pub done_in : Formula → ℕ → Ended → List theory.Line → Result Unit PartError
 done_in f conflicts ended log = closed (has_empty f log) (nat_le conflicts (length (logs.added_ids log))) ended
 
--- What a line comes to behind a log: one more line of it, or its end, which is None.
+-- What a line comes to after a log: one more line of it, or its end, which is None.
 unfoldable pub part_in : Formula → ℕ → Ended → List theory.Line → Line → Result (Option theory.Line) PartError
 part_in f conflicts ended log l =
     if is_line done_text l

@@ -6,7 +6,7 @@ use Rattle.tt_core.specs.Words.{Words, IsSpec, specification}
 use Rattle.tt_core.specs.Spelling.{SpellsTables}
 use Rattle.cert_theory.specs.Spelling.{first_text, basis_line}
 
--- The first line says that a certificate begins. Behind it stand the tables, and behind these the line of
+-- The first line says that a certificate begins. After it stand the tables, and after these the line of
 -- the basis.
 pub record HasQuestion (bytes : List ℕ) (w : Words) (basis : ℕ) : Type 0 where
   pub spec : IsSpec w

@@ -1,8 +1,8 @@
 //! What certificates hold beside chains and logs, and what may be wrong with them: the data that the
 //! definitions of this crate speak of.
-use settings::Method;
 use lrat_check::CheckError;
 use op_basis::Basis;
+use settings::Method;
 use std::alloc::{AllocError, AllocFailed};
 use tt_core::Spec;
 
@@ -35,7 +35,7 @@ pub enum Ended {
 pub enum Verdict {
     /// So many steps do, and no fewer.
     Minimum(u32),
-    /// No chain of at most so many steps does.
+    /// No chain of at most this number of steps does.
     NoChain(u32),
     /// A chain of `r` steps does, and none of fewer than `low`.
     Bounded { low: u32, r: u32 },
@@ -44,7 +44,7 @@ pub enum Verdict {
 }
 
 /// Why a text isn't a valid bundle. Lines are judged from the top and numbered from 1; where a text
-/// ends too early, the number is that of the line that would come next. The first fault is told, and
+/// ends too early, the number is that of the line that would come next. The first fault is reported, and
 /// `Syntax` comes before the other faults of a line.
 #[derive(Clone, Copy, PartialEq, Eq)]
 pub enum BundleError {

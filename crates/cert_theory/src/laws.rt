@@ -6,7 +6,7 @@ ghost use Rattle.cert_theory.specs.Bundle.{Section, Bundle, IsHeading, IsSection
 ghost use Rattle.cert_theory.specs.Spelling.{heading_lines, section_lines, text_of, IsBundle};
 ghost use Rattle.cert_theory.specs.Front.{IsBegun, IsFront};
 
-/// The whole text of a certificate is a front. So is its heading, and what was written of it with one
+/// The whole text of a certificate is a prefix. So is its heading, and what was written of it with one
 /// section more.
 pub fn fronts_grow()
     ensures whole { (text : List ℕ) (b : Bundle) → IsBundle text b → IsFront b.heading text }

@@ -1,6 +1,6 @@
 //! What a certificate of the fewest steps is, how it is written, what is wrong with one, and what it
 //! means. What is valid, how it is written and what it means stand on the definitions of chains,
-//! logs and formulas alone; what is wrong with a text is told by the grammars of its parts.
+//! logs and formulas alone; what is wrong with a text is reported by the grammars of its parts.
 //!
 //! A certificate (a bundle) is for tables, a basis and a method. For each size 0, 1, 2 and so on it
 //! has a log that refutes the method's formula of that size, or that shows how much work left it

@@ -17,7 +17,7 @@ fn push_levels(text: &mut Vec<u8>, levels: &[u32]) -> Result<(), AllocError>
     Ok(())
 }
 
-/// The title of a fence with so many steps on each level, without its LF.
+/// The title of a fence, with the number of steps on each level, without its LF.
 #[tactic(auto, unfolding(crate::specs::Spelling::title_text))]
 pub fn title_of(alloc: Global, levels: &[u32]) -> Result<Vec<u8>, AllocError>
     ensures { IfOk result (λ title. title.items ≡ title_text levels.now) }

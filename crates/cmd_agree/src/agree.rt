@@ -1,9 +1,7 @@
 //! The command `agree`: whether a chain agrees with tables.
-ghost use Rattle.std.specs.Prelude.{◌≡◌, ◌≤◌, IfOk, length};
-ghost use Rattle.cmd_lines.specs.TableLines.{most_of_tables};
+ghost use Rattle.std.specs.Prelude.{◌≡◌, IfOk};
 ghost use Rattle.cmd_agree.specs.AgreeReport.{answer_text, answer_status, error_status, chain_status as chain_status_of, named_chain, named_error, agree_reply, agree_refusal, agree_task};
-ghost use Rattle.cmd_lines.specs.TableLines.{spec_status as spec_status_of, named_spec};
-ghost use Rattle.frame_core.specs.Views.{line_value, reply_value, refusal_value, Judges};
+ghost use Rattle.frame_core.specs.Views.{line_value, reply_value, refusal_value};
 
 use crate::judging::judge;
 use chain_core::ChainError;

@@ -1,9 +1,8 @@
 //! The command `equiv`: whether two netlists have the same outputs and next states.
-ghost use Rattle.std.specs.Prelude.{◌≡◌, ◌≤◌, ◌∷◌, length};
-ghost use Rattle.equiv_run.specs.Pairs.{most_of_two};
+ghost use Rattle.std.specs.Prelude.{◌≡◌, ◌∷◌};
 ghost use Rattle.command_line.specs.CommandLine.{IsBudget};
 ghost use Rattle.frame_core.specs.Told.{Word, plain};
-ghost use Rattle.frame_core.specs.Views.{reply_value, refusal_value, Judges};
+ghost use Rattle.frame_core.specs.Views.{reply_value, refusal_value};
 ghost use Rattle.cmd_lines.specs.NetLines.{net_status as net_status_of, named_net};
 ghost use Rattle.cmd_equiv.specs.EquivReport.{standing_status as standing_status_of, equiv_reply, equiv_refusal, equiv_task};
 
@@ -96,7 +95,7 @@ impl<S: Solver> Replier for Equiv<S> {
 
     #[tactic(auto, using(crate::proofs::Equating::telling))]
     fn reply(&self, alloc: Global, bytes: &[u8]) -> Result<Reply, Stop> {
-        match compare_texts(alloc, bytes, self.budget) {
+        match compare_texts::<S>(alloc, bytes, self.budget) {
             Ok(compared) => Ok(reply_of(compared)),
             Err(CompareError::Memory) => Err(Stop::NoMemory),
             Err(error) => Err(Stop::NoAnswer(refusal_of(error))),

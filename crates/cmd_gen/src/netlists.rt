@@ -6,7 +6,6 @@ ghost use Rattle.command_line.specs.Options.{most_blocks};
 ghost use Rattle.frame_core.specs.Views.{reply_value, Judges};
 ghost use Rattle.cmd_gen.specs.GenReport.{gen_reply, gen_task};
 
-use cmd_improve::reply_of as improved_reply;
 use command_line::Deed;
 use frame_core::{Replier, Reply, Status, Stop};
 use gen_core::generate;
@@ -60,8 +59,8 @@ fn improved<S: Solver>(alloc: Global, blocks: u32) -> Result<Reply, Stop>
     let Ok(text) = text_of(alloc, blocks) else {
         return Err(Stop::NoMemory);
     };
-    match improve_blif(alloc, &text, ImproveSettings::usual()) {
-        Ok(improved) => Ok(improved_reply(improved)),
+    match improve_blif::<S>(alloc, &text, ImproveSettings::usual()) {
+        Ok(improved) => Ok(cmd_improve::reply_of(improved)),
         Err(NetError::Memory) => Err(Stop::NoMemory),
         Err(_) => unreachable!(),
     }
@@ -87,7 +86,8 @@ impl<S: Solver> Replier for Gen<S> {
         None
     }
 
-    fn reply(&self, alloc: Global, _bytes: &[u8]) -> Result<Reply, Stop> {
+    fn reply(&self, alloc: Global, bytes: &[u8]) -> Result<Reply, Stop> {
+        let _nothing = bytes;
         match self.deed {
             Deed::Write => written(alloc, self.blocks),
             Deed::Improve => improved::<S>(alloc, self.blocks),

@@ -4,7 +4,7 @@ ghost use Rattle.net_document.specs.Format.{IsRefusedText};
 ghost use Rattle.improve_windows.specs.Improving.{IsReported};
 ghost use Rattle.command_line.specs.CommandLine.{IsAsked};
 ghost use Rattle.cmd_improve.specs.ImproveReport.{format_of, most_of_netlist, improve_reply, improve_refusal, improve_task};
-ghost use Rattle.frame_core.specs.Views.{reply_value, refusal_value, Judges};
+ghost use Rattle.frame_core.specs.Views.{reply_value, refusal_value};
 
 use cmd_lines::{name_net, net_status};
 use command_line::Format;
@@ -56,8 +56,8 @@ fn improve_text<S: Solver>(
     ensures refused { IfErr result (IsRefusedText (format_of format) bytes.now) }
 {
     match format {
-        Format::Blif => improve_blif(alloc, bytes, *settings),
-        Format::Bench => improve_bench(alloc, bytes, *settings),
+        Format::Blif => improve_blif::<S>(alloc, bytes, *settings),
+        Format::Bench => improve_bench::<S>(alloc, bytes, *settings),
     }
 }
 

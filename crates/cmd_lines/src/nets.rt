@@ -35,7 +35,12 @@ fn counted(lead: Field, variant: &'static [u8], count: u32) -> ErrorLine
 fn of_name(lead: Field, variant: &'static [u8], name: Name) -> ErrorLine
     ensures { line_value result ≡ shown (lead ∷ []) ++ of_name_text variant.now name }
 {
-    ErrorLine::led(lead, variant, Field::Name(name.into_bytes()), Field::Nothing)
+    ErrorLine::led(
+        lead,
+        variant,
+        Field::Name(name.into_bytes()),
+        Field::Nothing,
+    )
 }
 
 /// A variant with a line and a name.
@@ -43,7 +48,12 @@ fn of_name(lead: Field, variant: &'static [u8], name: Name) -> ErrorLine
 fn at_name(lead: Field, variant: &'static [u8], line: u32, name: Name) -> ErrorLine
     ensures { line_value result ≡ shown (lead ∷ []) ++ at_name_text variant.now line name }
 {
-    ErrorLine::led(lead, variant, Field::Count(line), Field::Name(name.into_bytes()))
+    ErrorLine::led(
+        lead,
+        variant,
+        Field::Count(line),
+        Field::Name(name.into_bytes()),
+    )
 }
 
 /// What the error line of a fault of a netlist names, after the word `lead` where it is one.

@@ -33,7 +33,8 @@ use Rattle.cmd_synth.specs.SynthReport.{synth_refusal, AreTables, HasTablesFault
 use Rattle.cmd_synth.specs.LeastDepthReport.{found_status, Certified, least_depth_reply, IsCertified, least_depth_task}
 use Rattle.cmd_synth.specs.LeastDepthPromise.{LeastDepthPromise}
 use Rattle.cmd_synth.specs.CertifiedLaws.{tables_are}
-use Rattle.cmd_synth.specs.SynthLaws.{answer_statuses, statuses_of, no_fault, one_error, not_refused, not_refused_by}
+use Rattle.cmd_lines.specs.TableLineLaws.{not_refused}
+use Rattle.cmd_synth.specs.SynthLaws.{answer_statuses, statuses_of, no_fault, one_error, not_refused_by}
 
 -- ---- what a certificate comes to
 

@@ -1,9 +1,8 @@
 //! The command `synth --least-depth yes`.
-ghost use Rattle.std.specs.Prelude.{◌≡◌, ◌≤◌, length};
+ghost use Rattle.std.specs.Prelude.{◌≡◌};
 ghost use Rattle.settings.specs.declared.methods.Method.TheVariants.{Fence};
 ghost use Rattle.settings.specs.Synth.{IsInRange};
-ghost use Rattle.frame_core.specs.Views.{reply_value, Judges};
-ghost use Rattle.cmd_lines.specs.TableLines.{most_of_tables};
+ghost use Rattle.frame_core.specs.Views.{reply_value};
 ghost use Rattle.cmd_synth.specs.LeastDepthReport.{found_status as found_status_of, least_depth_reply, least_depth_task};
 
 use crate::synth::{refusal_of, verdict_status};
@@ -58,7 +57,7 @@ impl<S: Solver> Replier for LeastDepth<S> {
 
     #[tactic(auto, using(crate::proofs::LeastDepths::telling))]
     fn reply(&self, alloc: Global, bytes: &[u8]) -> Result<Reply, Stop> {
-        match certify_depth(alloc, bytes, &self.settings) {
+        match certify_depth::<S>(alloc, bytes, &self.settings) {
             Ok(certificate) => Ok(reply_of(certificate)),
             Err(SpecError::Memory) => Err(Stop::NoMemory),
             Err(error) => Err(Stop::NoAnswer(refusal_of(error))),

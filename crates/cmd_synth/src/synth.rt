@@ -59,7 +59,7 @@ fn write_next<S: Solver, O: Sink>(alloc: Global, search: Search, out: &mut O) ->
         Comes asked bytes first (side O.written O.faults out.new) result }
     ensures up { GoesUpTo search result }
 {
-    let Ok(piece) = go_on(alloc, search) else {
+    let Ok(piece) = go_on::<S>(alloc, search) else {
         return Next::End(Ended::Starved);
     };
     match piece {
@@ -92,11 +92,7 @@ fn write_sections<S: Solver, O: Sink>(alloc: Global, search: Search, out: &mut O
 
 /// Writes a certificate from its heading on.
 #[tactic(auto, using(crate::proofs::Writing::writing))]
-fn write_certificate<S: Solver, O: Sink>(
-    alloc: Global,
-    begun: Begun,
-    out: &mut O,
-) -> Ended
+fn write_certificate<S: Solver, O: Sink>(alloc: Global, begun: Begun, out: &mut O) -> Ended
     ensures { (asked : SynthSettings) (bytes : List ℕ) → length bytes ≤ most_of_tables →
         IsUnderWay bytes asked begun.search begun.text.items →
         GoesOut asked bytes result (side O.written O.faults out.old) (side O.written O.faults out.new) }

@@ -1,14 +1,15 @@
--- The logs of fences by levels.
+-- The logs of fences, level by level.
 use Rattle.std.proofs.Common.{◌≡◌, ◌⊎◌, ℕ, zero, suc, ◌+◌, ◌-◌, ◌<◌, ◌≤◌, ◌==◌, Bool, true, false, cond, List, [], ◌∷◌, ◌++◌, length, map, Contains, All, Option, Some, None, refl, sym, ap, ◌∙◌, subst, arith, append-nil}
 use Rattle.std.specs.Prelude.{nat_lt}
 use Rattle.std.specs.List.{filter, find}
 use Rattle.std.specs.Option.{option_map}
 use Rattle.std.proofs.Math.Logic.{⊎_elim}
+use Rattle.std.proofs.lemmas.Bool.{eqb-true}
 use Rattle.std.proofs.lemmas.Bool.Decides.{nat_tests}
 use Rattle.std.proofs.lemmas.Grind.{common_steps}
 use Rattle.std.proofs.lemmas.List.{map-append}
-use Rattle.std.proofs.lemmas.List.Elements.{All-push, All-append, All-filter, filter-append}
-use Rattle.clause_core.specs.Holds.{contains_head, contains_tail, contains_cases}
+use Rattle.std.proofs.lemmas.List.Elements.{All-append, All-filter, filter-append}
+use Rattle.clause_core.specs.Holds.{contains_head, contains_tail, contains_cases, filter_get}
 use Rattle.chain_theory.specs.Chain.{Chain}
 use Rattle.chain_theory.specs.Levels.{HasLevels, depth}
 use Rattle.chain_theory.specs.LevelLaws.{depth-least}
@@ -28,7 +29,8 @@ use Rattle.cert_theory.specs.declared.data.Verdict.TheVariants as verdicts
 use Rattle.cert_theory.specs.Bundle.{PartLog, Section, Bundle, IsPartLog, part_of, is_open_end, first_open, found, not_found, IsFound, IsEnding, IsValid}
 use Rattle.size_loop.specs.declared.trying.PartOutcome.{PartOutcome}
 use Rattle.size_loop.specs.declared.trying.PartOutcome.TheVariants as outcomes
-use Rattle.size_loop.specs.Outcomes.{IsTried}
+use Rattle.size_loop.specs.Outcomes.{IsTried, AreLogged}
+use Rattle.size_loop.specs.OutcomeLaws.{logged_none}
 use Rattle.size_loop.specs.Coded.{IsCodedBy}
 use Rattle.size_loop.specs.Thrift.{IsThriftyLog, AreThrifty}
 use Rattle.depth_theory.specs.declared.data.DepthVerdict.{DepthVerdict}
@@ -36,7 +38,7 @@ use Rattle.depth_theory.specs.Flatter.{fences_for, has_levels, of_levels, by_lev
 use Rattle.depth_theory.specs.FlatterLaws.{flatter_is, level_is, by_levels_more}
 use Rattle.depth_theory.specs.DepthBundle.{part_levels, open_levels, levels_found}
 use Rattle.depth_theory.specs.DepthMeanings.{open_fence}
-use Rattle.depth_core.specs.Flattened.{is_flatter, IsTriedLow, AreLogs, IsFlat, AreSearched, IsLeast, minimum_of}
+use Rattle.depth_core.specs.Flattened.{at_level, is_flatter, IsTriedLow, AreLogs, IsFlat, AreSearched, IsLeast, minimum_of}
 
 -- ---- the encoding
 
@@ -49,51 +51,33 @@ coded_by_fences m same = subst (λ (x : Method). IsCodedBy (coding_of x) (λ w r
 
 -- ---- one level
 
-abbrev pub at_level : ℕ → Part → Bool
-at_level k part = part_levels part == k
-
--- the logs of those parts among some that have so many levels
-pub record IsAtLevel (h : Heading) (size k : ℕ) (parts : List Part) (logs : List PartLog) : Type 0 where
-  pub parts_are : map part_of logs ≡ filter (at_level k) parts
-  pub ends : All (IsPartLog h size) logs
-  pub thrifty : All (IsThriftyLog h size) logs
-
-no_ends : (h : Heading) (size : ℕ) → All (IsPartLog h size) []
-no_ends h size = λ k d low. absurd (omega (arith, low))
-
-no_thrift : (h : Heading) (size : ℕ) → All (IsThriftyLog h size) []
-no_thrift h size = λ k d low. absurd (omega (arith, low))
-
-pub level_none : (h : Heading) (size k : ℕ) → IsAtLevel h size k [] []
-level_none h size k = record { parts_are = refl; ends = no_ends h size; thrifty = no_thrift h size }
-
-filter_last : (k : ℕ) (part : Part) (b : Bool) → at_level k part ≡ b → filter (at_level k) (part ∷ []) ≡ cond b (part ∷ []) []
-filter_last k part b is = ap (λ (t : Bool). cond t (part ∷ []) []) is
-
 other_false : (a k : ℕ) → (a ≡ k → ⊥) → (a == k) ≡ false
 other_false a k other = grind (arith, nat_tests)
 
 same_true : (a k : ℕ) → a ≡ k → (a == k) ≡ true
 same_true a k same = grind (arith, nat_tests)
 
-pub level_other : (h : Heading) (size k : ℕ) (parts : List Part) (logs : List PartLog) (part : Part) → IsAtLevel h size k parts logs → (part_levels part ≡ k → ⊥) → IsAtLevel h size k (parts ++ part ∷ []) logs
-level_other h size k parts logs part is other = record {
-  parts_are = is.parts_are ∙ sym (append-nil (filter (at_level k) parts)) ∙ ap (λ (xs : List Part). filter (at_level k) parts ++ xs) (sym (filter_last k part false (other_false (part_levels part) k other))) ∙ sym (filter-append (at_level k) parts (part ∷ []));
-  ends = is.ends;
-  thrifty = is.thrifty;
-}
+pub pick_own : (k : ℕ) (part : Part) (parts : List Part) → part_levels part ≡ k → filter (at_level k) (part ∷ parts) ≡ part ∷ filter (at_level k) parts
+pick_own k part parts same = ap (λ (t : Bool). cond t (part ∷ filter (at_level k) parts) (filter (at_level k) parts)) (same_true (part_levels part) k same)
 
-pub level_more : (h : Heading) (size k : ℕ) (parts : List Part) (logs : List PartLog) (part : Part) (p : PartLog) → IsAtLevel h size k parts logs → part_levels part ≡ k → p.part ≡ part → IsPartLog h size p → IsThriftyLog h size p → IsAtLevel h size k (parts ++ part ∷ []) (logs ++ p ∷ [])
-level_more h size k parts logs part p is same own log thrifty = record {
-  parts_are =
-      map-append part_of logs (p ∷ [])
-      ∙ ap (λ (xs : List Part). xs ++ p.part ∷ []) is.parts_are
-      ∙ ap (λ (x : Part). filter (at_level k) parts ++ x ∷ []) own
-      ∙ ap (λ (xs : List Part). filter (at_level k) parts ++ xs) (sym (filter_last k part true (same_true (part_levels part) k same)))
-      ∙ sym (filter-append (at_level k) parts (part ∷ []));
-  ends = All-push (IsPartLog h size) logs p is.ends log;
-  thrifty = All-push (IsThriftyLog h size) logs p is.thrifty thrifty;
-}
+pub pick_other : (k : ℕ) (part : Part) (parts : List Part) → (part_levels part ≡ k → ⊥) → filter (at_level k) (part ∷ parts) ≡ filter (at_level k) parts
+pick_other k part parts other = ap (λ (t : Bool). cond t (part ∷ filter (at_level k) parts) (filter (at_level k) parts)) (other_false (part_levels part) k other)
+
+pub ruleset picked = (common_steps, pick_own, pick_other)
+
+head_is : (k : ℕ) (p part : Part) (ps : List Part) (b : Bool) → at_level k p ≡ b → (Contains ps part → at_level k part ≡ true) → Contains (cond b (p ∷ ps) ps) part → at_level k part ≡ true
+head_is k p part ps true is rest there = ⊎_elim (λ (here : p ≡ part). sym (ap (at_level k) here) ∙ is) rest (contains_cases p part ps there)
+head_is k p part ps false is rest there = rest there
+
+filter_is : (k : ℕ) (parts : List Part) (part : Part) → Contains (filter (at_level k) parts) part → at_level k part ≡ true
+filter_is k [] part there = absurd (omega (arith, there.1))
+filter_is k (p ∷ ps) part there = head_is k p part (filter (at_level k) ps) (at_level k p) refl (filter_is k ps part) there
+
+-- a part that was picked is one of the size, and has its levels
+pub level_part : (w : Words) (r k : ℕ) (own : List Part) (part : Part) → own ≡ filter (at_level k) (parts_for w r) → Contains own part → Contains (parts_for w r) part × (part_levels part ≡ k)
+level_part w r k own part is there =
+    let inside : Contains (filter (at_level k) (parts_for w r)) part = subst (λ (xs : List Part). Contains xs part) is there in
+    (filter_get (at_level k) (parts_for w r) part inside, eqb-true (part_levels part) k (filter_is k (parts_for w r) part inside))
 
 kept_map : (b : Bool) (f : List ℕ) (fs : List (List ℕ)) (parts : List Part) → parts ≡ map Levels fs → cond b (Levels f ∷ parts) parts ≡ map Levels (cond b (f ∷ fs) fs)
 kept_map true f fs parts e = ap (λ (xs : List Part). Levels f ∷ xs) e
@@ -103,9 +87,9 @@ filter_map : (k : ℕ) (fences : List (List ℕ)) → filter (at_level k) (map L
 filter_map k [] = refl
 filter_map k (f ∷ fs) = kept_map (length f == k) f (filter (has_levels k) fs) (filter (at_level k) (map Levels fs)) (filter_map k fs)
 
-pub level_all : (h : Heading) (size k : ℕ) (logs : List PartLog) → IsAtLevel h size k (parts_for h.spec size) logs → AreLogs h size (of_levels (fences_for h.spec size) k) logs
+pub level_all : (h : Heading) (size k : ℕ) (own : List Part) (logs : List PartLog) → own ≡ filter (at_level k) (parts_for h.spec size) → AreLogged h size own logs → AreLogs h size (of_levels (fences_for h.spec size) k) logs
 unfolding parts_for of_levels
-level_all h size k logs is = record { parts_are = is.parts_are ∙ filter_map k (fences_for h.spec size); ends = is.ends; thrifty = is.thrifty }
+level_all h size k own logs is logged = record { parts_are = logged.parts_are ∙ is ∙ filter_map k (fences_for h.spec size); ends = logged.ends; thrifty = logged.thrifty }
 
 levels_part : (fences : List (List ℕ)) (part : Part) → Contains (map Levels fences) part → (f : List ℕ) × (part ≡ Levels f)
 levels_part [] part there = absurd (omega (arith, there.1))
@@ -117,16 +101,16 @@ fits_by part f k c is same fits =
     let low : HasLevels (length f) c = subst (λ (p : Part). FitsPart p c) is fits in
     subst (λ (d : ℕ). HasLevels d c) (sym (ap part_levels is) ∙ same) low
 
-pub level_found : (w : Words) (r k : ℕ) (part : Part) (c : Chain) → Contains (parts_for w r) part → part_levels part ≡ k → FitsPart part c → HasLevels k c
+level_found : (w : Words) (r k : ℕ) (part : Part) (c : Chain) → Contains (parts_for w r) part → part_levels part ≡ k → FitsPart part c → HasLevels k c
 unfolding parts_for
 level_found w r k part c there same fits = let named = levels_part (fences_for w r) part there in fits_by part named.0 k c named.1 same fits
 
--- what was tried of a fence
+-- what comes of a fence
 pub tried_low : (h : Heading) (size : ℕ) (part : Part) (outcome : PartOutcome) → Contains (parts_for h.spec size) part → IsTried h size part outcome → IsTriedLow h size part outcome
 tried_low h size part (outcomes.Found c) there tried = (tried.0, level_found h.spec size (part_levels part) part c there refl tried.1)
 tried_low h size part (outcomes.Logged p) there tried = tried
 
-pub ruleset levels = (common_steps, coded_by_fences, level_none, level_other, level_more, level_all, level_found)
+pub ruleset levels = (common_steps, logged_none, level_all)
 
 -- ---- logs that are kept
 
@@ -171,7 +155,7 @@ pub ruleset opened = (common_steps, open_here, open_later)
 
 pub flat_none : (h : Heading) (size : ℕ) → AreLogs h size (flatter h.spec size 0) []
 unfolding by_levels
-flat_none h size = record { parts_are = refl; ends = no_ends h size; thrifty = no_thrift h size }
+flat_none h size = logged_none h size
 
 pub flat_more : (h : Heading) (size k : ℕ) (logs more : List PartLog) → AreLogs h size (flatter h.spec size k) logs → AreLogs h size (of_levels (fences_for h.spec size) k) more → AreLogs h size (flatter h.spec size (k + 1)) (logs ++ more)
 flat_more h size k logs more one two = record {
@@ -278,7 +262,7 @@ ending_with h count size o c d ending is = (subst (λ (n : ℕ). IsFound h n d) 
 count_is : (h : Heading) (sections : List Section) (c : Chain) (size : ℕ) → AreSearched h sections c size → size ≡ length sections
 count_is h sections c size is = (minimum_by size (length sections) (first_open sections) is.valid.ending.1).0
 
--- the search found a chain of so many steps
+-- the search found a chain of `size` steps
 pub searched_found : (h : Heading) (sections : List Section) (c : Chain) (size : ℕ) → AreSearched h sections c size → IsFound h size c
 searched_found h sections c size is = subst (λ (n : ℕ). IsFound h n c) (sym (count_is h sections c size is)) is.valid.ending.0
 

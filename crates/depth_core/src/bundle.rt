@@ -3,7 +3,7 @@ use bundle_core::{Bundle, PartLog};
 use depth_theory::DepthVerdict;
 use std::marker::Model;
 
-/// A bundle by fences, the logs of the fences that are flatter than its chain, and what they come to.
+/// A bundle by fences, the logs `parts` of the fences with fewer levels than its chain, and the verdict on its levels.
 #[derive(Drop)]
 pub struct DepthBundle {
     pub bundle: Bundle,

@@ -1,25 +1,25 @@
-//! The fences of so many levels, one after the other in their order: the first with a chain ends it; where none has
-//! one, the logs are those of all of them.
-ghost use Rattle.std.specs.Prelude.{◌≡◌, ◌≤◌, ◌<◌, ◌==◌, IfOk, Contains};
+//! The fences of one number of levels, in their order: the first with a chain ends it; where none has one, there is a
+//! log for each of them.
+ghost use Rattle.std.specs.Prelude.{◌≡◌, ◌≤◌, ◌<◌, IfOk, Contains};
 ghost use Rattle.std.specs.List.{filter};
 ghost use Rattle.settings.specs.declared.methods.Method.TheVariants.{Fence};
 ghost use Rattle.cert_theory.specs.Bundle.{PartLog, IsHeading};
 ghost use Rattle.depth_theory.specs.DepthBundle.{part_levels, open_levels as open_levels_of};
 ghost use Rattle.enc_theory.specs.Parts.{parts_for};
-ghost use Rattle.depth_core.specs.Flattened.{IsTriedLow, IsLevel, is_flatter};
+ghost use Rattle.depth_core.specs.Flattened.{IsTriedLow, IsLevel, at_level, is_flatter};
 
 use bundle_core::{Ended, Heading, PartLog};
 use chain_core::Chain;
 use enc_fence::FenceEnc;
-use enc_frame::Encoding;
 use enc_theory::Part;
+use sat_solve::Solver;
 use size_loop::{PartOutcome, try_part};
 use std::alloc::{AllocError, Global};
 
-/// What the fences of so many levels come to.
+/// What the fences of `levels` levels come to.
 #[derive(Drop)]
 pub(crate) enum Level {
-    /// A chain of the size that has at most so many levels.
+    /// A chain of the size that has at most `levels` levels.
     Found(Chain),
     /// The logs of these fences, in which no chain was found.
     Logged(Vec<PartLog>),
@@ -35,8 +35,38 @@ pub(crate) fn levels_in(part: &Part) -> usize
     }
 }
 
-/// Searches a part of a size by fences.
-fn try_fence(
+/// A copy of a part.
+fn copied(alloc: Global, part: &Part) -> Result<Part, AllocError>
+    ensures { IfOk result (λ copy. copy ≡ part.now) }
+{
+    match part {
+        Part::Levels(fence) => {
+            let levels = Vec::from_slice(alloc, fence.levels())?;
+            Ok(Part::Levels(fence_core::Fence::new(levels)))
+        }
+        Part::Whole => Ok(Part::Whole),
+    }
+}
+
+/// Copies of the parts whose fences have `levels` levels, in their order.
+#[tactic(auto, using(crate::proofs::LevelLogs::picked))]
+fn with_levels(alloc: Global, parts: &[Part], levels: usize) -> Result<Vec<Part>, AllocError>
+    ensures { IfOk result (λ own. own.items ≡ filter (at_level levels) parts.now) }
+{
+    let mut own = Vec::new(alloc);
+    let mut left = parts;
+    while let Some((part, rest)) = left.split_first() {
+        left = rest;
+        if levels_in(part) != levels {
+            continue;
+        }
+        own.push(copied(alloc, part)?)?;
+    }
+    Ok(own)
+}
+
+/// Searches a part of `size` by fences with the solver `S`.
+fn try_fence<S: Solver>(
     alloc: Global,
     heading: &Heading,
     size: u32,
@@ -48,29 +78,28 @@ fn try_fence(
     requires part { Contains (parts_for heading.now.spec size) part }
     ensures { IfOk result (λ outcome. IsTriedLow heading.now size part outcome) }
 {
-    let outcome = try_part(alloc, &FenceEnc, heading, size, part)?;
+    let outcome = try_part::<S, FenceEnc>(alloc, &FenceEnc, heading, size, part)?;
     Ok(outcome)
 }
 
-/// Searches the listed fences of a size that have so many levels.
-#[tactic(auto, using(crate::proofs::LevelLogs::levels), unfolding(enc_theory::specs::Parts::parts_for))]
-pub(crate) fn search_level(
+/// Searches those parts of `size` whose fences have `levels` levels, of all its `parts`, with the solver `S`.
+#[tactic(auto, using(crate::proofs::LevelLogs::levels))]
+pub(crate) fn search_level<S: Solver>(
     alloc: Global,
     heading: &Heading,
     size: u32,
+    parts: &[Part],
     levels: usize,
 ) -> Result<Level, AllocError>
     requires heading { IsHeading heading.now }
     requires by_fences { heading.now.method ≡ Fence }
     requires size { size ≤ heading.now.max }
+    requires parts { parts.now ≡ parts_for heading.now.spec size }
     ensures { IfOk result (λ level. IsLevel heading.now size levels level) }
 {
     let mut logs = Vec::new(alloc);
-    for part in FenceEnc.parts(alloc, &heading.spec, size)? {
-        if levels_in(&part) != levels {
-            continue;
-        }
-        match try_fence(alloc, heading, size, part)? {
+    for part in with_levels(alloc, parts, levels)? {
+        match try_fence::<S>(alloc, heading, size, part)? {
             PartOutcome::Found(chain) => return Ok(Level::Found(chain)),
             PartOutcome::Logged(log) => logs.push(log)?,
         }
@@ -78,7 +107,7 @@ pub(crate) fn search_level(
     Ok(Level::Logged(logs))
 }
 
-/// The logs of the fences with fewer levels.
+/// Those of the logs whose fences have fewer than `levels` levels.
 #[tactic(auto, using(crate::proofs::LevelLogs::kept))]
 pub(crate) fn flatter_than(
     alloc: Global,
@@ -96,7 +125,7 @@ pub(crate) fn flatter_than(
     Ok(kept)
 }
 
-/// How many levels the first fence has that is left open.
+/// How many levels the first open fence has.
 #[tactic(auto, using(crate::proofs::LevelLogs::opened))]
 pub(crate) fn open_levels(parts: &[PartLog]) -> Option<usize>
     ensures { result ≡ open_levels_of parts.now }

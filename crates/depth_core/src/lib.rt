@@ -1,17 +1,17 @@
-//! The flattest of the smallest: among chains of the fewest steps one of the fewest levels, with its certificate.
-//! It stands on `depth_theory` for what a depth bundle is, on `size_loop` for the search of the fewest steps and of
-//! one part, and on the encoding by fences.
+//! Minimum depth at minimum size: among chains of the fewest steps one of the fewest levels, with its certificate. It
+//! stands on `depth_theory` for what a depth bundle is, on `size_loop` for the search for the fewest steps and for one
+//! part, and on the encoding by fences. It is generic in the solver `S`.
 //!
-//! The bundle by fences comes first. Where its verdict is a minimum, the listed fences with fewer levels than its
-//! chain are searched by levels. A fence with a chain gives a flatter chain, and all fences with fewer levels than
-//! that have their logs by then; so these logs are kept, and the others dropped.
+//! The bundle by fences comes first. Where its verdict is a minimum, the fences of that size are listed once, and those
+//! with fewer levels than the chain are searched level by level. The first fence with a chain gives the flattest chain:
+//! all fences with fewer levels than it have their logs by then. These logs are kept, and the others dropped.
 //!
 //! - `searching`: the search, `least_depth`.
-//! - `levels`: the fences of so many levels, one after the other.
+//! - `levels`: the fences of one number of levels, one after the other.
 //! - `writing`: depth bundles as they are written.
 //!
 //! ```text
-//! least_depth(alloc, &spec, basis, 16, 100_000)? // Deep::Least(bundle), with DepthVerdict::Levels(3)
+//! least_depth::<Cdcl>(alloc, &spec, basis, 16, 100_000)? // Deep::Least(bundle), with DepthVerdict::Levels(3)
 //! ```
 #![tactic(auto)]
 

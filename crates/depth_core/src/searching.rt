@@ -1,4 +1,4 @@
-//! The search: a chain of the fewest steps first, and then the fences that are flatter than it, by levels.
+//! The search: a chain of the fewest steps first, and then the fences with fewer levels than it has, level by level.
 ghost use Rattle.std.specs.Prelude.{◌≡◌, ℕ, ◌≤◌, ◌<◌, ◌+◌, ◌++◌, Some, IfOk, OnOk};
 ghost use Rattle.settings.specs.Synth.{IsInRange};
 ghost use Rattle.chain_theory.specs.Levels.{depth};
@@ -11,10 +11,13 @@ ghost use Rattle.depth_core.specs.Flattened.{IsFlat, IsDeep, AreSearched, minimu
 use crate::DepthBundle;
 use crate::levels::{Level, flatter_than, open_levels, search_level};
 use bundle_core::{Bundle, Heading, PartLog, Section, Verdict};
-use chain_core::Chain;
+use chain_core::{Chain, depth_of};
 use depth_theory::DepthVerdict;
-use settings::Method;
+use enc_fence::FenceEnc;
+use enc_frame::Encoding;
 use op_basis::Basis;
+use sat_solve::Solver;
+use settings::Method;
 use size_loop::search;
 use std::alloc::{AllocError, Global};
 use tt_core::Spec;
@@ -22,13 +25,13 @@ use tt_core::Spec;
 /// What a search for the fewest steps and levels comes to.
 #[derive(Drop)]
 pub enum Deep {
-    /// A chain of the fewest steps was found, and the fences that are flatter than it were searched.
+    /// A chain of the fewest steps was found, and the flatter fences were searched.
     Least(DepthBundle),
-    /// None was: a bundle whose verdict isn't a minimum.
+    /// None was found: a bundle whose verdict isn't a minimum.
     Other(Bundle),
 }
 
-/// A chain, and the logs of the fences that are flatter.
+/// A chain of `levels` levels, and the logs `parts` of the fences with fewer.
 #[derive(Drop)]
 struct Flat {
     chain: Chain,
@@ -36,8 +39,7 @@ struct Flat {
     levels: u32,
 }
 
-/// Adds the logs of one level more.
-
+/// Adds the logs of one more level.
 fn add_logs(logs: &mut Vec<PartLog>, more: Vec<PartLog>) -> Result<(), AllocError>
     ensures { OnOk result (logs.new.items ≡ logs.old.items ++ more.items) }
 {
@@ -47,9 +49,15 @@ fn add_logs(logs: &mut Vec<PartLog>, more: Vec<PartLog>) -> Result<(), AllocErro
     Ok(())
 }
 
-/// The flattest chain that the search of flatter fences finds, and the logs of all that are flatter still.
+/// Searches the fences of `size` with fewer levels than `chain` has, level by level. The first chain found is the
+/// flattest, and the logs of all fences with fewer levels than it go with it.
 #[tactic(auto, using(crate::proofs::LevelLogs::flattening))]
-fn flatten(alloc: Global, heading: &Heading, size: u32, chain: Chain) -> Result<Flat, AllocError>
+fn flatten<S: Solver>(
+    alloc: Global,
+    heading: &Heading,
+    size: u32,
+    chain: Chain,
+) -> Result<Flat, AllocError>
     requires heading { IsHeading heading.now }
     requires by_fences { heading.now.method ≡ Fence }
     requires size { size ≤ heading.now.max }
@@ -58,15 +66,16 @@ fn flatten(alloc: Global, heading: &Heading, size: u32, chain: Chain) -> Result<
     ensures levels { IfOk result (λ flat. flat.levels ≡ depth flat.chain) }
 {
     let deepest = depth_of(alloc, &chain)?;
+    let parts = FenceEnc.parts(alloc, &heading.spec, size)?;
     let mut logs = Vec::new(alloc);
     for levels in 0..deepest {
-        match search_level(alloc, heading, size, levels as usize)? {
+        match search_level::<S>(alloc, heading, size, &parts, levels as usize)? {
             Level::Found(chain) => {
                 let levels = depth_of(alloc, &chain)?;
-                let parts = flatter_than(alloc, logs, levels as usize)?;
+                let kept = flatter_than(alloc, logs, levels as usize)?;
                 return Ok(Flat {
                     chain,
-                    parts,
+                    parts: kept,
                     levels,
                 });
             }
@@ -80,7 +89,7 @@ fn flatten(alloc: Global, heading: &Heading, size: u32, chain: Chain) -> Result<
     })
 }
 
-/// The verdict that follows from the logs of the fences that are flatter than a chain of so many levels.
+/// The verdict on a chain of `levels` levels, by the logs `parts` of the flatter fences.
 fn verdict_of(parts: &[PartLog], levels: u32) -> DepthVerdict
     requires below { (low : ℕ) → open_levels_of parts.now ≡ Some low → low < levels }
     ensures { result ≡ levels_found (open_levels_of parts.now) levels }
@@ -94,7 +103,7 @@ fn verdict_of(parts: &[PartLog], levels: u32) -> DepthVerdict
     }
 }
 
-/// The fewest steps, where the verdict of a bundle tells them.
+/// The fewest steps, where the verdict of the bundle is a minimum.
 fn minimum_in(bundle: &Bundle) -> Option<u32>
     ensures { result ≡ minimum_of bundle.now.verdict }
 {
@@ -106,7 +115,7 @@ fn minimum_in(bundle: &Bundle) -> Option<u32>
 
 /// The depth bundle of a bundle whose verdict is a minimum.
 #[tactic(auto, using(crate::proofs::LevelLogs::bundling))]
-fn least(
+fn least<S: Solver>(
     alloc: Global,
     heading: Heading,
     sections: Vec<Section>,
@@ -121,7 +130,7 @@ fn least(
         chain,
         parts,
         levels,
-    } = flatten(alloc, &heading, size, chain)?;
+    } = flatten::<S>(alloc, &heading, size, chain)?;
     let verdict = verdict_of(&parts, levels);
     let bundle = Bundle {
         heading,
@@ -136,9 +145,9 @@ fn least(
     }))
 }
 
-/// What comes of a bundle whose verdict is a minimum.
+/// The depth bundle of a bundle whose verdict is a minimum of `size` steps, taken apart.
 #[tactic(auto, using(crate::proofs::LevelLogs::searching))]
-fn deepened(alloc: Global, bundle: Bundle, size: u32) -> Result<Deep, AllocError>
+fn deepened<S: Solver>(alloc: Global, bundle: Bundle, size: u32) -> Result<Deep, AllocError>
     requires by_fences { bundle.heading.method ≡ Fence }
     requires valid { IsValid bundle }
     requires thrifty { AreThrifty bundle.heading bundle.sections }
@@ -152,17 +161,17 @@ fn deepened(alloc: Global, bundle: Bundle, size: u32) -> Result<Deep, AllocError
         verdict: _,
     } = bundle;
     match chain {
-        Some(chain) => least(alloc, heading, sections, chain, size),
+        Some(chain) => least::<S>(alloc, heading, sections, chain, size),
         None => unreachable!(),
     }
 }
 
-/// Searches the sizes from 0 to `max` by fences for a chain of the fewest steps over the basis that agrees with the
-/// tables, and among those of so many steps for one of the fewest levels. A part is left open where the solver has
-/// added `budget` clauses to its formula or more. The basis isn't empty, and `max` and the budget are in the ranges
-/// of `settings`.
+/// Searches the sizes from 0 to `max` by fences with the solver `S` for a chain of the fewest steps over the basis that
+/// implements the tables, and among the chains of that size for one of the fewest levels. A part is left open where the
+/// solver has learnt `budget` clauses or more. The basis isn't empty, and `max` and `budget` are in the ranges of
+/// `settings`.
 #[tactic(auto, using(crate::proofs::LevelLogs::searching))]
-pub fn least_depth(
+pub fn least_depth<S: Solver>(
     alloc: Global,
     spec: &Spec,
     basis: Basis,
@@ -172,9 +181,9 @@ pub fn least_depth(
     requires asked { IsInRange (record { basis = basis; method = Fence; max = max; conflicts = budget }) }
     ensures { IfOk result (λ deep. IsDeep (record { spec = spec.now; basis = basis; method = Fence; conflicts = budget; max = max }) deep) }
 {
-    let bundle = search(alloc, spec, basis, Method::Fence, max, budget)?;
+    let bundle = search::<S>(alloc, spec, basis, Method::Fence, max, budget)?;
     match minimum_in(&bundle) {
-        Some(size) => deepened(alloc, bundle, size),
+        Some(size) => deepened::<S>(alloc, bundle, size),
         None => Ok(Deep::Other(bundle)),
     }
 }

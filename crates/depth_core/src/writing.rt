@@ -14,7 +14,7 @@ use depth_theory::DepthVerdict;
 use std::alloc::AllocError;
 use text_core::push_number;
 
-/// The levels of the chain, by the verdict.
+/// How many levels the chain has, by the verdict.
 fn levels_of(verdict: DepthVerdict) -> u32
     ensures { result ≡ spelling.levels_of verdict }
 {

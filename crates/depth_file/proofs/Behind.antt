@@ -138,13 +138,13 @@ front_over reader number answer is =
       answered = is.answered;
     }
 
--- ---- behind the bundle
+-- ---- after the bundle
 
 pub behind_fails : (reader : BundleReader) (number : ℕ) (ls : List Line) (answer : Answer) (e : BundleError) → IsBehind reader number ls answer → ((text : List ℕ) → bundles.StandsFor (seen reader) text → cert.Fails e (bundle_of (lines_of text))) → Fails (as_whole e) answer
 behind_fails reader number ls answer e is exact =
     answer_fails is.whole answer e is.answered (subst (λ (xs : List Line). cert.Fails e (bundle_of xs)) is.again (exact (text_of (front_of is.whole)) is.stands))
 
--- what the reader tells, where it tells something
+-- what the reader reports, where it reports something
 pub record WasTold (reader : BundleReader) (t : Told) : Type 0 where
   pub exact : (text : List ℕ) → bundles.StandsFor (seen reader) text → bundle_of (lines_of text) ≡ Ok t.verdict
   pub told : (text : List ℕ) (b : Bundle) → bundles.StandsFor (seen reader) text → IsBundle text b → IsTold b t

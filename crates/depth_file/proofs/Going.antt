@@ -174,7 +174,7 @@ end_goes f number l ls v none read = end_reads f number l ls none ∙ ap (λ (r 
 pub end_fails : (f : Flat) (number : ℕ) (l : Line) (ls : List Line) (e : DepthError) → due_of f ≡ [] → Fails e (verdict_at number (levels_found f.low f.levels) l) → Fails e (flat f number (Due (due_of f)) (l ∷ ls))
 end_fails f number l ls e none fails = fails_is e _ _ (end_reads f number l ls none) (fails_bind e (verdict_at number (levels_found f.low f.levels) l) (λ w. end_of (number + 1) w ls) fails)
 
--- behind the title, the log is due
+-- after the title, the log is due
 pub due_begins : (f : Flat) (fence : List ℕ) (number : ℕ) (l : Line) (titled : Unit {0}) → IsNext f fence → at_line number (title_in (may_follow l) fence l) ≡ Ok titled → (lines ls : List Line) (answer : Answer) → answer ≡ flat f number (Due (due_of f)) lines → lines ≡ l ∷ ls → IsBegun f (number + 1) ls answer
 due_begins f fence number l titled next read = λ lines ls answer is same.
     record {

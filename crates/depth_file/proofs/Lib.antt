@@ -2,5 +2,5 @@ pub mod Fronts
 pub mod FenceLists
 pub mod Going
 pub mod Behind
-pub mod Cutting
+pub mod Standing
 pub mod Judges

@@ -18,7 +18,7 @@ as_whole bundle_errors.Memory = Memory
 as_whole e = InBundle e
 
 -- This is an answer of lines: the fault of those up to the first line `end`; or, where they are those of a bundle, what
--- the lines behind it come to.
+-- the lines after it come to.
 pub data IsAnswer (lines : List Line) : Answer → Type 0 where
   InFront : (e : BundleError) → bundle_of (front_of lines) ≡ Err e → IsAnswer lines (Err (InBundle e))
   Behind : (b : Bundle) → IsValid b → HasOutput b → front_of lines ≡ bundle_lines b → IsAnswer lines (behind_bundle b (length (front_of lines) + 1) (behind_of lines))
@@ -34,7 +34,7 @@ pub record IsFront (reader : BundleReader) (number : ℕ) (lines : List Line) (a
   pub stands : StandsFor (seen reader) (text_of read)
   pub answered : IsAnswer whole answer
 
--- Behind the first line `end`: the reader of bundles stands for all lines up to it.
+-- After the first line `end`: the reader of bundles stands for all lines up to it.
 pub record IsBehind (reader : BundleReader) (number : ℕ) (lines : List Line) (answer : Answer) : Type 0 where
   pub whole : List Line
   pub behind_is : behind_of whole ≡ lines

@@ -4,3 +4,4 @@ pub mod Reader
 pub mod Spent
 pub mod SpentLaws
 pub mod Stages
+pub mod Standing

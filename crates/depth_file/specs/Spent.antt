@@ -1,4 +1,4 @@
--- What stands in the text of a depth bundle whose verdict tells two numbers of levels.
+-- What stands in the text of a depth bundle whose verdict states two numbers of levels.
 use Rattle.std.specs.Prelude.{◌≡◌, ℕ, List, ◌++◌, length, Contains}
 use Rattle.sat_theory.specs.Log.{IsSpent}
 use Rattle.enc_theory.specs.declared.part.Part.TheVariants.{Levels}

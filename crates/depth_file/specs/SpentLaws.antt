@@ -1,4 +1,4 @@
--- Where the verdict of a depth bundle tells two numbers of levels, the log of a fence of the lower number is spent.
+-- Where the verdict of a depth bundle states two numbers of levels, the log of a fence of the lower number is spent.
 use Rattle.std.proofs.Common.{◌≡◌, ℕ, Bool, true, false, cond, List, [], ◌∷◌, ◌++◌, length, map, Contains, Option, Some, None, refl, sym, ap, ◌∙◌, subst, append_assoc}
 use Rattle.std.specs.List.{flat_map, find, AllByRecursion}
 use Rattle.std.specs.Option.{option_map}

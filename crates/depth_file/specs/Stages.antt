@@ -55,7 +55,7 @@ abbrev pub verdict_in : Stage → Option DepthVerdict
 verdict_in (stages.Done verdict) = Some verdict
 verdict_in stage = None
 
--- the fences from the next one on, and those behind it
+-- the fences from the next one on, and those after it
 abbrev pub due_of : Flat → List (List ℕ)
 due_of f = drop f.at (flatter f.heading.spec f.size f.levels)
 
@@ -66,7 +66,7 @@ later_of f = drop (f.at + 1) (flatter f.heading.spec f.size f.levels)
 abbrev pub IsNext : Flat → List ℕ → Type 0
 IsNext f fence = due_of f ≡ fence ∷ later_of f
 
--- Behind the title of a fence.
+-- After the title of a fence.
 pub record IsBegun (f : Flat) (number : ℕ) (lines : List Line) (answer : Answer) : Type 0 where
   pub fence : List ℕ
   pub is_next : IsNext f fence

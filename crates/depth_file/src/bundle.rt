@@ -2,8 +2,9 @@
 //! the bundle asks, and its chain.
 ghost use Rattle.std.specs.Prelude.{◌≡◌, ◌+◌, ◌^◌, ◌<◌, ◌≤◌, ℕ, List, ◌∷◌, length, IfOk};
 ghost use Rattle.text_core.specs.Lines.{Line, line_bytes};
-ghost use Rattle.cert_file.specs.Reader.{seen, IsReader, HasNoEnd};
-ghost use Rattle.cert_file.specs.TextLines.{line_of};
+ghost use Rattle.line_reader.specs.Cuts.{HasNoEnd};
+ghost use Rattle.cert_file.specs.Reader.{seen, IsReader};
+ghost use Rattle.line_reader.specs.TextLines.{line_of};
 ghost use Rattle.depth_theory.specs.DepthJudging.{Answer};
 ghost use Rattle.depth_file.specs.Fronts.{as_whole, IsFront, IsBehind};
 ghost use Rattle.depth_file.specs.Stages.{IsStage, IsBehindFront, Judged, fed_of};
@@ -25,7 +26,7 @@ fn fault_of(error: BundleError) -> DepthError
     }
 }
 
-/// What comes behind a bundle that was read to its end.
+/// What comes after a bundle that was read to its end.
 #[tactic(auto, using(crate::proofs::Behind::behind))]
 pub(crate) fn behind_bundle(alloc: Global, reader: BundleReader) -> Result<Stage, DepthError>
     requires { IsReader (seen reader) }

@@ -29,7 +29,7 @@ pub fn check_depth(alloc: Global, bytes: &[u8]) -> Result<DepthVerdict, DepthErr
     // What has a verdict is the text of a depth bundle that has it, and each such text has one.
     ensures verdict { IfOk result (λ v. HasDepth bytes.now v) }
     ensures accepted { (b : DepthBundle) → IsDepthText bytes.now b → Gives (λ v. v) result (Ok b.verdict) }
-    // The verdict is true of the tables and the basis that the text tells.
+    // The verdict is true of the tables and the basis that the text states.
     ensures means { IfOk result (λ v. (b : DepthBundle) (is : IsDepthText bytes.now b) →
         Means (specification b.bundle.heading.spec) (members b.bundle.heading.basis) (length is.is_depth.chain.steps) v) }
     // It is refused exactly where the definition has a fault, with the first from the top.

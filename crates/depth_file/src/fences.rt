@@ -9,7 +9,7 @@ use fence_core::fences;
 use std::alloc::{AllocError, Global};
 use tt_core::{Spec, live_part};
 
-/// Adds the listed fences of so many levels.
+/// Adds the listed fences of `levels` levels.
 #[tactic(auto, using(crate::proofs::FenceLists::fencing), unfolding(depth_theory::specs::Flatter::of_levels))]
 fn push_level(
     alloc: Global,
@@ -29,7 +29,7 @@ fn push_level(
     Ok(())
 }
 
-/// The listed fences of so many steps that have fewer levels.
+/// The listed fences of `size` steps that have fewer levels.
 #[tactic(auto, using(crate::proofs::FenceLists::flattening))]
 pub(crate) fn flatter_parts(
     alloc: Global,

@@ -2,8 +2,8 @@
 //! spelled, on `cert_file` for its bundle and for the logs of parts, and on the encoding by fences.
 //!
 //! The theorem is that of `check_depth`: bytes get a verdict exactly where they are the text of a depth bundle that
-//! has it; else the first fault is told. The lines up to the first `end` go to the reader of bundles, which then hands
-//! out what the bundle asks and its chain; those behind it go from stage to stage. Of the logs no more is kept than one
+//! has it; else the first fault is reported. The lines up to the first `end` go to the reader of bundles, which then hands
+//! out what the bundle asks and its chain; those after it go from stage to stage. Of the logs no more is kept than one
 //! part's checker. `DepthReader` takes the text in pieces, wherever it is cut; a whole text is one piece.
 //!
 //! ```text
@@ -14,6 +14,7 @@
 mod bundle;
 mod checking;
 mod fences;
+mod line_stage;
 mod lines;
 mod onward;
 mod reader;

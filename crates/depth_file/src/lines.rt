@@ -1,8 +1,10 @@
-//! Single lines behind a bundle.
+//! Single lines after a bundle.
 ghost use Rattle.std.specs.Prelude.{◌≡◌};
 ghost use Rattle.text_core.specs.Items.{items_of};
+ghost use Rattle.cert_theory.specs.Judging as bundles;
 ghost use Rattle.cert_theory.specs.PartLines as parts;
-ghost use Rattle.cert_file.specs.TextLines.{line_of};
+ghost use Rattle.line_reader.specs.TextLines.{line_of};
+ghost use Rattle.depth_theory.specs.declared.data.DepthVerdict.TheVariants as verdicts;
 ghost use Rattle.depth_theory.specs.DepthGives.{Gives};
 ghost use Rattle.depth_theory.specs.DepthJudging as judging;
 
@@ -32,7 +34,7 @@ pub(crate) fn fault_at(number: u32, fault: PartError) -> DepthError
 
 /// The two numbers of a bounded verdict.
 fn bounded_in(text: &[u8]) -> Option<DepthVerdict>
-    ensures { result ≡ judging.bounded_in (items_of text.now) }
+    ensures { result ≡ bundles.bounded_in (λ low d. verdicts.Bounded low d) (items_of text.now) }
 {
     let (low, Some(rest)) = next_item(text) else {
         return None;
@@ -99,7 +101,7 @@ fn may_follow(line: &TextLine) -> bool
     is_title(line) || levels_in(line).is_some()
 }
 
-/// The title of a fence with so many steps on each level.
+/// The title of a fence, with the number of steps on each level.
 #[tactic(auto, unfolding(cert_theory::specs::PartLines::title_in))]
 pub(crate) fn title_at(alloc: Global, line: &TextLine, fence: &[u32]) -> Result<(), DepthError>
     ensures { Gives (λ x. x) result (judging.at_line line.now.number (parts.title_in (judging.may_follow (line_of line.now)) fence.now (line_of line.now))) }

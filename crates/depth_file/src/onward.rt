@@ -6,8 +6,8 @@ ghost use Rattle.enc_theory.specs.declared.part.Part.TheVariants.{Levels};
 ghost use Rattle.settings.specs.declared.methods.Method.TheVariants.{Fence};
 ghost use Rattle.cert_theory.specs.Bundle as bundles;
 ghost use Rattle.cert_theory.specs.Judging.{low_with as low_with_of};
-ghost use Rattle.cert_file.specs.Reader.{HasNoEnd};
-ghost use Rattle.cert_file.specs.TextLines.{line_of};
+ghost use Rattle.line_reader.specs.Cuts.{HasNoEnd};
+ghost use Rattle.line_reader.specs.TextLines.{line_of};
 ghost use Rattle.depth_theory.specs.DepthBundle.{levels_found};
 ghost use Rattle.depth_theory.specs.DepthGives.{Gives};
 ghost use Rattle.depth_theory.specs.DepthJudging as judging;
@@ -155,7 +155,7 @@ fn low_with(low: Option<u32>, end: Ended, levels: u32) -> Option<u32>
     }
 }
 
-/// What comes behind a fence whose log ends so.
+/// What comes after a fence whose log ends so.
 #[tactic(auto, using(crate::proofs::Going::going))]
 fn behind(flat: Flat, end: Ended) -> Stage
     requires { IsRunning flat }

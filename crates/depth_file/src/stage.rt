@@ -26,7 +26,7 @@ pub(crate) enum Stage {
     Front {
         reader: BundleReader,
     },
-    /// The line of the depth, behind a bundle whose chain has so many steps on so many levels.
+    /// The line of the depth, after a bundle whose chain has `size` steps on `levels` levels.
     Depth {
         heading: Heading,
         size: u32,

@@ -15,9 +15,9 @@ use Rattle.depth_core.specs.Flattened.{minimum_of}
 use Rattle.depth_run.specs.declared.certificate.Found.{Found}
 use Rattle.depth_run.specs.declared.certificate.Found.TheVariants.{Least, Other}
 
--- The text is that of a depth bundle with this verdict. It is for the tables that the bytes spell, with nothing
--- behind them, and for what is asked. Its logs owe nothing, those of flatter fences with them: at least half of what
--- an open one adds stays live.
+-- The text is that of a depth bundle with this verdict. It is for the tables that the bytes spell, with nothing after
+-- them, under the settings `asked`. Its logs are thrifty, and so are those of flatter fences: at least half of what an
+-- open one adds stays live, and each deletes about a quarter of what it adds, or more.
 pub record IsLeast (bytes : List ℕ) (asked : SynthSettings) (text : List ℕ) (verdict : DepthVerdict) : Type 0 where
   pub bundle : DepthBundle
   pub is_text : IsDepthText text bundle

@@ -1,3 +1,1 @@
 pub mod Certifying
-pub mod AnswerLaws
-pub mod QuestionLaws

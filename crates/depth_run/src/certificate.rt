@@ -15,6 +15,7 @@ use bundle_core::{Bundle, Verdict};
 use bundle_text::write_bundle;
 use depth_core::{Deep, DepthBundle, least_depth, write_depth};
 use depth_theory::DepthVerdict;
+use sat_solve::Solver;
 use settings::SynthSettings;
 use std::alloc::{AllocError, Global};
 use synth_core::tables;
@@ -58,10 +59,11 @@ fn bundle_written(alloc: Global, bundle: &Bundle) -> Result<Vec<u8>, AllocError>
     Ok(text)
 }
 
-/// Searches for a chain of the fewest steps that agrees with the tables in the bytes, and for one of the fewest levels
-/// among those of so many steps, and writes the certificate. A line behind the tables is refused as `BadRow`.
+/// Searches with the solver `S` for a chain of the fewest steps that implements the tables in the bytes, and among the
+/// chains of that size for one of the fewest levels, and writes the certificate. A line after the tables is refused as
+/// `BadRow`.
 #[tactic(auto, using(crate::proofs::Certified::certifying))]
-pub fn certify_depth(
+pub fn certify_depth<S: Solver>(
     alloc: Global,
     bytes: &[u8],
     asked: &SynthSettings,
@@ -73,7 +75,7 @@ pub fn certify_depth(
     ensures refusal { IfErr result (λ e. Fails e (tables_alone (lines_of bytes.now))) }
 {
     let spec = tables(alloc, bytes)?;
-    match least_depth(alloc, &spec, asked.basis, asked.max, asked.conflicts)? {
+    match least_depth::<S>(alloc, &spec, asked.basis, asked.max, asked.conflicts)? {
         Deep::Least(bundle) => {
             let text = depth_written(alloc, &bundle)?;
             Ok(DepthCertificate {

@@ -1,18 +1,17 @@
-//! From tables to the certificate that a chain of the fewest steps has the fewest levels too, as texts: what the
+//! From truth tables to the certificate that a chain of the fewest steps has the least depth too, as texts: what the
 //! command `synth --least-depth yes` does with the bytes that it reads. It stands on `synth_core` for reading tables,
-//! on `depth_core` for the search and for writing depth bundles, and on `bundle_text` for the certificates of what
-//! has no minimum.
+//! on `depth_core` for the search and for writing depth bundles, and on `bundle_text` for the certificates of a search
+//! without a minimum. It is generic in the solver `S`.
 //!
 //! The theorem is that of `certify_depth`: what it answers is the text of a valid depth bundle for the tables that it
 //! was given, or that of a valid certificate whose verdict is no minimum, and it refuses exactly what isn't tables
 //! alone.
 //!
-//! `specs/` has the laws of these texts, for whoever promises something of them: a text is judged in one way at most
-//! and has one verdict at most, it spells its tables and its basis in lines of its own, and what its verdict says is
-//! true of them.
+//! `specs/` has the laws of these texts, for the contracts of callers: a text is judged in one way at most and has one
+//! verdict at most, it spells its tables and its basis in lines of its own, and what its verdict says is true of them.
 //!
 //! ```text
-//! let certificate = certify_depth(alloc, b"inputs 2\n0110\n", &by_fences)?;
+//! let certificate = certify_depth::<Cdcl>(alloc, b"inputs 2\n0110\n", &by_fences)?;
 //! certificate.found // Found::Least(DepthVerdict::Levels(1)), over a basis with XOR
 //! ```
 #![tactic(auto)]

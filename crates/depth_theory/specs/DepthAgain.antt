@@ -7,7 +7,7 @@ use Rattle.std.proofs.lemmas.Bool.Decides.{nat_tests}
 use Rattle.std.proofs.lemmas.List.Elements.{recursion_from_All}
 use Rattle.text_core.specs.Lines.{Line, lines_of, lines_from}
 use Rattle.text_core.specs.Words.{after as behind_word, is_free}
-use Rattle.text_core.specs.ReadBack.{number_back, free_both, free_decimal}
+use Rattle.text_core.specs.ReadBack.{free_both, free_decimal}
 use Rattle.chain_theory.specs.Chain.{Chain}
 use Rattle.chain_theory.specs.Levels.{depth}
 use Rattle.chain_theory.specs.LevelLaws.{depth-least}
@@ -19,7 +19,6 @@ use Rattle.sat_theory.specs.Log.{IsStep, EachLine, after}
 use Rattle.sat_theory.specs.LogLaws.{after-push}
 use Rattle.lrat_check.specs.Live.{AreClauses}
 use Rattle.tt_core.specs.Words.{Words}
-use Rattle.chain_core.specs.Block.{number_in}
 use Rattle.chain_core.specs.Spelling.{line}
 use Rattle.clause_core.specs.Holds.{contains_head, contains_tail, contains_map}
 use Rattle.enc_theory.specs.Parts.{fence_in, parts_for}
@@ -42,7 +41,7 @@ use Rattle.cert_theory.specs.PartLines.{state_after}
 use Rattle.cert_theory.specs.Judging.{is_title, low_with}
 use Rattle.cert_laws.specs.CodingLaws.{HasShortTitle, fence_is_coding}
 use Rattle.cert_laws.specs.ClauseStates.{start_clauses, next_clauses}
-use Rattle.cert_laws.specs.LinesAgain.{ended_again, number_again, two_items}
+use Rattle.cert_laws.specs.LinesAgain.{ended_again, number_again, two_again}
 use Rattle.cert_laws.specs.SectionsAgain.{WasFresh, part_ends, part_goes}
 use Rattle.cert_laws.specs.SectionLists.{log_holds, log_fresh, title_again}
 use Rattle.cert_laws.specs.SectionSpellings.{low_or, low_same, part_text}
@@ -57,7 +56,7 @@ use Rattle.depth_theory.specs.FlatterLaws.{flatter_is}
 use Rattle.depth_theory.specs.DepthBundle.{DepthBundle, open_levels, levels_found, IsDepth}
 use Rattle.depth_theory.specs.DepthMeanings.{open_fence, depth_found}
 use Rattle.depth_theory.specs.DepthSpelling.{levels_of, depth_line, levels_line, flat_lines, depth_lines, depth_text, IsDepthText}
-use Rattle.depth_theory.specs.DepthJudging.{Answer, or_syntax, at_line, both, bounded_in, levels_in, is_same, follows, end_of, verdict_at, may_follow, Due, Begun, Within, behind_line, flat_from, depth_at, behind_chain, least_of, behind_least, behind_bundle, front_of, behind_of, IsJudged}
+use Rattle.depth_theory.specs.DepthJudging.{Answer, or_syntax, at_line, levels_in, is_same, follows, end_of, verdict_at, may_follow, Due, Begun, Within, behind_line, flat_from, depth_at, behind_chain, least_of, behind_least, behind_bundle, front_of, behind_of, IsJudged}
 use Rattle.depth_theory.specs.DepthSpellings.{low_step, found_depth}
 use Rattle.depth_theory.specs.FrontLines.{front_is, behind_is}
 
@@ -72,9 +71,7 @@ levels_again : (v : DepthVerdict) → IsShort v → levels_in (line (levels_line
 unfolding levels_in levels_line behind_word
 levels_again (verdicts.Levels d) short = ap (option_map (λ n. verdicts.Levels n)) (number_again (codes "levels ") d short)
 levels_again (verdicts.Bounded low d) short =
-    ap bounded_in (two_items low d short.0 short.1)
-    ∙ ap (λ (o : Option ℕ). both o (number_in (decimal d))) (number_back 999999999 low (omega (arith, short.0)) (omega (arith, short.0)))
-    ∙ ap (λ (o : Option ℕ). both (Some low) o) (number_back 999999999 d (omega (arith, short.1)) (omega (arith, short.1)))
+    two_again verdicts.Bounded low d short.0 short.1
 
 eq_same : (n : ℕ) → (n == n) ≡ true
 eq_same n = grind (arith, nat_tests)
@@ -168,7 +165,7 @@ formula_by m w basis size fence same = subst (λ (x : Method). IsFormula ((codin
 head_part : (p : PartLog) (ps : List PartLog) (f : List ℕ) (fs : List (List ℕ)) → map part_of (p ∷ ps) ≡ map Levels (f ∷ fs) → (p.part ≡ Levels f) × (map part_of ps ≡ map Levels fs)
 head_part p ps f fs e = (cc, cc)
 
--- the parts, and the verdict behind them
+-- the parts, and the verdict after them
 flat_again : (ps : List PartLog) (due : List (List ℕ)) (h : Heading) (size d number : ℕ) (low : Option ℕ) (v : DepthVerdict) → h.method ≡ Fence → IsShort v → map part_of ps ≡ map Levels due → AllByRecursion (IsPartLog h size) ps → v ≡ levels_found (low_or low (open_levels ps)) d → flat_from h size d number low (Due due) (flat_lines ps v) ≡ Ok v
 flat_again [] [] h size d number low v by_fences short same logs is = ending_again h size d number low v short (is ∙ ap (λ (o : Option ℕ). levels_found o d) (sym (low_same low)))
 flat_again [] (f ∷ fs) h size d number low v by_fences short same logs is = absurd cc
@@ -184,7 +181,7 @@ flat_again (p ∷ ps) (f ∷ fs) h size d number low v by_fences short same logs
     ∙ part_again h size d number low f fs p.ended p.log (flat_lines ps v) v (formula_by h.method h.spec h.basis size f by_fences) ends_as
     (λ n. flat_again ps fs h size d n (low_with low p.ended (length f)) v by_fences short each.1 logs.1 (is ∙ low_is))
 
--- ---- behind the bundle
+-- ---- after the bundle
 
 depth_again : (number d : ℕ) → d < 1000000000 → depth_at number d (line (depth_line d)) ≡ Ok tt
 unfolding depth_at depth_line
@@ -226,7 +223,7 @@ short b is =
 levels_is : (b : DepthBundle) (is : IsDepth b) → levels_of b.verdict ≡ depth is.chain
 levels_is b is = ap levels_of is.verdict_is ∙ found_depth (open_levels b.parts) (depth is.chain)
 
--- the lines behind the bundle of a depth bundle are judged as its verdict
+-- the lines after the bundle of a depth bundle are judged as its verdict
 pub behind_again : (b : DepthBundle) (number : ℕ) → IsDepth b → behind_bundle b.bundle number (line (depth_line (levels_of b.verdict)) ∷ flat_lines b.parts b.verdict) ≡ Ok b.verdict
 behind_again b number is =
     let h = b.bundle.heading in
@@ -281,7 +278,7 @@ depth_lines_again b is =
 abbrev behind_lines : DepthBundle → List Line
 behind_lines b = line (depth_line (levels_of b.verdict)) ∷ flat_lines b.parts b.verdict
 
--- lines of a depth bundle: those of its bundle, and the others behind it
+-- lines of a depth bundle: those of its bundle, and the others after it
 pub depth_front : (bytes : List ℕ) (b : DepthBundle) → IsDepthText bytes b → front_of (lines_of bytes) ≡ bundle_lines b.bundle
 depth_front bytes b is = ap (λ (xs : List ℕ). front_of (lines_of xs)) is.text ∙ ap front_of (depth_lines_again b is.is_depth) ∙ front_is b.bundle (behind_lines b) is.is_depth.valid
 

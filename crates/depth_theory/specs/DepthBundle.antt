@@ -29,7 +29,7 @@ part_levels (Levels sizes) = length sizes
 abbrev pub open_levels : List PartLog → Option ℕ
 open_levels parts = option_map (λ p. part_levels p.part) (find (λ p. is_open_end p.ended) parts)
 
--- the verdict of a chain of so many levels, where the levels of the first open fence are given
+-- the verdict of a chain of `d` levels, where the levels of the first open fence are given
 abbrev pub levels_found : Option ℕ → ℕ → DepthVerdict
 levels_found None d = verdicts.Levels d
 levels_found (Some low) d = verdicts.Bounded low d

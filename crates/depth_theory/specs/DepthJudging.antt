@@ -1,14 +1,11 @@
 -- What lines say as a depth bundle, and the first fault where they aren't one. Lines are judged from the top; what
 -- the lines of one part say is that of bundles. Each function is given the number that the first of its lines has
 -- in the whole text.
-use Rattle.std.specs.Prelude.{◌≡◌, ℕ, ◌+◌, Bool, false, ◌&&◌, ◌||◌, ◌==◌, if◌then◌else◌, List, [], ◌∷◌, ◌++◌, length, codes, Option, Some, None, is_some, Result, Ok, Err, option_and_then}
-use Rattle.std.specs.Option.{option_map}
+use Rattle.std.specs.Prelude.{◌≡◌, ℕ, ◌+◌, Bool, false, ◌&&◌, ◌||◌, ◌==◌, if◌then◌else◌, List, [], ◌∷◌, ◌++◌, length, codes, Option, Some, None, is_some, Result, Ok, Err}
 use Rattle.chain_theory.specs.Chain.{Chain}
 use Rattle.chain_theory.specs.Levels.{depth}
 use Rattle.text_core.specs.Lines.{Line}
-use Rattle.text_core.specs.Items.{items_of}
 use Rattle.sat_theory.specs.Line as theory
-use Rattle.chain_core.specs.Block.{number_in}
 use Rattle.enc_theory.specs.declared.part.Part.TheVariants.{Levels}
 use Rattle.settings.specs.declared.methods.Method.{Method}
 use Rattle.settings.specs.declared.methods.Method.TheVariants as methods
@@ -19,11 +16,11 @@ use Rattle.cert_theory.specs.declared.data.Verdict.TheVariants.{Minimum}
 use Rattle.cert_theory.specs.declared.data.BundleError.{BundleError}
 use Rattle.cert_theory.specs.declared.data.PartError.{PartError}
 use Rattle.cert_theory.specs.declared.data.PartError.TheVariants as part_errors
-use Rattle.cert_theory.specs.Gives.{◌>>=◌}
+use Rattle.cert_theory.specs.Gives.{◌>>=◌, with_fault}
 use Rattle.cert_theory.specs.Bundle.{Bundle, formula_of, IsValid, HasOutput}
 use Rattle.cert_theory.specs.Spelling.{end_text, bundle_lines}
 use Rattle.cert_theory.specs.PartLines.{is_line, title_in, ended_in, part_in}
-use Rattle.cert_theory.specs.Judging.{begins, value_of, number_behind, is_title, low_with, bundle_of}
+use Rattle.cert_theory.specs.Judging.{number_behind, numbered_in, is_title, low_with, bundle_of}
 use Rattle.depth_theory.specs.declared.data.DepthVerdict.{DepthVerdict}
 use Rattle.depth_theory.specs.declared.data.DepthVerdict.TheVariants as verdicts
 use Rattle.depth_theory.specs.declared.data.DepthError.{DepthError}
@@ -53,25 +50,13 @@ fault_at number part_errors.Memory = Memory
 
 -- what was read of a part, or the fault at this line
 abbrev pub at_line : {A : Type 0} → ℕ → Result A PartError → Result A DepthError
-at_line number (Ok x) = Ok x
-at_line number (Err e) = Err (fault_at number e)
+at_line number read = with_fault (fault_at number) read
 
 -- ---- verdicts, as they are written
 
-abbrev pub both : Option ℕ → Option ℕ → Option DepthVerdict
-both (Some low) (Some d) = Some (verdicts.Bounded low d)
-both low d = None
-
-abbrev pub bounded_in : List (List ℕ) → Option DepthVerdict
-bounded_in (low ∷ d ∷ []) = both (number_in low) (number_in d)
-bounded_in items = None
-
 -- the verdict of a line
 unfoldable pub levels_in : Line → Option DepthVerdict
-levels_in l =
-    if begins (codes "levels ") l
-    then option_map (λ d. verdicts.Levels d) (number_behind (codes "levels ") l)
-    else option_and_then (λ pair. bounded_in (items_of pair)) (value_of (codes "levels-bounded ") l)
+levels_in l = numbered_in (λ d. verdicts.Levels d) (λ low d. verdicts.Bounded low d) (codes "levels ") (codes "levels-bounded ") l
 
 abbrev pub is_same : DepthVerdict → DepthVerdict → Bool
 is_same (verdicts.Levels d) (verdicts.Levels e) = d == e
@@ -88,7 +73,7 @@ abbrev pub nothing_behind : ℕ → DepthVerdict → List Line → Answer
 nothing_behind number v [] = Ok v
 nothing_behind number v (l ∷ ls) = Err (Syntax number)
 
--- the line `end`, and nothing behind it
+-- the line `end`, and nothing after it
 unfoldable pub end_of : ℕ → DepthVerdict → List Line → Answer
 end_of number v [] = Err (Syntax number)
 end_of number v (l ∷ ls) = if is_line end_text l then nothing_behind (number + 1) v ls else Err (Syntax number)
@@ -115,12 +100,12 @@ pub record Progress : Type 0 where
   pub low : Option ℕ
   pub place : Place
 
--- what comes behind a line of a log, or behind its end
+-- what comes after a line of a log, or after its end
 abbrev pub behind_line : Option ℕ → List ℕ → List (List ℕ) → Ended → List theory.Line → Option theory.Line → Progress
 behind_line low fence later ended log None = record { low = low_with low ended (length fence); place = Due later }
 behind_line low fence later ended log (Some line) = record { low = low; place = Within fence later ended (log ++ line ∷ []) }
 
--- The lines behind that of the depth, from a place on, for a chain of so many steps and levels.
+-- The lines after that of the depth, from a place on, for a chain of `size` steps and `d` levels.
 unfoldable pub flat_from : Heading → ℕ → ℕ → ℕ → Option ℕ → Place → List Line → Answer
 flat_from h size d number low place [] = Err (Syntax number)
 flat_from h size d number low (Due []) (l ∷ ls) = verdict_at number (levels_found low d) l >>= λ v. end_of (number + 1) v ls
@@ -138,7 +123,7 @@ depth_at number d l = do
   stated ← or_syntax number (number_behind (codes "depth ") l)
   (if stated == d then Ok tt else Err (WrongDepth number))
 
--- the lines behind the bundle of a chain of so many steps and levels
+-- the lines after the bundle of a chain of `size` steps and `d` levels
 unfoldable pub behind_chain : Heading → ℕ → ℕ → ℕ → List Line → Answer
 behind_chain h size d number [] = Err (Syntax number)
 behind_chain h size d number (l ∷ ls) = depth_at number d l >>= λ stated. flat_from h size d (number + 1) None (Due (flatter h.spec size d)) ls
@@ -152,11 +137,11 @@ abbrev pub behind_least : Heading → Option Chain → ℕ → List Line → Ans
 behind_least h None number ls = Err NotLeastForm
 behind_least h (Some c) number ls = behind_chain h (length c.steps) (depth c) number ls
 
--- the lines behind a bundle
+-- the lines after a bundle
 abbrev pub behind_bundle : Bundle → ℕ → List Line → Answer
 behind_bundle b number ls = behind_least b.heading (least_of b.heading.method b.verdict b.chain) number ls
 
--- the lines up to the first line `end`, with it, and those behind it
+-- the lines up to the first line `end`, with it, and those after it
 unfoldable pub front_of : List Line → List Line
 front_of [] = []
 front_of (l ∷ ls) = if is_line end_text l then l ∷ [] else l ∷ front_of ls
@@ -166,7 +151,7 @@ behind_of [] = []
 behind_of (l ∷ ls) = if is_line end_text l then ls else behind_of ls
 
 -- What lines come to, as far as an answer says it: where those up to the first line `end` aren't a valid bundle,
--- its fault; and where they are one, what those behind it come to.
+-- its fault; and where they are one, what those after it come to.
 -- Example: where the part of 2 1 is missing in the example of the spelling, the fault is NotRefuted of the line
 -- `levels 3`.
 pub record Judged (says : Answer → Type 0) (lines : List Line) : Type 0 where

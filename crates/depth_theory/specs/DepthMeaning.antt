@@ -21,13 +21,13 @@ pub record HasDepthOf (s : Specification) (basis : Basis) (r d : ℕ) : Type 0 w
 abbrev pub NoneFlatter : Specification → Basis → ℕ → ℕ → Type 0
 NoneFlatter s basis r d = (k : ℕ) → k < d → HasDepthOf s basis r k → ⊥
 
--- The fewest steps, and of chains of so many steps the fewest levels. This speaks of all chains.
+-- The fewest steps, and of chains of that number of steps the fewest levels. This speaks of all chains.
 pub record IsLeastDepth (s : Specification) (basis : Basis) (r d : ℕ) : Type 0 where
   pub minimum : IsMinimum s basis r
   pub reached : HasDepthOf s basis r d
   pub none_flatter : NoneFlatter s basis r d
 
--- The fewest steps, a chain of so many steps with d levels, and none with fewer than low.
+-- The fewest steps, a chain of this number of steps with d levels, and none with fewer than low.
 pub record IsBoundedDepth (s : Specification) (basis : Basis) (r low d : ℕ) : Type 0 where
   pub minimum : IsMinimum s basis r
   pub reached : HasDepthOf s basis r d

@@ -1,4 +1,4 @@
--- How a depth bundle is written: its bundle, and behind the line `end` of it, for the example of x1 AND (x2 OR
+-- How a depth bundle is written: its bundle, and after the line `end` of it, for the example of x1 AND (x2 OR
 -- (x3 AND x4)),
 --
 --     depth 3
@@ -30,7 +30,7 @@ unfoldable pub levels_line : DepthVerdict → List ℕ
 levels_line (verdicts.Levels d) = codes "levels " ++ decimal d
 levels_line (verdicts.Bounded low d) = codes "levels-bounded " ++ (decimal low ++ 32 ∷ decimal d)
 
--- what stands behind the line of the depth
+-- what stands after the line of the depth
 abbrev pub flat_lines : List PartLog → DepthVerdict → List Line
 flat_lines parts v = flat_map part_lines parts ++ line (levels_line v) ∷ line end_text ∷ []
 

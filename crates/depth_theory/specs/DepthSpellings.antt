@@ -1,19 +1,14 @@
 -- Depth bundles, as they are read.
-use Rattle.std.proofs.Common.{◌≡◌, ℕ, ◌+◌, ◌==◌, Bool, true, false, cond, List, [], ◌∷◌, ◌++◌, length, map, Option, Some, None, Result, Ok, Err, refl, sym, ap, ◌∙◌, subst, arith, append_assoc, append-nil}
-use Rattle.std.specs.Prelude.{codes, decimal, option_and_then}
-use Rattle.std.specs.List.{flat_map, join_with_byte, AllByRecursion}
-use Rattle.std.specs.Option.{option_map}
-use Rattle.std.proofs.Math.Logic.{⊎_elim}
+use Rattle.std.proofs.Common.{◌≡◌, ℕ, ◌+◌, ◌==◌, Bool, true, false, cond, List, [], ◌∷◌, ◌++◌, length, map, Option, Some, None, Result, Ok, Err, refl, sym, ap, ◌∙◌, subst, append_assoc, append-nil}
+use Rattle.std.specs.Prelude.{codes, decimal}
+use Rattle.std.specs.List.{flat_map, AllByRecursion}
 use Rattle.std.proofs.lemmas.Bool.{eqb-true}
-use Rattle.std.proofs.lemmas.Option.{option_and_then_some}
 use Rattle.std.proofs.lemmas.List.Elements.{All-from_recursion}
 use Rattle.text_core.specs.Lines.{Line, lines_of}
-use Rattle.text_core.specs.Items.{items_of}
-use Rattle.text_core.specs.ReadBack.{number_spells, items_spell, lines_spell}
+use Rattle.text_core.specs.ReadBack.{lines_spell}
 use Rattle.chain_theory.specs.Chain.{Chain}
 use Rattle.chain_theory.specs.Levels.{depth}
 use Rattle.sat_theory.specs.Line as theory
-use Rattle.chain_core.specs.Block.{number_in}
 use Rattle.chain_core.specs.Spelling.{line}
 use Rattle.enc_theory.specs.declared.part.Part.{Part}
 use Rattle.enc_theory.specs.declared.part.Part.TheVariants.{Levels}
@@ -25,15 +20,14 @@ use Rattle.cert_theory.specs.declared.data.Ended.TheVariants as ends
 use Rattle.cert_theory.specs.declared.data.Verdict.{Verdict}
 use Rattle.cert_theory.specs.declared.data.Verdict.TheVariants as bundle_verdicts
 use Rattle.cert_theory.specs.declared.data.BundleError.{BundleError}
-use Rattle.cert_theory.specs.declared.data.PartError.{PartError}
 use Rattle.cert_theory.specs.Bundle.{PartLog, Bundle, IsPartLog, EndsAs, part_of, formula_of, first_open, IsEnding, IsValid, HasOutput}
 use Rattle.cert_theory.specs.Spelling.{ended_text, done_text, log_line, title_text, title_lines, part_lines, end_text, bundle_lines, text_of}
 use Rattle.cert_theory.specs.Gives.{◌>>=◌}
 use Rattle.cert_theory.specs.PartLines.{is_line, title_in, ended_in, part_in}
-use Rattle.cert_theory.specs.Judging.{begins, value_of, number_behind, is_title, low_with, bundle_of}
-use Rattle.cert_theory.specs.GivesLaws.{bind_ok, test_ok}
-use Rattle.cert_laws.specs.LineSpellings.{chosen, both_true, some_is, is_line_spells, value_spells, ended_spells}
-use Rattle.cert_laws.specs.EndingSpellings.{map_some, number_spelled}
+use Rattle.cert_theory.specs.Judging.{number_behind, is_title, low_with, bundle_of}
+use Rattle.cert_theory.specs.GivesLaws.{bind_ok, test_ok, located_ok}
+use Rattle.cert_laws.specs.LineSpellings.{both_true, is_line_spells, ended_spells}
+use Rattle.cert_laws.specs.EndingSpellings.{number_spelled, numbered_spells}
 use Rattle.cert_laws.specs.LogSpellings.{IsLog, no_log, closed_is, logged_is}
 use Rattle.cert_laws.specs.SectionSpellings.{low_or, low_same, part_text, title_spells, unit_is, part_done, part_logged}
 use Rattle.cert_laws.specs.BundleSpellings.{ReadBundle, lines_read}
@@ -44,47 +38,18 @@ use Rattle.depth_theory.specs.declared.data.DepthError.TheVariants.{Bundle as In
 use Rattle.depth_theory.specs.Flatter.{flatter}
 use Rattle.depth_theory.specs.DepthBundle.{DepthBundle, open_levels, levels_found, IsDepth}
 use Rattle.depth_theory.specs.DepthSpelling.{levels_of, depth_line, levels_line, flat_lines, HasDepth}
-use Rattle.depth_theory.specs.DepthJudging.{Answer, or_syntax, at_line, both, bounded_in, levels_in, is_same, follows, nothing_behind, end_of, verdict_at, may_follow, Place, Due, Begun, Within, behind_line, flat_from, depth_at, behind_chain, least_of, behind_least, behind_bundle, front_of, behind_of, IsJudged}
+use Rattle.depth_theory.specs.DepthJudging.{Answer, or_syntax, fault_at, at_line, levels_in, is_same, follows, nothing_behind, end_of, verdict_at, may_follow, Place, Due, Begun, Within, behind_line, flat_from, depth_at, behind_chain, least_of, behind_least, behind_bundle, front_of, behind_of, IsJudged}
 use Rattle.depth_theory.specs.FrontLines.{front_and_behind}
 
 read_ok : {A : Type 0} (number : ℕ) (o : Option A) (x : A) → or_syntax number o ≡ Ok x → o ≡ Some x
 read_ok number None x e = absurd cc
 read_ok number (Some y) x e = cc
 
-located_ok : {A : Type 0} (number : ℕ) (read : Result A PartError) (x : A) → at_line number read ≡ Ok x → read ≡ Ok x
-located_ok number (Ok y) x e = cc
-located_ok number (Err d) x e = absurd cc
-
 -- ---- verdicts
-
-both_some : (a b : Option ℕ) (v : DepthVerdict) → both a b ≡ Some v → (low : ℕ) × (d : ℕ) × (a ≡ Some low) × (b ≡ Some d) × (verdicts.Bounded low d ≡ v)
-both_some (Some low) (Some d) v e = (low, d, refl, refl, some_is (verdicts.Bounded low d) v e)
-both_some (Some low) None v e = absurd cc
-both_some None b v e = absurd cc
-
-bounded_some : (items : List (List ℕ)) (v : DepthVerdict) → bounded_in items ≡ Some v → (low : ℕ) × (d : ℕ) × (items ≡ decimal low ∷ decimal d ∷ []) × (verdicts.Bounded low d ≡ v)
-bounded_some [] v e = absurd cc
-bounded_some (a ∷ []) v e = absurd cc
-bounded_some (a ∷ b ∷ []) v e =
-    let parts = both_some (number_in a) (number_in b) v e in
-    let first = number_spells 999999999 parts.0 a (omega arith) parts.2 in
-    let second = number_spells 999999999 parts.1 b (omega arith) parts.3 in
-    (parts.0, parts.1, (λ i. first.1 i ∷ second.1 i ∷ []), parts.4)
-bounded_some (a ∷ b ∷ c ∷ ws) v e = absurd cc
 
 pub levels_spells : (l : Line) (v : DepthVerdict) → levels_in l ≡ Some v → l ≡ line (levels_line v)
 unfolding levels_in levels_line
-levels_spells l v e =
-    ⊎_elim
-    (λ (least : (begins (codes "levels ") l ≡ true) × (option_map (λ d. verdicts.Levels d) (number_behind (codes "levels ") l) ≡ Some v)).
-    let parts = map_some (λ (d : ℕ). verdicts.Levels d) (number_behind (codes "levels ") l) v least.1 in
-    number_spelled (codes "levels ") l parts.0 parts.1 ∙ ap (λ (w : DepthVerdict). line (levels_line w)) parts.2)
-    (λ (rest : (begins (codes "levels ") l ≡ false) × (option_and_then (λ pair. bounded_in (items_of pair)) (value_of (codes "levels-bounded ") l) ≡ Some v)).
-    option_and_then_some (λ pair. bounded_in (items_of pair)) (value_of (codes "levels-bounded ") l) v rest.1 (λ pair behind is.
-    let parts = bounded_some (items_of pair) v is in
-    let spelled : pair ≡ decimal parts.0 ++ 32 ∷ decimal parts.1 = sym (items_spell pair) ∙ ap (join_with_byte 32) parts.2 in
-    value_spells (codes "levels-bounded ") l pair behind ∙ ap (λ (ds : List ℕ). line (codes "levels-bounded " ++ ds)) spelled ∙ ap (λ (w : DepthVerdict). line (levels_line w)) parts.3))
-    (chosen (begins (codes "levels ") l) (option_map (λ d. verdicts.Levels d) (number_behind (codes "levels ") l)) (option_and_then (λ pair. bounded_in (items_of pair)) (value_of (codes "levels-bounded ") l)) (Some v) e)
+levels_spells l v e = numbered_spells (λ d. verdicts.Levels d) (λ low d. verdicts.Bounded low d) (codes "levels ") (codes "levels-bounded ") levels_line l v (λ d. refl) (λ low d. refl) e
 
 same_is : (v w : DepthVerdict) → is_same v w ≡ true → v ≡ w
 same_is (verdicts.Levels d) (verdicts.Levels e) is = ap (λ (n : ℕ). verdicts.Levels n) (eqb-true d e is)
@@ -157,13 +122,13 @@ IsAt h size (Due fences) = Unit {0}
 IsAt h size (Begun fence later) = Unit {0}
 IsAt h size (Within fence later ended log) = IsLog (formula_of h size (Levels fence)) ended log
 
--- the first open fence, with one fence more in front
+-- the first open fence, with one fence more before it
 pub low_step : (low : Option ℕ) (fence : List ℕ) (ended : Ended) (log : List theory.Line) (ps : List PartLog) → low_or (low_with low ended (length fence)) (open_levels ps) ≡ low_or low (open_levels (record { part = Levels fence; ended = ended; log = log } ∷ ps))
 low_step (Some low) fence ended log ps = refl
 low_step None fence ends.Refuted log ps = refl
 low_step None fence ends.Open log ps = refl
 
--- one fence more in front
+-- one fence more at the head
 begun_more : (h : Heading) (size d : ℕ) (low : Option ℕ) (fence : List ℕ) (later : List (List ℕ)) (l : Line) (ls : List Line) (v : DepthVerdict) → l ≡ line (title_text fence) → BegunRest h size d low fence later ls v → FlatRest h size d low (fence ∷ later) (l ∷ ls) v
 unfolding title_lines
 begun_more h size d low fence later l ls v first begun =
@@ -181,7 +146,7 @@ begun_more h size d low fence later l ls v first begun =
           ∙ sym (append_assoc (part_lines p) (flat_map part_lines flat.parts) (line (levels_line v) ∷ line end_text ∷ []));
     }
 
--- one line of a log more in front
+-- one line of a log more at the head
 logged_more : (h : Heading) (size d : ℕ) (low : Option ℕ) (fence : List ℕ) (later : List (List ℕ)) (ended : Ended) (log : List theory.Line) (x : theory.Line) (l : Line) (ls : List Line) (v : DepthVerdict) → l ≡ log_line x → LogRest h size d low fence later ended (log ++ x ∷ []) ls v → LogRest h size d low fence later ended log (l ∷ ls) v
 logged_more h size d low fence later ended log x l ls v first rest = record {
   more = x ∷ rest.more;
@@ -236,7 +201,7 @@ flat_spells (l ∷ ls) h size d number low (Due []) v is e = ending_rest h size 
 flat_spells (l ∷ ls) h size d number low (Due (fence ∷ later)) v is e =
     let title = title_in (may_follow l) fence l in
     let read = bind_ok (at_line number title) (λ titled. flat_from h size d (number + 1) low (Begun fence later) ls) v e in
-    begun_more h size d low fence later l ls v (title_spells (may_follow l) fence l (unit_is title read.0 (located_ok number title read.0 read.1))) (flat_spells ls h size d (number + 1) low (Begun fence later) v tt read.2)
+    begun_more h size d low fence later l ls v (title_spells (may_follow l) fence l (unit_is title read.0 (located_ok (fault_at number) title read.0 read.1))) (flat_spells ls h size d (number + 1) low (Begun fence later) v tt read.2)
 flat_spells (l ∷ ls) h size d number low (Begun fence later) v is e =
     let read = bind_ok (or_syntax number (ended_in l)) (λ ended. flat_from h size d (number + 1) low (Within fence later ended []) ls) v e in
     record {
@@ -248,10 +213,10 @@ flat_spells (l ∷ ls) h size d number low (Begun fence later) v is e =
 flat_spells (l ∷ ls) h size d number low (Within fence later ended log) v is e =
     let part = part_in (formula_of h size (Levels fence)) h.conflicts ended log l in
     let read = bind_ok (at_line number part) (Onward h size d number low fence later ended log ls) v e in
-    within_by h size d number low fence later ended log l ls v read.0 is (located_ok number part read.0 read.1) read.2
+    within_by h size d number low fence later ended log l ls v read.0 is (located_ok (fault_at number) part read.0 read.1) read.2
     (λ p o at next. flat_spells ls h size d (number + 1) o p v at next)
 
--- ---- behind a bundle
+-- ---- after a bundle
 
 depth_spells : (number d : ℕ) (l : Line) → depth_at number d l ≡ Ok tt → l ≡ line (depth_line d)
 unfolding depth_at depth_line
@@ -267,7 +232,7 @@ found_depth (Some low) d = refl
 unit_ok : (r : Result (Unit {0}) DepthError) (x : Unit {0}) → r ≡ Ok x → r ≡ Ok tt
 unit_ok r x e = e
 
--- the logs and the verdict behind a bundle
+-- the logs and the verdict after a bundle
 record ReadFlat (h : Heading) (size d : ℕ) (ls : List Line) (v : DepthVerdict) : Type 0 where
   parts : List PartLog
   parts_are : map part_of parts ≡ map Levels (flatter h.spec size d)

@@ -73,7 +73,7 @@ by_levels_more fences k =
 
 -- ---- in which order
 
--- each has at most the levels of those behind it
+-- each has at most the levels of those after it
 unfoldable pub AreRising : List (List ℕ) → Type 0
 AreRising [] = Unit {0}
 AreRising (f ∷ fs) = ((g : List ℕ) → Contains fs g → length f ≤ length g) × AreRising fs

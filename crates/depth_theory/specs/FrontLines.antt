@@ -36,7 +36,7 @@ use Rattle.cert_laws.specs.LineSpellings.{is_line_back}
 use Rattle.cert_laws.specs.SectionLists.{log_holds}
 use Rattle.depth_theory.specs.DepthJudging.{front_of, behind_of}
 
--- none of the lines is `end`, so that what stands behind them is looked at
+-- none of the lines is `end`, so that what stands after them is looked at
 record IsEndless (ls : List Line) : Type 0 where
   front : (rest : List Line) → front_of (ls ++ rest) ≡ ls ++ front_of rest
   behind : (rest : List Line) → behind_of (ls ++ rest) ≡ behind_of rest
@@ -206,7 +206,7 @@ front_is b rest valid =
     ∙ ap (λ (xs : List Line). opening b ++ xs) (last_front rest)
     ∙ regroup_all h s c v (line end_text)
 
--- .. and the others stand behind it
+-- .. and the others stand after it
 pub behind_is : (b : Bundle) (rest : List Line) → IsValid b → behind_of (bundle_lines b ++ rest) ≡ rest
 behind_is b rest valid =
     ap behind_of (regroup (heading_lines b.heading) (flat_map section_lines b.sections) (block_lines b.chain) (line (verdict_line b.verdict)) (line end_text) rest)
@@ -217,7 +217,7 @@ both_by : (l : Line) (ls : List Line) (t : Bool) → ls ≡ front_of ls ++ behin
 both_by l ls true rest = refl
 both_by l ls false rest = ap (λ (xs : List Line). l ∷ xs) rest
 
--- lines are those up to the first `end` and those behind it
+-- lines are those up to the first `end` and those after it
 pub front_and_behind : (ls : List Line) → ls ≡ front_of ls ++ behind_of ls
 unfolding front_of behind_of
 front_and_behind [] = refl

@@ -6,14 +6,14 @@ use std::alloc::{AllocError, AllocFailed};
 /// What a depth bundle comes to.
 #[derive(Clone, Copy, PartialEq, Eq)]
 pub enum DepthVerdict {
-    /// The chain has so many levels, and no chain of so few steps has fewer.
+    /// The chain has this number of levels, and no chain of its number of steps has fewer.
     Levels(u32),
-    /// The chain has so many `levels`, and no chain of so few steps has fewer than `low`.
+    /// The chain has `levels` levels, and no chain of its number of steps has fewer than `low`.
     Bounded { low: u32, levels: u32 },
 }
 
 /// Why a text isn't a depth bundle. Lines are judged from the top and numbered from 1, over the whole text;
-/// where a text ends too early, the number is that of the line that would come next. The first fault is told,
+/// where a text ends too early, the number is that of the line that would come next. The first fault is reported,
 /// and `Syntax` comes before the other faults of a line.
 #[derive(Clone, Copy, PartialEq, Eq)]
 pub enum DepthError {
@@ -23,7 +23,7 @@ pub enum DepthError {
     NotLeastForm,
     /// The line isn't what may stand there, or has no LF, or is missing.
     Syntax(u32),
-    /// The line tells other levels than the chain has.
+    /// The line states another depth than the chain has.
     WrongDepth(u32),
     /// A line of a log doesn't hold, with its first fault. This is never want of memory.
     StepRefused(u32, CheckError),

@@ -94,7 +94,7 @@ step_pairs-few ordered n fence place low = ⊎_elim
 
 -- ---- the layout
 
--- steps that stand behind a place, with the same pairs there
+-- steps that stand after a place, with the same pairs there
 laid-same : (a b : ℕ → List Pair) (v place count : ℕ) → ((p : ℕ) → place ≤ p → a p ≡ b p) → laid a v place count ≡ laid b v place count
 unfolding laid
 laid-same a b v place zero same = refl

@@ -7,7 +7,7 @@
 //! this count are enough (`fence_core::fences`).
 //!
 //! - `FenceEnc` is the encoding; its law `complete` is that of the fence of a least chain.
-//! - `levels` tells on which level each step of a chain stands.
+//! - `levels` gives the level of each step of a chain.
 #![tactic(auto)]
 
 mod encoding;

@@ -17,7 +17,7 @@ struct Places {
 }
 
 /// The places of the level below the one on which the step of index `k` stands, where `n` inputs stand
-/// below all steps; none behind the last level.
+/// below all steps; none after the last level.
 #[tactic(auto, using(crate::proofs::Walks::walk))]
 fn places_under(n: u32, levels: &[u32], k: u32) -> Places
     requires { n + k < 22 }
@@ -75,7 +75,7 @@ fn pairs_at(
     pairs_over(alloc, ordered, places)
 }
 
-/// The pairs of steps that stand level by level, so many on each as the levels say, above `n` inputs;
+/// The pairs of steps that stand level by level, as many on each as `levels` says, above `n` inputs;
 /// where they are ordered, those with j <= k alone.
 #[derive(Drop)]
 pub struct FencePairs<'a> {

@@ -1,4 +1,4 @@
--- Circuits of which the miter was refuted do the same.
+-- Circuits whose miter is refuted do the same.
 use Rattle.sat_theory.specs.Log.{Refutes}
 use Rattle.sat_theory.specs.Soundness.{no_assignment}
 use Rattle.net_theory.specs.Circuit.{Circuit, IsProper}

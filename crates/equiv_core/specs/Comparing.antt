@@ -1,4 +1,4 @@
--- What is answered of two circuits, by cases.
+-- The answers to two circuits, by cases.
 use Rattle.std.specs.Prelude.{ℕ, Bool, List}
 use Rattle.sat_theory.specs.Line as theory
 use Rattle.equiv_core.specs.declared.answer.Equiv.{Equiv}

@@ -67,7 +67,7 @@ sink_literals n m vars d u w bit x y z room room' low below below' ex ey ez = rw
 pub gate_added : (n : Numbering) (place : ℕ) (g : Gate) (a b c d e : Formula) → IsAdded a b (gate_row (numbered n) place g false false ∷ []) → IsAdded b c (gate_row (numbered n) place g false true ∷ []) → IsAdded c d (gate_row (numbered n) place g true false ∷ []) → IsAdded d e (gate_row (numbered n) place g true true ∷ []) → IsAdded a e (gate_rows (numbered n) place g)
 gate_added n place g a b c d e one two three four = added_both a b e _ _ one (added_both b c e _ _ two (added_both c d e _ _ three four))
 
--- one more gate in front of those that are added
+-- one more gate before those that are added
 pub gates_more : (n : Numbering) (place : ℕ) (gs rest : List Gate) (g : Gate) (a b c : Formula) → gs ≡ g ∷ rest → IsAdded a b (gate_rows (numbered n) place g) → IsAdded b c (gates_rows (numbered n) (place + 1) rest) → IsAdded a c (gates_rows (numbered n) place gs)
 unfolding gates_rows
 gates_more n place gs rest g a b c is one two = rw is (added_both a b c (gate_rows (numbered n) place g) (gates_rows (numbered n) (place + 1) rest) one two)

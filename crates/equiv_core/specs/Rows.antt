@@ -1,4 +1,4 @@
--- How the places of one of two nets are numbered, and clauses that are added.
+-- How the places of one of two nets are numbered, and that clauses are added.
 use Rattle.std.specs.Prelude.{◌≡◌, ℕ, ◌+◌, ◌≤◌, ◌<◌, List, ◌++◌}
 use Rattle.std.specs.List.{flat_map}
 use Rattle.sat_theory.specs.Formula.{Formula}
@@ -11,12 +11,12 @@ use Rattle.equiv_core.specs.declared.numbering.Numbering.{Numbering}
 abbrev pub numbered : Numbering → ℕ → ℕ
 numbered n place = variable_at n.sources n.before place
 
--- the places from 1 on and below the end have variables of so many
+-- the places from 1 on and below the end have variables from 1 to `vars`
 pub record HasRoom (n : Numbering) (vars : ℕ) : Type 0 where
   pub room : n.end + n.before ≤ vars + 1
   pub few : vars < 1000000000
 
--- what is written of the listed clauses is added, and nothing else changes
+-- the clauses that are written of `rows` are added, and nothing else changes
 pub record IsAdded (old new : Formula) (rows : List (List Raw)) : Type 0 where
   pub vars : new.vars ≡ old.vars
   pub clauses : new.clauses ≡ old.clauses ++ flat_map written rows

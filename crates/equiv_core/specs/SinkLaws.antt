@@ -36,7 +36,7 @@ first_bits bits front k p is low =
     (λ (some : p ≢ 0). rw (ne_eqb p 0 some, is) (get_or-take k bits (p - 1) false (omega (arith, some, low))))
     (cases_eq p 0)
 
--- Where a solution gives the sources their bits, the nets differ somewhere.
+-- Where an assignment that satisfies the miter gives the sources their bits, the nets differ somewhere.
 pub front_differs : (first second : Net) (bits front : List Bool) → AreComparable first second → front ≡ take first.sources bits → Satisfies (bits_of bits) (miter first second) → (i : ℕ) × DifferAt first second (bit_of front) i
 front_differs first second bits front are is satisfied =
     let found = satisfied_differ first second (bits_of bits) are satisfied in
@@ -75,7 +75,7 @@ pub miter_variables : (first second : Net) → (miter first second).vars ≡ var
 unfolding miter
 miter_variables first second = refl
 
--- So it isn't found that they differ nowhere.
+-- So the search for a difference finds one.
 pub solution_differs : (first second : Net) (bits front : List Bool) (x : Option ℕ) → x ≡ None → IfNone x ((i : ℕ) → DifferAt first second (bit_of front) i → ⊥) → AreComparable first second → front ≡ take first.sources bits → Satisfies (bits_of bits) (miter first second) → ⊥
 solution_differs first second bits front None none never are is satisfied = let found = front_differs first second bits front are is satisfied in never found.0 found.1
 solution_differs first second bits front (Some i) none never are is satisfied = absurd cc

@@ -1,4 +1,4 @@
-//! What is answered of two circuits, and why none is.
+//! The three answers to two circuits, and the errors.
 ghost use Rattle.std.specs.Prelude.{◌≡◌};
 ghost use Rattle.equiv_core.specs.declared.answer.EquivError.TheVariants.{Memory};
 
@@ -22,9 +22,9 @@ pub enum Equiv {
 #[derive(Clone, Copy)]
 pub enum EquivError {
     /// The inputs, outputs or clocks aren't the same names in the same order, or the latches don't agree in number,
-    /// order, output, control and first value.
+    /// order, output, control and initial value.
     DifferentInterface,
-    /// There was no memory left.
+    /// Out of memory.
     Memory,
 }
 

@@ -1,9 +1,9 @@
-//! Two circuits compared: their miter is given to the solver, whose log refutes it or is spent, and whose
-//! solution has an input at which the circuits differ.
+//! Combinational equivalence of two circuits: their miter is given to the solver. Its log refutes the miter or has
+//! spent the budget; its assignment has an input at which the circuits differ.
 ghost use Rattle.std.specs.Prelude.{◌≡◌, ◌≤◌, ◌<◌, ◌*◌, ◌^◌, length, Err, IfOk, IfErr};
 ghost use Rattle.sat_theory.specs.Formula.{bits_of, Satisfies};
 ghost use Rattle.sat_theory.specs.Log.{Refutes, IsSpent, IsKept};
-ghost use Rattle.cdcl_core.specs.Budgets.{most_budget};
+ghost use Rattle.sat_solve.specs.Budgets.{most_budget};
 ghost use Rattle.net_theory.specs.Circuit.{IsProper};
 ghost use Rattle.net_document.specs.Alike.{AreAlike};
 ghost use Rattle.equiv_theory.specs.Miter.{miter as miter_of, variables};
@@ -16,19 +16,19 @@ use crate::answer::{Equiv, EquivError};
 use crate::interface::same_interface;
 use crate::mitering::miter;
 use crate::values::first_difference;
-use cdcl_core::{Solved, solve};
 use cnf_core::{Assign, Cnf};
 use net_core::{Circuit, Net};
+use sat_solve::{Solved, Solver};
 use std::alloc::{AllocError, Global};
 
-/// A sink, counted from 1, and bits of the sources under which its values differ.
+/// The bits `at` of the sources, under which the values of the sink `sink`, counted from 1, differ.
 #[derive(Drop)]
 struct Difference {
     sink: u32,
     at: Assign,
 }
 
-/// Where two nets differ, by a solution of their miter.
+/// Where two nets differ, by an assignment that satisfies their miter.
 fn difference_of(
     alloc: Global,
     first: &Net,
@@ -53,9 +53,9 @@ fn difference_of(
     })
 }
 
-/// What the solver says of the miter of two nets.
+/// What the solver `S` answers of the miter `cnf` of two nets.
 #[tactic(auto, using(crate::specs::SinkLaws::miter_variables))]
-fn compare(
+fn compare<S: Solver>(
     alloc: Global,
     first: &Net,
     second: &Net,
@@ -72,7 +72,7 @@ fn compare(
     ensures kept { IfOk result (λ e. IfUndecided e (IsKept (miter_of first.now second.now))) }
     ensures decides { 2 * 3 ^ variables first.now second.now ≤ budget → IfOk result IsDecided }
 {
-    match solve(alloc, cnf, budget)? {
+    match S::solve(alloc, cnf, budget)? {
         Solved::Unsat(log) => Ok(Equiv::Equal(log)),
         Solved::Open(log) => Ok(Equiv::Undecided(log)),
         Solved::Sat(assign) => {
@@ -82,14 +82,15 @@ fn compare(
     }
 }
 
-/// Decides whether two proper circuits of one interface, each of fewer than 300,000,000 sources and sinks, do the
-/// same, unless it takes more than `budget` learnt clauses, from 1 to 10,000,000.
+/// Decides with the solver `S` whether two proper circuits of one interface, each of fewer than 300,000,000 sources
+/// and sinks (combinational inputs and outputs), do the same, unless it takes more than `budget` learnt clauses, from
+/// 1 to 10,000,000.
 ///
 /// They are equal only with a log that refutes their miter, so that anybody can check it; they differ only at an
 /// input that shows it, at the first sink that does; and it is undecided only with a log that has spent the
-/// budget. Circuits of different interfaces aren't compared, and no others are refused but for want of memory.
+/// budget. Circuits of different interfaces aren't compared, and no others are refused but when memory is short.
 #[tactic(auto, using(equiv_theory::specs::CircuitLaws::comparable))]
-pub fn equiv(
+pub fn equiv<S: Solver>(
     alloc: Global,
     first: &Circuit,
     second: &Circuit,
@@ -114,5 +115,5 @@ pub fn equiv(
         return Err(EquivError::DifferentInterface);
     }
     let cnf = miter(alloc, first, second)?;
-    Ok(compare(alloc, &first.net, &second.net, &cnf, budget)?)
+    Ok(compare::<S>(alloc, &first.net, &second.net, &cnf, budget)?)
 }

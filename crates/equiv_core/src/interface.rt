@@ -1,10 +1,10 @@
-//! Whether two circuits have one interface: what is asked of them before they are compared.
+//! Whether two circuits have one interface, which they need to be compared.
 ghost use Rattle.std.specs.Prelude.{◌≡◌, ◌↔◌, IsTrue};
 ghost use Rattle.equiv_theory.specs.Difference.{HaveSameInterface};
 
 use net_core::{Circuit, Latch, Name, Trigger};
 
-/// Whether two names are one.
+/// Whether two names are equal.
 #[tactic(auto, using(net_theory::specs::NameLaws::same_name, net_theory::specs::NameLaws::name_same))]
 fn same_name(first: &Name, second: &Name) -> bool
     ensures { IsTrue result ↔ (first.now ≡ second.now) }
@@ -24,7 +24,7 @@ fn same_control(first: &Option<(Trigger, Name)>, second: &Option<(Trigger, Name)
     }
 }
 
-/// Whether two latches agree in output, control and first value.
+/// Whether two latches agree in output, control and initial value.
 fn same_latch(first: &Latch, second: &Latch) -> bool
     ensures { IsTrue result ↔ (first.now ≡ second.now) }
 {
@@ -52,7 +52,7 @@ fn same_names(first: &[Name], second: &[Name]) -> bool
     right.is_empty()
 }
 
-/// Whether the latches agree in number, order, output, control and first value.
+/// Whether the latches agree in number, order, output, control and initial value.
 fn same_latches(first: &[Latch], second: &[Latch]) -> bool
     ensures { IsTrue result ↔ (first.now ≡ second.now) }
 {

@@ -1,5 +1,5 @@
-//! Two circuits compared: do they do the same? Their miter, which `equiv_theory` defines, is written clause by
-//! clause and given to the solver of `cdcl_core`.
+//! Combinational equivalence checking (CEC): do two circuits do the same? Their miter, which `equiv_theory` defines,
+//! is written clause by clause and given to the solver `S`, any of the trait of `sat_solve`.
 //!
 //! The theorem is that of `equiv`: two circuits of one interface are equal only with a log that refutes their
 //! miter, which anybody can check, and then they do the same under every assignment; they differ only at bits
@@ -7,14 +7,14 @@
 //! log that has spent the budget. `miter` is exactly the formula of the definition.
 //!
 //! ```text
-//! match equiv(alloc, &first, &second, 100000)? {
+//! match equiv::<Cdcl>(alloc, &first, &second, 100000)? {
 //!     Equiv::Equal(log) => ..,           // refutes `miter(alloc, &first, &second)?`
 //!     Equiv::Differ { sink, at } => ..,  // sink 1 is the first output
 //!     Equiv::Undecided(log) => ..,
 //! }
 //! ```
 //!
-//! - `src/rows.rt`, `src/mitering.rt`: the clauses. `src/interface.rt`: what is asked of two circuits.
+//! - `src/rows.rt`, `src/mitering.rt`: the clauses. `src/interface.rt`: whether two circuits have one interface.
 //! - `src/values.rt`: where two nets differ. `src/comparing.rt`: the three answers.
 #![tactic(auto)]
 

@@ -65,8 +65,8 @@ fn miter_nets(alloc: Global, first: &Net, second: &Net) -> Result<Cnf, AllocErro
 /// formula that some assignment satisfies exactly where some assignment of the sources gives some sink two
 /// different values (Brand, "Verification of large synthesized designs", 1993).
 ///
-/// Its variables are the sources, the gates of the first and then of the second circuit, and one for each
-/// sink, each in order. It takes time linear in both.
+/// Its variables are the sources, the gates of the first and then of the second circuit, and one for each sink, each
+/// in order. The time is linear in the sizes of both.
 #[tactic(auto, using(equiv_theory::specs::CircuitLaws::comparable))]
 pub fn miter(alloc: Global, first: &Circuit, second: &Circuit) -> Result<Cnf, AllocError>
     requires first { IsProper first.now }

@@ -7,8 +7,9 @@ ghost use Rattle.equiv_core.specs.Rows.{numbered};
 use clause_core::Raw;
 use net_core::Sig;
 
-/// How the places of one of two nets are numbered: the sources by themselves, and the gates, whose places end
-/// before `end`, behind the gates of another net, of which `before` come first.
+/// How the places (node indices) of one of two nets are numbered. The two share the variables of the `sources`; the
+/// variables of the gates come after those of the other net's `before` gates, if these are first. Places end before
+/// `end`.
 #[derive(Clone, Copy)]
 pub(crate) struct Numbering {
     pub sources: u32,
@@ -29,7 +30,7 @@ impl Numbering {
         place + self.before
     }
 
-    /// That a signal has a bit.
+    /// The literal that says that the signal `sig` has the value `bit`.
     pub(crate) fn signal_is(self, sig: Sig, bit: bool) -> Raw
         requires below { IsSigBelow self.end sig }
         requires room { self.end + self.before < 2 ^ 32 }

@@ -11,7 +11,7 @@ use clause_core::{ClauseList, Raw};
 use net_core::{Gate, Sig};
 use std::alloc::{AllocError, Global};
 
-/// Adds that a gate has its operator's value where its operands have these bits.
+/// Adds the clause of the gate at `place` for the operand bits `a` and `b`: it has its operator's value there.
 #[tactic(auto, using(crate::specs::RowLaws::gate_within, crate::specs::RowLaws::added_one), unfolding(equiv_theory::specs::Miter::gate_row))]
 fn push_gate_row(
     alloc: Global,
@@ -33,7 +33,7 @@ fn push_gate_row(
     list.push(alloc, &[first, second, value])
 }
 
-/// Adds that a gate has its operator's value.
+/// Adds the four clauses of the gate at `place`: it has its operator's value for all operand bits.
 #[tactic(auto, using(crate::specs::RowLaws::gate_added))]
 fn push_gate(
     alloc: Global,
@@ -53,7 +53,7 @@ fn push_gate(
     push_gate_row(alloc, list, numbering, place, gate, true, true)
 }
 
-/// Adds the clauses of gates, the first at this place.
+/// Adds the clauses of `gates`, the first of which is at the place `first`.
 pub(crate) fn push_gates(
     alloc: Global,
     list: &mut ClauseList,
@@ -76,7 +76,7 @@ pub(crate) fn push_gates(
     Ok(())
 }
 
-/// Adds that where a sink's variable is true the two signals aren't both of the other bit.
+/// Adds that where the sink's variable `difference` is true, `signals` don't both have the value `!bit`.
 #[tactic(auto, using(crate::specs::RowLaws::added_one), unfolding(equiv_theory::specs::Miter::sink_row))]
 fn push_sink_row(
     alloc: Global,
@@ -99,7 +99,7 @@ fn push_sink_row(
     list.push(alloc, &[told, first, second])
 }
 
-/// Adds that where a sink's variable is true the two signals differ.
+/// Adds that where the sink's variable `difference` is true, the two `signals` differ.
 #[tactic(auto, using(crate::specs::RowLaws::sink_added))]
 fn push_sink(
     alloc: Global,
@@ -119,7 +119,7 @@ fn push_sink(
     push_sink_row(alloc, list, numberings, difference, signals, true)
 }
 
-/// Adds the clauses of sinks, of which the first has this variable.
+/// Adds the clauses of the sinks; the variable of the first one is `first`.
 pub(crate) fn push_sinks(
     alloc: Global,
     list: &mut ClauseList,
@@ -150,7 +150,7 @@ pub(crate) fn push_sinks(
     Ok(())
 }
 
-/// That some sink differs, among so many, of which the first has this variable.
+/// The clause that some sink differs: the `count` variables from `difference` on.
 #[tactic(auto, using(clause_core::specs::RangeLaws::loops), unfolding(equiv_theory::specs::Miter::some_row))]
 pub(crate) fn some_row(alloc: Global, difference: u32, count: u32) -> Result<Vec<Raw>, AllocError>
     requires { difference + count < 2 ^ 32 }

@@ -1,4 +1,4 @@
--- What is told of two circuits is so of the texts that they were read of, and two texts have an answer or one
+-- An answer to two circuits is one to the texts that they were read of, and two texts have an answer or one
 -- fault at most.
 use Rattle.std.specs.Prelude.{◌≡◌, ℕ, ◌+◌, ◌-◌, Bool, false, List, ◌++◌, length, map, take, drop, slice_index_or, Option, Some, None, Result, Ok, Err, IsErrAnd, IfErr, refl}
 use Rattle.std.proofs.Common.{arith, ap, sym, ◌∙◌, subst, length-append}
@@ -82,7 +82,7 @@ documents_differ d e c k sink bits of_c of_k of_d of_e same first = record {
   at' : (given w : Name → Bool) → map given (source_names d) ≡ bits → IsMapOf e given w → (i : ℕ) → sink_in e w i ≡ sink_bit k.net (bit_of bits) i
   at' given w is maps i = ap (λ (bs : List Bool). slice_index_or bs i false) (map_values e k given w bits of_k of_e (ap (map given) (sym (sources_same c k same)) ∙ ap (map given) (sym (names_same d c of_d)) ∙ is) maps)
 
--- ---- what is told
+-- ---- the answers
 
 lists_of : (bytes : List ℕ) (c : Circuit) → (of : IsCircuitOfText blif_format bytes c) → Lists bytes of.listed.document
 lists_of bytes c of = record { listed = of.listed; said = of.said; is = refl; well = of.well }
@@ -131,7 +131,7 @@ answer_of budget bytes place c k text standing parted of_c of_k told = record {
   told = told_of budget of_c.listed.document of_k.listed.document c k text standing of_c.circuit of_k.circuit told;
 }
 
--- ---- what is refused
+-- ---- the refusals
 
 pub other_refused : (bytes : List ℕ) (place : ℕ) (c k : Circuit) (e : CompareError) → split_of bytes ≡ Some place → IsCircuitOfText blif_format (take place bytes) c → IsCircuitOfText blif_format (drop place bytes) k → IsOther c k e → IsRefusedPair bytes e
 other_refused bytes place c k DifferentInterface parted of_c of_k other = record {
@@ -229,7 +229,7 @@ fault_one bytes DifferentInterface DifferentInterface x y = refl
 fault_one bytes Memory b x y = absurd x
 fault_one bytes a Memory x y = absurd y
 
--- a refusal for another reason than want of memory is a fault
+-- a refusal other than out of memory is a fault
 pub refused_fault : (bytes : List ℕ) (e : CompareError) → IsRefusedPair bytes e → (e ≡ Memory → ⊥) → HasPairFault bytes e
 refused_fault bytes NoSecond is other = is
 refused_fault bytes (First e) is other = is

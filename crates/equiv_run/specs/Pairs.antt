@@ -1,4 +1,4 @@
--- Two netlists in one text, one behind the other: how they compare, and why they aren't compared.
+-- Two netlists in one text, one after the other: the answers, and the refusals.
 use Rattle.std.specs.Prelude.{◌≡◌, ◌≢◌, ℕ, ◌-◌, ◌*◌, ◌^◌, ◌≤◌, ◌<◌, Bool, false, List, length, map, take, drop, slice_index_or, Some, None, Ok}
 use Rattle.sat_theory.specs.Line.{Line}
 use Rattle.sat_theory.specs.Log.{Refutes, IsSpent, IsKept}
@@ -40,7 +40,7 @@ pub record AreTwo (bytes : List ℕ) (d e : Document) : Type 0 where
   pub second : Lists (drop place bytes) e
 
 -- The documents have the same inputs, outputs and clocks, and their latches agree in order, output, control and
--- first value.
+-- initial value.
 pub record ShareInterface (d e : Document) : Type 0 where
   pub inputs : d.inputs ≡ e.inputs
   pub outputs : d.outputs ≡ e.outputs
@@ -68,7 +68,7 @@ pub record HasMiter (d e : Document) (first second : Net) : Type 0 where
   pub first_is : net_of d ≡ Some first
   pub second_is : net_of e ≡ Some second
 
--- ---- what is told
+-- ---- the answers
 
 -- They do the same, and the lines refute the miter of their nets.
 pub record IsEqualTold (d e : Document) (text : List ℕ) : Type 0 where
@@ -80,7 +80,7 @@ pub record IsEqualTold (d e : Document) (text : List ℕ) : Type 0 where
   pub refutes : Refutes (miter first second) lines
   pub text_is : text ≡ equal_text lines
 
--- They differ under the bits that are told, at the sink that is told and at none before it.
+-- They differ under the bits of the text, at the sink of the text and at none before it.
 pub record IsDifferTold (d e : Document) (text : List ℕ) : Type 0 where
   pub sink : ℕ
   pub bits : List Bool
@@ -104,7 +104,7 @@ IsTold budget d e text Equal = IsEqualTold d e text
 IsTold budget d e text Differ = IsDifferTold d e text
 IsTold budget d e text Undecided = IsUndecidedTold budget d e text
 
--- The bytes are two netlists of one interface, and this is told of them.
+-- The bytes are two netlists of one interface, and the text is an answer to them.
 pub record IsAnswer (budget : ℕ) (bytes text : List ℕ) (standing : Standing) : Type 0 where
   pub first : Document
   pub second : Document
@@ -112,9 +112,9 @@ pub record IsAnswer (budget : ℕ) (bytes text : List ℕ) (standing : Standing)
   pub interface : ShareInterface first second
   pub told : IsTold budget first second text standing
 
--- ---- what is refused
+-- ---- the refusals
 
--- a fault of the first text, and one of the second, whose lines are numbered from 1, behind a first without one
+-- a fault of the first text, and one of the second, whose lines are numbered from 1, after a first without one
 pub record HasFirstFault (bytes : List ℕ) (e : NetError) : Type 0 where
   pub place : ℕ
   pub parted : split_of bytes ≡ Some place
@@ -133,7 +133,7 @@ pub record HasOtherInterface (bytes : List ℕ) : Type 0 where
   pub two : AreTwo bytes first second
   pub other : ShareInterface first second → ⊥
 
--- Why the bytes aren't two netlists that can be compared. Want of memory is none.
+-- Why the bytes aren't two netlists that can be compared. Out of memory is no such reason.
 abbrev pub HasPairFault : List ℕ → CompareError → Type 0
 HasPairFault bytes NoSecond = split_of bytes ≡ None
 HasPairFault bytes (First e) = HasFirstFault bytes e
@@ -141,7 +141,7 @@ HasPairFault bytes (Second e) = HasSecondFault bytes e
 HasPairFault bytes DifferentInterface = HasOtherInterface bytes
 HasPairFault bytes Memory = ⊥
 
--- Want of memory may come anywhere.
+-- Out of memory may come anywhere.
 abbrev pub IsRefusedPair : List ℕ → CompareError → Type 0
 IsRefusedPair bytes NoSecond = HasPairFault bytes NoSecond
 IsRefusedPair bytes (First e) = HasPairFault bytes (First e)

@@ -1,5 +1,5 @@
--- Where the first of two BLIF texts ends that stand one behind the other: behind the first logical line whose
--- first word is `.end`.
+-- Where the first of two BLIF texts ends that stand one after the other: after the first logical line whose first
+-- word is `.end`.
 use Rattle.std.specs.Prelude.{◌≡◌, ℕ, ◌+◌, Bool, true, false, List, [], ◌∷◌, ◌++◌, length, All, Option, Some, None, drop, codes, if◌then◌else◌}
 use Rattle.std.specs.List.{flat_map}
 use Rattle.text_core.specs.Lines.{Line, lines_of, line_bytes}
@@ -25,8 +25,8 @@ says_end l = is_told (first_ends (words_of l.text))
 abbrev pub logical_lines : ℕ → List Line → List Logical
 logical_lines number lines = logical_from number (begun_at number) lines
 
--- The place behind the first logical line of a text whose first word is `.end`: the lines in front make that
--- logical line, as their last one, and others, and the lines behind begin a logical line of their own.
+-- The place after the first logical line of a text whose first word is `.end`: the lines before the place make that
+-- logical line, as their last one, and others, and the lines after it begin a logical line of their own.
 -- Example: of ".model a\n.end # a\n.model b\n" it is 18.
 pub record IsSplit (bytes : List ℕ) (place : ℕ) : Type 0 where
   pub front : List Line
@@ -42,7 +42,7 @@ pub record IsSplit (bytes : List ℕ) (place : ℕ) : Type 0 where
   pub number : ℕ
   pub parted : logical_of 1 bytes ≡ logical_lines 1 front ++ logical_lines number behind
 
--- what is told first
+-- the first of two that is known
 abbrev pub or_first : Option Bool → Option Bool → Option Bool
 or_first None next = next
 or_first (Some b) next = Some b
@@ -51,7 +51,8 @@ abbrev pub piece_then : Option (List ℕ) → Option ℕ → (List ℕ → Optio
 piece_then None ended further = ended
 piece_then (Some front) ended further = further front
 
--- The same, line by line: the place behind lines, where this is known of the first word of what is begun.
+-- The same, line by line: `place` is the length of the lines so far, and `first` is what is known of the first word of
+-- the current logical line.
 unfoldable pub split_from : ℕ → Option Bool → List Line → Option ℕ
 split_from place first [] = if is_told first then Some place else None
 split_from place first (l ∷ ls) = piece_then (without_last 92 (content_of l))

@@ -1,4 +1,4 @@
--- The three texts that tell how two netlists compare.
+-- The texts of the three answers.
 use Rattle.std.specs.Prelude.{ℕ, ◌-◌, nat_le, if◌then◌else◌, Bool, List, [], ◌∷◌, ◌++◌, length, map, slice_index_or, codes}
 use Rattle.std.specs.List.{flat_map}
 use Rattle.sat_theory.specs.Line.{Line}
@@ -30,7 +30,7 @@ unfoldable pub bits_text : List Bool → List ℕ
 bits_text [] = codes "-"
 bits_text (b ∷ bs) = characters (b ∷ bs)
 
--- The name of a sink, counted from 1: an output's, or behind the outputs that of a latch's output.
+-- The name of a sink, counted from 1: an output's, or after the outputs that of a latch's output.
 unfoldable pub sink_text : List Name → List Latch → ℕ → List ℕ
 sink_text outputs latches sink =
     if nat_le sink (length outputs) then codes "output " ++ slice_index_or outputs (sink - 1) []

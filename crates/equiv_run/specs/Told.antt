@@ -1,4 +1,4 @@
--- What is told of two circuits, before it is said of the texts that they were read of.
+-- The answers to two circuits, before they are said of the texts that these were read of.
 use Rattle.std.specs.Prelude.{◌≡◌, ℕ, ◌*◌, ◌^◌, ◌≤◌, ◌<◌, Bool, List}
 use Rattle.std.proofs.Common.{arith}
 use Rattle.sat_theory.specs.Line.{Line}

@@ -29,7 +29,7 @@ then_both : (front : List ℕ) (ws vs : List (List ℕ)) → word_then front (ws
 then_both [] ws vs = refl
 then_both (b ∷ bs) ws vs = refl
 
--- behind a blank a word of its own begins
+-- after a blank a word of its own begins
 words_both : (front text more : List ℕ) → words_from front (text ++ 32 ∷ more) ≡ words_from front text ++ words_of more
 unfolding words_from
 words_both front [] more = then_both front [] (words_of more)
@@ -75,7 +75,7 @@ pub record IsTaken (left rest : List ℕ) (l : Line) : Type 0 where
 taken_size : (left rest : List ℕ) (l : Line) → IsTaken left rest l → length left ≡ length (line_bytes l) + length rest
 taken_size left rest l taken = omega (arith, taken.size, line_size l)
 
--- a line that goes on, and one that ends what is begun
+-- a line that goes on, and one that ends the current logical line
 logical_on : (number : ℕ) (j : Logical) (l : Line) (ls : List Line) (front : List ℕ) → without_last 92 (content_of l) ≡ Some front → logical_from number j (l ∷ ls) ≡ logical_from (number + 1) (going_on j l front) ls
 unfolding logical_from
 logical_on number j l ls front e = ap (λ (r : Option (List ℕ)). line_then r (ended_by j l ∷ logical_from (number + 1) (begun_at (number + 1)) ls) (λ front'. logical_from (number + 1) (going_on j l front') ls)) e
@@ -123,7 +123,7 @@ walked_start bytes = record {
 front_size : (front : List Line) (l : Line) → length (flat_map line_bytes (front ++ l ∷ [])) ≡ length (flat_map line_bytes front) + length (line_bytes l)
 front_size front l = ap length (flat_map-append line_bytes front (l ∷ []) ∙ ap (λ (xs : List ℕ). flat_map line_bytes front ++ xs) (append-nil (line_bytes l))) ∙ length-append (flat_map line_bytes front) (line_bytes l)
 
--- what one line more leaves: where it stands, and what is in front
+-- after one line more: the place, and the lines before it
 record IsPassed (bytes rest : List ℕ) (front : List Line) : Type 0 where
   whole : lines_of bytes ≡ front ++ lines_of rest
   room : length rest ≤ length bytes
@@ -164,7 +164,7 @@ walked_on bytes left rest first l front taken e w =
       nothing_yet = λ same. absurd (omega (arith, same, w.late));
     }
 
--- the first word of the line that ends what is begun
+-- the first word of the line that ends the current logical line
 told_end : (bytes left : List ℕ) (first : Option Bool) (l : Line) → (w : IsWalked bytes left first) → says_end (ended_by w.begun l) ≡ is_told (or_first first (first_ends (words_of (content_of l))))
 told_end bytes left first l w = ap is_told (w.parted (content_of l))
 

@@ -1,4 +1,4 @@
-//! How two netlists compare, as a text, and why they aren't compared.
+//! The answers to two netlists, and the errors.
 ghost use Rattle.std.specs.Prelude.{◌≡◌};
 ghost use Rattle.equiv_run.specs.declared.answer.CompareError.TheVariants.{Memory};
 
@@ -16,7 +16,7 @@ pub enum Standing {
     Undecided,
 }
 
-/// How two netlists compare, and the text that tells and shows it.
+/// How two netlists compare, and the text that says and shows it.
 #[derive(Drop)]
 pub struct Compared {
     pub text: Vec<u8>,
@@ -26,15 +26,15 @@ pub struct Compared {
 /// Why two netlists weren't compared.
 #[derive(Drop)]
 pub enum CompareError {
-    /// There is no line `.end` behind which the second could stand.
+    /// There is no line `.end`, after which the second could stand.
     NoSecond,
-    /// The first isn't read.
+    /// The first is refused.
     First(NetError),
-    /// The first is read, and the second isn't. Its lines are numbered from 1.
+    /// The first is read, and the second is refused. Its lines are numbered from 1.
     Second(NetError),
     /// They have different inputs, outputs, clocks or latches.
     DifferentInterface,
-    /// There was no memory left.
+    /// Out of memory.
     Memory,
 }
 

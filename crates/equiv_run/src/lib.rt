@@ -1,17 +1,17 @@
-//! Two BLIF netlists compared that stand one behind the other in one text: where the first ends, how they
-//! compare, and the text that tells it. It stands on `blif_core` for reading and on `equiv_core` for the question.
+//! Equivalence of two BLIF netlists that stand one after the other in one text: where the first ends, how they
+//! compare, and the text of the answer. It stands on `blif_core` for reading and on `equiv_core` for the comparison.
 //!
-//! The theorem is that of `compare_texts`: `equal` is told only of two netlists that do the same, with lines that
-//! refute the miter of their nets; `differ` only with bits of the sources under which an output or a next state
+//! The theorem is that of `compare_texts`: `equal` is answered only of two netlists that do the same, with lines
+//! that refute the miter of their nets; `differ` only with bits of the sources under which an output or a next state
 //! differs, and it is the first that does; `undecided` only with lines that have spent the budget. What isn't two
-//! netlists of one interface is refused by its first fault, and nothing else is but for want of memory.
+//! netlists of one interface is refused by its first fault, and nothing else is but out of memory.
 //!
 //! ```text
-//! let compared = compare_texts(alloc, b".inputs a\n..\n.end\n.inputs a\n..\n.end\n", 100000)?;
+//! let compared = compare_texts::<Cdcl>(alloc, b".inputs a\n..\n.end\n.inputs a\n..\n.end\n", 100000)?;
 //! compared.text // "differ output y\nat 11\n"
 //! ```
 //!
-//! - `specs/Split.antt`: where the first text ends. `specs/Pairs.antt`: what is told and refused of two texts.
+//! - `specs/Split.antt`: where the first text ends. `specs/Pairs.antt`: the answers and refusals of two texts.
 //! - `specs/PairLaws.antt`: two texts have an answer or one fault at most.
 #![tactic(auto)]
 

@@ -1,6 +1,6 @@
 //! Two netlists read, and compared.
 ghost use Rattle.std.specs.Prelude.{◌≡◌, ◌≤◌, ◌<◌, ◌^◌, length, None, Err, IfOk, IfErr};
-ghost use Rattle.cdcl_core.specs.Budgets.{most_budget};
+ghost use Rattle.sat_solve.specs.Budgets.{most_budget};
 ghost use Rattle.net_theory.specs.Circuit.{IsProper};
 ghost use Rattle.net_document.specs.Format.{IsCircuitOfText};
 ghost use Rattle.blif_core.specs.Blif.{blif_format};
@@ -15,9 +15,10 @@ use crate::splitting::split;
 use crate::writing::{differ_text, logged_text_of};
 use blif_core::{Circuit, NetError, read_blif};
 use equiv_core::{Equiv, EquivError, equiv};
+use sat_solve::Solver;
 use std::alloc::Global;
 
-/// The circuit of the first text.
+/// Reads the first netlist.
 fn read_first(alloc: Global, bytes: &[u8]) -> Result<Circuit, CompareError>
     requires { length bytes.now < 2 ^ 31 }
     ensures circuit { IfOk result (IsCircuitOfText blif_format bytes.now) }
@@ -30,7 +31,7 @@ fn read_first(alloc: Global, bytes: &[u8]) -> Result<Circuit, CompareError>
     }
 }
 
-/// The circuit of the second text.
+/// Reads the second netlist.
 fn read_second(alloc: Global, bytes: &[u8]) -> Result<Circuit, CompareError>
     requires { length bytes.now < 2 ^ 31 }
     ensures circuit { IfOk result (IsCircuitOfText blif_format bytes.now) }
@@ -43,9 +44,9 @@ fn read_second(alloc: Global, bytes: &[u8]) -> Result<Circuit, CompareError>
     }
 }
 
-/// How two circuits compare, as a text.
+/// Compares two circuits, and writes the answer.
 #[tactic(auto, using(crate::specs::Told::tell_equal, crate::specs::Told::tell_differ, crate::specs::Told::tell_undecided), unfolding(crate::specs::Texts::equal_text, crate::specs::Texts::undecided_text))]
-fn compare_circuits(
+fn compare_circuits<S: Solver>(
     alloc: Global,
     first: &Circuit,
     second: &Circuit,
@@ -59,7 +60,7 @@ fn compare_circuits(
     ensures told { IfOk result (λ c. IsCircuitTold conflicts first.now second.now c.text.items c.standing) }
     ensures refused { IfErr result (IsOther first.now second.now) }
 {
-    match equiv(alloc, first, second, conflicts) {
+    match equiv::<S>(alloc, first, second, conflicts) {
         Ok(Equiv::Equal(log)) => {
             let text = logged_text_of(alloc, b"equal\n", &log)?;
             Ok(Compared {
@@ -92,13 +93,17 @@ fn compare_circuits(
     }
 }
 
-/// How two BLIF netlists compare that stand one behind the other, the first up to the first line `.end`, in at
-/// most 33,554,432 bytes, with a budget of 1 to 10,000,000 learnt clauses.
+/// Decides with the solver `S` whether two BLIF netlists do the same that stand one after the other in at most
+/// 33,554,432 bytes, the first up to the first line `.end`. The budget `conflicts` is 1 to 10,000,000 learnt clauses.
 ///
 /// A text that isn't two netlists is refused by what comes first: no second, the first fault of the first, the first
 /// fault of the second, whose lines are numbered from 1, different interfaces. Two netlists of one interface are
-/// refused for want of memory alone. No second is told before memory is asked for.
-pub fn compare_texts(alloc: Global, bytes: &[u8], conflicts: u32) -> Result<Compared, CompareError>
+/// refused only out of memory. `NoSecond` is answered before any memory is taken.
+pub fn compare_texts<S: Solver>(
+    alloc: Global,
+    bytes: &[u8],
+    conflicts: u32,
+) -> Result<Compared, CompareError>
     requires small { length bytes.now ≤ most_of_two }
     requires budget { (1 ≤ conflicts) × (conflicts ≤ most_budget) }
     ensures answer { IfOk result (λ c. IsAnswer conflicts bytes.now c.text.items c.standing) }
@@ -111,6 +116,6 @@ pub fn compare_texts(alloc: Global, bytes: &[u8], conflicts: u32) -> Result<Comp
     let (front, behind) = bytes.split_at(place);
     let first = read_first(alloc, front)?;
     let second = read_second(alloc, behind)?;
-    let compared = compare_circuits(alloc, &first, &second, conflicts)?;
+    let compared = compare_circuits::<S>(alloc, &first, &second, conflicts)?;
     Ok(compared)
 }

@@ -1,5 +1,5 @@
-//! Where the first of two texts ends. The walk keeps the first word of the logical line that is begun and nothing
-//! else, since a line that goes on ends with a blank, behind which a word of its own begins.
+//! Where the first of two texts ends. The walk keeps no more than whether the first word of the current logical line
+//! is `.end`: a line that goes on ends with a blank, so a word never spans two lines.
 ghost use Rattle.std.specs.Prelude.{◌≡◌, ◌≤◌, length, IfSome, IfNone};
 ghost use Rattle.blif_text.specs.Words.{words_of};
 ghost use Rattle.equiv_run.specs.Split.{first_ends, is_told, or_first, split_of, IsSplit, HasNoEnd};
@@ -17,7 +17,7 @@ fn first_word(text: &[u8]) -> Option<bool>
     Some(word == b".end".as_slice())
 }
 
-/// What is told first.
+/// `first` if it is known, else whether the first word of `text` is `.end`.
 fn first_of(first: Option<bool>, text: &[u8]) -> Option<bool>
     ensures { result ≡ or_first first (first_ends (words_of text.now)) }
 {
@@ -27,7 +27,7 @@ fn first_of(first: Option<bool>, text: &[u8]) -> Option<bool>
     }
 }
 
-/// Whether it is told that the first word is `.end`.
+/// Whether the first word is known to be `.end`.
 fn tells(first: Option<bool>) -> bool
     ensures { result ≡ is_told first }
 {
@@ -37,8 +37,8 @@ fn tells(first: Option<bool>) -> bool
     }
 }
 
-/// The place behind the first logical line of a BLIF text whose first word is `.end`, where one of two texts that
-/// stand one behind the other ends; None where there is no such line.
+/// The length of a BLIF text up to the end of its first logical line whose first word is `.end`: there the first of
+/// two texts ends. None where there is no such line.
 pub fn split(bytes: &[u8]) -> Option<usize>
     ensures exact { result ≡ split_of bytes.now }
     ensures place { IfSome result (IsSplit bytes.now) }

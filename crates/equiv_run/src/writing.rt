@@ -1,4 +1,4 @@
-//! The texts that tell how two netlists compare.
+//! The texts of the three answers.
 ghost use Rattle.std.specs.Prelude.{◌≡◌, ◌++◌, ◌+◌, ◌≤◌, length, OnOk, IfOk};
 ghost use Rattle.equiv_run.specs.Texts.{logged_text, characters, bits_text as bits_text_of, sink_text, differ_text as differ_text_of};
 
@@ -64,7 +64,7 @@ fn push_sink(
     text.extend_from_slice(latch.output.get())
 }
 
-/// That two netlists differ at a sink, counted from 1, under these bits of the sources.
+/// The answer that two netlists differ at `sink`, counted from 1, under the values `bits` of the sources.
 #[tactic(auto, unfolding(crate::specs::Texts::differ_text))]
 pub(crate) fn differ_text(
     alloc: Global,

@@ -6,6 +6,7 @@ ghost use Rattle.equiv_theory.specs.Difference.{HaveSameInterface};
 ghost use Rattle.equiv_core.specs.Limits.{IsSmall};
 
 use blif_core::{Circuit, read_blif};
+use cdcl_core::Cdcl;
 use cnf_core::{Clause, Cnf};
 use equiv_core::{Equiv, EquivError, equiv, miter};
 use std::alloc::Global;
@@ -121,7 +122,7 @@ fn compare(alloc: Global, first: &Circuit, second: &Circuit, budget: u32, wanted
     if budget == 0 || budget > 1000 {
         return false;
     }
-    match equiv(alloc, first, second, budget) {
+    match equiv::<Cdcl>(alloc, first, second, budget) {
         Ok(answer) => meets(&answer, wanted) && is_mitered(alloc, first, second, wanted),
         Err(error) => is_refused(error, wanted),
     }

@@ -1,6 +1,7 @@
 //! Two netlists in one text: where they part, the three answers, and what is refused. The expected answers are
 //! read off the netlists by hand.
 
+use cdcl_core::Cdcl;
 use equiv_run::{CompareError, NetError, compare_texts, split};
 use std::alloc::Global;
 
@@ -63,7 +64,7 @@ fn is_told(alloc: Global, bytes: &[u8], conflicts: u32, wanted: Wanted) -> bool 
     if bytes.len() > 100_000 || conflicts == 0 || conflicts > 10_000_000 {
         return false;
     }
-    match compare_texts(alloc, bytes, conflicts) {
+    match compare_texts::<Cdcl>(alloc, bytes, conflicts) {
         Ok(compared) => is_answer(&compared.text, wanted),
         Err(error) => is_refusal(&error, wanted),
     }

@@ -1,7 +1,7 @@
 //! Runs of the small commands on memory, as tables: which calls fail, the status, and what stands outside.
 
 use crate::{Greeting, Lines};
-use frame_core::perform;
+use frame_core::{AtOnce, perform};
 use port_io::{MemorySink, MemorySource};
 use std::alloc::{AllocError, Global};
 

@@ -12,16 +12,16 @@ abbrev pub open_with : Option ℕ → Section → Option ℕ
 open_with (Some low) section = Some low
 open_with None section = if is_open section then Some section.size else None
 
--- the search behind a section of the next size
+-- the search after a section of the next size
 abbrev pub behind : State → Section → State
 behind s section = record s { next = s.next + 1; low = open_with s.low section }
 
--- what is said of a section and the search that goes on behind it
+-- a fact about a section and the search that goes on after it
 abbrev pub IfSection : Advance → (State → Section → Type 0) → Type 0
 IfSection (advances.Section rest section) P = P rest section
 IfSection (advances.Ended chain verdict) P = Unit {0}
 
--- and of an ending
+-- and about an ending
 abbrev pub IfEnded : Advance → (Option Chain → Verdict → Type 0) → Type 0
 IfEnded (advances.Section rest section) P = Unit {0}
 IfEnded (advances.Ended chain verdict) P = P chain verdict

@@ -21,7 +21,7 @@ pub record AreLogged (h : Heading) (size : ℕ) (parts : List Part) (logs : List
   pub ends : All (IsPartLog h size) logs
   pub thrifty : All (IsThriftyLog h size) logs
 
--- A size has a chain of so many steps, or a section.
+-- A size has a chain of its size, or a section.
 abbrev pub IsSized : Heading → ℕ → SizeOutcome → Type 0
 IsSized h size (sizes.Found c) = IsFound h size c
 IsSized h size (sizes.Logged s) = IsSection h size s × IsThriftySection h s

@@ -1,4 +1,4 @@
--- The sections that a search has left behind it.
+-- The sections that a search has made so far.
 use Rattle.std.specs.Prelude.{◌≡◌, ◌+◌, ◌≤◌, List, length}
 use Rattle.cert_theory.specs.Bundle.{Section, AreSections, first_open}
 use Rattle.size_loop.specs.Thrift.{AreThrifty}

@@ -1,5 +1,5 @@
--- What a caller of `advance` needs: before the first size nothing is left behind, one more section joins, and
--- with an ending they are a certificate.
+-- What a caller of `advance` needs: before the first size there is no section, each step adds one, and with an
+-- ending they are a certificate.
 use Rattle.std.proofs.Common.{◌≡◌, ℕ, ◌+◌, ◌≤◌, List, [], ◌∷◌, ◌++◌, length, Option, None, refl, subst, sym, arith, zero-add, ◌∙◌}
 use Rattle.std.proofs.lemmas.Grind.{common_steps}
 use Rattle.std.proofs.lemmas.List.Elements.{All-push}
@@ -17,7 +17,7 @@ first_open-push : (ss : List Section) (s : Section) → first_open (ss ++ s ∷ 
 first_open-push [] s = grind (arith, common_steps)
 first_open-push (x ∷ xs) s = grind (arith, common_steps, first_open-push xs s)
 
--- before the first size nothing is left behind
+-- before the first size there is no section
 pub searched_none : (h : Heading) → HasSearched (record { heading = h; next = 0; low = None }) []
 unfolding AreSections
 searched_none h = record { are_sections = tt; next_is = refl; next_to = omega arith; low_is = refl; thrifty = λ k d inside. absurd (omega (arith, inside)) }
@@ -33,7 +33,7 @@ searched_more s ss section searched within is_section is_thrifty =
       thrifty = All-push (IsThriftySection s.heading) ss section searched.thrifty is_thrifty;
     }
 
--- and with an ending they are a bundle
+-- and with an ending they are a valid bundle
 pub searched_valid : (s : State) (ss : List Section) (chain : Option Chain) (verdict : Verdict) → IsHeading s.heading → HasSearched s ss → IsEnding s.heading s.next s.low chain verdict → IsValid (record { heading = s.heading; sections = ss; chain = chain; verdict = verdict })
 searched_valid s ss chain verdict is_heading searched ending =
     record {

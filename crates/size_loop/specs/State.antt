@@ -9,7 +9,7 @@ pub record State : Type 0 where
   pub next : ℕ
   pub low : Option ℕ
 
--- the next size is one behind the greatest at most
+-- the next size is at most one above the greatest
 pub record IsState (s : State) : Type 0 where
   pub heading : IsHeading s.heading
   pub next : s.next ≤ s.heading.max + 1

@@ -1,5 +1,5 @@
-//! A search as a value that goes on a size at a time. What it promises of each step is enough to build a
-//! certificate of the steps (`specs/SearchedLaws.antt`), whether the sections are kept or written and dropped.
+//! A search as a value that goes on a size at a time. The contract of a step is enough to build a certificate of
+//! all steps (`specs/SearchedLaws.antt`), whether the caller keeps the sections or writes and drops them.
 ghost use Rattle.std.specs.Prelude.{◌≡◌, ◌≤◌, None, IfOk};
 ghost use Rattle.settings.specs.Synth.{IsInRange};
 ghost use Rattle.cert_theory.specs.Bundle.{IsSection, IsEnding};
@@ -10,13 +10,14 @@ ghost use Rattle.size_loop.specs.State.{IsState};
 use crate::sizes::{SizeOutcome, search_size};
 use bundle_core::{Heading, Section, Verdict};
 use chain_core::Chain;
-use settings::Method;
 use op_basis::Basis;
+use sat_solve::Solver;
+use settings::Method;
 use std::alloc::{AllocError, Global};
 use std::marker::Model;
 use tt_core::Spec;
 
-/// A search that has come to some size.
+/// A search under way: the sizes below `next` are done, and `low` is the first open one among them.
 #[derive(Drop)]
 pub struct Search {
     heading: Heading,
@@ -37,12 +38,12 @@ impl Model for Search {
 /// What the next size comes to.
 #[derive(Drop)]
 pub enum Advance {
-    /// It has no chain: the logs of its parts, and the search that goes on behind it.
+    /// No chain was found: the logs of its parts, and the search that goes on after it.
     Section {
         rest: Search,
         section: Section,
     },
-    /// The search ends, with a chain of that size or, behind the greatest size, without one.
+    /// The search ends, with a chain of that size or, after the greatest size, without one.
     Ended {
         chain: Option<Chain>,
         verdict: Verdict,
@@ -50,9 +51,9 @@ pub enum Advance {
 }
 
 impl Search {
-    /// A search for a chain over the basis that agrees with the tables, from size 0 on. `max` is the
-    /// greatest size, and the budget is how many clauses at least the solver adds to a formula before it
-    /// leaves it open. The basis isn't empty, and both numbers are in the ranges of `settings`.
+    /// A search for a chain over the basis that implements the tables, from size 0 on. `max` is the greatest
+    /// size, and `budget` is how many clauses at least the solver learns before it leaves a formula open. The
+    /// basis isn't empty, and `max` and `budget` are in the ranges of `settings`.
     pub fn new(spec: Spec, basis: Basis, method: Method, max: u32, budget: u32) -> Search
         requires asked { IsInRange (record { basis = basis; method = method; max = max; conflicts = budget }) }
         ensures heading { result.heading ≡ record { spec = spec; basis = basis; method = method; conflicts = budget; max = max } }
@@ -60,7 +61,7 @@ impl Search {
         ensures low { result.low ≡ None }
         ensures whole { IsState result }
     {
-        // bring what the types of tables and bases say
+        // bring the type invariants into the proof
         let _inputs = spec.n();
         let _operators = basis.get();
         Search {
@@ -76,8 +77,8 @@ impl Search {
         }
     }
 
-    /// Searches the next size.
-    pub fn advance(self, alloc: Global) -> Result<Advance, AllocError>
+    /// Searches the next size with the solver `S`.
+    pub fn advance<S: Solver>(self, alloc: Global) -> Result<Advance, AllocError>
         ensures within { IfOk result (λ step. IfSection step (λ rest section. self.next ≤ self.heading.max)) }
         ensures section { IfOk result (λ step. IfSection step (λ rest section. IsSection self.heading self.next section)) }
         ensures thrifty { IfOk result (λ step. IfSection step (λ rest section. IsThriftySection self.heading section)) }
@@ -91,7 +92,7 @@ impl Search {
                 verdict: Verdict::not_found(heading.max, low),
             });
         }
-        match search_size(alloc, &heading, next)? {
+        match search_size::<S>(alloc, &heading, next)? {
             SizeOutcome::Found(chain) => Ok(Advance::Ended {
                 chain: Some(chain),
                 verdict: Verdict::found(next, low),
@@ -108,7 +109,7 @@ impl Search {
     }
 }
 
-/// The first open size, where `low` is that of the sizes before this section's. A size is open where
+/// The first open size up to that of `section`, where `low` is the first open one before it. A size is open where
 /// one of its parts is.
 fn first_open(low: Option<u32>, section: &Section) -> Option<u32>
     ensures { result ≡ open_with low section.now }

@@ -1,5 +1,5 @@
-//! The whole search: it advances until it ends and keeps the sections. That what comes out is a valid
-//! certificate is the invariant `HasSearched`, to which each section adds one.
+//! The whole search: it advances until it ends, and keeps the sections. Its invariant `HasSearched` says that the
+//! sections so far are those of all sizes below the next one; with the ending they are a valid certificate.
 ghost use Rattle.std.specs.Prelude.{◌≡◌, IfOk};
 ghost use Rattle.settings.specs.Synth.{IsInRange};
 ghost use Rattle.cert_theory.specs.Bundle.{IsValid};
@@ -7,17 +7,18 @@ ghost use Rattle.size_loop.specs.Thrift.{AreThrifty};
 
 use crate::advancing::{Advance, Search};
 use bundle_core::{Bundle, Heading};
-use settings::Method;
 use op_basis::Basis;
+use sat_solve::Solver;
+use settings::Method;
 use std::alloc::{AllocError, Global};
 use tt_core::Spec;
 
-/// Searches the sizes from 0 to `max` for a chain of the fewest steps over the basis that agrees with
-/// the tables, and answers the certificate of what it found. A part of a size is left open where the
-/// solver has added `budget` clauses to its formula or more. The basis isn't empty, and `max` and the
-/// budget are in the ranges of `settings`.
+/// Searches the sizes from 0 to `max` for a chain of the fewest steps over the basis that implements the tables,
+/// with the solver `S`, and answers the certificate of what it found. A part of a size is left open where the
+/// solver has learnt `budget` clauses or more. The basis isn't empty, and `max` and `budget` are in the ranges of
+/// `settings`.
 #[tactic(auto, using(crate::specs::SearchedLaws::steps))]
-pub fn search(
+pub fn search<S: Solver>(
     alloc: Global,
     spec: &Spec,
     basis: Basis,
@@ -33,7 +34,7 @@ pub fn search(
     let mut search = Search::new(copied(alloc, spec)?, basis, method, max, budget);
     let mut sections = Vec::new(alloc);
     loop {
-        match search.advance(alloc)? {
+        match search.advance::<S>(alloc)? {
             Advance::Section { rest, section } => {
                 sections.push(section)?;
                 search = rest;
@@ -57,6 +58,7 @@ pub fn search(
     }
 }
 
+/// A copy of the tables.
 fn copied(alloc: Global, spec: &Spec) -> Result<Spec, AllocError>
     ensures { IfOk result (λ copy. copy ≡ spec.now) }
 {

@@ -1,5 +1,5 @@
-//! A size, part by part in their order. The first part with a chain ends it; where none has one, the logs are
-//! those of all parts, since the loop takes them one after the other.
+//! A size, part by part in their order. The first part with a chain ends it; where none has one, there is a log
+//! for each part, in the same order.
 ghost use Rattle.std.specs.Prelude.{◌≤◌, IfOk};
 ghost use Rattle.cert_theory.specs.Bundle.{IsHeading};
 ghost use Rattle.cert_theory.specs.Coding.{coding_of};
@@ -13,35 +13,40 @@ use enc_fence::FenceEnc;
 use enc_frame::Encoding;
 use enc_select::Select;
 use enc_ssv::{Plain, Ssv};
+use sat_solve::Solver;
 use settings::Method;
 use std::alloc::{AllocError, Global};
 
 /// What a size comes to.
 #[derive(Drop)]
 pub enum SizeOutcome {
-    /// A chain of so many steps.
+    /// A chain of the size.
     Found(Chain),
     /// The logs of its parts, in which no chain was found.
     Logged(Section),
 }
 
-/// Searches the parts of a size in their order, by the encoding of the heading's method.
+/// Searches the parts of `size` in their order with the solver `S`, by the encoding of the heading's method.
 #[tactic(auto, unfolding(cert_theory::specs::Coding::coding_of))]
-pub fn search_size(alloc: Global, heading: &Heading, size: u32) -> Result<SizeOutcome, AllocError>
+pub fn search_size<S: Solver>(
+    alloc: Global,
+    heading: &Heading,
+    size: u32,
+) -> Result<SizeOutcome, AllocError>
     requires heading { IsHeading heading.now }
     requires size { size ≤ heading.now.max }
     ensures { IfOk result (λ outcome. IsSized heading.now size outcome) }
 {
     match heading.method {
-        Method::Plain => search_parts(alloc, &Plain, heading, size),
-        Method::Ssv => search_parts(alloc, &Ssv, heading, size),
-        Method::Select => search_parts(alloc, &Select, heading, size),
-        Method::Fence => search_parts(alloc, &FenceEnc, heading, size),
+        Method::Plain => search_parts::<S, _>(alloc, &Plain, heading, size),
+        Method::Ssv => search_parts::<S, _>(alloc, &Ssv, heading, size),
+        Method::Select => search_parts::<S, _>(alloc, &Select, heading, size),
+        Method::Fence => search_parts::<S, _>(alloc, &FenceEnc, heading, size),
     }
 }
 
-/// Searches them by any encoding that writes the formulas of that method.
-fn search_parts<E: Encoding>(
+/// Searches the parts of `size` by any encoding that writes the formulas of the heading's method.
+fn search_parts<S: Solver, E: Encoding>(
     alloc: Global,
     encoding: &E,
     heading: &Heading,
@@ -54,7 +59,7 @@ fn search_parts<E: Encoding>(
 {
     let mut parts = Vec::new(alloc);
     for part in encoding.parts(alloc, &heading.spec, size)? {
-        match try_part(alloc, encoding, heading, size, part)? {
+        match try_part::<S, E>(alloc, encoding, heading, size, part)? {
             PartOutcome::Found(chain) => return Ok(SizeOutcome::Found(chain)),
             PartOutcome::Logged(log) => parts.push(log)?,
         }

@@ -1,5 +1,5 @@
-//! A part of a size, by its formula and the solver. An assignment is decoded; a log shows what the solver
-//! promises of it, over the same formula.
+//! A part of a size: its formula is encoded and given to the solver. An assignment is decoded to a chain; a log
+//! shows what the solver promises of it, over the same formula.
 ghost use Rattle.std.specs.Prelude.{◌≤◌, IfOk, Contains};
 ghost use Rattle.cert_theory.specs.Bundle.{IsHeading};
 ghost use Rattle.cert_theory.specs.Coding.{coding_of};
@@ -7,10 +7,10 @@ ghost use Rattle.size_loop.specs.Outcomes.{IsTried};
 ghost use Rattle.size_loop.specs.Coded.{IsCodedBy};
 
 use bundle_core::{Ended, Heading, PartLog};
-use cdcl_core::{Solved, solve};
 use chain_core::Chain;
 use enc_frame::Encoding;
 use enc_theory::Part;
+use sat_solve::{Solved, Solver};
 use std::alloc::{AllocError, Global};
 
 /// What a part of a size comes to.
@@ -22,8 +22,8 @@ pub enum PartOutcome {
     Logged(PartLog),
 }
 
-/// Searches a part of a size.
-pub fn try_part<E: Encoding>(
+/// Searches the part `part` of `size` with the solver `S`.
+pub fn try_part<S: Solver, E: Encoding>(
     alloc: Global,
     encoding: &E,
     heading: &Heading,
@@ -37,10 +37,10 @@ pub fn try_part<E: Encoding>(
     ensures { IfOk result (λ outcome. IsTried heading.now size part outcome) }
 {
     let cnf = encoding.formula(alloc, &heading.spec, heading.basis, size, &part)?;
-    match solve(alloc, &cnf, heading.conflicts)? {
+    match S::solve(alloc, &cnf, heading.conflicts)? {
         Solved::Sat(assign) => {
             let chain = encoding.decode(alloc, &heading.spec, heading.basis, size, &part, &assign)?;
-            // brings what the type of a chain says of its steps
+            // brings the type invariant into the proof
             let _steps = chain.steps();
             Ok(PartOutcome::Found(chain))
         }

@@ -1,11 +1,12 @@
 //! The solver: formulas in steps of difficulty, how many clauses are learnt, and each log fed to the checker.
 use crate::pigeons::{pigeons, push};
-use cdcl_core::{Solved, solve};
+use cdcl_core::{Cdcl, Solved};
 use cnf_core::Cnf;
 use log_core::{Log, write_log};
 use lrat_check::Checker;
 use lrat_tests::building::formula;
 use lrat_text::{Line, read_line, write_line};
+use sat_solve::Solver;
 use std::alloc::{AllocError, Global};
 
 /// How many clauses the lines of a log add and delete, and how many lines the checker refuses.
@@ -210,9 +211,9 @@ fn is_checked(
 /// The answer within a budget of 1 to 1000000.
 fn answer(alloc: Global, cnf: &Cnf, budget: u32) -> Result<Solved, AllocError> {
     if budget == 0 || budget > 1000000 {
-        return solve(alloc, cnf, 1);
+        return Cdcl::solve(alloc, cnf, 1);
     }
-    solve(alloc, cnf, budget)
+    Cdcl::solve(alloc, cnf, budget)
 }
 
 /// Whether a formula has the answer that is wanted, within a budget.

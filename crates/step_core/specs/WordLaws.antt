@@ -1,5 +1,5 @@
 -- The rows of words: those of inputs and of a step, and what it is to meet an output.
-use Rattle.std.proofs.Common.{◌≡◌, ◌∙◌, ℕ, zero, suc, ◌+◌, ◌-◌, ◌%◌, ◌^◌, ◌≤◌, ◌<◌, Bool, true, false, ◌&&◌, not, refl, ap, ap₂, sym, arith, min, inl, inr}
+use Rattle.std.proofs.Common.{◌≡◌, ◌∙◌, ℕ, zero, suc, ◌+◌, ◌-◌, ◌^◌, ◌≤◌, ◌<◌, Bool, true, false, ◌&&◌, not, refl, ap, ap₂, sym, arith, inl, inr}
 use Rattle.std.specs.Prelude.{bit_and, bit_xor, ◌==◌, slice_index, if◌then◌else◌}
 use Rattle.std.specs.Int.{bit_at}
 use Rattle.std.proofs.lemmas.Grind.{common_steps}

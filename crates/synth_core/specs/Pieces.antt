@@ -13,9 +13,8 @@ use Rattle.synth_core.specs.Certifying.{IsCertificate}
 use Rattle.synth_core.specs.declared.pieces.Piece.{Piece}
 use Rattle.synth_core.specs.declared.pieces.Piece.TheVariants as pieces
 
--- A search for the tables that the bytes spell, with nothing behind them, and for what is asked. The text is
--- what was written of its certificate: the heading, and the sections of all sizes that the search has left
--- behind it.
+-- A search for the tables that the bytes spell, with nothing after them, under the settings `asked`. `text` is the
+-- prefix of its certificate that is written so far: the heading, and the sections of all sizes that are done.
 pub record IsUnderWay (bytes : List ℕ) (asked : SynthSettings) (s : State) (text : List ℕ) : Type 0 where
   pub heading_is : s.heading ≡ heading_of s.heading.spec asked
   pub tables : SpellsTables (specification s.heading.spec) (lines_of bytes) []
@@ -23,13 +22,12 @@ pub record IsUnderWay (bytes : List ℕ) (asked : SynthSettings) (s : State) (te
   pub searched : HasSearched s sections
   pub begun : IsBegun s.heading sections text
 
--- One piece behind what was written: the search is under way with one section more, or the whole is a
--- certificate.
+-- A piece after the prefix `before`: the search is under way with one section more, or the whole is a certificate.
 abbrev pub GoesOn : List ℕ → SynthSettings → List ℕ → Piece → Type 0
 GoesOn bytes asked before (pieces.Section next text) = IsUnderWay bytes asked next (before ++ text.items)
 GoesOn bytes asked before (pieces.Ending text verdict) = IsCertificate bytes asked (before ++ text.items) verdict
 
--- the next size comes to be searched, which is the greatest one or a size below it
+-- the size that was searched is at most the greatest, and the next one is one more
 abbrev pub GoesUp : State → Piece → Type 0
 GoesUp s (pieces.Section next text) = (s.next ≤ s.heading.max) × (next.next ≡ s.next + 1) × (next.heading ≡ s.heading)
 GoesUp s (pieces.Ending text verdict) = Unit {0}

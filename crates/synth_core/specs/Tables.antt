@@ -1,4 +1,4 @@
--- Tables with nothing behind them.
+-- Tables with nothing after them.
 use Rattle.std.specs.Prelude.{◌+◌, List, [], ◌∷◌, length, Result, Ok, Err}
 use Rattle.text_core.specs.Lines.{Line}
 use Rattle.tt_core.specs.declared.error.SpecError.{SpecError}
@@ -6,7 +6,7 @@ use Rattle.tt_core.specs.declared.error.SpecError.TheVariants.{BadRow}
 use Rattle.tt_core.specs.Words.{Words}
 use Rattle.tt_core.specs.Tables.{Read, tables_of}
 
--- a line behind the tables is a bad row
+-- a line after the tables is a bad row
 abbrev pub nothing_behind : Words → List Line → Result Words SpecError
 nothing_behind w [] = Ok w
 nothing_behind w (l ∷ ls) = Err (BadRow (2 + length w.on))

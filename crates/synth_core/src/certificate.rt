@@ -10,6 +10,7 @@ ghost use Rattle.synth_core.specs.Tables.{tables_alone};
 
 use bundle_core::Verdict;
 use bundle_text::write_bundle;
+use sat_solve::Solver;
 use settings::SynthSettings;
 use size_loop::search;
 use std::alloc::Global;
@@ -23,7 +24,7 @@ pub struct Certificate {
     pub verdict: Verdict,
 }
 
-/// The tables that the bytes are, with nothing behind them.
+/// The tables that the bytes are, with nothing after them.
 pub fn tables(alloc: Global, bytes: &[u8]) -> Result<Spec, SpecError>
     requires { length bytes.now < 2 ^ 31 }
     ensures exact { Gives (λ spec. spec) result (tables_alone (lines_of bytes.now)) }
@@ -37,9 +38,9 @@ pub fn tables(alloc: Global, bytes: &[u8]) -> Result<Spec, SpecError>
     }
 }
 
-/// Searches for a chain of the fewest steps that agrees with the tables in the bytes, and writes the
-/// certificate. A line behind the tables is refused as `BadRow`.
-pub fn synthesise(
+/// Searches for a chain of the fewest steps that implements the tables in the bytes with the solver `S`, and writes
+/// the certificate. A line after the tables is refused as `BadRow`.
+pub fn synthesise<S: Solver>(
     alloc: Global,
     bytes: &[u8],
     asked: &SynthSettings,
@@ -50,7 +51,7 @@ pub fn synthesise(
     ensures refusal { IfErr result (λ e. Fails e (tables_alone (lines_of bytes.now))) }
 {
     let spec = tables(alloc, bytes)?;
-    let bundle = search(
+    let bundle = search::<S>(
         alloc,
         &spec,
         asked.basis,

@@ -1,5 +1,5 @@
-//! A certificate that is written while it is searched: the heading, each section as soon as it stands, and the
-//! ending. Nothing of a section is kept when its text is handed out.
+//! A certificate that is written while it is searched: the heading, each section as soon as its size is done, and
+//! the ending. Nothing of a section is kept once its text is handed out.
 ghost use Rattle.std.specs.Prelude.{◌≡◌, ◌^◌, ◌<◌, List, ℕ, length, IfOk, IfErr};
 ghost use Rattle.text_core.specs.Lines.{lines_of};
 ghost use Rattle.settings.specs.Synth.{IsInRange};
@@ -11,6 +11,7 @@ ghost use Rattle.synth_core.specs.Tables.{tables_alone};
 use crate::certificate::tables;
 use bundle_core::Verdict;
 use bundle_text::{write_ending, write_heading, write_section};
+use sat_solve::Solver;
 use settings::SynthSettings;
 use size_loop::{Advance, Search};
 use std::alloc::{AllocError, Global};
@@ -27,14 +28,14 @@ pub struct Begun {
 /// What the next size adds to the certificate.
 #[derive(Drop)]
 pub enum Piece {
-    /// A section, and the search behind it.
+    /// A section, and the search that goes on after it.
     Section { search: Search, text: Vec<u8> },
     /// The ending.
     Ending { text: Vec<u8>, verdict: Verdict },
 }
 
-/// Begins a search for a chain of the fewest steps that agrees with the tables in the bytes. A line behind the
-/// tables is refused as `BadRow`.
+/// Begins a search for a chain of the fewest steps that implements the tables in the bytes. A line after the tables
+/// is refused as `BadRow`.
 #[tactic(auto, using(crate::proofs::UnderWay::under_way))]
 pub fn begin(alloc: Global, bytes: &[u8], asked: &SynthSettings) -> Result<Begun, SpecError>
     requires length { length bytes.now < 2 ^ 31 }
@@ -57,15 +58,15 @@ pub fn begin(alloc: Global, bytes: &[u8], asked: &SynthSettings) -> Result<Begun
     Ok(Begun { search, text })
 }
 
-/// Searches the next size, and writes what it adds.
+/// Searches the next size with the solver `S`, and writes what it adds.
 #[tactic(auto, using(crate::proofs::UnderWay::under_way))]
-pub fn go_on(alloc: Global, search: Search) -> Result<Piece, AllocError>
+pub fn go_on<S: Solver>(alloc: Global, search: Search) -> Result<Piece, AllocError>
     ensures piece { IfOk result (λ piece. (bytes : List ℕ) (asked : SynthSettings) (before : List ℕ) →
         IsUnderWay bytes asked search before → GoesOn bytes asked before piece) }
     ensures up { IfOk result (λ piece. GoesUp search piece) }
 {
     let mut text = Vec::new(alloc);
-    match search.advance(alloc)? {
+    match search.advance::<S>(alloc)? {
         Advance::Section { rest, section } => {
             write_section(&section, &mut text)?;
             Ok(Piece::Section { search: rest, text })

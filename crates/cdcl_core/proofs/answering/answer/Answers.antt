@@ -3,7 +3,7 @@ use Rattle.sat_theory.specs.Log.{IsSpent}
 use Rattle.sat_theory.specs.FewAdditions.{budget_kept}
 use Rattle.cdcl_core.specs.declared.search.Ending.{Ending}
 use Rattle.cdcl_core.specs.Endings.{Ends, IsValued, HasRefuted, HasSpent}
-use Rattle.cdcl_core.proofs.Showing.{values_satisfy, refuted_thrifty}
+use Rattle.cdcl_core.proofs.Showing.{values_satisfy}
 use Rattle.cdcl_core.proofs.answering.answer.Goals as goal
 
 pub returns-in_ok-assignment-in-Valued-clause-sat : goal.returns-in_ok-assignment-in-Valued-clause-sat
@@ -16,9 +16,6 @@ pub returns-in_ok-log_of-in-Refuted-clause-unsat : goal.returns-in_ok-log_of-in-
 returns-in_ok-log_of-in-Refuted-clause-unsat c = λ f logged.
     let refuted : HasRefuted f c.run.new.self = subst (λ (e : Ending). Ends f c.args.budget c.run.new.self e) c.in-Refuted.is (c.in_ok-run.ensures.ends f logged) in
     c.in_ok-log_of-in-Refuted.ensures.refutes f refuted
-
-pub returns-in_ok-log_of-in-Refuted-clause-thrifty : goal.returns-in_ok-log_of-in-Refuted-clause-thrifty
-returns-in_ok-log_of-in-Refuted-clause-thrifty c = λ f logged. refuted_thrifty f c.in_ok-log_of-in-Refuted.field-0 (returns-in_ok-log_of-in-Refuted-clause-unsat c f logged)
 
 pub returns-in_ok-log_of-in-Refuted-clause-thinned : goal.returns-in_ok-log_of-in-Refuted-clause-thinned
 returns-in_ok-log_of-in-Refuted-clause-thinned c = λ f logged.
@@ -35,9 +32,6 @@ returns-in_ok-log_of-in-Spent-clause-kept c = λ f logged.
     let spent : HasSpent f c.args.budget c.run.new.self = subst (λ (e : Ending). Ends f c.args.budget c.run.new.self e) c.in-Spent.is (c.in_ok-run.ensures.ends f logged) in
     c.in_ok-log_of-in-Spent.ensures.kept f c.args.budget spent
 
-pub returns-in_ok-log_of-in-Spent-clause-thrifty : goal.returns-in_ok-log_of-in-Spent-clause-thrifty
-returns-in_ok-log_of-in-Spent-clause-thrifty c = λ f logged. record { kept = λ open_yet. returns-in_ok-log_of-in-Spent-clause-kept c f logged }
-
 pub returns-in_ok-log_of-in-Spent-clause-thinned : goal.returns-in_ok-log_of-in-Spent-clause-thinned
 returns-in_ok-log_of-in-Spent-clause-thinned c = λ f logged.
     let spent : HasSpent f c.args.budget c.run.new.self = subst (λ (e : Ending). Ends f c.args.budget c.run.new.self e) c.in-Spent.is (c.in_ok-run.ensures.ends f logged) in
@@ -46,5 +40,5 @@ returns-in_ok-log_of-in-Spent-clause-thinned c = λ f logged.
 pub returns-in_ok-log_of-in-Spent-clause-decides : goal.returns-in_ok-log_of-in-Spent-clause-decides
 returns-in_ok-log_of-in-Spent-clause-decides c = λ f logged none enough.
     let spent : IsSpent f c.in_ok-log_of-in-Spent.field-0 c.args.budget = returns-in_ok-log_of-in-Spent-clause-open c f logged none in
-    let few : c.args.budget < 2 * 3 ^ f.vars = budget_kept f c.in_ok-log_of-in-Spent.field-0 c.args.budget spent (returns-in_ok-log_of-in-Spent-clause-thrifty c f logged) in
+    let few : c.args.budget < 2 * 3 ^ f.vars = budget_kept f c.in_ok-log_of-in-Spent.field-0 c.args.budget spent (returns-in_ok-log_of-in-Spent-clause-kept c f logged) in
     omega (arith, few, enough)

@@ -8,7 +8,7 @@ use Rattle.cert_theory.specs.PartLines.{part_in}
 use Rattle.cert_theory.specs.Judging.{sections_of, before, low_with, fault_at, Within}
 use Rattle.cert_theory.specs.GivesLaws.{fails_is}
 use Rattle.cert_file.specs.declared.part.PartStep.{PartStep}
-use Rattle.cert_file.specs.TextLines.{line_of}
+use Rattle.line_reader.specs.TextLines.{line_of}
 use Rattle.cert_file.specs.Logged.{HasMore, IsFed}
 use Rattle.cert_file.specs.Stages.{later_of}
 use Rattle.cert_file.proofs.SectionLines.{progress, part_fails, part_goes}

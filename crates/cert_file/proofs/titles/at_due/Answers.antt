@@ -1,6 +1,6 @@
 -- A title that is due was read, is at fault, or there is none.
 use Rattle.std.proofs.Common.{◌∙◌, ◌∷◌, List, Bool, Ok, Err, ap, refl, sym, subst}
-use Rattle.cert_file.specs.TextLines.{line_of}
+use Rattle.line_reader.specs.TextLines.{line_of}
 use Rattle.enc_theory.specs.declared.part.Part.{Part}
 use Rattle.cert_theory.specs.declared.data.BundleError.{BundleError}
 use Rattle.cert_theory.specs.Gives.{Fails}

@@ -1,6 +1,6 @@
--- The fences of so many levels among those so far have their logs.
-use Rattle.depth_core.proofs.LevelLogs.{IsAtLevel}
+-- The fences of the level so far have their logs.
+use Rattle.size_loop.specs.Outcomes.{AreLogged}
 use Rattle.depth_core.proofs.levels.search_level.Given as goal
 
 abbrev pub invariant-loop-part : goal.invariant-loop-part
-invariant-loop-part l = IsAtLevel l.heading l.size l.levels l.yielded l.logs.items
+invariant-loop-part g l = AreLogged l.heading l.size l.yielded l.logs.items

@@ -3,7 +3,7 @@ use Rattle.depth_core.proofs.LevelLogs.{coded_by_fences, tried_low}
 use Rattle.depth_core.proofs.levels.try_fence.Goals as goal
 
 pub try_part-requires-clause-coding : goal.try_part-requires-clause-coding
-try_part-requires-clause-coding c = coded_by_fences c.args.heading.now.method c.requires.by_fences
+try_part-requires-clause-coding g c = coded_by_fences c.args.heading.now.method c.requires.by_fences
 
 pub returns : goal.returns
-returns c = tried_low c.args.heading.now c.args.size c.args.part _ c.requires.part c.in_ok-outcome.ensures
+returns g c = tried_low c.args.heading.now c.args.size c.args.part _ c.requires.part c.in_ok-outcome.ensures

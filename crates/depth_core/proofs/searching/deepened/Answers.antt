@@ -7,12 +7,12 @@ use Rattle.depth_core.proofs.LevelLogs.{is_searched, no_chain}
 use Rattle.depth_core.proofs.searching.deepened.Goals as goal
 
 pub least-requires-clause-searched : goal.least-requires-clause-searched
-least-requires-clause-searched c =
+least-requires-clause-searched g c =
     let e = sym c.bundle.view_is in
     is_searched _ c.in-Some.chain c.args.size (subst IsValid e c.requires.valid) (subst (λ (b : Bundle). AreThrifty b.heading b.sections) e c.requires.thrifty) c.in-Some.is (subst (λ (b : Bundle). minimum_of b.verdict ≡ Some c.args.size) e c.requires.minimum)
 
 pub unreachable-requires : goal.unreachable-requires
-unreachable-requires c =
+unreachable-requires g c =
     let e = sym c.bundle.view_is in
     let none = no_chain _ (subst IsValid e c.requires.valid) c.in-None.is in
     let some = subst (λ (b : Bundle). minimum_of b.verdict ≡ Some c.args.size) e c.requires.minimum in

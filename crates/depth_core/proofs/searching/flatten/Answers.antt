@@ -10,7 +10,7 @@ use Rattle.depth_core.proofs.LevelLogs.{flat_more, flat_found}
 use Rattle.depth_core.proofs.searching.flatten.Goals as goal
 
 pub returns-in-Found-clause-flat : goal.returns-in-Found-clause-flat
-returns-in-Found-clause-flat c =
+returns-in-Found-clause-flat g c =
     let h = c.args.heading.now in
     let k = c.loop-levels.levels in
     let chain = c.in-Found.chain in
@@ -21,7 +21,7 @@ returns-in-Found-clause-flat c =
     subst (λ (ps : List PartLog). IsFlat h c.args.size chain ps) (sym kept) (flat_found h c.args.size k logs chain c.loop-levels.invariant tried.0 tried.1)
 
 pub loop-levels-preserved : goal.loop-levels-preserved
-loop-levels-preserved c =
+loop-levels-preserved g c =
     let h = c.args.heading.now in
     let k = c.loop-levels.levels in
     let logged = subst (λ (level : Level). IsLevel h c.args.size k level) c.in-Logged.is c.in_ok-chain.ensures in

@@ -1,7 +1,7 @@
 -- A line of the bundle is at fault, ends it, or is one of those before.
 use Rattle.std.proofs.Common.{◌∙◌, ◌+◌, sym, subst}
 use Rattle.cert_theory.specs.Spelling.{text_of}
-use Rattle.cert_file.specs.TextLines.{line_of}
+use Rattle.line_reader.specs.TextLines.{line_of}
 use Rattle.depth_theory.specs.declared.data.DepthError.{DepthError}
 use Rattle.depth_theory.specs.DepthGives.{Fails}
 use Rattle.depth_file.proofs.Behind.{front_fails, front_goes, front_ends}

@@ -1,6 +1,6 @@
 -- A title, or the verdict.
 use Rattle.std.proofs.Common.{◌≤◌, sym, ap, ◌∙◌, subst, arith, length}
-use Rattle.cert_file.specs.TextLines.{line_of}
+use Rattle.line_reader.specs.TextLines.{line_of}
 use Rattle.depth_theory.specs.declared.data.DepthVerdict.{DepthVerdict}
 use Rattle.depth_theory.specs.DepthGives.{Fails}
 use Rattle.depth_theory.specs.DepthJudging.{verdict_at, Due}

@@ -6,7 +6,7 @@ use Rattle.cert_theory.specs.Bundle.{formula_of}
 use Rattle.cert_theory.specs.PartLines.{part_in}
 use Rattle.cert_theory.specs.Judging.{low_with}
 use Rattle.cert_file.specs.Logged.{IsFed, HasMore}
-use Rattle.cert_file.specs.TextLines.{line_of}
+use Rattle.line_reader.specs.TextLines.{line_of}
 use Rattle.cert_file.specs.declared.part.PartStep.{PartStep}
 use Rattle.depth_theory.specs.declared.data.DepthError.{DepthError}
 use Rattle.depth_theory.specs.DepthGives.{Fails}

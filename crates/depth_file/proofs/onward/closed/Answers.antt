@@ -1,4 +1,4 @@
--- Behind the lines of a bundle, or another stage as it is.
+-- After the lines of a bundle, or another stage as it is.
 use Rattle.std.proofs.Common.{[], subst}
 use Rattle.depth_file.specs.Stages.{Stands}
 use Rattle.depth_file.specs.declared.stage.Stage.{Stage}

@@ -14,7 +14,7 @@ use Rattle.depth_run.proofs.Certified.{by_fences, least_certified, other_certifi
 use Rattle.depth_run.proofs.certificate.certify_depth.Goals as goal
 
 pub returns-in-Least-clause-certificate : goal.returns-in-Least-clause-certificate
-returns-in-Least-clause-certificate c =
+returns-in-Least-clause-certificate g c =
     let b : DepthBundle = c.in-Least.bundle in
     let text = c.in_ok-text-in-Least.text.items in
     let found = subst (λ (d : Deep). IsDeep (by_fences c.in_ok-spec.spec c.args.asked.now) d) c.in-Least.is c.in_ok-bundle.ensures in
@@ -25,7 +25,7 @@ returns-in-Least-clause-certificate c =
     (least_certified c.args.bytes.now text c.args.asked.now c.in_ok-spec.spec b c.requires.by_fences c.in_ok-spec.ensures.spelled output found spelled)
 
 pub returns-clause-certificate : goal.returns-clause-certificate
-returns-clause-certificate c =
+returns-clause-certificate g c =
     let b : Bundle = c.in-Other.bundle in
     let text = c.in_ok-text-in-Other.text.items in
     let found = subst (λ (d : Deep). IsDeep (by_fences c.in_ok-spec.spec c.args.asked.now) d) c.in-Other.is c.in_ok-bundle.ensures in

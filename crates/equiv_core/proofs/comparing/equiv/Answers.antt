@@ -7,7 +7,7 @@ use Rattle.equiv_core.specs.AlikeLaws.{equal_alike}
 use Rattle.equiv_core.proofs.comparing.equiv.Goals as goal
 
 pub returns-clause-alike : goal.returns-clause-alike
-returns-clause-alike c =
+returns-clause-alike g c =
     let same : HaveSameInterface c.args.first.now c.args.second.now = search rules in
     let equal : IfEqual c.in_ok-compare.field-0 (Refutes (miter c.args.first.now.net c.args.second.now.net)) = search rules in
     equal_alike c.args.first.now c.args.second.now c.in_ok-compare.field-0 c.requires.first c.requires.second same equal

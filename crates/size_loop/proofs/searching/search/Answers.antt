@@ -7,7 +7,7 @@ use Rattle.cert_theory.specs.Bundle.{IsSection}
 use Rattle.size_loop.proofs.searching.search.Goals as goal
 
 pub loop-sections-preserved : goal.loop-sections-preserved
-loop-sections-preserved c =
+loop-sections-preserved g c =
     let s = c.loop-sections.search in
     let within = subst (λ (step : Advance). IfSection step (λ rest section. s.next ≤ s.heading.max)) c.in-Section.is c.in_ok-rest.ensures.within in
     let is_section = subst (λ (step : Advance). IfSection step (λ rest section. IsSection s.heading s.next section)) c.in-Section.is c.in_ok-rest.ensures.section in
@@ -17,4 +17,4 @@ loop-sections-preserved c =
     rw (rest_is, c.in_ok-push-in-Section.ensures.items) (c.loop-sections.invariant.0, searched)
 
 pub returns-in-Ended-clause-thrifty : goal.returns-in-Ended-clause-thrifty
-returns-in-Ended-clause-thrifty c = rw (c.in_ok-copied-in-Ended.ensures, ← c.loop-sections.invariant.0) c.loop-sections.invariant.1.thrifty
+returns-in-Ended-clause-thrifty g c = rw (c.in_ok-copied-in-Ended.ensures, ← c.loop-sections.invariant.0) c.loop-sections.invariant.1.thrifty

@@ -2,7 +2,7 @@
 use Rattle.std.proofs.Common.{subst}
 use Rattle.size_loop.specs.declared.trying.PartOutcome.{PartOutcome}
 use Rattle.size_loop.specs.Outcomes.{IsTried}
-use Rattle.size_loop.proofs.Parts.{logged_more}
+use Rattle.size_loop.specs.OutcomeLaws.{logged_more}
 use Rattle.size_loop.proofs.sizes.search_parts.Goals as goal
 
 pub loop-part-preserved : goal.loop-part-preserved

@@ -1,39 +1,9 @@
--- Line after line, and at the end nothing is left.
-use Rattle.std.proofs.Common.{◌≡◌, [], ◌++◌, arith, rules}
-use Rattle.std.proofs.lemmas.Grind.{common_steps}
-use Rattle.text_core.specs.Lines.{lines_of}
-use Rattle.cert_file.specs.Reader.{seen}
-use Rattle.cert_file.specs.CuttingLaws.{length_left, left_none}
-use Rattle.cert_file.proofs.Cutting.{before_more, before_refused, before_all, has_err}
+-- The reader of lines stands for the same text.
+use Rattle.std.proofs.Common.{◌++◌, sym, subst}
+use Rattle.cert_file.specs.Reader.{Reader, StandsFor}
 use Rattle.cert_file.proofs.reader.BundleReader.feed.Goals as goal
 
-pub returns-in_err-reader-clause-read : goal.returns-in_err-reader-clause-read
-returns-in_err-reader-clause-read c = λ text stands.
-    has_err c.from_residual.result c.in_err-reader.field-0.0 (text ++ c.args.piece.now) c.from_residual.ensures.1
-    (before_refused (seen c.loop-text.reader) c.loop-text.left.now c.in-Some.rest.now (text ++ c.args.piece.now) (record { text = c.in-Some.text.now; ended = c.in-Some.ended }) c.in_err-reader.field-0.0
-    c.in-Some.ensures.some c.in_err-reader.ensures.read (c.loop-text.invariant.before text stands))
-
-pub loop-text-preserved : goal.loop-text-preserved
-loop-text-preserved c = record {
-  whole = c.in_ok-reader.ensures.whole;
-  before = λ text stands.
-      before_more (seen c.loop-text.reader) c.in_ok-reader.reader c.loop-text.left.now c.in-Some.rest.now (text ++ c.args.piece.now) (record { text = c.in-Some.text.now; ended = c.in-Some.ended })
-      c.in-Some.ensures.some c.in_ok-reader.ensures.read (c.loop-text.invariant.before text stands);
-  fed =
-      let all = c.loop-text.invariant.fed in
-      let more = c.in_ok-reader.ensures.fed in
-      let long = length_left c.loop-text.left.now c.in-Some.rest.now (record { text = c.in-Some.text.now; ended = c.in-Some.ended }) c.in-Some.ensures.some in
-      omega (arith, all, more, long);
-}
-
-pub returns-clause-read : goal.returns-clause-read
-returns-clause-read c = λ text stands.
-    let none : lines_of c.loop-text.left.now ≡ [] = search (rules, common_steps) in
-    before_all (seen c.loop-text.reader) c.loop-text.left.now (text ++ c.args.piece.now) none (c.loop-text.invariant.before text stands)
-
-pub returns-clause-fed : goal.returns-clause-fed
-returns-clause-fed c =
-    let none : lines_of c.loop-text.left.now ≡ [] = search (rules, common_steps) in
-    let all = c.loop-text.invariant.fed in
-    let nothing = left_none c.loop-text.left.now none in
-    omega (arith, all, nothing)
+pub returns-in-Ok-clause-read : goal.returns-in-Ok-clause-read
+returns-in-Ok-clause-read c = λ text stands.
+    subst (λ (r : Reader). StandsFor r (text ++ c.args.piece.now)) (sym c.of.ensures)
+    (c.in-Ok.ensures.read text (subst (λ (r : Reader). StandsFor r text) (sym c.pieces.ensures) stands))

@@ -1,15 +1,10 @@
--- What no LF ends joins what was fed of the line.
-use Rattle.std.proofs.Common.{◌≡◌, ◌+◌, Bool, ◌++◌, length, sym, subst, rules}
-use Rattle.std.proofs.lemmas.Grind.{common_steps}
+-- The reader of lines stands for the same text.
+use Rattle.std.proofs.Common.{◌++◌, sym, subst}
 use Rattle.text_core.specs.Lines.{line_bytes}
-use Rattle.cert_file.specs.Reader.{StandsFor}
-use Rattle.cert_file.proofs.Cutting.{stands_part}
+use Rattle.cert_file.specs.Reader.{Reader, StandsFor}
 use Rattle.cert_file.proofs.reader.BundleReader.feed_line.Goals as goal
 
-pub returns-clause-read : goal.returns-clause-read
-returns-clause-read c = λ before free stands.
-    let same : c.extend_from_slice.new.self.items ≡ c.args.self.unfinished.items ++ c.args.text.now = search (rules, common_steps) in
-    subst
-    (λ (b : Bool). StandsFor (record { stage = c.args.self.stage; number = c.args.self.number; unfinished = c.extend_from_slice.new.self.items; fed = c.args.self.fed + length c.args.text.now }) (before ++ line_bytes (record { text = c.args.text.now; ended = b })))
-    (sym c.if-ended.false)
-    (stands_part c.args.self.stage c.args.self.number c.args.self.fed c.args.self.unfinished.items c.extend_from_slice.new.self.items before c.args.text.now free same stands)
+pub returns-in-Ok-clause-read : goal.returns-in-Ok-clause-read
+returns-in-Ok-clause-read c = λ before free stands.
+    subst (λ (r : Reader). StandsFor r (before ++ line_bytes (record { text = c.args.text.now; ended = c.args.ended }))) (sym c.of.ensures)
+    (c.in-Ok.ensures.read before free (subst (λ (r : Reader). StandsFor r before) (sym c.pieces.ensures) stands))

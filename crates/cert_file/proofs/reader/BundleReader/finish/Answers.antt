@@ -1,4 +1,4 @@
--- The verdict of what is told, by the laws of the definition.
+-- The verdict of what is handed out, by the laws of the definition.
 use Rattle.std.proofs.Common.{Ok}
 use Rattle.text_core.specs.Lines.{lines_of}
 use Rattle.cert_theory.specs.Judging.{bundle_of}

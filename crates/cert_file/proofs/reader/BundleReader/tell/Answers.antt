@@ -1,18 +1,16 @@
 -- The end of the text, and what was read of it.
-use Rattle.text_core.specs.Lines.{lines_of}
-use Rattle.cert_theory.specs.Judging.{bundle_of}
-use Rattle.cert_file.specs.Reader.{seen}
-use Rattle.cert_file.proofs.Cutting.{stands_end, tells_end, place_end}
+use Rattle.std.proofs.Common.{sym, subst}
+use Rattle.cert_file.specs.Reader.{Reader, StandsFor}
 use Rattle.cert_file.proofs.Verdicts.{told_given, operators_given}
 use Rattle.cert_file.proofs.reader.BundleReader.tell.Goals as goal
 
 pub returns-clause-exact : goal.returns-clause-exact
-returns-clause-exact c = λ text stands. c.close.ensures.answer (bundle_of (lines_of text)) (stands_end (seen c.args.self) text stands)
+returns-clause-exact c = λ text stands. (c.finish.ensures.gives text (subst (λ (r : Reader). StandsFor r text) (sym c.pieces.ensures) stands)).0
 
 pub returns-clause-told : goal.returns-clause-told
 returns-clause-told c = λ text b stands is.
-    told_given text b c.close.result is (c.close.ensures.answer (bundle_of (lines_of text)) (stands_end (seen c.args.self) text stands))
-    (c.close.ensures.tells (lines_of text) (place_end (seen c.args.self) text stands) (tells_end (seen c.args.self) text stands))
+    let gives = c.finish.ensures.gives text (subst (λ (r : Reader). StandsFor r text) (sym c.pieces.ensures) stands) in
+    told_given text b c.finish.result is gives.0 gives.1
 
 pub returns-clause-operators : goal.returns-clause-operators
-returns-clause-operators c = operators_given c.close.result c.close.ensures.known
+returns-clause-operators c = operators_given c.finish.result c.finish.ensures.good

@@ -1,0 +1,26 @@
+-- What a stage says with one more line, and a refusal of a text that is one piece.
+use Rattle.std.proofs.Common.{◌≡◌, ℕ, List, [], ◌++◌, Result, Ok, Err, sym, subst, append-nil}
+use Rattle.std.specs.Prelude.{IfOk}
+use Rattle.std.specs.Result.{IsErrAnd}
+use Rattle.text_core.specs.Lines.{Line, lines_of}
+use Rattle.line_reader.specs.Reader as pieces
+use Rattle.cert_theory.specs.declared.data.BundleError.{BundleError}
+use Rattle.cert_theory.specs.declared.data.Verdict.{Verdict}
+use Rattle.cert_theory.specs.Gives.{Gives, Fails}
+use Rattle.cert_theory.specs.Judging.{bundle_of}
+use Rattle.cert_file.specs.Stages.{Judged}
+use Rattle.cert_file.specs.Telling.{Tells}
+use Rattle.cert_file.specs.Standing.{StandsIn, Refuses}
+use Rattle.cert_file.specs.Reader.{IsRefused}
+use Rattle.cert_file.specs.declared.stage.Stage.{Stage}
+
+-- the answer for which a stage stands, and what it keeps
+pub taken_both : (r : Result Stage BundleError) (number : ℕ) (ls all : List Line) → Judged r number ls (bundle_of all) → IfOk r (λ s. Tells s number ls all) → pieces.Judged StandsIn Refuses r number ls all
+taken_both (Ok s) number ls all judged tells = (judged, tells)
+taken_both (Err e) number ls all judged tells = judged
+
+pub gives_refused : (r : Result Verdict BundleError) (e : BundleError) (text : List ℕ) → IsErrAnd r (λ d. d ≡ e) → IsRefused e text → Gives (λ (v : Verdict). v) r (bundle_of (lines_of text))
+gives_refused (Ok v) e text is refused = absurd is
+gives_refused (Err d) e text is refused =
+    subst (λ (x : BundleError). Fails x (bundle_of (lines_of text))) (sym is)
+    (subst (λ (whole : List ℕ). Fails e (bundle_of (lines_of whole))) (append-nil text) (refused []))

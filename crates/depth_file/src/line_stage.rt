@@ -1,0 +1,49 @@
+//! Depth bundles as texts that are read line by line.
+ghost use Rattle.std.specs.Prelude.{ℕ, IfOk};
+ghost use Rattle.depth_file.specs.Stages.{IsStage, fed_of};
+ghost use Rattle.depth_file.specs.Standing.{StandsIn, Refuses, Ends};
+
+use crate::onward::{take, verdict_of};
+use crate::stage::Stage;
+use cert_file::BundleReader;
+use depth_theory::{DepthError, DepthVerdict};
+use line_reader::{LineStage, TextLine};
+use std::alloc::Global;
+
+impl LineStage for Stage {
+    type Fault = DepthError;
+
+    type End = DepthVerdict;
+
+    ghost whole = { λ stage number. IsStage stage };
+
+    ghost held = { λ stage. fed_of stage };
+
+    ghost stands = { λ stage number lines all. StandsIn stage number lines all };
+
+    ghost refuses = { λ e all. Refuses e all };
+
+    ghost gives = { λ answer all. Ends answer all };
+
+    ghost good = { λ verdict. Unit {0} };
+
+    fn start(alloc: Global) -> Stage {
+        Stage::Front {
+            reader: BundleReader::new(alloc),
+        }
+    }
+
+    fn take(self, alloc: Global, line: &TextLine) -> Result<Stage, DepthError> {
+        take(alloc, self, line)
+    }
+
+    fn end(self, alloc: Global, number: u32) -> Result<DepthVerdict, DepthError> {
+        verdict_of(alloc, self, number)
+    }
+
+    fn no_memory() -> DepthError {
+        DepthError::Memory
+    }
+
+    ghost refusal = { λ e all refused. refused };
+}

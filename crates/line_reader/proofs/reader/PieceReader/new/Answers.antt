@@ -1,0 +1,6 @@
+-- The stage stands for all lines, where nothing was fed.
+use Rattle.line_reader.proofs.Cutting.{stands_new}
+use Rattle.line_reader.proofs.reader.PieceReader.new.Goals as goal
+
+pub returns-clause-stands : goal.returns-clause-stands
+returns-clause-stands g c = stands_new g.S.LineStage.stands c.start.result c.new.result.items c.new.ensures.items c.start.ensures.stands

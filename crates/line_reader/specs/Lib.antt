@@ -1,0 +1,5 @@
+pub mod TextLines
+pub mod Cuts
+pub mod CuttingLaws
+pub mod Reader
+pub mod Seen

@@ -1,0 +1,189 @@
+//! A text that comes in pieces, wherever it is cut.
+ghost use Rattle.std.specs.Prelude.{◌≡◌, ◌+◌, ◌^◌, ◌<◌, ◌≤◌, List, ℕ, [], ◌∷◌, ◌++◌, true, length, IfOk};
+ghost use Rattle.text_core.specs.Lines.{Line, lines_of, last_line, line_bytes};
+ghost use Rattle.line_reader.specs.Cuts.{HasNoEnd, IsPlace, with_end};
+ghost use Rattle.line_reader.specs.Reader.{Judged, IsReader, StandsFor, HasRead};
+ghost use Rattle.line_reader.specs.Seen.{seen};
+
+use crate::line::TextLine;
+use crate::stage::LineStage;
+use std::alloc::Global;
+use text_core::next_line;
+
+/// A text, as far as it was read. It keeps what its stage keeps, and the unfinished line; nothing of the lines
+/// before.
+#[derive(Drop)]
+pub struct PieceReader<S> {
+    /// What the whole lines have come to.
+    pub stage: S,
+    /// Which line of the text the next one is, from 1 on.
+    pub number: u32,
+    /// What was fed of the next line.
+    pub unfinished: Vec<u8>,
+    /// How many bytes were fed.
+    pub fed: usize,
+}
+
+/// Takes a whole line, which an LF ends.
+fn take_text<S: LineStage>(alloc: Global, stage: S, number: u32, text: &[u8]) -> Result<S, S::Fault>
+    requires whole { S.whole stage number }
+    requires number { number < 2 ^ 31 }
+    requires room { S.held stage + length (with_end text.now) < 2 ^ 31 }
+    ensures whole { IfOk result (λ s. S.whole s (number + 1)) }
+    ensures held { IfOk result (λ s. S.held s ≤ S.held stage + length (with_end text.now)) }
+    ensures stands { (lines ls all : List Line) → HasNoEnd text.now → IsPlace number lines all → S.stands stage number lines all →
+        lines ≡ record { text = text.now; ended = true } ∷ ls → Judged S.stands S.refuses result (number + 1) ls all }
+{
+    let line = TextLine {
+        text,
+        ended: true,
+        number,
+    };
+    stage.take(alloc, &line)
+}
+
+/// Takes what no LF ends, where something stands there, and the end after it.
+fn close<S: LineStage>(stage: S, number: u32, unfinished: &Vec<u8>) -> Result<S::End, S::Fault>
+    requires whole { S.whole stage number }
+    requires number { number + length unfinished.now.items ≤ 2 ^ 31 }
+    requires room { S.held stage + length unfinished.now.items < 2 ^ 31 }
+    ensures gives { (all : List Line) → HasNoEnd unfinished.now.items → IsPlace number (last_line unfinished.now.items) all →
+        S.stands stage number (last_line unfinished.now.items) all → S.gives result all }
+    ensures good { IfOk result S.good }
+{
+    let alloc = *unfinished.allocator();
+    if unfinished.is_empty() {
+        return stage.end(alloc, number);
+    }
+    let line = TextLine {
+        text: unfinished,
+        ended: false,
+        number,
+    };
+    match stage.take(alloc, &line) {
+        Ok(stage) => stage.end(alloc, number + 1),
+        Err(fault) => Err(fault),
+    }
+}
+
+impl<S: LineStage> PieceReader<S> {
+    /// Nothing was fed yet. It takes no memory but what its stage takes.
+    #[tactic(auto, using(crate::proofs::Cutting::readers))]
+    pub fn new(alloc: Global) -> PieceReader<S>
+        ensures whole { IsReader S.whole S.held (seen result) }
+        ensures stands { StandsFor S.stands (seen result) [] }
+        ensures fed { result.fed ≡ 0 }
+    {
+        PieceReader {
+            stage: S::start(alloc),
+            number: 1,
+            unfinished: Vec::new(alloc),
+            fed: 0,
+        }
+    }
+
+    /// Takes the next piece of the text. A refusal is that of every text that goes on so.
+    pub fn feed(self, piece: &[u8]) -> Result<PieceReader<S>, S::Fault>
+        requires whole { IsReader S.whole S.held (seen self) }
+        requires room { self.fed + length piece.now < 2 ^ 31 }
+        ensures whole { IfOk result (λ reader. IsReader S.whole S.held (seen reader)) }
+        ensures read { (text : List ℕ) → StandsFor S.stands (seen self) text → HasRead seen S.stands S.refuses result (text ++ piece.now) }
+        ensures fed { IfOk result (λ reader. reader.fed ≡ self.fed + length piece.now) }
+    {
+        let mut reader = self;
+        let mut left = piece;
+        while let Some((text, ended, rest)) = next_line(left) {
+            reader = reader.feed_line(text, ended)?;
+            left = rest;
+        }
+        Ok(reader)
+    }
+
+    /// Takes a text without an LF, and then the LF where one ends it.
+    pub fn feed_line(self, text: &[u8], ended: bool) -> Result<PieceReader<S>, S::Fault>
+        requires whole { IsReader S.whole S.held (seen self) }
+        requires room { self.fed + length (line_bytes (record { text = text.now; ended = ended })) < 2 ^ 31 }
+        ensures whole { IfOk result (λ reader. IsReader S.whole S.held (seen reader)) }
+        ensures read { (before : List ℕ) → HasNoEnd text.now → StandsFor S.stands (seen self) before →
+            HasRead seen S.stands S.refuses result (before ++ line_bytes (record { text = text.now; ended = ended })) }
+        ensures fed { IfOk result (λ reader. reader.fed ≡ self.fed + length (line_bytes (record { text = text.now; ended = ended }))) }
+    {
+        if ended {
+            return self.end_line(text);
+        }
+        let PieceReader {
+            stage,
+            number,
+            unfinished,
+            fed,
+        } = self;
+        let mut unfinished = unfinished;
+        if unfinished.extend_from_slice(text).is_err() {
+            // dropped here at once: left to the exit, each of its fields would be
+            drop(stage);
+            return Err(S::no_memory());
+        }
+        Ok(PieceReader {
+            stage,
+            number,
+            unfinished,
+            fed: fed + text.len(),
+        })
+    }
+
+    /// Takes the end of a line, and the LF after it. A line that stands in one piece isn't copied.
+    fn end_line(self, text: &[u8]) -> Result<PieceReader<S>, S::Fault>
+        requires whole { IsReader S.whole S.held (seen self) }
+        requires room { self.fed + length text.now + 1 < 2 ^ 31 }
+        ensures whole { IfOk result (λ reader. IsReader S.whole S.held (seen reader)) }
+        ensures read { (before : List ℕ) → HasNoEnd text.now → StandsFor S.stands (seen self) before →
+            HasRead seen S.stands S.refuses result (before ++ with_end text.now) }
+        ensures fed { IfOk result (λ reader. reader.fed ≡ self.fed + length text.now + 1) }
+    {
+        let PieceReader {
+            stage,
+            number,
+            unfinished,
+            fed,
+        } = self;
+        let alloc = *unfinished.allocator();
+        if unfinished.is_empty() {
+            let stage = take_text(alloc, stage, number, text)?;
+            return Ok(PieceReader {
+                stage,
+                number: number + 1,
+                unfinished,
+                fed: fed + text.len() + 1,
+            });
+        }
+        let mut line = unfinished;
+        if line.extend_from_slice(text).is_err() {
+            // dropped here at once: left to the exit, each of its fields would be
+            drop(stage);
+            return Err(S::no_memory());
+        }
+        let stage = take_text(alloc, stage, number, &line)?;
+        line.clear();
+        Ok(PieceReader {
+            stage,
+            number: number + 1,
+            unfinished: line,
+            fed: fed + text.len() + 1,
+        })
+    }
+
+    /// What the text comes to, which ends here.
+    pub fn finish(self) -> Result<S::End, S::Fault>
+        requires { IsReader S.whole S.held (seen self) }
+        ensures gives { (text : List ℕ) → StandsFor S.stands (seen self) text → S.gives result (lines_of text) }
+        ensures good { IfOk result S.good }
+    {
+        let PieceReader {
+            stage,
+            number,
+            unfinished,
+            ..
+        } = self;
+        close(stage, number, &unfinished)
+    }
+}

@@ -1,0 +1,27 @@
+-- The logs of parts, one part after the other.
+use Rattle.std.proofs.Common.{◌≡◌, ℕ, List, [], ◌∷◌, ◌++◌, map, refl, ap, ◌∙◌}
+use Rattle.std.proofs.lemmas.List.{map-append}
+use Rattle.std.proofs.lemmas.List.Elements.{All-nil, All-push}
+use Rattle.enc_theory.specs.declared.part.Part.{Part}
+use Rattle.cert_theory.specs.declared.data.Heading.{Heading}
+use Rattle.cert_theory.specs.Bundle.{PartLog, IsPartLog, part_of}
+use Rattle.size_loop.specs.Thrift.{IsThriftyLog}
+use Rattle.size_loop.specs.Outcomes.{AreLogged}
+
+-- without parts there are no logs
+pub logged_none : (h : Heading) (size : ℕ) → AreLogged h size [] []
+logged_none h size = record { parts_are = refl; ends = All-nil (IsPartLog h size); thrifty = All-nil (IsThriftyLog h size) }
+
+parts_more : (parts : List Part) (logs : List PartLog) (part : Part) (p : PartLog) → map part_of logs ≡ parts → p.part ≡ part → map part_of (logs ++ p ∷ []) ≡ parts ++ part ∷ []
+parts_more parts logs part p are same =
+    map-append part_of logs (p ∷ [])
+    ∙ ap (λ (xs : List Part). xs ++ p.part ∷ []) are
+    ∙ ap (λ (x : Part). parts ++ x ∷ []) same
+
+-- one more part has its log
+pub logged_more : (h : Heading) (size : ℕ) (parts : List Part) (logs : List PartLog) (part : Part) (p : PartLog) → AreLogged h size parts logs → p.part ≡ part → IsPartLog h size p → IsThriftyLog h size p → AreLogged h size (parts ++ part ∷ []) (logs ++ p ∷ [])
+logged_more h size parts logs part p are same is thrifty = record {
+  parts_are = parts_more parts logs part p are.parts_are same;
+  ends = All-push (IsPartLog h size) logs p are.ends is;
+  thrifty = All-push (IsThriftyLog h size) logs p are.thrifty thrifty;
+}
