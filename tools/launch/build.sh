@@ -57,19 +57,21 @@ how_far() {
     local now others
     now=$(at_work "$1")
     others=$(sed -n 's/^rt: \([a-z_0-9]*\): another copy of the repository is building.*/\1/p' "$1/log" | tr '\n' ' ')
-    grep -a '^== ' "$1/log" | awk -v seconds="$2" -v now="$now" -v others=" $others" '
+    grep -a '^== ' "$1/log" | awk -v seconds="$2" -v now="$now" -v others="$others" '
         NR == FNR { size[$1] = $2; all += $2; crates++; next }
         $2 in size && !($2 in proved) { proved[$2]; count++; done += size[$2] }
         END {
             split(now, word, " ")
             for (k = 1; k in word; k++)
-                if (!(word[k] in proved)) at = at (at ? ", " : "") word[k] (index(others, " " word[k] " ") ? " (which another checkout builds)" : "")
+                if (!(word[k] in proved)) { busy[word[k]]; at = at (at ? ", " : "") word[k] }
+            split(others, word, " ")
+            for (k = 1; k in word; k++)
+                if (!(word[k] in proved) && !(word[k] in busy)) at = at (at ? ", " : "") word[k] " (another checkout builds it)"
             line = sprintf("%d of %d crates proved", count, crates)
-            if (!count) line = line ", a quick pass over all sources comes first, some minutes"
+            if (!count && (at == "" || at == "batsokemi")) { at = ""; line = line "; first a quick pass over all sources, some minutes" }
             else if (count >= crates) line = line ", and now the program is built"
             else if (done * 20 > all && seconds > 60) line = line ", about " int(seconds * (all - done) / done / 60 + 1) " min to go"
-            else line = line ", half an hour to go on four processors"
-            print line (at && count ? "; at work on " at : "")
+            print line (at ? "; at work on " at : "")
         }' "$1/sizes" -
 }
 
