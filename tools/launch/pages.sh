@@ -1,0 +1,190 @@
+# shellcheck shell=bash
+# The pages that `batsokemi --help` and `batsokemi help COMMAND` print. A part of the launcher.
+
+page() {
+    cat <<'END'
+batsokemi COMMAND [OPTION VALUE].. [FILE..]
+
+Exact synthesis of Boolean chains with certificates, resynthesis of netlists, and combinational
+equivalence checking. Every function of the program is formally verified.
+
+  synth     truth tables -> a chain with the fewest two-input steps, and a certificate that no fewer do
+  recheck   a certificate -> its verdict, exactly where it is valid
+  agree     truth tables and a chain -> whether the chain has every specified value
+  improve   a netlist (BLIF, BENCH) -> an equivalent one with no more gates, and a report
+  equiv     two netlists (BLIF) -> equal, with an LRAT refutation; or a counterexample
+  gen       a number -> a BLIF netlist of that many blocks
+
+  help COMMAND        options of a command with ranges and defaults, and an example
+  --version           the version, and which program runs
+  --where             the path of the program
+  --build             proves and builds the program from the sources of this checkout
+
+Files come behind the options; without one, or for `-`, standard input is read. With each command:
+
+  -o FILE             the answer goes to FILE, which is written whole or not at all
+  --certificate FILE  of synth, equiv and improve: the certificates go to FILE, and the chain, the
+                      verdict and the report alone are printed. On a terminal that is so without FILE too
+
+  batsokemi synth full-adder.tables
+  batsokemi improve in.blif -o out.blif
+  batsokemi equiv in.blif out.blif
+
+Status: 0 an answer; 4 a budget was spent; 8 a difference, or a certificate that doesn't hold; 1 words
+that are no command; 2 input not of its form; 3 beyond a limit; 5 reading, 6 writing failed; 7 no memory;
+70 the program can't be built.
+END
+    echo "More: man -l $(of_top docs/batsokemi.1), $(of_top docs/TUTORIAL.md), $(of_top docs/FORMATS.md)"
+}
+
+# of_top FILE: where it lies, by the shortest name
+of_top() {
+    [ -e "$PWD/$1" ] && [ "$PWD/$1" -ef "$here/$1" ] && echo "$1" || echo "$here/$1"
+}
+
+# options_of COMMAND: its rows of the table, each with its range and its default
+options_of() {
+    awk -F'|' -v command="$1" '
+        $1 != command { next }
+        {
+            range = $4
+            if (sub(/^number /, "", range)) sub(/ /, " to ", range)
+            else if (sub(/^word /, "", range)) gsub(/ /, ", ", range)
+            else range = "below"
+            if ($3 == "yes or no") range = ""
+            range = range (range != "" && $5 != "" ? "; " : "") ($5 != "" ? "default " $5 : "")
+            what = $6 " [" range "]"
+            head = sprintf("  %-27s", $2 " " $3)
+            count = split(what, word, " ")
+            line = head
+            for (k = 1; k <= count; k++) {
+                if (length(line) + length(word[k]) > 100) { print line; line = sprintf("%29s", "") }
+                line = line (length(line) > 29 || line == head && length(head) > 29 ? " " : "") word[k]
+            }
+            print line
+        }' "$parts/options"
+}
+
+about_bases() {
+    cat <<'END'
+
+BASIS is all, u2 (all that depend on both operands but XOR and XNOR), bench (AND, OR, XOR and their
+complements), nand, or operators by their values at 00, 01, 10, 11 with commas between them, as 0001,0110.
+END
+}
+
+about_synth() {
+    cat <<'END'
+batsokemi synth [OPTION VALUE].. [TABLES]
+
+Reads truth tables of up to 6 inputs and 8 outputs, with don't-cares, and writes a chain with the fewest
+two-input steps and a certificate of that: a refutation of each smaller size. Its verdict:
+
+  minimum R          the chain has R steps, and no chain of fewer agrees with the tables
+  none X             no chain of at most X steps does, and X is what --max allows
+  bounded LOW R      the chain has R steps, none of fewer than LOW does; between them a budget was spent
+  open LOW           none of fewer than LOW does, and no more is known
+  levels D           (--least-depth yes) of the chains of R steps none has fewer than D levels
+
+Tables: the line `inputs N`, then a line for each output with 2^N characters 0, 1 or - (don't-care). Row 0
+comes first, and x1 is the most significant digit of a row's number. tools/tables makes them of hex tables.
+
+END
+    options_of synth
+    about_bases
+    cat <<'END'
+
+Example: the sum and the carry of three bits
+  printf 'inputs 3\n01101001\n00010111\n' > adder.tables
+  batsokemi synth --certificate adder.chains adder.tables
+END
+}
+
+about_recheck() {
+    cat <<'END'
+batsokemi recheck [OPTION VALUE].. [CERTIFICATE]
+
+Writes the verdict of a certificate of `synth`, exactly where the certificate is valid: it makes the formula
+of each size anew from the tables and follows each line of each refutation.
+
+END
+    options_of recheck
+    cat <<'END'
+
+Example:
+  batsokemi recheck adder.chains
+END
+}
+
+about_agree() {
+    cat <<'END'
+batsokemi agree [FILE]
+
+Reads truth tables, a chain (`chain R`, its steps and outputs) and the line `end`. Writes `agrees`, or
+`differs H T`: output H, from 1, has another value on row T, from 0; both are the least there are.
+
+Example: OR is not XOR
+  printf 'inputs 2\n0110\nchain 1\nx3 x1 x2 0111\nout x3\nend\n' | batsokemi agree
+END
+}
+
+about_improve() {
+    cat <<'END'
+batsokemi improve [OPTION VALUE].. [NETLIST] [-o NETLIST]
+
+Reads a netlist in BLIF or BENCH and writes an equivalent one of the same format with no more gates, by
+exact resynthesis of windows of up to --cap gates. Its report goes to standard error:
+
+  gates A -> B       what the netlist cost, and what it costs now
+  undecided G [P] C  the search of the window of C gates at G (and its partner P) spent its budget; its
+                     certificate follows
+  settled            no other window up to the cap has a smaller implementation
+  stopped            the rounds came to their end first
+
+Nothing is written before the end: the program can't be asked how far it is. A smaller --cap ends sooner.
+
+END
+    options_of improve
+    about_bases
+    cat <<'END'
+
+Example:
+  batsokemi improve --cap 4 in.blif -o out.blif
+END
+}
+
+about_equiv() {
+    cat <<'END'
+batsokemi equiv [OPTION VALUE].. FIRST SECOND
+
+Compares two BLIF netlists of the same inputs, outputs and latches: outputs and next states under every
+assignment of inputs and latches. Two files, or one text with both of which the first ends with `.end`.
+
+  equal              they do the same; an LRAT refutation of their miter follows, and `done`
+  differ output Y    output Y differs (or `differ latch Q`) where the inputs and latches have the bits
+                     of the next line, `at BITS`
+  undecided          the budget was spent; the clauses that were learnt follow
+
+END
+    options_of equiv
+    cat <<'END'
+
+Example:
+  batsokemi equiv in.blif out.blif
+END
+}
+
+about_gen() {
+    cat <<'END'
+batsokemi gen --blocks N [--run improve]
+
+Writes a BLIF netlist of N blocks, each of which can be made smaller; for measurements.
+
+END
+    options_of gen
+    cat <<'END'
+
+Example:
+  batsokemi gen --blocks 100 -o hundred.blif
+END
+}

@@ -1,0 +1,166 @@
+# shellcheck shell=bash
+# Gives the program its files, and takes certificates out of what it writes. A part of the launcher.
+
+# fail STATUS NAME WHY: the line and the status of a fault in reading or writing
+fail() {
+    echo "error: $2: $3" >&2
+    exit "$1"
+}
+
+# end_of FILE: `ended` where a logical line of a BLIF netlist begins with the word .end, and `hanging` where that
+# line would go on behind the file; else `open`
+end_of() {
+    awk '
+        { sub(/\r$/, ""); sub(/#.*/, ""); sub(/[ \t]+$/, "") }
+        {
+            line = goes_on ? line " " $0 : $0
+            goes_on = sub(/\\$/, " ", line)
+            split(line, word, " ")
+            if (!goes_on && word[1] == ".end") { found = 1; exit }
+        }
+        END {
+            split(line, word, " ")
+            print found ? "ended" : (word[1] == ".end" ? "hanging" : "open")
+        }' "$1"
+}
+
+# both FIRST SECOND: two netlists in one text; the first gets its line .end where it lacks one
+both() {
+    cat "$1"
+    [ -z "$(tail -c 1 "$1" | tr '\0' x)" ] || echo
+    case "$(end_of "$1")" in
+        open) printf '\n.end\n' ;;
+        hanging) echo ;;
+    esac
+    cat "$2"
+}
+
+# open_files: standard input is the file, the two files in one text, or what it was
+open_files() {
+    local file
+    for file in ${files[@]+"${files[@]}"}; do
+        [ "$file" = - ] && continue
+        [ -e "$file" ] || fail 5 ReadFault "there is no file $file"
+        [ ! -d "$file" ] || fail 5 ReadFault "$file is a folder"
+        [ -r "$file" ] || fail 5 ReadFault "$file can't be read"
+    done
+    if [ ${#files[@]} = 2 ]; then
+        [ "${files[0]}" != - ] && [ "${files[1]}" != - ] || refuse "of two netlists none can be standard input"
+        exec < <(both "${files[@]}")
+    elif [ "${files[0]--}" != - ]; then
+        exec <"${files[0]}"
+    elif [ "$command" != gen ] && [ -t 0 ] && [ -t 2 ]; then
+        tell "reads standard input, up to Ctrl-D"
+    fi
+}
+
+# without_logs: leaves of a certificate, or of an answer of equiv, the chain and the verdict. The last line goes
+# to `left`: how many lines were left out
+without_logs() {
+    awk -v command="$command" -v left="$1" '
+        command == "equiv" {
+            if (NR == 1 || $1 == "at") print; else out++
+            next
+        }
+        /^chain [0-9]+$/ { inside = 1 }
+        /^end$/ { inside = 0 }
+        inside || /^(none|open|levels|levels-bounded) / { print; next }
+        { out++ }
+        END { print out + 0 >left }'
+}
+
+# without_certificates: leaves of a report its own lines
+without_certificates() {
+    awk -v left="$1" '
+        /^(gates|undecided|settled|stopped|error:|batsokemi:)/ { print; fflush(); next }
+        { out++ }
+        END { print out + 0 >left }'
+}
+
+# part_of FILE: where what goes to it is written first; what is no plain file is written at once
+part_of() {
+    if [ -e "$1" ] && [ ! -f "$1" ]; then echo "$1"; else echo "$1.part.$$"; fi
+}
+
+# finish STATUS PART FILE: an answer takes the place of the file, and what is none goes
+finish() {
+    [ "$2" = "$3" ] && return
+    case "$1" in
+        0 | 4) mv -f "$2" "$3" ;;
+        8) if [ -s "$2" ]; then mv -f "$2" "$3"; else rm -f "$2"; fi ;;
+        *) rm -f "$2" ;;
+    esac
+}
+
+# split_answer: the certificate goes to its file, or nowhere, and the chain and the verdict to standard output
+split_answer() {
+    local part status left
+    left=$(mktemp) || fail 6 WriteFault "no temporary file can be made"
+    if [ -n "$certificate" ]; then
+        part=$(part_of "$certificate")
+        "$program" "$command" ${options[@]+"${options[@]}"} >"$part"
+        status=$?
+        [ ! -f "$part" ] || without_logs "$left" <"$part"
+        finish "$status" "$part" "$certificate"
+    else
+        "$program" "$command" ${options[@]+"${options[@]}"} | without_logs "$left"
+        status=${PIPESTATUS[0]}
+        [ "$(cat "$left")" = 0 ] || tell "$(cat "$left") lines of certificate aren't shown; --certificate FILE keeps them"
+    fi
+    rm -f "$left"
+    return "$status"
+}
+
+# split_report: the report's certificates go to their file, or nowhere, and its own lines to standard error
+split_report() {
+    local part status left
+    left=$(mktemp) || fail 6 WriteFault "no temporary file can be made"
+    if [ -n "$certificate" ]; then
+        part=$(part_of "$certificate")
+        "$program" "$command" ${options[@]+"${options[@]}"} 2>"$part"
+        status=$?
+        [ ! -f "$part" ] || without_certificates "$left" <"$part" >&2
+        finish "$status" "$part" "$certificate"
+    else
+        {
+            "$program" "$command" ${options[@]+"${options[@]}"} 2>&1 >&3 3>&- | without_certificates "$left" >&2
+            status=${PIPESTATUS[0]}
+        } 3>&1
+        [ "$(cat "$left")" = 0 ] || tell "$(cat "$left") lines of certificates aren't shown; --certificate FILE keeps them"
+    fi
+    rm -f "$left"
+    return "$status"
+}
+
+# is_split: whether a stream has certificates that go elsewhere
+is_split() {
+    [ -n "$certificate" ] && return
+    case "$command" in
+        synth | equiv) [ -t 1 ] ;;
+        improve) [ -t 2 ] ;;
+        *) false ;;
+    esac
+}
+
+# answer_all: runs the program, and ends as it does
+answer_all() {
+    local part='' status
+    if [ -n "$answer" ]; then
+        part=$(part_of "$answer")
+        { : >"$part"; } 2>/dev/null || fail 6 WriteFault "$answer can't be written"
+        exec >"$part"
+    fi
+    if [ -n "$certificate" ]; then
+        { : >"$(part_of "$certificate")"; } 2>/dev/null || fail 6 WriteFault "$certificate can't be written"
+    fi
+    if is_split; then
+        case "$command" in improve) split_report ;; *) split_answer ;; esac
+    elif [ -n "$part" ]; then
+        "$program" "$command" ${options[@]+"${options[@]}"}
+    else
+        exec "$program" "$command" ${options[@]+"${options[@]}"}
+    fi
+    status=$?
+    [ -z "$part" ] || finish "$status" "$part" "$answer"
+    exit "$status"
+}
