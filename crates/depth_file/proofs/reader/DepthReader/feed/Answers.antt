@@ -7,3 +7,7 @@ pub returns-in-Ok-clause-read : goal.returns-in-Ok-clause-read
 returns-in-Ok-clause-read c = λ text stands.
     subst (λ (r : Reader). StandsFor r (text ++ c.args.piece.now)) (sym c.of.ensures)
     (c.in-Ok.ensures.read text (subst (λ (r : Reader). StandsFor r text) (sym c.pieces.ensures) stands))
+
+pub returns-in-Err-clause-read : goal.returns-in-Err-clause-read
+returns-in-Err-clause-read c = λ text stands.
+    c.in-Err.ensures.read text (subst (λ (r : Reader). StandsFor r text) (sym c.pieces.ensures) stands)
