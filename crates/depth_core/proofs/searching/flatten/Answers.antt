@@ -17,7 +17,7 @@ returns-in-Found-clause-flat g c =
     let logs = c.loop-levels.logs.items in
     let tried = subst (λ (level : Level). IsLevel h c.args.size k level) c.in-Found.is c.in_ok-chain.ensures in
     let deep : c.in_ok-levels-in-Found.levels ≡ depth chain = c.in_ok-levels-in-Found.ensures in
-    let kept : c.in_ok-parts-in-Found.parts.items ≡ filter (is_flatter (depth chain)) logs = c.in_ok-parts-in-Found.ensures ∙ ap (λ (d : ℕ). filter (is_flatter d) logs) deep in
+    let kept : c.in_ok-kept-in-Found.kept.items ≡ filter (is_flatter (depth chain)) logs = c.in_ok-kept-in-Found.ensures ∙ ap (λ (d : ℕ). filter (is_flatter d) logs) deep in
     subst (λ (ps : List PartLog). IsFlat h c.args.size chain ps) (sym kept) (flat_found h c.args.size k logs chain c.loop-levels.invariant tried.0 tried.1)
 
 pub loop-levels-preserved : goal.loop-levels-preserved
