@@ -77,6 +77,11 @@ without_certificates() {
         END { print out + 0 >left }'
 }
 
+# behind FILE: the plain file that a link leads to, else the file itself
+behind() {
+    if [ -L "$1" ] && [ -f "$1" ]; then readlink -f "$1"; else echo "$1"; fi
+}
+
 # part_of FILE: where what goes to it is written first; what is no plain file is written at once
 part_of() {
     if [ -e "$1" ] && [ ! -f "$1" ]; then echo "$1"; else echo "$1.part.$$"; fi
@@ -145,6 +150,8 @@ is_split() {
 # answer_all: runs the program, and ends as it does
 answer_all() {
     local part='' status
+    [ -z "$answer" ] || answer=$(behind "$answer")
+    [ -z "$certificate" ] || certificate=$(behind "$certificate")
     if [ -n "$answer" ]; then
         part=$(part_of "$answer")
         { : >"$part"; } 2>/dev/null || fail 6 WriteFault "$answer can't be written"
