@@ -20,7 +20,8 @@ equivalence checking. Every function of the program is formally verified.
   --where             the path of the program
   --build             proves and builds the program from the sources of this checkout
 
-Files come behind the options; without one, or for `-`, standard input is read. With each command:
+Files and options come after the command, in any order; without a file, or for `-`, standard input is
+read. With each command:
 
   -o FILE             the answer goes to FILE, which is written whole or not at all
   --certificate FILE  of synth, equiv and improve: the certificates go to FILE, and the chain, the

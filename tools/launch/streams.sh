@@ -7,20 +7,23 @@ fail() {
     exit "$1"
 }
 
-# end_of FILE: `ended` where a logical line of a BLIF netlist begins with the word .end, and `hanging` where that
-# line would go on behind the file; else `open`
+# end_of FILE: `ended` where a logical line of a BLIF netlist begins with the word .end, `more LINE` where a line
+# with words comes after that, and `hanging` where the line .end would go on after the file; else `open`
 end_of() {
     awk '
         { sub(/\r$/, ""); sub(/#.*/, ""); sub(/[ \t]+$/, "") }
         {
+            if (!goes_on) first = NR
             line = goes_on ? line " " $0 : $0
             goes_on = sub(/\\$/, " ", line)
-            split(line, word, " ")
-            if (!goes_on && word[1] == ".end") { found = 1; exit }
+            words = split(line, word, " ")
+            if (found && words) { more = first; exit }
+            if (!goes_on && word[1] == ".end") found = 1
         }
         END {
-            split(line, word, " ")
-            print found ? "ended" : (word[1] == ".end" ? "hanging" : "open")
+            if (more) print "more " more
+            else if (found) print "ended"
+            else print goes_on && word[1] == ".end" ? "hanging" : "open"
         }' "$1"
 }
 
@@ -43,9 +46,14 @@ open_files() {
         [ -e "$file" ] || fail 5 ReadFault "there is no file $file"
         [ ! -d "$file" ] || fail 5 ReadFault "$file is a folder"
         [ -r "$file" ] || fail 5 ReadFault "$file can't be read"
+        [ ! -f "$file" ] || [ -s "$file" ] || tell "$file is empty"
     done
     if [ ${#files[@]} = 2 ]; then
         [ "${files[0]}" != - ] && [ "${files[1]}" != - ] || refuse "of two netlists none can be standard input"
+        # what comes after the end of the first would be taken for the beginning of the second
+        local end
+        end=$(end_of "${files[0]}")
+        [ "${end% *}" != more ] || { echo "error: First Syntax ${end#more }" >&2; exit 2; }
         exec < <(both "${files[@]}")
     elif [ "${files[0]--}" != - ]; then
         exec <"${files[0]}"
