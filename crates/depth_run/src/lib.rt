@@ -7,8 +7,7 @@
 //! was given, or that of a valid certificate whose verdict is no minimum, and it refuses exactly what isn't tables
 //! alone.
 //!
-//! `specs/` has the laws of these texts, for the contracts of callers: a text is judged in one way at most and has one
-//! verdict at most, it spells its tables and its basis in lines of its own, and what its verdict says is true of them.
+//! `specs/Certifying.antt` says what such a certificate is, for the contracts of callers.
 //!
 //! ```text
 //! let certificate = certify_depth::<Cdcl>(alloc, b"inputs 2\n0110\n", &by_fences)?;
@@ -19,5 +18,4 @@
 mod certificate;
 
 pub use certificate::{DepthCertificate, Found, certify_depth};
-pub use depth_file::{DepthError, DepthReader, check_depth};
 pub use depth_theory::DepthVerdict;
