@@ -11,7 +11,7 @@ tell() {
 
 # copy_folder TOP: where the copy of a checkout lies; it is named by the path of the checkout
 copy_folder() {
-    local base=${XDG_CACHE_HOME:-${HOME:-/tmp/of-$(id -u)}/.cache}/batsokemi
+    local base=${XDG_CACHE_HOME:-${HOME:-$(dirname "$(mktemp -u)")/of-$(id -u)}/.cache}/batsokemi
     echo "${BATSOKEMI_BUILD:-$base/$(printf '%s' "$1" | sha256sum | cut -c1-12)}"
 }
 
