@@ -136,7 +136,8 @@ batsokemi improve [OPTION VALUE].. [NETLIST] [-o NETLIST]
 Reads a netlist in BLIF or BENCH and writes an equivalent one of the same format with no more gates, by
 exact resynthesis of windows of up to --cap gates. Its report goes to standard error:
 
-  gates A -> B       what the netlist cost, and what it costs now
+  gates A -> B       two-input gates before and after: a wider .names counts as several, a copy or a
+                     constant as none
   undecided G [P] C  the search of the window of C gates at G (and its partner P) spent its budget; its
                      certificate follows
   settled            no other window up to the cap has a smaller implementation
@@ -165,6 +166,9 @@ assignment of inputs and latches. Two files, or one text with both of which the 
   differ output Y    output Y differs (or `differ latch Q`) where the inputs and latches have the bits
                      of the next line, `at BITS`
   undecided          the budget was spent; the clauses that were learnt follow
+
+`DifferentInterface`: inputs, outputs and clocks, in order, and each latch's output, control and initial
+value have to be the same.
 
 END
     options_of equiv
