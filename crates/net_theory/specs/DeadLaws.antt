@@ -13,6 +13,7 @@ use Rattle.net_theory.specs.ReachLaws.{sink_in, in_sinks, reach_closed, marked_r
 use Rattle.net_theory.specs.Moving.{moved, moved_gate, nothing_kept}
 use Rattle.net_theory.specs.MovingLaws.{Goes, IsMade, IsMarked, Moves, IsSourcePlace, moves_less, moved_below, moved_value, moves_start, net_movable, keep_all, count_kept, marked_few, kept_goes, kept_made, places_low, source_stays}
 use Rattle.net_theory.specs.Dead.{kept_gates, dropped}
+use Rattle.net_theory.specs.Operators.{HasOperator}
 use Rattle.net_theory.specs.Answers.{IsStill, Answers, IsPruned}
 
 -- ---- what dropping does
@@ -166,8 +167,8 @@ dropped_is n net =
     }
 
 -- The gates that are left have operators of the old gates.
-pub dropped_operators : (n : Net) (j : ℕ) (h : Gate) → IsNet n → slice_get (dropped n).gates j ≡ Some h → (i : ℕ) × (g : Gate) × (slice_get n.gates i ≡ Some g) × (h.op ≡ g.op)
+pub dropped_operators : (n : Net) (op : ℕ) → IsNet n → HasOperator (dropped n) op → HasOperator n op
 unfolding dropped
-dropped_operators n j h net at =
-    let made = made_by n j h net at in
-    (made.index, made.gate, made.at, ap (λ (x : Gate). x.op) made.is)
+dropped_operators n op net has =
+    let made = made_by n has.index has.gate net has.at in
+    record { index = made.index; gate = made.gate; at = made.at; same = sym (ap (λ (x : Gate). x.op) made.is) ∙ has.same }
