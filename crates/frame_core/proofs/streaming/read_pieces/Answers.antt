@@ -1,5 +1,5 @@
 -- With each turn a piece more was taken, and with the last none is left.
-use Rattle.std.proofs.Common.{◌≡◌, ℕ, ◌≤◌, ◌<◌, List, [], ◌∷◌, Result, Ok, Err, IsErrAnd, IsErrOf, refl, length, rules, subst, sym, arith, ap, ◌∙◌}
+use Rattle.std.proofs.Common.{◌≡◌, ℕ, ◌≤◌, List, [], ◌∷◌, Result, Ok, Err, IsErrAnd, IsErrOf, refl, length, rules, subst, sym, arith, ap, ◌∙◌}
 use Rattle.port_io.specs.Bytes.{Consumes}
 use Rattle.port_io.specs.declared.reading.ReadError.TheVariants.{TooLong}
 use Rattle.frame_core.proofs.Streams.{taking_none, taking_more, taking_all, taking_long}
