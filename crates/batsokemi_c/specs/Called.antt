@@ -28,7 +28,7 @@ abbrev pub seen : Store → Side
 seen sink = holding sink.written sink.schedule.faults
 
 -- The program ran with these words, its source held the input, and it kept its promises.
-pub record IsRun (command input : List ℕ) (out out' note note' : Store) (status : Status) : Type 0 where
+pub record HasRun (command input : List ℕ) (out out' note note' : Store) (status : Status) : Type 0 where
   pub words : List (List ℕ)
   pub are_words : AreWords command words
   pub left : Side
@@ -41,7 +41,7 @@ pub record IsStarved (out out' note note' : Store) (status : Status) : Type 0 wh
   pub on_note : note' ≡ note
 
 abbrev pub IsCalled : List ℕ → List ℕ → Store → Store → Store → Store → Status → Type 0
-IsCalled command input out out' note note' status = IsRun command input out out' note note' status ⊎ IsStarved out out' note note' status
+IsCalled command input out out' note note' status = HasRun command input out out' note note' status ⊎ IsStarved out out' note note' status
 
 -- The text stands at the start of the buffer, and where it has no room there, the buffer is as before.
 pub record IsPut (text old new : List ℕ) : Type 0 where
