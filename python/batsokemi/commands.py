@@ -33,7 +33,7 @@ def synth(
     basis: Basis | None = None,
     method: Method | None = None,
     conflicts: int | None = None,
-    max: int | None = None,  # pylint: disable=redefined-builtin
+    max: int | None = None,
     least_depth: bool = False,
     engine: Engine | None = None,
 ) -> Result:
@@ -85,7 +85,7 @@ def agree(tables: TablesLike, chain: Chain | str, *, inputs: int | None = None, 
 def improve(
     text: Netlist,
     *,
-    format: Literal['blif', 'bench'] | None = None,  # pylint: disable=redefined-builtin
+    format: Literal['blif', 'bench'] | None = None,
     basis: Basis | None = None,
     method: Method | None = None,
     cap: int | None = None,
