@@ -85,8 +85,8 @@ struct batsokemi_answer {
  * overlaps no other one. A length is at most PTRDIFF_MAX.
  *
  * Threads: the library has no state. Calls in any number of threads, each with buffers of its own, don't meet; they may
- * read the same command and the same input. It isn't to be called from a signal handler. A call needs less than
- * BATSOKEMI_STACK bytes of stack.
+ * read the same command and the same input. It isn't to be called from a signal handler. BATSOKEMI_STACK bytes of stack
+ * are enough: that is measured, over all commands and the largest netlists, and not proved.
  *
  * A call takes as long as the command does, and can't be stopped; `--conflicts` and `--max` bound it. It blocks on
  * nothing, reads no file, no clock and no environment, and never ends the process.

@@ -151,8 +151,10 @@ def find_program() -> str | None:
 
 
 def usual_engine() -> Engine:
-    """The library where it is found and can be loaded, else the program."""
+    """The library where it is found and can be loaded, else the program. One that is named by BATSOKEMI_LIBRARY has to be."""
     try:
         return Library()
     except OSError:
+        if os.environ.get('BATSOKEMI_LIBRARY'):
+            raise
         return Process()
