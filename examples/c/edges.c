@@ -1,12 +1,10 @@
 /*
- * edges [TURNS]: what the header says of buffers without room, of NULL, of memory and of threads, tried; of memory by so
- * many calls (10,000).
+ * edges: what the header says of buffers without room, of NULL and of threads, tried.
  *
  * Prints a line for each thing that isn't so. Status 0 where all is; 1 where something isn't.
  */
 #include "batsokemi.h"
 
-#include <malloc.h>
 #include <pthread.h>
 #include <stdio.h>
 #include <stdlib.h>
@@ -116,29 +114,6 @@ static int asks(void)
     return answer.status == BATSOKEMI_DONE && answer.output == 10 && !memcmp(verdict, "minimum 1\n", 10);
 }
 
-/*
- * What malloc has given out, in bytes. Blocks that glibc keeps for a thread's next call count too, so it has to run with
- * GLIBC_TUNABLES=glibc.malloc.tcache_count=0. With the sanitizer of addresses it is 0, and that one tells of leaks.
- */
-static size_t in_use(void)
-{
-    struct mallinfo2 info = mallinfo2();
-
-    return info.uordblks + info.hblkhd;
-}
-
-static void repeated(int turns)
-{
-    size_t before;
-    int fine = asks(), turn;
-
-    before = in_use();
-    for (turn = 0; turn < turns; turn++)
-        fine = asks() && fine;
-    expect(fine, "many calls with one answer");
-    expect(in_use() == before, "they leave no byte allocated");
-}
-
 static void *asks_often(void *fine)
 {
     int turn;
@@ -169,12 +144,11 @@ static void threads(void)
     pthread_attr_destroy(&attributes);
 }
 
-int main(int count, char **words)
+int main(void)
 {
     rooms();
     note_rooms();
     commands();
-    repeated(count > 1 ? atoi(words[1]) : 10000);
     threads();
     return failed;
 }
