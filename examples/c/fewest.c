@@ -1,6 +1,8 @@
 /*
  * fewest [TABLES]: the fewest steps for the truth tables of a file (the full adder where none is named).
  *
+ *     cc -Iinclude examples/c/fewest.c prebuilt/x86_64-linux/libbatsokemi.a -o fewest
+ *
  * Asks the library for a chain, prints it with its verdict, and lets a second call recheck the certificate. Status 0; 1
  * where there is no answer; 2 where the file can't be read.
  */
