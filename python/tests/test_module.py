@@ -12,6 +12,7 @@ import threading
 import unittest
 import zipfile
 from pathlib import Path
+from unittest import mock
 
 import batsokemi
 from batsokemi import chain, commands, engine, pool, results, tables
@@ -249,6 +250,20 @@ class Runs(unittest.TestCase):
             self.assertEqual(ran.stdout.decode(), '1\t0110\tminimum 1\n2\t0001,0111\tminimum 2\n3\t0xe8\tminimum 4\n')
             self.assertEqual(ran.stderr.decode(), '3 questions: 3 minimum\n')
             self.assertEqual(str(batsokemi.recheck(Path(folder, '3.chains').read_bytes())), 'minimum 4')
+
+
+@unittest.skipUnless(engine.find_library(), 'no library is here')
+class Rooms(unittest.TestCase):
+    def test_too_small(self) -> None:
+        """An answer that has no room is asked for again, with room."""
+        with mock.patch.object(engine, 'ROOM', 8):
+            self.assertEqual(batsokemi.Library().run(['agree'], b'').notes, b'error: BadHeader 1\n')
+            self.assertEqual(str(batsokemi.synth('0110', engine=batsokemi.Library()).verdict), 'minimum 1')
+
+    def test_buffers_are_let_go(self) -> None:
+        made = batsokemi.Library()
+        with mock.patch.object(engine, 'KEPT', 8):
+            self.assertEqual({str(batsokemi.synth('0110', engine=made).verdict) for _ in range(3)}, {'minimum 1'})
 
 
 @unittest.skipUnless(engine.find_library(), 'no library is here')
