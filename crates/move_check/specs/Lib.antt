@@ -1,0 +1,4 @@
+pub mod Operators
+pub mod Sinks
+pub mod SinkLaws
+pub mod JudgingLaws
