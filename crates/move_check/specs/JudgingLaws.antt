@@ -1,6 +1,7 @@
 -- A candidate whose sinks have the net's values can stand in the net's place.
-use Rattle.std.specs.Prelude.{◌≡◌, ℕ, ◌≤◌, Bool, true, List, length, slice_get, Some, ◌⊎◌}
+use Rattle.std.specs.Prelude.{◌≡◌, ℕ, ◌≤◌, Bool, true, List, ◌∷◌, length, slice_get, Some, ◌⊎◌}
 use Rattle.std.proofs.Common.{arith, sym, ◌∙◌, subst, ap}
+use Rattle.std.proofs.lemmas.List.Elements.{All-cons}
 use Rattle.std.proofs.lemmas.Grind.{common_steps}
 use Rattle.chain_theory.specs.Operator.{Basis}
 use Rattle.net_theory.specs.declared.data.Gate.{Gate}
@@ -12,6 +13,8 @@ use Rattle.net_theory.specs.Dead.{dropped}
 use Rattle.net_theory.specs.DeadLaws.{dropped_operators}
 use Rattle.equiv_theory.specs.Difference.{AreComparable}
 use Rattle.move_check.specs.Operators.{HasOperator, HasOperatorsWithin, AreAllowed}
+use Rattle.equiv_core.specs.Limits.{AreSmall}
+use Rattle.move_check.specs.Fitting.{IsFit}
 use Rattle.move_check.specs.Sinks.{HasSinksOf}
 
 pub comparable_nets : (n m : Net) → IsNet n → IsNet m → HasSinksOf n m → AreComparable n m
@@ -45,4 +48,14 @@ judged_operators basis n c m k net within gates exact = record {
 pub within : (basis : Basis) (n m : Net) → AreAllowed basis n m.gates → HasOperatorsWithin basis n m
 within basis n m all = record { each = λ i g at. all_at (λ x. (basis x.op ≡ true) ⊎ HasOperator n x.op) m.gates i g all at }
 
-pub ruleset judging = (common_steps, comparable_nets, judged_pruned, judged_operators)
+pub allowed_more : (basis : Basis) (n : Net) (g : Gate) (rest left : List Gate) → left ≡ g ∷ rest → (basis g.op ≡ true) ⊎ HasOperator n g.op → AreAllowed basis n rest → AreAllowed basis n left
+allowed_more basis n g rest left split here all = subst (AreAllowed basis n) (sym split) (All-cons (λ x. (basis x.op ≡ true) ⊎ HasOperator n x.op) g rest here all)
+
+pub small_with : (n c m : Net) → AreSmall n c → m.gates ≡ c.gates → AreSmall n m
+small_with n c m small same = record { small = small.small; first_gates = small.first_gates; second_gates = omega (arith, small.second_gates, ap (length {A = Gate}) same) }
+
+-- what is left of a candidate that was fit, has the net's sinks and their values
+pub judged_is : (basis : Basis) (n c m k : Net) → IsFit basis n c → IsNet m → m.gates ≡ c.gates → HasSinksOf n m → ((given : ℕ → Bool) → sink_values n given ≡ sink_values m given) → IsPruned m k → IsPruned n k
+judged_is basis n c m k fit net gates has same pruned = judged_pruned n m k net has (omega (arith, fit.fewer, ap (length {A = Gate}) gates)) same pruned
+
+pub ruleset judging = (common_steps, comparable_nets, small_with, judged_is, judged_operators)

@@ -74,11 +74,6 @@ has_sinks n m end places sources same is = record {
 }
 
 pub sink_within : (n : Net) (i : ℕ) (d : Sig) → IsNet n → i < length n.sinks → IsSigBelow (end_of n) (slice_index_or n.sinks i d)
-sink_within n i d net low = all_index n.sinks i d net.sinks low
-  where
-    all_index : (ss : List Sig) (i : ℕ) (d : Sig) → All (IsSigBelow (end_of n)) ss → i < length ss → IsSigBelow (end_of n) (slice_index_or ss i d)
-    all_index [] i d all low = absurd (omega arith)
-    all_index (s ∷ ss) zero d all low = all.0
-    all_index (s ∷ ss) (suc i) d all low = all_index ss i d all.1 (omega arith)
+sink_within n i d net low = net.sinks i d low
 
 pub ruleset mapping = (common_steps, map_start, map_put, sink_within, sinks_below, has_sinks)

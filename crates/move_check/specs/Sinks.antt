@@ -2,7 +2,7 @@
 use Rattle.std.specs.Prelude.{◌≡◌, ℕ, ◌≤◌, length, slice_get, slice_index_or, Some, ◌<◌}
 use Rattle.net_theory.specs.declared.data.Sig.{Sig}
 use Rattle.net_theory.specs.declared.data.Sig.TheVariants.{Place}
-use Rattle.net_theory.specs.Net.{Net, IsSigBelow, end_of}
+use Rattle.net_theory.specs.Net.{Net, IsSigBelow}
 use Rattle.net_theory.specs.Answers.{IsStill}
 
 -- sources stay, and each place has a signal below `end`

@@ -5,6 +5,7 @@ ghost use Rattle.net_theory.specs.Answers.{IsPruned};
 ghost use Rattle.op_basis.specs.Basis.{members};
 ghost use Rattle.equiv_core.specs.Limits.{AreSmall};
 ghost use Rattle.move_check.specs.Operators.{HasOperatorsWithin};
+ghost use Rattle.move_check.specs.Fitting.{IsFit};
 
 use crate::operators::has_operators_within;
 use crate::sinks::with_sinks_of;
@@ -28,6 +29,16 @@ fn are_small(first: &Net, second: &Net) -> bool
         && second.gates().len() <= MOST_GATES
 }
 
+/// Whether a candidate may be compared at all.
+fn is_fit(net: &Net, candidate: &Net, basis: Basis) -> bool
+    ensures { result ≡ true → IsFit (members basis) net.now candidate.now }
+{
+    candidate.sources() == net.sources()
+        && candidate.gates().len() <= net.gates().len()
+        && are_small(net, candidate)
+        && has_operators_within(net, candidate, basis)
+}
+
 /// The candidate without its dead gates, where it may take the net's place: it is found to be equivalent with at most
 /// `budget` learnt clauses, from 1 to 10,000,000, it has no more gates, and operators of the basis or of the net. None
 /// where it may not.
@@ -43,15 +54,15 @@ pub fn judged<S: Solver>(
     ensures pruned { IfOk result (λ found. IfSome found (IsPruned net.now)) }
     ensures operators { IfOk result (λ found. IfSome found (HasOperatorsWithin (members basis) net.now)) }
 {
-    let fits = candidate.sources() == net.sources()
-        && candidate.gates().len() <= net.gates().len()
-        && are_small(net, &candidate)
-        && has_operators_within(net, &candidate, basis);
-    if !fits {
+    if !is_fit(net, &candidate, basis) {
         return Ok(None);
     }
     let judged = with_sinks_of(alloc, net, candidate)?;
-    if !equal_nets::<S>(alloc, net, &judged, budget)? {
+    // bring the type invariants into the proof
+    let _gates = net.gates();
+    let _sinks = judged.sinks();
+    let same = equal_nets::<S>(alloc, net, &judged, budget)?;
+    if !same {
         return Ok(None);
     }
     Ok(Some(drop_dead(alloc, &judged)?))

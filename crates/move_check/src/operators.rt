@@ -1,5 +1,5 @@
 //! Whether all operators of a candidate may stand there.
-ghost use Rattle.std.specs.Prelude.{◌≡◌, true};
+ghost use Rattle.std.specs.Prelude.{◌≡◌, ◌⊎◌, true};
 ghost use Rattle.op_basis.specs.Basis.{members};
 ghost use Rattle.move_check.specs.Operators.{HasOperator, HasOperatorsWithin, AreAllowed};
 
@@ -20,13 +20,20 @@ fn has_operator(net: &Net, op: Op) -> bool
     false
 }
 
+/// Whether an operator is of the basis, or one of the net's.
+fn is_allowed(net: &Net, op: Op, basis: Basis) -> bool
+    ensures { result ≡ true → (members basis op ≡ true) ⊎ HasOperator net.now op }
+{
+    basis.contains(op) || has_operator(net, op)
+}
+
 /// Whether each gate's operator is of the basis, or one of the net's.
 fn are_allowed(net: &Net, gates: &[Gate], basis: Basis) -> bool
     ensures { result ≡ true → AreAllowed (members basis) net.now gates.now }
 {
     let mut left = gates;
     while let Some((gate, rest)) = left.split_first() {
-        if !basis.contains(gate.op) && !has_operator(net, gate.op) {
+        if !is_allowed(net, gate.op, basis) {
             return false;
         }
         left = rest;
