@@ -55,7 +55,7 @@ fn difference_of(
 
 /// What the solver `S` answers of the miter `cnf` of two nets.
 #[tactic(auto, using(crate::specs::SinkLaws::miter_variables))]
-fn compare<S: Solver>(
+pub(crate) fn compare<S: Solver>(
     alloc: Global,
     first: &Net,
     second: &Net,

@@ -15,13 +15,14 @@
 //! ```
 //!
 //! - `src/rows.rt`, `src/mitering.rt`: the clauses. `src/interface.rt`: whether two circuits have one interface.
-//! - `src/values.rt`: where two nets differ. `src/comparing.rt`: the three answers.
+//! - `src/values.rt`: where two nets differ. `src/comparing.rt`: the three answers; `src/nets.rt`: of nets, without a log.
 #![tactic(auto)]
 
 mod answer;
 mod comparing;
 mod interface;
 mod mitering;
+mod nets;
 mod numbering;
 mod rows;
 mod values;
@@ -29,3 +30,4 @@ mod values;
 pub use answer::{Equiv, EquivError};
 pub use comparing::equiv;
 pub use mitering::miter;
+pub use nets::equal_nets;

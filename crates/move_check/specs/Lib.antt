@@ -1,0 +1,5 @@
+pub mod Operators
+pub mod Fitting
+pub mod Sinks
+pub mod SinkLaws
+pub mod JudgingLaws
