@@ -8,7 +8,7 @@ use Rattle.net_theory.specs.declared.data.Sig.{Sig}
 use Rattle.net_theory.specs.declared.data.Sig.TheVariants.{Zero, One, Place}
 use Rattle.net_theory.specs.declared.data.Gate.{Gate}
 use Rattle.net_theory.specs.Net.{Net, IsNet, IsSigBelow, IsGateAt, end_of, sig_value, values_of, value}
-use Rattle.net_theory.specs.NameLaws.{all_at, at_all, map_at, at_map}
+use Rattle.net_theory.specs.NameLaws.{all_at, at_all, map_at, at_map, index_map}
 use Rattle.net_theory.specs.ValueLaws.{IsGrown, grown_none, grown_push, grown_sig, grown_below, at_push, values_after-gate}
 use Rattle.net_theory.specs.Answers.{IsStill, Answers}
 use Rattle.net_theory.specs.Operators.{HasOperator}
@@ -143,11 +143,6 @@ map_values : (f g : Sig → Bool) (move : Sig → Sig) (ss : List Sig) → ((i :
 map_values f g move [] same = refl
 map_values f g move (s ∷ ss) same =
     rw (same 0 s refl, map_values f g move ss (λ i t e. same (suc i) t e)) refl
-
-index_map : (f : Sig → Sig) (ss : List Sig) (i : ℕ) (d : Sig) → i < length ss → slice_index_or (map f ss) i d ≡ f (slice_index_or ss i d)
-index_map f [] i d low = absurd (omega arith)
-index_map f (s ∷ ss) zero d low = refl
-index_map f (s ∷ ss) (suc i) d low = index_map f ss i d (omega arith)
 
 still_moved : (n : Net) (k : Kept) (s : Sig) → IsMerged n (end_of n) k → IsStill n.sources s → moved k.places s ≡ s
 still_moved n k Zero is still = refl

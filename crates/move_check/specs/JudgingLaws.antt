@@ -1,18 +1,19 @@
 -- A candidate whose sinks have the net's values can stand in the net's place.
-use Rattle.std.specs.Prelude.{◌≡◌, ℕ, ◌≤◌, Bool, true, List, ◌∷◌, length, slice_get, Some, ◌⊎◌}
+use Rattle.std.specs.Prelude.{◌≡◌, ℕ, ◌≤◌, Bool, true, List, ◌∷◌, length, slice_get, Some, ◌⊎◌, refl}
 use Rattle.std.proofs.Common.{arith, sym, ◌∙◌, subst, ap}
 use Rattle.std.proofs.lemmas.List.Elements.{All-cons}
 use Rattle.std.proofs.lemmas.Grind.{common_steps}
 use Rattle.chain_theory.specs.Operator.{Basis}
 use Rattle.net_theory.specs.declared.data.Gate.{Gate}
 use Rattle.net_theory.specs.Net.{Net, IsNet, sink_values}
+use Rattle.net_theory.specs.Operators.{HasOperator, HasOperatorsWithin}
 use Rattle.net_theory.specs.NameLaws.{all_at}
 use Rattle.net_theory.specs.Answers.{Answers, IsPruned}
 use Rattle.net_theory.specs.ExchangeLaws.{answers_on}
 use Rattle.net_theory.specs.Dead.{dropped}
 use Rattle.net_theory.specs.DeadLaws.{dropped_operators}
 use Rattle.equiv_theory.specs.Difference.{AreComparable}
-use Rattle.move_check.specs.Operators.{HasOperator, HasOperatorsWithin, AreAllowed}
+use Rattle.move_check.specs.Allowed.{AreAllowed}
 use Rattle.equiv_core.specs.Limits.{AreSmall}
 use Rattle.move_check.specs.Fitting.{IsFit}
 use Rattle.move_check.specs.Sinks.{HasSinksOf}
@@ -40,9 +41,9 @@ judged_pruned n m k net has few same pruned = record {
 pub judged_operators : (basis : Basis) (n c m k : Net) → IsNet m → HasOperatorsWithin basis n c → m.gates ≡ c.gates → k ≡ dropped m → HasOperatorsWithin basis n k
 judged_operators basis n c m k net within gates exact = record {
   each = λ i g at.
-      let was = dropped_operators m i g net (subst (λ (x : Net). slice_get x.gates i ≡ Some g) exact at) in
-      let first = within.each was.0 was.1 (sym (ap (λ (gs : List Gate). slice_get gs was.0) gates) ∙ was.2) in
-      subst (λ (op : ℕ). (basis op ≡ true) ⊎ HasOperator n op) (sym was.3) first;
+      let has : HasOperator m g.op = dropped_operators m g.op net (record { index = i; gate = g; at = subst (λ (x : Net). slice_get x.gates i ≡ Some g) exact at; same = refl }) in
+      subst (λ (op : ℕ). (basis op ≡ true) ⊎ HasOperator n op) has.same
+      (within.each has.index has.gate (sym (ap (λ (gs : List Gate). slice_get gs has.index) gates) ∙ has.at));
 }
 
 pub within : (basis : Basis) (n m : Net) → AreAllowed basis n m.gates → HasOperatorsWithin basis n m

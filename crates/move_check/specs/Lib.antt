@@ -1,4 +1,4 @@
-pub mod Operators
+pub mod Allowed
 pub mod Fitting
 pub mod Sinks
 pub mod SinkLaws

@@ -7,16 +7,11 @@ use Rattle.std.proofs.lemmas.Grind.{common_steps}
 use Rattle.net_theory.specs.declared.data.Sig.{Sig}
 use Rattle.net_theory.specs.declared.data.Sig.TheVariants.{Zero, One, Place}
 use Rattle.net_theory.specs.Net.{Net, IsNet, IsSigBelow, end_of}
-use Rattle.net_theory.specs.NameLaws.{all_at, at_all, map_at, at_map}
+use Rattle.net_theory.specs.NameLaws.{all_at, at_all, map_at, at_map, index_map}
 use Rattle.net_theory.specs.Answers.{IsStill}
 use Rattle.net_theory.specs.Moving.{moved, sources_stay}
 use Rattle.net_core.specs.Marks.{places_of}
 use Rattle.move_check.specs.Sinks.{IsSinkMap, HasSinksOf}
-
-index_map : (f : Sig → Sig) (ss : List Sig) (i : ℕ) (d : Sig) → i < length ss → slice_index_or (map f ss) i d ≡ f (slice_index_or ss i d)
-index_map f [] i d low = absurd (omega arith)
-index_map f (s ∷ ss) zero d low = refl
-index_map f (s ∷ ss) (suc i) d low = index_map f ss i d (omega arith)
 
 -- ---- the map
 

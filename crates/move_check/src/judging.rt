@@ -4,7 +4,7 @@ ghost use Rattle.sat_solve.specs.Budgets.{most_budget};
 ghost use Rattle.net_theory.specs.Answers.{IsPruned};
 ghost use Rattle.op_basis.specs.Basis.{members};
 ghost use Rattle.equiv_core.specs.Limits.{AreSmall};
-ghost use Rattle.move_check.specs.Operators.{HasOperatorsWithin};
+ghost use Rattle.net_theory.specs.Operators.{HasOperatorsWithin};
 ghost use Rattle.move_check.specs.Fitting.{IsFit};
 
 use crate::operators::has_operators_within;

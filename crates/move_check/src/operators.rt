@@ -1,7 +1,8 @@
 //! Whether all operators of a candidate may stand there.
 ghost use Rattle.std.specs.Prelude.{◌≡◌, ◌⊎◌, true};
 ghost use Rattle.op_basis.specs.Basis.{members};
-ghost use Rattle.move_check.specs.Operators.{HasOperator, HasOperatorsWithin, AreAllowed};
+ghost use Rattle.net_theory.specs.Operators.{HasOperator, HasOperatorsWithin};
+ghost use Rattle.move_check.specs.Allowed.{AreAllowed};
 
 use net_core::{Gate, Net, Op};
 use op_basis::Basis;

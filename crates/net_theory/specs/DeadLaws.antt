@@ -7,7 +7,7 @@ use Rattle.net_theory.specs.declared.data.Sig.{Sig}
 use Rattle.net_theory.specs.declared.data.Sig.TheVariants.{Zero, One, Place}
 use Rattle.net_theory.specs.declared.data.Gate.{Gate}
 use Rattle.net_theory.specs.Net.{Net, IsNet, IsSigBelow, end_of, sig_value, values_of, sink_values, value}
-use Rattle.net_theory.specs.NameLaws.{all_at, at_all, map_at, at_map}
+use Rattle.net_theory.specs.NameLaws.{all_at, at_all, map_at, at_map, index_map}
 use Rattle.net_theory.specs.Reach.{ReadsPlace, IsClosedFrom, IsReached, is_sink, live}
 use Rattle.net_theory.specs.ReachLaws.{sink_in, in_sinks, reach_closed, marked_reached}
 use Rattle.net_theory.specs.Moving.{moved, moved_gate, nothing_kept}
@@ -138,11 +138,6 @@ some_there : {A : Type 0} (xs : List A) (i : ℕ) → i < length xs → (x : A) 
 some_there [] i low = absurd (omega arith)
 some_there (x ∷ xs) zero low = (x, refl)
 some_there (x ∷ xs) (suc i) low = some_there xs i (omega arith)
-
-index_map : (f : Sig → Sig) (ss : List Sig) (i : ℕ) (d : Sig) → i < length ss → slice_index_or (map f ss) i d ≡ f (slice_index_or ss i d)
-index_map f [] i d low = absurd (omega arith)
-index_map f (s ∷ ss) zero d low = refl
-index_map f (s ∷ ss) (suc i) d low = index_map f ss i d (omega arith)
 
 dropped_answers : (n : Net) → IsNet n → Answers n (dropped n)
 unfolding dropped

@@ -1,6 +1,6 @@
 use Rattle.std.proofs.Common.{length}
 use Rattle.op_basis.specs.Basis.{members}
-use Rattle.move_check.specs.Operators.{AreAllowed}
+use Rattle.move_check.specs.Allowed.{AreAllowed}
 use Rattle.move_check.proofs.operators.are_allowed.Given as goal
 
 abbrev pub invariant-loop-gate : goal.invariant-loop-gate
