@@ -1,5 +1,12 @@
 pub mod Short
 pub mod Steps
-pub mod WordLaws
-pub mod ShortLaws
+pub mod Trails
+pub mod Walks
+pub mod Outs
 pub mod SearchLaws
+pub mod WordLaws
+pub mod TrailLaws
+pub mod OutLaws
+pub mod WalkLaws
+pub mod TargetLaws
+pub mod ShortLaws
