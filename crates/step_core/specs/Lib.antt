@@ -2,11 +2,15 @@ pub mod Short
 pub mod Steps
 pub mod Trails
 pub mod Walks
+pub mod Rules
 pub mod Outs
+pub mod Cuts
 pub mod SearchLaws
 pub mod WordLaws
 pub mod TrailLaws
 pub mod OutLaws
 pub mod WalkLaws
 pub mod TargetLaws
+pub mod CutLaws
+pub mod ReducedLaws
 pub mod ShortLaws

@@ -1,11 +1,9 @@
 -- Outs of outputs: trivial ones, and those of steps.
-use Rattle.std.proofs.Common.{◌≡◌, ℕ, zero, suc, ◌+◌, ◌-◌, ◌^◌, ◌≤◌, ◌<◌, true, false, Bool, not, List, [], ◌∷◌, ◌++◌, length, Option, Some, None, refl, sym, ap, ◌∙◌, subst, arith, inl, inr}
+use Rattle.std.proofs.Common.{◌≡◌, ℕ, ◌+◌, ◌-◌, ◌≤◌, ◌<◌, true, false, Bool, not, List, [], ◌∷◌, ◌++◌, length, Option, Some, None, refl, sym, ap, ◌∙◌, subst, arith, inl, inr}
 use Rattle.std.specs.Prelude.{slice_index_or}
-use Rattle.std.proofs.lemmas.Grind.{common_steps}
 use Rattle.std.proofs.lemmas.Bool.{cases_lt}
 use Rattle.std.proofs.lemmas.List.{get_or_push, get_or_append_left, length_push}
 use Rattle.chain_theory.specs.Operator.{digit}
-use Rattle.chain_theory.specs.Specification.{input}
 use Rattle.chain_theory.specs.Chain.{Step, AreSteps, NamesPlace}
 use Rattle.chain_theory.specs.Value.{values_on}
 use Rattle.chain_theory.specs.Agreement.{is_met as is_met_by}
@@ -18,8 +16,7 @@ use Rattle.tt_core.specs.Live.{is_live, is_none, trivial_of, trivial_value, IsTr
 use Rattle.tt_core.specs.Laws.{fits_meets}
 use Rattle.tt_core.specs.FirstFitLaws.{found_first}
 use Rattle.tt_core.specs.RowLaws.{row_below}
-use Rattle.step_core.specs.Steps.{misses, meets_at, word_in, is_met}
-use Rattle.step_core.specs.Trails.{Trailed, IsTrail}
+use Rattle.step_core.specs.Steps.{misses, meets_at, word_in}
 use Rattle.step_core.specs.Outs.{HasValues, IsOutFor, AreOuts}
 use Rattle.step_core.specs.SearchLaws.{passing}
 use Rattle.step_core.specs.WordLaws.{word_row, not_missed}

@@ -10,7 +10,7 @@ use Rattle.chain_theory.specs.declared.data.Out.{Out}
 use Rattle.chain_theory.specs.declared.data.Out.TheVariants as kinds
 use Rattle.chain_laws.specs.Bodies.{out_value_is}
 use Rattle.tt_core.specs.Words.{Words, IsSpec, specification, cell_of}
-use Rattle.tt_core.specs.Live.{is_live, live_outputs, live_words, words_of}
+use Rattle.tt_core.specs.Live.{live_outputs, live_words, words_of}
 use Rattle.tt_core.specs.LiveLaws.{words_count}
 use Rattle.tt_core.specs.LiveOutputLaws.{live_is_among}
 use Rattle.bound_core.specs.Counts.{some_below}

@@ -1,5 +1,5 @@
 -- Steps with the words of their values: row t of a word is the binary digit that stands for 2 ^ t.
-use Rattle.std.specs.Prelude.{◌≡◌, ℕ, ◌+◌, ◌-◌, ◌<◌, ◌≤◌, ◌==◌, Bool, true, not, List, ◌∷◌, ◌++◌, length, All, slice_index, bit_and, bit_xor}
+use Rattle.std.specs.Prelude.{◌≡◌, ℕ, ◌+◌, ◌-◌, ◌==◌, Bool, true, not, List, length, All, slice_index, bit_and, bit_xor}
 use Rattle.chain_theory.specs.Operator.{Basis}
 use Rattle.chain_theory.specs.Chain.{Step, AreSteps}
 use Rattle.chain_laws.specs.Follow.{run}

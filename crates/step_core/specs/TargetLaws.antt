@@ -1,17 +1,19 @@
 -- The steps of a chain that agrees with the live outputs are looked for.
-use Rattle.std.proofs.Common.{◌≡◌, ℕ, zero, suc, ◌+◌, ◌-◌, ◌^◌, ◌≤◌, ◌<◌, true, false, Bool, not, List, [], ◌∷◌, length, All, map, Option, None, Some, refl, sym, ap, ◌∙◌, subst, arith, inl, inr}
+use Rattle.std.proofs.Common.{◌≡◌, ℕ, ◌+◌, ◌-◌, ◌^◌, ◌≤◌, ◌<◌, true, false, not, List, [], length, map, Option, None, Some, refl, sym, ap, ◌∙◌, subst, arith, inl, inr}
 use Rattle.std.specs.Prelude.{slice_index, slice_index_or}
 use Rattle.std.proofs.lemmas.Bool.{cases_lt}
-use Rattle.std.proofs.lemmas.List.{get_or-map, length-map, get_or_default}
+use Rattle.std.proofs.lemmas.List.{get_or-map, length-map}
 use Rattle.std.proofs.lemmas.List.Elements.{Contains-get_or, All-get_or}
 use Rattle.chain_theory.specs.Operator.{Basis, digit}
 use Rattle.chain_theory.specs.Specification.{Specification, input}
-use Rattle.chain_theory.specs.Chain.{Step, Chain, AreSteps, IsChain, NamesPlace}
-use Rattle.chain_theory.specs.Value.{value, values_on, out_value}
+use Rattle.chain_theory.specs.Chain.{Step, Chain, AreSteps, NamesPlace}
+use Rattle.chain_theory.specs.Value.{values_on, out_value}
 use Rattle.chain_theory.specs.ValueLaws.{value-input}
 use Rattle.chain_theory.specs.Agreement.{is_met as is_met_by, Agrees, HasChain, NoneBelow}
 use Rattle.chain_theory.specs.declared.data.Out.{Out}
 use Rattle.chain_theory.specs.declared.data.Out.TheVariants as kinds
+use Rattle.chain_laws.specs.Reduced.{IsReduced, HasReducedChain}
+use Rattle.chain_laws.specs.Least.{minimum_is_reduced}
 use Rattle.tt_core.specs.Words.{Words, IsSpec, specification, cell_of}
 use Rattle.tt_core.specs.Live.{trivial_value, fits, trivial_of, is_none, is_live, live_outputs, live_words, IsTrivial}
 use Rattle.tt_core.specs.Laws.{meets_fits}
@@ -19,9 +21,8 @@ use Rattle.tt_core.specs.FirstFitLaws.{none_fits}
 use Rattle.tt_core.specs.LiveLaws.{words_count, live_cells}
 use Rattle.tt_core.specs.LiveOutputLaws.{among_live}
 use Rattle.tt_core.specs.RowLaws.{row_below}
-use Rattle.bound_core.specs.Counts.{some_below}
 use Rattle.bound_core.specs.CountLaws.{passes_some}
-use Rattle.step_core.specs.Steps.{IsServing, misses, meets_at, is_met, is_missing, all_met, word_in}
+use Rattle.step_core.specs.Steps.{misses, meets_at, is_met, is_missing, all_met, word_in}
 use Rattle.step_core.specs.Walks.{IsTarget, NoneFrom}
 use Rattle.step_core.specs.SearchLaws.{all_fail}
 use Rattle.step_core.specs.WordLaws.{word_row, never_missed}
@@ -135,9 +136,10 @@ has_step w c h (kinds.Place p) spec live are same from to names met = elim (case
     at : (k : ℕ) → p ≡ w.n + 1 + k → is_met w c.steps (h - 1) ≡ true
     at k e = met_at w c.steps (h - 1) k (omega (arith, e, names.1, same)) (meets_by w c h p k spec are same from names e met)
 
-pub target_of : (w : Words) (basis : Basis) (q : ℕ) → IsSpec w → AreLive w → (has : HasChain (specification w) basis q) → IsTarget w basis has.chain.steps
+pub target_of : (w : Words) (basis : Basis) (q d : ℕ) → IsSpec w → AreLive w → (is : HasReducedChain (specification w) basis q d) → IsTarget w basis is.has.chain.steps
 unfolding all_met is_missing
-target_of w basis q spec live has =
+target_of w basis q d spec live is =
+    let has = is.has in
     let c : Chain = has.chain in
     let same : c.n ≡ w.n = has.agrees.inputs in
     let each : (i : ℕ) → i < length w.on → is_met w c.steps i ≡ true = λ i low.
@@ -152,6 +154,9 @@ target_of w basis q spec live has =
         over = has.is_over;
         met = ap not (all_fail (is_missing w c.steps) (length w.on) (λ i low. ap not (each i low)));
       };
+      outs = c.outs;
+      agrees = subst (λ (x : Chain). Agrees x (specification w)) (ap {B = Chain} (λ (n : ℕ). record { n = n; steps = c.steps; outs = c.outs }) same) has.agrees;
+      reduced = subst (IsReduced basis (specification w)) (ap {B = Chain} (λ (n : ℕ). record { n = n; steps = c.steps; outs = c.outs }) same) is.reduced;
     }
 
 -- ---- none of a size
@@ -159,7 +164,10 @@ target_of w basis q spec live has =
 none_by : (w : Words) (basis : Basis) (size q : ℕ) → IsSpec w → AreLive w → NoneBelow (specification w) basis size → NoneFrom w basis [] size → q < size + 1 → HasChain (specification w) basis q → ⊥
 none_by w basis size q spec live before none low has = elim (cases_lt q size) [
   | inl less ↦ before q less has
-  | inr last ↦ none.none has.chain.steps (omega (arith, last, low, has.size)) (target_of w basis q spec live has)
+  | inr last ↦
+      let same : q ≡ size = omega (arith, last, low) in
+      let least : HasReducedChain (specification w) basis q q = minimum_is_reduced (specification w) basis q (record { reached = has; none_fewer = subst (NoneBelow (specification w) basis) (sym same) before }) in
+      none.none least.has.chain.steps (least.has.size ∙ same) (target_of w basis q q spec live least)
 ]
 
 pub none_more : (w : Words) (basis : Basis) (size : ℕ) → IsSpec w → AreLive w → NoneBelow (specification w) basis size → NoneFrom w basis [] size → NoneBelow (specification w) basis (size + 1)

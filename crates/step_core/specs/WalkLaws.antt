@@ -1,21 +1,21 @@
 -- What a walk has left out, and what it finds.
-use Rattle.std.proofs.Common.{◌≡◌, ℕ, zero, suc, ◌+◌, ◌-◌, ◌≤◌, ◌<◌, true, false, Bool, List, [], ◌∷◌, ◌++◌, length, refl, sym, ap, ap₂, ◌∙◌, subst, arith, inl, inr, All}
-use Rattle.std.specs.Prelude.{min, max, slice_get, slice_index_or, Some, take}
+use Rattle.std.proofs.Common.{◌≡◌, ℕ, ◌+◌, ◌-◌, ◌≤◌, ◌<◌, true, false, Bool, List, [], ◌∷◌, ◌++◌, length, refl, sym, ap, ap₂, ◌∙◌, subst, arith, inl, inr, All}
+use Rattle.std.specs.Prelude.{min, slice_get, slice_index_or, Some, take}
 use Rattle.std.proofs.lemmas.Grind.{common_steps}
-use Rattle.std.proofs.lemmas.Bool.{cases_lt, cases_eq, both_ways}
+use Rattle.std.proofs.lemmas.Bool.{cases_lt, both_ways}
 use Rattle.std.proofs.lemmas.List.{length_push, take_at}
 use Rattle.std.proofs.lemmas.List.Elements.{All-push}
 use Rattle.chain_theory.specs.Operator.{Basis}
 use Rattle.chain_theory.specs.Chain.{Step, IsStepAt, AreSteps}
 use Rattle.chain_laws.specs.Keys.{larger}
 use Rattle.tt_core.specs.Words.{Words}
-use Rattle.step_core.specs.Steps.{IsServing, AreOver, all_met}
+use Rattle.step_core.specs.Steps.{AreOver, all_met}
 use Rattle.step_core.specs.Trails.{Trailed, IsTrail}
 use Rattle.step_core.specs.Walks.{IsTarget, NoneFrom, NoneWith, HasLarger, HasPair, HasOperands, IsThe, IsWalking, IsWalked}
 
 -- ---- lists
 
-append_nil : {X : Type 0} (xs : List X) → xs ++ [] ≡ xs
+pub append_nil : {X : Type 0} (xs : List X) → xs ++ [] ≡ xs
 append_nil [] = refl
 append_nil (x ∷ xs) = ap (λ (ys : List _). x ∷ ys) (append_nil xs)
 
@@ -23,7 +23,7 @@ pub append_one : {X : Type 0} (xs : List X) (x : X) (ys : List X) → (xs ++ x �
 append_one [] x ys = refl
 append_one (y ∷ xs) x ys = ap (λ (zs : List _). y ∷ zs) (append_one xs x ys)
 
-get_middle : {X : Type 0} (xs : List X) (x : X) (ys : List X) → slice_get (xs ++ x ∷ ys) (length xs) ≡ Some x
+pub get_middle : {X : Type 0} (xs : List X) (x : X) (ys : List X) → slice_get (xs ++ x ∷ ys) (length xs) ≡ Some x
 get_middle [] x ys = refl
 get_middle (y ∷ xs) x ys = get_middle xs x ys
 
@@ -218,6 +218,11 @@ operators_skip w basis left j k bound first mid member is said e =
     left_more w basis left first mid mid (AllOperators w basis first.steps left j k bound) (basis bound ≡ true → NoneWith w basis first.steps left (IsThe (record { j = j; k = k; op = bound }))) (AllOperators w basis first.steps left j k (bound + 1)) is refl
     (λ holds. absurd (both_ways (basis bound) (sym said ∙ e) holds))
     (operators_more w basis left j k bound first.steps)
+
+pub operators_plain : (w : Words) (basis : Basis) (left j k bound : ℕ) (first mid : Trailed) → IsLeft w basis left first mid (AllOperators w basis first.steps left j k bound) → NoneWith w basis first.steps left (IsThe (record { j = j; k = k; op = bound })) → IsLeft w basis left first mid (AllOperators w basis first.steps left j k (bound + 1))
+operators_plain w basis left j k bound first mid is none =
+    left_more w basis left first mid mid (AllOperators w basis first.steps left j k bound) (NoneWith w basis first.steps left (IsThe (record { j = j; k = k; op = bound }))) (AllOperators w basis first.steps left j k (bound + 1)) is refl none
+    (λ all one. operators_more w basis left j k bound first.steps all (λ member. one))
 
 -- a step after another keeps the trail
 pub popped : (w : Words) (basis : Basis) (left : ℕ) (old mid back new : Trailed) (s : Step) (found : Bool) → 1 ≤ left → mid.n ≡ old.n → mid.steps ≡ old.steps ++ s ∷ [] → IsWalked w basis (left - 1) mid back (NoneFrom w basis mid.steps (left - 1)) found → found ≡ false → new.n ≡ back.n → new.steps ≡ take (length back.steps - 1) back.steps → IsWalked w basis left old new (NoneWith w basis old.steps left (IsThe s)) false

@@ -1,15 +1,25 @@
 -- What a walk over steps looks for, and what it has left out.
 use Rattle.std.specs.Prelude.{◌≡◌, ℕ, suc, ◌+◌, ◌≤◌, Bool, true, false, List, ◌∷◌, ◌++◌, length, min}
 use Rattle.chain_theory.specs.Operator.{Basis}
-use Rattle.chain_theory.specs.Chain.{Step}
+use Rattle.chain_theory.specs.Chain.{Step, Chain}
+use Rattle.chain_theory.specs.Agreement.{Agrees}
+use Rattle.chain_theory.specs.declared.data.Out.{Out}
+use Rattle.chain_laws.specs.Reduced.{IsReduced}
 use Rattle.chain_laws.specs.Keys.{larger}
-use Rattle.tt_core.specs.Words.{Words}
+use Rattle.tt_core.specs.Words.{Words, specification}
 use Rattle.step_core.specs.Steps.{IsServing, AreOver}
 use Rattle.step_core.specs.Trails.{Trailed}
 
--- the steps that are looked for
+-- the chain of some steps for the outputs
+abbrev pub chain_on : Words → List Step → List Out → Chain
+chain_on w steps outs = record { n = w.n; steps = steps; outs = outs }
+
+-- The steps that are looked for: those of a reduced chain that agrees.
 pub record IsTarget (w : Words) (basis : Basis) (steps : List Step) : Type 0 where
   pub serving : IsServing w basis steps
+  pub outs : List Out
+  pub agrees : Agrees (chain_on w steps outs) (specification w)
+  pub reduced : IsReduced basis (specification w) (chain_on w steps outs)
 
 -- none begin with the given steps and have as many more as the number says
 pub record NoneFrom (w : Words) (basis : Basis) (front : List Step) (left : ℕ) : Type 0 where

@@ -53,7 +53,7 @@ bit_met true false false e = refl
 missed_digit : (word on care t : ℕ) → digit (bit_and (bit_xor word on) care) t ≡ (differ (digit word t) (digit on t) && digit care t)
 missed_digit word on care t = digit_and (bit_xor word on) care t ∙ ap (λ (x : Bool). x && digit care t) (digit_xor word on t)
 
-zero_is : (x : ℕ) → not (x == 0) ≡ false → x ≡ 0
+pub zero_is : (x : ℕ) → not (x == 0) ≡ false → x ≡ 0
 zero_is zero e = refl
 zero_is (suc x) e = grind (arith, common_steps, nat_tests)
 

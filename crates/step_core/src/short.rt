@@ -9,6 +9,7 @@ ghost use Rattle.step_core.specs.Steps.{IsServing};
 ghost use Rattle.step_core.specs.Walks.{NoneFrom};
 
 use crate::outs::outs_for;
+use crate::rules::Rules;
 use crate::trail::Trail;
 use crate::walk::walk;
 use chain_core::Chain;
@@ -32,7 +33,12 @@ fn chain_of(alloc: Global, spec: &Spec, basis: Basis, trail: Trail) -> Result<Ch
 }
 
 /// As many steps as are asked for that serve all outputs.
-fn serving_steps(alloc: Global, spec: &Spec, basis: Basis, size: u32) -> Result<Option<Trail>, AllocError>
+fn serving_steps(
+    alloc: Global,
+    spec: &Spec,
+    basis: Basis,
+    size: u32,
+) -> Result<Option<Trail>, AllocError>
     requires { size ≤ 6 }
     ensures inputs { IfOk result (λ found. IfSome found (λ trail. trail.n ≡ spec.now.n)) }
     ensures serving { IfOk result (λ found. IfSome found (λ trail. IsServing spec.now (members basis) trail.steps)) }
@@ -40,7 +46,8 @@ fn serving_steps(alloc: Global, spec: &Spec, basis: Basis, size: u32) -> Result<
     ensures none { IfOk result (λ found. IfNone found (NoneFrom spec.now (members basis) [] size)) }
 {
     let mut trail = Trail::new(alloc, spec.n())?;
-    if walk(spec, basis, &mut trail, size)? {
+    let rules = Rules::new(basis);
+    if walk(spec, &rules, &mut trail, size)? {
         return Ok(Some(trail));
     }
     Ok(None)
@@ -48,7 +55,13 @@ fn serving_steps(alloc: Global, spec: &Spec, basis: Basis, size: u32) -> Result<
 
 /// The steps of the least size at which some serve the live outputs, as a chain.
 #[tactic(auto, using(crate::specs::ShortLaws::answering))]
-fn first_size(alloc: Global, spec: &Spec, live: &Spec, basis: Basis, most: u32) -> Result<Option<Chain>, AllocError>
+fn first_size(
+    alloc: Global,
+    spec: &Spec,
+    live: &Spec,
+    basis: Basis,
+    most: u32,
+) -> Result<Option<Chain>, AllocError>
     requires most { most ≤ 6 }
     requires live { live.now ≡ live_words spec.now }
     ensures { IfOk result (λ found. IsAnswer (specification spec.now) (members basis) most found) }
@@ -67,7 +80,12 @@ fn first_size(alloc: Global, spec: &Spec, live: &Spec, basis: Basis, most: u32) 
 /// A chain of at most `most` steps over the basis that agrees with the specification, with the fewest steps, or None where
 /// there is none, of all chains over the basis of the definition: also with equal operands, with operands in any order, and
 /// with steps that nothing reads.
-pub fn few_steps(alloc: Global, spec: &Spec, basis: Basis, most: u32) -> Result<Option<Chain>, AllocError>
+pub fn few_steps(
+    alloc: Global,
+    spec: &Spec,
+    basis: Basis,
+    most: u32,
+) -> Result<Option<Chain>, AllocError>
     requires { most ≤ 6 }
     ensures { IfOk result (λ found. IsAnswer (specification spec.now) (members basis) most found) }
 {

@@ -4,28 +4,40 @@ ghost use Rattle.std.specs.Prelude.{◌≡◌, ◌+◌, ◌≤◌, true, length,
 ghost use Rattle.op_basis.specs.Basis.{members};
 ghost use Rattle.chain_theory.specs.Chain.{IsStepAt};
 ghost use Rattle.chain_core.specs.Steps.{step_of};
+ghost use Rattle.step_core.specs.Cuts.{due as due_of};
 ghost use Rattle.step_core.specs.Walks.{IsWalking, IsWalked, NoneFrom, NoneWith, HasLarger, HasPair, HasOperands, IsThe};
 
+use crate::cuts::{due, is_plain, may_come, may_follow};
+use crate::rules::Rules;
 use crate::trail::Trail;
 use crate::words::all_met;
 use chain_core::Step;
-use op_basis::{Basis, Op};
+use op_basis::Op;
 use std::alloc::AllocError;
 use tt_core::Spec;
 
 /// Goes over all ways to place `left` more steps. Where one serves, the trail has it.
 #[cycle(walking)]
 #[tactic(auto, using(crate::specs::WalkLaws::walking))]
-pub(crate) fn walk(spec: &Spec, basis: Basis, trail: &mut Trail, left: u32) -> Result<bool, AllocError>
-    requires walking { IsWalking spec.now (members basis) trail.old left }
-    ensures { IfOk result (IsWalked spec.now (members basis) left trail.old trail.new (NoneFrom spec.now (members basis) trail.old.steps left)) }
+pub(crate) fn walk(
+    spec: &Spec,
+    rules: &Rules,
+    trail: &mut Trail,
+    left: u32,
+) -> Result<bool, AllocError>
+    requires walking { IsWalking spec.now (members rules.now) trail.old left }
+    ensures { IfOk result (IsWalked spec.now (members rules.now) left trail.old trail.new (NoneFrom spec.now (members rules.now) trail.old.steps left)) }
 {
     let places = trail.n() + trail.len();
     if left == 0 {
         return Ok(all_met(spec, trail));
     }
+    let due = due(spec, trail);
+    if due > left {
+        return Ok(false);
+    }
     for before in 0..places {
-        if walk_larger(spec, basis, trail, left, before + 1)? {
+        if walk_larger(spec, rules, trail, left, due, before + 1)? {
             return Ok(true);
         }
     }
@@ -35,14 +47,22 @@ pub(crate) fn walk(spec: &Spec, basis: Basis, trail: &mut Trail, left: u32) -> R
 /// The ways whose next step has the larger operand `high`.
 #[cycle(walking)]
 #[tactic(auto, using(crate::specs::WalkLaws::walking))]
-fn walk_larger(spec: &Spec, basis: Basis, trail: &mut Trail, left: u32, high: u32) -> Result<bool, AllocError>
-    requires walking { IsWalking spec.now (members basis) trail.old left }
+fn walk_larger(
+    spec: &Spec,
+    rules: &Rules,
+    trail: &mut Trail,
+    left: u32,
+    due: u32,
+    high: u32,
+) -> Result<bool, AllocError>
+    requires walking { IsWalking spec.now (members rules.now) trail.old left }
     requires some { 1 ≤ left }
+    requires due { due ≡ due_of spec.now trail.old.steps }
     requires high { high ≤ trail.old.n + length trail.old.steps }
-    ensures { IfOk result (IsWalked spec.now (members basis) left trail.old trail.new (NoneWith spec.now (members basis) trail.old.steps left (HasLarger high))) }
+    ensures { IfOk result (IsWalked spec.now (members rules.now) left trail.old trail.new (NoneWith spec.now (members rules.now) trail.old.steps left (HasLarger high))) }
 {
     for before in 0..high {
-        if walk_pair(spec, basis, trail, left, before + 1, high)? {
+        if walk_pair(spec, rules, trail, left, due, before + 1, high)? {
             return Ok(true);
         }
     }
@@ -52,21 +72,36 @@ fn walk_larger(spec: &Spec, basis: Basis, trail: &mut Trail, left: u32, high: u3
 /// The ways whose next step has these operands, in either order.
 #[cycle(walking)]
 #[tactic(auto, using(crate::specs::WalkLaws::walking))]
-fn walk_pair(spec: &Spec, basis: Basis, trail: &mut Trail, left: u32, low: u32, high: u32) -> Result<bool, AllocError>
-    requires walking { IsWalking spec.now (members basis) trail.old left }
+fn walk_pair(
+    spec: &Spec,
+    rules: &Rules,
+    trail: &mut Trail,
+    left: u32,
+    due: u32,
+    low: u32,
+    high: u32,
+) -> Result<bool, AllocError>
+    requires walking { IsWalking spec.now (members rules.now) trail.old left }
     requires some { 1 ≤ left }
+    requires due { due ≡ due_of spec.now trail.old.steps }
     requires low_from { 1 ≤ low }
     requires low { low ≤ high }
     requires high { high ≤ trail.old.n + length trail.old.steps }
-    ensures { IfOk result (IsWalked spec.now (members basis) left trail.old trail.new (NoneWith spec.now (members basis) trail.old.steps left (HasPair low high))) }
+    ensures { IfOk result (IsWalked spec.now (members rules.now) left trail.old trail.new (NoneWith spec.now (members rules.now) trail.old.steps left (HasPair low high))) }
 {
-    if walk_operators(spec, basis, trail, left, low, high)? {
+    if !may_follow(trail, low, high) {
+        return Ok(false);
+    }
+    if walk_operators(spec, rules, trail, left, due, low, high)? {
         return Ok(true);
     }
     if low == high {
         return Ok(false);
     }
-    if walk_operators(spec, basis, trail, left, high, low)? {
+    if rules.rises() {
+        return Ok(false);
+    }
+    if walk_operators(spec, rules, trail, left, due, high, low)? {
         return Ok(true);
     }
     Ok(false)
@@ -75,21 +110,33 @@ fn walk_pair(spec: &Spec, basis: Basis, trail: &mut Trail, left: u32, low: u32, 
 /// The ways whose next step has these operands in this order.
 #[cycle(walking)]
 #[tactic(auto, using(crate::specs::WalkLaws::walking))]
-fn walk_operators(spec: &Spec, basis: Basis, trail: &mut Trail, left: u32, j: u32, k: u32) -> Result<bool, AllocError>
-    requires walking { IsWalking spec.now (members basis) trail.old left }
+fn walk_operators(
+    spec: &Spec,
+    rules: &Rules,
+    trail: &mut Trail,
+    left: u32,
+    due: u32,
+    j: u32,
+    k: u32,
+) -> Result<bool, AllocError>
+    requires walking { IsWalking spec.now (members rules.now) trail.old left }
     requires some { 1 ≤ left }
+    requires due { due ≡ due_of spec.now trail.old.steps }
     requires j_from { 1 ≤ j }
     requires j { j ≤ trail.old.n + length trail.old.steps }
     requires k_from { 1 ≤ k }
     requires k { k ≤ trail.old.n + length trail.old.steps }
-    ensures { IfOk result (IsWalked spec.now (members basis) left trail.old trail.new (NoneWith spec.now (members basis) trail.old.steps left (HasOperands j k))) }
+    ensures { IfOk result (IsWalked spec.now (members rules.now) left trail.old trail.new (NoneWith spec.now (members rules.now) trail.old.steps left (HasOperands j k))) }
 {
     for word in 0..16u8 {
         let op = Op::new(word);
-        if !basis.contains(op) {
+        if !rules.contains(op) {
             continue;
         }
-        if walk_step(spec, basis, trail, left, Step { j, k, op })? {
+        if !is_plain(rules, j, k, op) {
+            continue;
+        }
+        if walk_step(spec, rules, trail, left, due, Step { j, k, op })? {
             return Ok(true);
         }
     }
@@ -99,15 +146,26 @@ fn walk_operators(spec: &Spec, basis: Basis, trail: &mut Trail, left: u32, j: u3
 /// The ways whose next step is this one.
 #[cycle(walking)]
 #[tactic(auto, using(crate::specs::WalkLaws::walking))]
-fn walk_step(spec: &Spec, basis: Basis, trail: &mut Trail, left: u32, step: Step) -> Result<bool, AllocError>
-    requires walking { IsWalking spec.now (members basis) trail.old left }
+fn walk_step(
+    spec: &Spec,
+    rules: &Rules,
+    trail: &mut Trail,
+    left: u32,
+    due: u32,
+    step: Step,
+) -> Result<bool, AllocError>
+    requires walking { IsWalking spec.now (members rules.now) trail.old left }
     requires some { 1 ≤ left }
-    requires member { members basis step.op ≡ true }
+    requires due { due ≡ due_of spec.now trail.old.steps }
+    requires member { members rules.now step.op ≡ true }
     requires at { IsStepAt (trail.old.n + 1 + length trail.old.steps) (step_of step) }
-    ensures { IfOk result (IsWalked spec.now (members basis) left trail.old trail.new (NoneWith spec.now (members basis) trail.old.steps left (IsThe (step_of step)))) }
+    ensures { IfOk result (IsWalked spec.now (members rules.now) left trail.old trail.new (NoneWith spec.now (members rules.now) trail.old.steps left (IsThe (step_of step)))) }
 {
+    if !may_come(spec, rules, trail, left, due, step.j, step.k, step.op) {
+        return Ok(false);
+    }
     trail.push(step)?;
-    if walk(spec, basis, trail, left - 1)? {
+    if walk(spec, rules, trail, left - 1)? {
         return Ok(true);
     }
     trail.pop();
