@@ -37,7 +37,9 @@ pub struct Cdcl {
 
 impl Solver for Cdcl {
     ghost use Rattle.std.specs.Prelude.{Unit};
+
     ghost IsSolverOf = { λ f least s. Unit {0} };
+
     ghost vars_of = { λ s. s.search.trail.vars };
 
     fn new(alloc: Global, cnf: &Cnf, least: u32) -> Result<Cdcl, AllocError> {
