@@ -9,43 +9,94 @@ ghost use Rattle.cdcl_core.specs.Searching.{IsSearching, IsAccounted, IsLogged};
 ghost use Rattle.cdcl_core.specs.Endings.{HasRefuted, HasSpent};
 
 use crate::search::{Ending, Search};
-use cnf_core::Cnf;
+use cnf_core::{Cnf, Lit};
 use log_core::Log;
-use sat_solve::{Solved, Solver};
+use sat_solve::{Cones, Probed, Solved, Solver};
 use std::alloc::{AllocError, Global};
 use std::mem;
 
-/// The solver of this crate, where one of the trait is asked for.
-pub struct Cdcl;
-
-impl Solver for Cdcl {
-    fn solve(alloc: Global, cnf: &Cnf, budget: u32) -> Result<Solved, AllocError> {
-        solve(alloc, cnf, budget)
-    }
+/// What is known of the formula so far.
+#[derive(Clone, Copy, Drop)]
+enum Stage {
+    /// It has the empty clause.
+    Empty,
+    /// It isn't decided.
+    Open,
+    /// The log ends with the empty clause.
+    Refuted,
+    /// Nothing: memory ran out in a probe.
+    Failed,
 }
 
-/// A search reckons with so many additions, where the budget isn't less: half of them may go at any time.
-const RECKONED: u32 = 40_000;
+/// A solver by conflict-driven clause learning.
+#[derive(Drop)]
+pub struct Cdcl {
+    search: Search,
+    stage: Stage,
+}
 
-/// Decides a formula, unless it takes more than `budget` learnt clauses, from 1 to 10,000,000: the answer is Open
-/// at the first decision that is due after `budget` of them.
-pub fn solve(alloc: Global, cnf: &Cnf, budget: u32) -> Result<Solved, AllocError>
-    requires some { 0 < budget }
-    requires most { budget ≤ most_budget }
-    ensures bits { IfOk result (λ s. IfSat s (λ bits. length bits ≡ cnf.now.vars)) }
-    ensures sat { IfOk result (λ s. IfSat s (λ bits. Satisfies (bits_of bits) cnf.now)) }
-    ensures unsat { IfOk result (λ s. IfUnsat s (Refutes cnf.now)) }
-    ensures open { IfOk result (λ s. IfOpen s (λ lines. IsSpent cnf.now lines budget)) }
-    ensures kept { IfOk result (λ s. IfOpen s (IsKept cnf.now)) }
-    ensures thinned { IfOk result (λ s. IfLogged s (IsThinned cnf.now)) }
-    // A budget of twice 3 to the number of variables decides every formula.
-    ensures decides { 2 * 3 ^ cnf.now.vars ≤ budget → IfOk result IsDecided }
-{
-    if cnf.has_empty() {
-        return Ok(Solved::Unsat(Log::new(alloc)));
+impl Solver for Cdcl {
+    ghost use Rattle.std.specs.Prelude.{Unit};
+
+    ghost IsSolverOf = { λ f least s. Unit {0} };
+
+    ghost vars_of = { λ s. s.search.trail.vars };
+
+    fn new(alloc: Global, cnf: &Cnf, least: u32) -> Result<Cdcl, AllocError> {
+        let mut search = Search::new(alloc, cnf, least)?;
+        let stage = if cnf.has_empty() {
+            Stage::Empty
+        } else if let Some(conflict) = search.begin()? {
+            search.refute(conflict)?;
+            Stage::Refuted
+        } else {
+            Stage::Open
+        };
+        Ok(Cdcl { search, stage })
     }
-    let mut search = Search::new(alloc, cnf, budget.min(RECKONED))?;
-    answer(&mut search, alloc, budget)
+
+    fn probe(&mut self, targets: &[Lit], cones: Cones, limit: u32) -> Result<Probed, AllocError> {
+        match self.stage {
+            Stage::Open => {}
+            Stage::Empty => return Ok(Probed::Refuted),
+            Stage::Refuted => return Ok(Probed::Refuted),
+            Stage::Failed => return Err(AllocError),
+        }
+        self.stage = Stage::Failed;
+        let probed = self.search.probe(targets, &cones, limit)?;
+        self.stage = match probed {
+            Probed::Refuted => Stage::Refuted,
+            _ => Stage::Open,
+        };
+        Ok(probed)
+    }
+
+    fn bit(&self, variable: u32) -> Option<bool> {
+        if variable == 0 || variable > self.search.trail.vars() {
+            return None;
+        }
+        let lit = Lit::of(variable, true);
+        if self.search.trail.is_free(lit) {
+            return None;
+        }
+        Some(self.search.trail.fell(lit) == 0)
+    }
+
+    fn finish(self, alloc: Global, budget: u32) -> Result<Solved, AllocError> {
+        let Cdcl { mut search, stage } = self;
+        match stage {
+            Stage::Empty => Ok(Solved::Unsat(Log::new(alloc))),
+            Stage::Refuted => Ok(Solved::Unsat(log_of(&mut search, alloc)?)),
+            Stage::Failed => Err(AllocError),
+            Stage::Open => {
+                search.scope = None;
+                search.descend();
+                let additions = search.clauses.last() - search.given;
+                let target = search.least.max(additions + budget);
+                answer(&mut search, alloc, target)
+            }
+        }
+    }
 }
 
 /// Runs a search that has done nothing yet, and gives what it shows of each formula that it stands for.
@@ -65,7 +116,7 @@ fn answer(search: &mut Search, alloc: Global, budget: u32) -> Result<Solved, All
     ensures thinned { (f : Formula) → IsLogged f search.old → IfOk result (λ s. IfLogged s (IsThinned f)) }
     ensures decides { (f : Formula) → IsLogged f search.old → (Contains f.clauses [] → ⊥) → 2 * 3 ^ f.vars ≤ budget → IfOk result IsDecided }
 {
-    match search.run(budget)? {
+    match search.go_on(budget)? {
         Ending::Valued => Ok(Solved::Sat(search.trail.assignment(alloc)?)),
         Ending::Refuted => Ok(Solved::Unsat(log_of(search, alloc)?)),
         Ending::Spent => Ok(Solved::Open(log_of(search, alloc)?)),

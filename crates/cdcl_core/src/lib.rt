@@ -51,10 +51,12 @@ mod forgetting;
 mod judgement;
 mod levels;
 mod merits;
+mod probing;
 mod restarts;
+mod scope;
 mod search;
 mod units;
 mod visiting;
 
-pub use answering::{Cdcl, solve};
+pub use answering::Cdcl;
 pub use sat_solve::Solved;

@@ -18,4 +18,4 @@
 
 mod solver;
 
-pub use solver::{Solved, Solver};
+pub use solver::{Cones, Probed, Solved, Solver};
