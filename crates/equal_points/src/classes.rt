@@ -23,11 +23,7 @@ pub(crate) struct Classes {
 }
 
 /// The classes of all points, which are numbered in the order of their first points.
-fn number(
-    alloc: Global,
-    patterns: &Patterns,
-    count: u32,
-) -> Result<(Vec<u32>, usize), AllocError> {
+fn number(alloc: Global, patterns: &Patterns, count: u32) -> Result<(Vec<u32>, usize), AllocError> {
     let mut marks = IndexSet::with_capacity(alloc, count as usize)?;
     let mut class = Vec::with_capacity(alloc, count as usize)?;
     for variable in 0..count {

@@ -17,7 +17,11 @@ struct Form {
 /// The form of a gate whose operands have the representatives `a` and `b`.
 fn form_of(point: Point, a: Edge, b: Edge) -> Form {
     let op = turned(point.op, a.turned, b.turned, false);
-    let sorted = if a.variable <= b.variable { op } else { swapped(op) };
+    let sorted = if a.variable <= b.variable {
+        op
+    } else {
+        swapped(op)
+    };
     let begun = turned(sorted, false, false, sorted.apply(false, false));
     Form {
         word: begun.get(),

@@ -63,13 +63,26 @@ fn shorten_one<S: Solver>(
         variable: if second { point.b } else { point.a },
         turned: !bit,
     };
-    match ask_two(solver, vars, sweeping.cones.rows(), gate, operand, SHORT_LIMIT)? {
+    match ask_two(
+        solver,
+        vars,
+        sweeping.cones.rows(),
+        gate,
+        operand,
+        SHORT_LIMIT,
+    )? {
         Probed::Refuted => Ok(Heard::Refuted),
         _ => Ok(Heard::Nothing),
     }
 }
 
-/// Has the solver derive the short clauses of a gate on two different points that aren't constant.
+/// Whether a gate is on two different points that aren't constant.
+fn is_on_two(point: &Point) -> bool {
+    point.a != point.b && point.a != 0 && point.b != 0
+}
+
+/// Has the solver derive the short clauses of a gate that is needed, if it is on two different points that aren't
+/// constant.
 fn shorten<S: Solver>(
     solver: &mut S,
     vars: u32,
@@ -80,10 +93,13 @@ fn shorten<S: Solver>(
     requires small { vars < 2 ^ 31 }
     ensures { OnOk result (Stays S.IsSolverOf S.vars_of solver.old solver.new) }
 {
+    if !sweeping.is_needed(variable) {
+        return Ok(Heard::Nothing);
+    }
     let Some(point) = sweeping.points.gate(variable) else {
         return Ok(Heard::Nothing);
     };
-    if point.a == point.b || point.a == 0 || point.b == 0 || !sweeping.is_needed(variable) {
+    if !is_on_two(&point) {
         return Ok(Heard::Nothing);
     }
     for (second, bit) in [(false, false), (false, true), (true, false), (true, true)] {

@@ -43,7 +43,10 @@ pub(crate) fn ask_two<S: Solver>(
     if x.variable == 0 || x.variable > vars || y.variable == 0 || y.variable > vars {
         return Ok(Probed::GivenUp);
     }
-    let targets = [Lit::of(x.variable, !x.turned), Lit::of(y.variable, !y.turned)];
+    let targets = [
+        Lit::of(x.variable, !x.turned),
+        Lit::of(y.variable, !y.turned),
+    ];
     solver.probe(&targets, cones, limit)
 }
 
@@ -63,10 +66,19 @@ pub(crate) fn ask_equal<S: Solver>(
     if y.variable == 0 {
         return ask_one(solver, vars, cones, x, !y.turned, limit);
     }
-    let rises = Edge { variable: x, turned: false };
-    let falls = Edge { variable: x, turned: true };
+    let rises = Edge {
+        variable: x,
+        turned: false,
+    };
+    let falls = Edge {
+        variable: x,
+        turned: true,
+    };
     let same = y;
-    let other = Edge { variable: y.variable, turned: !y.turned };
+    let other = Edge {
+        variable: y.variable,
+        turned: !y.turned,
+    };
     match ask_two(solver, vars, cones, rises, other, limit)? {
         Probed::Clashed => ask_two(solver, vars, cones, falls, same, limit),
         probed => Ok(probed),

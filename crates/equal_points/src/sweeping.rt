@@ -65,11 +65,7 @@ fn rounds<S: Solver>(
 }
 
 /// The short clauses and then the rounds.
-fn go<S: Solver>(
-    solver: &mut S,
-    vars: u32,
-    sweeping: &mut Sweeping,
-) -> Result<Heard, AllocError>
+fn go<S: Solver>(solver: &mut S, vars: u32, sweeping: &mut Sweeping) -> Result<Heard, AllocError>
     requires vars { S.vars_of solver.old ≡ vars }
     requires small { vars < 2 ^ 31 }
     ensures { OnOk result (Stays S.IsSolverOf S.vars_of solver.old solver.new) }

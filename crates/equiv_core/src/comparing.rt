@@ -17,6 +17,7 @@ use crate::interface::same_interface;
 use crate::mitering::miter;
 use crate::values::first_difference;
 use cnf_core::{Assign, Cnf};
+use equal_points::{Swept, sweep};
 use net_core::{Circuit, Net};
 use sat_solve::{Solved, Solver};
 use std::alloc::{AllocError, Global};
@@ -53,7 +54,63 @@ fn difference_of(
     })
 }
 
-/// What the solver `S` answers of the miter `cnf` of two nets.
+/// The difference that the bits `at` of the sources show, if there is one.
+fn shown(
+    alloc: Global,
+    first: &Net,
+    second: &Net,
+    at: Vec<bool>,
+) -> Result<Option<Difference>, AllocError>
+    requires comparable { AreComparable first.now second.now }
+    requires small { IsSmall first.now }
+    ensures { IfOk result (λ shown. IfSome shown (λ d. IsFirstDifference first.now second.now d.sink d.at)) }
+{
+    if at.len() != first.sources() as usize {
+        return Ok(None);
+    }
+    let Some(place) = first_difference(alloc, first, second, &at)? else {
+        return Ok(None);
+    };
+    Ok(Some(Difference {
+        sink: place as u32 + 1,
+        at: Assign::new(at),
+    }))
+}
+
+/// What a sweep over two nets shows with `solver`, a solver of their miter: a difference, or else how many conflicts
+/// of the budget it has spent.
+fn swept<S: Solver>(
+    alloc: Global,
+    first: &Net,
+    second: &Net,
+    solver: &mut S,
+    budget: u32,
+) -> Result<(Option<Difference>, u32), AllocError> {
+    match sweep(alloc, first, second, solver, budget)? {
+        Swept::Differ(at) => Ok((shown(alloc, first, second, at)?, 0)),
+        Swept::Swept { spent } => Ok((None, spent)),
+    }
+}
+
+/// What `solver`, a solver of the miter of two nets, answers of it after at most `budget` further learnt clauses.
+fn finished<S: Solver>(
+    alloc: Global,
+    first: &Net,
+    second: &Net,
+    solver: S,
+    budget: u32,
+) -> Result<Equiv, AllocError> {
+    match solver.finish(alloc, budget)? {
+        Solved::Unsat(log) => Ok(Equiv::Equal(log)),
+        Solved::Open(log) => Ok(Equiv::Undecided(log)),
+        Solved::Sat(assign) => {
+            let Difference { sink, at } = difference_of(alloc, first, second, &assign)?;
+            Ok(Equiv::Differ { sink, at })
+        }
+    }
+}
+
+/// What the solver `S` answers of the miter `cnf` of two nets, once a sweep has shown it their equal points.
 #[tactic(auto, using(crate::specs::SinkLaws::miter_variables))]
 fn compare<S: Solver>(
     alloc: Global,
@@ -72,14 +129,18 @@ fn compare<S: Solver>(
     ensures kept { IfOk result (λ e. IfUndecided e (IsKept (miter_of first.now second.now))) }
     ensures decides { 2 * 3 ^ variables first.now second.now ≤ budget → IfOk result IsDecided }
 {
-    match S::solve(alloc, cnf, budget)? {
-        Solved::Unsat(log) => Ok(Equiv::Equal(log)),
-        Solved::Open(log) => Ok(Equiv::Undecided(log)),
-        Solved::Sat(assign) => {
-            let Difference { sink, at } = difference_of(alloc, first, second, &assign)?;
-            Ok(Equiv::Differ { sink, at })
-        }
+    let mut solver = S::new(alloc, cnf, budget)?;
+    let (difference, spent) = swept(alloc, first, second, &mut solver, budget)?;
+    if let Some(Difference { sink, at }) = difference {
+        return Ok(Equiv::Differ { sink, at });
     }
+    finished(
+        alloc,
+        first,
+        second,
+        solver,
+        budget.saturating_sub(spent).max(1),
+    )
 }
 
 /// Decides with the solver `S` whether two proper circuits of one interface, each of fewer than 300,000,000 sources
