@@ -273,6 +273,7 @@ impl Search {
         requires bottom { self.old.starts.items ≡ [] }
         requires conflict { IsFalsified (live_in self.old.clauses) (fell_of self.old.trail) conflict }
         ensures refuted { (f : Formula) → IsLogged f self.old → OnOk result (HasRefuted f self.new) }
+        ensures trail { self.new.trail ≡ self.old.trail }
         ensures stored { IsStored self.new.clauses }
     {
         let alloc = *self.starts.allocator();
@@ -284,14 +285,13 @@ impl Search {
         Ok(())
     }
 
-    /// Decides and learns until the formula is decided or the budget is spent.
+    /// Decides and learns until the formula is decided, or a decision is due after at least `budget` additions.
     pub(crate) fn go_on(&mut self, budget: u32) -> Result<Ending, AllocError>
         requires searching { IsSearching self.old }
         requires visited { IsVisited self.old }
-        requires budget { budget ≤ most_budget }
         requires least { self.old.least ≤ budget }
-        requires few { length self.old.clauses.clauses < 2000000000 }
-        requires given { self.old.given ≡ length self.old.clauses.clauses }
+        requires room { self.old.given + budget < 2970000000 }
+        requires short { length self.old.clauses.clauses ≤ self.old.given + budget }
         requires starts { self.old.starts.items ≡ [] }
         ensures ends { (f : Formula) → IsLogged f self.old → IfOk result (Ends f budget self.new) }
         ensures stored { IfOk result (λ _. IsStored self.new.clauses) }

@@ -79,13 +79,39 @@ pub trait Solver: Drop {
     /// answer is Open at the first decision that is due after `budget` of them, where the log has `least` or more.
     fn finish(self, alloc: Global, budget: u32) -> Result<Solved, AllocError>
     where
-        Self: Sized;
+        Self: Sized,
+        requires some { 0 < budget }
+        requires most { budget ≤ most_budget }
+        ensures bits { (f : Formula) (least : ℕ) → IsSolverOf f least self → IfOk result (λ s. IfSat s (λ bits. length bits ≡ f.vars)) }
+        ensures sat { (f : Formula) (least : ℕ) → IsSolverOf f least self → IfOk result (λ s. IfSat s (λ bits. Satisfies (bits_of bits) f)) }
+        ensures unsat { (f : Formula) (least : ℕ) → IsSolverOf f least self → IfOk result (λ s. IfUnsat s (Refutes f)) }
+        ensures open { (f : Formula) (least : ℕ) → IsSolverOf f least self → IfOk result (λ s. IfOpen s (λ lines. IsSpent f lines (max least budget))) }
+        // At the end of an open log at least half of its additions are live.
+        ensures kept { (f : Formula) (least : ℕ) → IsSolverOf f least self → IfOk result (λ s. IfOpen s (IsKept f)) }
+        // A log that refutes, or leaves open, deletes about a quarter of its additions or more, and no clause of
+        // the formula.
+        ensures thinned { (f : Formula) (least : ℕ) → IsSolverOf f least self → IfOk result (λ s. IfLogged s (IsThinned f)) }
+        // A budget of twice 3 to the number of variables decides every formula.
+        ensures decides { (f : Formula) (least : ℕ) → IsSolverOf f least self → 2 * 3 ^ f.vars ≤ max least budget → IfOk result IsDecided };
 
     /// Decides a formula, unless it takes more than `budget` learnt clauses, from 1 to 10,000,000: the answer is
     /// Open at the first decision that is due after `budget` of them.
     fn solve(alloc: Global, cnf: &Cnf, budget: u32) -> Result<Solved, AllocError>
     where
         Self: Sized,
+        requires some { 0 < budget }
+        requires most { budget ≤ most_budget }
+        ensures bits { IfOk result (λ s. IfSat s (λ bits. length bits ≡ cnf.now.vars)) }
+        ensures sat { IfOk result (λ s. IfSat s (λ bits. Satisfies (bits_of bits) cnf.now)) }
+        ensures unsat { IfOk result (λ s. IfUnsat s (Refutes cnf.now)) }
+        ensures open { IfOk result (λ s. IfOpen s (λ lines. IsSpent cnf.now lines budget)) }
+        // At the end of an open log at least half of its additions are live.
+        ensures kept { IfOk result (λ s. IfOpen s (IsKept cnf.now)) }
+        // A log that refutes, or leaves open, deletes about a quarter of its additions or more, and no clause of
+        // the formula.
+        ensures thinned { IfOk result (λ s. IfLogged s (IsThinned cnf.now)) }
+        // A budget of twice 3 to the number of variables decides every formula.
+        ensures decides { 2 * 3 ^ cnf.now.vars ≤ budget → IfOk result IsDecided }
     {
         Self::new(alloc, cnf, budget.min(RECKONED))?.finish(alloc, budget)
     }
