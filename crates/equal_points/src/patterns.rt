@@ -55,15 +55,15 @@ fn edge_word(words: &[u64], edge: Edge) -> u64 {
     if edge.turned { !word } else { word }
 }
 
-/// An assignment, as a bit of the words, under which a sink of the nets differs.
-fn differing(points: &Points, words: &[u64]) -> Option<u32> {
+/// The first assignment under which a sink of the nets differs, as the one bit of a mask; 0 where there is none.
+fn differing(points: &Points, words: &[u64]) -> u64 {
     for (one, other) in points.ones.iter().zip(points.others.iter()) {
         let differ = edge_word(words, *one) ^ edge_word(words, *other);
         if differ != 0 {
-            return Some(differ.trailing_zeros());
+            return differ & differ.wrapping_neg();
         }
     }
-    None
+    0
 }
 
 impl Patterns {
@@ -124,9 +124,9 @@ impl Patterns {
 
     /// Mixes the words into the marks.
     fn mark(&mut self) {
-        for variable in 0..self.marks.len() {
-            let word = self.words[variable] ^ self.phases[variable];
-            self.marks[variable] = mixed(self.marks[variable], word);
+        let seen = self.words.iter().zip(self.phases.iter());
+        for (mark, (word, phase)) in self.marks.iter_mut().zip(seen) {
+            *mark = mixed(*mark, *word ^ *phase);
         }
     }
 
@@ -139,7 +139,7 @@ impl Patterns {
 
     /// Whether a sink of the nets differs under one of the last assignments.
     pub(crate) fn is_different(&self, points: &Points) -> bool {
-        differing(points, &self.words).is_some()
+        differing(points, &self.words) != 0
     }
 
     /// The bits of the sources under the first of the last assignments that makes a sink differ.
@@ -148,13 +148,14 @@ impl Patterns {
         alloc: Global,
         points: &Points,
     ) -> Result<Option<Vec<bool>>, AllocError> {
-        let Some(lane) = differing(points, &self.words) else {
+        let lane = differing(points, &self.words);
+        if lane == 0 {
             return Ok(None);
-        };
+        }
         let mut bits = Vec::with_capacity(alloc, points.sources as usize)?;
         for source in 1..=points.sources {
             let word = entry(&self.words, source, 0);
-            bits.push(lowest(word >> lane) != 0)?;
+            bits.push(word & lane != 0)?;
         }
         Ok(Some(bits))
     }

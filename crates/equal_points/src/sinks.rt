@@ -46,15 +46,16 @@ pub(crate) fn visit_sinks<S: Solver>(
     requires small { vars < 2 ^ 31 }
     ensures { OnOk result (Stays S.IsSolverOf S.vars_of solver.old solver.new) }
 {
-    let first = sweeping.points.end();
+    let mut next = sweeping.points.end();
     for sink in 0..sweeping.sinks() {
+        let difference = next;
+        next = next.saturating_add(1);
         if !sweeping.is_open(sink) {
             continue;
         }
         if sweeping.is_spent() {
             return Ok(Heard::Spent);
         }
-        let difference = first.saturating_add(sink as u32);
         let heard = visit_sink(solver, vars, sweeping, sink, difference, limit)?;
         if heard != Heard::Nothing {
             return Ok(heard);

@@ -1,7 +1,7 @@
 //! Combinational equivalence of two circuits: their miter is given to the solver. Its log refutes the miter or has
 //! spent the budget; its assignment has an input at which the circuits differ.
-ghost use Rattle.std.specs.Prelude.{◌≡◌, ◌≤◌, ◌<◌, ◌*◌, ◌^◌, length, Err, IfOk, IfErr};
-ghost use Rattle.sat_theory.specs.Formula.{bits_of, Satisfies};
+ghost use Rattle.std.specs.Prelude.{◌≡◌, ◌≤◌, ◌<◌, ◌*◌, ◌^◌, ℕ, length, Err, IfOk, IfErr, IfSome, OnOk};
+ghost use Rattle.sat_theory.specs.Formula.{Formula, bits_of, Satisfies};
 ghost use Rattle.sat_theory.specs.Log.{Refutes, IsSpent, IsKept};
 ghost use Rattle.sat_solve.specs.Budgets.{most_budget};
 ghost use Rattle.net_theory.specs.Circuit.{IsProper};
@@ -78,29 +78,61 @@ fn shown(
 }
 
 /// What a sweep over two nets shows with `solver`, a solver of their miter: a difference, or else how many conflicts
-/// of the budget it has spent.
+/// of the budget it has spent. The solver stays one of its formula.
 fn swept<S: Solver>(
     alloc: Global,
     first: &Net,
     second: &Net,
     solver: &mut S,
     budget: u32,
-) -> Result<(Option<Difference>, u32), AllocError> {
+) -> Result<(Option<Difference>, u32), AllocError>
+    requires comparable { AreComparable first.now second.now }
+    requires small { IsSmall first.now }
+    requires vars { S.vars_of solver.old ≡ variables first.now second.now }
+    requires room { S.vars_of solver.old < 2 ^ 31 }
+    ensures stays { (f : Formula) (least : ℕ) → S.IsSolverOf f least solver.old → OnOk result (S.IsSolverOf f least solver.new) }
+    ensures differ { IfOk result (λ r. IfSome r.0 (λ d. IsFirstDifference first.now second.now d.sink d.at)) }
+{
     match sweep(alloc, first, second, solver, budget)? {
-        Swept::Differ(at) => Ok((shown(alloc, first, second, at)?, 0)),
+        Swept::Differ(at) => {
+            let difference = shown(alloc, first, second, at)?;
+            Ok((difference, 0))
+        }
         Swept::Swept { spent } => Ok((None, spent)),
     }
 }
 
-/// What `solver`, a solver of the miter of two nets, answers of it after at most `budget` further learnt clauses.
+/// What is left of a budget, and at least 1.
+fn left_of(budget: u32, spent: u32) -> u32
+    requires { 1 ≤ budget }
+    ensures some { 1 ≤ result }
+    ensures most { result ≤ budget }
+{
+    if spent < budget { budget - spent } else { 1 }
+}
+
+/// What `solver`, a solver of the miter of two nets, answers of it after at most `left` further learnt clauses.
+#[tactic(auto, using(crate::specs::SinkLaws::miter_variables))]
 fn finished<S: Solver>(
     alloc: Global,
     first: &Net,
     second: &Net,
     solver: S,
     budget: u32,
-) -> Result<Equiv, AllocError> {
-    match solver.finish(alloc, budget)? {
+    left: u32,
+) -> Result<Equiv, AllocError>
+    requires comparable { AreComparable first.now second.now }
+    requires small { IsSmall first.now }
+    requires solver { S.IsSolverOf (miter_of first.now second.now) budget solver }
+    requires budget { budget ≤ most_budget }
+    requires left { (1 ≤ left) × (left ≤ budget) }
+    ensures equal { IfOk result (λ e. IfEqual e (Refutes (miter_of first.now second.now))) }
+    ensures differ { IfOk result (λ e. IfDiffer e (IsFirstDifference first.now second.now)) }
+    ensures undecided { IfOk result (λ e. IfUndecided e (λ lines. IsSpent (miter_of first.now second.now) lines budget)) }
+    ensures kept { IfOk result (λ e. IfUndecided e (IsKept (miter_of first.now second.now))) }
+    ensures decides { 2 * 3 ^ variables first.now second.now ≤ budget → IfOk result IsDecided }
+{
+    match solver.finish(alloc, left)? {
         Solved::Unsat(log) => Ok(Equiv::Equal(log)),
         Solved::Open(log) => Ok(Equiv::Undecided(log)),
         Solved::Sat(assign) => {
@@ -129,18 +161,14 @@ fn compare<S: Solver>(
     ensures kept { IfOk result (λ e. IfUndecided e (IsKept (miter_of first.now second.now))) }
     ensures decides { 2 * 3 ^ variables first.now second.now ≤ budget → IfOk result IsDecided }
 {
+    let _vars = cnf.vars(); // for the prover: brings in the bounds of the formula
     let mut solver = S::new(alloc, cnf, budget)?;
     let (difference, spent) = swept(alloc, first, second, &mut solver, budget)?;
     if let Some(Difference { sink, at }) = difference {
         return Ok(Equiv::Differ { sink, at });
     }
-    finished(
-        alloc,
-        first,
-        second,
-        solver,
-        budget.saturating_sub(spent).max(1),
-    )
+    let left = left_of(budget, spent);
+    finished(alloc, first, second, solver, budget, left)
 }
 
 /// Decides with the solver `S` whether two proper circuits of one interface, each of fewer than 300,000,000 sources
