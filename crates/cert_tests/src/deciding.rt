@@ -4,19 +4,43 @@ ghost use Rattle.std.specs.Prelude.{◌≡◌, IfSome};
 ghost use Rattle.cert_theory.specs.Bundle.{IsHeading};
 
 use cdcl_core::Cdcl;
-use cnf_core::Cnf;
+use cnf_core::{Cnf, Lit};
 use decide_core::{Decided, Heading, Memory, decide};
 use op_basis::Basis;
-use sat_solve::{Solved, Solver};
+use sat_solve::{Cones, Probed, Solved, Solver};
 use settings::Method;
 use std::alloc::{AllocError, Global};
 use tt_core::read_tables;
 
 /// A solver that never has the memory for an answer.
+#[derive(Drop)]
 struct Silent;
 
 impl Solver for Silent {
-    fn solve(_alloc: Global, _cnf: &Cnf, _budget: u32) -> Result<Solved, AllocError> {
+    ghost use Rattle.std.specs.Prelude.{ℕ};
+
+    ghost IsSolverOf = { λ f least s. Unit {0} };
+
+    ghost vars_of = { λ s. 0 };
+
+    fn new(_alloc: Global, _cnf: &Cnf, _least: u32) -> Result<Silent, AllocError> {
+        Err(AllocError)
+    }
+
+    fn probe(
+        &mut self,
+        _targets: &[Lit],
+        _cones: Cones,
+        _limit: u32,
+    ) -> Result<Probed, AllocError> {
+        Err(AllocError)
+    }
+
+    fn bit(&self, _variable: u32) -> Option<bool> {
+        None
+    }
+
+    fn finish(self, _alloc: Global, _budget: u32) -> Result<Solved, AllocError> {
         Err(AllocError)
     }
 }
@@ -86,26 +110,21 @@ fn is_found_again(alloc: Global, first: &[u8], second: &[u8], max: u32, wanted: 
     before == Answer::Nothing && found == wanted && again == wanted
 }
 
-/// Tables, the same with their inputs in another order, the greatest number of steps, and the answer.
+/// Tables, the same with their inputs in another order, the greatest number of steps, and the answer. Fewer steps than
+/// five are gone over without a search.
 const TURNED: &[(&[u8], &[u8], u32, Answer)] = &[
-    // x1 chooses x2 or x3; x3 chooses x1 or x2
+    // the full adder beside the AND of x1 and x2; beside that of x1 and x3
     (
-        b"inputs 3\n01010011\n",
-        b"inputs 3\n00100111\n",
-        2,
-        Answer::Least,
-    ),
-    (
-        b"inputs 3\n01010011\n",
-        b"inputs 3\n00100111\n",
-        3,
+        b"inputs 3\n01101001\n00010111\n00000011\n",
+        b"inputs 3\n01101001\n00010111\n00000101\n",
+        5,
         Answer::Shorter,
     ),
-    // the carry of three inputs beside the AND of x1 and x2; beside that of x1 and x3
+    // and beside the OR of the two
     (
-        b"inputs 3\n00010111\n00000011\n",
-        b"inputs 3\n00010111\n00000101\n",
-        3,
+        b"inputs 3\n01101001\n00010111\n00000011\n00111111\n",
+        b"inputs 3\n01101001\n00010111\n00000101\n01011111\n",
+        5,
         Answer::Least,
     ),
 ];
