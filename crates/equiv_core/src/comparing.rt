@@ -1,5 +1,6 @@
-//! Combinational equivalence of two circuits: their miter is given to the solver. Its log refutes the miter or has
-//! spent the budget; its assignment has an input at which the circuits differ.
+//! Combinational equivalence of two circuits: their miter is given to the solver, which a sweep has derive the equal
+//! points of the two nets before it decides. Its log refutes the miter or has spent the budget; its assignment has an
+//! input at which the circuits differ. What the sweep finds is believed only where simulation shows a difference.
 ghost use Rattle.std.specs.Prelude.{◌≡◌, ◌≤◌, ◌<◌, ◌*◌, ◌^◌, ℕ, length, Err, IfOk, IfErr, IfSome, OnOk};
 ghost use Rattle.sat_theory.specs.Formula.{Formula, bits_of, Satisfies};
 ghost use Rattle.sat_theory.specs.Log.{Refutes, IsSpent, IsKept};
@@ -172,8 +173,8 @@ pub(crate) fn compare<S: Solver>(
 }
 
 /// Decides with the solver `S` whether two proper circuits of one interface, each of fewer than 300,000,000 sources
-/// and sinks (combinational inputs and outputs), do the same, unless it takes more than `budget` learnt clauses, from
-/// 1 to 10,000,000.
+/// and sinks (combinational inputs and outputs), do the same, unless it takes more than `budget` conflicts, from 1 to
+/// 10,000,000: those of questions about pairs of signals that were given up, and of the search after them.
 ///
 /// They are equal only with a log that refutes their miter, so that anybody can check it; they differ only at an
 /// input that shows it, at the first sink that does; and it is undecided only with a log that has spent the
