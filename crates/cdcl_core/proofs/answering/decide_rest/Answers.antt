@@ -5,7 +5,7 @@ use Rattle.cdcl_core.specs.declared.search.Search.{Search}
 use Rattle.cdcl_core.specs.Searching.{IsLogged}
 use Rattle.cdcl_core.specs.Solving.{IsUnderWay}
 use Rattle.cdcl_core.proofs.Restarting.{logged_restarted}
-use Rattle.cdcl_core.proofs.Probing.{under_way_restarted}
+use Rattle.cdcl_core.proofs.UnderWay.{under_way_restarted}
 use Rattle.cdcl_core.proofs.Showing.{open_less}
 use Rattle.cdcl_core.proofs.answering.decide_rest.Goals as goal
 
