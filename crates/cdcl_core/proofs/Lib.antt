@@ -20,4 +20,3 @@ pub mod Losing
 pub mod Writing
 pub mod Closing
 pub mod UnderWay
-pub mod Started
