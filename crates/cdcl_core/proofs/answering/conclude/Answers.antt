@@ -56,7 +56,7 @@ returns-in-Undecided-clause-decides c = λ f least of enough.
     c.decide_rest.ensures.decides f is_of.logged is_of.some (subst (λ (n : ℕ). 2 * 3 ^ f.vars ≤ max n c.args.budget) (sym is_of.least_is) enough)
 
 pub log_of-requires : goal.log_of-requires
-log_of-requires c = subst (λ (stage : Stage). IsStaged c.args.search.now stage) c.in-Refuted.is c.requires.staged
+log_of-requires c = record { stored = subst (λ (stage : Stage). IsStaged c.args.search.now stage) c.in-Refuted.is c.requires.staged }
 
 pub returns-in_ok-log_of-in-Refuted-clause-unsat : goal.returns-in_ok-log_of-in-Refuted-clause-unsat
 returns-in_ok-log_of-in-Refuted-clause-unsat c = λ f least of.
