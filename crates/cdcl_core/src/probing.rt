@@ -134,7 +134,8 @@ impl Search {
     {
         self.descend();
         let alloc = *self.starts.allocator();
-        open_targets(&mut self.scope, alloc, &self.trail, targets, cones)
+        open_targets(&mut self.scope, alloc, &self.trail, targets, cones)?;
+        Ok(())
     }
 
     /// Tries to make the targets true. A decision that is due after `limit` conflicts ends it; None: the formula is

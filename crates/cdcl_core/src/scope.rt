@@ -193,6 +193,8 @@ fn free_target(trail: &Trail, targets: &[Lit]) -> Option<Lit>
     ensures free { IfSome result (IsFree trail.now) }
 {
     for target in targets {
+        // for the prover: no variable is 0
+        let _variable = target.variable();
         if trail.is_free(*target) {
             return Some(*target);
         }

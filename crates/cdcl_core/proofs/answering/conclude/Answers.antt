@@ -17,8 +17,8 @@ returns-in-Empty-clause-unsat c = λ f least of.
 pub returns-in-Empty-clause-thinned : goal.returns-in-Empty-clause-thinned
 returns-in-Empty-clause-thinned c = λ f least of. thinned_at_once f c.new.result c.new.ensures
 
-pub decide_rest-requires-in-Undecided-clause-under_way : goal.decide_rest-requires-in-Undecided-clause-under_way
-decide_rest-requires-in-Undecided-clause-under_way c = subst (λ (stage : Stage). IsStaged c.args.search.now stage) c.in-Undecided.is c.requires.staged
+pub decide_rest-requires-clause-under_way : goal.decide_rest-requires-clause-under_way
+decide_rest-requires-clause-under_way c = subst (λ (stage : Stage). IsStaged c.args.search.now stage) c.in-Undecided.is c.requires.staged
 
 pub returns-in-Undecided-clause-bits : goal.returns-in-Undecided-clause-bits
 returns-in-Undecided-clause-bits c = λ f least of.
@@ -55,8 +55,8 @@ returns-in-Undecided-clause-decides c = λ f least of enough.
     let is_of : IsOf f least c.args.search.now = subst (λ (stage : Stage). IsStagedOf f least c.args.search.now stage) c.in-Undecided.is of in
     c.decide_rest.ensures.decides f is_of.logged is_of.some (subst (λ (n : ℕ). 2 * 3 ^ f.vars ≤ max n c.args.budget) (sym is_of.least_is) enough)
 
-pub log_of-requires-in-Refuted : goal.log_of-requires-in-Refuted
-log_of-requires-in-Refuted c = subst (λ (stage : Stage). IsStaged c.args.search.now stage) c.in-Refuted.is c.requires.staged
+pub log_of-requires : goal.log_of-requires
+log_of-requires c = record { stored = subst (λ (stage : Stage). IsStaged c.args.search.now stage) c.in-Refuted.is c.requires.staged }
 
 pub returns-in_ok-log_of-in-Refuted-clause-unsat : goal.returns-in_ok-log_of-in-Refuted-clause-unsat
 returns-in_ok-log_of-in-Refuted-clause-unsat c = λ f least of.

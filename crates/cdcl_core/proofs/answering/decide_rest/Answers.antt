@@ -5,7 +5,7 @@ use Rattle.cdcl_core.specs.declared.search.Search.{Search}
 use Rattle.cdcl_core.specs.Searching.{IsLogged}
 use Rattle.cdcl_core.specs.Solving.{IsUnderWay}
 use Rattle.cdcl_core.proofs.Restarting.{logged_restarted}
-use Rattle.cdcl_core.proofs.Probing.{under_way_restarted}
+use Rattle.cdcl_core.proofs.UnderWay.{under_way_restarted}
 use Rattle.cdcl_core.proofs.Showing.{open_less}
 use Rattle.cdcl_core.proofs.answering.decide_rest.Goals as goal
 
@@ -44,3 +44,9 @@ pub returns-clause-decides : goal.returns-clause-decides
 returns-clause-decides c = λ f logged none enough.
     let low : max c.args.search.now.least c.args.budget ≤ c.target-target.result = omega (arith, c.target-target.ensures.least, c.target-target.ensures.budget, c.close.ensures.restarted.least) in
     c.answer.ensures.decides f (logged_restarted f c.args.search.now c.close.new.self logged c.close.ensures.restarted) none (omega (arith, low, enough))
+
+pub close-requires-clause-searching : goal.close-requires-clause-searching
+close-requires-clause-searching c = c.requires.under_way.searching
+
+pub close-requires-clause-visited : goal.close-requires-clause-visited
+close-requires-clause-visited c = c.requires.under_way.visited

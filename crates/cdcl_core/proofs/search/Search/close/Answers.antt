@@ -1,5 +1,5 @@
 use Rattle.std.proofs.Common.{None}
-use Rattle.cdcl_core.proofs.Probing.{searching_scoped, visited_scoped, restarted_scoped}
+use Rattle.cdcl_core.proofs.UnderWay.{searching_scoped, visited_scoped, restarted_scoped}
 use Rattle.cdcl_core.proofs.search.Search.close.Goals as goal
 
 pub returns-clause-searching : goal.returns-clause-searching

@@ -6,7 +6,7 @@ use Rattle.cdcl_core.specs.Searching.{HasDecided, HasSettled, IsLogged}
 use Rattle.cdcl_core.specs.Solving.{IsUnderWay}
 use Rattle.cdcl_core.proofs.Counting.{trail_short}
 use Rattle.cdcl_core.proofs.Settling.{measure_falls, logged_decided, starts_short, settled_few}
-use Rattle.cdcl_core.proofs.Probing.{under_way_settled, under_way_scoped, logged_scoped}
+use Rattle.cdcl_core.proofs.UnderWay.{under_way_settled, under_way_scoped, logged_scoped}
 use Rattle.cdcl_core.proofs.search.Search.probe_to.Goals as goal
 
 pub loop-conflict-smaller : goal.loop-conflict-smaller
