@@ -13,17 +13,22 @@ one_error : (e d : BundleError) (r : Result Verdict BundleError) → r ≡ Err e
 one_error e d r one two = cc
 
 answer_for : (ls : List Line) (r : Result Verdict BundleError) → bundle_of (front_of ls) ≡ r → (answer : Answer) × IsJudged ls answer
-answer_for ls (Err e) is = (Err (InBundle e), record {
-  refused = λ d bad. ap (λ (x : BundleError). Err (InBundle x)) (one_error e d (bundle_of (front_of ls)) is bad);
-  behind = λ c valid output same. never_both c.verdict e (bundle_of (front_of ls)) (ap bundle_of same ∙ read_again c valid output) is;
-})
+answer_for ls (Err e) is = (
+  Err (InBundle e),
+  record {
+    refused = λ d bad. ap (λ (x : BundleError). Err (InBundle x)) (one_error e d (bundle_of (front_of ls)) is bad);
+    behind = λ c valid output same. never_both c.verdict e (bundle_of (front_of ls)) (ap bundle_of same ∙ read_again c valid output) is;
+  },
+)
 answer_for ls (Ok v) is =
     let read : ReadBundle (front_of ls) v = lines_read (front_of ls) v is in
-    let number = length (front_of ls) + 1 in
-    (behind_bundle read.bundle number (behind_of ls), record {
-      refused = λ e bad. never_both v e (bundle_of (front_of ls)) is bad;
-      behind = λ c valid output same. same_behind read.bundle c number (behind_of ls) read.valid read.output valid output (sym read.lines ∙ same);
-    })
+    let number = length (front_of ls) + 1 in (
+      behind_bundle read.bundle number (behind_of ls),
+      record {
+        refused = λ e bad. never_both v e (bundle_of (front_of ls)) is bad;
+        behind = λ c valid output same. same_behind read.bundle c number (behind_of ls) read.valid read.output valid output (sym read.lines ∙ same);
+      },
+    )
 
 -- Every list of lines has an answer,
 pub some_answer : (ls : List Line) → (answer : Answer) × IsJudged ls answer
