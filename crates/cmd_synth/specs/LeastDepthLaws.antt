@@ -135,15 +135,15 @@ none_to_max asked bytes text x other =
     ∙ ap (λ (h : Heading). h.max) c.heading_is
 
 -- this stands outside
-abbrev Leaves : Run → SynthSettings → List ℕ → List ℕ → Found → Type 0
-Leaves r asked input text f = IsCertified asked input (record { text = text; found = f }) × Stands r (least_depth_reply (record { text = text; found = f }))
+abbrev StandsCertified : Run → SynthSettings → List ℕ → List ℕ → Found → Type 0
+StandsCertified r asked input text f = IsCertified asked input (record { text = text; found = f }) × Stands r (least_depth_reply (record { text = text; found = f }))
 
-finds_none : (r : Run) (asked : SynthSettings) (input text : List ℕ) (w : Words) (x : ℕ) → AreTables input w → x ≡ asked.max → Leaves r asked input text (Other (sizes.NoChain x)) → FindsNone asked w r input
+finds_none : (r : Run) (asked : SynthSettings) (input text : List ℕ) (w : Words) (x : ℕ) → AreTables input w → x ≡ asked.max → StandsCertified r asked input text (Other (sizes.NoChain x)) → FindsNone asked w r input
 finds_none r asked input text w x are same leaves =
-    let here : Leaves r asked input text (Other (sizes.NoChain asked.max)) = subst (λ (y : ℕ). Leaves r asked input text (Other (sizes.NoChain y))) same leaves in
+    let here : StandsCertified r asked input text (Other (sizes.NoChain asked.max)) = subst (λ (y : ℕ). StandsCertified r asked input text (Other (sizes.NoChain y))) same leaves in
     record { text = text; certified = here.0; stands = here.1; none = here.0.means w are }
 
-tells_least : (r : Run) (asked : SynthSettings) (input text : List ℕ) (w : Words) (f : Found) → AreTables input w → Leaves r asked input text f → found_status f ≡ Done → FindsLeast asked w r input ⊎ FindsNone asked w r input
+tells_least : (r : Run) (asked : SynthSettings) (input text : List ℕ) (w : Words) (f : Found) → AreTables input w → StandsCertified r asked input text f → found_status f ≡ Done → FindsLeast asked w r input ⊎ FindsNone asked w r input
 tells_least r asked input text w (Least (Levels d)) are leaves is =
     let means = leaves.0.means w are in
     inl (record { text = text; levels = d; certified = leaves.0; stands = leaves.1; steps = means.0; least = means.1 })
@@ -153,10 +153,10 @@ tells_least r asked input text w (Other (sizes.NoChain x)) are leaves is = inr (
 tells_least r asked input text w (Other (sizes.Bounded low n)) are leaves is = absurd cc
 tells_least r asked input text w (Other (sizes.Open low)) are leaves is = absurd cc
 
-leaves_steps : (r : Run) (asked : SynthSettings) (input text : List ℕ) (w : Words) (v : Verdict) → AreTables input w → Leaves r asked input text (Other v) → verdict_status v ≡ Undecided → LeavesSteps asked w r input
+leaves_steps : (r : Run) (asked : SynthSettings) (input text : List ℕ) (w : Words) (v : Verdict) → AreTables input w → StandsCertified r asked input text (Other v) → verdict_status v ≡ Undecided → LeavesSteps asked w r input
 leaves_steps r asked input text w v are leaves is = record { text = text; verdict = v; certified = leaves.0; stands = leaves.1; is_open = is; means = leaves.0.means w are }
 
-tells_bounds : (r : Run) (asked : SynthSettings) (input text : List ℕ) (w : Words) (f : Found) → AreTables input w → Leaves r asked input text f → found_status f ≡ Undecided → FindsBounds asked w r input ⊎ LeavesSteps asked w r input
+tells_bounds : (r : Run) (asked : SynthSettings) (input text : List ℕ) (w : Words) (f : Found) → AreTables input w → StandsCertified r asked input text f → found_status f ≡ Undecided → FindsBounds asked w r input ⊎ LeavesSteps asked w r input
 tells_bounds r asked input text w (Least (Levels d)) are leaves is = absurd cc
 tells_bounds r asked input text w (Least (Bounded low d)) are leaves is =
     let c = leaves.0.certificate in
