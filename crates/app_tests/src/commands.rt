@@ -225,12 +225,12 @@ fn equiv_tells(rt: HostRuntime) {
     }
 }
 
-/// XOR of four inputs as a tree, and as a row.
-const TREE: &str =
-    ".inputs a b c d\n.outputs y\n.names a b p\n10 1\n01 1\n.names c d q\n10 1\n01 1\n.names p q y\n10 1\n01 1\n.end\n";
-
+/// XOR of six inputs in two orders, which have no equal points but the inputs and the output.
 const ROW: &str =
-    ".inputs a b c d\n.outputs y\n.names a b p\n10 1\n01 1\n.names p c q\n10 1\n01 1\n.names q d y\n10 1\n01 1\n.end\n";
+    ".inputs a b c d e f\n.outputs y\n.names a b p\n10 1\n01 1\n.names p c q\n10 1\n01 1\n.names q d r\n10 1\n01 1\n.names r e s\n10 1\n01 1\n.names s f y\n10 1\n01 1\n.end\n";
+
+const OTHER_ROW: &str =
+    ".inputs a b c d e f\n.outputs y\n.names f b p\n10 1\n01 1\n.names p d q\n10 1\n01 1\n.names q a r\n10 1\n01 1\n.names r e s\n10 1\n01 1\n.names s c y\n10 1\n01 1\n.end\n";
 
 /// Whether a run answered with a log after `word`, and nothing on the notes.
 fn is_log(seen: &Seen, status: u8, word: &str) -> bool {
@@ -253,8 +253,8 @@ fn tells_log(alloc: Global, line: &str, first: &str, second: &str, status: u8, w
 /// Lines of `equiv`, two netlists, the status, and the word before the log.
 const LOGS: &[(&str, &str, &str, u8, &str)] = &[
     ("equiv", THREE_GATES, ONE_GATE, 0, "equal\n"),
-    ("equiv", TREE, ROW, 0, "equal\n"),
-    ("equiv --conflicts 1", TREE, ROW, 4, "undecided\n"),
+    ("equiv", ROW, OTHER_ROW, 0, "equal\n"),
+    ("equiv --conflicts 1", ROW, OTHER_ROW, 4, "undecided\n"),
 ];
 
 #[test]

@@ -3,13 +3,13 @@
 use crate::running::told;
 use std::alloc::{AllocError, Global};
 
-/// A full adder, of which a budget of one clause leaves four windows undecided.
+/// Two full adders in a row, of which a budget of one clause leaves four windows of six gates undecided.
 const ADDER: &str =
-    ".model a\n.inputs a b c\n.outputs s k\n.names a b p\n01 1\n10 1\n.names p c s\n01 1\n10 1\n.names a b q\n11 1\n.names p c r\n11 1\n.names q r k\n1- 1\n-1 1\n.end\n";
+    ".model a\n.inputs a b c d e\n.outputs s t k\n.names a b p\n01 1\n10 1\n.names p c s\n01 1\n10 1\n.names a b q\n11 1\n.names p c r\n11 1\n.names q r h\n1- 1\n-1 1\n.names d e u\n01 1\n10 1\n.names u h t\n01 1\n10 1\n.names d e v\n11 1\n.names u h w\n11 1\n.names v w k\n1- 1\n-1 1\n.end\n";
 
 /// The same in BENCH.
 const GATES: &str =
-    "INPUT(a)\nINPUT(b)\nINPUT(c)\nOUTPUT(s)\nOUTPUT(k)\np = XOR(a, b)\ns = XOR(p, c)\nq = AND(a, b)\nr = AND(p, c)\nk = OR(q, r)\n";
+    "INPUT(a)\nINPUT(b)\nINPUT(c)\nINPUT(d)\nINPUT(e)\nOUTPUT(s)\nOUTPUT(t)\nOUTPUT(k)\np = XOR(a, b)\ns = XOR(p, c)\nq = AND(a, b)\nr = AND(p, c)\nh = OR(q, r)\nu = XOR(d, e)\nt = XOR(u, h)\nv = AND(d, e)\nw = AND(u, h)\nk = OR(v, w)\n";
 
 /// Whether `recheck` finds of a certificate without its last line, `end`, the verdict `open` that its last line then is.
 fn is_found_open(alloc: Global, front: &[u8]) -> Result<bool, AllocError> {
@@ -52,14 +52,15 @@ fn are_found_open(alloc: Global, line: &str, input: &str, count: u32) -> bool {
     }
 }
 
-/// Lines, netlists, and how many windows stay undecided.
+/// Lines, netlists, and how many windows stay undecided: none of up to five gates.
 const UNDECIDED: &[(&str, &str, u32)] = &[
-    ("improve --conflicts 1", ADDER, 4),
-    ("improve --conflicts 1 --method plain", ADDER, 4),
-    ("improve --conflicts 1 --method select", ADDER, 4),
-    ("improve --conflicts 1 --method fence", ADDER, 4),
-    ("improve --conflicts 1 --observe yes", ADDER, 4),
-    ("improve --conflicts 1 --format bench", GATES, 3),
+    ("improve --conflicts 1", ADDER, 0),
+    ("improve --conflicts 1 --cap 6", ADDER, 4),
+    ("improve --conflicts 1 --cap 6 --method plain", ADDER, 4),
+    ("improve --conflicts 1 --cap 6 --method select", ADDER, 4),
+    ("improve --conflicts 1 --cap 6 --method fence", ADDER, 4),
+    ("improve --conflicts 1 --cap 6 --observe yes", ADDER, 4),
+    ("improve --conflicts 1 --cap 6 --format bench", GATES, 4),
 ];
 
 #[test]

@@ -72,7 +72,7 @@ const IMPROVED: &[(&[u8], Asked, &[u8])] = &[
         Asked::Blif(1, 1000, 100_000, true),
         b".model o\n.inputs a b\n.outputs y p\n.names a b p\n00 1\n11 1\n.names p a y\n11 1\n.end\ngates 2 -> 2\nsettled\n",
     ),
-    // windows of one gate never stay undecided
+    // windows of one gate
     (
         ADDER,
         Asked::Blif(1, 1000, 1, false),
@@ -112,13 +112,21 @@ fn windows_shrink(rt: HostRuntime) {
     }
 }
 
-/// Whether on a budget of one clause some window of the full adder stays undecided.
+/// Two full adders in a row.
+const ADDERS: &[u8] =
+    b".model a\n.inputs a b c d e\n.outputs s t k\n.names a b p\n01 1\n10 1\n.names p c s\n01 1\n10 1\n.names a b q\n11 1\n.names p c r\n11 1\n.names q r h\n1- 1\n-1 1\n.names d e u\n01 1\n10 1\n.names u h t\n01 1\n10 1\n.names d e v\n11 1\n.names u h w\n11 1\n.names v w k\n1- 1\n-1 1\n.end\n";
+
+/// Whether on a budget of one clause some window of six gates stays undecided, and none of up to five.
 fn is_undecided(alloc: Global) -> bool {
-    let Some(improved) = improved(alloc, ADDER, Asked::Blif(5, 1000, 1, false)) else {
+    let Some(five) = improved(alloc, ADDERS, Asked::Blif(5, 1000, 1, false)) else {
         return false;
     };
-    let front = improved.report.starts_with(b"gates 5 -> 5\nundecided ");
-    front && improved.report.ends_with(b"\nsettled\n")
+    let Some(six) = improved(alloc, ADDERS, Asked::Blif(6, 1000, 1, false)) else {
+        return false;
+    };
+    let front = six.report.starts_with(b"gates 10 -> 10\nundecided ");
+    let none = five.report.as_slice() == b"gates 10 -> 10\nsettled\n".as_slice();
+    none && front && six.report.ends_with(b"\nsettled\n")
 }
 
 #[test]
