@@ -29,9 +29,9 @@ replaced_leads basis n m c w v same pruned less over old =
       pruned = λ first is. pruned first is (omega (arith, less, size));
       operators = record {
         each = λ i g at. ⊎_elim
-            (λ has. inr (record { index = has.index; gate = has.gate; at = has.at; same = has.is }))
+            (λ has. inr has)
             (λ step. inl (step_over basis c g.op over step))
-            (old g.op (record { index = i; gate = g; at = at; is = refl }));
+            (old g.op (record { index = i; gate = g; at = at; same = refl }));
       };
     }
 
