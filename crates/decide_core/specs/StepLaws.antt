@@ -1,4 +1,5 @@
 -- What the walk over steps says of a heading that asks for few.
+use Rattle.std.specs.Prelude.{IfNone}
 use Rattle.std.proofs.Common.{◌≡◌, Option, Some, None, subst}
 use Rattle.chain_theory.specs.Chain.{Chain}
 use Rattle.tt_core.specs.Words.{specification}
@@ -17,5 +18,8 @@ step_found h o c is e = let found : IsAnswer (specification h.spec) (members h.b
 
 pub step_none : (h : Heading) (o : Option Chain) → IsAnswer (specification h.spec) (members h.basis) h.max o → o ≡ None → HasNone h
 step_none h o is e = let none : IsAnswer (specification h.spec) (members h.basis) h.max None = subst (IsAnswer (specification h.spec) (members h.basis) h.max) e is in none
+
+pub none_known : (h k : Heading) (o : Option Chain) → h ≡ k → o ≡ None → IfNone o (HasNone h) → HasNone k
+none_known h k o same e is = subst HasNone same (subst (λ (x : Option Chain). IfNone x (HasNone h)) e is)
 
 pub ruleset stepping = (deciding, step_found, step_none)

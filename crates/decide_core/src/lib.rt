@@ -19,6 +19,7 @@ mod deciding;
 mod ordering;
 mod question;
 mod remembering;
+mod stepping;
 
 pub use bundle_core::{Bundle, Heading};
 pub use deciding::Decided;

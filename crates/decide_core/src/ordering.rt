@@ -11,6 +11,7 @@ ghost use Rattle.decide_core.specs.Decided.{IsDecided, IsClosed, IsShorter};
 use crate::deciding::{Decided, Sized, no_steps};
 use crate::question::Question;
 use crate::remembering::{decide_sizes, decide_whole, serves};
+use crate::stepping::decide_few;
 use bound_core::lower_bound;
 use bundle_core::Heading;
 use chain_core::Chain;
@@ -18,7 +19,6 @@ use sat_solve::Solver;
 use spec_memory::Memory;
 use spec_order::{inverse, normal_order, turned_chain, turned_spec};
 use std::alloc::{AllocError, Global};
-use step_core::few_steps;
 
 /// The most conflicts of the first search of a size, which keeps no certificate. What isn't decided by then is searched
 /// with a certificate, with the whole budget.
@@ -38,7 +38,11 @@ fn first_conflicts(conflicts: u32) -> u32
 
 /// The heading for tables whose inputs are in another order, for the first search.
 #[tactic(auto, using(crate::specs::OrderedLaws::ordering))]
-fn turned_heading(alloc: Global, question: Question, order: &[u32]) -> Result<Heading, AllocError>
+pub(crate) fn turned_heading(
+    alloc: Global,
+    question: Question,
+    order: &[u32],
+) -> Result<Heading, AllocError>
     requires { IsOrder question.heading.now.spec.n order.now }
     ensures heading { IfOk result (λ turned. IsHeading turned) }
     ensures turned { IfOk result (λ turned. IsTurned (specification question.entry.heading.now.spec) (specification turned.spec) order.now) }
@@ -59,7 +63,7 @@ fn turned_heading(alloc: Global, question: Question, order: &[u32]) -> Result<He
 }
 
 /// The chain with its inputs turned back, where it is one that the heading asks for.
-fn turned_back(
+pub(crate) fn turned_back(
     alloc: Global,
     heading: &Heading,
     chain: &Chain,
@@ -104,22 +108,8 @@ fn decide_turned<S: Solver>(
     }
 }
 
-/// Decides by going over steps whether a chain of few steps agrees. Nothing stays open.
-#[tactic(auto, using(crate::specs::StepLaws::stepping))]
-fn decide_few(alloc: Global, heading: &Heading) -> Result<Decided, AllocError>
-    requires few { heading.now.max ≤ 4 }
-    ensures decided { IfOk result (λ decided. IsDecided heading.now decided) }
-    ensures closed { IfOk result IsClosed }
-{
-    match few_steps(alloc, &heading.spec, heading.basis, heading.max)? {
-        Some(chain) => Ok(Decided::Shorter(chain)),
-        None => Ok(Decided::Least),
-    }
-}
-
-/// Decides whether a chain of at most `heading.max` steps agrees with the heading's tables, by counting, for at most four
-/// steps by going over them, and else by a memory for the heading's basis, and by a search, from which the
-/// memory learns. A certificate comes only where a search has spent its budget.
+/// Decides whether a chain of at most `heading.max` steps agrees with the heading's tables, by counting, by a memory for
+/// the heading's basis, and for at most four steps by going over them, else by a search, from which the memory learns. A certificate comes only where a search has spent its budget.
 #[tactic(auto, using(crate::specs::OrderedLaws::ordering))]
 pub fn decide<S: Solver>(
     alloc: Global,
@@ -141,7 +131,7 @@ pub fn decide<S: Solver>(
         return Ok(Decided::Least);
     }
     if heading.max <= FEW_STEPS {
-        return decide_few(alloc, heading);
+        return decide_few(alloc, memory, Question::new(heading));
     }
     decide_turned::<S>(alloc, memory, Question::new(heading))
 }

@@ -61,7 +61,7 @@ pub fn serves(chain: &Chain, heading: &Heading) -> bool
     agrees(chain, &heading.spec)
 }
 
-fn copied(alloc: Global, chain: &Chain) -> Result<Chain, AllocError>
+pub(crate) fn copied(alloc: Global, chain: &Chain) -> Result<Chain, AllocError>
     ensures { IfOk result (λ copy. copy ≡ chain.now) }
 {
     let steps = Vec::from_slice(alloc, chain.steps())?;
@@ -70,7 +70,7 @@ fn copied(alloc: Global, chain: &Chain) -> Result<Chain, AllocError>
 }
 
 /// A chain that is remembered and that the heading asks for.
-fn remembered(
+pub(crate) fn remembered(
     alloc: Global,
     memory: &Memory,
     key: &Key,
@@ -105,7 +105,7 @@ fn first_size(memory: &Memory, key: &Key, question: Question, counted: u32) -> u
 }
 
 /// What is noted where no chain was found.
-fn without_chain(fewest: u32, open: bool) -> Found
+pub(crate) fn without_chain(fewest: u32, open: bool) -> Found
     ensures { result.fewest ≡ fewest }
 {
     Found {
@@ -116,7 +116,7 @@ fn without_chain(fewest: u32, open: bool) -> Found
 }
 
 /// What is noted where a chain was found.
-fn with_chain(fewest: u32, chain: Chain) -> Found
+pub(crate) fn with_chain(fewest: u32, chain: Chain) -> Found
     ensures { result.fewest ≡ fewest }
 {
     Found {

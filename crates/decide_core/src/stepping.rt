@@ -1,0 +1,95 @@
+//! Few steps are gone over, with no search and nothing left open. What the walk finds is remembered as what a search finds
+//! is, with the inputs in their normal order; one or two steps are gone over faster than they are remembered.
+ghost use Rattle.std.specs.Prelude.{◌≡◌, ◌≤◌, IfSome, IfNone, IfOk};
+ghost use Rattle.decide_core.specs.Decided.{IsDecided, IsClosed, IsShorter, HasNone};
+
+use crate::deciding::Decided;
+use crate::ordering::{turned_back, turned_heading};
+use crate::question::Question;
+use crate::remembering::{copied, remembered, with_chain, without_chain};
+use bundle_core::Heading;
+use chain_core::Chain;
+use spec_memory::{Key, Memory};
+use spec_order::normal_order;
+use std::alloc::{AllocError, Global};
+use step_core::few_steps;
+
+/// The most steps of which nothing is remembered.
+const FORGOTTEN_STEPS: u32 = 2;
+
+/// Decides by going over steps.
+#[tactic(auto, using(crate::specs::StepLaws::stepping))]
+fn walked(alloc: Global, heading: &Heading) -> Result<Decided, AllocError>
+    requires few { heading.now.max ≤ 4 }
+    ensures decided { IfOk result (λ decided. IsDecided heading.now decided) }
+    ensures closed { IfOk result IsClosed }
+{
+    match few_steps(alloc, &heading.spec, heading.basis, heading.max)? {
+        Some(chain) => Ok(Decided::Shorter(chain)),
+        None => Ok(Decided::Least),
+    }
+}
+
+/// A chain that the heading asks for, or None where there is none, by memory, and by going over steps what it doesn't
+/// know.
+#[tactic(auto, using(crate::specs::StepLaws::stepping))]
+fn known_steps(
+    alloc: Global,
+    memory: &mut Memory,
+    question: Question,
+) -> Result<Option<Chain>, AllocError>
+    requires basis { memory.old ≡ question.heading.now.basis }
+    requires few { question.heading.now.max ≤ 4 }
+    ensures some { IfOk result (λ found. IfSome found (λ chain. IsShorter question.entry.heading.now chain)) }
+    ensures none { IfOk result (λ found. IfNone found (HasNone question.entry.heading.now)) }
+    ensures basis { memory.new ≡ memory.old }
+{
+    let heading = question.heading;
+    let key = Key::of(alloc, &heading.spec)?;
+    let known = memory.fewest(&key);
+    if heading.max < known {
+        return Ok(None);
+    }
+    if let Some(chain) = remembered(alloc, memory, &key, heading)? {
+        return Ok(Some(chain));
+    }
+    match few_steps(alloc, &heading.spec, heading.basis, heading.max)? {
+        None => {
+            memory.note(key, without_chain(heading.max + 1, false))?;
+            Ok(None)
+        }
+        Some(chain) => {
+            let found = with_chain(0, copied(alloc, &chain)?);
+            memory.note(key, found)?;
+            Ok(Some(chain))
+        }
+    }
+}
+
+/// Decides whether a chain of at most four steps agrees. Nothing stays open.
+#[tactic(auto, using(crate::specs::OrderedLaws::ordering))]
+pub(crate) fn decide_few(
+    alloc: Global,
+    memory: &mut Memory,
+    question: Question,
+) -> Result<Decided, AllocError>
+    requires basis { memory.old ≡ question.heading.now.basis }
+    requires few { question.heading.now.max ≤ 4 }
+    ensures decided { IfOk result (λ decided. IsDecided question.entry.heading.now decided) }
+    ensures closed { IfOk result IsClosed }
+    ensures basis { memory.new ≡ memory.old }
+{
+    let heading = question.heading;
+    if heading.max <= FORGOTTEN_STEPS {
+        return walked(alloc, heading);
+    }
+    let order = normal_order(alloc, &heading.spec)?;
+    let turned = turned_heading(alloc, question, &order)?;
+    match known_steps(alloc, memory, Question::new(&turned))? {
+        None => Ok(Decided::Least),
+        Some(chain) => match turned_back(alloc, heading, &chain, &order)? {
+            Some(chain) => Ok(Decided::Shorter(chain)),
+            None => walked(alloc, heading),
+        },
+    }
+}
