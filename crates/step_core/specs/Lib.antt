@@ -5,6 +5,7 @@ pub mod Walks
 pub mod Rules
 pub mod Outs
 pub mod Cuts
+pub mod Waits
 pub mod SearchLaws
 pub mod WordLaws
 pub mod TrailLaws
@@ -13,4 +14,5 @@ pub mod WalkLaws
 pub mod TargetLaws
 pub mod CutLaws
 pub mod ReducedLaws
+pub mod WaitLaws
 pub mod ShortLaws

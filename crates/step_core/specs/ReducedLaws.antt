@@ -131,7 +131,7 @@ unfolding meets
 meets_is w word i none = ap not none
 
 -- an out has the values of its output
-out_meets : (w : Words) (steps : List Step) (outs : List Out) (p : ℕ) → IsSpec w → AreSteps w.n steps → Agrees (chain_on w steps outs) (specification w) → 1 ≤ p → p ≤ w.n + length steps → Contains outs (kinds.Place p) → meets_some w (word_in w.n steps p) ≡ true
+pub out_meets : (w : Words) (steps : List Step) (outs : List Out) (p : ℕ) → IsSpec w → AreSteps w.n steps → Agrees (chain_on w steps outs) (specification w) → 1 ≤ p → p ≤ w.n + length steps → Contains outs (kinds.Place p) → meets_some w (word_in w.n steps p) ≡ true
 unfolding meets_some
 out_meets w steps outs p spec are agrees from to named =
     let i : ℕ = named.0 in

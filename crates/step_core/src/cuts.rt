@@ -78,7 +78,7 @@ fn meets(spec: &Spec, word: u64, output: u32) -> bool
 
 /// Whether a word has the values of some output.
 #[tactic(auto, using(crate::specs::SearchLaws::passing), unfolding(crate::specs::Cuts::meets_some))]
-fn meets_some(spec: &Spec, word: u64) -> bool
+pub(crate) fn meets_some(spec: &Spec, word: u64) -> bool
     ensures { result ≡ meets_some_of spec.now word }
 {
     for output in 0..spec.outputs() {

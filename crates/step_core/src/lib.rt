@@ -9,6 +9,8 @@
 //!
 //! - Of the outputs that differ, no two are at one step. More of them than steps are left end the walk, and as many ask each
 //!   step to be one.
+//! - Each step that is no output, and each input that an output uses, has to be read, and a step reads two places: more that
+//!   wait than the steps left can read end the walk, and so for the pair of operands of the next step.
 //! - Pairs of operands come in their order, the first operand below the second, where the basis lets operands be exchanged.
 //! - An operator needs both operands, and one operand twice is negated.
 //! - A step that is no output is 0 on row 0, where the basis has complements.
@@ -23,6 +25,7 @@ mod outs;
 mod rules;
 mod short;
 mod trail;
+mod waits;
 mod walk;
 mod words;
 

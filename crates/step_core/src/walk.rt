@@ -5,11 +5,13 @@ ghost use Rattle.op_basis.specs.Basis.{members};
 ghost use Rattle.chain_theory.specs.Chain.{IsStepAt};
 ghost use Rattle.chain_core.specs.Steps.{step_of};
 ghost use Rattle.step_core.specs.Cuts.{due as due_of};
+ghost use Rattle.step_core.specs.Waits.{waiting as waiting_of};
 ghost use Rattle.step_core.specs.Walks.{IsWalking, IsWalked, NoneFrom, NoneWith, HasLarger, HasPair, HasOperands, IsThe};
 
 use crate::cuts::{due, is_plain, may_come, may_follow};
 use crate::rules::Rules;
 use crate::trail::Trail;
+use crate::waits::{leaves_few, waiting};
 use crate::words::all_met;
 use chain_core::Step;
 use op_basis::Op;
@@ -28,6 +30,8 @@ pub(crate) fn walk(
     requires walking { IsWalking spec.now (members rules.now) trail.old left }
     ensures { IfOk result (IsWalked spec.now (members rules.now) left trail.old trail.new (NoneFrom spec.now (members rules.now) trail.old.steps left)) }
 {
+    // brings the specification's invariant into the proof
+    let _inputs = spec.n();
     let places = trail.n() + trail.len();
     if left == 0 {
         return Ok(all_met(spec, trail));
@@ -36,8 +40,13 @@ pub(crate) fn walk(
     if due > left {
         return Ok(false);
     }
+    let waiting = waiting(spec, trail);
+    let most = 2 * left;
+    if waiting > most {
+        return Ok(false);
+    }
     for before in 0..places {
-        if walk_larger(spec, rules, trail, left, due, before + 1)? {
+        if walk_larger(spec, rules, trail, left, due, waiting, before + 1)? {
             return Ok(true);
         }
     }
@@ -53,16 +62,18 @@ fn walk_larger(
     trail: &mut Trail,
     left: u32,
     due: u32,
+    waiting: u32,
     high: u32,
 ) -> Result<bool, AllocError>
     requires walking { IsWalking spec.now (members rules.now) trail.old left }
     requires some { 1 ≤ left }
     requires due { due ≡ due_of spec.now trail.old.steps }
+    requires waiting { waiting ≡ waiting_of spec.now trail.old.steps }
     requires high { high ≤ trail.old.n + length trail.old.steps }
     ensures { IfOk result (IsWalked spec.now (members rules.now) left trail.old trail.new (NoneWith spec.now (members rules.now) trail.old.steps left (HasLarger high))) }
 {
     for before in 0..high {
-        if walk_pair(spec, rules, trail, left, due, before + 1, high)? {
+        if walk_pair(spec, rules, trail, left, due, waiting, before + 1, high)? {
             return Ok(true);
         }
     }
@@ -78,18 +89,23 @@ fn walk_pair(
     trail: &mut Trail,
     left: u32,
     due: u32,
+    waiting: u32,
     low: u32,
     high: u32,
 ) -> Result<bool, AllocError>
     requires walking { IsWalking spec.now (members rules.now) trail.old left }
     requires some { 1 ≤ left }
     requires due { due ≡ due_of spec.now trail.old.steps }
+    requires waiting { waiting ≡ waiting_of spec.now trail.old.steps }
     requires low_from { 1 ≤ low }
     requires low { low ≤ high }
     requires high { high ≤ trail.old.n + length trail.old.steps }
     ensures { IfOk result (IsWalked spec.now (members rules.now) left trail.old trail.new (NoneWith spec.now (members rules.now) trail.old.steps left (HasPair low high))) }
 {
     if !may_follow(trail, low, high) {
+        return Ok(false);
+    }
+    if !leaves_few(spec, trail, left, waiting, low, high) {
         return Ok(false);
     }
     if walk_operators(spec, rules, trail, left, due, low, high)? {

@@ -4,10 +4,12 @@ use Rattle.op_basis.specs.Basis.{members}
 use Rattle.chain_theory.specs.Chain.{IsStepAt}
 use Rattle.chain_core.specs.Steps.{step_of}
 use Rattle.step_core.specs.Cuts.{due}
+use Rattle.step_core.specs.Waits.{waiting}
 use Rattle.step_core.specs.Trails.{Trailed}
 use Rattle.step_core.specs.Walks.{NoneFrom, NoneWith, HasLarger, HasPair, HasOperands}
 use Rattle.step_core.specs.WalkLaws.{whole_walk, found_on, none_there, by_larger, by_pair, by_order, by_operator}
 use Rattle.step_core.specs.CutLaws.{too_few}
+use Rattle.step_core.specs.WaitLaws.{too_many}
 use Rattle.step_core.specs.ReducedLaws.{must_rise}
 use Rattle.step_core.proofs.walk.+walking.Goals as goal
 
@@ -20,7 +22,8 @@ walk-walk_larger-requires t c =
     let less : 5 * c.args.left - 1 < t = omega (arith, at, c.if-left-eq0.false) in
     let same : c.loop-before.trail.n + length c.loop-before.trail.steps ≡ c.args.trail.now.n + length c.args.trail.now.steps = ap (λ (x : Trailed). x.n + length x.steps) c.loop-before.invariant.same in
     let count : c.due-due.result ≡ due c.args.spec.now c.loop-before.trail.steps = c.due-due.ensures ∙ ap (λ (x : Trailed). due c.args.spec.now x.steps) (sym c.loop-before.invariant.same) in
-    (less, (c.loop-before.invariant.walking, (omega (arith, c.if-left-eq0.false), (count, omega (arith, same, c.loop-before-test.true, c.n.ensures.inputs, c.len.ensures.count)))))
+    let wait : c.waiting-waiting.result ≡ waiting c.args.spec.now c.loop-before.trail.steps = c.waiting-waiting.ensures ∙ ap (λ (x : Trailed). waiting c.args.spec.now x.steps) (sym c.loop-before.invariant.same) in
+    (less, (c.loop-before.invariant.walking, (omega (arith, c.if-left-eq0.false), (count, (wait, omega (arith, same, c.loop-before-test.true, c.n.ensures.inputs, c.len.ensures.count))))))
 
 pub walk-returns-then-branch : goal.walk-returns-then-branch
 walk-returns-then-branch t c = found_on c.args.spec.now (members c.args.rules.now) c.args.left c.args.trail.now c.loop-before.trail c.walk_larger.new.trail (NoneWith c.args.spec.now (members c.args.rules.now) c.loop-before.trail.steps c.args.left (HasLarger (c.loop-before.before + 1))) (NoneFrom c.args.spec.now (members c.args.rules.now) c.args.trail.now.steps c.args.left) c.in_ok-walk_larger.field-0 c.loop-before.invariant.same c.in_ok-walk_larger.ensures c.if-branch.true
@@ -38,7 +41,8 @@ walk_larger-walk_pair-requires t c =
     let less : 5 * c.args.left - 2 < t = omega (arith, at, c.requires.some) in
     let same : c.loop-before.trail.n + length c.loop-before.trail.steps ≡ c.args.trail.now.n + length c.args.trail.now.steps = ap (λ (x : Trailed). x.n + length x.steps) c.loop-before.invariant.same in
     let count : c.args.due ≡ due c.args.spec.now c.loop-before.trail.steps = c.requires.due ∙ ap (λ (x : Trailed). due c.args.spec.now x.steps) (sym c.loop-before.invariant.same) in
-    (less, (c.loop-before.invariant.walking, (c.requires.some, (count, (omega arith, (omega (arith, c.loop-before-test.true), omega (arith, same, c.requires.high)))))))
+    let wait : c.args.waiting ≡ waiting c.args.spec.now c.loop-before.trail.steps = c.requires.waiting ∙ ap (λ (x : Trailed). waiting c.args.spec.now x.steps) (sym c.loop-before.invariant.same) in
+    (less, (c.loop-before.invariant.walking, (c.requires.some, (count, (wait, (omega arith, (omega (arith, c.loop-before-test.true), omega (arith, same, c.requires.high))))))))
 
 pub walk_larger-returns-then-branch : goal.walk_larger-returns-then-branch
 walk_larger-returns-then-branch t c = found_on c.args.spec.now (members c.args.rules.now) c.args.left c.args.trail.now c.loop-before.trail c.walk_pair.new.trail (NoneWith c.args.spec.now (members c.args.rules.now) c.loop-before.trail.steps c.args.left (HasPair (c.loop-before.before + 1) c.args.high)) (NoneWith c.args.spec.now (members c.args.rules.now) c.args.trail.now.steps c.args.left (HasLarger c.args.high)) c.in_ok-walk_pair.field-0 c.loop-before.invariant.same c.in_ok-walk_pair.ensures c.if-branch.true
@@ -73,6 +77,11 @@ pub walk-returns-then-due-left : goal.walk-returns-then-due-left
 walk-returns-then-due-left t c =
     none_there c.args.spec.now (members c.args.rules.now) c.args.left c.args.trail.now c.args.trail.now (NoneFrom c.args.spec.now (members c.args.rules.now) c.args.trail.now.steps c.args.left) refl
     (too_few c.args.spec.now (members c.args.rules.now) c.args.trail.now.steps c.args.left (omega (arith, c.if-due-left.true, c.due-due.ensures)))
+
+pub walk-returns-then-waiting-most : goal.walk-returns-then-waiting-most
+walk-returns-then-waiting-most t c =
+    none_there c.args.spec.now (members c.args.rules.now) c.args.left c.args.trail.now c.args.trail.now (NoneFrom c.args.spec.now (members c.args.rules.now) c.args.trail.now.steps c.args.left) refl
+    (too_many c.args.spec.now (members c.args.rules.now) c.args.trail.now.steps c.args.left c.n-inputs.ensures.whole (omega (arith, c.if-waiting-most.true, c.waiting-waiting.ensures)))
 
 pub walk_pair-returns-then-rises : goal.walk_pair-returns-then-rises
 walk_pair-returns-then-rises t c =

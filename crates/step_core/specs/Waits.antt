@@ -1,0 +1,38 @@
+-- Places that the steps left have to read: each step of a reduced chain is an out or is read, and so is each input that an
+-- output uses.
+use Rattle.std.specs.Prelude.{ℕ, ◌+◌, Bool, ◌==◌, ◌&&◌, ◌||◌, not, List, length, nat_lt, if◌then◌else◌}
+use Rattle.chain_theory.specs.Chain.{Step}
+use Rattle.chain_laws.specs.Follow.{step_at}
+use Rattle.tt_core.specs.Words.{Words, specification}
+use Rattle.bound_core.specs.Counts.{some_below, count_below, uses}
+use Rattle.step_core.specs.Steps.{word_in}
+use Rattle.step_core.specs.Cuts.{meets_some}
+
+-- the step of an index reads the place
+unfoldable pub reads_at : List Step → ℕ → ℕ → Bool
+reads_at steps p i = (step_at steps i).j == p || (step_at steps i).k == p
+
+-- some step reads it
+unfoldable pub is_read : List Step → ℕ → Bool
+is_read steps p = some_below (reads_at steps p) (length steps)
+
+-- output i + 1 uses the input of the place
+unfoldable pub asks_for : Words → ℕ → ℕ → Bool
+asks_for w p i = uses (specification w) (i + 1) p
+
+-- some output uses it
+unfoldable pub is_asked : Words → ℕ → Bool
+is_asked w p = some_below (asks_for w p) (length w.on)
+
+-- The place is an input's that some output uses, or a step's that has the values of no output.
+unfoldable pub is_needed : Words → List Step → ℕ → Bool
+is_needed w steps p = if nat_lt w.n p then not (meets_some w (word_in w.n steps p)) else is_asked w p
+
+-- so is the place i + 1, and no step reads it yet
+unfoldable pub waits : Words → List Step → ℕ → Bool
+waits w steps i = not (is_read steps (i + 1)) && is_needed w steps (i + 1)
+
+-- how many places wait to be read
+-- Example: of the table 0110 both inputs wait before the first step, and none after it.
+abbrev pub waiting : Words → List Step → ℕ
+waiting w steps = count_below (waits w steps) (w.n + length steps)
