@@ -265,6 +265,22 @@ class Rooms(unittest.TestCase):
         with mock.patch.object(engine, 'KEPT', 8):
             self.assertEqual({str(batsokemi.synth('0110', engine=made).verdict) for _ in range(3)}, {'minimum 1'})
 
+    def test_call_within_a_call(self) -> None:
+        """A call before another one has read its answer, as the handler of a signal may make it, leaves that alone."""
+        made = batsokemi.Library()
+        call, within = made._call, []
+
+        def interrupted(*words):
+            answer = call(*words)
+            if not within:
+                within.append(True)
+                within.append(made.run(['agree'], b'inputs 0\n1\nchain 0\nout 0\nend\n'))
+            return answer
+
+        with mock.patch.object(made, '_call', interrupted):
+            self.assertEqual(made.run(['agree'], b'inputs 0\n1\nchain 0\nout 1\nend\n'), (0, b'agrees\n', b''))
+        self.assertEqual(within[1:], [(8, b'differs 1 0\n', b'')])
+
 
 @unittest.skipUnless(engine.find_library(), 'no library is here')
 class Packing(unittest.TestCase):
