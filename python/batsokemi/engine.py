@@ -13,6 +13,7 @@ import shutil
 import subprocess
 import threading
 from collections.abc import Sequence
+from functools import lru_cache
 from pathlib import Path
 from typing import NamedTuple, Protocol
 
@@ -101,8 +102,18 @@ class Library:
         self._buffers.keep((output, notes), max(answer.output, answer.notes))
         return run
 
+    def __reduce__(self) -> tuple[object, ...]:
+        """Another process loads the library once, for all that comes to it."""
+        return library_at, (self.path,)
+
     def __repr__(self) -> str:
         return f'Library({self.path!r})'
+
+
+@lru_cache(maxsize=None)
+def library_at(path: str) -> Library:
+    """The library of a path."""
+    return Library(path)
 
 
 class Process:

@@ -5,6 +5,7 @@ from __future__ import annotations
 import doctest
 import itertools
 import os
+import pickle
 import subprocess
 import sys
 import tempfile
@@ -15,7 +16,7 @@ from pathlib import Path
 from unittest import mock
 
 import batsokemi
-from batsokemi import chain, commands, engine, pool, results, tables
+from batsokemi import chain, commands, engine, errors, pool, results, tables
 
 TOP = Path(__file__).resolve().parents[2]
 IMPROVED = (TOP / 'examples' / 'improve' / 'adder.blif').read_text()
@@ -209,6 +210,23 @@ class Errors(Everywhere):
             for words in ([], ['synth '], [''], ['synth', 'a\0b']):
                 with self.assertRaises(ValueError):
                     made.run(words)
+
+
+class Pickles(Everywhere):
+    """What a pool of processes hands on."""
+
+    def test_results(self) -> None:
+        for made in self.each():
+            result = batsokemi.synth('0110', engine=made)
+            other = pickle.loads(pickle.dumps(result))
+            self.assertEqual((other, str(other.recheck())), (result, 'minimum 1'))
+
+    def test_errors(self) -> None:
+        for status, line in ((2, 'error: BadRow 2'), (7, 'Memory'), (8, 'error: Undriven y')):
+            error = errors.error_of(status, line.encode())
+            other = pickle.loads(pickle.dumps(error))
+            self.assertEqual((type(other), str(other), other.status), (type(error), str(error), status))
+            self.assertEqual((other.name, other.fields), (error.name, error.fields))
 
 
 class Runs(unittest.TestCase):
