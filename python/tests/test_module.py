@@ -183,7 +183,8 @@ class Netlists(Everywhere):
             found = batsokemi.equiv(one, other, engine=made)
             self.assertEqual((found.kind, found.sink, found.latch), ('differ', 'y', False))
             self.assertEqual(found.bits[:2], (True, False))
-            self.assertTrue(batsokemi.equiv(one, one, engine=made))
+            for first in (one, one.rstrip(), one + '.end\n', one + '.end'):
+                self.assertTrue(batsokemi.equiv(first, one, engine=made))
 
 
 class Errors(Everywhere):
