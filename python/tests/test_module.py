@@ -111,7 +111,8 @@ class Tables(unittest.TestCase):
             self.assertEqual(tables.tables_of(number, 3).to_hex(), (f'0x{number:02x}',))
 
     def test_what_is_none(self) -> None:
-        for given in ('', '012', '01x0', [], ['0110', '01'], 6, '0x'):
+        texts = ('inputs 2\n0110\n01x0\n', 'inputs 2\n0110\n\n0001\n')
+        for given in ('', '012', '01x0', [], ['0110', '01'], 6, '0x', *texts):
             with self.assertRaises(ValueError):
                 tables.tables_of(given)
         with self.assertRaises(ValueError):
