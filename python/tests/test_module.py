@@ -145,7 +145,7 @@ class Chains(Everywhere):
     def test_names(self) -> None:
         each = chain.Chain(2, (chain.Step(3, 1, 2, '0001'),), (3,))
         self.assertIn('.names x3 b x3_\n', each.to_blif(inputs=['x3', 'b']))
-        for inputs in (['a'], ['a', 'a'], ['a', '1b'], ['a', 'y1']):
+        for inputs in (['a'], ['a', 'a'], ['a', '1b'], ['a', 'y1'], ['a', 'b\u00e9']):
             with self.assertRaises(ValueError):
                 each.to_blif(inputs=inputs)
         with self.assertRaises(ValueError):
