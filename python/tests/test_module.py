@@ -271,6 +271,14 @@ class Runs(unittest.TestCase):
             self.assertEqual(ran.stderr.decode(), '3 questions: 3 minimum\n')
             self.assertEqual(str(batsokemi.recheck(Path(folder, '3.chains').read_bytes())), 'minimum 4')
 
+    def test_words_of_the_table(self) -> None:
+        for words, status in ((['--help'], 0), ([], 1), (['--processes', 'x', '-'], 1), (['no-such-file'], 2)):
+            ran = subprocess.run(
+                [sys.executable, '-m', 'batsokemi', *words], capture_output=True, check=False,
+                env={**os.environ, 'PYTHONPATH': str(TOP / 'python')},
+            )
+            self.assertEqual((ran.returncode, b'Traceback' in ran.stderr), (status, False))
+
 
 @unittest.skipUnless(engine.find_library(), 'no library is here')
 class Rooms(unittest.TestCase):
