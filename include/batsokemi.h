@@ -36,8 +36,8 @@ enum batsokemi_status {
     BATSOKEMI_DONE = 0,
     /* The words aren't a command; the notes have the line `error: Usage`. */
     BATSOKEMI_USAGE = 1,
-    /* The input isn't of its form. With this status and with 3, 7 and 8 the notes have one error line: a name, and
-     * maybe numbers, as `error: BadRow 2`. */
+    /* The input isn't of its form. With this status and with 3, 7 and 8 the notes have one error line, a name and maybe
+     * numbers or words, as `error: BadRow 2`; but not where `agree` or `equiv` find a difference (8). */
     BATSOKEMI_MALFORMED = 2,
     /* The input is beyond a limit. */
     BATSOKEMI_LIMIT = 3,
@@ -50,7 +50,8 @@ enum batsokemi_status {
     /* Other memory couldn't be had. The output is empty, but that of `synth` may be a prefix of a certificate. Where not
      * even the words had room, the notes are empty too. */
     BATSOKEMI_MEMORY = 7,
-    /* The input is of its form, and what it claims doesn't hold. */
+    /* The input is of its form, and what it claims doesn't hold. A difference that `agree` or `equiv` find is the output,
+     * as `differs 1 3`, and the notes are empty. */
     BATSOKEMI_REFUSED = 8
 };
 
@@ -75,8 +76,9 @@ struct batsokemi_answer {
  *
  * An output that is no longer than its buffer stands at the buffer's start, and the bytes behind it are as before. One
  * that is longer isn't written at all: the whole buffer is as before, and `answer.output` says what room is wanted. A
- * second call with that room gives the same answer. The same holds of the notes, each buffer by itself; so a room of 0
- * asks for the length alone. No NUL is written behind a text.
+ * second call with that room gives the same answer, and does all the work again: where a question may be hard, give much
+ * room at first, as by mmap, where what isn't written takes no memory. The same holds of the notes, each buffer by itself;
+ * so a room of 0 asks for the length alone. No NUL is written behind a text.
  *
  * Ownership: the caller keeps all four blocks. The function reads the first two and writes into the others, never beyond
  * their rooms, and keeps no pointer behind the call. What it takes by malloc it gives back before it returns.

@@ -9,7 +9,8 @@ rows of 0, 1 and -, or in hex with 0x in front; what stands behind a blank or # 
   OPTION VALUE    options of `synth`: --basis, --method, --conflicts, --max
 
 A line goes out for each question, in their order: a number, the tables and the verdict, with tabs between; then, on
-standard error, how many questions have which verdict. Status 0; 1 for other words; 3 where a question has no verdict."""
+standard error, how many questions have which verdict. Status 0; 1 for other words; 2 where a file can't be
+read; 3 where a question has no verdict."""
 
 from __future__ import annotations
 
@@ -18,12 +19,18 @@ import collections
 import fileinput
 import sys
 from pathlib import Path
+from typing import NoReturn
 
 from .pool import Told, tabulate
 
 
+class Words(argparse.ArgumentParser):
+    def error(self, message: str) -> NoReturn:
+        self.exit(1, f'batsokemi: {message}; --help says more\n')
+
+
 def words() -> argparse.Namespace:
-    parser = argparse.ArgumentParser(prog='python3 -m batsokemi', usage=__doc__, add_help=False)
+    parser = Words(prog='python3 -m batsokemi', usage=__doc__, add_help=False)
     parser.add_argument('-h', '--help', action='store_true')
     parser.add_argument('--processes', type=int)
     parser.add_argument('--keep', type=Path)
@@ -56,7 +63,11 @@ def main() -> int:
         given.keep.mkdir(parents=True, exist_ok=True)
     counts: collections.Counter[str] = collections.Counter()
     failed = False
-    each = questions(given.files)
+    try:
+        each = questions(given.files)
+    except (OSError, UnicodeDecodeError) as error:
+        print(f'batsokemi: {error}', file=sys.stderr)
+        return 2
     for number, told in enumerate(tabulate(each, processes=given.processes, keep=given.keep is not None, **asked), 1):
         print(number, ','.join(each[number - 1]), told.verdict, sep='\t')
         counts[told.verdict.split(' ')[0] if told.fine else told.verdict] += 1

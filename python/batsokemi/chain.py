@@ -128,7 +128,7 @@ class Chain:
         if len(ins) != self.inputs or len(outs) != len(self.outputs):
             raise ValueError(f'{len(ins)} and {len(outs)} names for {self.inputs} inputs and {len(self.outputs)} outputs')
         taken = {*ins, *outs}
-        if len(taken) < len(ins) + len(outs) or not all(re.fullmatch(r'[A-Za-z_]\w*', word) for word in (name, *taken)):
+        if len(taken) < len(ins) + len(outs) or not all(re.fullmatch(r'[A-Za-z_]\w*', word, re.ASCII) for word in (name, *taken)):
             raise ValueError('names are letters, digits and _, and each is another one')
         names = ['', *ins]
         for step in self.steps:

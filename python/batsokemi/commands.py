@@ -122,9 +122,9 @@ def equiv(first: Netlist, second: Netlist, *, conflicts: int | None = None, engi
     >>> bool(equiv('.inputs a\\n.outputs y\\n.names a y\\n1 1\\n.end\\n', '.inputs a\\n.outputs y\\n.names a y\\n0 1\\n.end\\n'))
     False
     """
-    front = bytes_of(first)
+    front = bytes_of(first) + b'\n'
     if not re.search(rb'^[ \t]*\.end\b', front, re.M):
-        front += b'\n.end\n'
+        front += b'.end\n'
     run = answered(engine or default_engine(), ['equiv', *options(conflicts=conflicts)], front + bytes_of(second))
     return Equivalence.read(run.output)
 

@@ -13,6 +13,7 @@ import shutil
 import subprocess
 import threading
 from collections.abc import Sequence
+from functools import lru_cache
 from pathlib import Path
 from typing import NamedTuple, Protocol
 
@@ -53,19 +54,19 @@ class _Buffer:
 
 
 class _Buffers(threading.local):
-    """The buffers of a thread for outputs and for notes."""
+    """The buffers of a thread for outputs and for notes, while no call has them: one that a signal's handler makes within
+    another one gets buffers of its own."""
 
     def __init__(self) -> None:
-        self.output = self.notes = None
+        self.kept: tuple[_Buffer, _Buffer] | None = None
 
     def take(self) -> tuple[_Buffer, _Buffer]:
-        self.output = self.output or _Buffer(ROOM)
-        self.notes = self.notes or _Buffer(ROOM)
-        return self.output, self.notes
+        taken, self.kept = self.kept, None
+        return taken or (_Buffer(ROOM), _Buffer(ROOM))
 
-    def keep(self, used: int) -> None:
-        if used > KEPT:
-            self.output = self.notes = None
+    def keep(self, buffers: tuple[_Buffer, _Buffer], used: int) -> None:
+        if used <= KEPT:
+            self.kept = buffers
 
 
 class Library:
@@ -98,11 +99,21 @@ class Library:
                 break
             output, notes = (_Buffer(max(answer.output, ROOM)), _Buffer(max(answer.notes, ROOM)))
         run = Run(answer.status, output.memory[: answer.output], notes.memory[: answer.notes])
-        self._buffers.keep(max(answer.output, answer.notes))
+        self._buffers.keep((output, notes), max(answer.output, answer.notes))
         return run
+
+    def __reduce__(self) -> tuple[object, ...]:
+        """Another process loads the library once, for all that comes to it."""
+        return library_at, (self.path,)
 
     def __repr__(self) -> str:
         return f'Library({self.path!r})'
+
+
+@lru_cache(maxsize=None)
+def library_at(path: str) -> Library:
+    """The library of a path."""
+    return Library(path)
 
 
 class Process:

@@ -13,9 +13,13 @@ class Error(Exception):
     def __init__(self, status: int, line: str) -> None:
         items = line.removeprefix('error:').split()
         super().__init__(' '.join(items))
+        self.line = line
         self.status = status
         self.name = items[0] if items else ''
         self.fields = tuple(int(item) if item.isdecimal() else item for item in items[1:])
+
+    def __reduce__(self) -> tuple[object, ...]:
+        return type(self), (self.status, self.line)
 
 
 class UsageError(Error):

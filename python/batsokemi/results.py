@@ -169,7 +169,7 @@ class Equivalence:
         if kind == 'differ':
             what, sink = found
             bits = rest.decode().removeprefix('at ').strip('-\n')
-            return cls(kind, sink=sink, latch=what == 'latch', bits=tuple(bit == '1' for bit in bits))
+            return cls('differ', sink=sink, latch=what == 'latch', bits=tuple(bit == '1' for bit in bits))
         return cls(kind, log=rest.removesuffix(b'done\n'))  # type: ignore[arg-type]
 
     def __bool__(self) -> bool:

@@ -105,14 +105,9 @@ def rows_from(tables: Iterable[Table], inputs: int) -> Iterable[str]:
 
 
 def read_tables(text: str) -> Tables:
-    """The tables at the head of a text."""
-    head, *lines = text.split('\n')
+    """The tables that are all of a text."""
+    head, *rows = text.removesuffix('\n').split('\n')
     found = re.fullmatch(r'inputs (\d)', head)
     if not found:
         raise ValueError(f'no tables begin with {head!r}')
-    rows = []
-    for line in lines:
-        if not re.fullmatch('[01-]+', line):
-            break
-        rows.append(line)
     return Tables(int(found[1]), tuple(rows))

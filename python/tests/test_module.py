@@ -5,6 +5,7 @@ from __future__ import annotations
 import doctest
 import itertools
 import os
+import pickle
 import subprocess
 import sys
 import tempfile
@@ -15,7 +16,7 @@ from pathlib import Path
 from unittest import mock
 
 import batsokemi
-from batsokemi import chain, commands, engine, pool, results, tables
+from batsokemi import chain, commands, engine, errors, pool, results, tables
 
 TOP = Path(__file__).resolve().parents[2]
 IMPROVED = (TOP / 'examples' / 'improve' / 'adder.blif').read_text()
@@ -110,7 +111,8 @@ class Tables(unittest.TestCase):
             self.assertEqual(tables.tables_of(number, 3).to_hex(), (f'0x{number:02x}',))
 
     def test_what_is_none(self) -> None:
-        for given in ('', '012', '01x0', [], ['0110', '01'], 6, '0x'):
+        texts = ('inputs 2\n0110\n01x0\n', 'inputs 2\n0110\n\n0001\n')
+        for given in ('', '012', '01x0', [], ['0110', '01'], 6, '0x', *texts):
             with self.assertRaises(ValueError):
                 tables.tables_of(given)
         with self.assertRaises(ValueError):
@@ -143,7 +145,7 @@ class Chains(Everywhere):
     def test_names(self) -> None:
         each = chain.Chain(2, (chain.Step(3, 1, 2, '0001'),), (3,))
         self.assertIn('.names x3 b x3_\n', each.to_blif(inputs=['x3', 'b']))
-        for inputs in (['a'], ['a', 'a'], ['a', '1b'], ['a', 'y1']):
+        for inputs in (['a'], ['a', 'a'], ['a', '1b'], ['a', 'y1'], ['a', 'b\u00e9']):
             with self.assertRaises(ValueError):
                 each.to_blif(inputs=inputs)
         with self.assertRaises(ValueError):
@@ -182,7 +184,8 @@ class Netlists(Everywhere):
             found = batsokemi.equiv(one, other, engine=made)
             self.assertEqual((found.kind, found.sink, found.latch), ('differ', 'y', False))
             self.assertEqual(found.bits[:2], (True, False))
-            self.assertTrue(batsokemi.equiv(one, one, engine=made))
+            for first in (one, one.rstrip(), one + '.end\n', one + '.end'):
+                self.assertTrue(batsokemi.equiv(first, one, engine=made))
 
 
 class Errors(Everywhere):
@@ -209,6 +212,23 @@ class Errors(Everywhere):
             for words in ([], ['synth '], [''], ['synth', 'a\0b']):
                 with self.assertRaises(ValueError):
                     made.run(words)
+
+
+class Pickles(Everywhere):
+    """What a pool of processes hands on."""
+
+    def test_results(self) -> None:
+        for made in self.each():
+            result = batsokemi.synth('0110', engine=made)
+            other = pickle.loads(pickle.dumps(result))
+            self.assertEqual((other, str(other.recheck())), (result, 'minimum 1'))
+
+    def test_errors(self) -> None:
+        for status, line in ((2, 'error: BadRow 2'), (7, 'Memory'), (8, 'error: Undriven y')):
+            error = errors.error_of(status, line.encode())
+            other = pickle.loads(pickle.dumps(error))
+            self.assertEqual((type(other), str(other), other.status), (type(error), str(error), status))
+            self.assertEqual((other.name, other.fields), (error.name, error.fields))
 
 
 class Runs(unittest.TestCase):
@@ -251,6 +271,14 @@ class Runs(unittest.TestCase):
             self.assertEqual(ran.stderr.decode(), '3 questions: 3 minimum\n')
             self.assertEqual(str(batsokemi.recheck(Path(folder, '3.chains').read_bytes())), 'minimum 4')
 
+    def test_words_of_the_table(self) -> None:
+        for words, status in ((['--help'], 0), ([], 1), (['--processes', 'x', '-'], 1), (['no-such-file'], 2)):
+            ran = subprocess.run(
+                [sys.executable, '-m', 'batsokemi', *words], capture_output=True, check=False,
+                env={**os.environ, 'PYTHONPATH': str(TOP / 'python')},
+            )
+            self.assertEqual((ran.returncode, b'Traceback' in ran.stderr), (status, False))
+
 
 @unittest.skipUnless(engine.find_library(), 'no library is here')
 class Rooms(unittest.TestCase):
@@ -264,6 +292,22 @@ class Rooms(unittest.TestCase):
         made = batsokemi.Library()
         with mock.patch.object(engine, 'KEPT', 8):
             self.assertEqual({str(batsokemi.synth('0110', engine=made).verdict) for _ in range(3)}, {'minimum 1'})
+
+    def test_call_within_a_call(self) -> None:
+        """A call before another one has read its answer, as the handler of a signal may make it, leaves that alone."""
+        made = batsokemi.Library()
+        call, within = made._call, []
+
+        def interrupted(*words):
+            answer = call(*words)
+            if not within:
+                within.append(True)
+                within.append(made.run(['agree'], b'inputs 0\n1\nchain 0\nout 0\nend\n'))
+            return answer
+
+        with mock.patch.object(made, '_call', interrupted):
+            self.assertEqual(made.run(['agree'], b'inputs 0\n1\nchain 0\nout 1\nend\n'), (0, b'agrees\n', b''))
+        self.assertEqual(within[1:], [(8, b'differs 1 0\n', b'')])
 
 
 @unittest.skipUnless(engine.find_library(), 'no library is here')
