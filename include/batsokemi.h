@@ -2,16 +2,16 @@
  * batsokemi.h: exact synthesis of Boolean chains, improvement of netlists and combinational equivalence, in memory.
  *
  * The library is the program `batsokemi` as one function: a command line and the bytes of its input come in, and the
- * status, the output and the notes (what the program writes on standard output and on standard error) go out. Every
- * function of it is formally verified, and the function's contract is that of the program: docs/GUARANTEES.md says in
- * words what each command promises, and docs/FORMATS.md what each reads and writes.
+ * status, the output and the notes (what the program writes on standard output and on standard error) go out. It is
+ * formally verified, but for the calls of the C library that give it memory, and the function's contract is that of the
+ * program: docs/GUARANTEES.md says in words what each command promises, and docs/FORMATS.md what each reads and writes.
  *
  *     struct batsokemi_answer answer;
  *     char output[65536], notes[256];
  *
  *     answer = batsokemi_call("synth --max 5", tables, strlen(tables), output, sizeof output, notes, sizeof notes);
- *     if (answer.status == BATSOKEMI_DONE && answer.output <= sizeof output)
- *         fwrite(output, 1, answer.output, stdout);
+ *     if (answer.status == BATSOKEMI_DONE && answer.output_length <= sizeof output)
+ *         fwrite(output, 1, answer.output_length, stdout);
  *
  * Link with libbatsokemi.so, or with libbatsokemi.a; both need the C library alone.
  */
@@ -60,8 +60,8 @@ struct batsokemi_answer {
     /* One of enum batsokemi_status. */
     uint32_t status;
     /* How many bytes the output and the notes have, whether or not their buffers had room for them. */
-    size_t output;
-    size_t notes;
+    size_t output_length;
+    size_t notes_length;
 };
 
 /*
@@ -75,7 +75,7 @@ struct batsokemi_answer {
  * notes    a buffer of `notes_room` bytes for the notes: an error line, or the report of `improve`.
  *
  * An output that is no longer than its buffer stands at the buffer's start, and the bytes behind it are as before. One
- * that is longer isn't written at all: the whole buffer is as before, and `answer.output` says what room is wanted. A
+ * that is longer isn't written at all: the whole buffer is as before, and `answer.output_length` says what room is wanted. A
  * second call with that room gives the same answer, and does all the work again: where a question may be hard, give much
  * room at first, as by mmap, where what isn't written takes no memory. The same holds of the notes, each buffer by itself;
  * so a room of 0 asks for the length alone. No NUL is written behind a text.

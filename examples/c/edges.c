@@ -45,18 +45,18 @@ static void rooms(void)
 
     memset(output, '#', sizeof output);
     answer = agree(output, 7);
-    expect(answer.status == BATSOKEMI_DONE && answer.output == 7, "an output with just its room");
+    expect(answer.status == BATSOKEMI_DONE && answer.output_length == 7, "an output with just its room");
     expect(!memcmp(output, "agrees\n", 7) && all(output + 7, sizeof output - 7, '#'), "nothing is written behind it");
     memset(output, '#', sizeof output);
     answer = agree(output, 6);
-    expect(answer.status == BATSOKEMI_DONE && answer.output == 7, "an output with one byte too few");
+    expect(answer.status == BATSOKEMI_DONE && answer.output_length == 7, "an output with one byte too few");
     expect(all(output, sizeof output, '#'), "it isn't written at all");
     answer = agree(output, 0);
-    expect(answer.output == 7 && all(output, sizeof output, '#'), "a room of 0");
+    expect(answer.output_length == 7 && all(output, sizeof output, '#'), "a room of 0");
     answer = agree(NULL, 0);
-    expect(answer.status == BATSOKEMI_DONE && answer.output == 7, "no output");
+    expect(answer.status == BATSOKEMI_DONE && answer.output_length == 7, "no output");
     answer = agree(NULL, 64);
-    expect(answer.status == BATSOKEMI_DONE && answer.output == 7, "no output, whatever its room is said to be");
+    expect(answer.status == BATSOKEMI_DONE && answer.output_length == 7, "no output, whatever its room is said to be");
 }
 
 static void note_rooms(void)
@@ -66,11 +66,11 @@ static void note_rooms(void)
 
     memset(notes, '#', sizeof notes);
     answer = batsokemi_call("agree", "", 0, NULL, 0, notes, 20);
-    expect(answer.status == BATSOKEMI_MALFORMED && answer.output == 0 && answer.notes == 19, "notes with room");
+    expect(answer.status == BATSOKEMI_MALFORMED && answer.output_length == 0 && answer.notes_length == 19, "notes with room");
     expect(!memcmp(notes, "error: BadHeader 1\n#", 20), "an error line");
     memset(notes, '#', sizeof notes);
     answer = batsokemi_call("agree", "", 0, NULL, 0, notes, 18);
-    expect(answer.status == BATSOKEMI_MALFORMED && answer.notes == 19, "notes with one byte too few");
+    expect(answer.status == BATSOKEMI_MALFORMED && answer.notes_length == 19, "notes with one byte too few");
     expect(all(notes, sizeof notes, '#'), "they aren't written at all");
 }
 
@@ -81,8 +81,8 @@ static void is_usage(const char *command, size_t length, const char *what)
     struct batsokemi_answer answer =
         batsokemi_run(command, length, xor_tables, strlen(xor_tables), output, sizeof output, notes, sizeof notes);
 
-    expect(answer.status == BATSOKEMI_USAGE && answer.output == 0, what);
-    expect(answer.notes == strlen(usage) && !memcmp(notes, usage, strlen(usage)), what);
+    expect(answer.status == BATSOKEMI_USAGE && answer.output_length == 0, what);
+    expect(answer.notes_length == strlen(usage) && !memcmp(notes, usage, strlen(usage)), what);
 }
 
 static void commands(void)
@@ -90,7 +90,7 @@ static void commands(void)
     char notes[64];
     struct batsokemi_answer answer = batsokemi_call(NULL, NULL, 0, NULL, 0, notes, sizeof notes);
 
-    expect(answer.status == BATSOKEMI_USAGE && answer.notes == strlen(usage), "no command");
+    expect(answer.status == BATSOKEMI_USAGE && answer.notes_length == strlen(usage), "no command");
     is_usage("", 0, "the empty command");
     is_usage(" ", 1, "a blank");
     is_usage("synth ", 6, "a blank at the end");
@@ -108,10 +108,10 @@ static int asks(void)
     struct batsokemi_answer answer = batsokemi_call("synth --max 4", xor_tables, strlen(xor_tables), output, sizeof output,
                                                     notes, sizeof notes);
 
-    if (answer.status != BATSOKEMI_DONE || answer.output > sizeof output || answer.notes != 0)
+    if (answer.status != BATSOKEMI_DONE || answer.output_length > sizeof output || answer.notes_length != 0)
         return 0;
-    answer = batsokemi_call("recheck", output, answer.output, verdict, sizeof verdict, notes, sizeof notes);
-    return answer.status == BATSOKEMI_DONE && answer.output == 10 && !memcmp(verdict, "minimum 1\n", 10);
+    answer = batsokemi_call("recheck", output, answer.output_length, verdict, sizeof verdict, notes, sizeof notes);
+    return answer.status == BATSOKEMI_DONE && answer.output_length == 10 && !memcmp(verdict, "minimum 1\n", 10);
 }
 
 static void *asks_often(void *fine)

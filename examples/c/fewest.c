@@ -33,15 +33,15 @@ static uint32_t call(const char *command, const char *input, size_t length, stru
         if (!output->bytes)
             return BATSOKEMI_MEMORY;
         answer = batsokemi_call(command, input, length, output->bytes, room, notes, sizeof notes);
-        output->length = answer.output;
-        if (answer.output <= room) {
-            output->bytes[answer.output] = 0;
-            if (answer.notes <= sizeof notes)
-                fwrite(notes, 1, answer.notes, stderr);
+        output->length = answer.output_length;
+        if (answer.output_length <= room) {
+            output->bytes[answer.output_length] = 0;
+            if (answer.notes_length <= sizeof notes)
+                fwrite(notes, 1, answer.notes_length, stderr);
             return answer.status;
         }
         free(output->bytes);
-        room = answer.output;
+        room = answer.output_length;
     }
 }
 
@@ -84,7 +84,7 @@ int main(int count, char **words)
         status = call("synth", input.bytes, input.length, &certificate);
     else
         status = call("synth", full_adder, strlen(full_adder), &certificate);
-    if (status == BATSOKEMI_DONE) {
+    if (status == BATSOKEMI_DONE || status == BATSOKEMI_UNDECIDED) {
         print_chain(certificate.bytes);
         status = call("recheck", certificate.bytes, certificate.length, &verdict);
         if (status == BATSOKEMI_DONE)

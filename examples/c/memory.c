@@ -72,15 +72,15 @@ static int starved(const char *command, const char *input, const char *whole, si
         return 1;
     switch (answer.status) {
     case BATSOKEMI_MEMORY:
-        expect(answer.notes == 0 || tells(notes, answer.notes, "Memory"), "want of memory is told", which);
+        expect(answer.notes_length == 0 || tells(notes, answer.notes_length, "Memory"), "want of memory is told", which);
         break;
     case BATSOKEMI_WRITE_FAULT:
-        expect(answer.notes == 0 || tells(notes, answer.notes, "WriteFault"), "want of memory for the output is told", which);
+        expect(answer.notes_length == 0 || tells(notes, answer.notes_length, "WriteFault"), "want of memory for the output is told", which);
         break;
     default:
-        expect(answer.status == BATSOKEMI_DONE && answer.output == length, "it is answered or refused", which);
+        expect(answer.status == BATSOKEMI_DONE && answer.output_length == length, "it is answered or refused", which);
     }
-    expect(answer.output <= length && !memcmp(output, whole, answer.output), "the output is a prefix of the answer", which);
+    expect(answer.output_length <= length && !memcmp(output, whole, answer.output_length), "the output is a prefix of the answer", which);
     return 0;
 }
 
@@ -91,8 +91,8 @@ static void starve(const char *command, const char *input)
     struct batsokemi_answer answer = batsokemi_call(command, input, strlen(input), whole, sizeof whole, NULL, 0);
     long which = 1;
 
-    expect(answer.status == BATSOKEMI_DONE && answer.output <= sizeof whole, command, 0);
-    while (!starved(command, input, whole, answer.output, which))
+    expect(answer.status == BATSOKEMI_DONE && answer.output_length <= sizeof whole, command, 0);
+    while (!starved(command, input, whole, answer.output_length, which))
         which++;
     expect(which > 3, "some allocations were tried", which);
 }

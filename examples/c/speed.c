@@ -30,7 +30,7 @@ static double measured(const char *command, const char *input, size_t length, in
         struct batsokemi_answer answer =
             batsokemi_call(command, input, length, output, sizeof output, notes, sizeof notes);
 
-        if (answer.status != BATSOKEMI_DONE || answer.output > sizeof output)
+        if (answer.status != BATSOKEMI_DONE || answer.output_length > sizeof output)
             exit(1);
     }
     return (now() - begun) / turns;
@@ -43,9 +43,9 @@ int main(int count, char **words)
     struct batsokemi_answer answer =
         batsokemi_call("synth", tables, strlen(tables), certificate, sizeof certificate, NULL, 0);
 
-    if (turns < 1 || answer.status != BATSOKEMI_DONE || answer.output > sizeof certificate)
+    if (turns < 1 || answer.status != BATSOKEMI_DONE || answer.output_length > sizeof certificate)
         return 1;
     printf("synth   %.1f microseconds a call\n", measured("synth", tables, strlen(tables), turns));
-    printf("recheck %.1f microseconds a call\n", measured("recheck", certificate, answer.output, turns));
+    printf("recheck %.1f microseconds a call\n", measured("recheck", certificate, answer.output_length, turns));
     return 0;
 }

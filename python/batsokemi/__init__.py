@@ -7,7 +7,7 @@
     print(adder.chain)
     adder.recheck()                                       # judges the certificate anew
 
-What runs is the library `libbatsokemi.so`, every function of which is formally verified. This module isn't: it writes
+What runs is the library `libbatsokemi.so`, which is formally verified. This module isn't: it writes
 words and reads answers.
 """
 

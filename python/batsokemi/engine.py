@@ -41,7 +41,7 @@ class Engine(Protocol):
 
 
 class _Answer(ctypes.Structure):
-    _fields_ = [('status', ctypes.c_uint32), ('output', ctypes.c_size_t), ('notes', ctypes.c_size_t)]
+    _fields_ = [('status', ctypes.c_uint32), ('output_length', ctypes.c_size_t), ('notes_length', ctypes.c_size_t)]
 
 
 class _Buffer:
@@ -95,11 +95,11 @@ class Library:
             answer = self._call(
                 command, len(command), data, len(data), output.at, output.room, notes.at, notes.room
             )
-            if answer.output <= output.room and answer.notes <= notes.room:
+            if answer.output_length <= output.room and answer.notes_length <= notes.room:
                 break
-            output, notes = (_Buffer(max(answer.output, ROOM)), _Buffer(max(answer.notes, ROOM)))
-        run = Run(answer.status, output.memory[: answer.output], notes.memory[: answer.notes])
-        self._buffers.keep((output, notes), max(answer.output, answer.notes))
+            output, notes = (_Buffer(max(answer.output_length, ROOM)), _Buffer(max(answer.notes_length, ROOM)))
+        run = Run(answer.status, output.memory[: answer.output_length], notes.memory[: answer.notes_length])
+        self._buffers.keep((output, notes), max(answer.output_length, answer.notes_length))
         return run
 
     def __reduce__(self) -> tuple[object, ...]:

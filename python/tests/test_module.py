@@ -19,6 +19,37 @@ import batsokemi
 from batsokemi import chain, commands, engine, errors, pool, results, tables
 
 TOP = Path(__file__).resolve().parents[2]
+ADDERS = """.model adders
+.inputs a b c d e
+.outputs s t k
+.names a b p
+01 1
+10 1
+.names p c s
+01 1
+10 1
+.names a b q
+11 1
+.names p c r
+11 1
+.names q r h
+1- 1
+-1 1
+.names d e u
+01 1
+10 1
+.names u h t
+01 1
+10 1
+.names d e v
+11 1
+.names u h w
+11 1
+.names v w k
+1- 1
+-1 1
+.end
+"""
 IMPROVED = (TOP / 'examples' / 'improve' / 'adder.blif').read_text()
 
 
@@ -169,7 +200,8 @@ class Netlists(Everywhere):
 
     def test_undecided_windows(self) -> None:
         for made in self.each():
-            _, report = batsokemi.improve(IMPROVED, conflicts=1, engine=made)
+            _, report = batsokemi.improve(ADDERS, cap=6, conflicts=1, engine=made)
+            self.assertTrue(report.undecided)
             self.assertEqual(report.text.count('\nundecided '), len(report.undecided))
 
     def test_bench(self) -> None:
