@@ -24,7 +24,7 @@ fn in_two(alloc: Global, front: &[u8], behind: &[u8]) -> Result<DepthVerdict, De
 /// Feeds each byte by itself.
 fn by_bytes(reader: DepthReader, text: &[u8]) -> Result<DepthVerdict, DepthError>
     requires whole { IsReader (seen reader) }
-    requires room { reader.fed + length text.now < 2 ^ 31 }
+    requires room { reader.pieces.fed + length text.now < 2 ^ 31 }
 {
     let mut reader = reader;
     let mut left = text;

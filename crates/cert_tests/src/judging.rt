@@ -130,7 +130,7 @@ fn in_two(alloc: Global, front: &[u8], behind: &[u8]) -> Result<Verdict, BundleE
 /// Feeds each byte by itself.
 fn by_bytes(reader: BundleReader, text: &[u8]) -> Result<Verdict, BundleError>
     requires whole { IsReader (seen reader) }
-    requires room { reader.fed + length text.now < 2 ^ 31 }
+    requires room { reader.pieces.fed + length text.now < 2 ^ 31 }
 {
     let mut reader = reader;
     let mut left = text;

@@ -6,7 +6,7 @@ use Rattle.cert_tests.proofs.depths.by_bytes.Given as goal
 abbrev pub invariant-loop-left : goal.invariant-loop-left
 invariant-loop-left l = record {
   whole : IsReader (seen l.reader);
-  room : l.reader.fed + length l.left < 2 ^ 31;
+  room : l.reader.pieces.fed + length l.left < 2 ^ 31;
 }
 
 abbrev pub decreases-loop-left : goal.decreases-loop-left
