@@ -17,6 +17,7 @@ use std::alloc::{AllocError, Global};
 
 /// The most gates, and the most sources or sinks, of nets that are compared.
 const MOST_GATES: usize = 100_000;
+
 const MOST_ENDS: usize = 299_999_999;
 
 /// Whether both nets are small enough for a miter.

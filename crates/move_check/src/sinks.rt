@@ -46,11 +46,7 @@ fn sink_map(alloc: Global, net: &Net, candidate: &Net) -> Result<Vec<Sig>, Alloc
 
 /// The candidate with sinks as the net has them.
 #[tactic(auto, using(crate::specs::SinkLaws::mapping))]
-pub(crate) fn with_sinks_of(
-    alloc: Global,
-    net: &Net,
-    candidate: Net,
-) -> Result<Net, AllocError>
+pub(crate) fn with_sinks_of(alloc: Global, net: &Net, candidate: Net) -> Result<Net, AllocError>
     requires sources { candidate.sources ≡ net.now.sources }
     ensures gates { IfOk result (λ new. new.gates ≡ candidate.gates) }
     ensures sinks { IfOk result (HasSinksOf net.now) }
