@@ -1,0 +1,181 @@
+//! One target: its region without and then with its tail, its divisors, the search, and the trial of what
+//! was found.
+ghost use Rattle.std.specs.Prelude.{◌≤◌, IfOk, IfSome, length};
+ghost use Rattle.xag_core.specs.Xag.{HasEnds};
+
+use crate::divisors::Divisors;
+use crate::recipe::{Recipe, edit_of};
+use crate::region::Region;
+use crate::searching::Search;
+use crate::wanted::Wanted;
+use std::alloc::{AllocError, Global};
+use xag_core::{Context, Random, Xag, rebuild};
+
+/// The most rebuilt gates that trials of one search may cost.
+const MOST_WORK: usize = 40_000;
+
+/// How a target may change: by how many new gates, and whether the graph may keep its size.
+#[derive(Clone, Copy)]
+pub struct Terms {
+    pub new_gates: u32,
+    pub is_level: bool,
+}
+
+/// What is used again for each target.
+#[derive(Drop)]
+pub struct Finder {
+    region: Region,
+    divisors: Divisors,
+    search: Search,
+    cone: Vec<u32>,
+    random: Random,
+}
+
+/// Exchanges the recipe at `index` with one that stands there or after it.
+fn exchange(recipes: &mut [Recipe], index: usize, random: &mut Random) {
+    let left = recipes.len().saturating_sub(index);
+    let other = index.saturating_add(random.below(left.min(1000) as u32) as usize);
+    if index < recipes.len() && other < recipes.len() {
+        recipes.swap(index, other);
+    }
+}
+
+/// Whether a graph of `new` gates may stand for one of `old` gates.
+fn is_taken(old: usize, new: usize, terms: Terms) -> bool {
+    new < old || (terms.is_level && new == old)
+}
+
+/// The smaller of the best graph so far and another.
+fn smaller(best: Option<Xag>, other: Xag) -> Option<Xag> {
+    match best {
+        Some(kept) => {
+            if other.gates().len() < kept.gates().len() {
+                Some(other)
+            } else {
+                Some(kept)
+            }
+        }
+        None => Some(other),
+    }
+}
+
+impl Finder {
+    /// For graphs of at most `nodes` nodes.
+    pub fn new(alloc: Global, nodes: u32, seed: u64) -> Result<Finder, AllocError> {
+        Ok(Finder {
+            region: Region::new(alloc, nodes)?,
+            divisors: Divisors::new(alloc),
+            search: Search::new(alloc)?,
+            cone: Vec::new(alloc),
+            random: Random::new(seed),
+        })
+    }
+
+    /// A gate at random.
+    pub fn gate_of(&mut self, xag: &Xag) -> u32 {
+        let gates = (xag.gates().len() as u64).min(0x7FFF_FFFF) as u32;
+        xag.sources()
+            .wrapping_add(1)
+            .wrapping_add(self.random.below(gates))
+    }
+
+    /// Tries what was found, in a random order: the smallest graph of some trials.
+    fn try_found(
+        &mut self,
+        alloc: Global,
+        xag: &Xag,
+        target: u32,
+        trials: usize,
+    ) -> Result<Option<Xag>, AllocError> {
+        let mut best = None;
+        for index in 0..trials.min(self.search.found.len()) {
+            exchange(&mut self.search.found, index, &mut self.random);
+            let Some(recipe) = self.search.found.get(index) else {
+                break;
+            };
+            let edit = edit_of(alloc, xag, &self.divisors, target, *recipe)?;
+            if let Some(other) = rebuild(alloc, xag, &edit)? {
+                best = smaller(best, other);
+            }
+        }
+        Ok(best)
+    }
+
+    /// Searches with exactly `gates` new gates.
+    fn search_with(
+        &mut self,
+        alloc: Global,
+        xag: &Xag,
+        target: u32,
+        gates: u32,
+        terms: Terms,
+    ) -> Result<Option<Xag>, AllocError> {
+        let wanted = Wanted::of(alloc, self.region.target_row(), self.region.care())?;
+        self.search.find(alloc, &self.divisors, &wanted, gates)?;
+        let size = xag.gates().len();
+        let is_plateau = gates as usize >= self.cone.len();
+        let trials = if is_plateau {
+            1
+        } else {
+            (MOST_WORK / (size + 1)).clamp(1, 12)
+        };
+        match self.try_found(alloc, xag, target, trials)? {
+            Some(other) => {
+                if is_taken(size, other.gates().len(), terms) {
+                    Ok(Some(other))
+                } else {
+                    Ok(None)
+                }
+            }
+            None => Ok(None),
+        }
+    }
+
+    /// Searches in the region of the target, with its tail where `with_tail`.
+    fn search_region(
+        &mut self,
+        alloc: Global,
+        xag: &Xag,
+        context: &Context,
+        target: u32,
+        with_tail: bool,
+        terms: Terms,
+    ) -> Result<Option<Xag>, AllocError> {
+        if !self.region.set_up(alloc, xag, context, target, with_tail)? {
+            return Ok(None);
+        }
+        self.divisors
+            .find(xag, context, &mut self.region, &self.cone)?;
+        let saved = (self.cone.len() as u64).min(1000) as u32;
+        let most = if terms.is_level {
+            saved
+        } else {
+            saved.saturating_sub(1)
+        };
+        for gates in 0..=terms.new_gates.min(most).min(2) {
+            if let Some(other) = self.search_with(alloc, xag, target, gates, terms)? {
+                return Ok(Some(other));
+            }
+        }
+        Ok(None)
+    }
+
+    /// A graph in which the target is replaced, as the terms allow.
+    pub fn replace(
+        &mut self,
+        alloc: Global,
+        xag: &Xag,
+        context: &mut Context,
+        target: u32,
+        terms: Terms,
+    ) -> Result<Option<Xag>, AllocError> {
+        context.cone_of(xag, target, &mut self.cone)?;
+        for with_tail in [false, true] {
+            let found = self.search_region(alloc, xag, context, target, with_tail, terms)?;
+            if found.is_some() {
+                return Ok(found);
+            }
+        }
+        Ok(None)
+    }
+}

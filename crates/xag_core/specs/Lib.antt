@@ -1,0 +1,2 @@
+pub mod Xag
+pub mod Grown

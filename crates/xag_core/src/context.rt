@@ -1,0 +1,136 @@
+//! Who reads what: the fanouts of each node, how many references it has (fanouts and sinks), and its
+//! maximal fanout-free cone (MFFC).
+
+use crate::rows::{at, bit_at, put, raise};
+use crate::xag::Xag;
+use std::alloc::{AllocError, Global};
+
+/// The most gates of a cone that `cone_of` lists.
+const LARGEST_CONE: usize = 200;
+
+/// The fanouts of all nodes in one row, those of a node from its start to the start of the next.
+#[derive(Drop)]
+pub struct Context {
+    starts: Vec<u32>,
+    readers: Vec<u32>,
+    references: Vec<u32>,
+    feeds_sink: Vec<bool>,
+}
+
+/// The number of fanouts of each node, at the next node's entry.
+fn reader_counts(alloc: Global, xag: &Xag) -> Result<Vec<u32>, AllocError> {
+    let mut counts = vec![in alloc; 0u32; xag.nodes() as usize + 2]?;
+    for gate in xag.gates() {
+        raise(&mut counts, (gate.first >> 1) + 1);
+        if gate.first >> 1 != gate.second >> 1 {
+            raise(&mut counts, (gate.second >> 1) + 1);
+        }
+    }
+    Ok(counts)
+}
+
+/// Each number becomes the sum of those up to it.
+fn add_up(row: &mut [u32]) {
+    let mut sum = 0u32;
+    for number in row.iter_mut() {
+        sum = sum.saturating_add(*number);
+        *number = sum;
+    }
+}
+
+/// Writes a fanout of `node` at its next free entry.
+fn note_reader(next: &mut [u32], readers: &mut [u32], node: u32, reader: u32) {
+    put(readers, at(next, node), reader);
+    raise(next, node);
+}
+
+/// The fanouts of all nodes, in one row.
+fn reader_row(alloc: Global, xag: &Xag, starts: &[u32]) -> Result<Vec<u32>, AllocError> {
+    let mut next = Vec::from_slice(alloc, starts)?;
+    let mut readers = vec![in alloc; 0u32; xag.gates().len() * 2]?;
+    let mut reader = xag.sources() + 1;
+    for gate in xag.gates() {
+        note_reader(&mut next, &mut readers, gate.first >> 1, reader);
+        if gate.first >> 1 != gate.second >> 1 {
+            note_reader(&mut next, &mut readers, gate.second >> 1, reader);
+        }
+        reader = reader.saturating_add(1);
+    }
+    Ok(readers)
+}
+
+impl Context {
+    /// The context of a graph.
+    pub fn new(alloc: Global, xag: &Xag) -> Result<Context, AllocError> {
+        let mut starts = reader_counts(alloc, xag)?;
+        let mut references = Vec::with_capacity(alloc, starts.len())?;
+        references.extend_from_slice(starts.get(1..).unwrap_or(&[]))?;
+        add_up(&mut starts);
+        let readers = reader_row(alloc, xag, &starts)?;
+        let mut feeds_sink = vec![in alloc; false; xag.nodes() as usize]?;
+        for sink in xag.sinks() {
+            raise(&mut references, sink >> 1);
+            put(&mut feeds_sink, sink >> 1, true);
+        }
+        Ok(Context {
+            starts,
+            readers,
+            references,
+            feeds_sink,
+        })
+    }
+
+    /// The fanouts of a node, rising.
+    pub fn readers(&self, node: u32) -> &[u32] {
+        let first = at(&self.starts, node) as usize;
+        let end = at(&self.starts, node.saturating_add(1)) as usize;
+        self.readers.get(first..end).unwrap_or(&[])
+    }
+
+    /// How many gates and sinks read a node.
+    pub fn references(&self, node: u32) -> u32 {
+        at(&self.references, node)
+    }
+
+    /// Whether a sink reads the node.
+    pub fn feeds_sink(&self, node: u32) -> bool {
+        bit_at(&self.feeds_sink, node)
+    }
+
+    /// Takes one reference from an operand; one that has none left joins the cone.
+    fn release(&mut self, xag: &Xag, literal: u32, cone: &mut Vec<u32>) -> Result<(), AllocError> {
+        let node = literal >> 1;
+        if !xag.is_gate(node) {
+            return Ok(());
+        }
+        let left = at(&self.references, node).saturating_sub(1);
+        put(&mut self.references, node, left);
+        if left == 0 {
+            cone.push(node)?;
+        }
+        Ok(())
+    }
+
+    /// Lists the maximal fanout-free cone of a gate, the gate first: the gates that would be dead
+    /// without it. Of a large cone only some 200 gates are listed.
+    pub fn cone_of(&mut self, xag: &Xag, node: u32, cone: &mut Vec<u32>) -> Result<(), AllocError> {
+        cone.clear();
+        cone.push(node)?;
+        let mut passed = 0;
+        for index in 0..LARGEST_CONE {
+            let Some(member) = cone.get(index) else {
+                break;
+            };
+            let gate = xag.gate(*member);
+            self.release(xag, gate.first, cone)?;
+            self.release(xag, gate.second, cone)?;
+            passed = index + 1;
+        }
+        for member in cone.iter().take(passed) {
+            let gate = xag.gate(*member);
+            raise(&mut self.references, gate.first >> 1);
+            raise(&mut self.references, gate.second >> 1);
+        }
+        Ok(())
+    }
+}

@@ -1,0 +1,54 @@
+//! A change of a graph that isn't made yet: gates above its end, and nodes that become literals.
+
+use crate::xag::{Xag, XagGate};
+use std::alloc::{AllocError, Global};
+
+/// No literal.
+pub const NONE: u32 = 0xFFFF_FFFF;
+
+/// New gates, whose nodes follow those of the graph, and redirects of nodes of the graph to literals.
+/// Both may name new nodes.
+#[derive(Drop)]
+pub struct Edit {
+    pub(crate) first: u32,
+    pub(crate) gates: Vec<XagGate>,
+    pub(crate) redirects: Vec<(u32, u32)>,
+}
+
+impl Edit {
+    /// No change of the graph.
+    pub fn new(alloc: Global, xag: &Xag) -> Edit {
+        Edit {
+            first: xag.nodes(),
+            gates: Vec::new(alloc),
+            redirects: Vec::new(alloc),
+        }
+    }
+
+    /// Appends a gate and answers its literal.
+    pub fn gate(&mut self, gate: XagGate) -> Result<u32, AllocError> {
+        let node = u64::from(self.first) + self.gates.len() as u64;
+        if node >= 0x8000_0000 {
+            return Err(AllocError);
+        }
+        self.gates.push(gate)?;
+        Ok(node as u32 * 2)
+    }
+
+    /// All that reads `node` reads `literal` instead.
+    pub fn redirect(&mut self, node: u32, literal: u32) -> Result<(), AllocError> {
+        self.redirects.push((node, literal))?;
+        Ok(())
+    }
+
+    /// The gate at a node, of the graph or new.
+    pub(crate) fn gate_at(&self, xag: &Xag, node: u32) -> XagGate {
+        if node < self.first {
+            return xag.gate(node);
+        }
+        match self.gates.get((node - self.first) as usize) {
+            Some(gate) => *gate,
+            None => xag.gate(0),
+        }
+    }
+}

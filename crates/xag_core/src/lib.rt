@@ -1,0 +1,36 @@
+//! Xor-and graphs (XAGs), as optimisers of netlists use them: gates are AND or XOR, and an edge may
+//! complement. A literal is 2 * node + 1 where it complements its node, and 2 * node else; node 0 is
+//! the constant 0, the sources come next and then the gates.
+//!
+//! What stands on this crate searches for smaller graphs and promises nothing of their values: each
+//! graph that it finds is judged afterwards by an equivalence check. What is proved here is that every
+//! graph is one (operands stand below their gate), that calls end, and that a graph which is rebuilt has
+//! the sources and the number of sinks that it had.
+//!
+//! ```text
+//! let xag = from_net(alloc, &net)?;
+//! let other = rebuild(alloc, &xag, &edit)?; // None where a redirect makes a cycle
+//! let net = into_net(alloc, &xag)?;
+//! ```
+#![tactic(auto)]
+
+mod builder;
+mod context;
+mod edit;
+mod net_builder;
+mod net_in;
+mod net_out;
+mod random;
+mod rows;
+mod walk;
+mod xag;
+
+pub use builder::Builder;
+pub use context::Context;
+pub use edit::{Edit, NONE};
+pub use net_in::from_net;
+pub use net_out::into_net;
+pub use random::Random;
+pub use rows::{at, bit_at, put, raise};
+pub use walk::rebuild;
+pub use xag::{Xag, XagGate};

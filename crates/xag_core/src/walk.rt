@@ -1,0 +1,202 @@
+//! A graph is rebuilt with a change by a depth-first walk from its sinks, so that its gates come in the
+//! order of that walk and dead ones are left out. A node that waits for itself shows a cycle.
+ghost use Rattle.std.specs.Prelude.{◌≡◌, OnOk, IfOk, IfSome, length};
+ghost use Rattle.xag_core.specs.Xag.{HasEnds};
+
+use crate::builder::Builder;
+use crate::edit::{Edit, NONE};
+use crate::rows::{at, bit_at, put};
+use crate::xag::{Xag, XagGate};
+use std::alloc::{AllocError, Global};
+
+/// The walk: for each old node the literal that it is redirected to, its new literal once that is found
+/// (NONE before), and whether the walk has come to it; and the nodes that wait for others.
+#[derive(Drop)]
+struct Walk {
+    targets: Vec<u32>,
+    found: Vec<u32>,
+    open: Vec<bool>,
+    stack: Vec<u32>,
+    builder: Builder,
+}
+
+/// The walk before its first step.
+fn start(alloc: Global, xag: &Xag, edit: &Edit) -> Result<Walk, AllocError>
+    ensures { IfOk result (λ walk. walk.builder.sources ≡ xag.now.sources) }
+{
+    let count = xag.nodes() as usize + edit.gates.len();
+    let mut targets = vec![in alloc; NONE; count]?;
+    for (node, literal) in &edit.redirects {
+        put(&mut targets, *node, *literal);
+    }
+    let mut found = vec![in alloc; NONE; count]?;
+    for node in 0..=xag.sources() {
+        put(&mut found, node, node * 2);
+    }
+    let open = vec![in alloc; false; count]?;
+    let stack = Vec::new(alloc);
+    let builder = Builder::new(alloc, xag.sources(), xag.gates().len())?;
+    Ok(Walk {
+        targets,
+        found,
+        open,
+        stack,
+        builder,
+    })
+}
+
+impl Walk {
+    /// Whether the new literal of an old one is known.
+    fn is_found(&self, literal: u32) -> bool {
+        at(&self.found, literal >> 1) != NONE
+    }
+
+    /// The new literal of an old one.
+    fn moved(&self, literal: u32) -> u32 {
+        at(&self.found, literal >> 1) ^ (literal & 1)
+    }
+
+    /// Puts the node of a literal on the stack. False where the walk has come to it already.
+    fn enter(&mut self, literal: u32) -> Result<bool, AllocError>
+        ensures { OnOk result (self.new.builder.sources ≡ self.old.builder.sources) }
+    {
+        let node = literal >> 1;
+        if bit_at(&self.open, node) {
+            return Ok(false);
+        }
+        put(&mut self.open, node, true);
+        self.stack.push(node)?;
+        Ok(true)
+    }
+
+    /// The node on top of the stack has this new literal.
+    fn settle(&mut self, node: u32, literal: u32)
+        ensures { self.new.builder.sources ≡ self.old.builder.sources }
+    {
+        put(&mut self.found, node, literal);
+        self.stack.pop();
+    }
+
+    /// One step at a gate: it waits for an operand, or is made.
+    fn join(&mut self, node: u32, gate: XagGate) -> Result<bool, AllocError>
+        ensures { OnOk result (self.new.builder.sources ≡ self.old.builder.sources) }
+    {
+        if !self.is_found(gate.first) {
+            return self.enter(gate.first);
+        }
+        if !self.is_found(gate.second) {
+            return self.enter(gate.second);
+        }
+        let first = self.moved(gate.first);
+        let second = self.moved(gate.second);
+        let literal = self.builder.gate(first, second, gate.is_xor)?;
+        self.settle(node, literal);
+        Ok(true)
+    }
+
+    /// One step at the node on top of the stack. False where it waits for a node that waits for it.
+    fn step(&mut self, xag: &Xag, edit: &Edit, node: u32) -> Result<bool, AllocError>
+        ensures { OnOk result (self.new.builder.sources ≡ self.old.builder.sources) }
+    {
+        let target = at(&self.targets, node);
+        if target == NONE {
+            return self.join(node, edit.gate_at(xag, node));
+        }
+        if !self.is_found(target) {
+            return self.enter(target);
+        }
+        let literal = self.moved(target);
+        self.settle(node, literal);
+        Ok(true)
+    }
+
+    /// Walks until the new literal of `root` is found. False at a cycle.
+    fn visit(&mut self, xag: &Xag, edit: &Edit, root: u32) -> Result<bool, AllocError>
+        ensures { OnOk result (self.new.builder.sources ≡ self.old.builder.sources) }
+    {
+        if self.is_found(root) {
+            return Ok(true);
+        }
+        if !self.enter(root)? {
+            return Ok(false);
+        }
+        let steps = (self.found.len() as u64).saturating_mul(4);
+        for _step in 0..steps {
+            let Some(top) = self.stack.last() else {
+                return Ok(true);
+            };
+            let node = *top;
+            if !self.step(xag, edit, node)? {
+                return Ok(false);
+            }
+        }
+        Ok(true)
+    }
+}
+
+/// The new literals of the sinks; None at a cycle.
+fn walk_sinks(
+    alloc: Global,
+    walk: &mut Walk,
+    xag: &Xag,
+    edit: &Edit,
+) -> Result<Option<Vec<u32>>, AllocError>
+    ensures sources { OnOk result (walk.new.builder.sources ≡ walk.old.builder.sources) }
+    ensures sinks { IfOk result (λ found. IfSome found (λ sinks. length sinks.items ≡ length xag.now.sinks)) }
+{
+    let mut sinks = Vec::with_capacity(alloc, xag.sinks().len())?;
+    for sink in xag.sinks() {
+        if !walk.visit(xag, edit, *sink)? {
+            return Ok(None);
+        }
+        sinks.push(walk.moved(*sink))?;
+    }
+    Ok(Some(sinks))
+}
+
+/// The graph with the change, by one walk; None at a cycle.
+fn walked(alloc: Global, xag: &Xag, edit: &Edit) -> Result<Option<Xag>, AllocError>
+    ensures { IfOk result (λ other. IfSome other (HasEnds xag.now)) }
+{
+    let mut walk = start(alloc, xag, edit)?;
+    let Some(sinks) = walk_sinks(alloc, &mut walk, xag, edit)? else {
+        return Ok(None);
+    };
+    let Walk {
+        targets: _,
+        found: _,
+        open: _,
+        stack: _,
+        builder,
+    } = walk;
+    Ok(Some(builder.finish(alloc, &sinks)?))
+}
+
+/// Whether each gate is read by a gate or a sink.
+fn is_live(alloc: Global, xag: &Xag) -> Result<bool, AllocError> {
+    let mut read = vec![in alloc; false; xag.nodes() as usize]?;
+    for gate in xag.gates() {
+        put(&mut read, gate.first >> 1, true);
+        put(&mut read, gate.second >> 1, true);
+    }
+    for sink in xag.sinks() {
+        put(&mut read, sink >> 1, true);
+    }
+    let gates = read.get(xag.sources() as usize + 1..).unwrap_or(&[]);
+    Ok(gates.iter().all(|is_read| *is_read))
+}
+
+/// The graph with a change, without gates that nothing reads, in the order of a depth-first walk from
+/// the sinks. None where a redirect makes a cycle.
+pub fn rebuild(alloc: Global, xag: &Xag, edit: &Edit) -> Result<Option<Xag>, AllocError>
+    ensures { IfOk result (λ other. IfSome other (HasEnds xag.now)) }
+{
+    let Some(built) = walked(alloc, xag, edit)? else {
+        return Ok(None);
+    };
+    if is_live(alloc, &built)? {
+        return Ok(Some(built));
+    }
+    let unchanged = Edit::new(alloc, &built);
+    walked(alloc, &built, &unchanged)
+}
