@@ -1,7 +1,8 @@
 //! One target: its region without and then with its tail, its divisors, the search, and the trial of what
 //! was found.
-ghost use Rattle.std.specs.Prelude.{◌≤◌, IfOk, IfSome, length};
-ghost use Rattle.xag_core.specs.Xag.{HasEnds};
+ghost use Rattle.std.specs.Prelude.{◌≡◌, ◌≤◌, true, IfOk, IfSome};
+ghost use Rattle.xag_core.specs.Xag.{Xag, HasEnds};
+ghost use Rattle.resub_core.specs.Smaller.{IsNoLarger};
 
 use crate::divisors::Divisors;
 use crate::recipe::{Recipe, edit_of};
@@ -41,12 +42,16 @@ fn exchange(recipes: &mut [Recipe], index: usize, random: &mut Random) {
 }
 
 /// Whether a graph of `new` gates may stand for one of `old` gates.
-fn is_taken(old: usize, new: usize, terms: Terms) -> bool {
+fn is_taken(old: usize, new: usize, terms: Terms) -> bool
+    ensures { result ≡ true → new ≤ old }
+{
     new < old || (terms.is_level && new == old)
 }
 
 /// The smaller of the best graph so far and another.
-fn smaller(best: Option<Xag>, other: Xag) -> Option<Xag> {
+fn smaller(best: Option<Xag>, other: Xag) -> Option<Xag>
+    ensures { (x : Xag) → IfSome best (HasEnds x) → HasEnds x other → IfSome result (HasEnds x) }
+{
     match best {
         Some(kept) => {
             if other.gates().len() < kept.gates().len() {
@@ -86,8 +91,10 @@ impl Finder {
         xag: &Xag,
         target: u32,
         trials: usize,
-    ) -> Result<Option<Xag>, AllocError> {
-        let mut best = None;
+    ) -> Result<Option<Xag>, AllocError>
+        ensures { IfOk result (λ other. IfSome other (HasEnds xag.now)) }
+    {
+        let mut best: Option<Xag> = None;
         for index in 0..trials.min(self.search.found.len()) {
             exchange(&mut self.search.found, index, &mut self.random);
             let Some(recipe) = self.search.found.get(index) else {
@@ -109,7 +116,9 @@ impl Finder {
         target: u32,
         gates: u32,
         terms: Terms,
-    ) -> Result<Option<Xag>, AllocError> {
+    ) -> Result<Option<Xag>, AllocError>
+        ensures { IfOk result (λ other. IfSome other (IsNoLarger xag.now)) }
+    {
         let wanted = Wanted::of(alloc, self.region.target_row(), self.region.care())?;
         self.search.find(alloc, &self.divisors, &wanted, gates)?;
         let size = xag.gates().len();
@@ -140,7 +149,9 @@ impl Finder {
         target: u32,
         with_tail: bool,
         terms: Terms,
-    ) -> Result<Option<Xag>, AllocError> {
+    ) -> Result<Option<Xag>, AllocError>
+        ensures { IfOk result (λ other. IfSome other (IsNoLarger xag.now)) }
+    {
         if !self.region.set_up(alloc, xag, context, target, with_tail)? {
             return Ok(None);
         }
@@ -168,7 +179,9 @@ impl Finder {
         context: &mut Context,
         target: u32,
         terms: Terms,
-    ) -> Result<Option<Xag>, AllocError> {
+    ) -> Result<Option<Xag>, AllocError>
+        ensures { IfOk result (λ other. IfSome other (IsNoLarger xag.now)) }
+    {
         context.cone_of(xag, target, &mut self.cone)?;
         for with_tail in [false, true] {
             let found = self.search_region(alloc, xag, context, target, with_tail, terms)?;

@@ -1,6 +1,6 @@
 //! The passes: over all gates in topological order until none changes, or over gates at random.
-ghost use Rattle.std.specs.Prelude.{◌≤◌, IfOk, length};
-ghost use Rattle.xag_core.specs.Xag.{HasEnds};
+ghost use Rattle.std.specs.Prelude.{IfOk, OnOk};
+ghost use Rattle.resub_core.specs.Smaller.{IsNoLarger};
 
 use crate::finder::{Finder, Terms};
 use std::alloc::{AllocError, Global};
@@ -27,12 +27,15 @@ fn target_after(target: u32, old: &Xag, new: &Xag) -> u32 {
 }
 
 /// Tries one target. True where the graph changed.
+#[tactic(auto, using(crate::proofs::Replacing::replacing))]
 fn try_target(
     alloc: Global,
     pass: &mut Pass,
     finder: &mut Finder,
     terms: Terms,
-) -> Result<bool, AllocError> {
+) -> Result<bool, AllocError>
+    ensures { OnOk result (IsNoLarger pass.old.xag pass.new.xag) }
+{
     let found = finder.replace(alloc, &pass.xag, &mut pass.context, pass.target, terms)?;
     let Some(other) = found else {
         return Ok(false);
@@ -45,7 +48,10 @@ fn try_target(
 
 /// The graph after resubstitution with at most `new_gates` new gates for a target, 0, 1 or 2. Each
 /// replacement leaves fewer gates. It goes on until no gate of the graph has one, or for some twenty passes.
-pub fn resub(alloc: Global, xag: &Xag, new_gates: u32) -> Result<Xag, AllocError> {
+#[tactic(auto, using(crate::proofs::Replacing::replacing))]
+pub fn resub(alloc: Global, xag: &Xag, new_gates: u32) -> Result<Xag, AllocError>
+    ensures { IfOk result (IsNoLarger xag.now) }
+{
     let mut pass = Pass {
         xag: xag.copied(alloc)?,
         context: Context::new(alloc, xag)?,
@@ -69,7 +75,7 @@ pub fn resub(alloc: Global, xag: &Xag, new_gates: u32) -> Result<Xag, AllocError
         if try_target(alloc, &mut pass, &mut finder, terms)? {
             is_settled = false;
         } else {
-            pass.target += 1;
+            pass.target = pass.target.saturating_add(1);
         }
     }
     Ok(pass.xag)
@@ -77,7 +83,10 @@ pub fn resub(alloc: Global, xag: &Xag, new_gates: u32) -> Result<Xag, AllocError
 
 /// The graph after resubstitution with at most two new gates at as many gates at random as it has, each
 /// replacement with no more gates.
-pub fn resub_level(alloc: Global, xag: &Xag, seed: u64) -> Result<Xag, AllocError> {
+#[tactic(auto, using(crate::proofs::Replacing::replacing))]
+pub fn resub_level(alloc: Global, xag: &Xag, seed: u64) -> Result<Xag, AllocError>
+    ensures { IfOk result (IsNoLarger xag.now) }
+{
     let mut pass = Pass {
         xag: xag.copied(alloc)?,
         context: Context::new(alloc, xag)?,

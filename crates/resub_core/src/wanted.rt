@@ -67,8 +67,7 @@ pub fn covers(on: &[u64], row: &[u64], literal: u32) -> bool {
     true
 }
 
-/// Whether a literal has a 1 in some row of `off`, so that it doesn't decide all rows by itself... or has a 0
-/// there, so that it decides some.
+/// Whether a literal is 0 in some row of `off`, so that AND with it decides that row.
 pub fn decides_some(off: &[u64], row: &[u64], literal: u32) -> bool {
     let turn = complement_mask(literal);
     for word in 0..off.len() {
