@@ -54,6 +54,7 @@ fn pass(
 }
 
 /// The graph after one pass, or as it is where that has more gates.
+#[tactic(auto, using(crate::proofs::Ends::ends))]
 fn better(alloc: Global, xag: Xag, kind: Kind, random: Option<Random>) -> Result<Xag, AllocError>
     ensures ends { IfOk result (HasEnds xag) }
     ensures size { IfOk result (λ other. length other.gates ≤ length xag.gates) }
@@ -73,6 +74,7 @@ fn better(alloc: Global, xag: Xag, kind: Kind, random: Option<Random>) -> Result
 /// The graph after sharing pairs of operands of AND and of XOR trees, first of those through gates that one
 /// gate reads, then through all. With a seed ties, and the order of what is left of a tree, are random;
 /// another graph of the same size may be answered.
+#[tactic(auto, using(crate::proofs::Ends::ends))]
 pub fn share(alloc: Global, xag: &Xag, seed: Option<u64>) -> Result<Xag, AllocError>
     ensures ends { IfOk result (HasEnds xag.now) }
     ensures size { IfOk result (λ other. length other.gates ≤ length xag.now.gates) }
