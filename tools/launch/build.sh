@@ -94,6 +94,7 @@ show() {
 watch() {
     local copy=$1 begun=$SECONDS child
     shift
+    shown_at=-60
     set -m
     "$@" >>"$copy/log" 2>&1 9>&- &
     child=$!
@@ -117,7 +118,7 @@ prove_and_build() {
     sum_of_sources "$2" >"$2/sum.new"
     : >"$2/log"
     watch "$2" env -C "$2" rt all check --jobs "$(jobs_here)" || return 1
-    env -C "$2/crates/batsokemi" rt run -- agree <"$1/examples/agree/xor.agree" >>"$2/log" 2>&1 9>&- || return 1
+    watch "$2" env -C "$2/crates/batsokemi" rt run -- agree <"$1/examples/agree/xor.agree" || return 1
     mv "$2/sum.new" "$2/sum"
 }
 
@@ -136,14 +137,25 @@ manifest() {
     echo "crates $(needed_names "$1" | tr '\n' ' ' | sed 's/ $//')"
 }
 
-# build TOP COPY: the same, in turn with other starts of the same checkout
+# await COPY: waits for another start that builds there, and shows how far that one is
+await() {
+    tell "another start builds the program, and this one waits for it (log: $1/log)"
+    until flock -n 9; do
+        [ ! -f "$1/sum.new" ] || show "$1" $(($(date +%s) - $(stat -c %Y "$1/sum.new" 2>/dev/null || date +%s)))
+        sleep 1
+    done
+    [ ! -t 2 ] || echo >&2
+}
+
+# build TOP COPY [anew]: the same, in turn with other starts of the same checkout; with `anew` also where the program
+# of these sources stands there
 build() {
     command -v rt >/dev/null || { tell "the Rattle toolchain is needed to build the program, with rt on the path"; return 1; }
     mkdir -p "$2" && [ -O "$2" ] || { tell "the program is built in $2, and that folder can't be made here"; return 1; }
     exec 9>"$2/lock"
-    flock -n 9 || { tell "another start builds the program, and this one waits for it (log: $2/log)"; flock 9; }
-    if [ ! -f "$2/sum" ] || [ "$(cat "$2/sum")" != "$(sum_of_sources "$1")" ]; then
-        tell "proving and building the program from $(needed_names "$1" | wc -l) crates, once (log: $2/log)"
+    flock -n 9 || await "$2"
+    if [ "${3-}" = anew ] || [ ! -f "$2/sum" ] || [ "$(cat "$2/sum")" != "$(sum_of_sources "$1")" ]; then
+        tell "proving and building the program from $(needed_names "$1" | wc -l) crates: half an hour on four processors where nothing is proved yet (log: $2/log)"
         prove_and_build "$1" "$2" || { tell "the build failed; see $2/log"; return 1; }
     fi
     exec 9>&-

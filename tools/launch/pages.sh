@@ -16,6 +16,7 @@ equivalence checking. Every function of the program is formally verified.
   gen       a number -> a BLIF netlist of that many blocks
 
   help COMMAND        options of a command with ranges and defaults, and an example
+  help TOPIC          a format: errors, tables, chains, bases, logs, certificates, levels, blif, bench, pairs
   --version           the version, and which program runs
   --where             the path of the program
   --build             proves and builds the program from the sources of this checkout
@@ -64,6 +65,24 @@ options_of() {
             }
             print line
         }' "$parts/options"
+}
+
+# about_topic TOPIC: the section of docs/FORMATS.md that tells it
+about_topic() {
+    local title
+    case "$1" in
+        errors) title='Error lines' ;;
+        tables) title='Truth tables' ;;
+        chains) title='Boolean chains' ;;
+        bases) title='Bases' ;;
+        logs) title='Refutation logs' ;;
+        certificates) title='Certificates' ;;
+        levels) title='Depth bundles' ;;
+        blif) title='Netlists: BLIF' ;;
+        bench) title='Netlists: BENCH' ;;
+        pairs) title='Netlists compared' ;;
+    esac
+    awk -v title="## $title" '/^## / { inside = $0 == title } inside' "$here/docs/FORMATS.md"
 }
 
 about_bases() {

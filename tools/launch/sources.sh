@@ -1,7 +1,7 @@
 # shellcheck shell=bash
 # Which files the program is built from, and their sum. A part of the launcher and of the tools that build.
 
-# needed TOP: the lines of crates.txt for the crates that the program stands on, in the file's order
+# needed TOP: the lines of crates.txt for the crates that the program and the library stand on, in the file's order
 needed() {
     awk '
         { sub(/#.*/, "") }
@@ -14,6 +14,7 @@ needed() {
         }
         END {
             wanted["batsokemi"] = 1
+            wanted["batsokemi_c"] = 1
             do {
                 more = 0
                 for (k = 1; k <= count; k++) {

@@ -116,8 +116,8 @@ const RUNS: &[(&str, &str, u8, bool, bool)] = &[
     ("improve --format bench", GATES, 0, true, true),
     ("equiv", TWO, 8, true, false),
     ("equiv", SAME, 0, true, false),
-    ("gen --blocks 3", "", 0, false, false),
-    ("gen --blocks 1 --run improve", "", 0, false, true),
+    ("gen --blocks 1000", "", 0, false, false),
+    ("gen --blocks 3 --run improve", "", 0, false, true),
 ];
 
 #[test]

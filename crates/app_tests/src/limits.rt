@@ -216,7 +216,7 @@ fn texts_have_limits(rt: HostRuntime) {
     }
 }
 
-/// The same of gates, which take the longest.
+/// The same of gates, which take the longest, and what is left of a thousand blocks.
 const GATES: Runs = &[
     (
         BLIF,
@@ -229,6 +229,12 @@ const GATES: Runs = &[
         Made::Gates(100_001),
         3,
         "error: TooManyGates 100001\n",
+    ),
+    (
+        "gen --blocks 1000 --run improve",
+        Made::Text(""),
+        0,
+        "gates 3333 -> 1999\nsettled\n",
     ),
 ];
 

@@ -137,7 +137,7 @@ exchanged_is c m can answers operate = record {
   outputs = can.outputs;
   clocks = can.clocks;
   latches = can.latches;
-  operators = at_all IsGateWord m.gates (λ j h at. ⊎_elim (λ has_it. has_it) (λ old. subst (λ (op : ℕ). is_gate_word op ≡ true) (sym old.3) (all_at IsGateWord c.net.gates old.0 old.1 can.operators old.2)) (operate j h at));
+  operators = at_all IsGateWord m.gates (λ j h at. ⊎_elim (λ has_it. has_it) (λ old. subst (λ (op : ℕ). is_gate_word op ≡ true) old.same (all_at IsGateWord c.net.gates old.index old.gate can.operators old.at)) (operate.each j h at));
   source = ⊎_elim (λ some. inl (omega (arith, some, answers.sources))) (λ none. inr (list_none m.gates (omega (arith, answers.fewer, ap (length {A = Gate}) none.0)), list_none m.sinks (omega (arith, answers.sink_count, ap (length {A = Sig}) none.1)))) can.source;
 }
 

@@ -9,6 +9,7 @@ ghost use Rattle.bench_text.specs.Statements.{operands_of as operands_of_items, 
 ghost use Rattle.std.specs.Option.{option_map};
 
 use crate::items::{is_item, is_mark_item, next_item};
+use blif_text::MOST_WIDTH;
 use net_document::{Name, NetError};
 use net_text::is_name;
 use std::alloc::{AllocError, Global};
@@ -80,7 +81,7 @@ fn are_names(names: &[Name]) -> bool
     names.iter().all(|name| is_name(name.get()))
 }
 
-/// The names in brackets, at most 256.
+/// The names in brackets, at most `MOST_WIDTH`.
 #[tactic(auto, unfolding(crate::specs::Statements::names_of))]
 pub fn names_of(alloc: Global, line: u32, text: &[u8]) -> Result<Vec<Name>, NetError>
     ensures names { Gives (λ names. names.items) result (names_of_items line (items_of text.now)) }
@@ -90,7 +91,7 @@ pub fn names_of(alloc: Global, line: u32, text: &[u8]) -> Result<Vec<Name>, NetE
     let Some(names) = operands_of(alloc, text)? else {
         return Err(NetError::Syntax(line));
     };
-    if names.len() > 256 {
+    if names.len() > MOST_WIDTH {
         return Err(NetError::TooWide(line));
     }
     if !are_names(&names) {

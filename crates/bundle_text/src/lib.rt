@@ -22,4 +22,5 @@ mod whole;
 pub use ending::write_ending;
 pub use heading::write_heading;
 pub use section::{write_parts, write_section};
+pub use tables::push_numbered;
 pub use whole::write_bundle;

@@ -45,7 +45,7 @@ pub fn push_tables(text: &mut Vec<u8>, spec: &Spec) -> Result<(), AllocError>
     Ok(())
 }
 
-/// Appends a line of a word and a number.
+/// Appends a line of a word and a number. An error is want of memory.
 pub fn push_numbered(text: &mut Vec<u8>, word: &[u8], number: u32) -> Result<(), AllocError>
     ensures { OnOk result (text.new.items ≡ text.old.items ++ line_bytes (line (word.now ++ decimal number))) }
 {

@@ -19,3 +19,4 @@ pub mod Gone
 pub mod Losing
 pub mod Writing
 pub mod Closing
+pub mod UnderWay

@@ -13,6 +13,10 @@ use Rattle.cdcl_theory.specs.Trails.{Trailed, fell}
 use Rattle.clause_db.specs.Stored.{Stored, live_in}
 use Rattle.trail_core.specs.Values.{Follows, HaveValues}
 use Rattle.cdcl_core.specs.Searching.{IsLog, AreNew}
+use Rattle.std.specs.Prelude.{Result, Ok, Err, IfOk}
+use Rattle.sat_solve.specs.declared.solver.Solved.{Solved}
+use Rattle.sat_solve.specs.declared.solver.Solved.TheVariants.{Sat, Unsat, Open}
+use Rattle.sat_solve.specs.Answering.{IfOpen}
 
 no_lines : (s : State) → EachLine IsStep s []
 unfolding EachLine
@@ -86,3 +90,21 @@ nothing f = (let none : live_additions (after (start f) []) [] ≡ 0 = refl in o
 -- With no line there is nothing to delete.
 pub thinned_at_once : (f : Formula) (lines : List Line) → lines ≡ [] → IsThinned f lines
 thinned_at_once f lines none = rw none (record { spares = All-nil (SparesFormula f); few = nothing f })
+
+-- What has spent more has spent less.
+pub spent_less : (f : Formula) (lines : List Line) (less more : ℕ) → less ≤ more → IsSpent f lines more → IsSpent f lines less
+spent_less f lines less more low spent = record {
+  holds = spent.holds;
+  open_yet = spent.open_yet;
+  enough = omega (arith, low, spent.enough);
+  fresh = spent.fresh;
+}
+
+if_open_less : (f : Formula) (s : Solved) (less more : ℕ) → less ≤ more → IfOpen s (λ lines. IsSpent f lines more) → IfOpen s (λ lines. IsSpent f lines less)
+if_open_less f (Sat bits) less more low spent = tt
+if_open_less f (Unsat lines) less more low spent = tt
+if_open_less f (Open lines) less more low spent = spent_less f lines less more low spent
+
+pub open_less : {E : Type 0} (f : Formula) (r : Result Solved E) (less more : ℕ) → less ≤ more → IfOk r (λ s. IfOpen s (λ lines. IsSpent f lines more)) → IfOk r (λ s. IfOpen s (λ lines. IsSpent f lines less))
+open_less f (Ok s) less more low spent = if_open_less f s less more low spent
+open_less f (Err e) less more low spent = tt

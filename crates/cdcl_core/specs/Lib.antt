@@ -7,3 +7,4 @@ pub mod Endings
 pub mod Guarding
 pub mod Visiting
 pub mod Forgetting
+pub mod Solving

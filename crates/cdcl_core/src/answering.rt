@@ -1,62 +1,71 @@
-//! The answers of the solver, made of how its search ended, and the solver as one of the trait.
-ghost use Rattle.std.specs.Prelude.{◌≡◌, ℕ, ◌*◌, ◌^◌, ◌<◌, ◌≤◌, [], length, Contains, IfOk};
+//! The answers of the solver, made of how its search ended.
+ghost use Rattle.std.specs.Prelude.{◌≡◌, ℕ, ◌+◌, ◌*◌, ◌^◌, ◌<◌, ◌≤◌, [], length, max, Contains, IfOk};
 ghost use Rattle.sat_theory.specs.Formula.{Formula, IsFormula, bits_of, Satisfies};
 ghost use Rattle.sat_theory.specs.Log.{Refutes, IsSpent, IsKept, IsThinned};
 ghost use Rattle.sat_solve.specs.Budgets.{most_budget};
 ghost use Rattle.sat_solve.specs.Answering.{IfSat, IfUnsat, IfOpen, IfLogged, IsDecided};
 ghost use Rattle.clause_db.specs.Stored.{IsStored};
-ghost use Rattle.cdcl_core.specs.Searching.{IsSearching, IsAccounted, IsLogged};
+ghost use Rattle.cdcl_core.specs.Searching.{IsSearching, IsVisited, IsAccounted, IsLogged};
 ghost use Rattle.cdcl_core.specs.Endings.{HasRefuted, HasSpent};
+ghost use Rattle.cdcl_core.specs.Solving.{IsUnderWay, IsStaged, IsStagedOf};
 
 use crate::search::{Ending, Search};
-use cnf_core::Cnf;
+use crate::solver::Stage;
 use log_core::Log;
-use sat_solve::{Solved, Solver};
+use sat_solve::Solved;
 use std::alloc::{AllocError, Global};
 use std::mem;
 
-/// The solver of this crate, where one of the trait is asked for.
-pub struct Cdcl;
-
-impl Solver for Cdcl {
-    fn solve(alloc: Global, cnf: &Cnf, budget: u32) -> Result<Solved, AllocError> {
-        solve(alloc, cnf, budget)
-    }
-}
-
-/// A search reckons with so many additions, where the budget isn't less: half of them may go at any time.
-const RECKONED: u32 = 40_000;
-
-/// Decides a formula, unless it takes more than `budget` learnt clauses, from 1 to 10,000,000: the answer is Open
-/// at the first decision that is due after `budget` of them.
-pub fn solve(alloc: Global, cnf: &Cnf, budget: u32) -> Result<Solved, AllocError>
-    requires some { 0 < budget }
+/// Decides the formula of a search that is under way, unless it takes more than `budget` further additions.
+fn decide_rest(search: &mut Search, alloc: Global, budget: u32) -> Result<Solved, AllocError>
+    requires under_way { IsUnderWay search.old }
     requires most { budget ≤ most_budget }
-    ensures bits { IfOk result (λ s. IfSat s (λ bits. length bits ≡ cnf.now.vars)) }
-    ensures sat { IfOk result (λ s. IfSat s (λ bits. Satisfies (bits_of bits) cnf.now)) }
-    ensures unsat { IfOk result (λ s. IfUnsat s (Refutes cnf.now)) }
-    ensures open { IfOk result (λ s. IfOpen s (λ lines. IsSpent cnf.now lines budget)) }
-    ensures kept { IfOk result (λ s. IfOpen s (IsKept cnf.now)) }
-    ensures thinned { IfOk result (λ s. IfLogged s (IsThinned cnf.now)) }
-    // A budget of twice 3 to the number of variables decides every formula.
-    ensures decides { 2 * 3 ^ cnf.now.vars ≤ budget → IfOk result IsDecided }
+    ensures bits { (f : Formula) → IsLogged f search.old → IfOk result (λ s. IfSat s (λ bits. length bits ≡ f.vars)) }
+    ensures sat { (f : Formula) → IsLogged f search.old → IsFormula f → IfOk result (λ s. IfSat s (λ bits. Satisfies (bits_of bits) f)) }
+    ensures unsat { (f : Formula) → IsLogged f search.old → IfOk result (λ s. IfUnsat s (Refutes f)) }
+    ensures open { (f : Formula) → IsLogged f search.old → (Contains f.clauses [] → ⊥) → IfOk result (λ s. IfOpen s (λ lines. IsSpent f lines (max search.old.least budget))) }
+    ensures kept { (f : Formula) → IsLogged f search.old → IfOk result (λ s. IfOpen s (IsKept f)) }
+    ensures thinned { (f : Formula) → IsLogged f search.old → IfOk result (λ s. IfLogged s (IsThinned f)) }
+    ensures decides { (f : Formula) → IsLogged f search.old → (Contains f.clauses [] → ⊥) → 2 * 3 ^ f.vars ≤ max search.old.least budget → IfOk result IsDecided }
 {
-    if cnf.has_empty() {
-        return Ok(Solved::Unsat(Log::new(alloc)));
-    }
-    let mut search = Search::new(alloc, cnf, budget.min(RECKONED))?;
-    answer(&mut search, alloc, budget)
+    search.close();
+    let target = search.target(budget);
+    answer(search, alloc, target)
 }
 
-/// Runs a search that has done nothing yet, and gives what it shows of each formula that it stands for.
+/// Gives what a search shows of each formula that it stands for.
+pub(crate) fn conclude(
+    search: &mut Search,
+    stage: Stage,
+    alloc: Global,
+    budget: u32,
+) -> Result<Solved, AllocError>
+    requires staged { IsStaged search.old stage }
+    requires most { budget ≤ most_budget }
+    ensures bits { (f : Formula) (least : ℕ) → IsStagedOf f least search.old stage → IfOk result (λ s. IfSat s (λ bits. length bits ≡ f.vars)) }
+    ensures sat { (f : Formula) (least : ℕ) → IsStagedOf f least search.old stage → IfOk result (λ s. IfSat s (λ bits. Satisfies (bits_of bits) f)) }
+    ensures unsat { (f : Formula) (least : ℕ) → IsStagedOf f least search.old stage → IfOk result (λ s. IfUnsat s (Refutes f)) }
+    ensures open { (f : Formula) (least : ℕ) → IsStagedOf f least search.old stage → IfOk result (λ s. IfOpen s (λ lines. IsSpent f lines (max least budget))) }
+    ensures kept { (f : Formula) (least : ℕ) → IsStagedOf f least search.old stage → IfOk result (λ s. IfOpen s (IsKept f)) }
+    ensures thinned { (f : Formula) (least : ℕ) → IsStagedOf f least search.old stage → IfOk result (λ s. IfLogged s (IsThinned f)) }
+    ensures decides { (f : Formula) (least : ℕ) → IsStagedOf f least search.old stage → 2 * 3 ^ f.vars ≤ max least budget → IfOk result IsDecided }
+{
+    match stage {
+        Stage::Empty => Ok(Solved::Unsat(Log::new(alloc))),
+        Stage::Undecided => decide_rest(search, alloc, budget),
+        Stage::Refuted => Ok(Solved::Unsat(log_of(search, alloc)?)),
+        Stage::Failed => Err(AllocError),
+    }
+}
+
+/// Runs a search at level 0, and gives what it shows of each formula that it stands for.
 fn answer(search: &mut Search, alloc: Global, budget: u32) -> Result<Solved, AllocError>
     requires searching { IsSearching search.old }
-    requires budget { budget ≤ most_budget }
+    requires visited { IsVisited search.old }
     requires least { search.old.least ≤ budget }
-    requires few { length search.old.clauses.clauses < 2000000000 }
-    requires given { search.old.given ≡ length search.old.clauses.clauses }
+    requires room { search.old.given + budget < 2970000000 }
+    requires short { length search.old.clauses.clauses ≤ search.old.given + budget }
     requires starts { search.old.starts.items ≡ [] }
-    requires head { search.old.head ≡ 0 }
     ensures bits { (f : Formula) → IsLogged f search.old → IfOk result (λ s. IfSat s (λ bits. length bits ≡ f.vars)) }
     ensures sat { (f : Formula) → IsLogged f search.old → IsFormula f → IfOk result (λ s. IfSat s (λ bits. Satisfies (bits_of bits) f)) }
     ensures unsat { (f : Formula) → IsLogged f search.old → IfOk result (λ s. IfUnsat s (Refutes f)) }
@@ -65,7 +74,7 @@ fn answer(search: &mut Search, alloc: Global, budget: u32) -> Result<Solved, All
     ensures thinned { (f : Formula) → IsLogged f search.old → IfOk result (λ s. IfLogged s (IsThinned f)) }
     ensures decides { (f : Formula) → IsLogged f search.old → (Contains f.clauses [] → ⊥) → 2 * 3 ^ f.vars ≤ budget → IfOk result IsDecided }
 {
-    match search.run(budget)? {
+    match search.go_on(budget)? {
         Ending::Valued => Ok(Solved::Sat(search.trail.assignment(alloc)?)),
         Ending::Refuted => Ok(Solved::Unsat(log_of(search, alloc)?)),
         Ending::Spent => Ok(Solved::Open(log_of(search, alloc)?)),

@@ -2,12 +2,12 @@
 //! and writes a log that a checker of refutations accepts (Marques-Silva and Sakallah, "GRASP", 1999;
 //! Moskewicz and others, "Chaff", 2001; Knuth, TAOCP 7.2.2.2). `sat_theory` says what an answer means.
 //!
-//! The theorem is that of `solve`: Sat comes only with an assignment that satisfies the formula, Unsat
-//! only with a log that refutes it, and Open only with a log that holds and has spent the budget on
-//! new clauses.
+//! The theorem is that of `Cdcl`, as a `sat_solve::Solver`: Sat comes only with an assignment that
+//! satisfies the formula, Unsat only with a log that refutes it, and Open only with a log that holds
+//! and has spent the budget on new clauses, whatever was probed before.
 //!
 //! ```text
-//! match solve(alloc, &cnf, 100000)? {
+//! match Cdcl::solve(alloc, &cnf, 100000)? {
 //!     Solved::Sat(assign) => ..,   // satisfied(&cnf, &assign)
 //!     Solved::Unsat(log) => ..,    // it adds the empty clause, unless the formula has it
 //!     Solved::Open(log) => ..,     // at least 100000 additions, each of a new clause
@@ -33,6 +33,8 @@
 //! | `blocker` | blocking literal |
 //! | `jump` | `analyze`, backjump, assignment of the asserting literal |
 //! | `settle` | propagate, and learn until there is no conflict |
+//! | `probe`, targets | solve under assumptions with a conflict limit |
+//! | `Scope`, open variables | decision variables of a probe, the cone of its targets |
 //! | `Walk`, `touched`, `reduce` | `analyze`, the literals marked `seen`, up to the first UIP |
 //! | `Redundancy`, `resolve_away`, `shorten` | `litRedundant`, minimisation, by binary clauses (Glucose) |
 //! | `Merits`: activity, `levels`, `shape` | clause activity, LBD (glue), signature |
@@ -51,10 +53,13 @@ mod forgetting;
 mod judgement;
 mod levels;
 mod merits;
+mod probing;
 mod restarts;
+mod scope;
 mod search;
+mod solver;
 mod units;
 mod visiting;
 
-pub use answering::{Cdcl, solve};
 pub use sat_solve::Solved;
+pub use solver::Cdcl;

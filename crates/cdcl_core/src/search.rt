@@ -14,6 +14,7 @@ use crate::choosing::Choice;
 use crate::levels::drop_levels;
 use crate::merits::Merits;
 use crate::restarts::Restarts;
+use crate::scope::{Scope, release_open};
 use crate::units::push_units;
 use crate::visiting::propagate_watched;
 use clause_db::ClauseDb;
@@ -43,6 +44,8 @@ pub(crate) struct Search {
     pub(crate) deleted: u32,
     /// the least number of additions of the log where it ends open
     pub(crate) least: u32,
+    /// the open variables, from the first probe on
+    pub(crate) scope: Option<Scope>,
 }
 
 /// How a search ends.
@@ -92,13 +95,14 @@ impl Search {
             merits,
             deleted: 0,
             least,
+            scope: None,
         })
     }
 
     /// Assigns the literals of unit clauses, which aren't watched, at level 0. What follows from
     /// them is found by propagation.
     #[tactic(auto, using(crate::proofs::Settling::searching_grown))]
-    fn begin(&mut self) -> Result<Option<u32>, AllocError>
+    pub(crate) fn begin(&mut self) -> Result<Option<u32>, AllocError>
         requires searching { IsSearching self.old }
         requires starts { self.old.starts.items ≡ [] }
         requires head { self.old.head ≡ 0 }
@@ -159,6 +163,7 @@ impl Search {
         let id = self.clauses.add(&learnt.lits)?;
         let end = drop_levels(&mut self.starts, learnt.back as usize);
         self.choice.release(&self.trail, end);
+        release_open(&mut self.scope, &self.trail, end);
         self.trail.back_to(end);
         let lit = learnt.lits[0];
         self.lines.add(id, &learnt.lits, &learnt.hints)?;
@@ -168,7 +173,7 @@ impl Search {
     }
 
     /// Backtracks to level 0; the first level begins at trail index `first`.
-    fn go_down(&mut self, first: usize)
+    pub(crate) fn go_down(&mut self, first: usize)
         requires searching { IsSearching self.old }
         requires visited { IsVisited self.old }
         requires level { IsFirstStart self.old.starts.items first }
@@ -178,6 +183,7 @@ impl Search {
         ensures restarted { HasRestarted self.old self.new }
     {
         self.choice.release(&self.trail, first);
+        release_open(&mut self.scope, &self.trail, first);
         self.trail.back_to(first);
         self.starts.clear();
         self.head = first;
@@ -202,7 +208,7 @@ impl Search {
     }
 
     /// Propagates, and learns from each conflict, until there is none, or one at level 0.
-    fn settle(&mut self) -> Result<Option<u32>, AllocError>
+    pub(crate) fn settle(&mut self) -> Result<Option<u32>, AllocError>
         requires searching { IsSearching self.old }
         requires visited { IsVisited self.old }
         requires few { length self.old.clauses.clauses + length self.old.starts.items < 4000000000 }
@@ -261,12 +267,13 @@ impl Search {
     }
 
     /// Adds the empty clause to the log.
-    fn refute(&mut self, conflict: u32) -> Result<(), AllocError>
+    pub(crate) fn refute(&mut self, conflict: u32) -> Result<(), AllocError>
         requires searching { IsSearching self.old }
         requires few { length self.old.clauses.clauses < 4000000000 }
         requires bottom { self.old.starts.items ≡ [] }
         requires conflict { IsFalsified (live_in self.old.clauses) (fell_of self.old.trail) conflict }
         ensures refuted { (f : Formula) → IsLogged f self.old → OnOk result (HasRefuted f self.new) }
+        ensures trail { self.new.trail ≡ self.old.trail }
         ensures stored { IsStored self.new.clauses }
     {
         let alloc = *self.starts.allocator();
@@ -278,34 +285,13 @@ impl Search {
         Ok(())
     }
 
-    /// Searches until the formula is decided, or a decision is due after at least `budget`
-    /// additions.
-    pub(crate) fn run(&mut self, budget: u32) -> Result<Ending, AllocError>
-        requires searching { IsSearching self.old }
-        requires budget { budget ≤ most_budget }
-        requires least { self.old.least ≤ budget }
-        requires few { length self.old.clauses.clauses < 2000000000 }
-        requires given { self.old.given ≡ length self.old.clauses.clauses }
-        requires starts { self.old.starts.items ≡ [] }
-        requires head { self.old.head ≡ 0 }
-        ensures ends { (f : Formula) → IsLogged f self.old → IfOk result (Ends f budget self.new) }
-        ensures stored { IfOk result (λ _. IsStored self.new.clauses) }
-    {
-        if let Some(conflict) = self.begin()? {
-            self.refute(conflict)?;
-            return Ok(Ending::Refuted);
-        }
-        self.go_on(budget)
-    }
-
-    /// Decides and learns until the formula is decided or the budget is spent.
-    fn go_on(&mut self, budget: u32) -> Result<Ending, AllocError>
+    /// Decides and learns until the formula is decided, or a decision is due after at least `budget` additions.
+    pub(crate) fn go_on(&mut self, budget: u32) -> Result<Ending, AllocError>
         requires searching { IsSearching self.old }
         requires visited { IsVisited self.old }
-        requires budget { budget ≤ most_budget }
         requires least { self.old.least ≤ budget }
-        requires few { length self.old.clauses.clauses < 2000000000 }
-        requires given { self.old.given ≡ length self.old.clauses.clauses }
+        requires room { self.old.given + budget < 2970000000 }
+        requires short { length self.old.clauses.clauses ≤ self.old.given + budget }
         requires starts { self.old.starts.items ≡ [] }
         ensures ends { (f : Formula) → IsLogged f self.old → IfOk result (Ends f budget self.new) }
         ensures stored { IfOk result (λ _. IsStored self.new.clauses) }

@@ -53,7 +53,7 @@ IsLogged f ended log l checker (Err e) = PartFails e (logged_in f ended log l)
 -- ---- the reader of a part
 
 -- A reader has read these lines of a log over a formula: its checker has accepted them, and it knows how
--- many additions are missing of so many.
+-- many additions are missing of the `conflicts` that a part which is left open needs.
 pub record IsReading (f : Formula) (conflicts : ℕ) (log : List theory.Line) (reader : PartReader) : Type 0 where
   pub accepted : HasAccepted f log reader.checker
   pub missing : reader.missing ≡ conflicts - length (added_ids log)

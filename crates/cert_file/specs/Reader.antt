@@ -1,6 +1,7 @@
 -- What a reader says of the text that it was fed, wherever that was cut into pieces.
 use Rattle.std.specs.Prelude.{ℕ, List, Result}
 use Rattle.line_reader.specs.Reader as pieces
+use Rattle.line_reader.specs.Seen as lines
 use Rattle.cert_theory.specs.declared.data.BundleError.{BundleError}
 use Rattle.cert_file.specs.Stages.{IsStage}
 use Rattle.cert_file.specs.Standing.{StandsIn, Refuses}
@@ -13,7 +14,7 @@ abbrev pub Reader : Type 0
 Reader = pieces.Reader Stage
 
 abbrev pub seen : BundleReader → Reader
-seen r = record { stage = r.stage; number = r.number; unfinished = r.unfinished.items; fed = r.fed }
+seen r = lines.seen r.pieces
 
 -- a stage keeps no bytes of the lines before
 abbrev pub IsReader : Reader → Type 0

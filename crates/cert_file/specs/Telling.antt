@@ -29,7 +29,7 @@ pub record IsBlock (f : Frame) (all : List Line) (read : Result block.Read Chain
   pub place : f.first_line ≡ length front + 1
   pub read_is : block.chain_of f.first_line f.n f.outputs lines ≡ read
 
--- This chain was read from its block, after which so many lines stand before the next.
+-- This chain was read from its block, after which `behind` lines stand before the line `number`.
 pub record IsHeld (h : Heading) (c : Chain) (behind number : ℕ) (all : List Line) : Type 0 where
   pub front : List Line
   pub lines : List Line

@@ -17,7 +17,7 @@ use op_basis::{Basis, read_basis, write_basis};
 use settings::{MOST_CONFLICTS, MOST_STEPS, Method, method_named};
 use std::alloc::{AllocError, Global};
 use text_core::{begins_lower, number_up_to};
-use tt_core::{Spec, are_cells, inputs, push_row};
+use tt_core::{MOST_INPUTS, MOST_OUTPUTS, Spec, are_cells, inputs, push_row};
 
 /// The first line.
 #[tactic(auto, unfolding(cert_theory::specs::Judging::bundle_of, crate::specs::Asking::heading_in))]
@@ -44,7 +44,7 @@ pub(crate) fn at_inputs(alloc: Global, line: &TextLine) -> Result<Stage, BundleE
     let Some(n) = inputs(line.text, line.ended) else {
         return Err(BundleError::Syntax(line.number));
     };
-    if n > 6 {
+    if n > MOST_INPUTS {
         return Err(BundleError::Syntax(line.number));
     }
     Ok(Stage::Tables {
@@ -119,7 +119,7 @@ pub(crate) fn at_tables(
     if begins_lower(line.text) {
         return at_basis(alloc, n, on, care, line);
     }
-    if on.len() == 8
+    if on.len() == MOST_OUTPUTS
         || !line.ended
         || line.text.is_empty()
         || !are_cells(line.text)

@@ -1,5 +1,4 @@
 //! Certificates as texts that are read line by line.
-ghost use Rattle.std.specs.Prelude.{ℕ, IfOk};
 ghost use Rattle.cert_file.specs.Stages.{IsStage, IsKnown};
 ghost use Rattle.cert_file.specs.Standing.{StandsIn, Refuses, Ends};
 

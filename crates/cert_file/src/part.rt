@@ -41,8 +41,8 @@ pub enum PartStep {
 }
 
 impl PartReader {
-    /// The log of a part of this formula, without a line yet. Where it leaves the part open it needs so many
-    /// additions.
+    /// The log of a part of this formula, without a line yet. Where it leaves the part open it needs `conflicts`
+    /// additions at least.
     pub fn new(
         alloc: Global,
         cnf: Cnf,

@@ -3,7 +3,6 @@
 ghost use Rattle.std.specs.Prelude.{◌≡◌, ◌+◌, ◌^◌, ◌<◌, List, ℕ, [], ◌++◌, length, Ok, IfOk};
 ghost use Rattle.text_core.specs.Lines.{lines_of, line_bytes};
 ghost use Rattle.line_reader.specs.Cuts.{HasNoEnd};
-ghost use Rattle.line_reader.specs.Seen as pieces;
 ghost use Rattle.cert_theory.specs.Gives.{Gives};
 ghost use Rattle.cert_theory.specs.Bundle.{Bundle};
 ghost use Rattle.cert_theory.specs.Spelling.{IsBundle, HasVerdict};
@@ -21,13 +20,8 @@ use std::alloc::Global;
 /// and the unfinished line; nothing of the lines before.
 #[derive(Drop)]
 pub struct BundleReader {
-    pub(crate) stage: Stage,
-    /// Which line of the text the next one is, from 1 on.
-    pub(crate) number: u32,
-    /// What was fed of the next line.
-    pub(crate) unfinished: Vec<u8>,
-    /// How many bytes were fed.
-    pub(crate) fed: usize,
+    /// The reader of its lines.
+    pub(crate) pieces: PieceReader<Stage>,
 }
 
 impl BundleReader {
@@ -35,21 +29,23 @@ impl BundleReader {
     pub fn new(alloc: Global) -> BundleReader
         ensures whole { IsReader (seen result) }
         ensures stands { StandsFor (seen result) [] }
-        ensures fed { result.fed ≡ 0 }
+        ensures fed { result.pieces.fed ≡ 0 }
     {
-        BundleReader::of(PieceReader::new(alloc))
+        BundleReader {
+            pieces: PieceReader::new(alloc),
+        }
     }
 
     /// Takes the next piece of the text. A refusal is that of every text that goes on so.
     pub fn feed(self, piece: &[u8]) -> Result<BundleReader, BundleError>
         requires whole { IsReader (seen self) }
-        requires room { self.fed + length piece.now < 2 ^ 31 }
+        requires room { self.pieces.fed + length piece.now < 2 ^ 31 }
         ensures whole { IfOk result (λ reader. IsReader (seen reader)) }
         ensures read { (text : List ℕ) → StandsFor (seen self) text → HasRead result (text ++ piece.now) }
-        ensures fed { IfOk result (λ reader. reader.fed ≡ self.fed + length piece.now) }
+        ensures fed { IfOk result (λ reader. reader.pieces.fed ≡ self.pieces.fed + length piece.now) }
     {
-        match self.pieces().feed(piece) {
-            Ok(reader) => Ok(BundleReader::of(reader)),
+        match self.pieces.feed(piece) {
+            Ok(pieces) => Ok(BundleReader { pieces }),
             Err(error) => Err(error),
         }
     }
@@ -57,14 +53,14 @@ impl BundleReader {
     /// Takes a text without an LF, and then the LF where one ends it.
     pub fn feed_line(self, text: &[u8], ended: bool) -> Result<BundleReader, BundleError>
         requires whole { IsReader (seen self) }
-        requires room { self.fed + length (line_bytes (record { text = text.now; ended = ended })) < 2 ^ 31 }
+        requires room { self.pieces.fed + length (line_bytes (record { text = text.now; ended = ended })) < 2 ^ 31 }
         ensures whole { IfOk result (λ reader. IsReader (seen reader)) }
         ensures read { (before : List ℕ) → HasNoEnd text.now → StandsFor (seen self) before →
             HasRead result (before ++ line_bytes (record { text = text.now; ended = ended })) }
-        ensures fed { IfOk result (λ reader. reader.fed ≡ self.fed + length (line_bytes (record { text = text.now; ended = ended }))) }
+        ensures fed { IfOk result (λ reader. reader.pieces.fed ≡ self.pieces.fed + length (line_bytes (record { text = text.now; ended = ended }))) }
     {
-        match self.pieces().feed_line(text, ended) {
-            Ok(reader) => Ok(BundleReader::of(reader)),
+        match self.pieces.feed_line(text, ended) {
+            Ok(pieces) => Ok(BundleReader { pieces }),
             Err(error) => Err(error),
         }
     }
@@ -79,7 +75,7 @@ impl BundleReader {
         ensures told { (text : List ℕ) (b : Bundle) → StandsFor (seen self) text → IsBundle text b → IfOk result (λ t. IsTold b t) }
         ensures operators { IfOk result (λ t. 0 < t.heading.basis) }
     {
-        self.pieces().finish()
+        self.pieces.finish()
     }
 
     /// Judges the text, which ends here: its verdict where it is the text of a valid bundle, else its first
@@ -97,41 +93,5 @@ impl BundleReader {
         // dropped here at once: left to the exit, each of its fields would be
         drop(told);
         Ok(verdict)
-    }
-
-    /// The reader of lines that it is.
-    fn pieces(self) -> PieceReader<Stage>
-        ensures { pieces.seen result ≡ seen self }
-    {
-        let BundleReader {
-            stage,
-            number,
-            unfinished,
-            fed,
-        } = self;
-        PieceReader {
-            stage,
-            number,
-            unfinished,
-            fed,
-        }
-    }
-
-    /// The certificate that a reader of lines reads.
-    fn of(reader: PieceReader<Stage>) -> BundleReader
-        ensures { seen result ≡ pieces.seen reader }
-    {
-        let PieceReader {
-            stage,
-            number,
-            unfinished,
-            fed,
-        } = reader;
-        BundleReader {
-            stage,
-            number,
-            unfinished,
-            fed,
-        }
     }
 }

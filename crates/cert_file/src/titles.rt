@@ -15,6 +15,7 @@ use crate::logs::at_begun;
 use crate::stage::{Running, Stage};
 use cert_theory::{BundleError, PartError, title_of};
 use enc_theory::Part;
+use settings::MOST_STEPS;
 use std::alloc::Global;
 use text_core::{next_item, number_up_to};
 
@@ -60,7 +61,7 @@ fn is_count(line: &TextLine) -> bool
     ensures { result ≡ judging.is_count (judging.number_behind (codes "chain ") (line_of line.now)) }
 {
     match number_behind(b"chain ", line) {
-        Some(steps) => steps <= 16,
+        Some(steps) => steps <= MOST_STEPS,
         None => false,
     }
 }

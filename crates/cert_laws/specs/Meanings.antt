@@ -59,7 +59,7 @@ none_at h size s heading coding few section refuted fewer has =
     let named : Contains (map part_of s.parts) sat.0 = subst (λ (parts : List Part). Contains parts sat.0) (sym section.parts_are) sat.1 in
     unsatisfied h size sat.0 coding sat.1 (log_of h size s.parts sat.0 (recursion_from_All (IsPartLog h size) s.parts section.logs) refuted named) sat.2.0 sat.2.1
 
--- where no chain has fewer steps and none has so many, none has fewer than one more
+-- where no chain has fewer than `size` steps and none has `size`, none has fewer than one more
 pub one_more : (h : Heading) (size : ℕ) → Fewer h size → (HasChain (specification h.spec) (members h.basis) size → ⊥) → Fewer h (size + 1)
 one_more h size fewer none = λ q low has. elim (cases_lt q size) as (λ _. ⊥) [
   | inl below ↦ fewer q below has

@@ -1,20 +1,57 @@
 //! What `synth` makes of tables.
-ghost use Rattle.std.specs.Prelude.{◌^◌, ◌<◌, length};
-ghost use Rattle.settings.specs.Synth.{IsInRange};
-
 use bundle_core::Verdict;
 use cdcl_core::Cdcl;
 use op_basis::Basis;
 use settings::Method;
 use size_loop::Search;
 use std::alloc::{AllocError, Global};
-use synth_core::{Certificate, Piece, SynthSettings, begin, go_on, synthesise};
+use synth_core::{Piece, SynthSettings, begin, go_on};
 use tt_core::SpecError;
 
 const ALL: u16 = 65_535;
 
 /// NAND alone.
 const NAND: u16 = 16_384;
+
+/// What comes after a piece: the search that goes on, or the verdict.
+#[derive(Drop)]
+enum Next {
+    Size(Search),
+    End(Verdict),
+}
+
+/// A certificate as it was handed out, and what it comes to.
+#[derive(Drop)]
+struct Certificate {
+    text: Vec<u8>,
+    verdict: Verdict,
+}
+
+/// Appends the piece of the next size, and says what comes after it.
+fn push_piece(alloc: Global, search: Search, whole: &mut Vec<u8>) -> Result<Next, AllocError> {
+    match go_on::<Cdcl>(alloc, search)? {
+        Piece::Section { search, text } => {
+            whole.extend_from_slice(&text)?;
+            Ok(Next::Size(search))
+        }
+        Piece::Ending { text, verdict } => {
+            whole.extend_from_slice(&text)?;
+            Ok(Next::End(verdict))
+        }
+    }
+}
+
+/// Appends the pieces of all sizes, of which there are no more than 18.
+fn push_pieces(alloc: Global, search: Search, whole: &mut Vec<u8>) -> Result<Verdict, AllocError> {
+    let mut search = search;
+    for _size in 0..18u32 {
+        match push_piece(alloc, search, whole)? {
+            Next::Size(next) => search = next,
+            Next::End(verdict) => return Ok(verdict),
+        }
+    }
+    Err(AllocError)
+}
 
 /// What is certified of tables of at most 1,000 bytes.
 fn certified(
@@ -34,7 +71,13 @@ fn certified(
         max,
         conflicts,
     };
-    synthesise::<Cdcl>(alloc, text, &asked)
+    let begun = begin(alloc, text, &asked)?;
+    let mut whole = begun.text;
+    let verdict = push_pieces(alloc, begun.search, &mut whole)?;
+    Ok(Certificate {
+        text: whole,
+        verdict,
+    })
 }
 
 /// What is wanted of a text.
@@ -158,74 +201,5 @@ fn certificates_are_written(rt: HostRuntime) {
             is_certified(rt.alloc(), text, basis, method, wanted),
             "{text:?}"
         );
-    }
-}
-
-/// Adds the piece of the next size, and gives back what is left of the search.
-fn push_piece(
-    alloc: Global,
-    search: Search,
-    whole: &mut Vec<u8>,
-) -> Result<Option<Search>, AllocError> {
-    match go_on::<Cdcl>(alloc, search)? {
-        Piece::Section { search, text } => {
-            whole.extend_from_slice(&text)?;
-            Ok(Some(search))
-        }
-        Piece::Ending { text, .. } => {
-            whole.extend_from_slice(&text)?;
-            Ok(None)
-        }
-    }
-}
-
-/// Adds the pieces of all sizes, of which there are no more than 18.
-fn push_pieces(alloc: Global, search: Search, whole: &mut Vec<u8>) -> Result<(), AllocError> {
-    let mut search = search;
-    for _size in 0..18u32 {
-        match push_piece(alloc, search, whole)? {
-            Some(next) => search = next,
-            None => return Ok(()),
-        }
-    }
-    Err(AllocError)
-}
-
-/// The text of a certificate that is handed out a size at a time.
-fn piece_by_piece(alloc: Global, text: &[u8], asked: &SynthSettings) -> Result<Vec<u8>, SpecError>
-    requires length { length text.now < 2 ^ 31 }
-    requires range { IsInRange asked.now }
-{
-    let begun = begin(alloc, text, asked)?;
-    let mut whole = begun.text;
-    push_pieces(alloc, begun.search, &mut whole)?;
-    Ok(whole)
-}
-
-/// Whether the pieces of a short text's certificate are that, or the text is refused as a whole and in pieces alike.
-fn is_in_pieces(alloc: Global, text: &[u8]) -> bool {
-    if text.len() > 1_000 {
-        return false;
-    }
-    let asked = SynthSettings::usual();
-    let pieces = piece_by_piece(alloc, text, &asked);
-    match (synthesise::<Cdcl>(alloc, text, &asked), pieces) {
-        (Ok(certificate), Ok(whole)) => certificate.text.as_slice() == whole.as_slice(),
-        (Err(error), Err(told)) => error == told,
-        _ => false,
-    }
-}
-
-/// XOR, AND of three, and a text that is refused.
-const TEXTS: &[&[u8]] = &[
-    b"inputs 2\n0110\n",
-    b"inputs 3\n00000001\n",
-    b"inputs 1\n01\nend\n",
-];
-
-#[test]
-fn pieces_are_the_certificate(rt: HostRuntime) {
-    for &text in TEXTS {
-        assert!(rt; is_in_pieces(rt.alloc(), text));
     }
 }

@@ -109,7 +109,7 @@ abbrev pub not_found : ℕ → Option ℕ → Verdict
 not_found max None = verdicts.NoChain max
 not_found max (Some low) = verdicts.Open low
 
--- a chain of so many steps that is one, is over the basis, and agrees with the tables
+-- a chain of `size` steps that is one, is over the basis, and agrees with the tables
 pub record IsFound (h : Heading) (size : ℕ) (c : Chain) : Type 0 where
   pub chain : IsChain c
   pub size_is : length c.steps ≡ size

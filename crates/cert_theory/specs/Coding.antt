@@ -12,8 +12,8 @@ use Rattle.enc_theory.specs.declared.part.Part.TheVariants.{Whole}
 use Rattle.settings.specs.declared.methods.Method.{Method}
 use Rattle.settings.specs.declared.methods.Method.TheVariants.{Plain, Ssv, Select, Fence}
 
--- The parts in which a size is searched, in their order, and the formula of a part: of tables, over
--- the set of operators that a number is, of so many steps.
+-- The parts in which the size `r` is searched, in their order, and the formula of a part: of tables, over
+-- the set of operators that `basis` is, of `r` steps.
 pub record Coding : Type 0 where
   pub parts : Words → ℕ → List Part
   pub formula : Words → ℕ → ℕ → Part → Formula

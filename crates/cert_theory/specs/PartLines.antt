@@ -95,7 +95,7 @@ abbrev pub closed : Bool → Bool → Ended → Result Unit PartError
 closed empty enough Refuted = if empty then Ok tt else Err NotRefuted
 closed empty enough Open = if empty then Err EmptyStands else (if enough then Ok tt else Err TooShort)
 
--- the line `done` after a log that has so many additions at least, where it leaves its part open
+-- the line `done` after a log, which has `conflicts` additions at least where it leaves its part open
 unfoldable pub done_in : Formula → ℕ → Ended → List theory.Line → Result Unit PartError
 done_in f conflicts ended log = closed (has_empty f log) (nat_le conflicts (length (logs.added_ids log))) ended
 

@@ -10,6 +10,8 @@
 //!   specification, and None exactly where the chain agrees.
 //! - `first_outside` is the first place whose operator isn't in a basis, and None exactly where the
 //!   chain is over the basis.
+//! - `levels` answers the level of each step, one more than the larger one of its operands, and `depth_of` the
+//!   greatest of them, the chain's depth.
 //! - `read_chain` reads a chain block from the start of a text exactly where the grammar of
 //!   `specs/Block.antt` gives a chain, and else reports the first fault with its line. `count_at`,
 //!   `step_at`, `add_step` and `out_at` read its lines, for texts that are read line by line.
@@ -36,12 +38,12 @@ mod values;
 mod writing;
 
 pub use chain::Chain;
-pub use chain_theory::Out;
+pub use chain_theory::{MOST_STEPS, Out};
 pub use difference::first_difference;
 pub use error::ChainError;
 pub use frame::Frame;
 pub use laws::laws_of_blocks;
-pub use lines::{MOST_STEPS, count_at, out_at, step_at};
+pub use lines::{count_at, out_at, step_at};
 pub use op_basis::{Basis, Op};
 pub use outside::first_outside;
 pub use reading::{add_step, read_chain};

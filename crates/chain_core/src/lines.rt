@@ -13,12 +13,9 @@ ghost use Rattle.chain_core.specs.Reading.{Gives};
 use crate::error::ChainError;
 use crate::frame::Frame;
 use crate::step::Step;
-use chain_theory::Out;
+use chain_theory::{MOST_STEPS, Out};
 use op_basis::read_operator;
 use text_core::{after, next_item, number_up_to};
-
-/// The most steps of a chain.
-pub const MOST_STEPS: u32 = 16;
 
 /// The greatest number of nine digits.
 const GREATEST: u32 = 999_999_999;

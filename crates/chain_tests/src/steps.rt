@@ -1,8 +1,8 @@
-//! Truth tables that a chain of at most one step implements.
+//! Truth tables with the chains and the numbers of steps that they need.
 use chain_core::{Chain, write_chain};
 use op_basis::read_basis;
 use std::alloc::Global;
-use step_core::one_step;
+use step_core::few_steps;
 use tt_core::read_tables;
 
 /// Whether a chain is written as `text`.
@@ -22,7 +22,7 @@ fn has(alloc: Global, basis: &[u8], tables: &[u8], wanted: &[u8]) -> bool {
     let Ok(tables) = read_tables(alloc, tables) else {
         return false;
     };
-    match one_step(alloc, &tables.spec, basis) {
+    match few_steps(alloc, &tables.spec, basis, 1) {
         Ok(Some(chain)) => is_written(alloc, &chain, wanted),
         Ok(None) => wanted.is_empty(),
         Err(_) => false,
@@ -83,5 +83,49 @@ const ONE_STEP: &[(&[u8], &[u8], &[u8])] = &[
 fn chains_of_one_step_are_found(rt: HostRuntime) {
     for &(basis, tables, wanted) in ONE_STEP {
         assert!(rt; has(rt.alloc(), basis, tables, wanted));
+    }
+}
+
+/// Whether the answer for tables over a basis, of at most `most` steps, has as many steps as are wanted.
+fn needs(alloc: Global, basis: &[u8], tables: &[u8], most: u32, wanted: Option<u32>) -> bool {
+    if tables.len() > 100_000 || most > 6 {
+        return false;
+    }
+    let Ok(basis) = read_basis(basis) else {
+        return false;
+    };
+    let Ok(tables) = read_tables(alloc, tables) else {
+        return false;
+    };
+    match (few_steps(alloc, &tables.spec, basis, most), wanted) {
+        (Ok(Some(chain)), Some(count)) => chain.steps().len() as u32 == count,
+        (Ok(None), None) => true,
+        _ => false,
+    }
+}
+
+/// Bases, truth tables, the most steps, and the fewest that there are (TAOCP 7.1.2 has most of them).
+const FEWEST: &[(&[u8], &[u8], u32, Option<u32>)] = &[
+    // the exclusive or of two inputs over NAND
+    (b"nand", b"inputs 2\n0110\n", 3, None),
+    (b"nand", b"inputs 2\n0110\n", 4, Some(4)),
+    // a half adder, and the exclusive or of three inputs
+    (b"all", b"inputs 2\n0110\n0001\n", 2, Some(2)),
+    (b"all", b"inputs 3\n01101001\n", 4, Some(2)),
+    // a multiplexer
+    (b"all", b"inputs 3\n01010011\n", 2, None),
+    (b"all", b"inputs 3\n01010011\n", 3, Some(3)),
+    // the majority of three inputs
+    (b"all", b"inputs 3\n00010111\n", 3, None),
+    (b"all", b"inputs 3\n00010111\n", 4, Some(4)),
+    // a full adder
+    (b"all", b"inputs 3\n01101001\n00010111\n", 4, None),
+    (b"all", b"inputs 3\n01101001\n00010111\n", 5, Some(5)),
+];
+
+#[test]
+fn fewest_steps_are_found(rt: HostRuntime) {
+    for &(basis, tables, most, wanted) in FEWEST {
+        assert!(rt; needs(rt.alloc(), basis, tables, most, wanted));
     }
 }

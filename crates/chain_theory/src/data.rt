@@ -1,4 +1,8 @@
-//! Cells and outs, the two enums that the definitions use.
+//! Cells and outs, the two enums that the definitions use, and how many steps a chain may have where it is
+//! searched for, read or written.
+
+/// The most steps of a chain that is searched for, read or written. The definitions have no bound.
+pub const MOST_STEPS: u32 = 16;
 
 /// What a specification asks of an output on a row: an entry of its truth table.
 #[derive(Clone, Copy)]

@@ -15,4 +15,4 @@ mod data;
 pub mod laws;
 pub mod plain;
 
-pub use data::{Cell, Out};
+pub use data::{Cell, MOST_STEPS, Out};

@@ -74,7 +74,7 @@ pub drops : (kept : Reading) (e : BundleError) (bytes piece : List ℕ) → kept
 drops kept e bytes piece same keeps = λ rest. subst (λ (text : List ℕ). Fails e (bundle_of (lines_of text))) (sym (append_assoc bytes piece rest)) (refused_still kept e bytes same keeps (piece ++ rest))
 
 -- a reader has counted what it was fed
-pub counts : (kept : Reading) (reader : BundleReader) → kept ≡ Good reader → count_of kept ≡ reader.fed
+pub counts : (kept : Reading) (reader : BundleReader) → kept ≡ Good reader → count_of kept ≡ reader.pieces.fed
 counts kept reader same = ap count_of same
 
 pub ruleset telling = (common_steps, tells, is_reader, reader_stands, fault_stands)

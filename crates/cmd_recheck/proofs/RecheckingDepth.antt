@@ -113,7 +113,7 @@ drops kept e bytes piece same keeps = λ rest.
     subst (λ (text : List ℕ). Judged (Gives (λ (v : DepthVerdict). v) (Err e)) (lines_of text)) (sym (append_assoc bytes piece rest)) (refused_still kept e bytes same keeps (piece ++ rest))
 
 -- a reader has counted what it was fed
-pub counts : (kept : DepthReading) (reader : DepthReader) → kept ≡ Good reader → count_of kept ≡ reader.fed
+pub counts : (kept : DepthReading) (reader : DepthReader) → kept ≡ Good reader → count_of kept ≡ reader.pieces.fed
 counts kept reader same = ap count_of same
 
 pub ruleset keeping = (common_steps, is_reader, reader_stands, fault_stands)

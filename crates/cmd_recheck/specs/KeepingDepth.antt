@@ -16,5 +16,5 @@ IsWhole (Refused error) = Unit {0}
 
 -- how many bytes a reader was fed; after a fault they aren't counted
 abbrev pub count_of : DepthReading → ℕ
-count_of (Good reader) = reader.fed
+count_of (Good reader) = reader.pieces.fed
 count_of (Refused error) = 0

@@ -1,4 +1,3 @@
-pub mod AnswerLaws
 pub mod Keeping
 pub mod KeepingDepth
 pub mod QuestionLaws

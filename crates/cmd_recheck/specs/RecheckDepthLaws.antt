@@ -27,7 +27,7 @@ use Rattle.cmd_verdicts.specs.Verdicts.{most_of_bundle, GivesLevels}
 use Rattle.cmd_recheck.specs.RecheckReport.{bundle_status}
 use Rattle.cmd_recheck.specs.RecheckDepthReport.{depth_status, named_depth, depth_reply, depth_refusal, HasDepthFault, depth_task}
 use Rattle.cmd_recheck.specs.RecheckDepthPromise.{TellsLevels, RecheckDepthPromise}
-use Rattle.cmd_recheck.specs.AnswerLaws.{one_answer}
+use Rattle.depth_file.specs.AnswerLaws.{one_answer}
 use Rattle.cmd_recheck.specs.QuestionLaws.{depth_asks, levels_answer}
 
 one_fault : (answer : Answer) (d e : DepthError) → answer ≡ Err d → answer ≡ Err e → d ≡ e

@@ -162,11 +162,11 @@ fn tell_kept(alloc: Global, kept: DepthReading) -> Result<Reply, Stop>
 #[tactic(auto, using(crate::proofs::RecheckingDepth::taking))]
 fn read_on(reader: DepthReader, piece: &[u8]) -> Result<DepthReading, AllocError>
     requires whole { IsReader (seen reader) }
-    requires room { reader.fed + length piece.now < 2 ^ 31 }
+    requires room { reader.pieces.fed + length piece.now < 2 ^ 31 }
     ensures whole { IfOk result IsWhole }
     ensures keeps { (bytes : List ℕ) → StandsFor (seen reader) bytes →
         IfOk result (λ next. Keeps next (bytes ++ piece.now)) }
-    ensures count { IfOk result (λ next. count_of next ≤ reader.fed + length piece.now) }
+    ensures count { IfOk result (λ next. count_of next ≤ reader.pieces.fed + length piece.now) }
 {
     match reader.feed(piece) {
         Ok(reader) => Ok(DepthReading::Good(reader)),

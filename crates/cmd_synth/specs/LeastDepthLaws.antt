@@ -1,12 +1,16 @@
 -- `synth --least-depth yes` is a task, and a run of it keeps what it promises.
-use Rattle.std.specs.Prelude.{◌≡◌, ℕ, ◌⊎◌, List, length, Some, Err}
+use Rattle.std.specs.Prelude.{◌≡◌, ℕ, ◌⊎◌, List, length, Option, Some, None, Err}
 use Rattle.std.proofs.Common.{arith, sym, ◌∙◌, ap, subst, refl, inl, inr}
 use Rattle.std.proofs.Math.Logic.{⊎_elim}
 use Rattle.text_core.specs.Lines.{lines_of}
 use Rattle.tt_core.specs.Words.{Words, specification}
 use Rattle.tt_core.specs.declared.error.SpecError.{SpecError}
 use Rattle.op_basis.specs.Basis.{members}
+use Rattle.chain_theory.specs.Chain.{Chain}
 use Rattle.cert_theory.specs.declared.data.Heading.{Heading}
+use Rattle.cert_theory.specs.declared.data.Verdict.{Verdict}
+use Rattle.cert_theory.specs.declared.data.Verdict.TheVariants as sizes
+use Rattle.cert_theory.specs.Bundle.{IsEnding, first_open}
 use Rattle.depth_theory.specs.declared.data.DepthVerdict.{DepthVerdict}
 use Rattle.depth_theory.specs.declared.data.DepthVerdict.TheVariants.{Levels, Bounded}
 use Rattle.depth_theory.specs.DepthMeaning as depths
@@ -18,20 +22,20 @@ use Rattle.settings.specs.declared.synth.SynthSettings.{SynthSettings}
 use Rattle.synth_core.specs.Tables.{tables_alone}
 use Rattle.depth_run.specs.declared.certificate.Found.{Found}
 use Rattle.depth_run.specs.declared.certificate.Found.TheVariants.{Least, Other}
-use Rattle.depth_run.specs.Certifying.{IsLeast, IsCertificate}
+use Rattle.depth_run.specs.Certifying.{IsLeast, IsOther, IsCertificate}
 use Rattle.command_line.specs.CommandLine.{AsksFor}
 use Rattle.command_line.specs.declared.command.Command.TheVariants.{LeastDepth}
 use Rattle.frame_core.specs.declared.status.Status.TheVariants.{Done, Undecided, Refused}
 use Rattle.frame_core.specs.Task.{IsAnswerStatus, IsTask}
 use Rattle.frame_core.specs.Run.{Run}
-use Rattle.frame_core.specs.Promise.{OutputHeld, Replies, Faults, CommandPromise}
+use Rattle.frame_core.specs.Promise.{OutputHeld, Stands, Replies, Faults, CommandPromise}
 use Rattle.frame_core.specs.TaskLaws.{at_once_task}
 use Rattle.frame_core.specs.KeepingLaws.{of_input}
 use Rattle.frame_core.specs.ReadOffLaws.{gets}
 use Rattle.cmd_lines.specs.TableLines.{most_of_tables}
-use Rattle.cmd_synth.specs.SynthReport.{synth_refusal, AreTables, HasTablesFault}
+use Rattle.cmd_synth.specs.SynthReport.{verdict_status, synth_refusal, AreTables, HasTablesFault}
 use Rattle.cmd_synth.specs.LeastDepthReport.{found_status, Certified, least_depth_reply, IsCertified, least_depth_task}
-use Rattle.cmd_synth.specs.LeastDepthPromise.{LeastDepthPromise}
+use Rattle.cmd_synth.specs.LeastDepthPromise.{FindsLeast, FindsNone, FindsBounds, LeavesSteps, LeastDepthPromise}
 use Rattle.cmd_synth.specs.CertifiedLaws.{tables_are}
 use Rattle.cmd_lines.specs.TableLineLaws.{not_refused}
 use Rattle.cmd_synth.specs.SynthLaws.{answer_statuses, statuses_of, no_fault, one_error, not_refused_by}
@@ -113,15 +117,74 @@ never_refused r asked promise is =
     (λ (none : Faults (least_depth_task asked) r of.bytes). not_refused none.fault (sym none.told.status_is ∙ is))
     of.holds
 
+-- ---- what its statuses tell
+
+-- a verdict that no chain of at most `x` steps agrees is about the greatest size that was asked for
+none_to : (h : Heading) (count x : ℕ) (low : Option ℕ) (c : Option Chain) → IsEnding h count low c (sizes.NoChain x) → x ≡ h.max
+none_to h count x None None ending = let e = ending.1 in cc
+none_to h count x (Some l) None ending = let e = ending.1 in absurd cc
+none_to h count x None (Some c) ending = let e = ending.1 in absurd cc
+none_to h count x (Some l) (Some c) ending = let e = ending.1 in absurd cc
+
+none_to_max : (asked : SynthSettings) (bytes text : List ℕ) (x : ℕ) → IsOther bytes asked text (sizes.NoChain x) → x ≡ asked.max
+none_to_max asked bytes text x other =
+    let c = other.certificate in
+    let b = c.bundle in
+    none_to b.heading (length b.sections) x (first_open b.sections) b.chain
+    (subst (λ (v : Verdict). IsEnding b.heading (length b.sections) (first_open b.sections) b.chain v) c.verdict_is c.is_bundle.valid.ending)
+    ∙ ap (λ (h : Heading). h.max) c.heading_is
+
+-- this stands outside
+abbrev Leaves : Run → SynthSettings → List ℕ → List ℕ → Found → Type 0
+Leaves r asked input text f = IsCertified asked input (record { text = text; found = f }) × Stands r (least_depth_reply (record { text = text; found = f }))
+
+finds_none : (r : Run) (asked : SynthSettings) (input text : List ℕ) (w : Words) (x : ℕ) → AreTables input w → x ≡ asked.max → Leaves r asked input text (Other (sizes.NoChain x)) → FindsNone asked w r input
+finds_none r asked input text w x are same leaves =
+    let here : Leaves r asked input text (Other (sizes.NoChain asked.max)) = subst (λ (y : ℕ). Leaves r asked input text (Other (sizes.NoChain y))) same leaves in
+    record { text = text; certified = here.0; stands = here.1; none = here.0.means w are }
+
+tells_least : (r : Run) (asked : SynthSettings) (input text : List ℕ) (w : Words) (f : Found) → AreTables input w → Leaves r asked input text f → found_status f ≡ Done → FindsLeast asked w r input ⊎ FindsNone asked w r input
+tells_least r asked input text w (Least (Levels d)) are leaves is =
+    let means = leaves.0.means w are in
+    inl (record { text = text; levels = d; certified = leaves.0; stands = leaves.1; steps = means.0; least = means.1 })
+tells_least r asked input text w (Least (Bounded low d)) are leaves is = absurd cc
+tells_least r asked input text w (Other (sizes.Minimum n)) are leaves is = let none = leaves.0.certificate.no_minimum in absurd cc
+tells_least r asked input text w (Other (sizes.NoChain x)) are leaves is = inr (finds_none r asked input text w x are (none_to_max asked input text x leaves.0.certificate) leaves)
+tells_least r asked input text w (Other (sizes.Bounded low n)) are leaves is = absurd cc
+tells_least r asked input text w (Other (sizes.Open low)) are leaves is = absurd cc
+
+leaves_steps : (r : Run) (asked : SynthSettings) (input text : List ℕ) (w : Words) (v : Verdict) → AreTables input w → Leaves r asked input text (Other v) → verdict_status v ≡ Undecided → LeavesSteps asked w r input
+leaves_steps r asked input text w v are leaves is = record { text = text; verdict = v; certified = leaves.0; stands = leaves.1; is_open = is; means = leaves.0.means w are }
+
+tells_bounds : (r : Run) (asked : SynthSettings) (input text : List ℕ) (w : Words) (f : Found) → AreTables input w → Leaves r asked input text f → found_status f ≡ Undecided → FindsBounds asked w r input ⊎ LeavesSteps asked w r input
+tells_bounds r asked input text w (Least (Levels d)) are leaves is = absurd cc
+tells_bounds r asked input text w (Least (Bounded low d)) are leaves is =
+    let c = leaves.0.certificate in
+    inl (record {
+      text = text;
+      low = low;
+      levels = d;
+      certified = leaves.0;
+      stands = leaves.1;
+      steps = length c.is_text.is_depth.chain.steps;
+      bounded = least_levels asked input text (Bounded low d) c w are;
+      spent = left_open asked input text low d c w are;
+    })
+tells_bounds r asked input text w (Other v) are leaves is = inr (leaves_steps r asked input text w v are leaves is)
+
+least : (r : Run) (asked : SynthSettings) (input : List ℕ) (w : Words) → AreTables input w → r.status ≡ Done → Replies (least_depth_task asked) r input → FindsLeast asked w r input ⊎ FindsNone asked w r input
+least r asked input w are is got = tells_least r asked input got.answer.text w got.answer.found are (got.has, got.stands) (sym got.stands.status_is ∙ is)
+
+bounded : (r : Run) (asked : SynthSettings) (input : List ℕ) (w : Words) → AreTables input w → r.status ≡ Undecided → Replies (least_depth_task asked) r input → FindsBounds asked w r input ⊎ LeavesSteps asked w r input
+bounded r asked input w are is got = tells_bounds r asked input got.answer.text w got.answer.found are (got.has, got.stands) (sym got.stands.status_is ∙ is)
+
 -- All that `synth --least-depth yes` promises besides.
 pub least_depth_promised : (r : Run) → ((asked : SynthSettings) → AsksFor r.words (LeastDepth asked) → CommandPromise (least_depth_task asked) r) → LeastDepthPromise r
 least_depth_promised r keeps = record {
   complete = λ asked input w run are held. complete r asked input w (keeps asked run.asks) run.told are held;
   answer_only = λ asked input run is. answer_only r asked input (keeps asked run.asks) run.told is;
   never_refused = λ asked asks is. never_refused r asked (keeps asked asks) is;
-  least = λ asked input text w d run are has stands. let means = has.means w are in (means.0, means.1, stands.status_is);
-  bounded = λ asked input text w low d run are has stands.
-      let c = has.certificate in
-      (length c.is_text.is_depth.chain.steps, least_levels asked input text (Bounded low d) c w are, left_open asked input text low d c w are, stands.status_is);
+  least = λ asked input w run are is. least r asked input w are is (answer_only r asked input (keeps asked run.asks) run.told (inl is));
+  bounded = λ asked input w run are is. bounded r asked input w are is (answer_only r asked input (keeps asked run.asks) run.told (inr is));
   refused = λ asked input error run fault held. (keeps asked run.asks).refused input error run.told fault held;
 }

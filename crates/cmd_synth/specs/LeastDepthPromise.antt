@@ -1,5 +1,9 @@
 -- What `synth --least-depth yes` promises besides, in its own words.
-use Rattle.std.specs.Prelude.{◌≡◌, ℕ, ◌⊎◌, List}
+use Rattle.std.specs.Prelude.{◌≡◌, ℕ, ◌≤◌, ◌⊎◌, List}
+use Rattle.chain_theory.specs.Agreement.{HasChain}
+use Rattle.cert_theory.specs.declared.data.Verdict.{Verdict}
+use Rattle.cert_theory.specs.declared.data.Verdict.TheVariants.{NoChain}
+use Rattle.cert_theory.specs.Meaning.{Means}
 use Rattle.tt_core.specs.Words.{Words, specification}
 use Rattle.tt_core.specs.declared.error.SpecError.{SpecError}
 use Rattle.op_basis.specs.Basis.{members}
@@ -9,14 +13,52 @@ use Rattle.depth_theory.specs.DepthMeaning.{IsLeastDepth, IsBoundedDepth}
 use Rattle.depth_theory.specs.declared.data.DepthVerdict.TheVariants.{Levels, Bounded}
 use Rattle.depth_file.specs.Spent.{IsLeftOpen}
 use Rattle.synth_core.specs.Asking.{heading_of}
-use Rattle.depth_run.specs.declared.certificate.Found.TheVariants.{Least}
+use Rattle.depth_run.specs.declared.certificate.Found.TheVariants.{Least, Other}
 use Rattle.frame_core.specs.declared.status.Status.TheVariants.{Done, Undecided, Refused}
-use Rattle.cmd_synth.specs.SynthReport.{synth_refusal, AreTables, HasTablesFault}
+use Rattle.cmd_synth.specs.SynthReport.{verdict_status, synth_refusal, AreTables, HasTablesFault}
 use Rattle.cmd_synth.specs.LeastDepthReport.{least_depth_reply, IsCertified, least_depth_task}
 use Rattle.command_line.specs.declared.command.Command.TheVariants.{LeastDepth}
 use Rattle.frame_core.specs.Run.{Run}
 use Rattle.cmd_lines.specs.Runs.{Runs}
 use Rattle.frame_core.specs.Promise.{InputHeld, OutputHeld, Stands, TellsError, Replies}
+
+-- A depth bundle stands on the output. `steps` steps are the fewest, some chain of `steps` steps has `levels` levels, and
+-- none has fewer.
+pub record FindsLeast (asked : SynthSettings) (tables : Words) (r : Run) (input : List ℕ) : Type 0 where
+  pub text : List ℕ
+  pub levels : ℕ
+  pub certified : IsCertified asked input (record { text = text; found = Least (Levels levels) })
+  pub stands : Stands r (least_depth_reply (record { text = text; found = Least (Levels levels) }))
+  pub steps : ℕ
+  pub least : IsLeastDepth (specification tables) (members asked.basis) steps levels
+
+-- A certificate of the fewest steps stands there. No chain of at most `max` steps agrees.
+pub record FindsNone (asked : SynthSettings) (tables : Words) (r : Run) (input : List ℕ) : Type 0 where
+  pub text : List ℕ
+  pub certified : IsCertified asked input (record { text = text; found = Other (NoChain asked.max) })
+  pub stands : Stands r (least_depth_reply (record { text = text; found = Other (NoChain asked.max) }))
+  pub none : (steps : ℕ) → steps ≤ asked.max → HasChain (specification tables) (members asked.basis) steps → ⊥
+
+-- A depth bundle stands there. `steps` steps are the fewest, some chain of `steps` steps has `levels` levels, and none has
+-- fewer than `low`; in the text the log of a fence of `low` levels is spent.
+pub record FindsBounds (asked : SynthSettings) (tables : Words) (r : Run) (input : List ℕ) : Type 0 where
+  pub text : List ℕ
+  pub low : ℕ
+  pub levels : ℕ
+  pub certified : IsCertified asked input (record { text = text; found = Least (Bounded low levels) })
+  pub stands : Stands r (least_depth_reply (record { text = text; found = Least (Bounded low levels) }))
+  pub steps : ℕ
+  pub bounded : IsBoundedDepth (specification tables) (members asked.basis) steps low levels
+  pub spent : IsLeftOpen text (heading_of tables asked) steps low
+
+-- A certificate of the fewest steps stands there, which leaves them open: what its verdict says is true.
+pub record LeavesSteps (asked : SynthSettings) (tables : Words) (r : Run) (input : List ℕ) : Type 0 where
+  pub text : List ℕ
+  pub verdict : Verdict
+  pub certified : IsCertified asked input (record { text = text; found = Other verdict })
+  pub stands : Stands r (least_depth_reply (record { text = text; found = Other verdict }))
+  pub is_open : verdict_status verdict ≡ Undecided
+  pub means : Means (specification tables) (members asked.basis) verdict
 
 pub record LeastDepthPromise (r : Run) : Type 0 where
   -- Tables get a certificate, and the status of what was found.
@@ -31,21 +73,19 @@ pub record LeastDepthPromise (r : Run) : Type 0 where
       → (r.status ≡ Done) ⊎ (r.status ≡ Undecided)
       → Replies (least_depth_task asked) r input
   pub never_refused : (asked : SynthSettings) → AsksFor r.words (LeastDepth asked) → r.status ≡ Refused → ⊥
-  -- A depth bundle whose last verdict is `Levels d` has the status 0: `steps` steps are the fewest, some chain of
-  -- `steps` steps has `d` levels, and none has fewer. One whose last verdict is `Bounded low d` has the status 4: none
-  -- has fewer than `low` levels, and in the text the log of a fence of `low` levels is spent.
-  pub least : (asked : SynthSettings) (input text : List ℕ) (tables : Words) (d : ℕ)
+  -- The status 0 tells the fewest levels of a chain of the fewest steps, or that no chain of at most `max` steps agrees.
+  pub least : (asked : SynthSettings) (input : List ℕ) (tables : Words)
       → Runs (LeastDepth asked) r input
       → AreTables input tables
-      → IsCertified asked input (record { text = text; found = Least (Levels d) })
-      → Stands r (least_depth_reply (record { text = text; found = Least (Levels d) }))
-      → (steps : ℕ) × IsLeastDepth (specification tables) (members asked.basis) steps d × (r.status ≡ Done)
-  pub bounded : (asked : SynthSettings) (input text : List ℕ) (tables : Words) (low d : ℕ)
+      → r.status ≡ Done
+      → FindsLeast asked tables r input ⊎ FindsNone asked tables r input
+  -- The status 4 tells the fewest steps and bounds of the levels, with a log that has spent its budget, or a bound of the
+  -- steps.
+  pub bounded : (asked : SynthSettings) (input : List ℕ) (tables : Words)
       → Runs (LeastDepth asked) r input
       → AreTables input tables
-      → IsCertified asked input (record { text = text; found = Least (Bounded low d) })
-      → Stands r (least_depth_reply (record { text = text; found = Least (Bounded low d) }))
-      → (steps : ℕ) × IsBoundedDepth (specification tables) (members asked.basis) steps low d × IsLeftOpen text (heading_of tables asked) steps low × (r.status ≡ Undecided)
+      → r.status ≡ Undecided
+      → FindsBounds asked tables r input ⊎ LeavesSteps asked tables r input
   -- For other bytes their first fault is reported.
   pub refused : (asked : SynthSettings) (input : List ℕ) (error : SpecError)
       → Runs (LeastDepth asked) r input

@@ -9,7 +9,7 @@ ghost use Rattle.command_line.specs.CommandLine.{value};
 use crate::command::{Deed, Format};
 use crate::pairs::{is_word, word_behind};
 use improve_settings::{ImproveSettings, MOST_GATES_OF_WINDOW, MOST_ROUNDS};
-use op_basis::{Basis, read_basis};
+use op_basis::{BENCH, Basis, read_basis};
 use settings::{MOST_CONFLICTS, MOST_STEPS, Method, SynthSettings, method_named};
 use text_core::number_up_to;
 
@@ -50,9 +50,6 @@ const DEPTH: &[u8] = b"--depth";
 
 // The most blocks of a netlist that is generated.
 const MOST_BLOCKS: u32 = 10_000;
-
-// The operators of gates in BENCH: AND, XOR, OR and their complements.
-const BENCH: u16 = 17_346;
 
 /// The command of a name.
 pub(crate) fn kind_named(name: &[u8]) -> Option<Kind>

@@ -1,17 +1,17 @@
 //! Whether a specification has a chain of at most `max` steps: for the windows of a net, of which most have none, by
 //! counting (a lower bound by the size of the support), and the others few steps.
 //!
-//! It stands on `bound_core` for what counting says, on `step_core` for whether one step is enough, where no more are
-//! asked for, and on `size_loop` for the search of a size. The search begins at the size that counting leaves, and has few
+//! It stands on `bound_core` for what counting says, on `step_core` for whether at most four steps are enough, where no more
+//! are asked for, and on `size_loop` for the search of a size. The search begins at the size that counting leaves, and has few
 //! conflicts at first. A certificate is made only where a size stays open: then the whole search is made with the whole
 //! budget, and its own verdict holds. What the first search finds, also that it was left open, is remembered
 //! (`spec_memory`) for tables with their inputs in a normal order (`spec_order`), and what the whole search finds for the
 //! tables as they are asked for. What stays open is searched again.
 //!
 //! ```text
-//! let heading = Heading { spec, basis, method, conflicts, max: 2 };
+//! let heading = Heading { spec, basis, method, conflicts, max: 6 };
 //! let mut memory = Memory::new(alloc, basis);
-//! decide::<S>(alloc, &mut memory, &heading)? // Shorter(chain) of at most 2 steps, Least, or Open(bundle)
+//! decide::<S>(alloc, &mut memory, &heading)? // Shorter(chain) of at most 6 steps, Least, or Open(bundle)
 //! ```
 #![tactic(auto)]
 

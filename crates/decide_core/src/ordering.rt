@@ -1,4 +1,4 @@
-//! Counting first, for at most one step then the steps that there are, and else what is remembered and searched, with
+//! Counting first, for at most four steps then a walk over steps, and else what is remembered and searched, with
 //! the inputs in a normal order (the P-class of the tables): so windows that differ in the order of their inputs share
 //! what was found. A chain is turned back and judged. The first search has few conflicts; where it is left open, the tables as they are asked for
 //! are searched with a certificate and the whole budget.
@@ -18,11 +18,14 @@ use sat_solve::Solver;
 use spec_memory::Memory;
 use spec_order::{inverse, normal_order, turned_chain, turned_spec};
 use std::alloc::{AllocError, Global};
-use step_core::one_step;
+use step_core::few_steps;
 
 /// The most conflicts of the first search of a size, which keeps no certificate. What isn't decided by then is searched
 /// with a certificate, with the whole budget.
 const FIRST_CONFLICTS: u32 = 10_000;
+
+/// The most steps that are gone over: for more, a search is faster.
+const FEW_STEPS: u32 = 4;
 
 /// The budget of the first search.
 fn first_conflicts(conflicts: u32) -> u32
@@ -101,21 +104,21 @@ fn decide_turned<S: Solver>(
     }
 }
 
-/// Decides by going over the steps that there are whether a chain of at most one step agrees. Nothing stays open.
+/// Decides by going over steps whether a chain of few steps agrees. Nothing stays open.
 #[tactic(auto, using(crate::specs::StepLaws::stepping))]
-fn decide_step(alloc: Global, heading: &Heading) -> Result<Decided, AllocError>
-    requires one { heading.now.max ≡ 1 }
+fn decide_few(alloc: Global, heading: &Heading) -> Result<Decided, AllocError>
+    requires few { heading.now.max ≤ 4 }
     ensures decided { IfOk result (λ decided. IsDecided heading.now decided) }
     ensures closed { IfOk result IsClosed }
 {
-    match one_step(alloc, &heading.spec, heading.basis)? {
+    match few_steps(alloc, &heading.spec, heading.basis, heading.max)? {
         Some(chain) => Ok(Decided::Shorter(chain)),
         None => Ok(Decided::Least),
     }
 }
 
-/// Decides whether a chain of at most `heading.max` steps agrees with the heading's tables, by counting, for at most one
-/// step by going over all of them, and else by a memory for the heading's basis, and by a search, from which the
+/// Decides whether a chain of at most `heading.max` steps agrees with the heading's tables, by counting, for at most four
+/// steps by going over them, and else by a memory for the heading's basis, and by a search, from which the
 /// memory learns. A certificate comes only where a search has spent its budget.
 #[tactic(auto, using(crate::specs::OrderedLaws::ordering))]
 pub fn decide<S: Solver>(
@@ -126,8 +129,8 @@ pub fn decide<S: Solver>(
     requires heading { IsHeading heading.now }
     requires basis { memory.old ≡ heading.now.basis }
     ensures decided { IfOk result (λ decided. IsDecided heading.now decided) }
-    // Where at most one step is asked for, nothing stays open.
-    ensures closed { heading.now.max ≡ 1 → IfOk result IsClosed }
+    // Where at most four steps are asked for, nothing stays open.
+    ensures closed { heading.now.max ≤ 4 → IfOk result IsClosed }
     ensures basis { memory.new ≡ memory.old }
 {
     if heading.spec.outputs() == 0 {
@@ -137,8 +140,8 @@ pub fn decide<S: Solver>(
     if heading.max < counted {
         return Ok(Decided::Least);
     }
-    if heading.max == 1 {
-        return decide_step(alloc, heading);
+    if heading.max <= FEW_STEPS {
+        return decide_few(alloc, heading);
     }
     decide_turned::<S>(alloc, memory, Question::new(heading))
 }

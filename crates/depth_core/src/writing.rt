@@ -9,7 +9,7 @@ ghost use Rattle.depth_core.specs.Texts.{whole_text};
 
 use crate::DepthBundle;
 use bundle_core::{Bundle, PartLog};
-use bundle_text::{write_bundle, write_parts};
+use bundle_text::{push_numbered, write_bundle, write_parts};
 use depth_theory::DepthVerdict;
 use std::alloc::AllocError;
 use text_core::push_number;
@@ -22,15 +22,6 @@ fn levels_of(verdict: DepthVerdict) -> u32
         DepthVerdict::Levels(levels) => levels,
         DepthVerdict::Bounded { low: _, levels } => levels,
     }
-}
-
-/// Appends a line of a word and a number.
-fn push_numbered(text: &mut Vec<u8>, word: &[u8], number: u32) -> Result<(), AllocError>
-    ensures { OnOk result (text.new.items ≡ text.old.items ++ line_bytes (line (word.now ++ decimal number))) }
-{
-    text.extend_from_slice(word)?;
-    push_number(text, number)?;
-    text.extend_from_slice(b"\n")
 }
 
 /// Appends a line of a word and two numbers.

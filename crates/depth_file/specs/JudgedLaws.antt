@@ -13,17 +13,17 @@ use Rattle.depth_theory.specs.DepthJudging.{Answer, IsJudged, behind_least, behi
 use Rattle.depth_theory.specs.DepthSpelling.{IsDepthText}
 use Rattle.depth_theory.specs.DepthAgain.{judged_again, depth_front}
 
-never_both : {A : Type 0} (v : Verdict) (e : BundleError) (r : Result Verdict BundleError) → r ≡ Ok v → r ≡ Err e → A
+pub never_both : {A : Type 0} (v : Verdict) (e : BundleError) (r : Result Verdict BundleError) → r ≡ Ok v → r ≡ Err e → A
 never_both v e r one two = absurd cc
 
 is_bundle : (b : Bundle) (text : List ℕ) → IsValid b → HasOutput b → text ≡ text_of (bundle_lines b) → IsBundle text b
 is_bundle b text valid output same = record { valid = valid; output = output; text = same }
 
-read_again : (b : Bundle) → IsValid b → HasOutput b → bundle_of (bundle_lines b) ≡ Ok b.verdict
+pub read_again : (b : Bundle) → IsValid b → HasOutput b → bundle_of (bundle_lines b) ≡ Ok b.verdict
 read_again b valid output = ap bundle_of (sym (lines_again b valid)) ∙ text_again (text_of (bundle_lines b)) b (is_bundle b (text_of (bundle_lines b)) valid output refl)
 
 -- what stands after a bundle is judged by its lines alone
-same_behind : (b c : Bundle) (number : ℕ) (ls : List Line) → IsValid b → HasOutput b → IsValid c → HasOutput c → bundle_lines b ≡ bundle_lines c → behind_bundle b number ls ≡ behind_bundle c number ls
+pub same_behind : (b c : Bundle) (number : ℕ) (ls : List Line) → IsValid b → HasOutput b → IsValid c → HasOutput c → bundle_lines b ≡ bundle_lines c → behind_bundle b number ls ≡ behind_bundle c number ls
 same_behind b c number ls valid output others has same =
     let told = one_bundle (text_of (bundle_lines b)) b c (is_bundle b (text_of (bundle_lines b)) valid output refl) (is_bundle c (text_of (bundle_lines b)) others has (ap text_of same)) in
     λ i. behind_least (told.heading i) (least_of (told.heading i).method (told.verdict i) (told.chain i)) number ls

@@ -1,3 +1,4 @@
+pub mod AnswerLaws
 pub mod Fronts
 pub mod JudgedLaws
 pub mod Reader

@@ -1,6 +1,7 @@
 -- What a reader says of the text that it was fed, wherever that was cut into pieces.
 use Rattle.std.specs.Prelude.{ℕ, List, Result}
 use Rattle.line_reader.specs.Reader as pieces
+use Rattle.line_reader.specs.Seen as lines
 use Rattle.depth_theory.specs.declared.data.DepthError.{DepthError}
 use Rattle.depth_file.specs.Stages.{IsStage, fed_of}
 use Rattle.depth_file.specs.Standing.{StandsIn, Refuses}
@@ -13,7 +14,7 @@ abbrev pub Reader : Type 0
 Reader = pieces.Reader Stage
 
 abbrev pub seen : DepthReader → Reader
-seen r = record { stage = r.stage; number = r.number; unfinished = r.unfinished.items; fed = r.fed }
+seen r = lines.seen r.pieces
 
 -- a stage keeps no more bytes than the reader of bundles in it was fed
 abbrev pub IsReader : Reader → Type 0

@@ -8,7 +8,7 @@ use Rattle.cert_theory.specs.Bundle.{PartLog, formula_of}
 use Rattle.cert_theory.specs.Spelling.{part_lines, text_of}
 use Rattle.depth_theory.specs.Flatter.{fences_for}
 
--- The log of a listed fence of so many levels stands in the text. It leaves its fence open, and its budget is spent: it
+-- The log of a listed fence of `low` levels stands in the text. It leaves its fence open, and its budget is spent: it
 -- holds over the formula of the fence without the empty clause, and has as many new additions as are asked.
 pub record IsLeftOpen (text : List ℕ) (h : Heading) (size low : ℕ) : Type 0 where
   pub fence : List ℕ

@@ -1,5 +1,5 @@
 -- What a stage says of the lines to come and of all lines of the text: each answer that all of them may have.
-use Rattle.std.specs.Prelude.{ℕ, List, Result, Err}
+use Rattle.std.specs.Prelude.{ℕ, List, Err}
 use Rattle.text_core.specs.Lines.{Line}
 use Rattle.depth_theory.specs.declared.data.DepthVerdict.{DepthVerdict}
 use Rattle.depth_theory.specs.declared.data.DepthError.{DepthError}

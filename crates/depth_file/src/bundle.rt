@@ -69,9 +69,9 @@ pub(crate) fn at_front(
     line: &TextLine,
 ) -> Result<Stage, DepthError>
     requires whole { IsReader (seen reader) }
-    requires room { reader.fed + length (line_bytes (line_of line.now)) < 2 ^ 31 }
+    requires room { reader.pieces.fed + length (line_bytes (line_of line.now)) < 2 ^ 31 }
     ensures keeps { IfOk result IsStage }
-    ensures fed { IfOk result (λ s. fed_of s ≤ reader.fed + length (line_bytes (line_of line.now))) }
+    ensures fed { IfOk result (λ s. fed_of s ≤ reader.pieces.fed + length (line_bytes (line_of line.now))) }
     ensures answer { (lines ls : List Line) (answer : Answer) → HasNoEnd line.now.text.now → IsFront reader line.now.number lines answer →
         lines ≡ line_of line.now ∷ ls → Judged result (line.now.number + 1) ls answer }
 {

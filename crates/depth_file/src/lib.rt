@@ -4,7 +4,8 @@
 //! The theorem is that of `check_depth`: bytes get a verdict exactly where they are the text of a depth bundle that
 //! has it; else the first fault is reported. The lines up to the first `end` go to the reader of bundles, which then hands
 //! out what the bundle asks and its chain; those after it go from stage to stage. Of the logs no more is kept than one
-//! part's checker. `DepthReader` takes the text in pieces, wherever it is cut; a whole text is one piece.
+//! part's checker. `DepthReader` takes the text in pieces, wherever it is cut; a whole text is one piece. Every list of
+//! lines has one answer (`laws::lines_have_one_answer`).
 //!
 //! ```text
 //! let verdict = check_depth(alloc, &bytes)?; // DepthVerdict::Levels(3)
@@ -14,6 +15,7 @@
 mod bundle;
 mod checking;
 mod fences;
+pub mod laws;
 mod line_stage;
 mod lines;
 mod onward;

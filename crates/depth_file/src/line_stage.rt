@@ -1,5 +1,4 @@
 //! Depth bundles as texts that are read line by line.
-ghost use Rattle.std.specs.Prelude.{ℕ, IfOk};
 ghost use Rattle.depth_file.specs.Stages.{IsStage, fed_of};
 ghost use Rattle.depth_file.specs.Standing.{StandsIn, Refuses, Ends};
 

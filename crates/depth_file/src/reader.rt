@@ -2,7 +2,6 @@
 //! and the unfinished line after them; so what is fed decides what it is, and not where the pieces end.
 ghost use Rattle.std.specs.Prelude.{◌≡◌, ◌+◌, ◌^◌, ◌<◌, List, ℕ, [], ◌++◌, length, Ok, IfOk};
 ghost use Rattle.text_core.specs.Lines.{lines_of};
-ghost use Rattle.line_reader.specs.Seen as pieces;
 ghost use Rattle.op_basis.specs.Basis.{members};
 ghost use Rattle.tt_core.specs.Words.{specification};
 ghost use Rattle.depth_theory.specs.DepthBundle.{DepthBundle};
@@ -21,13 +20,8 @@ use std::alloc::Global;
 /// and the unfinished line; nothing of the lines before.
 #[derive(Drop)]
 pub struct DepthReader {
-    pub(crate) stage: Stage,
-    /// Which line of the text the next one is, from 1 on.
-    pub(crate) number: u32,
-    /// What was fed of the next line.
-    pub(crate) unfinished: Vec<u8>,
-    /// How many bytes were fed.
-    pub(crate) fed: usize,
+    /// The reader of its lines.
+    pub(crate) pieces: PieceReader<Stage>,
 }
 
 impl DepthReader {
@@ -35,21 +29,23 @@ impl DepthReader {
     pub fn new(alloc: Global) -> DepthReader
         ensures whole { IsReader (seen result) }
         ensures stands { StandsFor (seen result) [] }
-        ensures fed { result.fed ≡ 0 }
+        ensures fed { result.pieces.fed ≡ 0 }
     {
-        DepthReader::of(PieceReader::new(alloc))
+        DepthReader {
+            pieces: PieceReader::new(alloc),
+        }
     }
 
     /// Takes the next piece of the text. A refusal is that of every text that goes on so.
     pub fn feed(self, piece: &[u8]) -> Result<DepthReader, DepthError>
         requires whole { IsReader (seen self) }
-        requires room { self.fed + length piece.now < 2 ^ 31 }
+        requires room { self.pieces.fed + length piece.now < 2 ^ 31 }
         ensures whole { IfOk result (λ reader. IsReader (seen reader)) }
         ensures read { (text : List ℕ) → StandsFor (seen self) text → HasRead result (text ++ piece.now) }
-        ensures fed { IfOk result (λ reader. reader.fed ≡ self.fed + length piece.now) }
+        ensures fed { IfOk result (λ reader. reader.pieces.fed ≡ self.pieces.fed + length piece.now) }
     {
-        match self.pieces().feed(piece) {
-            Ok(reader) => Ok(DepthReader::of(reader)),
+        match self.pieces.feed(piece) {
+            Ok(pieces) => Ok(DepthReader { pieces }),
             Err(error) => Err(error),
         }
     }
@@ -66,42 +62,6 @@ impl DepthReader {
         ensures means { (text : List ℕ) → StandsFor (seen self) text → IfOk result (λ v. (b : DepthBundle) (is : IsDepthText text b) →
             Means (specification b.bundle.heading.spec) (members b.bundle.heading.basis) (length is.is_depth.chain.steps) v) }
     {
-        self.pieces().finish()
-    }
-
-    /// The reader of lines that it is.
-    fn pieces(self) -> PieceReader<Stage>
-        ensures { pieces.seen result ≡ seen self }
-    {
-        let DepthReader {
-            stage,
-            number,
-            unfinished,
-            fed,
-        } = self;
-        PieceReader {
-            stage,
-            number,
-            unfinished,
-            fed,
-        }
-    }
-
-    /// The depth bundle that a reader of lines reads.
-    fn of(reader: PieceReader<Stage>) -> DepthReader
-        ensures { seen result ≡ pieces.seen reader }
-    {
-        let PieceReader {
-            stage,
-            number,
-            unfinished,
-            fed,
-        } = reader;
-        DepthReader {
-            stage,
-            number,
-            unfinished,
-            fed,
-        }
+        self.pieces.finish()
     }
 }

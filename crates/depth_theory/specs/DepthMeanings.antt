@@ -122,7 +122,7 @@ low_unsolved h size low (p ∷ ps) (g ∷ fs) f by_fences logs same rising opene
 
 -- ---- chains of fewer levels
 
--- a chain with so many levels, where none of fewer steps agrees, has a fence among them that can be solved
+-- a chain with `k` levels, where none of fewer steps agrees, has a fence among them that can be solved
 solved_fence : (h : Heading) (size k : ℕ) → IsMinimum (specification h.spec) (members h.basis) size → HasDepthOf (specification h.spec) (members h.basis) size k → (fence : List ℕ) × Contains (fences_for h.spec size) fence × (length fence ≤ k) × Solved h size fence
 solved_fence h size k minimum has =
     let low : HasLevels k has.chain = subst (λ (d : ℕ). HasLevels d has.chain) has.depth_is (depth-bound has.chain) in

@@ -1,4 +1,4 @@
--- The listed fences of a size that have fewer levels than so many: those with fewer levels come first, and those
+-- The listed fences of a size that have fewer levels than a bound: those with fewer levels come first, and those
 -- of equal levels are in lexicographic order.
 use Rattle.std.specs.Prelude.{ℕ, Bool, ◌==◌, List, length}
 use Rattle.std.specs.List.{filter, flat_map, range_with_len}
@@ -13,7 +13,7 @@ fences_for w r = listed_fences r (length (live_words w).on)
 abbrev pub has_levels : ℕ → List ℕ → Bool
 has_levels k fence = length fence == k
 
--- those of so many levels, in their order
+-- those of k levels, in their order
 unfoldable pub of_levels : List (List ℕ) → ℕ → List (List ℕ)
 of_levels fences k = filter (has_levels k) fences
 

@@ -1,12 +1,16 @@
 -- Circuits whose miter is refuted do the same.
 use Rattle.sat_theory.specs.Log.{Refutes}
 use Rattle.sat_theory.specs.Soundness.{no_assignment}
+use Rattle.std.specs.Prelude.{◌≡◌, ℕ, Bool, List}
+use Rattle.std.proofs.Common.{subst}
+use Rattle.sat_theory.specs.Line.{Line}
+use Rattle.net_theory.specs.Net.{Net, sink_values}
 use Rattle.net_theory.specs.Circuit.{Circuit, IsProper}
 use Rattle.net_document.specs.Alike.{AreAlike}
 use Rattle.equiv_theory.specs.Miter.{miter}
-use Rattle.equiv_theory.specs.Difference.{HaveSameInterface}
+use Rattle.equiv_theory.specs.Difference.{AreComparable, HaveSameInterface}
 use Rattle.equiv_theory.specs.FormulaLaws.{miter_formula}
-use Rattle.equiv_theory.specs.CircuitLaws.{comparable, refuted_alike}
+use Rattle.equiv_theory.specs.CircuitLaws.{comparable, refuted_alike, refuted_values}
 use Rattle.equiv_core.specs.declared.answer.Equiv.{Equiv}
 use Rattle.equiv_core.specs.declared.answer.Equiv.TheVariants.{Equal, Differ, Undecided}
 use Rattle.equiv_core.specs.Comparing.{IfEqual}
@@ -16,3 +20,8 @@ equal_alike c k (Equal log) of_c of_k same refutes =
     refuted_alike c k of_c of_k same (λ some. no_assignment (miter c.net k.net) log some.0 (miter_formula c.net k.net (comparable c k of_c of_k same)) refutes some.1)
 equal_alike c k (Differ sink at) of_c of_k same refutes = tt
 equal_alike c k (Undecided log) of_c of_k same refutes = tt
+
+-- nets whose miter is refuted have the same values of their sinks
+pub equal_values : (first second : Net) (e : Equiv) (log : List Line) → e ≡ Equal log → AreComparable first second → IfEqual e (Refutes (miter first second)) → (given : ℕ → Bool) → sink_values first given ≡ sink_values second given
+equal_values first second e log is are refutes =
+    refuted_values first second are (λ some. no_assignment (miter first second) log some.0 (miter_formula first second are) (subst (λ (x : Equiv). IfEqual x (Refutes (miter first second))) is refutes) some.1)

@@ -1,7 +1,8 @@
-//! Combinational equivalence of two circuits: their miter is given to the solver. Its log refutes the miter or has
-//! spent the budget; its assignment has an input at which the circuits differ.
-ghost use Rattle.std.specs.Prelude.{◌≡◌, ◌≤◌, ◌<◌, ◌*◌, ◌^◌, length, Err, IfOk, IfErr};
-ghost use Rattle.sat_theory.specs.Formula.{bits_of, Satisfies};
+//! Combinational equivalence of two circuits: their miter is given to the solver, which a sweep has derive the equal
+//! points of the two nets before it decides. Its log refutes the miter or has spent the budget; its assignment has an
+//! input at which the circuits differ. What the sweep finds is believed only where simulation shows a difference.
+ghost use Rattle.std.specs.Prelude.{◌≡◌, ◌≤◌, ◌<◌, ◌*◌, ◌^◌, ℕ, length, Err, IfOk, IfErr, IfSome, OnOk};
+ghost use Rattle.sat_theory.specs.Formula.{Formula, bits_of, Satisfies};
 ghost use Rattle.sat_theory.specs.Log.{Refutes, IsSpent, IsKept};
 ghost use Rattle.sat_solve.specs.Budgets.{most_budget};
 ghost use Rattle.net_theory.specs.Circuit.{IsProper};
@@ -17,6 +18,7 @@ use crate::interface::same_interface;
 use crate::mitering::miter;
 use crate::values::first_difference;
 use cnf_core::{Assign, Cnf};
+use equal_points::{Swept, sweep};
 use net_core::{Circuit, Net};
 use sat_solve::{Solved, Solver};
 use std::alloc::{AllocError, Global};
@@ -53,9 +55,97 @@ fn difference_of(
     })
 }
 
-/// What the solver `S` answers of the miter `cnf` of two nets.
+/// The difference that the bits `at` of the sources show, if there is one.
+fn shown(
+    alloc: Global,
+    first: &Net,
+    second: &Net,
+    at: Vec<bool>,
+) -> Result<Option<Difference>, AllocError>
+    requires comparable { AreComparable first.now second.now }
+    requires small { IsSmall first.now }
+    ensures { IfOk result (λ shown. IfSome shown (λ d. IsFirstDifference first.now second.now d.sink d.at)) }
+{
+    if at.len() != first.sources() as usize {
+        return Ok(None);
+    }
+    let Some(place) = first_difference(alloc, first, second, &at)? else {
+        return Ok(None);
+    };
+    Ok(Some(Difference {
+        sink: place as u32 + 1,
+        at: Assign::new(at),
+    }))
+}
+
+/// What a sweep over two nets shows with `solver`, a solver of their miter: a difference, or else how many conflicts
+/// of the budget it has spent. The solver stays one of its formula.
+fn swept<S: Solver>(
+    alloc: Global,
+    first: &Net,
+    second: &Net,
+    solver: &mut S,
+    budget: u32,
+) -> Result<(Option<Difference>, u32), AllocError>
+    requires comparable { AreComparable first.now second.now }
+    requires small { IsSmall first.now }
+    requires vars { S.vars_of solver.old ≡ variables first.now second.now }
+    requires room { S.vars_of solver.old < 2 ^ 31 }
+    ensures stays { (f : Formula) (least : ℕ) → S.IsSolverOf f least solver.old → OnOk result (S.IsSolverOf f least solver.new) }
+    ensures differ { IfOk result (λ r. IfSome r.0 (λ d. IsFirstDifference first.now second.now d.sink d.at)) }
+{
+    match sweep(alloc, first, second, solver, budget)? {
+        Swept::Differ(at) => {
+            let difference = shown(alloc, first, second, at)?;
+            Ok((difference, 0))
+        }
+        Swept::Swept { spent } => Ok((None, spent)),
+    }
+}
+
+/// What is left of a budget, and at least 1.
+fn left_of(budget: u32, spent: u32) -> u32
+    requires { 1 ≤ budget }
+    ensures some { 1 ≤ result }
+    ensures most { result ≤ budget }
+{
+    if spent < budget { budget - spent } else { 1 }
+}
+
+/// What `solver`, a solver of the miter of two nets, answers of it after at most `left` further learnt clauses.
 #[tactic(auto, using(crate::specs::SinkLaws::miter_variables))]
-fn compare<S: Solver>(
+fn finished<S: Solver>(
+    alloc: Global,
+    first: &Net,
+    second: &Net,
+    solver: S,
+    budget: u32,
+    left: u32,
+) -> Result<Equiv, AllocError>
+    requires comparable { AreComparable first.now second.now }
+    requires small { IsSmall first.now }
+    requires solver { S.IsSolverOf (miter_of first.now second.now) budget solver }
+    requires budget { budget ≤ most_budget }
+    requires left { (1 ≤ left) × (left ≤ budget) }
+    ensures equal { IfOk result (λ e. IfEqual e (Refutes (miter_of first.now second.now))) }
+    ensures differ { IfOk result (λ e. IfDiffer e (IsFirstDifference first.now second.now)) }
+    ensures undecided { IfOk result (λ e. IfUndecided e (λ lines. IsSpent (miter_of first.now second.now) lines budget)) }
+    ensures kept { IfOk result (λ e. IfUndecided e (IsKept (miter_of first.now second.now))) }
+    ensures decides { 2 * 3 ^ variables first.now second.now ≤ budget → IfOk result IsDecided }
+{
+    match solver.finish(alloc, left)? {
+        Solved::Unsat(log) => Ok(Equiv::Equal(log)),
+        Solved::Open(log) => Ok(Equiv::Undecided(log)),
+        Solved::Sat(assign) => {
+            let Difference { sink, at } = difference_of(alloc, first, second, &assign)?;
+            Ok(Equiv::Differ { sink, at })
+        }
+    }
+}
+
+/// What the solver `S` answers of the miter `cnf` of two nets, once a sweep has shown it their equal points.
+#[tactic(auto, using(crate::specs::SinkLaws::miter_variables))]
+pub(crate) fn compare<S: Solver>(
     alloc: Global,
     first: &Net,
     second: &Net,
@@ -72,19 +162,19 @@ fn compare<S: Solver>(
     ensures kept { IfOk result (λ e. IfUndecided e (IsKept (miter_of first.now second.now))) }
     ensures decides { 2 * 3 ^ variables first.now second.now ≤ budget → IfOk result IsDecided }
 {
-    match S::solve(alloc, cnf, budget)? {
-        Solved::Unsat(log) => Ok(Equiv::Equal(log)),
-        Solved::Open(log) => Ok(Equiv::Undecided(log)),
-        Solved::Sat(assign) => {
-            let Difference { sink, at } = difference_of(alloc, first, second, &assign)?;
-            Ok(Equiv::Differ { sink, at })
-        }
+    let _vars = cnf.vars(); // for the prover: brings in the bounds of the formula
+    let mut solver = S::new(alloc, cnf, budget)?;
+    let (difference, spent) = swept(alloc, first, second, &mut solver, budget)?;
+    if let Some(Difference { sink, at }) = difference {
+        return Ok(Equiv::Differ { sink, at });
     }
+    let left = left_of(budget, spent);
+    finished(alloc, first, second, solver, budget, left)
 }
 
 /// Decides with the solver `S` whether two proper circuits of one interface, each of fewer than 300,000,000 sources
-/// and sinks (combinational inputs and outputs), do the same, unless it takes more than `budget` learnt clauses, from
-/// 1 to 10,000,000.
+/// and sinks (combinational inputs and outputs), do the same, unless it takes more than `budget` conflicts, from 1 to
+/// 10,000,000: those of questions about pairs of signals that were given up, and of the search after them.
 ///
 /// They are equal only with a log that refutes their miter, so that anybody can check it; they differ only at an
 /// input that shows it, at the first sink that does; and it is undecided only with a log that has spent the

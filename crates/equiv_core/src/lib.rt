@@ -1,5 +1,6 @@
 //! Combinational equivalence checking (CEC): do two circuits do the same? Their miter, which `equiv_theory` defines,
-//! is written clause by clause and given to the solver `S`, any of the trait of `sat_solve`.
+//! is written clause by clause and given to the solver `S`, any of the trait of `sat_solve`. A sweep (`equal_points`)
+//! has the solver derive which signals of the two are equal, so that the refutation is short.
 //!
 //! The theorem is that of `equiv`: two circuits of one interface are equal only with a log that refutes their
 //! miter, which anybody can check, and then they do the same under every assignment; they differ only at bits
@@ -15,13 +16,14 @@
 //! ```
 //!
 //! - `src/rows.rt`, `src/mitering.rt`: the clauses. `src/interface.rt`: whether two circuits have one interface.
-//! - `src/values.rt`: where two nets differ. `src/comparing.rt`: the three answers.
+//! - `src/values.rt`: where two nets differ. `src/comparing.rt`: the three answers; `src/nets.rt`: of nets, without a log.
 #![tactic(auto)]
 
 mod answer;
 mod comparing;
 mod interface;
 mod mitering;
+mod nets;
 mod numbering;
 mod rows;
 mod values;
@@ -29,3 +31,4 @@ mod values;
 pub use answer::{Equiv, EquivError};
 pub use comparing::equiv;
 pub use mitering::miter;
+pub use nets::equal_nets;

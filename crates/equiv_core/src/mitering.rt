@@ -52,7 +52,7 @@ fn list_miter(alloc: Global, first: &Net, second: &Net) -> Result<ClauseList, Al
 
 /// The miter of two nets.
 #[tactic(auto, using(crate::specs::MiteringLaws::few_clauses))]
-fn miter_nets(alloc: Global, first: &Net, second: &Net) -> Result<Cnf, AllocError>
+pub(crate) fn miter_nets(alloc: Global, first: &Net, second: &Net) -> Result<Cnf, AllocError>
     requires comparable { AreComparable first.now second.now }
     requires small { AreSmall first.now second.now }
     ensures { IfOk result (λ cnf. cnf ≡ miter_of first.now second.now) }

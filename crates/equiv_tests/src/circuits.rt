@@ -265,12 +265,39 @@ const COMPARED: &[(&[u8], &[u8], u32, Wanted)] = &[
         100,
         Wanted::DifferentInterface,
     ),
-    // XOR of four as a tree and as a row, on a budget that is spent
+    // XOR of four as a tree and as a row, whose equal points take few conflicts
     (
         b".inputs a b c d\n.outputs y\n.names a b p\n10 1\n01 1\n.names c d q\n10 1\n01 1\n.names p q y\n10 1\n01 1\n.end\n",
         b".inputs a b c d\n.outputs y\n.names a b p\n10 1\n01 1\n.names p c q\n10 1\n01 1\n.names q d y\n10 1\n01 1\n.end\n",
         1,
+        Wanted::Equal,
+    ),
+    // XOR of six in two orders without equal points, on a budget that is spent
+    (
+        b".inputs a b c d e f\n.outputs y\n.names a b p\n10 1\n01 1\n.names p c q\n10 1\n01 1\n.names q d r\n10 1\n01 1\n.names r e s\n10 1\n01 1\n.names s f y\n10 1\n01 1\n.end\n",
+        b".inputs a b c d e f\n.outputs y\n.names f b p\n10 1\n01 1\n.names p d q\n10 1\n01 1\n.names q a r\n10 1\n01 1\n.names r e s\n10 1\n01 1\n.names s c y\n10 1\n01 1\n.end\n",
+        1,
         Wanted::Undecided,
+    ),
+    // a point that is the complement of one of the other netlist, and one that is constant
+    (
+        b".inputs a b c\n.outputs y\n.names a b p\n11 1\n.names p c y\n01 1\n10 1\n.end\n",
+        b".inputs a b c\n.outputs y\n.names a b p\n0- 1\n-0 1\n.names a r\n0 1\n.names a r q\n11 1\n\
+            .names p c s\n00 1\n11 1\n.names s q y\n1- 1\n-1 1\n.end\n",
+        1,
+        Wanted::Equal,
+    ),
+    // a last sink that differs under one assignment of 8192
+    (
+        b".inputs a b c d e f g h i j k l m\n.outputs x y\n.names a b x\n11 1\n.names a b c d e f g h i j k l m y\n1111111111111 1\n.end\n",
+        b".inputs a b c d e f g h i j k l m\n.outputs x y\n.names a b x\n11 1\n.names y\n.end\n",
+        1,
+        Wanted::Differ(
+            2,
+            &[
+                true, true, true, true, true, true, true, true, true, true, true, true, true,
+            ],
+        ),
     ),
 ];
 

@@ -103,8 +103,9 @@ const TOLD: &[(&[u8], u32, Wanted)] = &[
         1000,
         Wanted::Log(b"equal\n"),
     ),
+    // XOR of six in two orders
     (
-        b".inputs a b c d\n.outputs y\n.names a b p\n10 1\n01 1\n.names c d q\n10 1\n01 1\n.names p q y\n10 1\n01 1\n.end\n.inputs a b c d\n.outputs y\n.names a b p\n10 1\n01 1\n.names p c q\n10 1\n01 1\n.names q d y\n10 1\n01 1\n.end\n",
+        b".inputs a b c d e f\n.outputs y\n.names a b p\n10 1\n01 1\n.names p c q\n10 1\n01 1\n.names q d r\n10 1\n01 1\n.names r e s\n10 1\n01 1\n.names s f y\n10 1\n01 1\n.end\n.inputs a b c d e f\n.outputs y\n.names f b p\n10 1\n01 1\n.names p d q\n10 1\n01 1\n.names q a r\n10 1\n01 1\n.names r e s\n10 1\n01 1\n.names s c y\n10 1\n01 1\n.end\n",
         1,
         Wanted::Log(b"undecided\n"),
     ),

@@ -8,7 +8,7 @@ ghost use Rattle.frame_core.specs.Streaming.{IsCount, WereTaken};
 
 use crate::performing::Job;
 use crate::replies::Ended;
-use port_io::{Failed, ReadError, Sink, Source};
+use port_io::{PIECE, ReadError, Sink, Source, read_piece};
 use std::alloc::{AllocError, Global};
 
 /// A command that takes its input in pieces, and keeps of it what it needs.
@@ -112,9 +112,6 @@ impl<'a, J: Job> StreamJob for Collecting<'a, J> {
     }
 }
 
-// How many bytes are asked for at a call.
-const PIECE: usize = 4096;
-
 /// Reads a source to its end, piece by piece. No more calls are made on it than `most` and two.
 pub(crate) fn read_pieces<J: StreamJob, S: Source>(
     alloc: Global,
@@ -138,18 +135,12 @@ pub(crate) fn read_pieces<J: StreamJob, S: Source>(
     let mut buf = [0u8; PIECE];
     // Each turn but the last takes a byte at least.
     for _turn in 0..=most {
-        match source.read(&mut buf) {
-            Err(Failed) => return Err(ReadError::ReadFault),
-            Ok(0) => return Ok(kept),
-            Ok(count) => {
-                if count > room {
-                    return Err(ReadError::TooLong);
-                }
-                let (piece, _) = buf.split_at(count);
-                kept = job.take(alloc, kept, piece)?;
-                room -= count;
-            }
+        let piece = read_piece(source, &mut buf, room)?;
+        if piece.is_empty() {
+            return Ok(kept);
         }
+        kept = job.take(alloc, kept, piece)?;
+        room -= piece.len();
     }
     unreachable!()
 }

@@ -22,7 +22,7 @@ use Rattle.bench_core.specs.Spelling as gates
 use Rattle.bench_core.specs.Bench.{bench_format}
 use Rattle.bench_laws.specs.Spelled as bench
 use Rattle.improve_settings.specs.declared.improve.ImproveSettings.{ImproveSettings}
-use Rattle.sweep_core.specs.Outcomes.{HasOperatorsWithin}
+use Rattle.net_theory.specs.Operators.{HasOperatorsWithin}
 use Rattle.sweep_core.specs.Undecided.{Undecided, IsUndecided}
 use Rattle.window_trial.specs.Improvement.{Leaves}
 use Rattle.improve_windows.specs.Report.{report_text}
@@ -85,7 +85,9 @@ improved_is f Can s bytes c k before after settled named format is better can =
 -- ---- circuits that can be written
 
 can_operate : (f : Format) (s : ImproveSettings) (n m : Net) → FitsFormat f s → HasOperatorsWithin (members s.basis) n m → CanOperate f n m
-can_operate f s n m fits within j h at = ⊎_elim (λ is. inl (fits h.op is)) (λ has. inr (has.index, has.gate, has.at, sym has.same)) (within.each j h at)
+can_operate f s n m fits within = record {
+  each = λ j h at. ⊎_elim (λ is. inl (fits h.op is)) (λ has. inr has) (within.each j h at);
+}
 
 -- What is left of a text's circuit can be written in its format, where gates may have the operators of the basis.
 pub writable : (f : Format) (Can : Circuit → Type 0) (s : ImproveSettings) (bytes : List ℕ) (c k : Circuit) (settled : Bool) (named : List Undecided) → IsFormat f Can → IsCircuitOfText f bytes c → FitsFormat f s → k ≡ record c { net = k.net } → Leaves s c.net k.net settled named → HasRoom k → Can k

@@ -6,7 +6,8 @@
 //! the same outputs and next states under every assignment and no more gates; each gate is read by some sink, and has an
 //! operator of the basis or of the netlist that was read; and where the report ends in `settled`, no window up to the cap has
 //! a shorter chain over the basis, but for those that the report names, each with a valid certificate that leaves it
-//! open. It refuses exactly what isn't a well-formed netlist.
+//! open. It refuses exactly what isn't a well-formed netlist. Netlists alone are improved, and to netlists
+//! (`laws::improved_texts_are_netlists`).
 //!
 //! ```text
 //! let improved = improve_blif::<S>(alloc, bytes, ImproveSettings::usual())?;
@@ -16,6 +17,7 @@
 
 mod circuits;
 mod costing;
+pub mod laws;
 mod reporting;
 mod texts;
 

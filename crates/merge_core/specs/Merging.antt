@@ -3,6 +3,7 @@ use Rattle.std.specs.Prelude.{◌≡◌, ℕ, ◌+◌, ◌≤◌, ◌<◌, List,
 use Rattle.net_theory.specs.declared.data.Sig.TheVariants.{Place}
 use Rattle.net_theory.specs.declared.data.Gate.{Gate}
 use Rattle.net_theory.specs.Net.{Net, end_of, value}
+use Rattle.net_theory.specs.Operators.{HasOperator}
 use Rattle.net_theory.specs.Moving.{Kept, moved, moved_gate, put_sig}
 use Rattle.net_theory.specs.MovingLaws.{Moves}
 use Rattle.merge_core.specs.declared.form.Form.{Form}
@@ -12,16 +13,9 @@ use Rattle.merge_core.specs.Form.{form_of}
 pub record AreApart (gates : List Gate) : Type 0 where
   pub apart : (i j : ℕ) (g h : Gate) → slice_get gates i ≡ Some g → slice_get gates j ≡ Some h → form_of g ≡ form_of h → i ≡ j
 
--- some gate of the net has the operator
-pub record IsOperatorOf (n : Net) (op : ℕ) : Type 0 where
-  pub index : ℕ
-  pub gate : Gate
-  pub at : slice_get n.gates index ≡ Some gate
-  pub same : gate.op ≡ op
-
 -- each operator of the gates is that of a gate of the net
 pub record HaveOperatorsOf (n : Net) (gates : List Gate) : Type 0 where
-  pub each : (j : ℕ) (h : Gate) → slice_get gates j ≡ Some h → IsOperatorOf n h.op
+  pub each : (j : ℕ) (h : Gate) → slice_get gates j ≡ Some h → HasOperator n h.op
 
 -- ---- the walk
 

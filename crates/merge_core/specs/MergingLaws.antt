@@ -8,14 +8,15 @@ use Rattle.net_theory.specs.declared.data.Sig.{Sig}
 use Rattle.net_theory.specs.declared.data.Sig.TheVariants.{Zero, One, Place}
 use Rattle.net_theory.specs.declared.data.Gate.{Gate}
 use Rattle.net_theory.specs.Net.{Net, IsNet, IsSigBelow, IsGateAt, end_of, sig_value, values_of, value}
-use Rattle.net_theory.specs.NameLaws.{all_at, at_all, map_at, at_map}
+use Rattle.net_theory.specs.NameLaws.{all_at, at_all, map_at, at_map, index_map}
 use Rattle.net_theory.specs.ValueLaws.{IsGrown, grown_none, grown_push, grown_sig, grown_below, at_push, values_after-gate}
 use Rattle.net_theory.specs.Answers.{IsStill, Answers}
+use Rattle.net_theory.specs.Operators.{HasOperator}
 use Rattle.net_theory.specs.Moving.{Kept, moved, moved_gate, put_sig, sources_stay, nothing_kept}
 use Rattle.net_theory.specs.MovingLaws.{Moves, IsSourcePlace, moves_less, moves_start, moved_below, moved_value, source_stays}
 use Rattle.net_core.specs.Marks.{places_of, kept}
 use Rattle.merge_core.specs.FormLaws.{form_values}
-use Rattle.merge_core.specs.Merging.{IsOperatorOf, HaveOperatorsOf, IsPut, IsPassed, IsPlaceBelow, IsMerged, AreLeft, net_with}
+use Rattle.merge_core.specs.Merging.{HaveOperatorsOf, IsPut, IsPassed, IsPlaceBelow, IsMerged, AreLeft, net_with}
 
 put_same : (places : ℕ → Sig) (place : ℕ) (s : Sig) (p : ℕ) → p ≡ place → put_sig places place s p ≡ s
 put_same places place s p own = cond-true (p == place) s (places p) (eq-eqb p place own)
@@ -92,12 +93,12 @@ put_few : (gate : Gate) (xs ys : List Gate) (index : ℕ) → IsPut gate xs ys i
 put_few gate xs ys index put =
     ⊎_elim (λ same. omega (arith, ap (length {A = Gate}) same)) (λ more. omega (arith, ap (length {A = Gate}) more, length-append xs (gate ∷ []))) put.grown
 
-put_old : (n : Net) (gate : Gate) (xs ys : List Gate) (index : ℕ) → HaveOperatorsOf n xs → IsOperatorOf n gate.op → IsPut gate xs ys index → HaveOperatorsOf n ys
+put_old : (n : Net) (gate : Gate) (xs ys : List Gate) (index : ℕ) → HaveOperatorsOf n xs → HasOperator n gate.op → IsPut gate xs ys index → HaveOperatorsOf n ys
 put_old n gate xs ys index old own put =
     ⊎_elim
     (λ same. subst (HaveOperatorsOf n) (sym same) old)
     (λ more. subst (HaveOperatorsOf n) (sym more) (record {
-      each = λ j h at. ⊎_elim (λ was. old.each j h was) (λ new. subst (λ (x : Gate). IsOperatorOf n x.op) new.1 own) (at_push xs gate h j at);
+      each = λ j h at. ⊎_elim (λ was. old.each j h was) (λ new. subst (λ (x : Gate). HasOperator n x.op) new.1 own) (at_push xs gate h j at);
     }))
     put.grown
 
@@ -142,11 +143,6 @@ map_values : (f g : Sig → Bool) (move : Sig → Sig) (ss : List Sig) → ((i :
 map_values f g move [] same = refl
 map_values f g move (s ∷ ss) same =
     rw (same 0 s refl, map_values f g move ss (λ i t e. same (suc i) t e)) refl
-
-index_map : (f : Sig → Sig) (ss : List Sig) (i : ℕ) (d : Sig) → i < length ss → slice_index_or (map f ss) i d ≡ f (slice_index_or ss i d)
-index_map f [] i d low = absurd (omega arith)
-index_map f (s ∷ ss) zero d low = refl
-index_map f (s ∷ ss) (suc i) d low = index_map f ss i d (omega arith)
 
 still_moved : (n : Net) (k : Kept) (s : Sig) → IsMerged n (end_of n) k → IsStill n.sources s → moved k.places s ≡ s
 still_moved n k Zero is still = refl

@@ -1,16 +1,8 @@
 //! Circuits: nets whose sources and sinks have names.
 
-ghost use Rattle.std.specs.Prelude.{◌≡◌, IfOk};
-ghost use Rattle.net_theory.specs.Document.{Document};
-ghost use Rattle.net_theory.specs.Circuit.{IsProper, Describes};
-ghost use Rattle.net_theory.specs.Answers.{IsPruned};
-ghost use Rattle.net_theory.specs.Dead.{dropped};
-
-use crate::dead::drop_dead;
 use crate::name::Name;
 use crate::net::Net;
 use net_theory::Trigger;
-use std::alloc::{AllocError, Global};
 use std::marker::Model;
 
 /// A latch: its output, its trigger and control, and its initial value: 0, 1, 2 for don't-care, 3
@@ -48,31 +40,4 @@ impl Model for Circuit {
     ghost Value = { circuit.Circuit };
 
     ghost view = { λ c. record { model = c.model; inputs = c.inputs.items; outputs = c.outputs.items; clocks = c.clocks.items; latches = c.latches.items; net = c.net } };
-}
-
-impl Circuit {
-    /// The circuit without its dead (dangling) gates: those that no sink reads, directly or through
-    /// gates. A document that describes the circuit still does.
-    #[tactic(auto, using(net_theory::specs::ExchangeLaws::exchanged_proper, net_theory::specs::ExchangeLaws::exchanged_describes))]
-    pub fn without_dead_gates(self, alloc: Global) -> Result<Circuit, AllocError>
-        requires { IsProper self }
-        ensures exact { IfOk result (λ left. left ≡ record self { net = dropped self.net }) }
-        ensures pruned { IfOk result (λ left. IsPruned self.net left.net) }
-        ensures proper { IfOk result (λ left. IsProper left) }
-        ensures same { IfOk result (λ left. (d : Document) → Describes d self → Describes d left) }
-    {
-        let mut left = self;
-        match drop_dead(alloc, &left.net) {
-            Ok(net) => {
-                left.net = net;
-                Ok(left)
-            }
-            Err(error) => {
-                // for the prover: dropped by one call, since at the exit each field would be
-                // dropped by itself
-                drop(left);
-                Err(error)
-            }
-        }
-    }
 }

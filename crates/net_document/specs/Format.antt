@@ -1,12 +1,12 @@
 -- Netlist formats as values: what a text lists, and how a circuit is written.
-use Rattle.std.specs.Prelude.{◌≡◌, ℕ, ◌≤◌, ◌⊎◌, Bool, true, List, length, slice_get, Some, Result, Ok, Err, None}
-use Rattle.net_theory.specs.declared.data.Gate.{Gate}
+use Rattle.std.specs.Prelude.{◌≡◌, ℕ, ◌≤◌, ◌⊎◌, Bool, List, length, Result, Ok, Err, None}
 use Rattle.net_theory.specs.Net.{Net}
 use Rattle.net_theory.specs.Document.{Document}
 use Rattle.net_theory.specs.WellFormed.{IsWellFormed}
 use Rattle.net_theory.specs.Cost.{cost}
 use Rattle.net_theory.specs.Circuit.{Circuit, IsProper, Describes, IsCircuitOf}
 use Rattle.net_theory.specs.Answers.{Answers}
+use Rattle.net_theory.specs.Operators.{HasOperatorsWithin}
 use Rattle.net_theory.specs.ExchangeLaws.{with_net}
 use Rattle.net_core.specs.Names.{HasRoom}
 use Rattle.net_core.specs.declared.error.NetError.{NetError}
@@ -85,7 +85,7 @@ ListsWell f = (bytes : List ℕ) (l : Listed) → f.listed bytes ≡ Ok l → Is
 
 -- each gate of the second net has an operator of the format, or that of a gate of the first
 abbrev pub CanOperate : Format → Net → Net → Type 0
-CanOperate f n m = (j : ℕ) (h : Gate) → slice_get m.gates j ≡ Some h → (f.operators h.op ≡ true) ⊎ ((i : ℕ) × (g : Gate) × (slice_get n.gates i ≡ Some g) × (h.op ≡ g.op))
+CanOperate f n m = HasOperatorsWithin f.operators n m
 
 -- Texts list documents well. A circuit that can be written is proper, and its text is read back.
 -- The circuit of each text can be written, and so it can with a net that answers the same and has

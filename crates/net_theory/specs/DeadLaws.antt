@@ -7,12 +7,13 @@ use Rattle.net_theory.specs.declared.data.Sig.{Sig}
 use Rattle.net_theory.specs.declared.data.Sig.TheVariants.{Zero, One, Place}
 use Rattle.net_theory.specs.declared.data.Gate.{Gate}
 use Rattle.net_theory.specs.Net.{Net, IsNet, IsSigBelow, end_of, sig_value, values_of, sink_values, value}
-use Rattle.net_theory.specs.NameLaws.{all_at, at_all, map_at, at_map}
+use Rattle.net_theory.specs.NameLaws.{all_at, at_all, map_at, at_map, index_map}
 use Rattle.net_theory.specs.Reach.{ReadsPlace, IsClosedFrom, IsReached, is_sink, live}
 use Rattle.net_theory.specs.ReachLaws.{sink_in, in_sinks, reach_closed, marked_reached}
 use Rattle.net_theory.specs.Moving.{moved, moved_gate, nothing_kept}
 use Rattle.net_theory.specs.MovingLaws.{Goes, IsMade, IsMarked, Moves, IsSourcePlace, moves_less, moved_below, moved_value, moves_start, net_movable, keep_all, count_kept, marked_few, kept_goes, kept_made, places_low, source_stays}
 use Rattle.net_theory.specs.Dead.{kept_gates, dropped}
+use Rattle.net_theory.specs.Operators.{HasOperator}
 use Rattle.net_theory.specs.Answers.{IsStill, Answers, IsPruned}
 
 -- ---- what dropping does
@@ -138,11 +139,6 @@ some_there [] i low = absurd (omega arith)
 some_there (x ∷ xs) zero low = (x, refl)
 some_there (x ∷ xs) (suc i) low = some_there xs i (omega arith)
 
-index_map : (f : Sig → Sig) (ss : List Sig) (i : ℕ) (d : Sig) → i < length ss → slice_index_or (map f ss) i d ≡ f (slice_index_or ss i d)
-index_map f [] i d low = absurd (omega arith)
-index_map f (s ∷ ss) zero d low = refl
-index_map f (s ∷ ss) (suc i) d low = index_map f ss i d (omega arith)
-
 dropped_answers : (n : Net) → IsNet n → Answers n (dropped n)
 unfolding dropped
 dropped_answers n net =
@@ -166,8 +162,8 @@ dropped_is n net =
     }
 
 -- The gates that are left have operators of the old gates.
-pub dropped_operators : (n : Net) (j : ℕ) (h : Gate) → IsNet n → slice_get (dropped n).gates j ≡ Some h → (i : ℕ) × (g : Gate) × (slice_get n.gates i ≡ Some g) × (h.op ≡ g.op)
+pub dropped_operators : (n : Net) (op : ℕ) → IsNet n → HasOperator (dropped n) op → HasOperator n op
 unfolding dropped
-dropped_operators n j h net at =
-    let made = made_by n j h net at in
-    (made.index, made.gate, made.at, ap (λ (x : Gate). x.op) made.is)
+dropped_operators n op net has =
+    let made = made_by n has.index has.gate net has.at in
+    record { index = made.index; gate = made.gate; at = made.at; same = sym (ap (λ (x : Gate). x.op) made.is) ∙ has.same }

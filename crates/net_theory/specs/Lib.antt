@@ -28,6 +28,7 @@ pub mod MovingLaws
 pub mod Answers
 pub mod ExchangeLaws
 pub mod Dead
+pub mod Operators
 pub mod DeadLaws
 pub mod Naming
 pub mod NamingLaws

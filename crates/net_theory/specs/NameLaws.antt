@@ -1,5 +1,5 @@
 -- Names in lists, and names that differ.
-use Rattle.std.specs.Prelude.{◌≡◌, ℕ, zero, suc, true, false, not, ◌||◌, List, [], ◌∷◌, ◌++◌, slice_get, map, All, Some, ◌⊎◌, refl}
+use Rattle.std.specs.Prelude.{◌≡◌, ℕ, zero, suc, ◌<◌, true, false, not, ◌||◌, List, [], ◌∷◌, ◌++◌, length, slice_get, slice_index_or, map, All, Some, ◌⊎◌, refl}
 use Rattle.std.specs.List.{list_any, flat_map}
 use Rattle.std.specs.Cmp.Lexicographic.{bytes_decides}
 use Rattle.std.proofs.Common.{arith, sym, ◌∙◌, ap, subst, inl, inr, ⊎_elim}
@@ -141,6 +141,11 @@ pub at_map : {A B : Type 0} (f : A → B) (xs : List A) (k : ℕ) (y : B) → sl
 at_map f [] k y e = absurd cc
 at_map f (x ∷ xs) zero y e = (x, refl, cc)
 at_map f (x ∷ xs) (suc k) y e = at_map f xs k y e
+
+pub index_map : {A : Type 0} (f : A → A) (xs : List A) (k : ℕ) (d : A) → k < length xs → slice_index_or (map f xs) k d ≡ f (slice_index_or xs k d)
+index_map f [] k d low = absurd (omega arith)
+index_map f (x ∷ xs) zero d low = refl
+index_map f (x ∷ xs) (suc k) d low = index_map f xs k d (omega arith)
 
 pub has_map_at : {A : Type 0} (f : A → Name) (xs : List A) (k : ℕ) (x : A) → slice_get xs k ≡ Some x → has (map f xs) (f x) ≡ true
 has_map_at f xs k x e = has_at (map f xs) k (f x) (map_at f xs k x e)

@@ -20,6 +20,7 @@ ghost use Rattle.net_theory.specs.Circuit.{Circuit, IsProper, Describes, IsCircu
 ghost use Rattle.net_theory.specs.Reach.{IsReachedFrom, is_sink, reach};
 ghost use Rattle.net_theory.specs.Answers.{Answers, IsPruned};
 ghost use Rattle.net_theory.specs.Dead.{dropped};
+ghost use Rattle.net_theory.specs.Operators.{HasOperator};
 ghost use Rattle.net_theory.specs.ExchangeLaws.{with_net};
 
 /// The value of a place: a source has the bit that is given to it, a gate its operator on the
@@ -68,7 +69,7 @@ pub fn marks_are_what_is_reached()
 /// its gates have operators of the old gates.
 pub fn dead_gates_can_be_dropped()
     ensures left { (n : Net) → IsNet n → IsPruned n (dropped n) }
-    ensures operators { (n : Net) (j : ℕ) (h : Gate) → IsNet n → slice_get (dropped n).gates j ≡ Some h → (i : ℕ) × (g : Gate) × (slice_get n.gates i ≡ Some g) × (h.op ≡ g.op) }
+    ensures operators { (n : Net) (op : ℕ) → IsNet n → HasOperator (dropped n) op → HasOperator n op }
 {}
 
 /// A circuit's net can be replaced by one that answers the same: the circuit can still be written,

@@ -10,10 +10,10 @@ ghost use Rattle.observe_theory.specs.Tail.{IsTail};
 ghost use Rattle.observe_core.specs.Observing.{IsObservingCone, IsSeenMask};
 
 use crate::differing::telling;
-use crate::shape::Tail;
-use lane_sim::{Cone, cone_words, patterns_on};
+use crate::shape::{MOST_OF_TAIL, Tail};
+use lane_sim::{Cone, MOST_LEAVES, cone_words, patterns_on};
 use std::alloc::{AllocError, Global};
-use window_core::{Net, Window, all_inputs, signals_of, surround};
+use window_core::{MOST_GATES, Net, Window, all_inputs, signals_of, surround};
 
 /// What the gates of a window and of its tail read from outside.
 fn first_leaves(
@@ -25,7 +25,7 @@ fn first_leaves(
     requires { (p : ℕ) → among (tail.now ++ gates.now) p ≡ true → IsGate net.now p }
     ensures { IfOk result (λ first. AreJust (IsInput net.now (tail.now ++ gates.now)) first.items) }
 {
-    let mut all = Vec::with_capacity(alloc, 24)?;
+    let mut all = Vec::with_capacity(alloc, MOST_OF_TAIL + MOST_GATES)?;
     all.extend_from_slice(tail)?;
     all.extend_from_slice(gates)?;
     all_inputs(alloc, net, &all)
@@ -36,7 +36,7 @@ fn are_too_many(places: &[u32]) -> bool
     ensures yes { result ≡ true → 12 < length places.now }
     ensures no { result ≡ false → length places.now ≤ 12 }
 {
-    places.len() > 12
+    places.len() > MOST_LEAVES
 }
 
 /// The rows that are seen, by the observing surround.

@@ -8,7 +8,7 @@ ghost use Rattle.window_theory.specs.Paths.{IsGate};
 ghost use Rattle.window_core.specs.Gates.{IsGateOf};
 ghost use Rattle.observe_core.specs.Putting.{put_place as put_place_of, put_sig as put_sig_of, put_gate as put_gate_of, HasPut, IsAbove, IsPutCone};
 
-use lane_sim::Cone;
+use lane_sim::{Cone, MOST_LEAVES};
 use std::alloc::{AllocError, Global};
 use window_core::{Gate, Net, Sig, gate_at};
 
@@ -114,7 +114,7 @@ pub(crate) fn put_cone(
     ensures { IfOk result (λ cone. IsPutCone net.now outputs.now bits surround.now tail.now cone) }
 {
     let _sources = net.sources(); // says that the net is one
-    let mut leaves = Vec::with_capacity(alloc, 12)?;
+    let mut leaves = Vec::with_capacity(alloc, MOST_LEAVES)?;
     leaves.extend_from_slice(surround.leaves())?;
     let mut gates = same_gates(alloc, surround)?;
     put_tail(net, outputs, bits, tail, &mut gates)?;

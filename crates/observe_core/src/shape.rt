@@ -2,6 +2,9 @@
 
 use std::marker::Model;
 
+/// The most gates of a tail.
+pub(crate) const MOST_OF_TAIL: usize = 16;
+
 /// The gates above a window through which it is seen first (its transitive fanout, at most 16 gates), what they read
 /// beside the window (side inputs), and those of them that others see (watchers); whether others see the window itself.
 /// Each list rises.

@@ -12,13 +12,13 @@ ghost use Rattle.observe_core.specs.Following.{HasTail};
 ghost use Rattle.observe_core.specs.Kept.{IsBoth, HasSome};
 
 use crate::following::next_follower;
-use crate::shape::Tail;
+use crate::shape::{MOST_OF_TAIL, Tail};
 use std::alloc::{AllocError, Global};
 use window_core::{
     Gate, Net, Readers, Sig, Window, all_inputs, all_outputs, gate_at, has, put, readers_of,
 };
 
-/// Takes the least follower of what was taken, as often as there is one, but at most 16 times.
+/// Takes the least follower of what was taken, as often as there is one, but at most `MOST_OF_TAIL` times.
 fn take_tail(
     net: &Net,
     readers: &Readers,
@@ -32,7 +32,7 @@ fn take_tail(
     ensures { OnOk result (HasTail net.now all.old.items all.new.items tail.new.items) }
 {
     let _sources = net.sources(); // says that the net is one
-    for _taken in 0..16u32 {
+    for _taken in 0..MOST_OF_TAIL {
         let place = next_follower(net, readers, all);
         if place == 0 {
             return Ok(());

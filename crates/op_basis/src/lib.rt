@@ -34,7 +34,7 @@ mod words;
 pub use basis::Basis;
 pub use error::BasisError;
 pub use op::Op;
-pub use text::{read_basis, write_basis};
+pub use text::{BENCH, read_basis, write_basis};
 pub use values::swapped;
 pub use word::{read_operator, write_operator};
 pub use words::{Masks, combine, input_word, masks_for, on_words, spread};

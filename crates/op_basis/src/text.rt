@@ -17,8 +17,8 @@ const ALL: u16 = 0b1111_1111_1111_1111;
 /// All that depend on both operands but XOR and its complement (the basis U2 of Zwick).
 const U2: u16 = 0b0110_1001_1001_0110;
 
-/// AND, OR, XOR and their complements, the gates of the BENCH format.
-const BENCH: u16 = 0b0100_0011_1100_0010;
+/// AND, OR, XOR and their complements, the gates of the BENCH format: a bit for each operator.
+pub const BENCH: u16 = 0b0100_0011_1100_0010;
 
 /// NAND alone.
 const NAND: u16 = 0b0100_0000_0000_0000;

@@ -1,5 +1,5 @@
 -- Bytes that a source has left and a sink has written: known (Some) or not (None).
-use Rattle.std.specs.Prelude.{◌≡◌, ℕ, ◌≤◌, List, [], ◌++◌, Option, None, Some, take, length}
+use Rattle.std.specs.Prelude.{◌≡◌, ℕ, ◌<◌, ◌≤◌, List, [], ◌++◌, Option, None, Some, take, length}
 
 -- known bytes with text after them; unknown bytes stay unknown
 unfoldable pub appended : Option (List ℕ) → List ℕ → Option (List ℕ)
@@ -28,6 +28,12 @@ pub record AppendsFront (old new : Option (List ℕ)) (text : List ℕ) : Type 0
   pub count : ℕ
   pub within : count ≤ length text
   pub appends : Appends old new (take count text)
+
+-- More than `room` bytes were taken.
+pub record TakesBeyond (room : ℕ) (old new : Option (List ℕ)) : Type 0 where
+  pub taken : List ℕ
+  pub consumes : Consumes old new taken
+  pub beyond : room < length taken
 
 -- What is left is a suffix of what was left.
 pub record TakesFront (old new : Option (List ℕ)) : Type 0 where

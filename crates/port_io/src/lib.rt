@@ -7,9 +7,9 @@
 //! ports over the standard library's readers and writers show none.
 //!
 //! The theorem, in two halves: `read_all` answers all bytes that were left; it answers that they
-//! are too many only where they are, and that a call failed only where the count rose. `write_all`
-//! writes all of a text; where the count rose, it may have written a prefix of it, and reports
-//! that.
+//! are too many only where they are, and that a call failed only where the count rose. `read_piece`
+//! makes one call, for readers that keep less than all. `write_all` writes all of a text; where the
+//! count rose, it may have written a prefix of it, and reports that.
 //!
 //! A call: `let input = read_all(alloc, &mut InputPort::new(rt.stdin()), 65536)?;`
 #![tactic(auto)]
@@ -24,5 +24,5 @@ mod writing;
 pub use memory::{MemorySink, MemorySource, SteadySource};
 pub use outside::{Failed, Sink, Source};
 pub use ports::{InputPort, OutputPort};
-pub use reading::{ReadError, read_all};
+pub use reading::{PIECE, ReadError, read_all, read_piece};
 pub use writing::{WriteFault, write_all};

@@ -1,12 +1,12 @@
-//! Reading a source to its end.
+//! Reading a source, by a call or to its end.
 ghost use Rattle.std.specs.Prelude.{◌≡◌, ℕ, ◌<◌, ◌≤◌, List, [], Some, IfOk, OnOk, IsErrOf, is_some, length, vec_len};
-ghost use Rattle.port_io.specs.Bytes.{TakesFront};
+ghost use Rattle.port_io.specs.Bytes.{Consumes, IsAtEnd, TakesBeyond, TakesFront};
 ghost use Rattle.port_io.specs.Faults.{Rose};
 
 use crate::outside::{Failed, Source};
 use std::alloc::{AllocError, Global};
 
-/// Why `read_all` gave no bytes.
+/// Why the bytes of a source weren't read.
 #[derive(Clone, Copy, PartialEq, Eq)]
 pub enum ReadError {
     /// A call of the source failed.
@@ -27,8 +27,37 @@ impl From<AllocError> for ReadError {
     }
 }
 
-// How many bytes are asked for at a call.
-const PIECE: usize = 4096;
+/// How many bytes are asked for at a call.
+pub const PIECE: usize = 4096;
+
+/// Reads the next bytes of a source by one call, `room` at most: none where the input has ended. Where more come they
+/// are `TooLong`; they are lost then.
+#[tactic(auto, using(crate::specs::TextLaws::taking))]
+pub fn read_piece<'a, S: Source>(
+    source: &mut S,
+    buf: &'a mut [u8],
+    room: usize,
+) -> Result<&'a [u8], ReadError>
+    requires some { 0 < length buf.old }
+    ensures within { IfOk result (λ piece. length piece.now ≤ room) }
+    ensures taken { IfOk result (λ piece. Consumes (S.left source.old) (S.left source.new) piece.now) }
+    ensures end { IfOk result (λ piece. length piece.now ≡ 0 → IsAtEnd (S.left source.new)) }
+    ensures too_long { IsErrOf result ReadError.TooLong → TakesBeyond room (S.left source.old) (S.left source.new) }
+    ensures only_if_rose { IsErrOf result ReadError.ReadFault →
+        Rose (S.faults source.old) (S.faults source.new) }
+    ensures quiet { (IsErrOf result ReadError.ReadFault → ⊥) → S.faults source.new ≡ S.faults source.old }
+    ensures front { TakesFront (S.left source.old) (S.left source.new) }
+    ensures never_falls { S.faults source.old ≤ S.faults source.new }
+{
+    match source.read(buf) {
+        Err(Failed) => Err(ReadError::ReadFault),
+        Ok(count) if count > room => Err(ReadError::TooLong),
+        Ok(count) => {
+            let (piece, _) = buf.split_at(count);
+            Ok(piece)
+        }
+    }
+}
 
 /// Reads all bytes to the end of the input. After an error the bytes read so far are lost, and the
 /// rest is left in the source.
@@ -58,17 +87,11 @@ pub fn read_all<S: Source>(
     let mut buf = [0u8; PIECE];
     // Each turn but the last takes at least one byte.
     for _turn in 0..=limit {
-        match source.read(&mut buf) {
-            Err(Failed) => return Err(ReadError::ReadFault),
-            Ok(0) => return Ok(all),
-            Ok(count) => {
-                if count > limit - all.len() {
-                    return Err(ReadError::TooLong);
-                }
-                let (piece, _) = buf.split_at(count);
-                all.extend_from_slice(piece)?;
-            }
+        let piece = read_piece(source, &mut buf, limit - all.len())?;
+        if piece.is_empty() {
+            return Ok(all);
         }
+        all.extend_from_slice(piece)?;
     }
     unreachable!()
 }

@@ -1,6 +1,6 @@
 //! Settings of exact synthesis as data with ranges and defaults, for whoever parses them, searches
-//! by them or writes them into a certificate. The crate stands on `op_basis` for bases, and on
-//! nothing that encodes, searches or parses.
+//! by them or writes them into a certificate. The crate stands on `op_basis` for bases and on
+//! `chain_theory` for the most steps of a chain, and on nothing that encodes, searches or parses.
 //!
 //! `specs/Synth.antt` says which settings are in their ranges (`IsInRange`), and which are the
 //! defaults (`usual`); `specs/Methods.antt` has the name of each method. A name is that of one
@@ -16,5 +16,6 @@ pub mod laws;
 mod methods;
 mod synth;
 
+pub use chain_theory::MOST_STEPS;
 pub use methods::{Method, method_name, method_named};
-pub use synth::{MOST_CONFLICTS, MOST_STEPS, SynthSettings};
+pub use synth::{MOST_CONFLICTS, SynthSettings};

@@ -3,10 +3,8 @@ ghost use Rattle.std.specs.Prelude.{◌≡◌};
 ghost use Rattle.settings.specs.Synth.{usual, IsInRange};
 
 use crate::methods::Method;
+use chain_theory::MOST_STEPS;
 use op_basis::Basis;
-
-/// The greatest `max`.
-pub const MOST_STEPS: u32 = 16;
 
 /// The greatest `conflicts`.
 pub const MOST_CONFLICTS: u32 = 10_000_000;

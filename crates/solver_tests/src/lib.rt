@@ -11,6 +11,8 @@ mod heaps;
 #[cfg(test)]
 mod pigeons;
 #[cfg(test)]
+mod probing;
+#[cfg(test)]
 mod solving;
 #[cfg(test)]
 mod trails;

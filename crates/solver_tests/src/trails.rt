@@ -45,14 +45,6 @@ fn fell(trail: &Trail, places: &[(i32, u32)]) -> bool {
     true
 }
 
-/// Whether the first free literal is this one.
-fn is_free(trail: &Trail, number: i32) -> bool {
-    match trail.free_literal() {
-        Some(lit) => lit.get() == number,
-        None => false,
-    }
-}
-
 /// Literals with their reasons, and whether they can be pushed.
 const PUSHED: &[(i32, u32, bool)] = &[(2, 0, true), (-1, 7, true), (1, 8, false), (4, 9, false)];
 
@@ -77,7 +69,7 @@ fn tells(alloc: Global, trail: &Trail) -> Result<bool, AllocError> {
     let assign = trail.assignment(alloc)?;
     let told = assign.bits() == BITS;
     drop(assign);
-    Ok(told && fell(trail, FALLS) && is_free(trail, -3))
+    Ok(told && fell(trail, FALLS))
 }
 
 /// Whether the trail goes back behind its first literal.
@@ -86,7 +78,7 @@ fn goes_back(trail: &mut Trail) -> bool {
         return false;
     }
     trail.back_to(1);
-    trail.len() == 1 && fell(trail, &[(1, 0)]) && is_free(trail, -1)
+    trail.len() == 1 && fell(trail, &[(1, 0)])
 }
 
 /// Whether a trail goes on and back.

@@ -1,13 +1,10 @@
--- What the loops keep: that no number yet passes, and the outs so far.
-use Rattle.std.proofs.Common.{◌≡◌, ℕ, ◌+◌, ◌-◌, ◌<◌, ◌≤◌, true, false, Bool, [], ◌∷◌, ◌++◌, length, refl, add-one, arith}
+-- What the loops keep: that no number yet passes.
+use Rattle.std.proofs.Common.{◌≡◌, ℕ, zero, suc, ◌+◌, ◌<◌, ◌≤◌, ◌⊎◌, true, false, Bool, cond, refl, sym, add-one, arith, inl, inr, ◌∙◌}
+use Rattle.std.specs.Prelude.{if◌then◌else◌}
 use Rattle.std.proofs.lemmas.Grind.{common_steps}
-use Rattle.chain_theory.specs.Operator.{Basis}
-use Rattle.chain_theory.specs.Specification.{Specification}
-use Rattle.tt_core.specs.Words.{Words}
-use Rattle.bound_core.specs.Counts.{some_below}
-use Rattle.bound_core.specs.CountLaws.{passes_some}
-use Rattle.op_basis.specs.WordOperator.{input_word}
-use Rattle.step_core.specs.Steps.{misses, meets_all, serves, pair_serves, IsServing, out_for, outs_among}
+use Rattle.std.proofs.lemmas.Bool.{cases_Bool}
+use Rattle.bound_core.specs.Counts.{some_below, count_below}
+use Rattle.bound_core.specs.CountLaws.{passes_some, some_passes, true_false}
 
 -- no number yet
 pub some_none : (test : ℕ → Bool) → some_below test 0 ≡ false
@@ -25,34 +22,72 @@ some_at test k bound here low = passes_some test bound k low here
 
 pub ruleset passing = (common_steps, some_none, some_more, some_at)
 
--- ---- an output that is missed
+-- ---- counts
 
-pub missed_at : (w : Words) (word i : ℕ) → misses w word i ≡ true → i < length w.on → false ≡ meets_all w word
-unfolding meets_all
-missed_at w word i missed low = let some : some_below (misses w word) (length w.on) ≡ true = passes_some (misses w word) (length w.on) i low missed in rw some refl
+pub count_none : (test : ℕ → Bool) → count_below test 0 ≡ 0
+unfolding count_below
+count_none test = refl
 
--- ---- a pair
+pub count_more : (test : ℕ → Bool) (k : ℕ) → count_below test (k + 1) ≡ count_below test k + cond (test k) 1 0
+unfolding count_below
+count_more test k = rw add-one refl
 
-pub serving_is : (w : Words) (basis : Basis) (j k op : ℕ) → 1 ≤ j → j ≤ w.n → 1 ≤ k → k ≤ w.n → op < 16 → serves w basis (input_word (w.n - j)) (input_word (w.n - k)) op ≡ true → IsServing w basis (record { j = j; k = k; op = op })
-serving_is w basis j k op j_from j_to k_from k_to op_below served = record {
-  at = record { j_from = j_from; j_below = omega arith; k_from = k_from; k_below = omega arith; op_below = op_below };
-  served = served;
-}
+pub count_few : (test : ℕ → Bool) (k : ℕ) → count_below test k ≤ k
+unfolding count_below
+count_few test zero = omega arith
+count_few test (suc k) = omega (arith, count_few test k, bit_few (test k))
+  where
+    bit_few : (b : Bool) → (if b then 1 else 0) ≤ 1
+    bit_few true = omega arith
+    bit_few false = omega arith
 
-pub pair_is : (w : Words) (basis : Basis) (j k : ℕ) → some_below (serves w basis (input_word (w.n - j)) (input_word (w.n - k))) 16 ≡ false → pair_serves w basis j k ≡ false
-unfolding pair_serves
-pair_is w basis j k e = e
+pub ruleset counting = (common_steps, count_none, count_more)
 
-pub ruleset serving = (common_steps, serving_is, pair_is)
+-- what passes is split between two tests
+pub count_split : (a b c : ℕ → Bool) (k : ℕ) → ((i : ℕ) → i < k → a i ≡ true → (b i ≡ true) ⊎ (c i ≡ true)) → count_below a k ≤ count_below b k + count_below c k
+unfolding count_below
+count_split a b c zero each = omega arith
+count_split a b c (suc k) each = omega (arith, count_split a b c k (λ i low. each i (omega (arith, low))), bits (a k) (b k) (c k) (each k (omega arith)))
+  where
+    bits : (x y z : Bool) → (x ≡ true → (y ≡ true) ⊎ (z ≡ true)) → (if x then 1 else 0) ≤ (if y then 1 else 0) + (if z then 1 else 0)
+    bits false y z e = omega arith
+    bits true true z e = omega arith
+    bits true false true e = omega arith
+    bits true false false e = elim (e refl) [
+      | inl p ↦ absurd cc
+      | inr q ↦ absurd cc
+    ]
 
--- ---- outs
+pub count_zero : (test : ℕ → Bool) (k : ℕ) → ((i : ℕ) → i < k → test i ≡ false) → count_below test k ≡ 0
+unfolding count_below
+count_zero test zero each = refl
+count_zero test (suc k) each = rw (count_zero test k (λ i low. each i (omega (arith, low))), each k (omega arith)) refl
 
-pub outs_none : (s : Specification) → outs_among s 0 ≡ []
-unfolding outs_among
-outs_none s = refl
+-- at most one passes, where no two do
+pub count_one : (test : ℕ → Bool) (k : ℕ) → ((i j : ℕ) → i < j → j < k → test i ≡ true → test j ≡ true → ⊥) → count_below test k ≤ 1
+unfolding count_below
+count_one test zero apart = omega arith
+count_one test (suc k) apart = elim (cases_Bool (test k)) [
+  | inl last ↦
+      let none : count_below test k ≡ 0 = count_zero test k (λ i low. not_true (test i) (λ e. apart i k low (omega arith) e last)) in
+      rw (none, last) (omega arith)
+  | inr other ↦ rw other (omega (arith, count_one test k (λ i j less low. apart i j less (omega (arith, low)))))
+]
+  where
+    not_true : (b : Bool) → (b ≡ true → ⊥) → b ≡ false
+    not_true true e = absurd (e refl)
+    not_true false e = refl
 
-pub outs_more : (s : Specification) (k : ℕ) → outs_among s (k + 1) ≡ outs_among s k ++ out_for s (k + 1) ∷ []
-unfolding outs_among
-outs_more s k = rw add-one refl
+-- ---- numbers that don't pass
 
-pub ruleset pushing = (common_steps, outs_none, outs_more)
+pub none_passes : (test : ℕ → Bool) (k t : ℕ) → some_below test k ≡ false → t < k → test t ≡ false
+none_passes test k t none low = elim (cases_Bool (test t)) [
+  | inl passes ↦ absurd (true_false (sym (passes_some test k t low passes) ∙ none))
+  | inr fails ↦ fails
+]
+
+pub all_fail : (test : ℕ → Bool) (k : ℕ) → ((t : ℕ) → t < k → test t ≡ false) → some_below test k ≡ false
+all_fail test k each = elim (cases_Bool (some_below test k)) [
+  | inl some ↦ let found = some_passes test k some in absurd (true_false (sym found.2 ∙ each found.0 found.1))
+  | inr none ↦ none
+]

@@ -1,21 +1,21 @@
--- Chains of at most one step that agree with a specification.
-use Rattle.std.specs.Prelude.{◌≤◌, length, Option, Some, None}
+-- Chains of few steps that agree with a specification.
+use Rattle.std.specs.Prelude.{ℕ, ◌+◌, ◌≤◌, length, Option, Some, None}
 use Rattle.chain_theory.specs.Chain.{Chain}
 use Rattle.chain_theory.specs.Operator.{Basis}
 use Rattle.chain_theory.specs.Specification.{Specification}
 use Rattle.chain_theory.specs.Agreement.{IsOver, Agrees, NoneBelow}
 use Rattle.chain_core.specs.Steps.{IsSmallChain}
 
--- a chain over the basis that agrees, of at most one step, where none of fewer steps does
+-- a chain over the basis that agrees, of at most as many steps as the number says, where none of fewer steps does
 -- Example: NOT of one input over NAND alone is the step j = 1, k = 1, op = 14 with the out Place 2.
-pub record IsShort (s : Specification) (basis : Basis) (c : Chain) : Type 0 where
+pub record IsShort (s : Specification) (basis : Basis) (most : ℕ) (c : Chain) : Type 0 where
   pub small : IsSmallChain c
-  pub few : length c.steps ≤ 1
+  pub few : length c.steps ≤ most
   pub over : IsOver basis c
   pub agrees : Agrees c s
   pub least : NoneBelow s basis (length c.steps)
 
 -- such a chain, or that there is none, of all chains over the basis
-abbrev pub IsAnswer : Specification → Basis → Option Chain → Type 0
-IsAnswer s basis (Some c) = IsShort s basis c
-IsAnswer s basis None = NoneBelow s basis 2
+abbrev pub IsAnswer : Specification → Basis → ℕ → Option Chain → Type 0
+IsAnswer s basis most (Some c) = IsShort s basis most c
+IsAnswer s basis most None = NoneBelow s basis (most + 1)

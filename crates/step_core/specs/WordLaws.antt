@@ -1,31 +1,36 @@
--- The rows of words: those of inputs and of a step, and what it is to meet an output.
-use Rattle.std.proofs.Common.{◌≡◌, ◌∙◌, ℕ, zero, suc, ◌+◌, ◌-◌, ◌^◌, ◌≤◌, ◌<◌, Bool, true, false, ◌&&◌, not, refl, ap, ap₂, sym, arith, inl, inr}
+-- The rows of words: those of places, and what it is to meet an output.
+use Rattle.std.proofs.Common.{◌≡◌, ◌∙◌, ℕ, zero, suc, ◌+◌, ◌-◌, ◌^◌, ◌≤◌, ◌<◌, Bool, true, false, ◌&&◌, not, List, length, refl, ap, ap₂, sym, arith, inl, inr}
 use Rattle.std.specs.Prelude.{bit_and, bit_xor, ◌==◌, slice_index, if◌then◌else◌}
 use Rattle.std.specs.Int.{bit_at}
 use Rattle.std.proofs.lemmas.Grind.{common_steps}
 use Rattle.std.proofs.lemmas.Bool.{cases_lt}
 use Rattle.std.proofs.lemmas.Bool.Decides.{nat_tests}
 use Rattle.std.proofs.lemmas.Nat.Bits.{bit_at-zero, bit_at-lt, same_from_bits}
-use Rattle.chain_theory.specs.Operator.{apply, digit}
-use Rattle.chain_theory.specs.Specification.{input}
+use Rattle.chain_theory.specs.Operator.{digit}
+use Rattle.chain_theory.specs.Chain.{Step, AreSteps}
+use Rattle.chain_theory.specs.Value.{values_on}
+use Rattle.chain_laws.specs.Follow.{run, run_below, run_follows, values_are, IsLocal, FollowsAt, AreStepsAt}
 use Rattle.chain_theory.specs.Agreement.{is_met}
 use Rattle.chain_theory.specs.declared.data.Cell.TheVariants.{Zero, One, Free}
 use Rattle.tt_core.specs.Words.{Words, IsSpec, cell_of}
-use Rattle.tt_core.specs.RowLaws.{row_below}
 use Rattle.bound_core.specs.CountLaws.{no_digit}
 use Rattle.op_basis.specs.WordOperator.{differ, on_words, input_word}
 use Rattle.op_basis.specs.WordOperatorLaws.{digit_and, digit_xor, on_words_bit, input_digit}
-use Rattle.step_core.specs.Steps.{misses}
+use Rattle.step_core.specs.Steps.{misses, step_word, word_in}
 
--- ---- the word of a step
+-- ---- the words of places
 
--- a step on two inputs, on a row
-pub step_row : (n op j k t : ℕ) → n ≤ 6 → 1 ≤ j → j ≤ n → 1 ≤ k → k ≤ n → t < 2 ^ n → digit (on_words op (input_word (n - j)) (input_word (n - k))) t ≡ apply op (input n t j) (input n t k)
-step_row n op j k t few j_from j_to k_from k_to inside =
-    let rows = row_below n few in
-    let low : t < 64 = omega arith in
-    on_words_bit op (input_word (n - j)) (input_word (n - k)) t low
-    ∙ ap₂ (λ (a b : Bool). apply op a b) (input_digit (n - j) t (omega arith) low) (input_digit (n - k) t (omega arith) low)
+-- on a row the word of a place has the place's value
+pub word_row : (n t : ℕ) (steps : List Step) (p : ℕ) → n ≤ 6 → AreSteps n steps → t < 64 → 1 ≤ p → p ≤ n + length steps → digit (word_in n steps p) t ≡ values_on n t steps p
+unfolding word_in
+word_row n t steps p few are low from to =
+    let at : AreStepsAt (n + 1) steps = record { each = are.each } in
+    let local : IsLocal step_word = record { same = λ a b s j k. ap₂ (on_words s.op) j k } in
+    let follows : FollowsAt step_word (run step_word (λ q. input_word (n - q)) (n + 1) steps) (n + 1) steps = run_follows step_word local (λ q. input_word (n - q)) (n + 1) steps at in
+    sym (values_are n t (λ q. digit (run step_word (λ r. input_word (n - r)) (n + 1) steps q) t) steps are
+    (λ q q_from q_to. ap (λ (x : ℕ). digit x t) (run_below step_word (λ r. input_word (n - r)) (n + 1) steps q (omega arith)) ∙ input_digit (n - q) t (omega arith) low)
+    (λ i s is. ap (λ (x : ℕ). digit x t) (follows.each i s is) ∙ on_words_bit s.op (run step_word (λ r. input_word (n - r)) (n + 1) steps s.j) (run step_word (λ r. input_word (n - r)) (n + 1) steps s.k) t low)
+    p from (omega arith))
 
 -- ---- outputs that are met
 
@@ -48,7 +53,7 @@ bit_met true false false e = refl
 missed_digit : (word on care t : ℕ) → digit (bit_and (bit_xor word on) care) t ≡ (differ (digit word t) (digit on t) && digit care t)
 missed_digit word on care t = digit_and (bit_xor word on) care t ∙ ap (λ (x : Bool). x && digit care t) (digit_xor word on t)
 
-zero_is : (x : ℕ) → not (x == 0) ≡ false → x ≡ 0
+pub zero_is : (x : ℕ) → not (x == 0) ≡ false → x ≡ 0
 zero_is zero e = refl
 zero_is (suc x) e = grind (arith, common_steps, nat_tests)
 

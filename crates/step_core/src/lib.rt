@@ -1,21 +1,32 @@
-//! Whether a specification has a chain of at most one step, by going over all of them.
+//! Whether a specification has a chain of few steps, by going over all chains that a least one may be taken from. Nothing is
+//! searched by a solver, and nothing stays open.
 //!
-//! It stands on `tt_core` for the outputs that are a constant or an input at no cost and for those that are live, and
-//! on `chain_core` for chains. Each live output has to be the one step. So the walk goes over the members of the basis
-//! and over pairs of inputs, equal ones and both orders too, as steps may have them, and compares the step's values with
-//! what the live outputs ask for, all rows at once. Nothing is searched, and nothing stays open.
+//! It stands on `tt_core` for the outputs that are a constant or an input at no cost and for those that are live, on
+//! `chain_core` for chains, and on `chain_laws` for the normal form of a least chain. Sizes are tried in turn, from 0 steps
+//! on. So where a size is tried, no chain of fewer steps agrees, and some chain of that size is reduced, if any agrees. The
+//! walk places a step after another (`trail`: each with the word of its values on all rows), and leaves out what no reduced
+//! chain has (`cuts`):
+//!
+//! - Of the outputs that differ, no two are at one step. More of them than steps are left end the walk, and as many ask each
+//!   step to be one.
+//! - Pairs of operands come in their order, the first operand below the second, where the basis lets operands be exchanged.
+//! - An operator needs both operands, and one operand twice is negated.
+//! - A step that is no output is 0 on row 0, where the basis has complements.
 //!
 //! ```text
-//! one_step(alloc, &spec, basis)? // Some(chain) of at most one step, or None: no chain over the basis has so few
+//! few_steps(alloc, &spec, basis, 4)? // Some(chain) of at most four steps, the fewest, or None: no chain over the basis has so few
 //! ```
 #![tactic(auto)]
 
+mod cuts;
 mod outs;
+mod rules;
 mod short;
+mod trail;
 mod walk;
 mod words;
 
 pub use chain_core::Chain;
 pub use op_basis::Basis;
-pub use short::one_step;
+pub use short::few_steps;
 pub use tt_core::Spec;

@@ -1,32 +1,63 @@
-//! The outs of a chain of at most one step: each output is its trivial out where it has one, and else the step.
-ghost use Rattle.std.specs.Prelude.{◌≡◌, ◌≤◌, length, IfOk};
+//! The outs of a chain: each output is its trivial out where it has one, and else a step that has its values.
+ghost use Rattle.std.specs.Prelude.{◌≡◌, ◌+◌, ◌-◌, ◌≤◌, ◌<◌, true, false, length, IfSome, IfNone, IfOk};
 ghost use Rattle.tt_core.specs.Words.{specification};
-ghost use Rattle.step_core.specs.Steps.{out_for as out_for_of, outs_among};
+ghost use Rattle.tt_core.specs.Live.{is_live};
+ghost use Rattle.step_core.specs.Steps.{is_met as is_met_of};
+ghost use Rattle.step_core.specs.Outs.{HasValues, IsOutFor, AreMet, AreOuts};
 
+use crate::trail::Trail;
+use crate::words::meets_at;
 use chain_core::Out;
 use std::alloc::{AllocError, Global};
 use tt_core::{Spec, trivial};
 
-/// The out of output `h`.
-#[tactic(auto, unfolding(crate::specs::Steps::out_for))]
-fn out_for(spec: &Spec, h: u32) -> Out
-    requires { (1 ≤ h) × (h ≤ length spec.now.on) }
-    ensures { result ≡ out_for_of (specification spec.now) h }
+/// The place of a step that has the values of an output, counted from 0.
+#[tactic(auto, using(crate::specs::OutLaws::sitting), unfolding(crate::specs::Steps::is_met))]
+fn step_for(spec: &Spec, trail: &Trail, output: u32) -> Option<u32>
+    requires inputs { trail.now.n ≡ spec.now.n }
+    requires output { output < length spec.now.on }
+    ensures some { IfSome result (λ place. HasValues spec.now trail.now.steps output place) }
+    ensures none { IfNone result (is_met_of spec.now trail.now.steps output ≡ false) }
 {
+    for index in 0..trail.len() {
+        if meets_at(spec, trail, output, index) {
+            return Some(trail.n() + 1 + index);
+        }
+    }
+    None
+}
+
+/// The out of output `h`.
+#[tactic(auto, using(crate::specs::OutLaws::sitting))]
+fn out_for(spec: &Spec, trail: &Trail, h: u32) -> Out
+    requires inputs { trail.now.n ≡ spec.now.n }
+    requires output { (1 ≤ h) × (h ≤ length spec.now.on) }
+    requires met { is_live (specification spec.now) h ≡ true → is_met_of spec.now trail.now.steps (h - 1) ≡ true }
+    ensures { IsOutFor spec.now trail.now.steps h result }
+{
+    // bring the invariants into the proof
+    let _inputs = spec.n();
+    let _steps = trail.len();
     match trivial(spec, h) {
         Some(out) => out,
-        None => Out::Place(spec.n() + 1),
+        None => match step_for(spec, trail, h - 1) {
+            Some(place) => Out::Place(place),
+            None => unreachable!(),
+        },
     }
 }
 
 /// The outs of all outputs.
-#[tactic(auto, using(crate::specs::SearchLaws::pushing))]
-pub(crate) fn outs_for(alloc: Global, spec: &Spec) -> Result<Vec<Out>, AllocError>
-    ensures { IfOk result (λ outs. outs.items ≡ outs_among (specification spec.now) (length spec.now.on)) }
+#[tactic(auto, using(crate::specs::OutLaws::sitting))]
+pub(crate) fn outs_for(alloc: Global, spec: &Spec, trail: &Trail) -> Result<Vec<Out>, AllocError>
+    requires inputs { trail.now.n ≡ spec.now.n }
+    requires met { AreMet spec.now trail.now.steps }
+    ensures count { IfOk result (λ outs. length outs.items ≡ length spec.now.on) }
+    ensures each { IfOk result (λ outs. AreOuts spec.now trail.now.steps outs.items) }
 {
     let mut outs = Vec::new(alloc);
     for before in 0..spec.outputs() {
-        outs.push(out_for(spec, before + 1))?;
+        outs.push(out_for(spec, trail, before + 1))?;
     }
     Ok(outs)
 }

@@ -1,59 +1,94 @@
-//! A chain of at most one step, or that there is none.
-ghost use Rattle.std.specs.Prelude.{◌≡◌, ◌<◌, length, IfOk};
-ghost use Rattle.chain_theory.specs.Operator.{Basis as Operators};
+//! A chain of at most as many steps as are allowed, or that there is none: sizes in turn, each gone over whole.
+ghost use Rattle.std.specs.Prelude.{◌≡◌, ◌≤◌, [], length, IfOk, IfSome, IfNone};
 ghost use Rattle.op_basis.specs.Basis.{members};
 ghost use Rattle.tt_core.specs.Words.{specification};
 ghost use Rattle.tt_core.specs.Live.{live_words};
-ghost use Rattle.chain_core.specs.Steps.{step_of};
+ghost use Rattle.chain_theory.specs.Agreement.{NoneBelow};
 ghost use Rattle.step_core.specs.Short.{IsShort, IsAnswer};
 ghost use Rattle.step_core.specs.Steps.{IsServing};
+ghost use Rattle.step_core.specs.Walks.{NoneFrom};
 
 use crate::outs::outs_for;
-use crate::walk::serving_step;
-use chain_core::{Chain, Step};
+use crate::rules::Rules;
+use crate::trail::Trail;
+use crate::walk::walk;
+use chain_core::Chain;
 use op_basis::Basis;
 use std::alloc::{AllocError, Global};
 use tt_core::{Spec, live_part};
 
-/// The chain without steps, where no output is live.
+/// The chain of the steps that serve the live outputs.
 #[tactic(auto, using(crate::specs::ShortLaws::answering))]
-fn without_step(alloc: Global, spec: &Spec) -> Result<Chain, AllocError>
-    requires { length (live_words spec.now).on ≡ 0 }
-    ensures { (basis : Operators) → IfOk result (λ chain. IsShort (specification spec.now) basis chain) }
+fn chain_of(alloc: Global, spec: &Spec, basis: Basis, trail: Trail) -> Result<Chain, AllocError>
+    requires inputs { trail.n ≡ spec.now.n }
+    requires serving { IsServing (live_words spec.now) (members basis) trail.steps }
+    requires least { NoneBelow (specification spec.now) (members basis) (length trail.steps) }
+    ensures { IfOk result (λ chain. IsShort (specification spec.now) (members basis) (length trail.steps) chain) }
 {
-    let outs = outs_for(alloc, spec)?;
-    Ok(Chain::new(spec.n(), Vec::new(alloc), outs))
+    // bring the invariants into the proof
+    let _inputs = spec.n();
+    let n = trail.n();
+    let outs = outs_for(alloc, spec, &trail)?;
+    Ok(Chain::new(n, trail.into_steps(), outs))
 }
 
-/// The chain of one step that serves the live outputs.
-#[tactic(auto, using(crate::specs::ShortLaws::answering))]
-fn with_step(alloc: Global, spec: &Spec, basis: Basis, step: Step) -> Result<Chain, AllocError>
-    requires some { 0 < length (live_words spec.now).on }
-    requires serving { IsServing (live_words spec.now) (members basis) (step_of step) }
-    ensures { IfOk result (λ chain. IsShort (specification spec.now) (members basis) chain) }
+/// As many steps as are asked for that serve all outputs.
+fn serving_steps(
+    alloc: Global,
+    spec: &Spec,
+    basis: Basis,
+    size: u32,
+) -> Result<Option<Trail>, AllocError>
+    requires { size ≤ 6 }
+    ensures inputs { IfOk result (λ found. IfSome found (λ trail. trail.n ≡ spec.now.n)) }
+    ensures serving { IfOk result (λ found. IfSome found (λ trail. IsServing spec.now (members basis) trail.steps)) }
+    ensures size { IfOk result (λ found. IfSome found (λ trail. length trail.steps ≡ size)) }
+    ensures none { IfOk result (λ found. IfNone found (NoneFrom spec.now (members basis) [] size)) }
 {
-    let outs = outs_for(alloc, spec)?;
-    let mut steps = Vec::new(alloc);
-    steps.push(step)?;
-    Ok(Chain::new(spec.n(), steps, outs))
+    let mut trail = Trail::new(alloc, spec.n())?;
+    let rules = Rules::new(basis);
+    if walk(spec, &rules, &mut trail, size)? {
+        return Ok(Some(trail));
+    }
+    Ok(None)
 }
 
-/// A chain of at most one step over the basis that agrees with the specification, without a step where that does, or None
-/// where there is none, of all chains over the basis of the definition: also with equal operands, and with operands in any
-/// order.
+/// The steps of the least size at which some serve the live outputs, as a chain.
 #[tactic(auto, using(crate::specs::ShortLaws::answering))]
-pub fn one_step(alloc: Global, spec: &Spec, basis: Basis) -> Result<Option<Chain>, AllocError>
-    ensures { IfOk result (λ found. IsAnswer (specification spec.now) (members basis) found) }
+fn first_size(
+    alloc: Global,
+    spec: &Spec,
+    live: &Spec,
+    basis: Basis,
+    most: u32,
+) -> Result<Option<Chain>, AllocError>
+    requires most { most ≤ 6 }
+    requires live { live.now ≡ live_words spec.now }
+    ensures { IfOk result (λ found. IsAnswer (specification spec.now) (members basis) most found) }
 {
-    let live = live_part(alloc, spec)?;
     // bring the invariants of both specifications into the proof
     let _inputs = spec.n();
     let _same_inputs = live.n();
-    if live.outputs() == 0 {
-        return Ok(Some(without_step(alloc, spec)?));
+    for size in 0..most + 1 {
+        if let Some(trail) = serving_steps(alloc, live, basis, size)? {
+            return Ok(Some(chain_of(alloc, spec, basis, trail)?));
+        }
     }
-    match serving_step(&live, basis) {
-        Some(step) => Ok(Some(with_step(alloc, spec, basis, step)?)),
-        None => Ok(None),
-    }
+    Ok(None)
+}
+
+/// A chain of at most `most` steps over the basis that agrees with the specification, with the fewest steps, or None where
+/// there is none, of all chains over the basis of the definition: also with equal operands, with operands in any order, and
+/// with steps that nothing reads.
+pub fn few_steps(
+    alloc: Global,
+    spec: &Spec,
+    basis: Basis,
+    most: u32,
+) -> Result<Option<Chain>, AllocError>
+    requires { most ≤ 6 }
+    ensures { IfOk result (λ found. IsAnswer (specification spec.now) (members basis) most found) }
+{
+    let live = live_part(alloc, spec)?;
+    first_size(alloc, spec, &live, basis, most)
 }

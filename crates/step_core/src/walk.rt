@@ -1,94 +1,173 @@
-//! The walk over operators and pairs of inputs.
-ghost use Rattle.std.specs.Prelude.{◌≡◌, ◌≤◌, ◌<◌, true, false, IfSome, IfNone};
+//! The walk: each step that may come next is placed, and from there the walk goes on, until as many steps as are asked for
+//! are placed.
+ghost use Rattle.std.specs.Prelude.{◌≡◌, ◌+◌, ◌≤◌, true, length, IfOk};
 ghost use Rattle.op_basis.specs.Basis.{members};
+ghost use Rattle.chain_theory.specs.Chain.{IsStepAt};
 ghost use Rattle.chain_core.specs.Steps.{step_of};
-ghost use Rattle.bound_core.specs.Counts.{some_below};
-ghost use Rattle.step_core.specs.Steps.{serves as serves_of, pair_serves, second_serves, first_serves, IsServing};
+ghost use Rattle.step_core.specs.Cuts.{due as due_of};
+ghost use Rattle.step_core.specs.Walks.{IsWalking, IsWalked, NoneFrom, NoneWith, HasLarger, HasPair, HasOperands, IsThe};
 
-use crate::words::serves;
+use crate::cuts::{due, is_plain, may_come, may_follow};
+use crate::rules::Rules;
+use crate::trail::Trail;
+use crate::words::all_met;
 use chain_core::Step;
-use op_basis::{Basis, Op, input_word};
+use op_basis::Op;
+use std::alloc::AllocError;
 use tt_core::Spec;
 
-/// The first operator that serves on two words.
-#[tactic(auto, using(crate::specs::SearchLaws::passing))]
-fn operator_on(spec: &Spec, basis: Basis, a: u64, b: u64) -> Option<Op>
-    ensures below { IfSome result (λ op. op < 16) }
-    ensures some { IfSome result (λ op. serves_of spec.now (members basis) a b op ≡ true) }
-    ensures none { IfNone result (some_below (serves_of spec.now (members basis) a b) 16 ≡ false) }
+/// Goes over all ways to place `left` more steps. Where one serves, the trail has it.
+#[cycle(walking)]
+#[tactic(auto, using(crate::specs::WalkLaws::walking))]
+pub(crate) fn walk(
+    spec: &Spec,
+    rules: &Rules,
+    trail: &mut Trail,
+    left: u32,
+) -> Result<bool, AllocError>
+    requires walking { IsWalking spec.now (members rules.now) trail.old left }
+    ensures { IfOk result (IsWalked spec.now (members rules.now) left trail.old trail.new (NoneFrom spec.now (members rules.now) trail.old.steps left)) }
+{
+    let places = trail.n() + trail.len();
+    if left == 0 {
+        return Ok(all_met(spec, trail));
+    }
+    let due = due(spec, trail);
+    if due > left {
+        return Ok(false);
+    }
+    for before in 0..places {
+        if walk_larger(spec, rules, trail, left, due, before + 1)? {
+            return Ok(true);
+        }
+    }
+    Ok(false)
+}
+
+/// The ways whose next step has the larger operand `high`.
+#[cycle(walking)]
+#[tactic(auto, using(crate::specs::WalkLaws::walking))]
+fn walk_larger(
+    spec: &Spec,
+    rules: &Rules,
+    trail: &mut Trail,
+    left: u32,
+    due: u32,
+    high: u32,
+) -> Result<bool, AllocError>
+    requires walking { IsWalking spec.now (members rules.now) trail.old left }
+    requires some { 1 ≤ left }
+    requires due { due ≡ due_of spec.now trail.old.steps }
+    requires high { high ≤ trail.old.n + length trail.old.steps }
+    ensures { IfOk result (IsWalked spec.now (members rules.now) left trail.old trail.new (NoneWith spec.now (members rules.now) trail.old.steps left (HasLarger high))) }
+{
+    for before in 0..high {
+        if walk_pair(spec, rules, trail, left, due, before + 1, high)? {
+            return Ok(true);
+        }
+    }
+    Ok(false)
+}
+
+/// The ways whose next step has these operands, in either order.
+#[cycle(walking)]
+#[tactic(auto, using(crate::specs::WalkLaws::walking))]
+fn walk_pair(
+    spec: &Spec,
+    rules: &Rules,
+    trail: &mut Trail,
+    left: u32,
+    due: u32,
+    low: u32,
+    high: u32,
+) -> Result<bool, AllocError>
+    requires walking { IsWalking spec.now (members rules.now) trail.old left }
+    requires some { 1 ≤ left }
+    requires due { due ≡ due_of spec.now trail.old.steps }
+    requires low_from { 1 ≤ low }
+    requires low { low ≤ high }
+    requires high { high ≤ trail.old.n + length trail.old.steps }
+    ensures { IfOk result (IsWalked spec.now (members rules.now) left trail.old trail.new (NoneWith spec.now (members rules.now) trail.old.steps left (HasPair low high))) }
+{
+    if !may_follow(trail, low, high) {
+        return Ok(false);
+    }
+    if walk_operators(spec, rules, trail, left, due, low, high)? {
+        return Ok(true);
+    }
+    if low == high {
+        return Ok(false);
+    }
+    if rules.rises() {
+        return Ok(false);
+    }
+    if walk_operators(spec, rules, trail, left, due, high, low)? {
+        return Ok(true);
+    }
+    Ok(false)
+}
+
+/// The ways whose next step has these operands in this order.
+#[cycle(walking)]
+#[tactic(auto, using(crate::specs::WalkLaws::walking))]
+fn walk_operators(
+    spec: &Spec,
+    rules: &Rules,
+    trail: &mut Trail,
+    left: u32,
+    due: u32,
+    j: u32,
+    k: u32,
+) -> Result<bool, AllocError>
+    requires walking { IsWalking spec.now (members rules.now) trail.old left }
+    requires some { 1 ≤ left }
+    requires due { due ≡ due_of spec.now trail.old.steps }
+    requires j_from { 1 ≤ j }
+    requires j { j ≤ trail.old.n + length trail.old.steps }
+    requires k_from { 1 ≤ k }
+    requires k { k ≤ trail.old.n + length trail.old.steps }
+    ensures { IfOk result (IsWalked spec.now (members rules.now) left trail.old trail.new (NoneWith spec.now (members rules.now) trail.old.steps left (HasOperands j k))) }
 {
     for word in 0..16u8 {
         let op = Op::new(word);
-        if serves(spec, basis, a, b, op) {
-            return Some(op);
+        if !rules.contains(op) {
+            continue;
+        }
+        if !is_plain(rules, j, k, op) {
+            continue;
+        }
+        if walk_step(spec, rules, trail, left, due, Step { j, k, op })? {
+            return Ok(true);
         }
     }
-    None
+    Ok(false)
 }
 
-/// A step on inputs `j` and `k` that serves.
-#[tactic(auto, using(crate::specs::SearchLaws::serving))]
-fn step_on(spec: &Spec, basis: Basis, j: u32, k: u32) -> Option<Step>
-    requires first { (1 ≤ j) × (j ≤ spec.now.n) }
-    requires second { (1 ≤ k) × (k ≤ spec.now.n) }
-    ensures some { IfSome result (λ step. IsServing spec.now (members basis) (step_of step)) }
-    ensures none { IfNone result (pair_serves spec.now (members basis) j k ≡ false) }
+/// The ways whose next step is this one.
+#[cycle(walking)]
+#[tactic(auto, using(crate::specs::WalkLaws::walking))]
+fn walk_step(
+    spec: &Spec,
+    rules: &Rules,
+    trail: &mut Trail,
+    left: u32,
+    due: u32,
+    step: Step,
+) -> Result<bool, AllocError>
+    requires walking { IsWalking spec.now (members rules.now) trail.old left }
+    requires some { 1 ≤ left }
+    requires due { due ≡ due_of spec.now trail.old.steps }
+    requires member { members rules.now step.op ≡ true }
+    requires at { IsStepAt (trail.old.n + 1 + length trail.old.steps) (step_of step) }
+    ensures { IfOk result (IsWalked spec.now (members rules.now) left trail.old trail.new (NoneWith spec.now (members rules.now) trail.old.steps left (IsThe (step_of step)))) }
 {
-    let n = spec.n();
-    match operator_on(spec, basis, input_word(n - j), input_word(n - k)) {
-        Some(op) => Some(Step { j, k, op }),
-        None => None,
+    if !may_come(spec, rules, trail, left, due, step.j, step.k, step.op) {
+        return Ok(false);
     }
-}
-
-/// A step that serves whose operands are one input.
-fn equal_step(spec: &Spec, basis: Basis) -> Option<Step>
-    ensures { IfSome result (λ step. IsServing spec.now (members basis) (step_of step)) }
-{
-    for before in 0..spec.n() {
-        if let Some(step) = step_on(spec, basis, before + 1, before + 1) {
-            return Some(step);
-        }
+    trail.push(step)?;
+    if walk(spec, rules, trail, left - 1)? {
+        return Ok(true);
     }
-    None
-}
-
-/// A step that serves whose first operand is input `j`.
-#[tactic(auto, using(crate::specs::SearchLaws::passing), unfolding(crate::specs::Steps::second_serves))]
-fn second_step(spec: &Spec, basis: Basis, j: u32) -> Option<Step>
-    requires { (1 ≤ j) × (j ≤ spec.now.n) }
-    ensures some { IfSome result (λ step. IsServing spec.now (members basis) (step_of step)) }
-    ensures none { IfNone result (some_below (second_serves spec.now (members basis) j) spec.now.n ≡ false) }
-{
-    for before in 0..spec.n() {
-        if let Some(step) = step_on(spec, basis, j, before + 1) {
-            return Some(step);
-        }
-    }
-    None
-}
-
-/// A step that serves, of all that there are.
-#[tactic(auto, using(crate::specs::SearchLaws::passing), unfolding(crate::specs::Steps::first_serves))]
-fn any_step(spec: &Spec, basis: Basis) -> Option<Step>
-    ensures some { IfSome result (λ step. IsServing spec.now (members basis) (step_of step)) }
-    ensures none { IfNone result (some_below (first_serves spec.now (members basis)) spec.now.n ≡ false) }
-{
-    for before in 0..spec.n() {
-        if let Some(step) = second_step(spec, basis, before + 1) {
-            return Some(step);
-        }
-    }
-    None
-}
-
-/// A step that serves; where one on a single input does, one of those.
-pub(crate) fn serving_step(spec: &Spec, basis: Basis) -> Option<Step>
-    ensures some { IfSome result (λ step. IsServing spec.now (members basis) (step_of step)) }
-    ensures none { IfNone result (some_below (first_serves spec.now (members basis)) spec.now.n ≡ false) }
-{
-    if let Some(step) = equal_step(spec, basis) {
-        return Some(step);
-    }
-    any_step(spec, basis)
+    trail.pop();
+    Ok(false)
 }

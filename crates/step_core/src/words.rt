@@ -1,14 +1,13 @@
-//! Words of 64 rows: whether all outputs ask for the values of a word, and whether an operator makes one of two words.
+//! Words of 64 rows: which outputs ask for the values of a word, and which steps give outputs theirs.
 ghost use Rattle.std.specs.Prelude.{◌≡◌, ◌<◌, length};
-ghost use Rattle.op_basis.specs.Basis.{members};
-ghost use Rattle.step_core.specs.Steps.{misses as misses_of, meets_all as meets_all_of, serves as serves_of};
+ghost use Rattle.step_core.specs.Steps.{misses as misses_of, meets_at as meets_at_of, is_met as is_met_of, is_missing as is_missing_of, all_met as all_met_of};
 
-use op_basis::{Basis, Op, on_words};
+use crate::trail::Trail;
 use tt_core::Spec;
 
 /// Whether on some row an output, counted from 0, asks for another value than the word's.
 #[tactic(auto, unfolding(crate::specs::Steps::misses))]
-fn misses(spec: &Spec, word: u64, output: u32) -> bool
+pub(crate) fn misses(spec: &Spec, word: u64, output: u32) -> bool
     requires { output < length spec.now.on }
     ensures { result ≡ misses_of spec.now word output }
 {
@@ -17,23 +16,42 @@ fn misses(spec: &Spec, word: u64, output: u32) -> bool
     (word ^ spec.on()[output as usize]) & spec.care()[output as usize] != 0
 }
 
-/// Whether a word has the values that all outputs ask for.
-#[tactic(auto, using(crate::specs::SearchLaws::passing), unfolding(crate::specs::Steps::meets_all))]
-fn meets_all(spec: &Spec, word: u64) -> bool
-    ensures { result ≡ meets_all_of spec.now word }
+/// Whether the step of an index has the values of an output.
+#[tactic(auto, unfolding(crate::specs::Steps::meets_at))]
+pub(crate) fn meets_at(spec: &Spec, trail: &Trail, output: u32, index: u32) -> bool
+    requires inputs { trail.now.n ≡ spec.now.n }
+    requires output { output < length spec.now.on }
+    requires index { index < length trail.now.steps }
+    ensures { result ≡ meets_at_of spec.now trail.now.steps output index }
+{
+    !misses(spec, trail.word(trail.n() + 1 + index), output)
+}
+
+/// Whether some step has the values of an output.
+#[tactic(auto, using(crate::specs::SearchLaws::passing), unfolding(crate::specs::Steps::is_met))]
+pub(crate) fn is_met(spec: &Spec, trail: &Trail, output: u32) -> bool
+    requires inputs { trail.now.n ≡ spec.now.n }
+    requires output { output < length spec.now.on }
+    ensures { result ≡ is_met_of spec.now trail.now.steps output }
+{
+    for index in 0..trail.len() {
+        if meets_at(spec, trail, output, index) {
+            return true;
+        }
+    }
+    false
+}
+
+/// Whether each output has a step with its values.
+#[tactic(auto, using(crate::specs::SearchLaws::passing), unfolding(crate::specs::Steps::is_missing, crate::specs::Steps::all_met))]
+pub(crate) fn all_met(spec: &Spec, trail: &Trail) -> bool
+    requires inputs { trail.now.n ≡ spec.now.n }
+    ensures { result ≡ all_met_of spec.now trail.now.steps }
 {
     for output in 0..spec.outputs() {
-        if misses(spec, word, output) {
+        if !is_met(spec, trail, output) {
             return false;
         }
     }
     true
-}
-
-/// Whether an operator is a member and makes of two words a word that has the values of all outputs.
-#[tactic(auto, unfolding(crate::specs::Steps::serves))]
-pub(crate) fn serves(spec: &Spec, basis: Basis, a: u64, b: u64, op: Op) -> bool
-    ensures { result ≡ serves_of spec.now (members basis) a b op }
-{
-    basis.contains(op) && meets_all(spec, on_words(op, a, b))
 }

@@ -3,7 +3,7 @@ use Rattle.std.specs.Prelude.{◌≡◌, ℕ, ◌+◌, ◌<◌, ◌^◌, Bool, t
 use Rattle.chain_theory.specs.Specification.{Specification}
 use Rattle.chain_theory.specs.Chain.{Step, Chain, IsChain}
 use Rattle.chain_theory.specs.Agreement.{Agrees}
-use Rattle.net_theory.specs.declared.data.Gate.{Gate}
+use Rattle.net_theory.specs.Operators.{HasOperator}
 use Rattle.net_theory.specs.Net.{Net, sig_value, value, sink_values}
 use Rattle.window_theory.specs.Places.{among}
 use Rattle.window_theory.specs.Window.{Window, IsOutput}
@@ -47,13 +47,6 @@ pub record IsSubstituted (n : Net) (w : Window) (c : Chain) (m : Net) : Type 0 w
   pub spliced : IsSpliced n w c m
   pub values : (given : ℕ → Bool) → sink_values m given ≡ sink_values n given
 
--- some gate has the operator
-pub record IsGateOperator (n : Net) (op : ℕ) : Type 0 where
-  pub index : ℕ
-  pub gate : Gate
-  pub at : slice_get n.gates index ≡ Some gate
-  pub is : gate.op ≡ op
-
 -- some step has the operator
 pub record IsStepOperator (c : Chain) (op : ℕ) : Type 0 where
   pub index : ℕ
@@ -63,4 +56,4 @@ pub record IsStepOperator (c : Chain) (op : ℕ) : Type 0 where
 
 -- each gate of m has an operator of n or of the chain
 abbrev pub HasOldOperators : Net → Chain → Net → Type 0
-HasOldOperators n c m = (op : ℕ) → IsGateOperator m op → IsGateOperator n op ⊎ IsStepOperator c op
+HasOldOperators n c m = (op : ℕ) → HasOperator m op → HasOperator n op ⊎ IsStepOperator c op

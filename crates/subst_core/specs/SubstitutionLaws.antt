@@ -1,6 +1,6 @@
 -- A net with a chain that agrees can stand in the old one's place, and so can what is left of it.
 use Rattle.std.specs.Prelude.{◌≡◌, ℕ, zero, suc, ◌+◌, ◌≤◌, ◌<◌, Bool, true, nat_eq, not, ◌&&◌, if◌then◌else◌, List, [], ◌∷◌, length, map, slice_get, Some, refl}
-use Rattle.std.proofs.Common.{arith, sym, ◌∙◌, ap, subst, inl, inr, ⊎_elim, add-zero}
+use Rattle.std.proofs.Common.{arith, ◌∙◌, ap, subst, inl, inr, ⊎_elim, add-zero}
 use Rattle.std.proofs.lemmas.Bool.{and_parts, eq-eqb, eqb-true, cond-true, cond-false, cases_Bool, cases_lt}
 use Rattle.chain_theory.specs.Chain.{Chain}
 use Rattle.net_theory.specs.declared.data.Gate.{Gate}
@@ -8,13 +8,14 @@ use Rattle.net_theory.specs.Net.{Net, IsNet}
 use Rattle.net_theory.specs.NameLaws.{at_map}
 use Rattle.net_theory.specs.Dead.{dropped}
 use Rattle.net_theory.specs.DeadLaws.{dropped_operators}
+use Rattle.net_theory.specs.Operators.{HasOperator}
 use Rattle.net_theory.specs.ExchangeLaws.{answers_on}
 use Rattle.net_theory.specs.Answers.{Answers, IsPruned}
 use Rattle.window_theory.specs.Places.{among}
 use Rattle.window_theory.specs.Window.{Window, Belongs}
 use Rattle.window_theory.specs.Splice.{step_gate, passing, IsSpliced}
 use Rattle.window_theory.specs.SubstitutionLaws.{signals_real}
-use Rattle.subst_core.specs.Substitution.{Meets, KeepsSinks, IsSubstituted, IsGateOperator, HasOldOperators}
+use Rattle.subst_core.specs.Substitution.{Meets, KeepsSinks, IsSubstituted, HasOldOperators}
 
 -- A chain that agrees keeps the sinks.
 pub agrees_keeps : (n : Net) (w : Window) (c : Chain) → IsNet n → Belongs n w → Meets n w c → KeepsSinks n w c
@@ -82,7 +83,7 @@ spliced_operators n m w c is op from =
     let test : ℕ → Bool = λ x. nat_eq x op in
     let outside : ℕ = passing (λ p x. not (among w.gates p) && test x) (n.sources + 1) n.gates in
     let steps : ℕ = passing (λ p x. test x) (c.n + 1) (map step_gate c.steps) in
-    let some : 1 ≤ passing (λ p x. test x) (m.sources + 1) m.gates = passing_some test (m.sources + 1) m.gates from.index from.gate from.at (eq-eqb from.gate.op op from.is) in
+    let some : 1 ≤ passing (λ p x. test x) (m.sources + 1) m.gates = passing_some test (m.sources + 1) m.gates from.index from.gate from.at (eq-eqb from.gate.op op from.same) in
     ⊎_elim
     (λ (none : outside < 1).
     let p : Passes (λ p x. test x) (c.n + 1) (map step_gate c.steps) = some_passes (λ p x. test x) (c.n + 1) (map step_gate c.steps) (omega (arith, some, none, is.operators test)) in
@@ -90,12 +91,10 @@ spliced_operators n m w c is op from =
     inr (record { index = p.index; step = s.0; at = s.1; is = ap (λ (x : Gate). x.op) s.2 ∙ eqb-true p.gate.op op p.passes }))
     (λ (one : 1 ≤ outside).
     let p : Passes (λ p x. not (among w.gates p) && test x) (n.sources + 1) n.gates = some_passes (λ p x. not (among w.gates p) && test x) (n.sources + 1) n.gates one in
-    inl (record { index = p.index; gate = p.gate; at = p.at; is = eqb-true p.gate.op op (and_parts (not (among w.gates (n.sources + 1 + p.index))) (test p.gate.op) p.passes).1 }))
+    inl (record { index = p.index; gate = p.gate; at = p.at; same = eqb-true p.gate.op op (and_parts (not (among w.gates (n.sources + 1 + p.index))) (test p.gate.op) p.passes).1 }))
     (cases_lt outside 1)
 
 -- and where dead gates are dropped then, no new operator comes in
 pub dropped_old : (n m left : Net) (w : Window) (c : Chain) → IsSubstituted n w c m → left ≡ dropped m → HasOldOperators n c left
 dropped_old n m left w c is e op from =
-    let here : IsGateOperator (dropped m) op = subst (λ (x : Net). IsGateOperator x op) e from in
-    let was = dropped_operators m here.index here.gate is.spliced.net here.at in
-    spliced_operators n m w c is.spliced op (record { index = was.0; gate = was.1; at = was.2; is = sym was.3 ∙ here.is })
+    spliced_operators n m w c is.spliced op (dropped_operators m op is.spliced.net (subst (λ (x : Net). HasOperator x op) e from))

@@ -7,7 +7,7 @@
 //!   the net gives when the window's outputs take those of the chain's outs.
 //! - `substitute_keeping` does so where no sink distinguishes the chain's outs from the window's outputs, so that all
 //!   sinks keep their values; `replace_keeping` drops the gates that are dead then, too.
-//! - `substitute` and `replace` do so with a chain that agrees with what the window has to compute.
+//! - `substitute` does so with a chain that agrees with what the window has to compute.
 //!
 //! The window comes as its three lists of places. A window that has the same lists, with whatever root, does as
 //! well (`laws::roots_do_not_matter`).
@@ -29,6 +29,6 @@ mod substitution;
 pub use chain_core::Chain;
 pub use lists::WindowLists;
 pub use net_core::Net;
-pub use replacing::{replace, replace_keeping};
+pub use replacing::replace_keeping;
 pub use splicing::splice;
 pub use substitution::{substitute, substitute_keeping};

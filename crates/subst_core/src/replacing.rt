@@ -7,7 +7,7 @@ ghost use Rattle.net_theory.specs.Dead.{dropped};
 ghost use Rattle.window_theory.specs.Window.{Belongs};
 ghost use Rattle.window_theory.specs.Splice.{Fits, spliced};
 ghost use Rattle.subst_core.specs.Lists.{window_of};
-ghost use Rattle.subst_core.specs.Substitution.{HasRoom, KeepsSinks, Meets, HasOldOperators};
+ghost use Rattle.subst_core.specs.Substitution.{HasRoom, KeepsSinks, HasOldOperators};
 
 use crate::lists::WindowLists;
 use crate::substitution::substitute_keeping;
@@ -38,29 +38,4 @@ pub fn replace_keeping(
 {
     let substituted = substitute_keeping(alloc, net, window, chain)?;
     drop_dead(alloc, &substituted)
-}
-
-/// The net in which a chain that agrees with what the window has to compute has taken its place, without the gates
-/// that no sink reads then. Its sinks have the values that they had, and each gate has an operator of the net or of
-/// the chain. Where the net is what is left of a first one, and the chain has no more steps than the window has gates,
-/// the new net is left of the first one too.
-pub fn replace(
-    alloc: Global,
-    net: &Net,
-    window: &WindowLists,
-    chain: &Chain,
-) -> Result<Net, AllocError>
-    requires belongs { Belongs net.now (window_of window.now) }
-    requires meets { Meets net.now (window_of window.now) chain.now }
-    requires room { HasRoom net.now (window_of window.now) chain.now }
-    ensures exact { IfOk result (λ new. new ≡ dropped (spliced net.now (window_of window.now) chain.now)) }
-    ensures pruned { (first : nets.Net) → IsPruned first net.now → length chain.now.steps ≤ length window.now.gates.now →
-        IfOk result (IsPruned first) }
-    ensures fewer { IfOk result (λ new.
-        length new.gates + length window.now.gates.now ≤ length net.now.gates + length chain.now.steps) }
-    ensures operators { IfOk result (HasOldOperators net.now chain.now) }
-{
-    // brings the type invariant into the proof
-    let _gates = net.gates();
-    replace_keeping(alloc, net, window, chain)
 }

@@ -1,9 +1,9 @@
 -- What a visit comes to.
-use Rattle.std.specs.Prelude.{◌≡◌, ℕ, ◌<◌, Bool, true, false, length, slice_get, Some, ◌⊎◌}
+use Rattle.std.specs.Prelude.{◌≡◌, ◌<◌, Bool, true, false, length}
 use Rattle.chain_theory.specs.Operator.{Basis}
-use Rattle.net_theory.specs.declared.data.Gate.{Gate}
 use Rattle.net_theory.specs.Net.{Net}
 use Rattle.net_theory.specs.Answers.{IsPruned}
+use Rattle.net_theory.specs.Operators.{HasOperatorsWithin}
 use Rattle.op_basis.specs.Basis.{members}
 use Rattle.window_theory.specs.Paths.{IsGate}
 use Rattle.window_theory.specs.Window.{IsPartnerOrNone}
@@ -15,17 +15,6 @@ use Rattle.sweep_core.specs.Settled.{IsLeast}
 use Rattle.sweep_core.specs.Undecided.{IsUndecided}
 
 -- ---- nets that take each other's place
-
--- some gate of the net has the operator
-pub record HasOperator (n : Net) (op : ℕ) : Type 0 where
-  pub index : ℕ
-  pub gate : Gate
-  pub at : slice_get n.gates index ≡ Some gate
-  pub same : gate.op ≡ op
-
--- each operator of the second net is of the basis, or some gate of the first net has it
-pub record HasOperatorsWithin (basis : Basis) (n m : Net) : Type 0 where
-  pub each : (i : ℕ) (g : Gate) → slice_get m.gates i ≡ Some g → (basis g.op ≡ true) ⊎ HasOperator n g.op
 
 -- What a net n can stand for, without dead gates, m can stand for too; and its operators are of the basis or of n.
 pub record Leads (basis : Basis) (n m : Net) : Type 0 where

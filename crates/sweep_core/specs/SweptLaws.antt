@@ -20,7 +20,8 @@ use Rattle.sweep_core.specs.declared.trial.Tried.TheVariants.{Passed}
 use Rattle.sweep_core.specs.Settled.{IsLeast, IsListed, IsSettled}
 use Rattle.sweep_core.specs.Undecided.{Undecided, visit_of, visits, IsUndecided}
 use Rattle.sweep_core.specs.Visits.{HasNoPartner, IsGreatestPartner, IsThis, IsOfCounts, IsOfPartners, IsOfRoot, IsOfRoots, TurnsBefore, ComesBefore, IsRising}
-use Rattle.sweep_core.specs.Outcomes.{HasOperator, HasOperatorsWithin, Leads, IsDone, IsTried}
+use Rattle.net_theory.specs.Operators.{HasOperator, HasOperatorsWithin}
+use Rattle.sweep_core.specs.Outcomes.{Leads, IsDone, IsTried}
 use Rattle.sweep_core.specs.OrderLaws.{adds_none, adds_one, adds_on, adds_as, adds_all, none_rise}
 use Rattle.sweep_core.specs.Swept.{Round, Stage, stage, basis_of, IsSwept, HasRounds}
 

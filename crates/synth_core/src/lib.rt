@@ -3,20 +3,20 @@
 //! `bundle_text` for writing certificates; the basis, the method and the limits are `SynthSettings`. It is generic
 //! in the solver `S`.
 //!
-//! The theorem is that of `synthesise`: what it answers is the text of a valid certificate for the tables that it
-//! was given, and it refuses exactly what isn't tables alone. `begin` and `go_on` write the same text while it is
-//! searched, a section at a time, and keep nothing of what they have handed out.
+//! `begin` writes the heading, and each call of `go_on` what one more size adds; nothing is kept of what they have
+//! handed out. The theorem is theirs: the texts, one after the other, are a valid certificate for the tables in the
+//! bytes with the verdict that the last one answers, and `begin` refuses exactly what isn't tables alone.
 //!
 //! ```text
-//! let certificate = synthesise::<Cdcl>(alloc, b"inputs 2\n0110\n", &SynthSettings::usual())?;
-//! certificate.verdict // Minimum(1), over a basis with XOR
+//! let begun = begin(alloc, b"inputs 2\n0110\n", &SynthSettings::usual())?;
+//! let piece = go_on::<Cdcl>(alloc, begun.search)?; // the section of size 0; after the last an ending, Minimum(1)
 //! ```
 #![tactic(auto)]
 
-mod certificate;
 mod pieces;
+mod reading;
 
 pub use bundle_core::Verdict;
-pub use certificate::{Certificate, synthesise, tables};
 pub use pieces::{Begun, Piece, begin, go_on};
+pub use reading::tables;
 pub use settings::SynthSettings;

@@ -8,7 +8,7 @@ ghost use Rattle.tt_core.specs.Gives.{Fails};
 ghost use Rattle.synth_core.specs.Pieces.{IsUnderWay, GoesOn, GoesUp};
 ghost use Rattle.synth_core.specs.Tables.{tables_alone};
 
-use crate::certificate::tables;
+use crate::reading::tables;
 use bundle_core::Verdict;
 use bundle_text::{write_ending, write_heading, write_section};
 use sat_solve::Solver;

@@ -1,14 +1,13 @@
 -- The entries of a trail's tables, and what they say of assignments.
-use Rattle.std.proofs.Common.{◌≡◌, ℕ, zero, suc, ◌+◌, ◌-◌, ◌<◌, ◌≤◌, ◌⊎◌, ◌==◌, ℤ, pos, negsuc, Bool, true, false, nat_lt, List, [], ◌∷◌, ◌++◌, length, slice_set, slice_index_or, subst, sym, ap, ◌∙◌, arith, inl, inr, refl}
-use Rattle.std.proofs.Math.Logic.{⊎_elim}
-use Rattle.std.proofs.lemmas.Bool.{cases_lt, ne_eqb, lt-ltb, le-ltb}
+use Rattle.std.proofs.Common.{◌≡◌, ℕ, zero, suc, ◌+◌, ◌-◌, ◌<◌, ◌≤◌, ◌==◌, ℤ, pos, negsuc, Bool, true, false, nat_lt, List, [], ◌∷◌, ◌++◌, length, slice_set, slice_index_or, subst, sym, ap, ◌∙◌, arith, refl}
+use Rattle.std.proofs.lemmas.Bool.{ne_eqb, lt-ltb, le-ltb}
 use Rattle.std.proofs.lemmas.Grind.{common_steps}
 use Rattle.sat_theory.specs.Formula.{variable, opposite, bits_of, literal_value}
 use Rattle.cdcl_theory.specs.Codes.{code_of}
-use Rattle.cdcl_theory.specs.CodeLaws.{code_of-room, same_variable}
+use Rattle.cdcl_theory.specs.CodeLaws.{code_of-room}
 use Rattle.cdcl_theory.specs.Trails.{Trailed, fell, IsTrail, IsBack}
 use Rattle.cdcl_theory.specs.TrailLaws.{trail_push, trail_pop, back_pop, back_trans, trail_none}
-use Rattle.trail_core.specs.Values.{IsFree, HaveValues, Follows}
+use Rattle.trail_core.specs.Values.{IsFree, Follows}
 
 -- the tables as the code writes them are those of `pushed`
 pub trail_pushed : (t now : Trailed) (l : ℤ) (lits : List ℤ) (reason code place v : ℕ) → t ≡ now → IsTrail t → lits ≡ t.lits ++ l ∷ [] → code ≡ code_of (opposite l) → place ≡ length lits → v ≡ variable l → 0 < v → variable l ≤ now.vars → IsFree now l → IsTrail (record { vars = t.vars; lits = lits; table = slice_set t.table code place; reasons = slice_set t.reasons v reason })
@@ -32,26 +31,6 @@ back_more n a b c first some second =
     let low : length b.lits ≡ n = first.short in
     let short : length c.lits ≡ length b.lits - 1 = second.short in
     rw short (back_trans n (length b.lits - 1) a b c (omega arith) first second)
-
--- the next variable has a value too
-pub values_more : (t : Trailed) (i : ℕ) → HaveValues t (1 + i) → (IsFree t (negsuc i) → ⊥) → HaveValues t (1 + (i + 1))
-values_more t i have taken l some low =
-    ⊎_elim
-    (λ (less : variable l < 1 + i). have l some less)
-    (λ (high : 1 + i ≤ variable l).
-    let is : variable l ≡ suc i = omega arith in
-    ⊎_elim
-    (λ (same : l ≡ negsuc i). rw same (one_of (fell t (negsuc i)) (fell t (opposite (negsuc i))) (λ a b. taken (a, b))))
-    (λ (other : l ≡ opposite (negsuc i)). rw other (one_of (fell t (opposite (negsuc i))) (fell t (opposite (opposite (negsuc i)))) (λ a b. taken (b, a))))
-    (same_variable l (negsuc i) is))
-    (cases_lt (variable l) (1 + i))
-  where
-    one_of : (a b : ℕ) → (a ≡ 0 → b ≡ 0 → ⊥) → (0 < a) ⊎ (0 < b)
-    one_of a b no_both =
-        ⊎_elim
-        (λ (some_a : 0 < a). inl some_a)
-        (λ (none_a : a ≤ 0). ⊎_elim (λ (some_b : 0 < b). inr some_b) (λ (none_b : b ≤ 0). absurd (no_both (omega arith) (omega arith))) (cases_lt 0 b))
-        (cases_lt 0 a)
 
 -- bits that are true exactly where the negative literal has fallen follow the trail
 pub follows : (t : Trailed) (bits : List Bool) → IsTrail t → length bits ≡ t.vars → ((k : ℕ) (d : Bool) → k < t.vars → slice_index_or bits k d ≡ nat_lt 0 (fell t (negsuc k))) → Follows t bits
@@ -77,4 +56,4 @@ follows t bits trail long told = record { long = long; values = λ l over fallen
         let none : fell t (negsuc n) ≡ 0 = free.1 in
         bit n low ∙ le-ltb 0 (fell t (negsuc n)) (omega arith)
 
-pub ruleset reading = (common_steps, code_of-room, trail_none, values_more, follows, back_more)
+pub ruleset reading = (common_steps, code_of-room, trail_none, follows, back_more)

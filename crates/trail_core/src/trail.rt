@@ -1,10 +1,10 @@
 //! The trail as a row of literals, with two tables: the trail position at which each literal fell,
 //! and the reason of each variable. The invariant `IsTrail` says that tables and row agree;
 //! backtracking takes the last literals off one by one, with their entries.
-ghost use Rattle.std.specs.Prelude.{◌≡◌, ℤ, pos, negsuc, ◌<ℤ◌, ◌+◌, ◌-◌, ◌<◌, ◌≤◌, ◌↔◌, [], length, slice_index_or, IsTrue, IfOk, OnOk, OnErr, IfSome, IfNone};
+ghost use Rattle.std.specs.Prelude.{◌≡◌, ℤ, negsuc, ◌+◌, ◌-◌, ◌<◌, ◌≤◌, ◌↔◌, [], length, slice_index_or, IsTrue, IfOk, OnOk, OnErr};
 ghost use Rattle.sat_theory.specs.Formula.{variable as variable_of};
 ghost use Rattle.cdcl_theory.specs.Trails.{IsTrail, IsBack, pushed, fell as fell_of, reason_of};
-ghost use Rattle.trail_core.specs.Values.{IsOver, IsFree, HaveValues, Follows};
+ghost use Rattle.trail_core.specs.Values.{IsOver, IsFree, Follows};
 
 use cnf_core::{Assign, Lit};
 use std::alloc::{AllocError, Global};
@@ -135,23 +135,6 @@ impl Trail {
         ensures { IsTrue result ↔ IsFree self.now lit }
     {
         self.fell(lit) == 0 && self.fell(lit.opposite()) == 0
-    }
-
-    /// The negative literal of the least variable without a value; None where all have one.
-    pub fn free_literal(&self) -> Option<Lit>
-        ensures over { IfSome result (IsOver self.now.vars) }
-        ensures free { IfSome result (IsFree self.now) }
-        ensures negative { IfSome result (λ l. l <ℤ pos 0) }
-        ensures least { IfSome result (λ l. HaveValues self.now (variable_of l)) }
-        ensures none { IfNone result (HaveValues self.now (1 + self.now.vars)) }
-    {
-        for index in 0..self.vars {
-            let lit = negative(index);
-            if self.is_free(lit) {
-                return Some(lit);
-            }
-        }
-        None
     }
 
     /// The assignment in which the literals of the trail are true; a variable without a value is

@@ -54,7 +54,7 @@ pub use net_core::{Gate, Net, Sig};
 pub use readers::{Readers, earlier_of, last_reader, place_of, readers_of};
 pub use rising::{has, put};
 pub use seen::all_outputs;
-pub use shape::Window;
+pub use shape::{MOST_GATES, Window};
 pub use sharing::{partners, partners_by};
 pub use specifying::{signals_of, spec_of};
 pub use surrounding::surround;

@@ -6,8 +6,8 @@ ghost use Rattle.window_core.specs.Shape.{IsShaped};
 
 use std::marker::Model;
 
-/// The most gates of a window.
-pub const MOST_GATES: usize = 8;
+/// The most gates of a window: as many as the settings may ask for.
+pub const MOST_GATES: usize = improve_settings::MOST_GATES_OF_WINDOW as usize;
 
 /// The most inputs of a window: as many as a specification may have.
 pub const MOST_INPUTS: usize = tt_core::MOST_INPUTS as usize;

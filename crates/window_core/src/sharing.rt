@@ -1,7 +1,7 @@
 //! Partners of a gate, its siblings: gates below it that share a fanin with it, the eight greatest. They are found by
 //! going down the fanouts of its two fanins from one to the next lower, so that the cost doesn't grow with their number.
 
-ghost use Rattle.std.specs.Prelude.{◌≡◌, ℕ, ◌≤◌, ◌<◌, IfOk};
+ghost use Rattle.std.specs.Prelude.{ℕ, ◌≤◌, ◌<◌, IfOk};
 ghost use Rattle.window_theory.specs.Paths.{IsGate};
 ghost use Rattle.window_theory.specs.Partner.{ArePartners};
 ghost use Rattle.window_core.specs.Readers.{AreReaders, IsEarlier};

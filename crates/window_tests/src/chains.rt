@@ -8,9 +8,9 @@ ghost use Rattle.subst_core.specs.Substitution.{Meets};
 use crate::nets::{Plan, is_planned, planned};
 use crate::windows::alone;
 use chain_core::{Chain, first_difference, read_chain};
-use net_core::{Net, Sig};
+use net_core::{Net, Sig, drop_dead};
 use std::alloc::{AllocError, Global};
-use subst_core::{WindowLists, replace, splice, substitute};
+use subst_core::{WindowLists, splice, substitute};
 use window_core::{Window, spec_of};
 
 /// A window, and a chain for it.
@@ -106,7 +106,7 @@ fn is_substituted(alloc: Global, net: &Net, pair: &Pair, left: &Plan, live: &Pla
     if !is_planned(&all, left) {
         return false;
     }
-    match replace(alloc, net, &lists, &pair.chain) {
+    match drop_dead(alloc, &all) {
         Ok(new) => is_planned(&new, live),
         Err(_) => false,
     }

@@ -68,14 +68,25 @@ const TWELVE: &[Step] = &[
     (23, 1, Sig::Place(22), Sig::Place(12)),
 ];
 
+/// The AND of seven leaves.
+const SEVEN: &[Step] = &[
+    (8, 1, Sig::Place(1), Sig::Place(2)),
+    (9, 1, Sig::Place(8), Sig::Place(3)),
+    (10, 1, Sig::Place(9), Sig::Place(4)),
+    (11, 1, Sig::Place(10), Sig::Place(5)),
+    (12, 1, Sig::Place(11), Sig::Place(6)),
+    (13, 1, Sig::Place(12), Sig::Place(7)),
+];
+
 /// Leaves, steps, signals, and the mask of the patterns that the signals show: constants and
-/// leaves, and the one assignment of twelve leaves under which AND is 1.
+/// leaves, and the one assignment of seven leaves, and of twelve, under which AND is 1.
 const SHOWN: &[(&[u32], &[Step], &[Sig], u64)] = &[
     (&[], &[], &[Sig::One], 2),
     (&[], &[], &[], 1),
     (&[1, 2, 3], &[], &[Sig::Place(1), Sig::Place(3)], 15),
     // places after the first word of a set
     (&[63, 64, 97], &[], &[Sig::Place(64), Sig::Place(97)], 15),
+    (&[1, 2, 3, 4, 5, 6, 7], SEVEN, &[Sig::Place(13)], 3),
     (
         &[1, 2, 3, 4, 5, 6, 7, 8, 9, 10, 11, 12],
         TWELVE,
@@ -232,5 +243,5 @@ fn cones_have_the_words_of_the_plain_program(rt: HostRuntime) {
     }
 }
 
-/// The numbers of leaves of cones.
-const LEAVES: &[u32] = &[0, 1, 2, 5, 6, 7, 8, 9, 12];
+/// The numbers of leaves that a cone may have.
+const LEAVES: &[u32] = &[0, 1, 2, 3, 4, 5, 6, 7, 8, 9, 10, 11, 12];

@@ -8,7 +8,7 @@ use Rattle.chain_theory.specs.Agreement.{Agrees}
 use Rattle.net_theory.specs.declared.data.Sig.{Sig}
 use Rattle.net_theory.specs.declared.data.Sig.TheVariants.{Zero, One, Place}
 use Rattle.net_theory.specs.Net.{Net, IsNet, sink_values}
-use Rattle.net_theory.specs.NameLaws.{map_at}
+use Rattle.net_theory.specs.NameLaws.{map_at, index_map}
 use Rattle.net_theory.specs.Moving.{moved, nothing_kept}
 use Rattle.net_theory.specs.MovingLaws.{places_low, source_stays}
 use Rattle.net_theory.specs.Answers.{IsStill, Answers}
@@ -71,11 +71,6 @@ still_spliced : (n : Net) (w : Window) (c : Chain) (s : Sig) → Belongs n w →
 still_spliced n w c Zero is still = refl
 still_spliced n w c One is still = refl
 still_spliced n w c (Place p) is still = source_spliced n w c p is still
-
-index_map : (f : Sig → Sig) (ss : List Sig) (i : ℕ) (d : Sig) → i < length ss → slice_index_or (map f ss) i d ≡ f (slice_index_or ss i d)
-index_map f [] i d low = absurd (omega arith)
-index_map f (s ∷ ss) zero d low = refl
-index_map f (s ∷ ss) (suc i) d low = index_map f ss i d (omega arith)
 
 -- ---- the net
 

@@ -8,7 +8,7 @@ use Rattle.improve_settings.specs.declared.improve.ImproveSettings.{ImproveSetti
 use Rattle.sweep_core.specs.Settled.{IsSettled}
 use Rattle.sweep_core.specs.Undecided.{Undecided, visits, IsUndecided}
 use Rattle.sweep_core.specs.Visits.{IsRising}
-use Rattle.sweep_core.specs.Outcomes.{HasOperatorsWithin}
+use Rattle.net_theory.specs.Operators.{HasOperatorsWithin}
 
 -- m is left of n by the settings. It answers what n answers, with no more gates, and some sink reads each of its
 -- gates; each operator is of the basis or of n. Settled, no window up to the cap has a shorter chain for what the

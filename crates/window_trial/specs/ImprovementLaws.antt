@@ -1,11 +1,10 @@
 -- A sweep after the loss of dead gates is an improvement.
-use Rattle.std.specs.Prelude.{◌≡◌, ℕ, ◌+◌, ◌≤◌, Bool, true, false, List, [], length, slice_get, Some, All, refl}
+use Rattle.std.specs.Prelude.{◌≡◌, ◌+◌, ◌≤◌, Bool, true, false, List, [], length, All, refl}
 use Rattle.std.proofs.Common.{arith, sym, ◌∙◌, subst, inl, inr, ⊎_elim}
 use Rattle.std.proofs.lemmas.Bool.{both_ways}
 use Rattle.std.proofs.lemmas.Grind.{common_steps}
 use Rattle.chain_theory.specs.Operator.{Basis}
 use Rattle.op_basis.specs.Basis.{members}
-use Rattle.net_theory.specs.declared.data.Gate.{Gate}
 use Rattle.net_theory.specs.Net.{Net, IsNet}
 use Rattle.net_theory.specs.Answers.{IsPruned}
 use Rattle.net_theory.specs.Dead.{dropped}
@@ -15,16 +14,12 @@ use Rattle.sweep_core.specs.Settled.{IsSettled}
 use Rattle.sweep_core.specs.Undecided.{Undecided, visits, IsUndecided}
 use Rattle.sweep_core.specs.Visits.{IsRising}
 use Rattle.sweep_core.specs.OrderLaws.{none_rise}
-use Rattle.sweep_core.specs.Outcomes.{HasOperator, HasOperatorsWithin, Leads}
+use Rattle.net_theory.specs.Operators.{HasOperatorsWithin}
+use Rattle.sweep_core.specs.Outcomes.{Leads}
 use Rattle.window_trial.specs.Improvement.{Leaves}
 
-dropped_has : (n : Net) (i : ℕ) (g : Gate) → IsNet n → slice_get (dropped n).gates i ≡ Some g → HasOperator n g.op
-dropped_has n i g net at =
-    let old = dropped_operators n i g net at in
-    record { index = old.0; gate = old.1; at = old.2; same = sym old.3 }
-
 dropped_within : (basis : Basis) (n : Net) → IsNet n → HasOperatorsWithin basis n (dropped n)
-dropped_within basis n net = record { each = λ i g at. inr (dropped_has n i g net at) }
+dropped_within basis n net = record { each = λ i g at. inr (dropped_operators n g.op net (record { index = i; gate = g; at = at; same = refl })) }
 
 none_listed : (s : ImproveSettings) (m : Net) (named : List Undecided) → s.cap ≡ 0 → IsSettled s m (visits named)
 none_listed s m named cap = record { each = λ v is. absurd (omega (arith, is.from, is.to, cap)) }
@@ -52,7 +47,7 @@ within_on : (basis : Basis) (n m : Net) → IsNet n → HasOperatorsWithin basis
 within_on basis n m net within = record {
   each = λ i g at. ⊎_elim
       (λ on. inl on)
-      (λ has. let old = dropped_has n has.index has.gate net has.at in inr (record { index = old.index; gate = old.gate; at = old.at; same = old.same ∙ has.same }))
+      (λ has. inr (dropped_operators n g.op net has))
       (within.each i g at);
 }
 

@@ -1,6 +1,6 @@
 -- A net whose gates that are alike are one takes the place of the one before.
 use Rattle.std.specs.Prelude.{◌≡◌, ℕ, ◌<◌, true, length, slice_get, Option, Some, IfSome}
-use Rattle.std.proofs.Common.{arith, sym, ◌∙◌, ◌≢◌, subst, inr}
+use Rattle.std.proofs.Common.{arith, refl, sym, ◌∙◌, ◌≢◌, subst, inr}
 use Rattle.std.proofs.lemmas.Grind.{common_steps}
 use Rattle.chain_theory.specs.Operator.{Basis}
 use Rattle.net_theory.specs.declared.data.Gate.{Gate}
@@ -8,18 +8,19 @@ use Rattle.net_theory.specs.Net.{Net}
 use Rattle.net_theory.specs.Answers.{Answers, IsPruned}
 use Rattle.net_theory.specs.ExchangeLaws.{answers_on}
 use Rattle.net_theory.specs.Dead.{dropped}
+use Rattle.net_theory.specs.Operators.{HasOperator}
 use Rattle.net_theory.specs.DeadLaws.{dropped_operators}
 use Rattle.op_basis.specs.Basis.{members}
 use Rattle.improve_settings.specs.declared.improve.ImproveSettings.{ImproveSettings}
 use Rattle.merge_core.specs.Merging.{HaveOperatorsOf}
-use Rattle.sweep_core.specs.Outcomes.{HasOperator, Leads, IsShrunk}
+use Rattle.sweep_core.specs.Outcomes.{Leads, IsShrunk}
 
 -- the gates without the dead ones have operators of the first net
 left_operator : (n m k : Net) (i : ℕ) (g : Gate) → Answers n m → HaveOperatorsOf n m.gates → k ≡ dropped m → slice_get k.gates i ≡ Some g → HasOperator n g.op
 left_operator n m k i g answers old exact at =
-    let was = dropped_operators m i g answers.net (subst (λ (x : Net). slice_get x.gates i ≡ Some g) exact at) in
-    let first = old.each was.0 was.1 was.2 in
-    record { index = first.index; gate = first.gate; at = first.at; same = first.same ∙ sym was.3 }
+    let was = dropped_operators m g.op answers.net (record { index = i; gate = g; at = subst (λ (x : Net). slice_get x.gates i ≡ Some g) exact at; same = refl }) in
+    let first = old.each was.index was.gate was.at in
+    record { index = first.index; gate = first.gate; at = first.at; same = first.same ∙ was.same }
 
 pub merged_leads : (basis : Basis) (n m k : Net) → Answers n m → HaveOperatorsOf n m.gates → k ≡ dropped m → IsPruned m k → Leads basis n k
 merged_leads basis n m k answers old exact pruned = record {

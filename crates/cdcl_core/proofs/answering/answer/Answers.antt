@@ -8,33 +8,33 @@ use Rattle.cdcl_core.proofs.answering.answer.Goals as goal
 
 pub returns-in_ok-assignment-in-Valued-clause-sat : goal.returns-in_ok-assignment-in-Valued-clause-sat
 returns-in_ok-assignment-in-Valued-clause-sat c = λ f logged formula.
-    let s = c.run.new.self in
-    let valued : IsValued f s = subst (λ (e : Ending). Ends f c.args.budget s e) c.in-Valued.is (c.in_ok-run.ensures.ends f logged) in
+    let s = c.go_on.new.self in
+    let valued : IsValued f s = subst (λ (e : Ending). Ends f c.args.budget s e) c.in-Valued.is (c.in_ok-go_on.ensures.ends f logged) in
     values_satisfy f s.clauses s.trail s.lines s.deleted s.least c.in_ok-assignment-in-Valued.field-0 formula valued.logged.log valued.vars valued.values valued.settled c.in_ok-assignment-in-Valued.ensures
 
 pub returns-in_ok-log_of-in-Refuted-clause-unsat : goal.returns-in_ok-log_of-in-Refuted-clause-unsat
 returns-in_ok-log_of-in-Refuted-clause-unsat c = λ f logged.
-    let refuted : HasRefuted f c.run.new.self = subst (λ (e : Ending). Ends f c.args.budget c.run.new.self e) c.in-Refuted.is (c.in_ok-run.ensures.ends f logged) in
+    let refuted : HasRefuted f c.go_on.new.self = subst (λ (e : Ending). Ends f c.args.budget c.go_on.new.self e) c.in-Refuted.is (c.in_ok-go_on.ensures.ends f logged) in
     c.in_ok-log_of-in-Refuted.ensures.refutes f refuted
 
 pub returns-in_ok-log_of-in-Refuted-clause-thinned : goal.returns-in_ok-log_of-in-Refuted-clause-thinned
 returns-in_ok-log_of-in-Refuted-clause-thinned c = λ f logged.
-    let refuted : HasRefuted f c.run.new.self = subst (λ (e : Ending). Ends f c.args.budget c.run.new.self e) c.in-Refuted.is (c.in_ok-run.ensures.ends f logged) in
+    let refuted : HasRefuted f c.go_on.new.self = subst (λ (e : Ending). Ends f c.args.budget c.go_on.new.self e) c.in-Refuted.is (c.in_ok-go_on.ensures.ends f logged) in
     c.in_ok-log_of-in-Refuted.ensures.thinned f refuted.accounted
 
 pub returns-in_ok-log_of-in-Spent-clause-open : goal.returns-in_ok-log_of-in-Spent-clause-open
 returns-in_ok-log_of-in-Spent-clause-open c = λ f logged none.
-    let spent : HasSpent f c.args.budget c.run.new.self = subst (λ (e : Ending). Ends f c.args.budget c.run.new.self e) c.in-Spent.is (c.in_ok-run.ensures.ends f logged) in
+    let spent : HasSpent f c.args.budget c.go_on.new.self = subst (λ (e : Ending). Ends f c.args.budget c.go_on.new.self e) c.in-Spent.is (c.in_ok-go_on.ensures.ends f logged) in
     c.in_ok-log_of-in-Spent.ensures.spent f c.args.budget spent none
 
 pub returns-in_ok-log_of-in-Spent-clause-kept : goal.returns-in_ok-log_of-in-Spent-clause-kept
 returns-in_ok-log_of-in-Spent-clause-kept c = λ f logged.
-    let spent : HasSpent f c.args.budget c.run.new.self = subst (λ (e : Ending). Ends f c.args.budget c.run.new.self e) c.in-Spent.is (c.in_ok-run.ensures.ends f logged) in
+    let spent : HasSpent f c.args.budget c.go_on.new.self = subst (λ (e : Ending). Ends f c.args.budget c.go_on.new.self e) c.in-Spent.is (c.in_ok-go_on.ensures.ends f logged) in
     c.in_ok-log_of-in-Spent.ensures.kept f c.args.budget spent
 
 pub returns-in_ok-log_of-in-Spent-clause-thinned : goal.returns-in_ok-log_of-in-Spent-clause-thinned
 returns-in_ok-log_of-in-Spent-clause-thinned c = λ f logged.
-    let spent : HasSpent f c.args.budget c.run.new.self = subst (λ (e : Ending). Ends f c.args.budget c.run.new.self e) c.in-Spent.is (c.in_ok-run.ensures.ends f logged) in
+    let spent : HasSpent f c.args.budget c.go_on.new.self = subst (λ (e : Ending). Ends f c.args.budget c.go_on.new.self e) c.in-Spent.is (c.in_ok-go_on.ensures.ends f logged) in
     c.in_ok-log_of-in-Spent.ensures.thinned f (record { log = spent.logged.log; given = spent.logged.given })
 
 pub returns-in_ok-log_of-in-Spent-clause-decides : goal.returns-in_ok-log_of-in-Spent-clause-decides

@@ -5,7 +5,6 @@ use Rattle.text_core.specs.Lines.{Line}
 use Rattle.chain_theory.specs.Chain.{Chain, Step}
 use Rattle.chain_core.specs.Steps.{step_of}
 use Rattle.cert_theory.specs.declared.data.Heading.{Heading}
-use Rattle.cert_theory.specs.declared.data.Verdict.{Verdict}
 use Rattle.cert_theory.specs.Bundle.{found}
 use Rattle.cert_laws.specs.EndingSpellings.{same_is}
 use Rattle.cert_file.specs.Telling.{IsHeld}

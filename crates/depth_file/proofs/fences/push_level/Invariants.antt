@@ -1,4 +1,4 @@
--- Of the fences so far those of so many levels were added.
+-- Of the fences so far those of `levels` levels were added.
 use Rattle.std.proofs.Common.{◌≡◌, ◌++◌, map}
 use Rattle.std.specs.List.{filter}
 use Rattle.enc_theory.specs.declared.part.Part.TheVariants.{Levels}

@@ -1,9 +1,22 @@
 -- With each turn a piece more was taken, and with the last none is left.
-use Rattle.std.proofs.Common.{◌≡◌, ℕ, ◌≤◌, List, refl, Ok, take, length, subst, sym, arith, ap, ◌∙◌}
-use Rattle.std.proofs.lemmas.Grind.{common_steps}
+use Rattle.std.proofs.Common.{◌≡◌, ℕ, ◌≤◌, List, [], ◌∷◌, Result, Ok, Err, IsErrAnd, IsErrOf, refl, length, rules, subst, sym, arith, ap, ◌∙◌}
 use Rattle.port_io.specs.Bytes.{Consumes}
+use Rattle.port_io.specs.declared.reading.ReadError.TheVariants.{TooLong}
 use Rattle.frame_core.proofs.Streams.{taking_none, taking_more, taking_all, taking_long}
 use Rattle.frame_core.proofs.streaming.read_pieces.Goals as goal
+
+nothing : (xs : List ℕ) → length xs ≡ 0 → xs ≡ []
+nothing [] none = refl
+nothing (x ∷ xs) none = absurd (omega (arith, none))
+
+some : (xs : List ℕ) → (length xs ≡ 0 → ⊥) → 1 ≤ length xs
+some [] full = absurd (full refl)
+some (x ∷ xs) full = omega arith
+
+-- the error that is handed on
+error_is : {A E : Type 0} (r : Result A E) (e f : E) → IsErrAnd r (λ d. d ≡ e) → IsErrOf r f → e ≡ f
+error_is (Ok x) e f is of = absurd is
+error_is (Err d) e f is of = let same : d ≡ f = cc in sym is ∙ same
 
 pub loop-turn-init : goal.loop-turn-init
 loop-turn-init g c = record {
@@ -15,35 +28,31 @@ loop-turn-init g c = record {
   quiet = refl;
 }
 
-pub returns-in-Ok-eq0-clause-taken : goal.returns-in-Ok-eq0-clause-taken
-returns-in-Ok-eq0-clause-taken g c =
-    taking_all c.args.most c.loop-turn.room _ (g.S.Source.left c.loop-turn.source) (g.S.Source.left c.read.new.self) _
-    (subst (λ (n : ℕ). Consumes (g.S.Source.left c.loop-turn.source) (g.S.Source.left c.read.new.self) (take n c.read.new.buf)) c.in-Ok-eq0.field-0-test c.in-Ok-eq0.ensures.taken)
-    (c.read.ensures.end (c.in-Ok-eq0.is ∙ ap Ok c.in-Ok-eq0.field-0-test) (omega arith))
-    c.loop-turn.invariant.taking
+pub returns-in_err-piece-clause-too_long : goal.returns-in_err-piece-clause-too_long
+returns-in_err-piece-clause-too_long g c = λ input told of.
+    let more = c.in_err-piece.ensures.too_long (ap Err (error_is c.from_residual.result c.in_err-piece.field-0.0 TooLong c.from_residual.ensures.1 of)) in
+    taking_long c.args.most c.loop-turn.room _ (g.S.Source.left c.loop-turn.source) (g.S.Source.left c.read_piece.new.source) more.taken input _ more.consumes more.beyond c.loop-turn.invariant.taking told
 
-pub returns-then-count-room-clause-too_long : goal.returns-then-count-room-clause-too_long
-returns-then-count-room-clause-too_long g c = λ input told _.
-    let within = c.in-Ok.ensures.within in
-    let beyond = c.if-count-room.true in
-    taking_long c.args.most c.loop-turn.room _ (g.S.Source.left c.loop-turn.source) (g.S.Source.left c.read.new.self) (take c.in-Ok.count c.read.new.buf) input _ c.in-Ok.ensures.taken (grind (arith, common_steps)) c.loop-turn.invariant.taking told
+pub returns-then-is_empty-clause-taken : goal.returns-then-is_empty-clause-taken
+returns-then-is_empty-clause-taken g c =
+    let none : length c.in_ok-piece.piece.now ≡ 0 = search rules in
+    taking_all c.args.most c.loop-turn.room _ (g.S.Source.left c.loop-turn.source) (g.S.Source.left c.read_piece.new.source) _
+    (subst (λ (xs : List ℕ). Consumes (g.S.Source.left c.loop-turn.source) (g.S.Source.left c.read_piece.new.source) xs) (nothing c.in_ok-piece.piece.now none) c.in_ok-piece.ensures.taken)
+    (c.in_ok-piece.ensures.end none)
+    c.loop-turn.invariant.taking
 
 pub loop-turn-preserved : goal.loop-turn-preserved
 loop-turn-preserved g c =
-    let room = c.if-count-room.false in
-    let some = c.in-Ok.count-test.1 in
-    let piece : List ℕ = c.split_at.result.0.now in
-    let long : length piece ≡ c.in-Ok.count = c.split_at.ensures.front_len in
-    let same : piece ≡ take c.in-Ok.count c.read.new.buf = c.split_at.ensures.front in
-    let fits : c.in-Ok.count ≤ c.loop-turn.room = omega (arith, room) in
+    let piece : List ℕ = c.in_ok-piece.piece.now in
+    let fits : length piece ≤ c.loop-turn.room = c.in_ok-piece.ensures.within in
+    let more : 1 ≤ length piece = some piece (search rules) in
     record {
       taking =
-          taking_more c.args.most c.loop-turn.room c.in-Ok.count _ (g.S.Source.left c.loop-turn.source) (g.S.Source.left c.read.new.self) piece _ _
-          (subst (λ (xs : List ℕ). Consumes (g.S.Source.left c.loop-turn.source) (g.S.Source.left c.read.new.self) xs) (sym same) c.in-Ok.ensures.taken)
-          long fits c.in_ok-kept-in-Ok.ensures.holds c.loop-turn.invariant.taking;
-      whole = c.in_ok-kept-in-Ok.ensures.whole;
-      turns = let before = c.loop-turn.invariant.turns in omega (arith, before, fits, some);
-      counted = let before = c.loop-turn.invariant.counted in let more = c.in_ok-kept-in-Ok.ensures.count in omega (arith, before, more, long, fits);
-      never_falls = let before = c.loop-turn.invariant.never_falls in let more = c.read.ensures.never_falls in omega (arith, before, more);
-      quiet = c.in-Ok.ensures.quiet ∙ c.loop-turn.invariant.quiet;
+          taking_more c.args.most c.loop-turn.room (length piece) _ (g.S.Source.left c.loop-turn.source) (g.S.Source.left c.read_piece.new.source) piece _ _
+          c.in_ok-piece.ensures.taken refl fits c.in_ok-kept.ensures.holds c.loop-turn.invariant.taking;
+      whole = c.in_ok-kept.ensures.whole;
+      turns = let before = c.loop-turn.invariant.turns in omega (arith, before, fits, more);
+      counted = let before = c.loop-turn.invariant.counted in let next = c.in_ok-kept.ensures.count in omega (arith, before, next, fits);
+      never_falls = let before = c.loop-turn.invariant.never_falls in let next = c.read_piece.ensures.never_falls in omega (arith, before, next);
+      quiet = c.in_ok-piece.ensures.quiet (λ of. cc) ∙ c.loop-turn.invariant.quiet;
     }

@@ -1,7 +1,9 @@
-use Rattle.std.proofs.Common.{◌≡◌}
-use Rattle.tt_core.specs.Words.{specification}
-use Rattle.step_core.specs.Steps.{outs_among}
+use Rattle.std.proofs.Common.{◌≡◌, length}
+use Rattle.step_core.specs.Outs.{AreOuts}
 use Rattle.step_core.proofs.outs.outs_for.Given as goal
 
 abbrev pub invariant-loop-before : goal.invariant-loop-before
-invariant-loop-before l = l.outs.items ≡ outs_among (specification l.spec) l.before
+invariant-loop-before l = record {
+  count : length l.outs.items ≡ l.before;
+  each : AreOuts l.spec l.trail.steps l.outs.items;
+}

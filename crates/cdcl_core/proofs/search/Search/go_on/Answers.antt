@@ -57,4 +57,4 @@ refute-requires-clause-few c =
     let a : Search = c.loop-conflict.self in
     let few : length a.clauses.clauses + length a.starts.items ≤ c.args.self.now.given + c.args.budget + a.trail.vars + 1 = c.loop-conflict.invariant.few in
     let vars : a.trail.vars < 1000000000 = c.loop-conflict.invariant.searching.layered.whole.few in
-    settled_few a c.settle.new.self c.in_ok-conflict.ensures.settled (omega (arith, few, vars, c.requires.given, c.requires.few, c.requires.budget))
+    settled_few a c.settle.new.self c.in_ok-conflict.ensures.settled (omega (arith, few, vars, c.requires.room))

@@ -1,15 +1,13 @@
 -- The end of the text, and what was read of it.
-use Rattle.std.proofs.Common.{sym, subst}
-use Rattle.cert_file.specs.Reader.{Reader, StandsFor}
 use Rattle.cert_file.proofs.Verdicts.{told_given, operators_given}
 use Rattle.cert_file.proofs.reader.BundleReader.tell.Goals as goal
 
 pub returns-clause-exact : goal.returns-clause-exact
-returns-clause-exact c = λ text stands. (c.finish.ensures.gives text (subst (λ (r : Reader). StandsFor r text) (sym c.pieces.ensures) stands)).0
+returns-clause-exact c = λ text stands. (c.finish.ensures.gives text stands).0
 
 pub returns-clause-told : goal.returns-clause-told
 returns-clause-told c = λ text b stands is.
-    let gives = c.finish.ensures.gives text (subst (λ (r : Reader). StandsFor r text) (sym c.pieces.ensures) stands) in
+    let gives = c.finish.ensures.gives text stands in
     told_given text b c.finish.result is gives.0 gives.1
 
 pub returns-clause-operators : goal.returns-clause-operators

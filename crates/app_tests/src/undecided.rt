@@ -1,0 +1,70 @@
+//! Certificates of windows that stay undecided: each is cut out of the report of `improve`, and `recheck` has to find
+//! its verdict.
+use crate::running::told;
+use std::alloc::{AllocError, Global};
+
+/// A full adder, of which a budget of one clause leaves four windows undecided.
+const ADDER: &str =
+    ".model a\n.inputs a b c\n.outputs s k\n.names a b p\n01 1\n10 1\n.names p c s\n01 1\n10 1\n.names a b q\n11 1\n.names p c r\n11 1\n.names q r k\n1- 1\n-1 1\n.end\n";
+
+/// The same in BENCH.
+const GATES: &str =
+    "INPUT(a)\nINPUT(b)\nINPUT(c)\nOUTPUT(s)\nOUTPUT(k)\np = XOR(a, b)\ns = XOR(p, c)\nq = AND(a, b)\nr = AND(p, c)\nk = OR(q, r)\n";
+
+/// Whether `recheck` finds of a certificate without its last line, `end`, the verdict `open` that its last line then is.
+fn is_found_open(alloc: Global, front: &[u8]) -> Result<bool, AllocError> {
+    let mut certificate = Vec::from_slice(alloc, front)?;
+    certificate.extend_from_slice(b"end\n")?;
+    let seen = told(alloc, "recheck", &certificate)?;
+    let out = seen.out.written();
+    Ok(seen.status == 0 && out.starts_with(b"open ") && front.ends_with(out))
+}
+
+/// How many certificates a report has; None where `recheck` doesn't find the verdict of one.
+fn certificates_of(alloc: Global, report: &[u8]) -> Result<Option<u32>, AllocError> {
+    let mut certificate = Vec::new(alloc);
+    let mut count = 0u32;
+    for line in report.split(|byte| *byte == b'\n') {
+        if line == b"end".as_slice() {
+            if !is_found_open(alloc, &certificate)? {
+                return Ok(None);
+            }
+            count = count.saturating_add(1);
+        }
+        if line.starts_with(b"undecided ") {
+            certificate = Vec::new(alloc);
+        } else {
+            certificate.extend_from_slice(line)?;
+            certificate.push(b'\n')?;
+        }
+    }
+    Ok(Some(count))
+}
+
+/// Whether the report of a line has this many certificates, and `recheck` finds the verdict of each.
+fn are_found_open(alloc: Global, line: &str, input: &str, count: u32) -> bool {
+    let Ok(seen) = told(alloc, line, input.as_bytes()) else {
+        return false;
+    };
+    match certificates_of(alloc, seen.note.written()) {
+        Ok(found) => seen.status == 0 && found == Some(count),
+        Err(_) => false,
+    }
+}
+
+/// Lines, netlists, and how many windows stay undecided.
+const UNDECIDED: &[(&str, &str, u32)] = &[
+    ("improve --conflicts 1", ADDER, 4),
+    ("improve --conflicts 1 --method plain", ADDER, 4),
+    ("improve --conflicts 1 --method select", ADDER, 4),
+    ("improve --conflicts 1 --method fence", ADDER, 4),
+    ("improve --conflicts 1 --observe yes", ADDER, 4),
+    ("improve --conflicts 1 --format bench", GATES, 3),
+];
+
+#[test]
+fn certificates_of_undecided_windows_are_valid(rt: HostRuntime) {
+    for &(line, input, count) in UNDECIDED {
+        assert!(rt; are_found_open(rt.alloc(), line, input, count), "{line}");
+    }
+}

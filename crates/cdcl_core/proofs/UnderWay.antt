@@ -1,0 +1,74 @@
+-- Which variables are open doesn't matter, and what a probe leaves.
+use Rattle.std.proofs.Common.{◌≡◌, ◌∙◌, ◌+◌, ◌<◌, ◌≤◌, ℕ, length, Option, ap, arith}
+use Rattle.sat_theory.specs.Formula.{Formula}
+use Rattle.clause_db.specs.Stored.{Stored}
+use Rattle.cdcl_core.specs.declared.search.Search.{Search}
+use Rattle.cdcl_core.specs.declared.scope.Scope.{Scope}
+use Rattle.cdcl_core.specs.Searching.{IsSearching, IsVisited, IsLogged, HasRestarted, HasSettled}
+use Rattle.cdcl_core.specs.Solving.{IsUnderWay}
+
+pub searching_scoped : (s : Search) (x : Option Scope) → IsSearching s → IsSearching (record s { scope = x })
+searching_scoped s x searching = record {
+  stored = searching.stored;
+  vars = searching.vars;
+  layered = searching.layered;
+  ready = searching.ready;
+  choosing = searching.choosing;
+}
+
+pub visited_scoped : (s : Search) (x : Option Scope) → IsVisited s → IsVisited (record s { scope = x })
+visited_scoped s x visited = record {
+  guarded = visited.guarded;
+  low = visited.low;
+  begun = visited.begun;
+}
+
+pub restarted_scoped : (s t : Search) (x : Option Scope) → HasRestarted s t → HasRestarted s (record t { scope = x })
+restarted_scoped s t x restarted = record {
+  vars = restarted.vars;
+  given = restarted.given;
+  least = restarted.least;
+  lines = restarted.lines;
+  deleted = restarted.deleted;
+  clauses = restarted.clauses;
+  starts = restarted.starts;
+}
+
+pub logged_scoped : (f : Formula) (s : Search) (x : Option Scope) → IsLogged f s → IsLogged f (record s { scope = x })
+logged_scoped f s x logged = record {
+  log = logged.log;
+  new = logged.new;
+  given = logged.given;
+}
+
+pub under_way_scoped : (s : Search) (x : Option Scope) → IsUnderWay s → IsUnderWay (record s { scope = x })
+under_way_scoped s x way = record {
+  searching = searching_scoped s x way.searching;
+  visited = visited_scoped s x way.visited;
+  given = way.given;
+  few = way.few;
+  least = way.least;
+}
+
+-- A search that has gone down is still under way.
+pub under_way_restarted : (a b : Search) → IsUnderWay a → IsSearching b → IsVisited b → HasRestarted a b → IsUnderWay b
+under_way_restarted a b way searching visited restarted =
+    let clauses : length b.clauses.clauses ≡ length a.clauses.clauses = ap (λ (x : Stored). length x.clauses) restarted.clauses in
+    let starts : length b.starts.items ≤ length a.starts.items = restarted.starts in
+    record {
+      searching = searching;
+      visited = visited;
+      given = omega (arith, way.given, clauses, restarted.given);
+      few = omega (arith, way.few, clauses, starts);
+      least = omega (arith, way.least, restarted.least);
+    }
+
+-- One that has settled too.
+pub under_way_settled : (a b : Search) → IsUnderWay a → IsSearching b → IsVisited b → HasSettled a b → IsUnderWay b
+under_way_settled a b way searching visited settled = record {
+  searching = searching;
+  visited = visited;
+  given = omega (arith, way.given, settled.more, settled.given);
+  few = omega (arith, way.few, settled.starts);
+  least = omega (arith, way.least, settled.least);
+}

@@ -1,0 +1,52 @@
+use Rattle.std.proofs.Common.{◌≡◌, ◌∙◌, ◌+◌, ◌*◌, ◌^◌, ◌<◌, ◌≤◌, ℕ, [], length, max, Contains, ap, arith}
+use Rattle.sat_theory.specs.Formula.{Formula}
+use Rattle.clause_db.specs.Stored.{Stored}
+use Rattle.cdcl_core.specs.declared.search.Search.{Search}
+use Rattle.cdcl_core.specs.Searching.{IsLogged}
+use Rattle.cdcl_core.specs.Solving.{IsUnderWay}
+use Rattle.cdcl_core.proofs.Restarting.{logged_restarted}
+use Rattle.cdcl_core.proofs.UnderWay.{under_way_restarted}
+use Rattle.cdcl_core.proofs.Showing.{open_less}
+use Rattle.cdcl_core.proofs.answering.decide_rest.Goals as goal
+
+pub target-target-requires-clause-given : goal.target-target-requires-clause-given
+target-target-requires-clause-given c = (under_way_restarted c.args.search.now c.close.new.self c.requires.under_way c.close.ensures.searching c.close.ensures.visited c.close.ensures.restarted).given
+
+pub target-target-requires-clause-few : goal.target-target-requires-clause-few
+target-target-requires-clause-few c =
+    let way : IsUnderWay c.close.new.self = under_way_restarted c.args.search.now c.close.new.self c.requires.under_way c.close.ensures.searching c.close.ensures.visited c.close.ensures.restarted in
+    omega (arith, way.few)
+
+pub target-target-requires-clause-least : goal.target-target-requires-clause-least
+target-target-requires-clause-least c = (under_way_restarted c.args.search.now c.close.new.self c.requires.under_way c.close.ensures.searching c.close.ensures.visited c.close.ensures.restarted).least
+
+pub returns-clause-bits : goal.returns-clause-bits
+returns-clause-bits c = λ f logged. c.answer.ensures.bits f (logged_restarted f c.args.search.now c.close.new.self logged c.close.ensures.restarted)
+
+pub returns-clause-sat : goal.returns-clause-sat
+returns-clause-sat c = λ f logged. c.answer.ensures.sat f (logged_restarted f c.args.search.now c.close.new.self logged c.close.ensures.restarted)
+
+pub returns-clause-unsat : goal.returns-clause-unsat
+returns-clause-unsat c = λ f logged. c.answer.ensures.unsat f (logged_restarted f c.args.search.now c.close.new.self logged c.close.ensures.restarted)
+
+pub returns-clause-kept : goal.returns-clause-kept
+returns-clause-kept c = λ f logged. c.answer.ensures.kept f (logged_restarted f c.args.search.now c.close.new.self logged c.close.ensures.restarted)
+
+pub returns-clause-thinned : goal.returns-clause-thinned
+returns-clause-thinned c = λ f logged. c.answer.ensures.thinned f (logged_restarted f c.args.search.now c.close.new.self logged c.close.ensures.restarted)
+
+pub returns-clause-open : goal.returns-clause-open
+returns-clause-open c = λ f logged none.
+    let low : max c.args.search.now.least c.args.budget ≤ c.target-target.result = omega (arith, c.target-target.ensures.least, c.target-target.ensures.budget, c.close.ensures.restarted.least) in
+    open_less f c.answer.result (max c.args.search.now.least c.args.budget) c.target-target.result low (c.answer.ensures.open f (logged_restarted f c.args.search.now c.close.new.self logged c.close.ensures.restarted) none)
+
+pub returns-clause-decides : goal.returns-clause-decides
+returns-clause-decides c = λ f logged none enough.
+    let low : max c.args.search.now.least c.args.budget ≤ c.target-target.result = omega (arith, c.target-target.ensures.least, c.target-target.ensures.budget, c.close.ensures.restarted.least) in
+    c.answer.ensures.decides f (logged_restarted f c.args.search.now c.close.new.self logged c.close.ensures.restarted) none (omega (arith, low, enough))
+
+pub close-requires-clause-searching : goal.close-requires-clause-searching
+close-requires-clause-searching c = c.requires.under_way.searching
+
+pub close-requires-clause-visited : goal.close-requires-clause-visited
+close-requires-clause-visited c = c.requires.under_way.visited

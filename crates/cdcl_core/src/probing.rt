@@ -1,0 +1,190 @@
+//! Probes: a search tries to make some literals true, and decides these and open variables alone
+//! (`Scope`). What it learns from conflicts are clauses of the formula, as ever, and it gives up
+//! after some of them. So probes of a circuit's equal points, from its inputs on, show that these
+//! are equal by short logs (SAT sweeping: Kuehlmann, Paruthi, Krohm and Ganai, "Robust Boolean
+//! reasoning for equivalence checking and functional property verification", 2002).
+//!
+//! Its decisions are free: the invariants of a search hold whatever variable without a value is
+//! decided. A probe leaves the trail standing, and the next step of the search goes down first.
+ghost use Rattle.std.specs.Prelude.{◌≡◌, ℕ, ◌+◌, ◌<◌, ◌≤◌, [], length, IfOk, IfSome, IfNone};
+ghost use Rattle.sat_theory.specs.Formula.{Formula, IsWithin};
+ghost use Rattle.cdcl_theory.specs.Falling.{AllSettled};
+ghost use Rattle.cdcl_theory.specs.Trails.{fell as fell_of};
+ghost use Rattle.clause_db.specs.Stored.{live_in, IsStored};
+ghost use Rattle.sat_solve.specs.Budgets.{most_budget};
+
+use crate::scope::{next_open, open_targets};
+use crate::search::Search;
+use cnf_core::Lit;
+use sat_solve::{Cones, Probed};
+use std::alloc::AllocError;
+use trail_core::Trail;
+
+/// A probe makes no decision where the last id is so great, so that later searches have room.
+const LAST_ID: u32 = 1_900_000_000;
+
+/// Whether a target is false.
+fn is_clashed(trail: &Trail, targets: &[Lit]) -> bool
+    requires within { IsWithin trail.now.vars targets.now }
+{
+    for target in targets {
+        if trail.fell(*target) > 0 {
+            return true;
+        }
+    }
+    false
+}
+
+impl Search {
+    ghost use Rattle.cdcl_core.specs.Searching.{IsSearching, IsVisited, IsLogged, HasRestarted, HasDecided};
+    ghost use Rattle.cdcl_core.specs.Endings.{HasRefuted};
+    ghost use Rattle.cdcl_core.specs.Solving.{IsUnderWay};
+
+    /// Backtracks to level 0.
+    pub(crate) fn descend(&mut self)
+        requires searching { IsSearching self.old }
+        requires visited { IsVisited self.old }
+        ensures searching { IsSearching self.new }
+        ensures visited { IsVisited self.new }
+        ensures bottom { self.new.starts.items ≡ [] }
+        ensures restarted { HasRestarted self.old self.new }
+    {
+        let Some(first) = self.starts.first() else {
+            return;
+        };
+        let first = *first;
+        self.go_down(first);
+    }
+
+    /// Ends all probes.
+    pub(crate) fn close(&mut self)
+        requires searching { IsSearching self.old }
+        requires visited { IsVisited self.old }
+        ensures searching { IsSearching self.new }
+        ensures visited { IsVisited self.new }
+        ensures bottom { self.new.starts.items ≡ [] }
+        ensures restarted { HasRestarted self.old self.new }
+    {
+        self.descend();
+        self.scope = None;
+    }
+
+    /// The least number of additions of the log where it ends open after `budget` further ones.
+    pub(crate) fn target(&self, budget: u32) -> u32
+        requires given { self.now.given ≤ length self.now.clauses.clauses }
+        requires few { length self.now.clauses.clauses < 2950000000 }
+        requires most { budget ≤ most_budget }
+        requires least { self.now.least ≤ most_budget }
+        ensures least { self.now.least ≤ result }
+        ensures budget { budget ≤ result }
+        ensures short { length self.now.clauses.clauses ≤ self.now.given + result }
+        ensures room { self.now.given + result < 2970000000 }
+    {
+        let additions = self.clauses.last() - self.given;
+        self.least.max(additions + budget)
+    }
+
+    /// Begins a level with a decision of a probe where the last id is below `end`, or ends the probe.
+    fn decide_open(
+        &mut self,
+        targets: &[Lit],
+        cones: &Cones,
+        end: u32,
+    ) -> Result<Option<Probed>, AllocError>
+        requires searching { IsSearching self.old }
+        requires settled { AllSettled (live_in self.old.clauses) (fell_of self.old.trail) }
+        requires visited { IsVisited self.old }
+        requires all { self.old.head ≡ length self.old.trail.lits }
+        requires within { IsWithin self.old.trail.vars targets.now }
+        ensures searching { IfOk result (λ _. IsSearching self.new) }
+        ensures visited { IfOk result (λ _. IsVisited self.new) }
+        ensures decided { IfOk result (λ ended. IfNone ended (HasDecided self.old self.new)) }
+        ensures under { IfOk result (λ ended. IfNone ended (length self.old.clauses.clauses < end)) }
+        ensures same { IfOk result (λ ended. IfSome ended (λ _. self.new ≡ record self.old { scope = self.new.scope })) }
+    {
+        if is_clashed(&self.trail, targets) {
+            return Ok(Some(Probed::Clashed));
+        }
+        let Some(lit) = next_open(
+            &mut self.scope,
+            &self.trail,
+            &self.choice.signs,
+            targets,
+            cones,
+        )?
+        else {
+            return Ok(Some(Probed::Standing));
+        };
+        if self.clauses.last() >= end {
+            return Ok(Some(Probed::GivenUp));
+        }
+        self.starts.push(self.trail.len())?;
+        self.trail.push(lit, 0)?;
+        Ok(None)
+    }
+
+    /// Begins a probe at level 0.
+    fn begin_probe(&mut self, targets: &[Lit], cones: &Cones) -> Result<(), AllocError>
+        requires searching { IsSearching self.old }
+        requires visited { IsVisited self.old }
+        ensures searching { IfOk result (λ _. IsSearching self.new) }
+        ensures visited { IfOk result (λ _. IsVisited self.new) }
+        ensures bottom { IfOk result (λ _. self.new.starts.items ≡ []) }
+        ensures restarted { IfOk result (λ _. HasRestarted self.old self.new) }
+    {
+        self.descend();
+        let alloc = *self.starts.allocator();
+        open_targets(&mut self.scope, alloc, &self.trail, targets, cones)?;
+        Ok(())
+    }
+
+    /// Tries to make the targets true. A decision that is due after `limit` conflicts ends it; None: the formula is
+    /// refuted.
+    pub(crate) fn probe(
+        &mut self,
+        targets: &[Lit],
+        cones: &Cones,
+        limit: u32,
+    ) -> Result<Option<Probed>, AllocError>
+        requires under_way { IsUnderWay self.old }
+        requires within { IsWithin self.old.trail.vars targets.now }
+        ensures under_way { IfOk result (λ ended. IfSome ended (λ _. IsUnderWay self.new)) }
+        ensures logged { (f : Formula) → IsLogged f self.old → IfOk result (λ ended. IfSome ended (λ _. IsLogged f self.new)) }
+        ensures refuted { (f : Formula) → IsLogged f self.old → IfOk result (λ ended. IfNone ended (HasRefuted f self.new)) }
+        ensures stored { IfOk result (λ ended. IfNone ended (IsStored self.new.clauses)) }
+        ensures vars { IfOk result (λ _. self.new.trail.vars ≡ self.old.trail.vars) }
+        ensures least { IfOk result (λ ended. IfSome ended (λ _. self.new.least ≡ self.old.least)) }
+    {
+        self.begin_probe(targets, cones)?;
+        let end = LAST_ID.min(self.clauses.last().saturating_add(limit));
+        self.probe_to(targets, cones, end)
+    }
+
+    /// A probe from level 0 that ends where a decision is due and the last id is `end` or greater.
+    fn probe_to(
+        &mut self,
+        targets: &[Lit],
+        cones: &Cones,
+        end: u32,
+    ) -> Result<Option<Probed>, AllocError>
+        requires under_way { IsUnderWay self.old }
+        requires end { end ≤ LAST_ID }
+        requires within { IsWithin self.old.trail.vars targets.now }
+        ensures under_way { IfOk result (λ ended. IfSome ended (λ _. IsUnderWay self.new)) }
+        ensures logged { (f : Formula) → IsLogged f self.old → IfOk result (λ ended. IfSome ended (λ _. IsLogged f self.new)) }
+        ensures refuted { (f : Formula) → IsLogged f self.old → IfOk result (λ ended. IfNone ended (HasRefuted f self.new)) }
+        ensures stored { IfOk result (λ ended. IfNone ended (IsStored self.new.clauses)) }
+        ensures vars { IfOk result (λ _. self.new.trail.vars ≡ self.old.trail.vars) }
+        ensures least { IfOk result (λ ended. IfSome ended (λ _. self.new.least ≡ self.old.least)) }
+    {
+        loop {
+            if let Some(conflict) = self.settle()? {
+                self.refute(conflict)?;
+                return Ok(None);
+            }
+            if let Some(probed) = self.decide_open(targets, cones, end)? {
+                return Ok(Some(probed));
+            }
+        }
+    }
+}

@@ -1,9 +1,0 @@
--- The reader of lines stands for the same text.
-use Rattle.std.proofs.Common.{◌++◌, sym, subst}
-use Rattle.cert_file.specs.Reader.{Reader, StandsFor}
-use Rattle.cert_file.proofs.reader.BundleReader.feed.Goals as goal
-
-pub returns-in-Ok-clause-read : goal.returns-in-Ok-clause-read
-returns-in-Ok-clause-read c = λ text stands.
-    subst (λ (r : Reader). StandsFor r (text ++ c.args.piece.now)) (sym c.of.ensures)
-    (c.in-Ok.ensures.read text (subst (λ (r : Reader). StandsFor r text) (sym c.pieces.ensures) stands))

@@ -1,0 +1,140 @@
+//! What was decided of a specification is found again by one that differs in the order of its inputs alone: the second
+//! question goes to a solver that answers nothing.
+ghost use Rattle.std.specs.Prelude.{◌≡◌, IfSome};
+ghost use Rattle.cert_theory.specs.Bundle.{IsHeading};
+
+use cdcl_core::Cdcl;
+use cnf_core::{Cnf, Lit};
+use decide_core::{Decided, Heading, Memory, decide};
+use op_basis::Basis;
+use sat_solve::{Cones, Probed, Solved, Solver};
+use settings::Method;
+use std::alloc::{AllocError, Global};
+use tt_core::read_tables;
+
+/// A solver that never has the memory for an answer.
+#[derive(Drop)]
+struct Silent;
+
+impl Solver for Silent {
+    ghost use Rattle.std.specs.Prelude.{ℕ};
+
+    ghost IsSolverOf = { λ f least s. Unit {0} };
+
+    ghost vars_of = { λ s. 0 };
+
+    fn new(_alloc: Global, _cnf: &Cnf, _least: u32) -> Result<Silent, AllocError> {
+        Err(AllocError)
+    }
+
+    fn probe(
+        &mut self,
+        _targets: &[Lit],
+        _cones: Cones,
+        _limit: u32,
+    ) -> Result<Probed, AllocError> {
+        Err(AllocError)
+    }
+
+    fn bit(&self, _variable: u32) -> Option<bool> {
+        None
+    }
+
+    fn finish(self, _alloc: Global, _budget: u32) -> Result<Solved, AllocError> {
+        Err(AllocError)
+    }
+}
+
+/// The question whether tables, of at most 1,000 bytes, have a chain of at most `max` steps, up to 16, over a basis.
+fn heading_of(alloc: Global, text: &[u8], basis: Basis, max: u32) -> Option<Heading>
+    ensures heading { IfSome result IsHeading }
+    ensures basis { IfSome result (λ heading. heading.basis ≡ basis) }
+{
+    if text.len() > 1_000 || basis.get() == 0 || max > 16 {
+        return None;
+    }
+    let Ok(tables) = read_tables(alloc, text) else {
+        return None;
+    };
+    // brings the type invariant into the proof
+    let _inputs = tables.spec.n();
+    Some(Heading {
+        spec: tables.spec,
+        basis,
+        method: Method::Ssv,
+        conflicts: 100_000,
+        max,
+    })
+}
+
+/// How a question is answered.
+#[derive(Clone, Copy, PartialEq, Eq)]
+enum Answer {
+    Shorter,
+    Least,
+    Open,
+    Nothing,
+}
+
+/// The answer to a question of a memory for its basis.
+fn answer_of<S: Solver>(alloc: Global, memory: &mut Memory, heading: &Heading) -> Answer
+    requires heading { IsHeading heading.now }
+    requires basis { memory.old ≡ heading.now.basis }
+    ensures { memory.new ≡ memory.old }
+{
+    match decide::<S>(alloc, memory, heading) {
+        Ok(Decided::Shorter(_)) => Answer::Shorter,
+        Ok(Decided::Least) => Answer::Least,
+        Ok(Decided::Open(_)) => Answer::Open,
+        Err(_) => Answer::Nothing,
+    }
+}
+
+/// All operators.
+const ALL: u16 = 65_535;
+
+/// Whether tables have this answer by a solver, others the same one then without a solver, and neither one without a
+/// solver before.
+fn is_found_again(alloc: Global, first: &[u8], second: &[u8], max: u32, wanted: Answer) -> bool {
+    let basis = Basis::new(ALL);
+    let Some(heading) = heading_of(alloc, first, basis, max) else {
+        return false;
+    };
+    let Some(turned) = heading_of(alloc, second, basis, max) else {
+        return false;
+    };
+    let mut memory = Memory::new(alloc, basis);
+    let before = answer_of::<Silent>(alloc, &mut memory, &turned);
+    let found = answer_of::<Cdcl>(alloc, &mut memory, &heading);
+    let again = answer_of::<Silent>(alloc, &mut memory, &turned);
+    before == Answer::Nothing && found == wanted && again == wanted
+}
+
+/// Tables, the same with their inputs in another order, the greatest number of steps, and the answer. Fewer steps than
+/// five are gone over without a search.
+const TURNED: &[(&[u8], &[u8], u32, Answer)] = &[
+    // the full adder beside the AND of x1 and x2; beside that of x1 and x3
+    (
+        b"inputs 3\n01101001\n00010111\n00000011\n",
+        b"inputs 3\n01101001\n00010111\n00000101\n",
+        5,
+        Answer::Shorter,
+    ),
+    // and beside the OR of the two
+    (
+        b"inputs 3\n01101001\n00010111\n00000011\n00111111\n",
+        b"inputs 3\n01101001\n00010111\n00000101\n01011111\n",
+        5,
+        Answer::Least,
+    ),
+];
+
+#[test]
+fn what_was_decided_is_found_in_any_order_of_inputs(rt: HostRuntime) {
+    for &(first, second, max, wanted) in TURNED {
+        assert!(rt;
+            is_found_again(rt.alloc(), first, second, max, wanted),
+            "{max}"
+        );
+    }
+}

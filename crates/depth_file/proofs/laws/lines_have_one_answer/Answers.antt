@@ -1,0 +1,8 @@
+use Rattle.depth_file.specs.AnswerLaws.{some_answer, one_answer}
+use Rattle.depth_file.proofs.laws.lines_have_one_answer.Goals as goal
+
+pub returns-clause-some : goal.returns-clause-some
+returns-clause-some c = some_answer
+
+pub returns-clause-one : goal.returns-clause-one
+returns-clause-one c = one_answer

@@ -1,0 +1,36 @@
+//! Random words, the same in every run: xorshift with a multiplied output (Vigna, "An experimental exploration of
+//! Marsaglia's xorshift generators, scrambled", 2016).
+
+/// The first state.
+const SEED: u64 = 88_172_645_463_325_252;
+
+/// The factor of the output.
+const FACTOR: u64 = 0x2545_f491_4f6c_dd1d;
+
+/// A generator of words of 64 bits.
+#[derive(Drop)]
+pub(crate) struct Random(u64);
+
+impl Random {
+    /// The generator at its beginning.
+    pub(crate) fn new() -> Random {
+        Random(SEED)
+    }
+
+    /// The next word.
+    pub(crate) fn word(&mut self) -> u64 {
+        let mut state = self.0;
+        state ^= state << 13;
+        state ^= state >> 7;
+        state ^= state << 17;
+        self.0 = state;
+        state.wrapping_mul(FACTOR)
+    }
+
+    /// A word in which one bit of sixteen is 1, and the lowest is 0.
+    pub(crate) fn sparse(&mut self) -> u64 {
+        let first = self.word() & self.word();
+        let second = self.word() & self.word();
+        first & second & !1
+    }
+}

@@ -1,0 +1,218 @@
+//! What a sweep knows besides the solver.
+
+use crate::classes::Classes;
+use crate::cones::ConeRows;
+use crate::forms::Forms;
+use crate::patterns::Patterns;
+use crate::points::{Edge, Points};
+use crate::rows::{entry, put};
+use net_core::Net;
+use sat_solve::Solver;
+use std::alloc::{AllocError, Global};
+
+/// The points, what simulation has shown of them, which were merged, and what was spent.
+#[derive(Drop)]
+pub(crate) struct Sweeping {
+    pub points: Points,
+    pub patterns: Patterns,
+    pub cones: ConeRows,
+    classes: Classes,
+    forms: Forms,
+    /// The representative of each point: itself, where it wasn't merged.
+    same: Vec<Edge>,
+    /// Whether a point is in the cone of an open sink.
+    needed: Vec<bool>,
+    /// Whether it isn't known of a sink that the nets agree in it.
+    open: Vec<bool>,
+    spent: u32,
+    budget: u32,
+}
+
+/// Each point as its own representative.
+fn themselves(alloc: Global, count: u32) -> Result<Vec<Edge>, AllocError> {
+    let mut same = Vec::with_capacity(alloc, count as usize)?;
+    for variable in 0..count {
+        same.push(Edge {
+            variable,
+            turned: false,
+        })?;
+    }
+    Ok(same)
+}
+
+impl Sweeping {
+    /// The beginning of a sweep over two nets with as many sources, with random assignments simulated.
+    pub(crate) fn new(
+        alloc: Global,
+        first: &Net,
+        second: &Net,
+        budget: u32,
+    ) -> Result<Sweeping, AllocError> {
+        let points = Points::new(alloc, first, second)?;
+        let count = points.count();
+        let sinks = points.ones.len();
+        let patterns = Patterns::new(alloc, &points)?;
+        let cones = ConeRows::new(alloc, &points)?;
+        let classes = Classes::new(alloc, &patterns, points.end())?;
+        let same = themselves(alloc, points.end())?;
+        Ok(Sweeping {
+            points,
+            patterns,
+            cones,
+            classes,
+            forms: Forms::new(alloc),
+            same,
+            needed: vec![in alloc; false; count]?,
+            open: vec![in alloc; true; sinks]?,
+            spent: 0,
+            budget,
+        })
+    }
+
+    /// Begins a round: the points in the cones of open sinks are needed, no form is known, and of the points only the
+    /// constant and the sources are listed.
+    pub(crate) fn begin_round(&mut self) {
+        self.needed.fill(false);
+        self.need_sinks();
+        self.need_cones();
+        self.forms.clear();
+        self.classes.clear();
+        for variable in 0..=self.points.sources {
+            self.classes.push(variable);
+        }
+    }
+
+    /// Marks the signals of the open sinks.
+    fn need_sinks(&mut self) {
+        for (sink, open) in self.open.iter().enumerate() {
+            if !*open {
+                continue;
+            }
+            let (one, other) = self.points.sink(sink);
+            put(&mut self.needed, one, true);
+            put(&mut self.needed, other, true);
+        }
+    }
+
+    /// Marks the operands of marked gates, the last gate first.
+    fn need_cones(&mut self) {
+        for variable in (self.points.sources..self.points.end()).rev() {
+            if !entry(&self.needed, variable, false) {
+                continue;
+            }
+            if let Some(point) = self.points.gate(variable) {
+                put(&mut self.needed, point.a, true);
+                put(&mut self.needed, point.b, true);
+            }
+        }
+    }
+
+    /// Whether a point is in the cone of an open sink.
+    pub(crate) fn is_needed(&self, variable: u32) -> bool {
+        entry(&self.needed, variable, false)
+    }
+
+    /// The representative of a point.
+    fn representative(&self, variable: u32) -> Edge {
+        let itself = Edge {
+            variable,
+            turned: false,
+        };
+        entry(&self.same, variable, itself)
+    }
+
+    /// Whether a point has another one for its representative.
+    pub(crate) fn is_merged(&self, variable: u32) -> bool {
+        self.representative(variable).variable != variable
+    }
+
+    /// Lists a point that wasn't merged.
+    pub(crate) fn list(&mut self, variable: u32) {
+        if !self.is_merged(variable) {
+            self.classes.push(variable);
+        }
+    }
+
+    /// The representative of the first gate that is alike with the gate `variable`, if there is another one.
+    pub(crate) fn alike(&mut self, variable: u32) -> Result<Option<u32>, AllocError> {
+        let Some(point) = self.points.gate(variable) else {
+            return Ok(None);
+        };
+        let a = self.representative(point.a);
+        let b = self.representative(point.b);
+        let owner = self.forms.owner(variable, point, a, b)?;
+        if owner == variable {
+            return Ok(None);
+        }
+        Ok(Some(self.representative(owner).variable))
+    }
+
+    /// The first point that may still be equal to `variable`, or complementary.
+    pub(crate) fn candidate(&self, variable: u32) -> Option<u32> {
+        self.classes.candidate(&self.patterns, variable)
+    }
+
+    /// Whether two points may still be equal or complementary.
+    pub(crate) fn may_be_equal(&self, x: u32, y: u32) -> bool {
+        self.patterns.mark_of(x) == self.patterns.mark_of(y)
+    }
+
+    /// `x` as `y` with a sign, if they are equal or complementary.
+    pub(crate) fn as_other(&self, x: u32, y: u32) -> Edge {
+        Edge {
+            variable: y,
+            turned: self.patterns.are_turned(x, y),
+        }
+    }
+
+    /// Merges `x` into `y`, which is its own representative.
+    pub(crate) fn merge(&mut self, x: u32, y: Edge) {
+        put(&mut self.same, x, y);
+        if y.variable != 0 {
+            self.cones.merge(x, y.variable);
+        }
+    }
+
+    /// Learns from the assignment that stands in the solver; whether it makes a sink differ.
+    pub(crate) fn learn<S: Solver>(&mut self, solver: &S) -> bool {
+        self.patterns.learn(&self.points, solver);
+        self.patterns.is_different(&self.points)
+    }
+
+    /// Counts the conflicts of a question that was given up.
+    pub(crate) fn spend(&mut self, conflicts: u32) {
+        self.spent = self.spent.saturating_add(conflicts);
+    }
+
+    /// The conflicts that count.
+    pub(crate) fn spent(&self) -> u32 {
+        self.spent
+    }
+
+    /// Whether the budget is spent.
+    pub(crate) fn is_spent(&self) -> bool {
+        self.spent >= self.budget
+    }
+
+    /// How many sinks there are.
+    pub(crate) fn sinks(&self) -> usize {
+        self.open.len()
+    }
+
+    /// Whether a sink is open.
+    pub(crate) fn is_open(&self, sink: usize) -> bool {
+        self.open.get(sink).copied().unwrap_or(false)
+    }
+
+    /// Closes a sink.
+    pub(crate) fn close(&mut self, sink: usize) {
+        if sink < self.open.len() {
+            self.open[sink] = false;
+        }
+    }
+
+    /// Whether some sink is open.
+    pub(crate) fn has_open(&self) -> bool {
+        self.open.iter().any(|open| *open)
+    }
+}

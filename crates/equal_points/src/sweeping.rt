@@ -1,0 +1,112 @@
+//! A sweep: rounds over the gates and the sinks, each with ten times the conflicts for a question.
+ghost use Rattle.std.specs.Prelude.{◌≡◌, ℕ, ◌+◌, ◌<◌, ◌^◌, length, IfOk, OnOk};
+ghost use Rattle.sat_theory.specs.Formula.{Formula};
+ghost use Rattle.equal_points.specs.Stays.{Stays};
+
+use crate::gates::{Heard, shorten_gates, visit_gates};
+use crate::sinks::visit_sinks;
+use crate::state::Sweeping;
+use net_core::Net;
+use sat_solve::Solver;
+use std::alloc::{AllocError, Global};
+
+/// How many conflicts a question may take, round by round.
+const LIMITS: [u32; 4] = [20, 200, 2_000, 20_000];
+
+/// What a sweep over two nets came to.
+#[derive(Drop)]
+pub enum Swept {
+    /// Under these bits of the sources, source 1 first, a sink may differ: whoever asked checks it.
+    Differ(Vec<bool>),
+    /// Nothing of the kind is known. Of the conflicts `spent` are those that count against a budget: of questions that
+    /// were given up.
+    Swept { spent: u32 },
+}
+
+/// A round over the gates and the sinks.
+fn round<S: Solver>(
+    solver: &mut S,
+    vars: u32,
+    sweeping: &mut Sweeping,
+    limit: u32,
+) -> Result<Heard, AllocError>
+    requires vars { S.vars_of solver.old ≡ vars }
+    requires small { vars < 2 ^ 31 }
+    ensures { OnOk result (Stays S.IsSolverOf S.vars_of solver.old solver.new) }
+{
+    let heard = visit_gates(solver, vars, sweeping, limit)?;
+    if heard != Heard::Nothing {
+        return Ok(heard);
+    }
+    visit_sinks(solver, vars, sweeping, limit)
+}
+
+/// Rounds, as long as a sink is open.
+fn rounds<S: Solver>(
+    solver: &mut S,
+    vars: u32,
+    sweeping: &mut Sweeping,
+) -> Result<Heard, AllocError>
+    requires vars { S.vars_of solver.old ≡ vars }
+    requires small { vars < 2 ^ 31 }
+    ensures { OnOk result (Stays S.IsSolverOf S.vars_of solver.old solver.new) }
+{
+    for limit in LIMITS {
+        let heard = round(solver, vars, sweeping, limit)?;
+        if heard != Heard::Nothing {
+            return Ok(heard);
+        }
+        if !sweeping.has_open() {
+            return Ok(Heard::Nothing);
+        }
+        sweeping.begin_round();
+    }
+    Ok(Heard::Nothing)
+}
+
+/// The short clauses and then the rounds.
+fn go<S: Solver>(solver: &mut S, vars: u32, sweeping: &mut Sweeping) -> Result<Heard, AllocError>
+    requires vars { S.vars_of solver.old ≡ vars }
+    requires small { vars < 2 ^ 31 }
+    ensures { OnOk result (Stays S.IsSolverOf S.vars_of solver.old solver.new) }
+{
+    sweeping.begin_round();
+    let heard = shorten_gates(solver, vars, sweeping)?;
+    if heard != Heard::Nothing {
+        return Ok(heard);
+    }
+    rounds(solver, vars, sweeping)
+}
+
+/// Sweeps over two nets with as many sources and as many sinks: finds signals that are equal or complementary, and has
+/// `solver`, a solver of the nets' miter, derive that they are, until the questions that were given up have taken
+/// `budget` conflicts. Whatever it finds, the solver stays one of its formula.
+pub fn sweep<S: Solver>(
+    alloc: Global,
+    first: &Net,
+    second: &Net,
+    solver: &mut S,
+    budget: u32,
+) -> Result<Swept, AllocError>
+    requires vars { S.vars_of solver.old ≡ first.now.sources + length first.now.gates + length second.now.gates + length first.now.sinks }
+    requires small { S.vars_of solver.old < 2 ^ 31 }
+    ensures kept { (f : Formula) (least : ℕ) → S.IsSolverOf f least solver.old → OnOk result (S.IsSolverOf f least solver.new) }
+    ensures vars { OnOk result (S.vars_of solver.new ≡ S.vars_of solver.old) }
+{
+    let gates = first.gates().len() as u32 + second.gates().len() as u32;
+    let vars = first.sources() + gates + first.sinks().len() as u32;
+    let mut sweeping = Sweeping::new(alloc, first, second, budget)?;
+    let heard = if sweeping.patterns.is_different(&sweeping.points) {
+        Heard::Difference
+    } else {
+        go(solver, vars, &mut sweeping)?
+    };
+    let spent = sweeping.spent();
+    if heard != Heard::Difference {
+        return Ok(Swept::Swept { spent });
+    }
+    match sweeping.patterns.difference(alloc, &sweeping.points)? {
+        Some(bits) => Ok(Swept::Differ(bits)),
+        None => Ok(Swept::Swept { spent }),
+    }
+}

@@ -1,0 +1,35 @@
+//! Whether two nets do the same: the answers to their miter without its log.
+ghost use Rattle.std.specs.Prelude.{◌≡◌, ◌≤◌, ℕ, Bool, true, IfOk};
+ghost use Rattle.sat_solve.specs.Budgets.{most_budget};
+ghost use Rattle.net_theory.specs.Net.{sink_values};
+ghost use Rattle.equiv_theory.specs.Difference.{AreComparable};
+ghost use Rattle.equiv_core.specs.Limits.{AreSmall};
+
+use crate::answer::Equiv;
+use crate::comparing::compare;
+use crate::mitering::miter_nets;
+use net_core::Net;
+use sat_solve::Solver;
+use std::alloc::{AllocError, Global};
+
+/// Whether the solver `S` finds two nets of as many sources and as many sinks equivalent: each sink has the same value
+/// in both under every assignment. False where they differ, and where more than `budget` learnt clauses, from 1 to
+/// 10,000,000, would be needed. Each has at most 100,000 gates, and the first fewer than 300,000,000 sources and sinks.
+pub fn equal_nets<S: Solver>(
+    alloc: Global,
+    first: &Net,
+    second: &Net,
+    budget: u32,
+) -> Result<bool, AllocError>
+    requires comparable { AreComparable first.now second.now }
+    requires small { AreSmall first.now second.now }
+    requires budget { (1 ≤ budget) × (budget ≤ most_budget) }
+    ensures { IfOk result (λ same. same ≡ true → (given : ℕ → Bool) → sink_values first.now given ≡ sink_values second.now given) }
+{
+    let cnf = miter_nets(alloc, first, second)?;
+    match compare::<S>(alloc, first, second, &cnf, budget)? {
+        Equiv::Equal(_) => Ok(true),
+        Equiv::Differ { sink: _, at: _ } => Ok(false),
+        Equiv::Undecided(_) => Ok(false),
+    }
+}

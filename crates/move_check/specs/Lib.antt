@@ -1,0 +1,5 @@
+pub mod Allowed
+pub mod Fitting
+pub mod Sinks
+pub mod SinkLaws
+pub mod JudgingLaws

@@ -1,0 +1,19 @@
+-- Sinks of one net as signals of another: each place of the first has a signal of the second in its stead.
+use Rattle.std.specs.Prelude.{◌≡◌, ℕ, ◌≤◌, length, slice_get, slice_index_or, Some, ◌<◌}
+use Rattle.net_theory.specs.declared.data.Sig.{Sig}
+use Rattle.net_theory.specs.declared.data.Sig.TheVariants.{Place}
+use Rattle.net_theory.specs.Net.{Net, IsSigBelow}
+use Rattle.net_theory.specs.Answers.{IsStill}
+
+-- sources stay, and each place has a signal below `end`
+pub record IsSinkMap (sources end : ℕ) (places : ℕ → Sig) : Type 0 where
+  pub stay : (p : ℕ) → p ≤ sources → places p ≡ Place p
+  pub below : (p : ℕ) → 1 ≤ p → IsSigBelow end (places p)
+
+-- The second net has as many sources and sinks as the first; where a sink of the first is a constant or a source, it is
+-- the same in the second, and equal sinks are equal.
+pub record HasSinksOf (n m : Net) : Type 0 where
+  pub sources : m.sources ≡ n.sources
+  pub sink_count : length m.sinks ≡ length n.sinks
+  pub still : (i : ℕ) (s : Sig) → slice_get n.sinks i ≡ Some s → IsStill n.sources s → slice_get m.sinks i ≡ Some s
+  pub equal : (i j : ℕ) (d : Sig) → i < length n.sinks → j < length n.sinks → slice_index_or n.sinks i d ≡ slice_index_or n.sinks j d → slice_index_or m.sinks i d ≡ slice_index_or m.sinks j d

@@ -1,0 +1,69 @@
+//! What may be said of a candidate.
+ghost use Rattle.std.specs.Prelude.{◌≡◌, ◌≤◌, true, IfOk, IfSome};
+ghost use Rattle.sat_solve.specs.Budgets.{most_budget};
+ghost use Rattle.net_theory.specs.Answers.{IsPruned};
+ghost use Rattle.op_basis.specs.Basis.{members};
+ghost use Rattle.equiv_core.specs.Limits.{AreSmall};
+ghost use Rattle.net_theory.specs.Operators.{HasOperatorsWithin};
+ghost use Rattle.move_check.specs.Fitting.{IsFit};
+
+use crate::operators::has_operators_within;
+use crate::sinks::with_sinks_of;
+use equiv_core::equal_nets;
+use net_core::{Net, drop_dead};
+use op_basis::Basis;
+use sat_solve::Solver;
+use std::alloc::{AllocError, Global};
+
+/// The most gates, and the most sources or sinks, of nets that are compared.
+const MOST_GATES: usize = 100_000;
+const MOST_ENDS: usize = 299_999_999;
+
+/// Whether both nets are small enough for a miter.
+fn are_small(first: &Net, second: &Net) -> bool
+    ensures { result ≡ true → AreSmall first.now second.now }
+{
+    first.sources() as usize <= MOST_ENDS
+        && first.sinks().len() <= MOST_ENDS
+        && first.gates().len() <= MOST_GATES
+        && second.gates().len() <= MOST_GATES
+}
+
+/// Whether a candidate may be compared at all.
+fn is_fit(net: &Net, candidate: &Net, basis: Basis) -> bool
+    ensures { result ≡ true → IsFit (members basis) net.now candidate.now }
+{
+    candidate.sources() == net.sources()
+        && candidate.gates().len() <= net.gates().len()
+        && are_small(net, candidate)
+        && has_operators_within(net, candidate, basis)
+}
+
+/// The candidate without its dead gates, where it may take the net's place: it is found to be equivalent with at most
+/// `budget` learnt clauses, from 1 to 10,000,000, it has no more gates, and operators of the basis or of the net. None
+/// where it may not.
+#[tactic(auto, using(crate::specs::JudgingLaws::judging))]
+pub fn judged<S: Solver>(
+    alloc: Global,
+    net: &Net,
+    candidate: Net,
+    basis: Basis,
+    budget: u32,
+) -> Result<Option<Net>, AllocError>
+    requires budget { (1 ≤ budget) × (budget ≤ most_budget) }
+    ensures pruned { IfOk result (λ found. IfSome found (IsPruned net.now)) }
+    ensures operators { IfOk result (λ found. IfSome found (HasOperatorsWithin (members basis) net.now)) }
+{
+    if !is_fit(net, &candidate, basis) {
+        return Ok(None);
+    }
+    let judged = with_sinks_of(alloc, net, candidate)?;
+    // bring the type invariants into the proof
+    let _gates = net.gates();
+    let _sinks = judged.sinks();
+    let same = equal_nets::<S>(alloc, net, &judged, budget)?;
+    if !same {
+        return Ok(None);
+    }
+    Ok(Some(drop_dead(alloc, &judged)?))
+}

@@ -1,0 +1,7 @@
+use Rattle.std.proofs.Common.{◌≡◌, false}
+use Rattle.bound_core.specs.Counts.{some_below}
+use Rattle.step_core.specs.Steps.{meets_at}
+use Rattle.step_core.proofs.outs.step_for.Given as goal
+
+abbrev pub invariant-loop-index : goal.invariant-loop-index
+invariant-loop-index l = some_below (meets_at l.spec l.trail.steps l.output) l.index ≡ false

@@ -1,0 +1,196 @@
+-- That outputs which differ need steps of their own.
+use Rattle.std.proofs.Common.{◌≡◌, ℕ, ◌+◌, ◌≤◌, ◌<◌, ◌⊎◌, true, false, Bool, ◌&&◌, not, ◌==◌, List, [], ◌∷◌, ◌++◌, length, refl, sym, ap, ◌∙◌, subst, arith, inl, inr}
+use Rattle.std.specs.Prelude.{slice_index, bit_and, bit_xor}
+use Rattle.std.specs.Int.{bit_at}
+use Rattle.std.proofs.lemmas.Bool.{cases_Bool, cases_lt, both_ways}
+use Rattle.std.proofs.lemmas.Grind.{common_steps}
+use Rattle.std.proofs.lemmas.List.{length_push}
+use Rattle.std.proofs.lemmas.Nat.Bits.{bit_at-zero, bit_at-lt, same_from_bits}
+use Rattle.chain_theory.specs.Operator.{Basis, digit}
+use Rattle.chain_theory.specs.Chain.{Step}
+use Rattle.op_basis.specs.WordOperator.{on_words, differ}
+use Rattle.op_basis.specs.WordOperatorLaws.{digit_and, digit_xor}
+use Rattle.tt_core.specs.Words.{Words}
+use Rattle.bound_core.specs.Counts.{some_below, count_below}
+use Rattle.bound_core.specs.CountLaws.{passes_some, some_passes, and_parts, true_false, no_digit}
+use Rattle.step_core.specs.Steps.{misses, meets_at, is_met, is_missing, all_met, word_in}
+use Rattle.step_core.specs.Cuts.{are_alike, is_apart, is_due, due, meets, meets_some, gives, gives_some}
+use Rattle.step_core.specs.Walks.{IsTarget, NoneFrom, NoneWith, IsThe}
+use Rattle.step_core.specs.SearchLaws.{none_passes, count_split, count_zero, count_one}
+use Rattle.step_core.specs.TrailLaws.{word_front, word_last}
+use Rattle.step_core.specs.TargetLaws.{met_at}
+use Rattle.step_core.specs.WalkLaws.{append_nil, append_one}
+use Rattle.step_core.specs.WordLaws.{zero_is}
+
+not_true : (b : Bool) → not b ≡ true → b ≡ false
+not_true true e = absurd cc
+not_true false e = refl
+
+pub not_false : (b : Bool) → not b ≡ false → b ≡ true
+not_false true e = refl
+not_false false e = absurd cc
+
+-- ---- one word has not the values of two outputs that differ
+
+same_bit : (a b x care more : Bool) → (differ x a && care) ≡ false → (differ x b && more) ≡ false → ((differ a b && care) && more) ≡ false
+same_bit a b x false more p q = grind (arith, common_steps)
+same_bit a b x true false p q = grind (arith, common_steps)
+same_bit true true x true true p q = refl
+same_bit false false x true true p q = refl
+same_bit true false true true true p q = absurd cc
+same_bit true false false true true p q = absurd cc
+same_bit false true true true true p q = absurd cc
+same_bit false true false true true p q = absurd cc
+
+no_row : (x : ℕ) → x ≡ 0 → (t : ℕ) → digit x t ≡ false
+no_row x e t = ap (λ (y : ℕ). digit y t) e ∙ ap (λ (y : ℕ). y == 1) (bit_at-zero t)
+
+no_rows : (x : ℕ) → ((t : ℕ) → digit x t ≡ false) → x ≡ 0
+no_rows x none = same_from_bits x 0 (λ t. no_digit (bit_at x t) (bit_at-lt x t) (none t) ∙ sym (bit_at-zero t))
+
+-- a word that two outputs have makes them alike
+both_alike : (w : Words) (word i b : ℕ) → misses w word i ≡ false → misses w word b ≡ false → are_alike w i b ≡ true
+unfolding misses are_alike
+both_alike w word i b has_i has_b =
+    let on_i : ℕ = slice_index w.on i in
+    let on_b : ℕ = slice_index w.on b in
+    let care_i : ℕ = slice_index w.care i in
+    let care_b : ℕ = slice_index w.care b in
+    let rows_i : (t : ℕ) → (differ (digit word t) (digit on_i t) && digit care_i t) ≡ false = λ t. sym (digit_and (bit_xor word on_i) care_i t ∙ ap (λ (x : Bool). x && digit care_i t) (digit_xor word on_i t)) ∙ no_row (bit_and (bit_xor word on_i) care_i) (zero_is (bit_and (bit_xor word on_i) care_i) has_i) t in
+    let rows_b : (t : ℕ) → (differ (digit word t) (digit on_b t) && digit care_b t) ≡ false = λ t. sym (digit_and (bit_xor word on_b) care_b t ∙ ap (λ (x : Bool). x && digit care_b t) (digit_xor word on_b t)) ∙ no_row (bit_and (bit_xor word on_b) care_b) (zero_is (bit_and (bit_xor word on_b) care_b) has_b) t in
+    let none : bit_and (bit_and (bit_xor on_i on_b) care_i) care_b ≡ 0 = no_rows (bit_and (bit_and (bit_xor on_i on_b) care_i) care_b)
+    (λ t.
+    digit_and (bit_and (bit_xor on_i on_b) care_i) care_b t
+    ∙ ap (λ (x : Bool). x && digit care_b t) (digit_and (bit_xor on_i on_b) care_i t ∙ ap (λ (x : Bool). x && digit care_i t) (digit_xor on_i on_b t))
+    ∙ same_bit (digit on_i t) (digit on_b t) (digit word t) (digit care_i t) (digit care_b t) (rows_i t) (rows_b t)) in
+    ap (λ (x : ℕ). x == 0) none
+
+-- ---- one step more
+
+met_some : (w : Words) (steps : List Step) (i : ℕ) → is_met w steps i ≡ true → (k : ℕ) × (k < length steps) × (meets_at w steps i k ≡ true)
+unfolding is_met
+met_some w steps i e = some_passes (meets_at w steps i) (length steps) e
+
+same_meets : (w : Words) (front : List Step) (s : Step) (i k : ℕ) → k < length front → meets_at w (front ++ s ∷ []) i k ≡ true → meets_at w front i k ≡ true
+unfolding meets_at
+same_meets w front s i k low e = ap (λ (x : ℕ). not (misses w x i)) (sym (word_front w.n front (s ∷ []) (w.n + 1 + k) (omega (arith, low)))) ∙ e
+
+last_meets : (w : Words) (steps : List Step) (i k last : ℕ) → k ≡ last → meets_at w steps i k ≡ true → not (misses w (word_in w.n steps (w.n + 1 + last)) i) ≡ true
+unfolding meets_at
+last_meets w steps i k last e meets_it = ap (λ (x : ℕ). not (misses w (word_in w.n steps (w.n + 1 + x)) i)) (sym e) ∙ meets_it
+
+gives_none : (w : Words) (front : List Step) (word i : ℕ) → gives_some w front word ≡ false → i < length w.on → is_met w front i ≡ false → misses w word i ≡ false → ⊥
+unfolding gives_some gives meets is_missing
+gives_none w front word i none low missing has =
+    let gives_it : (not (misses w word i) && not (is_met w front i)) ≡ true = rw (has, missing) refl in
+    true_false (sym gives_it ∙ none_passes (gives w front word) (length w.on) i none low)
+
+-- the output that it gives its values
+newly_met : (w : Words) (front : List Step) (s : Step) (i : ℕ) → is_met w front i ≡ false → is_met w (front ++ s ∷ []) i ≡ true → misses w (word_in w.n (front ++ s ∷ []) (w.n + 1 + length front)) i ≡ false
+newly_met w front s i before after =
+    let found = met_some w (front ++ s ∷ []) i after in
+    elim (cases_lt found.0 (length front)) [
+      | inl low ↦ absurd (both_ways (is_met w front i) before (met_at w front i found.0 low (same_meets w front s i found.0 low found.2)))
+      | inr last ↦
+          let at : found.0 ≡ length front = omega (arith, last, found.1, length_push front s) in
+          not_true (misses w (word_in w.n (front ++ s ∷ []) (w.n + 1 + length front)) i) (last_meets w (front ++ s ∷ []) i found.0 (length front) at found.2)
+    ]
+
+is_parts : (w : Words) (steps : List Step) (i : ℕ) → is_due w steps i ≡ true → (is_apart w i ≡ true) × (is_met w steps i ≡ false)
+unfolding is_due is_missing
+is_parts w steps i e = let parts = and_parts (is_apart w i) (not (is_met w steps i)) e in (parts.0, not_true (is_met w steps i) parts.1)
+
+is_whole : (w : Words) (steps : List Step) (i : ℕ) → is_apart w i ≡ true → is_met w steps i ≡ false → is_due w steps i ≡ true
+unfolding is_due is_missing
+is_whole w steps i apart missing = rw (apart, missing) refl
+
+-- an output of the word that differs from those before it
+unfoldable is_own : Words → ℕ → ℕ → Bool
+is_own w word i = is_apart w i && not (misses w word i)
+
+own_parts : (w : Words) (word i : ℕ) → is_own w word i ≡ true → (is_apart w i ≡ true) × (misses w word i ≡ false)
+unfolding is_own
+own_parts w word i e = let parts = and_parts (is_apart w i) (not (misses w word i)) e in (parts.0, not_true (misses w word i) parts.1)
+
+own_whole : (w : Words) (word i : ℕ) → is_apart w i ≡ true → misses w word i ≡ false → is_own w word i ≡ true
+unfolding is_own
+own_whole w word i apart has = rw (apart, has) refl
+
+own_once : (w : Words) (word i j : ℕ) → i < j → is_own w word i ≡ true → is_own w word j ≡ true → ⊥
+unfolding is_apart
+own_once w word i j less first second =
+    let a = own_parts w word i first in
+    let b = own_parts w word j second in
+    true_false (sym (both_alike w word j i b.1 a.1) ∙ none_passes (are_alike w j) j i (not_true (some_below (are_alike w j) j) b.0) less)
+
+due_step : (w : Words) (front : List Step) (s : Step) → due w front ≤ due w (front ++ s ∷ []) + 1
+due_step w front s =
+    let longer : List Step = front ++ s ∷ [] in
+    let word : ℕ = word_in w.n longer (w.n + 1 + length front) in
+    omega (
+      arith,
+      count_split (is_due w front) (is_due w longer) (is_own w word) (length w.on)
+          (λ i low e.
+          let parts = is_parts w front i e in
+          by_met w front s i parts.0 parts.1 (cases_Bool (is_met w longer i))),
+      count_one (is_own w word) (length w.on) (λ i j less low. own_once w word i j less),
+    )
+  where
+    by_met : (w : Words) (front : List Step) (s : Step) (i : ℕ) → is_apart w i ≡ true → is_met w front i ≡ false → (is_met w (front ++ s ∷ []) i ≡ true) ⊎ (is_met w (front ++ s ∷ []) i ≡ false) → (is_due w (front ++ s ∷ []) i ≡ true) ⊎ (is_own w (word_in w.n (front ++ s ∷ []) (w.n + 1 + length front)) i ≡ true)
+    by_met w front s i apart missing (inl met) = inr (own_whole w (word_in w.n (front ++ s ∷ []) (w.n + 1 + length front)) i apart (newly_met w front s i missing met))
+    by_met w front s i apart missing (inr still) = inl (is_whole w (front ++ s ∷ []) i apart still)
+
+-- ---- steps that serve
+
+none_due : (w : Words) (steps : List Step) (i : ℕ) → all_met w steps ≡ true → i < length w.on → is_due w steps i ≡ false
+unfolding all_met is_due
+none_due w steps i all low = ap (λ (x : Bool). is_apart w i && x) (none_passes (is_missing w steps) (length w.on) i (not_true (some_below (is_missing w steps) (length w.on)) all) low) ∙ and_false (is_apart w i)
+  where
+    and_false : (b : Bool) → (b && false) ≡ false
+    and_false true = refl
+    and_false false = refl
+
+-- as many further steps are needed as outputs are due
+pub due_few : (w : Words) (basis : Basis) (rest front : List Step) → IsTarget w basis (front ++ rest) → due w front ≤ length rest
+due_few w basis [] front target =
+    let whole : all_met w front ≡ true = subst (λ (ss : List Step). all_met w ss ≡ true) (append_nil front) target.serving.met in
+    omega (arith, count_zero (is_due w front) (length w.on) (λ i low. none_due w front i whole low))
+due_few w basis (s ∷ rest) front target =
+    omega (arith, due_step w front s, due_few w basis rest (front ++ s ∷ []) (subst (IsTarget w basis) (sym (append_one front s rest)) target))
+
+pub too_few : (w : Words) (basis : Basis) (front : List Step) (left : ℕ) → left < due w front → NoneFrom w basis front left
+too_few w basis front left few = record { none = λ rest count target. omega (arith, few, count, due_few w basis rest front target) }
+
+-- where each further step has to give an output its values
+pub must_give : (w : Words) (basis : Basis) (front : List Step) (s : Step) (left word : ℕ) → word ≡ on_words s.op (word_in w.n front s.j) (word_in w.n front s.k) → gives_some w front word ≡ false → left ≤ due w front → NoneWith w basis front left (IsThe s)
+must_give w basis front s left word made none many = record {
+  none = λ this rest is count target.
+      let longer : List Step = front ++ s ∷ [] in
+      let moved : IsTarget w basis (longer ++ rest) = subst (IsTarget w basis) (ap (λ (x : Step). front ++ x ∷ rest) is ∙ sym (append_one front s rest)) target in
+      let zero_more : count_below (λ i. false) (length w.on) ≡ 0 = count_zero (λ i. false) (length w.on) (λ i low. refl) in
+      let same = count_split (is_due w front) (is_due w longer) (λ i. false) (length w.on) (λ i low e. inl (still w front s word i made none low e)) in
+      omega (arith, many, count, due_few w basis rest longer moved, same, zero_more);
+}
+  where
+    still : (w : Words) (front : List Step) (s : Step) (word i : ℕ) → word ≡ on_words s.op (word_in w.n front s.j) (word_in w.n front s.k) → gives_some w front word ≡ false → i < length w.on → is_due w front i ≡ true → is_due w (front ++ s ∷ []) i ≡ true
+    still w front s word i made none low e =
+        let parts = is_parts w front i e in
+        let same : word_in w.n (front ++ s ∷ []) (w.n + 1 + length front) ≡ word = word_last w.n front s (w.n + 1 + length front) refl ∙ sym made in
+        elim (cases_Bool (is_met w (front ++ s ∷ []) i)) [
+          | inl met ↦ absurd (gives_none w front word i none low parts.1 (ap (λ (x : ℕ). misses w x i) (sym same) ∙ newly_met w front s i parts.1 met))
+          | inr missing ↦ is_whole w (front ++ s ∷ []) i parts.0 missing
+        ]
+
+-- ---- loops
+
+pub apart_fails : (w : Words) (i b : ℕ) → are_alike w i b ≡ true → b < i → is_apart w i ≡ false
+unfolding is_apart
+apart_fails w i b alike low = ap not (passes_some (are_alike w i) i b low alike)
+
+pub some_meets : (w : Words) (word i : ℕ) → meets w word i ≡ true → i < length w.on → meets_some w word ≡ true
+unfolding meets_some
+some_meets w word i has low = passes_some (meets w word) (length w.on) i low has
+
+pub some_gives : (w : Words) (steps : List Step) (word i : ℕ) → gives w steps word i ≡ true → i < length w.on → gives_some w steps word ≡ true
+unfolding gives_some
+some_gives w steps word i has low = passes_some (gives w steps word) (length w.on) i low has

@@ -1,0 +1,50 @@
+-- What a walk may leave out: outputs that need steps of their own, and steps that no reduced chain has.
+use Rattle.std.specs.Prelude.{ℕ, ◌==◌, Bool, ◌&&◌, ◌||◌, not, List, length, slice_index, bit_and, bit_xor}
+use Rattle.chain_theory.specs.Chain.{Step}
+use Rattle.tt_core.specs.Words.{Words}
+use Rattle.bound_core.specs.Counts.{some_below, count_below}
+use Rattle.step_core.specs.Steps.{misses, is_missing}
+
+-- ---- outputs that need steps of their own
+
+-- no row asks for different values of the outputs i + 1 and b + 1
+unfoldable pub are_alike : Words → ℕ → ℕ → Bool
+are_alike w i b = bit_and (bit_and (bit_xor (slice_index w.on i) (slice_index w.on b)) (slice_index w.care i)) (slice_index w.care b) == 0
+
+-- output i + 1 differs from each output before it
+unfoldable pub is_apart : Words → ℕ → Bool
+is_apart w i = not (some_below (are_alike w i) i)
+
+-- it does, and no step has its values yet
+unfoldable pub is_due : Words → List Step → ℕ → Bool
+is_due w steps i = is_apart w i && is_missing w steps i
+
+-- how many outputs are due: each needs a further step of its own
+-- Example: of the tables 0110 and 0001 of two inputs both are due before the first step, so there are two steps at least.
+abbrev pub due : Words → List Step → ℕ
+due w steps = count_below (is_due w steps) (length w.on)
+
+-- the word has the values of output i + 1
+unfoldable pub meets : Words → ℕ → ℕ → Bool
+meets w word i = not (misses w word i)
+
+-- it has those of some output
+unfoldable pub meets_some : Words → ℕ → Bool
+meets_some w word = some_below (meets w word) (length w.on)
+
+-- it has those of output i + 1, and no step has them yet
+unfoldable pub gives : Words → List Step → ℕ → ℕ → Bool
+gives w steps word i = meets w word i && is_missing w steps i
+
+unfoldable pub gives_some : Words → List Step → ℕ → Bool
+gives_some w steps word = some_below (gives w steps word) (length w.on)
+
+-- ---- operators
+
+-- the operator is one of its operands, or the complement of one
+unfoldable pub follows_one : ℕ → Bool
+follows_one op = op == 3 || op == 5 || op == 12 || op == 10
+
+-- the operator is a constant
+unfoldable pub is_constant : ℕ → Bool
+is_constant op = op == 0 || op == 15

@@ -1,0 +1,10 @@
+-- What a basis allows a walk to leave out.
+use Rattle.std.specs.Prelude.{◌≡◌, ℕ, Bool}
+use Rattle.op_basis.specs.Basis.{members}
+use Rattle.op_basis.specs.Closed.{swap_closed, polarity_closed, const_closed}
+
+-- the tests of a basis
+pub record AreRules (basis : ℕ) (rises normal constants : Bool) : Type 0 where
+  pub rising : rises ≡ swap_closed (members basis)
+  pub having : normal ≡ polarity_closed (members basis)
+  pub leaving : constants ≡ const_closed (members basis)

@@ -1,0 +1,20 @@
+-- The steps that a walk has placed, as its words show them.
+use Rattle.std.specs.Prelude.{◌≡◌, ℕ, ◌+◌, ◌-◌, ◌≤◌, List, length, slice_index}
+use Rattle.chain_theory.specs.Chain.{Step, AreSteps}
+use Rattle.step_core.specs.Steps.{word_in}
+
+-- steps over n inputs
+pub record Trailed : Type 0 where
+  pub n : ℕ
+  pub steps : List Step
+
+-- at most six inputs and six steps, and a word for each place
+pub record IsTrail (t : Trailed) : Type 0 where
+  pub inputs : t.n ≤ 6
+  pub few : length t.steps ≤ 6
+  pub are : AreSteps t.n t.steps
+
+pub record HasWords (t : Trailed) (words : List ℕ) : Type 0 where
+  pub trail : IsTrail t
+  pub count : length words ≡ t.n + length t.steps
+  pub each : (p : ℕ) → 1 ≤ p → p ≤ t.n + length t.steps → slice_index words (p - 1) ≡ word_in t.n t.steps p

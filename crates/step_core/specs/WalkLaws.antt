@@ -1,0 +1,237 @@
+-- What a walk has left out, and what it finds.
+use Rattle.std.proofs.Common.{◌≡◌, ℕ, ◌+◌, ◌-◌, ◌≤◌, ◌<◌, true, false, Bool, List, [], ◌∷◌, ◌++◌, length, refl, sym, ap, ap₂, ◌∙◌, subst, arith, inl, inr, All}
+use Rattle.std.specs.Prelude.{min, slice_get, slice_index_or, Some, take}
+use Rattle.std.proofs.lemmas.Grind.{common_steps}
+use Rattle.std.proofs.lemmas.Bool.{cases_lt, both_ways}
+use Rattle.std.proofs.lemmas.List.{length_push, take_at}
+use Rattle.std.proofs.lemmas.List.Elements.{All-push}
+use Rattle.chain_theory.specs.Operator.{Basis}
+use Rattle.chain_theory.specs.Chain.{Step, IsStepAt, AreSteps}
+use Rattle.chain_laws.specs.Keys.{larger}
+use Rattle.tt_core.specs.Words.{Words}
+use Rattle.step_core.specs.Steps.{AreOver, all_met}
+use Rattle.step_core.specs.Trails.{Trailed, IsTrail}
+use Rattle.step_core.specs.Walks.{IsTarget, NoneFrom, NoneWith, HasLarger, HasPair, HasOperands, IsThe, IsWalking, IsWalked}
+
+-- ---- lists
+
+pub append_nil : {X : Type 0} (xs : List X) → xs ++ [] ≡ xs
+append_nil [] = refl
+append_nil (x ∷ xs) = ap (λ (ys : List _). x ∷ ys) (append_nil xs)
+
+pub append_one : {X : Type 0} (xs : List X) (x : X) (ys : List X) → (xs ++ x ∷ []) ++ ys ≡ xs ++ x ∷ ys
+append_one [] x ys = refl
+append_one (y ∷ xs) x ys = ap (λ (zs : List _). y ∷ zs) (append_one xs x ys)
+
+pub get_middle : {X : Type 0} (xs : List X) (x : X) (ys : List X) → slice_get (xs ++ x ∷ ys) (length xs) ≡ Some x
+get_middle [] x ys = refl
+get_middle (y ∷ xs) x ys = get_middle xs x ys
+
+index_middle : {X : Type 0} (xs : List X) (x : X) (ys : List X) (d : X) → slice_index_or (xs ++ x ∷ ys) (length xs) d ≡ x
+index_middle [] x ys d = refl
+index_middle (y ∷ xs) x ys d = index_middle xs x ys d
+
+middle_low : {X : Type 0} (xs : List X) (x : X) (ys : List X) → length xs < length (xs ++ x ∷ ys)
+middle_low [] x ys = omega arith
+middle_low (y ∷ xs) x ys = omega (arith, middle_low xs x ys)
+
+member_among : (front rest : List Step) (s : Step) (basis : Basis) → AreOver basis (front ++ s ∷ rest) → basis s.op ≡ true
+member_among front rest s basis over = ap (λ (x : Step). basis x.op) (sym (index_middle front s rest s)) ∙ over (length front) s (middle_low front s rest)
+
+-- ---- trails
+
+pub same_trail : (a b : Trailed) → a.n ≡ b.n → a.steps ≡ b.steps → a ≡ b
+same_trail a b n steps = ap₂ {C = Trailed} (λ (m : ℕ) (ss : List Step). record { n = m; steps = ss }) n steps
+
+-- ---- outcomes
+
+-- steps that serve, where a walk that began at the same trail has found them
+pub found_on : (w : Words) (basis : Basis) (left : ℕ) (old mid new : Trailed) (None More : Type 0) (found : Bool) → mid ≡ old → IsWalked w basis left mid new None found → found ≡ true → IsWalked w basis left old new More true
+found_on w basis left old mid new None More found same is yes_ = record {
+  inputs = is.inputs ∙ ap (λ (t : Trailed). t.n) same;
+  serving = λ e. is.serving yes_;
+  size = λ e. is.size yes_ ∙ ap (λ (t : Trailed). length t.steps + left) same;
+  same = λ e. absurd cc;
+  none = λ e. absurd cc;
+}
+
+-- or where it began a step later
+pub found_later : (w : Words) (basis : Basis) (left : ℕ) (old mid new : Trailed) (s : Step) (None More : Type 0) (found : Bool) → 1 ≤ left → mid.n ≡ old.n → mid.steps ≡ old.steps ++ s ∷ [] → IsWalked w basis (left - 1) mid new None found → found ≡ true → IsWalked w basis left old new More true
+found_later w basis left old mid new s None More found some inputs steps is yes_ = record {
+  inputs = is.inputs ∙ inputs;
+  serving = λ e. is.serving yes_;
+  size = λ e. omega (arith, some, is.size yes_, ap (λ (ss : List Step). length ss) steps, length_push old.steps s);
+  same = λ e. absurd cc;
+  none = λ e. absurd cc;
+}
+
+-- nothing was found
+pub none_there : (w : Words) (basis : Basis) (left : ℕ) (old new : Trailed) (None : Type 0) → new ≡ old → None → IsWalked w basis left old new None false
+none_there w basis left old new None same none = record {
+  inputs = ap (λ (t : Trailed). t.n) same;
+  serving = λ e. absurd cc;
+  size = λ e. absurd cc;
+  same = λ e. same;
+  none = λ e. none;
+}
+
+-- ---- no step more
+
+pub whole_walk : (w : Words) (basis : Basis) (left : ℕ) (t : Trailed) (found : Bool) → IsTrail t → IsWalking w basis t left → left ≡ 0 → found ≡ all_met w t.steps → IsWalked w basis left t t (NoneFrom w basis t.steps left) found
+whole_walk w basis left t found trail walking none is = record {
+  inputs = refl;
+  serving = λ e. record { are = subst (λ (n : ℕ). AreSteps n t.steps) walking.inputs trail.are; over = walking.over; met = sym is ∙ e };
+  size = λ e. omega (arith, none);
+  same = λ e. refl;
+  none = λ e. record { none = λ rest count target. without rest (omega (arith, count, none)) target e };
+}
+  where
+    without : (rest : List Step) → length rest ≡ 0 → IsTarget w basis (t.steps ++ rest) → found ≡ false → ⊥
+    without [] count target e = both_ways (all_met w t.steps) (sym is ∙ e) (subst (λ (ss : List Step). all_met w ss ≡ true) (append_nil t.steps) target.serving.met)
+    without (s ∷ rest) count target e = omega (arith, count)
+
+-- ---- one step more
+
+step_among : (front rest : List Step) (s : Step) (n : ℕ) → AreSteps n (front ++ s ∷ rest) → IsStepAt (n + 1 + length front) s
+step_among front rest s n are = are.each (length front) s (get_middle front s rest)
+
+-- by the larger operand
+pub by_larger : (w : Words) (basis : Basis) (t : Trailed) (left : ℕ) → 1 ≤ left → t.n ≡ w.n → ((m : ℕ) → 1 ≤ m → m ≤ t.n + length t.steps → NoneWith w basis t.steps left (HasLarger m)) → NoneFrom w basis t.steps left
+by_larger w basis t left some inputs each = record {
+  none = λ rest count target. next rest count target;
+}
+  where
+    next : (rest : List Step) → length rest ≡ left → IsTarget w basis (t.steps ++ rest) → ⊥
+    next [] count target = omega (arith, some, count)
+    next (s ∷ rest) count target =
+        let at : IsStepAt (w.n + 1 + length t.steps) s = step_among t.steps rest s w.n target.serving.are in
+        (each (larger s) (omega (arith, at.j_from)) (omega (arith, at.j_below, at.k_below, inputs))).none s rest refl count target
+
+pub by_pair : (w : Words) (basis : Basis) (t : Trailed) (left high : ℕ) → ((m : ℕ) → 1 ≤ m → m ≤ high → NoneWith w basis t.steps left (HasPair m high)) → NoneWith w basis t.steps left (HasLarger high)
+by_pair w basis t left high each = record {
+  none = λ s rest is count target.
+      let at : IsStepAt (w.n + 1 + length t.steps) s = step_among t.steps rest s w.n target.serving.are in
+      (each (min s.j s.k) (omega (arith, at.j_from, at.k_from)) (omega (arith, is))).none s rest (refl, is) count target;
+}
+
+pub by_order : (w : Words) (basis : Basis) (t : Trailed) (left low high : ℕ) → NoneWith w basis t.steps left (HasOperands low high) → NoneWith w basis t.steps left (HasOperands high low) → NoneWith w basis t.steps left (HasPair low high)
+by_order w basis t left low high rising falling = record {
+  none = λ s rest is count target. elim (cases_lt s.k s.j) [
+    | inl falls ↦ falling.none s rest (omega (arith, is.0, is.1, falls), omega (arith, is.0, is.1, falls)) count target
+    | inr rises ↦ rising.none s rest (omega (arith, is.0, is.1, rises), omega (arith, is.0, is.1, rises)) count target
+  ];
+}
+
+-- by the operator
+this_step : (s : Step) (j k op : ℕ) → s.j ≡ j → s.k ≡ k → s.op ≡ op → s ≡ record { j = j; k = k; op = op }
+this_step s j k op is_j is_k is_op = rw (sym is_j, sym is_k, sym is_op) refl
+
+pub by_operator : (w : Words) (basis : Basis) (t : Trailed) (left j k : ℕ) → ((op : ℕ) → op < 16 → basis op ≡ true → NoneWith w basis t.steps left (IsThe (record { j = j; k = k; op = op }))) → NoneWith w basis t.steps left (HasOperands j k)
+by_operator w basis t left j k each = record {
+  none = λ s rest is count target.
+      let at : IsStepAt (w.n + 1 + length t.steps) s = step_among t.steps rest s w.n target.serving.are in
+      (each s.op at.op_below (member_among t.steps rest s basis target.serving.over)).none s rest (this_step s j k s.op is.0 is.1 refl) count target;
+}
+
+-- and from there
+pub by_step : (w : Words) (basis : Basis) (old mid : Trailed) (s : Step) (left : ℕ) → 1 ≤ left → mid.steps ≡ old.steps ++ s ∷ [] → NoneFrom w basis mid.steps (left - 1) → NoneWith w basis old.steps left (IsThe s)
+by_step w basis old mid s left some steps none = record {
+  none = λ this rest is count target.
+      let later : NoneFrom w basis (old.steps ++ s ∷ []) (left - 1) = subst (λ (ss : List Step). NoneFrom w basis ss (left - 1)) steps none in
+      let moved : old.steps ++ this ∷ rest ≡ (old.steps ++ s ∷ []) ++ rest = ap (λ (x : Step). old.steps ++ x ∷ rest) is ∙ sym (append_one old.steps s rest) in
+      later.none rest (omega (arith, count)) (subst (IsTarget w basis) moved target);
+}
+
+-- ---- walking on
+
+pub walking_on : (w : Words) (basis : Basis) (old mid : Trailed) (s : Step) (left : ℕ) → IsWalking w basis old left → 1 ≤ left → basis s.op ≡ true → mid.n ≡ old.n → mid.steps ≡ old.steps ++ s ∷ [] → IsWalking w basis mid (left - 1)
+walking_on w basis old mid s left is some member inputs steps = record {
+  inputs = inputs ∙ is.inputs;
+  room = omega (arith, some, is.room, ap (λ (ss : List Step). length ss) steps, length_push old.steps s);
+  over = subst (AreOver basis) (sym steps) (All-push (λ (x : Step). basis x.op ≡ true) old.steps s is.over member);
+}
+
+pub walking_same : (w : Words) (basis : Basis) (old mid : Trailed) (left : ℕ) → mid ≡ old → IsWalking w basis old left → IsWalking w basis mid left
+walking_same w basis old mid left same is = subst (λ (t : Trailed). IsWalking w basis t left) (sym same) is
+
+-- ---- loops
+
+-- none of the properties below a number is left
+pub record AllUnder (w : Words) (basis : Basis) (front : List Step) (left : ℕ) (Has : ℕ → Step → Type 0) (k : ℕ) : Type 0 where
+  pub each : (m : ℕ) → 1 ≤ m → m ≤ k → NoneWith w basis front left (Has m)
+
+-- the operators below a number, on given operands
+pub record AllOperators (w : Words) (basis : Basis) (front : List Step) (left j k bound : ℕ) : Type 0 where
+  pub each : (op : ℕ) → op < bound → basis op ≡ true → NoneWith w basis front left (IsThe (record { j = j; k = k; op = op }))
+
+-- the trail is as it was at first, and something was left out
+pub record IsLeft (w : Words) (basis : Basis) (left : ℕ) (first now : Trailed) (None : Type 0) : Type 0 where
+  pub walking : IsWalking w basis now left
+  pub same : now ≡ first
+  pub none : None
+
+pub under_none : (w : Words) (basis : Basis) (left : ℕ) (t : Trailed) (Has : ℕ → Step → Type 0) → IsWalking w basis t left → IsLeft w basis left t t (AllUnder w basis t.steps left Has 0)
+under_none w basis left t Has walking = record { walking = walking; same = refl; none = record { each = λ m from to. omega (arith, from, to) } }
+
+under_more : (w : Words) (basis : Basis) (left k : ℕ) (front : List Step) (Has : ℕ → Step → Type 0) → AllUnder w basis front left Has k → NoneWith w basis front left (Has (k + 1)) → AllUnder w basis front left Has (k + 1)
+under_more w basis left k front Has all one = record {
+  each = λ m from to. elim (cases_lt k m) [
+    | inl last ↦ let same : k + 1 ≡ m = omega (arith, last, to) in subst (λ (x : ℕ). NoneWith w basis front left (Has x)) same one
+    | inr before ↦ all.each m from before
+  ];
+}
+
+left_more : (w : Words) (basis : Basis) (left : ℕ) (first mid new : Trailed) (All One More : Type 0) → IsLeft w basis left first mid All → new ≡ mid → One → (All → One → More) → IsLeft w basis left first new More
+left_more w basis left first mid new All One More is same one both = record {
+  walking = walking_same w basis mid new left same is.walking;
+  same = same ∙ is.same;
+  none = both is.none one;
+}
+
+pub under_next : (w : Words) (basis : Basis) (left k : ℕ) (first mid new : Trailed) (Has : ℕ → Step → Type 0) (found : Bool) → IsLeft w basis left first mid (AllUnder w basis first.steps left Has k) → IsWalked w basis left mid new (NoneWith w basis mid.steps left (Has (k + 1))) found → found ≡ false → IsLeft w basis left first new (AllUnder w basis first.steps left Has (k + 1))
+under_next w basis left k first mid new Has found is walked e =
+    left_more w basis left first mid new (AllUnder w basis first.steps left Has k) (NoneWith w basis first.steps left (Has (k + 1))) (AllUnder w basis first.steps left Has (k + 1)) is (walked.same e)
+    (subst (λ (t : Trailed). NoneWith w basis t.steps left (Has (k + 1))) is.same (walked.none e))
+    (under_more w basis left k first.steps Has)
+
+pub operators_none : (w : Words) (basis : Basis) (left j k : ℕ) (t : Trailed) → IsWalking w basis t left → IsLeft w basis left t t (AllOperators w basis t.steps left j k 0)
+operators_none w basis left j k t walking = record { walking = walking; same = refl; none = record { each = λ op low member. omega (arith, low) } }
+
+operators_more : (w : Words) (basis : Basis) (left j k bound : ℕ) (front : List Step) → AllOperators w basis front left j k bound → (basis bound ≡ true → NoneWith w basis front left (IsThe (record { j = j; k = k; op = bound }))) → AllOperators w basis front left j k (bound + 1)
+operators_more w basis left j k bound front all one = record {
+  each = λ op low member. elim (cases_lt op bound) [
+    | inl below ↦ all.each op below member
+    | inr last ↦
+        let same : bound ≡ op = omega (arith, last, low) in
+        subst (λ (x : ℕ). NoneWith w basis front left (IsThe (record { j = j; k = k; op = x }))) same (one (ap basis same ∙ member))
+  ];
+}
+
+pub operators_next : (w : Words) (basis : Basis) (left j k bound : ℕ) (first mid new : Trailed) (found : Bool) → IsLeft w basis left first mid (AllOperators w basis first.steps left j k bound) → IsWalked w basis left mid new (NoneWith w basis mid.steps left (IsThe (record { j = j; k = k; op = bound }))) found → found ≡ false → IsLeft w basis left first new (AllOperators w basis first.steps left j k (bound + 1))
+operators_next w basis left j k bound first mid new found is walked e =
+    left_more w basis left first mid new (AllOperators w basis first.steps left j k bound) (NoneWith w basis first.steps left (IsThe (record { j = j; k = k; op = bound }))) (AllOperators w basis first.steps left j k (bound + 1)) is (walked.same e)
+    (subst (λ (t : Trailed). NoneWith w basis t.steps left (IsThe (record { j = j; k = k; op = bound }))) is.same (walked.none e))
+    (λ all one. operators_more w basis left j k bound first.steps all (λ member. one))
+
+pub operators_skip : (w : Words) (basis : Basis) (left j k bound : ℕ) (first mid : Trailed) (member : Bool) → IsLeft w basis left first mid (AllOperators w basis first.steps left j k bound) → member ≡ basis bound → member ≡ false → IsLeft w basis left first mid (AllOperators w basis first.steps left j k (bound + 1))
+operators_skip w basis left j k bound first mid member is said e =
+    left_more w basis left first mid mid (AllOperators w basis first.steps left j k bound) (basis bound ≡ true → NoneWith w basis first.steps left (IsThe (record { j = j; k = k; op = bound }))) (AllOperators w basis first.steps left j k (bound + 1)) is refl
+    (λ holds. absurd (both_ways (basis bound) (sym said ∙ e) holds))
+    (operators_more w basis left j k bound first.steps)
+
+pub operators_plain : (w : Words) (basis : Basis) (left j k bound : ℕ) (first mid : Trailed) → IsLeft w basis left first mid (AllOperators w basis first.steps left j k bound) → NoneWith w basis first.steps left (IsThe (record { j = j; k = k; op = bound })) → IsLeft w basis left first mid (AllOperators w basis first.steps left j k (bound + 1))
+operators_plain w basis left j k bound first mid is none =
+    left_more w basis left first mid mid (AllOperators w basis first.steps left j k bound) (NoneWith w basis first.steps left (IsThe (record { j = j; k = k; op = bound }))) (AllOperators w basis first.steps left j k (bound + 1)) is refl none
+    (λ all one. operators_more w basis left j k bound first.steps all (λ member. one))
+
+-- a step after another keeps the trail
+pub popped : (w : Words) (basis : Basis) (left : ℕ) (old mid back new : Trailed) (s : Step) (found : Bool) → 1 ≤ left → mid.n ≡ old.n → mid.steps ≡ old.steps ++ s ∷ [] → IsWalked w basis (left - 1) mid back (NoneFrom w basis mid.steps (left - 1)) found → found ≡ false → new.n ≡ back.n → new.steps ≡ take (length back.steps - 1) back.steps → IsWalked w basis left old new (NoneWith w basis old.steps left (IsThe s)) false
+popped w basis left old mid back new s found some inputs steps walked e kept taken =
+    let back_is : back.steps ≡ old.steps ++ s ∷ [] = ap (λ (t : Trailed). t.steps) (walked.same e) ∙ steps in
+    let cut : length back.steps - 1 ≡ length old.steps = omega (arith, ap (λ (ss : List Step). length ss) back_is, length_push old.steps s) in
+    let steps_are : new.steps ≡ old.steps = taken ∙ ap (λ (k : ℕ). take k back.steps) cut ∙ ap (take (length old.steps)) back_is ∙ take_at old.steps (s ∷ []) (length old.steps) refl in
+    none_there w basis left old new (NoneWith w basis old.steps left (IsThe s))
+    (same_trail new old (kept ∙ ap (λ (t : Trailed). t.n) (walked.same e) ∙ inputs) steps_are)
+    (by_step w basis old mid s left some steps (walked.none e))
+
+pub ruleset walking = (common_steps, under_none, under_next, operators_none, operators_next, operators_skip)

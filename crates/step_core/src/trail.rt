@@ -1,0 +1,122 @@
+//! The steps that a walk has placed, each with the word of its values: an operator's word is made once, from the words of
+//! its operands, and taken off with the step.
+ghost use Rattle.std.specs.Prelude.{◌≡◌, ◌+◌, ◌-◌, ◌++◌, ◌∷◌, ◌<◌, ◌≤◌, [], length, take, IfOk, OnOk};
+ghost use Rattle.chain_theory.specs.Chain.{IsStepAt};
+ghost use Rattle.chain_laws.specs.Follow.{step_at};
+ghost use Rattle.chain_core.specs.Steps.{step_of, steps_of};
+ghost use Rattle.step_core.specs.Steps.{word_in};
+ghost use Rattle.step_core.specs.Trails.{IsTrail};
+
+use chain_core::Step;
+use op_basis::{input_word, on_words};
+use std::alloc::{AllocError, Global};
+use std::marker::Model;
+
+/// At most six steps over at most six inputs. Contracts see the number of inputs and the steps.
+#[derive(Drop)]
+pub struct Trail {
+    n: u32,
+    words: Vec<u64>,
+    steps: Vec<Step>,
+}
+
+impl Model for Trail {
+    ghost use Rattle.chain_core.specs.Steps.{steps_of};
+    ghost use Rattle.step_core.specs.Trails.{Trailed, HasWords};
+
+    ghost Value = { Trailed };
+
+    ghost view = { λ t. record { n = t.n; steps = steps_of t.steps.items } };
+
+    ghost invariant = { λ t. HasWords (record { n = t.n; steps = steps_of t.steps.items }) t.words.items };
+}
+
+#[tactic(auto, using(crate::specs::TrailLaws::trailing))]
+impl Trail {
+    /// The trail without steps over `n` inputs.
+    pub fn new(alloc: Global, n: u32) -> Result<Trail, AllocError>
+        requires { n ≤ 6 }
+        ensures inputs { IfOk result (λ trail. trail.n ≡ n) }
+        ensures empty { IfOk result (λ trail. trail.steps ≡ []) }
+    {
+        let mut words = Vec::new(alloc);
+        for before in 0..n {
+            words.push(input_word(n - (before + 1)))?;
+        }
+        let steps = Vec::new(alloc);
+        Ok(Trail { n, words, steps })
+    }
+
+    /// The number of inputs.
+    pub fn n(&self) -> u32
+        ensures inputs { result ≡ self.now.n }
+        ensures whole { IsTrail self.now }
+    {
+        self.n
+    }
+
+    /// The number of steps.
+    pub fn len(&self) -> u32
+        ensures count { result ≡ length self.now.steps }
+        ensures whole { IsTrail self.now }
+    {
+        self.steps.len() as u32
+    }
+
+    /// The step of an index, counted from 0.
+    pub fn step(&self, index: u32) -> Step
+        requires { index < length self.now.steps }
+        ensures step { step_of result ≡ step_at self.now.steps index }
+        ensures whole { IsTrail self.now }
+    {
+        self.steps[index as usize]
+    }
+
+    /// The word of a place.
+    pub fn word(&self, place: u32) -> u64
+        requires from { 1 ≤ place }
+        requires to { place ≤ self.now.n + length self.now.steps }
+        ensures word { result ≡ word_in self.now.n self.now.steps place }
+        ensures whole { IsTrail self.now }
+    {
+        self.words[place as usize - 1]
+    }
+
+    /// Adds a step at the next place.
+    pub fn push(&mut self, step: Step) -> Result<(), AllocError>
+        requires room { length self.old.steps < 6 }
+        requires at { IsStepAt (self.old.n + 1 + length self.old.steps) (step_of step) }
+        ensures inputs { OnOk result (self.new.n ≡ self.old.n) }
+        ensures steps { OnOk result (self.new.steps ≡ self.old.steps ++ step_of step ∷ []) }
+    {
+        let word = on_words(step.op, self.word(step.j), self.word(step.k));
+        self.words.push(word)?;
+        if let Err(error) = self.steps.push(step) {
+            self.words.pop();
+            return Err(AllocError::from(error));
+        }
+        Ok(())
+    }
+
+    /// Takes the last step off.
+    pub fn pop(&mut self)
+        requires { 0 < length self.old.steps }
+        ensures inputs { self.new.n ≡ self.old.n }
+        ensures steps { self.new.steps ≡ take (length self.old.steps - 1) self.old.steps }
+    {
+        self.words.pop();
+        self.steps.pop();
+    }
+
+    /// The steps.
+    pub fn into_steps(self) -> Vec<Step>
+        ensures { steps_of result.items ≡ self.steps }
+    {
+        let Trail {
+            n: _,
+            words: _,
+            steps,
+        } = self;
+        steps
+    }
+}

@@ -1,0 +1,62 @@
+"""What is raised where a call has no answer: one class for each kind, with the name and the numbers of the error line."""
+
+from __future__ import annotations
+
+
+class Error(Exception):
+    """A call that has no answer.
+
+    `name` is the first item of the error line, as `BadRow`, and `fields` are those behind it, numbers as `int`. Where
+    there is no error line, the name is that of the status.
+    """
+
+    def __init__(self, status: int, line: str) -> None:
+        items = line.removeprefix('error:').split()
+        super().__init__(' '.join(items))
+        self.status = status
+        self.name = items[0] if items else ''
+        self.fields = tuple(int(item) if item.isdecimal() else item for item in items[1:])
+
+
+class UsageError(Error):
+    """The words aren't a command: an option's value is out of its range."""
+
+
+class MalformedError(Error):
+    """The input isn't of its form."""
+
+
+class LimitError(Error):
+    """The input is beyond a limit."""
+
+
+class PortError(Error):
+    """Reading or writing failed; in memory: there was none for the output."""
+
+
+class MemoryFault(Error, MemoryError):
+    """Memory ran out."""
+
+
+class RefusedError(Error):
+    """The input is of its form, and what it claims doesn't hold."""
+
+
+# The class and the name of each status without an answer.
+KINDS: dict[int, tuple[type[Error], str]] = {
+    1: (UsageError, 'Usage'),
+    2: (MalformedError, 'Malformed'),
+    3: (LimitError, 'Limit'),
+    5: (PortError, 'ReadFault'),
+    6: (PortError, 'WriteFault'),
+    7: (MemoryFault, 'Memory'),
+    8: (RefusedError, 'Refused'),
+}
+
+
+def error_of(status: int, notes: bytes) -> Error:
+    """The error that a status and the notes of a call tell of. The error line is the last one of the notes."""
+    kind, name = KINDS.get(status, (Error, f'Status{status}'))
+    lines = notes.decode('utf-8', 'replace').splitlines()
+    line = lines[-1] if lines and lines[-1].startswith('error:') else name
+    return kind(status, line)
