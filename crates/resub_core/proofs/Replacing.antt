@@ -4,7 +4,7 @@ use Rattle.std.specs.Prelude.{IfSome}
 use Rattle.xag_core.specs.Xag.{Xag, HasEnds}
 use Rattle.resub_core.specs.Smaller.{IsNoLarger}
 
-no_larger-itself : (x : Xag) → IsNoLarger x x
+pub no_larger-itself : (x : Xag) → IsNoLarger x x
 no_larger-itself x = record { ends = record { sources = refl; sinks = refl }; size = omega arith }
 
 -- a copy

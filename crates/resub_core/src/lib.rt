@@ -17,12 +17,12 @@ mod divisors;
 mod finder;
 mod growing;
 mod matching;
+mod passes;
 mod recipe;
 mod region;
-mod resub;
 mod searching;
 mod tail;
 mod wanted;
 mod words;
 
-pub use resub::{resub, resub_level};
+pub use passes::{resub, resub_level};

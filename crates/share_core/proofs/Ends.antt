@@ -2,7 +2,7 @@
 use Rattle.std.proofs.Common.{◌≡◌, ◌∙◌, refl, subst, sym}
 use Rattle.xag_core.specs.Xag.{Xag, HasEnds}
 
-ends-itself : (x : Xag) → HasEnds x x
+pub ends-itself : (x : Xag) → HasEnds x x
 ends-itself x = record { sources = refl; sinks = refl }
 
 -- a copy

@@ -16,6 +16,6 @@ mod collecting;
 mod extraction;
 mod kind;
 mod pairs;
-mod share;
+mod passes;
 
-pub use share::share;
+pub use passes::share;

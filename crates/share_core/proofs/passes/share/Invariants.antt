@@ -1,6 +1,6 @@
 use Rattle.std.proofs.Common.{◌≤◌, length}
 use Rattle.xag_core.specs.Xag.{HasEnds}
-use Rattle.share_core.proofs.share.share.Given as goal
+use Rattle.share_core.proofs.passes.share.Given as goal
 
 abbrev pub invariant-loop-is_xor : goal.invariant-loop-is_xor
 invariant-loop-is_xor l = record {
