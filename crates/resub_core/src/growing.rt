@@ -1,5 +1,6 @@
 //! The leaves of a region, grown towards the sources: while they stay few, the greatest leaf that is a
 //! gate gives way to its operands.
+ghost use Rattle.std.specs.Prelude.{◌≤◌};
 
 use std::alloc::AllocError;
 use xag_core::Xag;
@@ -25,7 +26,9 @@ fn greatest(nodes: &[u32]) -> u32 {
 }
 
 /// 1 where the set lacks the node, which isn't the constant.
-fn lacks(nodes: &[u32], node: u32) -> usize {
+fn lacks(nodes: &[u32], node: u32) -> usize
+    ensures { result ≤ 1 }
+{
     usize::from(node != 0 && !nodes.contains(&node))
 }
 
