@@ -87,22 +87,25 @@ impl Divisors {
         region: &mut Region,
         cone: &[u32],
         slot: usize,
+        end: u32,
     ) -> Result<(), AllocError> {
         for reader in context.readers(region.node(slot)).iter().take(MOST_READERS) {
-            if region.slot(*reader).is_none() && !cone.contains(reader) {
+            if *reader < end && region.slot(*reader).is_none() && !cone.contains(reader) {
                 region.take_in(xag, *reader)?;
             }
         }
         Ok(())
     }
 
-    /// Finds the divisors in a region that was set up, and in the gates beside it. `cone` goes with the target.
+    /// Finds the divisors in a region that was set up, and in the gates beside it, among the nodes below `end`.
+    /// `cone` goes with the target.
     pub fn find(
         &mut self,
         xag: &Xag,
         context: &Context,
         region: &mut Region,
         cone: &[u32],
+        end: u32,
     ) -> Result<(), AllocError> {
         for slot in 1..MOST_DIVISORS {
             if region.depends(slot) {
@@ -111,13 +114,20 @@ impl Divisors {
             if slot >= region.len() || region.len() > MOST_DIVISORS {
                 break;
             }
-            self.take_readers(xag, context, region, cone, slot)?;
+            self.take_readers(xag, context, region, cone, slot, end)?;
         }
-        self.list(region, cone)
+        self.list(xag, context, region, cone)
     }
 
-    /// Lists the divisors of a region, the last slots first, since they are nearest to the target.
-    fn list(&mut self, region: &Region, cone: &[u32]) -> Result<(), AllocError> {
+    /// Lists the divisors of a region, the last slots first, since they are nearest to the target. A gate that
+    /// nothing reads is none.
+    fn list(
+        &mut self,
+        xag: &Xag,
+        context: &Context,
+        region: &Region,
+        cone: &[u32],
+    ) -> Result<(), AllocError> {
         self.nodes.clear();
         self.hashes.clear();
         self.table.clear();
@@ -128,7 +138,8 @@ impl Divisors {
                 break;
             }
             let node = region.node(slot);
-            if !region.depends(slot) && !cone.contains(&node) {
+            let is_dead = xag.is_gate(node) && context.references(node) == 0;
+            if !is_dead && !region.depends(slot) && !cone.contains(&node) {
                 self.add(node, region.row(slot))?;
             }
         }

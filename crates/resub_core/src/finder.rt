@@ -5,12 +5,12 @@ ghost use Rattle.xag_core.specs.Xag.{Xag, HasEnds};
 ghost use Rattle.resub_core.specs.Smaller.{IsNoLarger};
 
 use crate::divisors::Divisors;
-use crate::recipe::{Recipe, edit_of};
+use crate::recipe::{Recipe, add_to, note_readers};
 use crate::region::Region;
 use crate::searching::Search;
 use crate::wanted::Wanted;
 use std::alloc::{AllocError, Global};
-use xag_core::{Context, Random, Xag, rebuild};
+use xag_core::{Context, Edit, Random, Xag, rebuild};
 
 /// The most rebuilt gates that trials of one search may cost.
 const MOST_WORK: usize = 40_000;
@@ -100,7 +100,8 @@ impl Finder {
             let Some(recipe) = self.search.found.get(index) else {
                 break;
             };
-            let edit = edit_of(alloc, xag, &self.divisors, target, *recipe)?;
+            let mut edit = Edit::new(alloc, xag);
+            add_to(&mut edit, &self.divisors, target, *recipe)?;
             if let Some(other) = rebuild(alloc, xag, &edit)? {
                 best = smaller(best, other);
             }
@@ -156,7 +157,7 @@ impl Finder {
             return Ok(None);
         }
         self.divisors
-            .find(xag, context, &mut self.region, &self.cone)?;
+            .find(xag, context, &mut self.region, &self.cone, u32::MAX)?;
         let saved = (self.cone.len() as u64).min(1000) as u32;
         let most = if terms.is_level {
             saved
@@ -190,5 +191,51 @@ impl Finder {
             }
         }
         Ok(None)
+    }
+
+    /// Notes the first recipe with exactly `gates` new gates, if there is one, in the edit. True where there is.
+    fn note_with(
+        &mut self,
+        alloc: Global,
+        xag: &Xag,
+        context: &mut Context,
+        edit: &mut Edit,
+        target: u32,
+        gates: u32,
+    ) -> Result<bool, AllocError> {
+        let wanted = Wanted::of(alloc, self.region.target_row(), self.region.care())?;
+        self.search.find(alloc, &self.divisors, &wanted, gates)?;
+        let Some(recipe) = self.search.found.first() else {
+            return Ok(false);
+        };
+        add_to(edit, &self.divisors, target, *recipe)?;
+        note_readers(context, xag, &self.divisors, &self.cone, target, *recipe);
+        Ok(true)
+    }
+
+    /// Notes a replacement of the target by nodes below it in the edit, if it has one that saves gates.
+    pub fn note(
+        &mut self,
+        alloc: Global,
+        xag: &Xag,
+        context: &mut Context,
+        edit: &mut Edit,
+        target: u32,
+        new_gates: u32,
+    ) -> Result<(), AllocError> {
+        if !xag.is_gate(target) || context.references(target) == 0 {
+            return Ok(());
+        }
+        context.cone_of(xag, target, &mut self.cone)?;
+        self.region.set_up(alloc, xag, context, target, false)?;
+        self.divisors
+            .find(xag, context, &mut self.region, &self.cone, target)?;
+        let saved = (self.cone.len() as u64).min(1000) as u32;
+        for gates in 0..=new_gates.min(saved.saturating_sub(1)).min(2) {
+            if self.note_with(alloc, xag, context, edit, target, gates)? {
+                break;
+            }
+        }
+        Ok(())
     }
 }

@@ -13,6 +13,7 @@
 //! ```
 #![tactic(auto)]
 
+mod batches;
 mod divisors;
 mod finder;
 mod growing;

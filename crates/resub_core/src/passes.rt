@@ -2,6 +2,7 @@
 ghost use Rattle.std.specs.Prelude.{IfOk, OnOk};
 ghost use Rattle.resub_core.specs.Smaller.{IsNoLarger};
 
+use crate::batches::batched;
 use crate::finder::{Finder, Terms};
 use std::alloc::{AllocError, Global};
 use xag_core::{Context, Xag};
@@ -47,17 +48,19 @@ fn try_target(
 }
 
 /// The graph after resubstitution with at most `new_gates` new gates for a target, 0, 1 or 2. Each
-/// replacement leaves fewer gates. It goes on until no gate of the graph has one, or for some twenty passes.
+/// replacement leaves fewer gates. It goes on until no gate of the graph has one, or for some twenty passes. A
+/// large graph is first taken through batches.
 #[tactic(auto, using(crate::proofs::Replacing::replacing))]
 pub fn resub(alloc: Global, xag: &Xag, new_gates: u32) -> Result<Xag, AllocError>
     ensures { IfOk result (IsNoLarger xag.now) }
 {
-    let mut pass = Pass {
-        xag: xag.copied(alloc)?,
-        context: Context::new(alloc, xag)?,
-        target: first_gate(xag),
-    };
     let mut finder = Finder::new(alloc, xag.nodes(), 1)?;
+    let begun = batched(alloc, xag, &mut finder, new_gates)?;
+    let mut pass = Pass {
+        context: Context::new(alloc, &begun)?,
+        target: first_gate(&begun),
+        xag: begun,
+    };
     let terms = Terms {
         new_gates,
         is_level: false,

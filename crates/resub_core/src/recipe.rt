@@ -1,8 +1,8 @@
 //! What a search finds: a literal over divisors and at most two new gates.
 
 use crate::divisors::Divisors;
-use std::alloc::{AllocError, Global};
-use xag_core::{Edit, Xag, XagGate};
+use std::alloc::AllocError;
+use xag_core::{Context, Edit, Xag, XagGate};
 
 /// The code of the first new gate's literal. Below it a code is 2 * divisor, or 2 * divisor + 1 for the complement.
 pub const INNER: u32 = 2048;
@@ -91,15 +91,13 @@ fn made_gate(divisors: &Divisors, made: Made, gate: XagGate) -> XagGate {
     }
 }
 
-/// The change of the graph that puts a recipe in the place of the target.
-pub fn edit_of(
-    alloc: Global,
-    xag: &Xag,
+/// Adds the new gates of a recipe to an edit, and redirects the target to what stands for it.
+pub fn add_to(
+    edit: &mut Edit,
     divisors: &Divisors,
     target: u32,
     recipe: Recipe,
-) -> Result<Edit, AllocError> {
-    let mut edit = Edit::new(alloc, xag);
+) -> Result<(), AllocError> {
     let mut made = Made { inner: 0, outer: 0 };
     if recipe.steps >= 1 {
         made.inner = edit.gate(made_gate(divisors, made, recipe.inner))?;
@@ -107,6 +105,30 @@ pub fn edit_of(
     if recipe.steps >= 2 {
         made.outer = edit.gate(made_gate(divisors, made, recipe.outer))?;
     }
-    edit.redirect(target, literal_of(divisors, made, recipe.root))?;
-    Ok(edit)
+    edit.redirect(target, literal_of(divisors, made, recipe.root))
+}
+
+/// Notes who reads what where a recipe stands for the target, whose cone goes.
+pub fn note_readers(
+    context: &mut Context,
+    xag: &Xag,
+    divisors: &Divisors,
+    cone: &[u32],
+    target: u32,
+    recipe: Recipe,
+) {
+    context.give_up(xag, cone);
+    let (inner, outer) = (recipe.inner, recipe.outer);
+    for code in [
+        inner.first,
+        inner.second,
+        outer.first,
+        outer.second,
+        recipe.root,
+    ] {
+        if code < INNER {
+            context.hold(divisors.node((code >> 1) as usize));
+        }
+    }
+    context.pin(target);
 }
