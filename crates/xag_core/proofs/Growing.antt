@@ -1,8 +1,8 @@
 -- Graphs that grow by one gate.
-use Rattle.std.proofs.Common.{◌≡◌, ℕ, ◌+◌, ◌*◌, ◌<◌, ◌^◌, List, [], ◌∷◌, ◌++◌, length, subst, sym, ⊎_elim, arith, length-append}
+use Rattle.std.proofs.Common.{◌≡◌, ℕ, ◌+◌, ◌<◌, ◌^◌, List, [], ◌∷◌, ◌++◌, length, subst, sym, ⊎_elim, arith, length-append}
 use Rattle.net_theory.specs.ValueLaws.{at_push}
 use Rattle.xag_core.specs.declared.xag.XagGate.{XagGate}
-use Rattle.xag_core.specs.Xag.{IsXagGateAt, AreXagGates, Grown, IsGrown}
+use Rattle.xag_core.specs.Xag.{IsXagGateAt, AreXagGates, IsGrown}
 
 gates_push : (sources : ℕ) (gates : List XagGate) (g : XagGate) → AreXagGates sources gates → IsXagGateAt (sources + 1 + length gates) g → AreXagGates sources (gates ++ g ∷ [])
 gates_push sources gates g are is =

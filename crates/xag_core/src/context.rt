@@ -97,15 +97,20 @@ impl Context {
         bit_at(&self.feeds_sink, node)
     }
 
+    /// Takes one reference from a node, and answers how many are left.
+    fn lower(&mut self, node: u32) -> u32 {
+        let left = at(&self.references, node).saturating_sub(1);
+        put(&mut self.references, node, left);
+        left
+    }
+
     /// Takes one reference from an operand; one that has none left joins the cone.
     fn release(&mut self, xag: &Xag, literal: u32, cone: &mut Vec<u32>) -> Result<(), AllocError> {
         let node = literal >> 1;
         if !xag.is_gate(node) {
             return Ok(());
         }
-        let left = at(&self.references, node).saturating_sub(1);
-        put(&mut self.references, node, left);
-        if left == 0 {
+        if self.lower(node) == 0 {
             cone.push(node)?;
         }
         Ok(())
@@ -132,5 +137,24 @@ impl Context {
             raise(&mut self.references, gate.second >> 1);
         }
         Ok(())
+    }
+
+    /// The listed cone of a gate goes: what it reads has so many readers less.
+    pub fn give_up(&mut self, xag: &Xag, cone: &[u32]) {
+        for member in cone.iter().take(LARGEST_CONE) {
+            let gate = xag.gate(*member);
+            self.lower(gate.first >> 1);
+            self.lower(gate.second >> 1);
+        }
+    }
+
+    /// A new gate reads the node.
+    pub fn hold(&mut self, node: u32) {
+        raise(&mut self.references, node);
+    }
+
+    /// The node goes with no cone from now on.
+    pub fn pin(&mut self, node: u32) {
+        put(&mut self.references, node, u32::MAX);
     }
 }

@@ -1,0 +1,241 @@
+//! One target: its region without and then with its tail, its divisors, the search, and the trial of what
+//! was found.
+ghost use Rattle.std.specs.Prelude.{◌≡◌, ◌≤◌, true, IfOk, IfSome};
+ghost use Rattle.xag_core.specs.Xag.{Xag, HasEnds};
+ghost use Rattle.resub_core.specs.Smaller.{IsNoLarger};
+
+use crate::divisors::Divisors;
+use crate::recipe::{Recipe, add_to, note_readers};
+use crate::region::Region;
+use crate::searching::Search;
+use crate::wanted::Wanted;
+use std::alloc::{AllocError, Global};
+use xag_core::{Context, Edit, Random, Xag, rebuild};
+
+/// The most rebuilt gates that trials of one search may cost.
+const MOST_WORK: usize = 40_000;
+
+/// How a target may change: by how many new gates, and whether the graph may keep its size.
+#[derive(Clone, Copy)]
+pub struct Terms {
+    pub new_gates: u32,
+    pub is_level: bool,
+}
+
+/// What is used again for each target.
+#[derive(Drop)]
+pub struct Finder {
+    region: Region,
+    divisors: Divisors,
+    search: Search,
+    cone: Vec<u32>,
+    random: Random,
+}
+
+/// Exchanges the recipe at `index` with one that stands there or after it.
+fn exchange(recipes: &mut [Recipe], index: usize, random: &mut Random) {
+    let left = recipes.len().saturating_sub(index);
+    let other = index.saturating_add(random.below(left.min(1000) as u32) as usize);
+    if index < recipes.len() && other < recipes.len() {
+        recipes.swap(index, other);
+    }
+}
+
+/// Whether a graph of `new` gates may stand for one of `old` gates.
+fn is_taken(old: usize, new: usize, terms: Terms) -> bool
+    ensures { result ≡ true → new ≤ old }
+{
+    new < old || (terms.is_level && new == old)
+}
+
+/// The smaller of the best graph so far and another.
+fn smaller(best: Option<Xag>, other: Xag) -> Option<Xag>
+    ensures { (x : Xag) → IfSome best (HasEnds x) → HasEnds x other → IfSome result (HasEnds x) }
+{
+    match best {
+        Some(kept) => {
+            if other.gates().len() < kept.gates().len() {
+                Some(other)
+            } else {
+                Some(kept)
+            }
+        }
+        None => Some(other),
+    }
+}
+
+impl Finder {
+    /// For graphs of at most `nodes` nodes.
+    pub fn new(alloc: Global, nodes: u32, seed: u64) -> Result<Finder, AllocError> {
+        Ok(Finder {
+            region: Region::new(alloc, nodes)?,
+            divisors: Divisors::new(alloc),
+            search: Search::new(alloc)?,
+            cone: Vec::new(alloc),
+            random: Random::new(seed),
+        })
+    }
+
+    /// A gate at random.
+    pub fn gate_of(&mut self, xag: &Xag) -> u32 {
+        let gates = (xag.gates().len() as u64).min(0x7FFF_FFFF) as u32;
+        xag.sources()
+            .wrapping_add(1)
+            .wrapping_add(self.random.below(gates))
+    }
+
+    /// Tries what was found, in a random order: the smallest graph of some trials.
+    fn try_found(
+        &mut self,
+        alloc: Global,
+        xag: &Xag,
+        target: u32,
+        trials: usize,
+    ) -> Result<Option<Xag>, AllocError>
+        ensures { IfOk result (λ other. IfSome other (HasEnds xag.now)) }
+    {
+        let mut best: Option<Xag> = None;
+        for index in 0..trials.min(self.search.found.len()) {
+            exchange(&mut self.search.found, index, &mut self.random);
+            let Some(recipe) = self.search.found.get(index) else {
+                break;
+            };
+            let mut edit = Edit::new(alloc, xag);
+            add_to(&mut edit, &self.divisors, target, *recipe)?;
+            if let Some(other) = rebuild(alloc, xag, &edit)? {
+                best = smaller(best, other);
+            }
+        }
+        Ok(best)
+    }
+
+    /// Searches with exactly `gates` new gates.
+    fn search_with(
+        &mut self,
+        alloc: Global,
+        xag: &Xag,
+        target: u32,
+        gates: u32,
+        terms: Terms,
+    ) -> Result<Option<Xag>, AllocError>
+        ensures { IfOk result (λ other. IfSome other (IsNoLarger xag.now)) }
+    {
+        let wanted = Wanted::of(alloc, self.region.target_row(), self.region.care())?;
+        self.search.find(alloc, &self.divisors, &wanted, gates)?;
+        let size = xag.gates().len();
+        let is_plateau = gates as usize >= self.cone.len();
+        let trials = if is_plateau {
+            1
+        } else {
+            (MOST_WORK / (size + 1)).clamp(1, 12)
+        };
+        match self.try_found(alloc, xag, target, trials)? {
+            Some(other) => {
+                if is_taken(size, other.gates().len(), terms) {
+                    Ok(Some(other))
+                } else {
+                    Ok(None)
+                }
+            }
+            None => Ok(None),
+        }
+    }
+
+    /// Searches in the region of the target, with its tail where `with_tail`.
+    fn search_region(
+        &mut self,
+        alloc: Global,
+        xag: &Xag,
+        context: &Context,
+        target: u32,
+        with_tail: bool,
+        terms: Terms,
+    ) -> Result<Option<Xag>, AllocError>
+        ensures { IfOk result (λ other. IfSome other (IsNoLarger xag.now)) }
+    {
+        if !self.region.set_up(alloc, xag, context, target, with_tail)? {
+            return Ok(None);
+        }
+        self.divisors
+            .find(xag, context, &mut self.region, &self.cone, u32::MAX)?;
+        let saved = (self.cone.len() as u64).min(1000) as u32;
+        let most = if terms.is_level {
+            saved
+        } else {
+            saved.saturating_sub(1)
+        };
+        for gates in 0..=terms.new_gates.min(most).min(2) {
+            if let Some(other) = self.search_with(alloc, xag, target, gates, terms)? {
+                return Ok(Some(other));
+            }
+        }
+        Ok(None)
+    }
+
+    /// A graph in which the target is replaced, as the terms allow.
+    pub fn replace(
+        &mut self,
+        alloc: Global,
+        xag: &Xag,
+        context: &mut Context,
+        target: u32,
+        terms: Terms,
+    ) -> Result<Option<Xag>, AllocError>
+        ensures { IfOk result (λ other. IfSome other (IsNoLarger xag.now)) }
+    {
+        context.cone_of(xag, target, &mut self.cone)?;
+        for with_tail in [false, true] {
+            let found = self.search_region(alloc, xag, context, target, with_tail, terms)?;
+            if found.is_some() {
+                return Ok(found);
+            }
+        }
+        Ok(None)
+    }
+
+    /// Notes the first recipe with exactly `gates` new gates, if there is one, in the edit. True where there is.
+    fn note_with(
+        &mut self,
+        alloc: Global,
+        xag: &Xag,
+        context: &mut Context,
+        edit: &mut Edit,
+        target: u32,
+        gates: u32,
+    ) -> Result<bool, AllocError> {
+        let wanted = Wanted::of(alloc, self.region.target_row(), self.region.care())?;
+        self.search.find(alloc, &self.divisors, &wanted, gates)?;
+        let Some(recipe) = self.search.found.first() else {
+            return Ok(false);
+        };
+        add_to(edit, &self.divisors, target, *recipe)?;
+        note_readers(context, xag, &self.divisors, &self.cone, target, *recipe);
+        Ok(true)
+    }
+
+    /// Notes a replacement of the target by nodes below it in the edit, if it has one that saves gates.
+    pub fn note(
+        &mut self,
+        alloc: Global,
+        xag: &Xag,
+        context: &mut Context,
+        edit: &mut Edit,
+        target: u32,
+        new_gates: u32,
+    ) -> Result<(), AllocError> {
+        if !xag.is_gate(target) || context.references(target) == 0 {
+            return Ok(());
+        }
+        context.cone_of(xag, target, &mut self.cone)?;
+        self.region.set_up(alloc, xag, context, target, false)?;
+        self.divisors
+            .find(xag, context, &mut self.region, &self.cone, target)?;
+        let saved = (self.cone.len() as u64).min(1000) as u32;
+        for gates in 0..=new_gates.min(saved.saturating_sub(1)).min(2) {
+            if self.note_with(alloc, xag, context, edit, target, gates)? {
+                break;
+            }
+        }
+        Ok(())
+    }
+}

@@ -1,0 +1,108 @@
+//! The passes: over all gates in topological order until none changes, or over gates at random.
+ghost use Rattle.std.specs.Prelude.{IfOk, OnOk};
+ghost use Rattle.resub_core.specs.Smaller.{IsNoLarger};
+
+use crate::batches::batched;
+use crate::finder::{Finder, Terms};
+use std::alloc::{AllocError, Global};
+use xag_core::{Context, Xag};
+
+/// The graph, its context, and the next target.
+#[derive(Drop)]
+struct Pass {
+    xag: Xag,
+    context: Context,
+    target: u32,
+}
+
+/// The first gate.
+fn first_gate(xag: &Xag) -> u32 {
+    xag.sources().wrapping_add(1)
+}
+
+/// Where the pass goes on after a change at `target`: so many nodes before it as gates are gone, and one.
+fn target_after(target: u32, old: &Xag, new: &Xag) -> u32 {
+    let gone = old.gates().len().saturating_sub(new.gates().len());
+    let back = (gone as u64).min(0x7FFF_FFFF) as u32;
+    target.saturating_sub(back).max(first_gate(new))
+}
+
+/// Tries one target. True where the graph changed.
+#[tactic(auto, using(crate::proofs::Replacing::replacing))]
+fn try_target(
+    alloc: Global,
+    pass: &mut Pass,
+    finder: &mut Finder,
+    terms: Terms,
+) -> Result<bool, AllocError>
+    ensures { OnOk result (IsNoLarger pass.old.xag pass.new.xag) }
+{
+    let found = finder.replace(alloc, &pass.xag, &mut pass.context, pass.target, terms)?;
+    let Some(other) = found else {
+        return Ok(false);
+    };
+    pass.context = Context::new(alloc, &other)?;
+    pass.target = target_after(pass.target, &pass.xag, &other);
+    pass.xag = other;
+    Ok(true)
+}
+
+/// The graph after resubstitution with at most `new_gates` new gates for a target, 0, 1 or 2. Each
+/// replacement leaves fewer gates. It goes on until no gate of the graph has one, or for some twenty passes. A
+/// large graph is first taken through batches.
+#[tactic(auto, using(crate::proofs::Replacing::replacing))]
+pub fn resub(alloc: Global, xag: &Xag, new_gates: u32) -> Result<Xag, AllocError>
+    ensures { IfOk result (IsNoLarger xag.now) }
+{
+    let mut finder = Finder::new(alloc, xag.nodes(), 1)?;
+    let begun = batched(alloc, xag, &mut finder, new_gates)?;
+    let mut pass = Pass {
+        context: Context::new(alloc, &begun)?,
+        target: first_gate(&begun),
+        xag: begun,
+    };
+    let terms = Terms {
+        new_gates,
+        is_level: false,
+    };
+    let mut is_settled = true;
+    for _attempt in 0..20 * u64::from(xag.nodes()) {
+        if pass.target >= pass.xag.nodes() {
+            if is_settled {
+                break;
+            }
+            is_settled = true;
+            pass.target = first_gate(&pass.xag);
+            continue;
+        }
+        if try_target(alloc, &mut pass, &mut finder, terms)? {
+            is_settled = false;
+        } else {
+            pass.target = pass.target.saturating_add(1);
+        }
+    }
+    Ok(pass.xag)
+}
+
+/// The graph after resubstitution with at most two new gates at as many gates at random as it has, each
+/// replacement with no more gates.
+#[tactic(auto, using(crate::proofs::Replacing::replacing))]
+pub fn resub_level(alloc: Global, xag: &Xag, seed: u64) -> Result<Xag, AllocError>
+    ensures { IfOk result (IsNoLarger xag.now) }
+{
+    let mut pass = Pass {
+        xag: xag.copied(alloc)?,
+        context: Context::new(alloc, xag)?,
+        target: first_gate(xag),
+    };
+    let mut finder = Finder::new(alloc, xag.nodes(), seed)?;
+    let terms = Terms {
+        new_gates: 2,
+        is_level: true,
+    };
+    for _attempt in 0..xag.gates().len() {
+        pass.target = finder.gate_of(&pass.xag);
+        try_target(alloc, &mut pass, &mut finder, terms)?;
+    }
+    Ok(pass.xag)
+}

@@ -1,0 +1,165 @@
+//! The roots of the trees of a kind, and the row of literals of each.
+
+use crate::kind::Kind;
+use std::alloc::{AllocError, Global};
+use xag_core::{Context, Xag, XagGate, bit_at, put};
+
+/// The most literals of a row: pairs grow with its square.
+const MOST_LITERALS: usize = 100;
+
+/// The most gates of a tree that are gone through, since a gate that is read twice is gone through twice.
+const MOST_STEPS: usize = 400;
+
+/// A root and the literals of its tree, rising.
+#[derive(Drop)]
+pub struct Row {
+    pub root: u32,
+    pub literals: Vec<u32>,
+}
+
+/// Marks the node of an operand as a root where its tree doesn't go on into the tree of the gate.
+fn mark_operand(
+    roots: &mut [bool],
+    xag: &Xag,
+    context: &Context,
+    kind: Kind,
+    gate: XagGate,
+    literal: u32,
+) {
+    let node = literal >> 1;
+    let operand = xag.gate(node);
+    if !xag.is_gate(node) || operand.is_xor != kind.is_xor {
+        return;
+    }
+    let leaves_kind = gate.is_xor != kind.is_xor || !kind.goes_on(operand, literal);
+    if leaves_kind || (!kind.through_all && context.references(node) > 1) {
+        put(roots, node, true);
+    }
+}
+
+/// The roots: gates of the kind that a sink reads, or a gate of another kind, or, unless trees go on
+/// through these, several.
+fn mark_roots(
+    alloc: Global,
+    xag: &Xag,
+    context: &Context,
+    kind: Kind,
+) -> Result<Vec<bool>, AllocError> {
+    let mut roots = vec![in alloc; false; xag.nodes() as usize]?;
+    for sink in xag.sinks() {
+        let node = sink >> 1;
+        if xag.is_gate(node) && xag.gate(node).is_xor == kind.is_xor {
+            put(&mut roots, node, true);
+        }
+    }
+    for gate in xag.gates() {
+        mark_operand(&mut roots, xag, context, kind, *gate, gate.first);
+        mark_operand(&mut roots, xag, context, kind, *gate, gate.second);
+    }
+    Ok(roots)
+}
+
+/// Puts an operand with the gates to go through, or with the literals.
+fn sort_operand(
+    xag: &Xag,
+    roots: &[bool],
+    kind: Kind,
+    literal: u32,
+    pending: &mut Vec<u32>,
+    literals: &mut Vec<u32>,
+) -> Result<(), AllocError> {
+    let node = literal >> 1;
+    let goes_on = xag.is_gate(node)
+        && kind.goes_on(xag.gate(node), literal)
+        && (kind.through_all || !bit_at(roots, node));
+    if goes_on && pending.len() + literals.len() < MOST_LITERALS {
+        pending.push(node)?;
+    } else {
+        literals.push(literal)?;
+    }
+    Ok(())
+}
+
+/// The literals of the tree of a root, with repetitions.
+fn tree_literals(
+    alloc: Global,
+    xag: &Xag,
+    roots: &[bool],
+    kind: Kind,
+    root: u32,
+) -> Result<Vec<u32>, AllocError> {
+    let mut literals = Vec::new(alloc);
+    let mut pending = Vec::new(alloc);
+    pending.push(root)?;
+    for _step in 0..MOST_STEPS {
+        let Some(node) = pending.pop() else {
+            return Ok(literals);
+        };
+        let gate = xag.gate(node);
+        sort_operand(xag, roots, kind, gate.first, &mut pending, &mut literals)?;
+        sort_operand(xag, roots, kind, gate.second, &mut pending, &mut literals)?;
+    }
+    for node in &pending {
+        literals.push(node.wrapping_mul(2))?;
+    }
+    Ok(literals)
+}
+
+/// The literals that stand in a sorted row an odd number of times.
+fn odd_ones(alloc: Global, sorted: &[u32]) -> Result<Vec<u32>, AllocError> {
+    let mut odd: Vec<u32> = Vec::with_capacity(alloc, sorted.len())?;
+    for literal in sorted {
+        if odd.last() == Some(literal) {
+            odd.pop();
+            continue;
+        }
+        odd.push(*literal)?;
+    }
+    Ok(odd)
+}
+
+/// The literals of a sorted row, each once; none where one and its complement stand there.
+fn distinct_ones(alloc: Global, sorted: &[u32]) -> Result<Vec<u32>, AllocError> {
+    let mut distinct: Vec<u32> = Vec::with_capacity(alloc, sorted.len())?;
+    for literal in sorted {
+        if distinct.last() == Some(&(literal ^ 1)) {
+            distinct.clear();
+            return Ok(distinct);
+        }
+        if distinct.last() != Some(literal) {
+            distinct.push(*literal)?;
+        }
+    }
+    Ok(distinct)
+}
+
+/// The row of a root. An empty row is the constant 0.
+fn row_of(
+    alloc: Global,
+    xag: &Xag,
+    roots: &[bool],
+    kind: Kind,
+    root: u32,
+) -> Result<Row, AllocError> {
+    let mut all = tree_literals(alloc, xag, roots, kind, root)?;
+    all.sort()?;
+    let literals = if kind.is_xor {
+        odd_ones(alloc, &all)?
+    } else {
+        distinct_ones(alloc, &all)?
+    };
+    Ok(Row { root, literals })
+}
+
+/// The rows of all roots of a kind, in topological order of the roots.
+pub fn rows_of(alloc: Global, xag: &Xag, kind: Kind) -> Result<Vec<Row>, AllocError> {
+    let context = Context::new(alloc, xag)?;
+    let roots = mark_roots(alloc, xag, &context, kind)?;
+    let mut rows = Vec::new(alloc);
+    for node in 0..xag.nodes() {
+        if bit_at(&roots, node) {
+            rows.push(row_of(alloc, xag, &roots, kind, node)?)?;
+        }
+    }
+    Ok(rows)
+}

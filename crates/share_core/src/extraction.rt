@@ -1,0 +1,208 @@
+//! Taking out pairs: a pair becomes a gate, and the gate's literal stands in its place in each row. Where
+//! a literal stands is noted in lists, in which a row that has it no more is passed over.
+
+use crate::collecting::Row;
+use crate::pairs::{Pair, Pairs};
+use std::alloc::{AllocError, Global};
+use xag_core::{Edit, NONE, Random, XagGate, at, put};
+
+/// The most pairs that are counted at the start.
+const MOST_PAIRS: usize = 4_000_000;
+
+/// The most ranks that are looked at.
+const MOST_RANKS: u64 = 1_000_000_000;
+
+/// The rows of each literal: a list that begins at the literal's head.
+#[derive(Drop)]
+pub struct Places {
+    heads: Vec<u32>,
+    rows: Vec<u32>,
+    nexts: Vec<u32>,
+}
+
+impl Places {
+    /// No rows, for literals below `literals`.
+    fn new(alloc: Global, literals: usize) -> Result<Places, AllocError> {
+        Ok(Places {
+            heads: vec![in alloc; NONE; literals]?,
+            rows: Vec::new(alloc),
+            nexts: Vec::new(alloc),
+        })
+    }
+
+    /// The row has the literal.
+    fn note(&mut self, literal: u32, row: u32) -> Result<(), AllocError> {
+        let entry = (self.rows.len() as u64 & 0xFFFF_FFFF) as u32;
+        self.rows.push(row)?;
+        self.nexts.push(at(&self.heads, literal))?;
+        put(&mut self.heads, literal, entry);
+        Ok(())
+    }
+
+    /// Room for one more gate: both its literals.
+    fn extend(&mut self) -> Result<(), AllocError> {
+        self.heads.push(NONE)?;
+        self.heads.push(NONE)?;
+        Ok(())
+    }
+
+    /// The rows that had a literal.
+    fn rows_with(&self, alloc: Global, literal: u32) -> Result<Vec<u32>, AllocError> {
+        let mut found = Vec::new(alloc);
+        let mut entry = at(&self.heads, literal);
+        for _passed in 0..self.rows.len() {
+            if entry == NONE {
+                break;
+            }
+            found.push(at(&self.rows, entry))?;
+            entry = at(&self.nexts, entry);
+        }
+        Ok(found)
+    }
+}
+
+/// Counts the pairs of a row with one literal, which stands at `index`.
+fn count_with(pairs: &mut Pairs, literals: &[u32], index: usize) -> Result<(), AllocError> {
+    let Some(literal) = literals.get(index) else {
+        return Ok(());
+    };
+    for other in literals.iter().skip(index + 1) {
+        pairs.change(*literal, *other, true)?;
+    }
+    Ok(())
+}
+
+/// Counts the pairs of a row, and notes where its literals stand.
+fn count_row(
+    pairs: &mut Pairs,
+    places: &mut Places,
+    literals: &[u32],
+    row: u32,
+) -> Result<(), AllocError> {
+    for (index, literal) in literals.iter().enumerate() {
+        places.note(*literal, row)?;
+        count_with(pairs, literals, index)?;
+    }
+    Ok(())
+}
+
+/// Counts the pairs of all rows, up to a bound.
+fn count_all(pairs: &mut Pairs, places: &mut Places, rows: &[Row]) -> Result<(), AllocError> {
+    for (row, entry) in rows.iter().enumerate() {
+        if pairs.len() < MOST_PAIRS {
+            let row = (row as u64 & 0xFFFF_FFFF) as u32;
+            count_row(pairs, places, &entry.literals, row)?;
+        }
+    }
+    Ok(())
+}
+
+/// A literal goes out of a row, or comes into it: its pairs with the others change.
+fn change_pairs(
+    pairs: &mut Pairs,
+    literals: &[u32],
+    literal: u32,
+    more: bool,
+) -> Result<(), AllocError> {
+    for other in literals {
+        pairs.change(*other, literal, more)?;
+    }
+    Ok(())
+}
+
+/// In a row that has both literals of the pair the gate's literal stands for them.
+fn replace_in(
+    pairs: &mut Pairs,
+    places: &mut Places,
+    literals: &mut Vec<u32>,
+    row: u32,
+    pair: Pair,
+    literal: u32,
+) -> Result<(), AllocError> {
+    if !literals.contains(&pair.low) || !literals.contains(&pair.high) {
+        return Ok(());
+    }
+    literals.retain(|entry| *entry != pair.low);
+    change_pairs(pairs, literals, pair.low, false)?;
+    literals.retain(|entry| *entry != pair.high);
+    change_pairs(pairs, literals, pair.high, false)?;
+    change_pairs(pairs, literals, literal, true)?;
+    literals.push(literal)?;
+    places.note(literal, row)
+}
+
+/// Takes a pair out of all rows that have it.
+fn take_out(
+    alloc: Global,
+    pairs: &mut Pairs,
+    places: &mut Places,
+    rows: &mut [Row],
+    pair: Pair,
+    literal: u32,
+) -> Result<(), AllocError> {
+    places.extend()?;
+    let having = places.rows_with(alloc, pair.high)?;
+    for row in &having {
+        if let Some(entry) = rows.get_mut(*row as usize) {
+            replace_in(pairs, places, &mut entry.literals, *row, pair, literal)?;
+        }
+    }
+    Ok(())
+}
+
+/// Takes out pairs while some pair stands in two rows.
+pub fn extract(
+    alloc: Global,
+    edit: &mut Edit,
+    nodes: u32,
+    rows: &mut [Row],
+    is_xor: bool,
+    random: Option<Random>,
+) -> Result<(), AllocError> {
+    let mut pairs = Pairs::new(alloc, random);
+    let mut places = Places::new(alloc, 2 * nodes as usize)?;
+    count_all(&mut pairs, &mut places, rows)?;
+    for _rank in 0..MOST_RANKS {
+        let Some(taken) = pairs.take() else {
+            break;
+        };
+        let Some(pair) = taken else {
+            continue;
+        };
+        let literal = edit.gate(XagGate {
+            first: pair.low,
+            second: pair.high,
+            is_xor,
+        })?;
+        take_out(alloc, &mut pairs, &mut places, rows, pair, literal)?;
+    }
+    Ok(())
+}
+
+/// Exchanges the entry at `index` with a random one at or below it.
+fn exchange(literals: &mut [u32], index: usize, random: &mut Random) {
+    let other = random.below((index as u64 & 0xFFFF_FFF) as u32 + 1) as usize;
+    if index < literals.len() && other < literals.len() {
+        literals.swap(index, other);
+    }
+}
+
+/// Puts a row into a random order.
+pub fn shuffle(literals: &mut [u32], random: &mut Random) {
+    for index in 0..literals.len() {
+        exchange(literals, index, random);
+    }
+}
+
+/// What is left of a row, as a chain of gates; its root is redirected there.
+pub fn fold(edit: &mut Edit, row: &Row, is_xor: bool) -> Result<(), AllocError> {
+    let mut joined = at(&row.literals, 0);
+    for literal in row.literals.iter().skip(1) {
+        joined = edit.gate(XagGate {
+            first: joined,
+            second: *literal,
+            is_xor,
+        })?;
+    }
+    edit.redirect(row.root, joined)
+}

@@ -1,0 +1,97 @@
+//! In how many rows each pair of literals stands, and which stands in most: a heap of ranks, in which a
+//! rank that isn't its pair's any more is passed over.
+
+use indexmap::IndexSet;
+use std::alloc::{AllocError, Global};
+use std::collections::BinaryHeap;
+use xag_core::{Random, at, put};
+
+/// The greatest number of 26 bits.
+const MOST: u64 = 0x3FF_FFFF;
+
+/// Two literals, the lower first.
+#[derive(Clone, Copy, PartialEq, Eq, Hash)]
+pub struct Pair {
+    pub low: u32,
+    pub high: u32,
+}
+
+/// The pairs in the order in which they were met, the number of rows of each, and the heap.
+#[derive(Drop)]
+pub struct Pairs {
+    met: IndexSet<Pair>,
+    counts: Vec<u32>,
+    heap: BinaryHeap<u64>,
+    random: Option<Random>,
+}
+
+impl Pairs {
+    /// No pairs. With `random` ties are broken at random.
+    pub fn new(alloc: Global, random: Option<Random>) -> Pairs {
+        Pairs {
+            met: IndexSet::new(alloc),
+            counts: Vec::new(alloc),
+            heap: BinaryHeap::new(alloc),
+            random,
+        }
+    }
+
+    /// What breaks ties of a pair: 26 bits.
+    fn tie(&mut self, low: u32) -> u64 {
+        match &mut self.random {
+            Some(random) => u64::from(random.next()) & MOST,
+            None => MOST - u64::from(low).min(MOST),
+        }
+    }
+
+    /// Puts the rank of a pair into the heap: its count in 12 bits, then the tie, then the index, the
+    /// first index greatest.
+    fn rank(&mut self, index: u32, count: u32, low: u32) -> Result<(), AllocError> {
+        if count < 2 {
+            return Ok(());
+        }
+        let shown = u64::from(count).min(4095);
+        let tie = self.tie(low);
+        let place = MOST - u64::from(index).min(MOST);
+        self.heap
+            .push(shown.wrapping_shl(52) | tie.wrapping_shl(26) | place)?;
+        Ok(())
+    }
+
+    /// One row more, or one less, has both literals.
+    pub fn change(&mut self, a: u32, b: u32, more: bool) -> Result<(), AllocError> {
+        let pair = Pair {
+            low: a.min(b),
+            high: a.max(b),
+        };
+        let (index, is_new) = self.met.insert_full(pair)?;
+        if is_new {
+            self.counts.push(0)?;
+        }
+        let index = (index as u64 & 0xFFFF_FFFF) as u32;
+        let old = at(&self.counts, index);
+        let new = if more {
+            old.saturating_add(1)
+        } else {
+            old.saturating_sub(1)
+        };
+        put(&mut self.counts, index, new);
+        self.rank(index, new, pair.low)
+    }
+
+    /// How many pairs were met.
+    pub fn len(&self) -> usize {
+        self.counts.len()
+    }
+
+    /// Takes the rank on top off the heap. The pair, if that is its rank still; None without a rank.
+    pub fn take(&mut self) -> Option<Option<Pair>> {
+        let rank = self.heap.pop()?;
+        let index = (MOST - (rank & MOST)) as u32;
+        let count = at(&self.counts, index);
+        if u64::from(count).min(4095) != rank >> 52 {
+            return Some(None);
+        }
+        Some(self.met.get_index(index as usize).copied())
+    }
+}

@@ -1,0 +1,92 @@
+//! The passes over AND and XOR trees, of which each that has no more gates is kept.
+ghost use Rattle.std.specs.Prelude.{◌≤◌, IfOk, IfSome, length};
+ghost use Rattle.xag_core.specs.Xag.{HasEnds};
+
+use crate::collecting::{Row, rows_of};
+use crate::extraction::{extract, fold, shuffle};
+use crate::kind::Kind;
+use std::alloc::{AllocError, Global};
+use xag_core::{Edit, Random, Xag, rebuild};
+
+/// Puts the rows into a random order each.
+fn shuffle_rows(rows: &mut [Row], random: Random) {
+    let mut random = random;
+    for row in rows.iter_mut() {
+        shuffle(&mut row.literals, &mut random);
+    }
+}
+
+/// Folds all rows.
+fn fold_rows(edit: &mut Edit, rows: &[Row], is_xor: bool) -> Result<(), AllocError> {
+    for row in rows {
+        fold(edit, row, is_xor)?;
+    }
+    Ok(())
+}
+
+/// The graph after one pass; None where it has no trees of the kind.
+fn pass(
+    alloc: Global,
+    xag: &Xag,
+    kind: Kind,
+    random: Option<Random>,
+) -> Result<Option<Xag>, AllocError>
+    ensures { IfOk result (λ other. IfSome other (HasEnds xag.now)) }
+{
+    let mut rows = rows_of(alloc, xag, kind)?;
+    if rows.is_empty() {
+        return Ok(None);
+    }
+    let mut edit = Edit::new(alloc, xag);
+    extract(
+        alloc,
+        &mut edit,
+        xag.nodes(),
+        &mut rows,
+        kind.is_xor,
+        random,
+    )?;
+    if let Some(random) = random {
+        shuffle_rows(&mut rows, random);
+    }
+    fold_rows(&mut edit, &rows, kind.is_xor)?;
+    rebuild(alloc, xag, &edit)
+}
+
+/// The graph after one pass, or as it is where that has more gates.
+#[tactic(auto, using(crate::proofs::Ends::ends))]
+fn better(alloc: Global, xag: Xag, kind: Kind, random: Option<Random>) -> Result<Xag, AllocError>
+    ensures ends { IfOk result (HasEnds xag) }
+    ensures size { IfOk result (λ other. length other.gates ≤ length xag.gates) }
+{
+    match pass(alloc, &xag, kind, random)? {
+        Some(other) => {
+            if other.gates().len() <= xag.gates().len() {
+                Ok(other)
+            } else {
+                Ok(xag)
+            }
+        }
+        None => Ok(xag),
+    }
+}
+
+/// The graph after sharing pairs of operands of AND and of XOR trees, first of those through gates that one
+/// gate reads, then through all. With a seed ties, and the order of what is left of a tree, are random;
+/// another graph of the same size may be answered.
+#[tactic(auto, using(crate::proofs::Ends::ends))]
+pub fn share(alloc: Global, xag: &Xag, seed: Option<u64>) -> Result<Xag, AllocError>
+    ensures ends { IfOk result (HasEnds xag.now) }
+    ensures size { IfOk result (λ other. length other.gates ≤ length xag.now.gates) }
+{
+    let random = seed.map(Random::new);
+    let mut best = xag.copied(alloc)?;
+    for (is_xor, through_all) in [(false, false), (true, false), (false, true), (true, true)] {
+        let kind = Kind {
+            is_xor,
+            through_all,
+        };
+        best = better(alloc, best, kind, random)?;
+    }
+    Ok(best)
+}
