@@ -4,11 +4,13 @@ do the same, beside ABC's `cec` and `&cec`, as a table: verdict, user seconds, a
 
 The pairs are each NETLIST beside what PROGRAM's `improve` and two scripts of ABC make of it, and of about N gates each
 (10,000): an array multiplier, adders whose carries ripple and are chosen, random logic of three kinds, and logic of
-adders, multipliers and multiplexers, each beside what the scripts make of it. Each run has 60 seconds. With --judge an LRAT
-checker (`CHECKER FORMULA LOG`) is asked of each log that refutes, on the formula that make_miter.py writes."""
+adders, multipliers and multiplexers, each beside what the scripts make of it. Each run has 60 seconds of
+processor time, so that other work on the machine doesn't end it. With --judge an LRAT checker (`CHECKER FORMULA LOG`) is
+asked of each log that refutes, on the formula that make_miter.py writes."""
 
 import os
 import resource
+import signal
 import subprocess
 import sys
 import tempfile
@@ -23,16 +25,14 @@ LIMIT = 60
 
 def run(words, text="", limit=LIMIT):
     """What a program writes, its user seconds and the most memory in MB; None in place of the text where time runs out."""
-    pipe = subprocess.PIPE
-    with subprocess.Popen(words, stdin=pipe, stdout=pipe, stderr=subprocess.DEVNULL, text=True, encoding="latin-1") as child:
-        try:
-            said, _ = child.communicate(text, timeout=limit)
-        except subprocess.TimeoutExpired:
-            child.kill()
-            child.communicate()
-            said = None
+    pipe, last = subprocess.PIPE, lambda: resource.setrlimit(resource.RLIMIT_CPU, (limit, limit + 1))
+    with subprocess.Popen(
+        words, stdin=pipe, stdout=pipe, stderr=subprocess.DEVNULL, text=True, encoding="latin-1", preexec_fn=last
+    ) as child:
+        said, _ = child.communicate(text)
     used = resource.getrusage(resource.RUSAGE_CHILDREN)
-    return said, used.ru_utime, used.ru_maxrss / 1024
+    is_late = child.returncode in (-signal.SIGXCPU, -signal.SIGKILL)
+    return None if is_late else said, used.ru_utime, used.ru_maxrss / 1024
 
 
 def apart(words, text="", limit=LIMIT):

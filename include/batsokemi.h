@@ -88,7 +88,7 @@ struct batsokemi_answer {
  *
  * Threads: the library has no state. Calls in any number of threads, each with buffers of its own, don't meet; they may
  * read the same command and the same input. It isn't to be called from a signal handler. BATSOKEMI_STACK bytes of stack
- * are enough: that is measured, over all commands and the largest netlists, and not proved.
+ * are enough: that is measured, over all commands and netlists of 100,000 gates, and not proved.
  *
  * A call takes as long as the command does, and can't be stopped; `--conflicts` and `--max` bound it. It blocks on
  * nothing, reads no file, no clock and no environment, and never ends the process.
@@ -96,7 +96,16 @@ struct batsokemi_answer {
 struct batsokemi_answer batsokemi_run(const void *command, size_t command_length, const void *input, size_t input_length,
                                       void *output, size_t output_room, void *notes, size_t notes_room);
 
-/* What stack a call needs at most, in bytes. */
+/*
+ * What stack a call needs at most, in bytes, with room to spare: for threads with a small stack. The program, with what
+ * its process needs besides, runs within
+ *
+ *     24 KiB   synth by ssv or fence, improve --cap 0 of 100,000 gates in a row
+ *     32 KiB   synth by select, --least-depth yes, improve with and without --observe yes, equiv
+ *     48 KiB   recheck
+ *
+ * examples/c/stack.c measures a call.
+ */
 #define BATSOKEMI_STACK 262144
 
 /*

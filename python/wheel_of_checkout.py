@@ -1,7 +1,8 @@
 """Makes the wheel that pip installs: the package, and the library that comes with the repository.
 
-A build backend (PEP 517) without dependencies. Where the checkout has no library for this machine, it says how one is
-made, and stops.
+A build backend (PEP 517 and 660) without dependencies: `pip install ./python` at the top of a checkout, with `-e` so that
+the checkout's package itself is used. Where the checkout has no library for this machine, it says how one is made, and
+stops. There is no source distribution: the sources of the library are the checkout, and are proved and built there.
 """
 
 from __future__ import annotations
@@ -37,29 +38,53 @@ def library() -> Path:
     return LIBRARY
 
 
-def files() -> dict[str, bytes]:
-    """The files of the wheel by their names."""
-    version, folder = said('version'), f'batsokemi-{said("version")}.dist-info'
+def package() -> dict[str, bytes]:
+    """The files of the package and the library, by their names in the wheel."""
     packed = {f'batsokemi/{path.name}': path.read_bytes() for path in sorted((HERE / 'batsokemi').glob('*.py'))}
-    packed['batsokemi/libbatsokemi.so'] = library().read_bytes()
-    packed['batsokemi/py.typed'] = b''
-    about = f'Metadata-Version: 2.1\nName: batsokemi\nVersion: {version}\nSummary: {said("description")}\nRequires-Python: {said("requires-python")}\n'
-    packed[f'{folder}/METADATA'] = about.encode()
-    tag = f'py3-none-linux_{platform.machine()}'
-    packed[f'{folder}/WHEEL'] = f'Wheel-Version: 1.0\nGenerator: batsokemi\nRoot-Is-Purelib: false\nTag: {tag}\n'.encode()
-    record = [f'{name},sha256={digest(data)},{len(data)}' for name, data in packed.items()]
-    packed[f'{folder}/RECORD'] = '\n'.join([*record, f'{folder}/RECORD,,', '']).encode()
-    return packed
+    return {**packed, 'batsokemi/libbatsokemi.so': library().read_bytes(), 'batsokemi/py.typed': b''}
+
+
+def described(packed: dict[str, bytes], tag: str) -> dict[str, bytes]:
+    """The files of a wheel, with those that say what it is."""
+    folder = f'batsokemi-{said("version")}.dist-info'
+    about = (
+        f'Metadata-Version: 2.1\nName: batsokemi\nVersion: {said("version")}\nSummary: {said("description")}\n'
+        f'Requires-Python: {said("requires-python")}\n'
+    )
+    wheel = f'Wheel-Version: 1.0\nGenerator: batsokemi\nRoot-Is-Purelib: false\nTag: {tag}\n'
+    whole = {**packed, f'{folder}/METADATA': about.encode(), f'{folder}/WHEEL': wheel.encode()}
+    record = [f'{name},sha256={digest(data)},{len(data)}' for name, data in whole.items()]
+    return {**whole, f'{folder}/RECORD': '\n'.join([*record, f'{folder}/RECORD,,', '']).encode()}
 
 
 def digest(data: bytes) -> str:
     return base64.urlsafe_b64encode(hashlib.sha256(data).digest()).rstrip(b'=').decode()
 
 
-def build_wheel(wheel_directory: str, config_settings: object = None, metadata_directory: object = None) -> str:
-    """Writes the wheel into a folder, and answers its name."""
-    name = f'batsokemi-{said("version")}-py3-none-linux_{platform.machine()}.whl'
-    with zipfile.ZipFile(Path(wheel_directory) / name, 'w', zipfile.ZIP_DEFLATED) as wheel:
-        for path, data in files().items():
+def write_wheel(directory: str, packed: dict[str, bytes]) -> str:
+    """Writes a wheel of these files into a folder, and answers its name."""
+    tag = f'py3-none-linux_{platform.machine()}'
+    name = f'batsokemi-{said("version")}-{tag}.whl'
+    with zipfile.ZipFile(Path(directory) / name, 'w', zipfile.ZIP_DEFLATED) as wheel:
+        for path, data in described(packed, tag).items():
             wheel.writestr(path, data)
     return name
+
+
+def build_wheel(wheel_directory: str, config_settings: object = None, metadata_directory: object = None) -> str:
+    """Writes the wheel of the package and the library."""
+    return write_wheel(wheel_directory, package())
+
+
+def build_editable(wheel_directory: str, config_settings: object = None, metadata_directory: object = None) -> str:
+    """Writes a wheel that names the checkout's package: it finds the library, or the program, where the checkout has it."""
+    return write_wheel(wheel_directory, {'batsokemi.pth': f'{HERE}\n'.encode()})
+
+
+class UnsupportedOperation(Exception):
+    """What a build frontend is told where there is no source distribution."""
+
+
+def build_sdist(sdist_directory: str, config_settings: object = None) -> str:
+    """There is none."""
+    raise UnsupportedOperation('no source distribution: the sources are the checkout; `pip wheel ./python` makes a wheel')

@@ -92,6 +92,7 @@ def improve(
     rounds: int | None = None,
     conflicts: int | None = None,
     observe: bool | None = None,
+    effort: int | None = None,
     engine: Engine | None = None,
 ) -> tuple[str, Report]:
     """Makes a netlist smaller by exact resynthesis of small windows: the new text, and a report.
@@ -103,13 +104,21 @@ def improve(
     rounds     how often the netlist is gone through
     conflicts  how many clauses are learnt for one window before it is left open
     observe    whether cells that no output can tell apart are free too
+    effort     how many rounds of moves keep the size, 0 to 1,000, before windows are tried
 
     >>> text, report = improve('.inputs a b\\n.outputs y\\n.names a b y\\n1- 1\\n-1 1\\n.names a b dead\\n11 1\\n.end\\n')
     >>> report.before, report.after, report.settled
     (2, 1, True)
     """
     asked = options(
-        basis=basis, method=method, cap=cap, rounds=rounds, conflicts=conflicts, format=format, observe=observe
+        basis=basis,
+        method=method,
+        cap=cap,
+        rounds=rounds,
+        conflicts=conflicts,
+        format=format,
+        observe=observe,
+        effort=effort,
     )
     run = answered(engine or default_engine(), ['improve', *asked], bytes_of(text))
     return run.output.decode(), Report.read(run.notes.decode())
@@ -135,7 +144,7 @@ def answered(engine: Engine, words: Sequence[str], data: bytes) -> Run:
     run = engine.run(words, data)
     if run.status in (0, 4) or (run.status == 8 and run.output):
         return run
-    raise error_of(run.status, run.notes)
+    raise error_of(run.status, run.notes, words)
 
 
 def options(**given: Value) -> Iterable[str]:

@@ -2,6 +2,8 @@
 
 from __future__ import annotations
 
+from collections.abc import Sequence
+
 
 class Error(Exception):
     """A call that has no answer.
@@ -23,7 +25,18 @@ class Error(Exception):
 
 
 class UsageError(Error):
-    """The words aren't a command: an option's value is out of its range."""
+    """The words aren't a command: an option's value isn't one that it takes, or two options don't go together. `command`
+    has the words."""
+
+    def __init__(self, status: int, line: str, command: str = '') -> None:
+        super().__init__(status, line)
+        self.command = command
+
+    def __str__(self) -> str:
+        return f'the program takes no command {self.command!r}; docs/FORMATS.md has the ranges of its options'
+
+    def __reduce__(self) -> tuple[object, ...]:
+        return type(self), (self.status, self.line, self.command)
 
 
 class MalformedError(Error):
@@ -58,9 +71,9 @@ KINDS: dict[int, tuple[type[Error], str]] = {
 }
 
 
-def error_of(status: int, notes: bytes) -> Error:
-    """The error that a status and the notes of a call tell of. The error line is the last one of the notes."""
+def error_of(status: int, notes: bytes, words: Sequence[str] = ()) -> Error:
+    """The error that a status and the notes of a call of these words tell of. The error line is the last one of the notes."""
     kind, name = KINDS.get(status, (Error, f'Status{status}'))
     lines = notes.decode('utf-8', 'replace').splitlines()
     line = lines[-1] if lines and lines[-1].startswith('error:') else name
-    return kind(status, line)
+    return UsageError(status, line, ' '.join(words)) if kind is UsageError else kind(status, line)

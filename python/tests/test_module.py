@@ -3,6 +3,7 @@
 from __future__ import annotations
 
 import doctest
+import importlib
 import itertools
 import os
 import pickle
@@ -13,6 +14,7 @@ import threading
 import unittest
 import zipfile
 from pathlib import Path
+from types import ModuleType
 from unittest import mock
 
 import batsokemi
@@ -223,8 +225,11 @@ class Netlists(Everywhere):
 class Errors(Everywhere):
     def test_kinds(self) -> None:
         for made in self.each():
-            with self.assertRaises(batsokemi.UsageError):
+            with self.assertRaisesRegex(batsokemi.UsageError, "no command 'synth --max 17';") as usage:
                 batsokemi.synth('0110', max=17, engine=made)
+            self.assertEqual((usage.exception.name, usage.exception.command), ('Usage', 'synth --max 17'))
+            with self.assertRaisesRegex(batsokemi.UsageError, 'synth --method ssv --least-depth yes'):
+                batsokemi.synth('0110', method='ssv', least_depth=True, engine=made)
             with self.assertRaises(batsokemi.LimitError) as limit:
                 batsokemi.synth(['0'] * 9, engine=made)
             self.assertEqual(limit.exception.name, 'TooManyOutputs')
@@ -256,8 +261,8 @@ class Pickles(Everywhere):
             self.assertEqual((other, str(other.recheck())), (result, 'minimum 1'))
 
     def test_errors(self) -> None:
-        for status, line in ((2, 'error: BadRow 2'), (7, 'Memory'), (8, 'error: Undriven y')):
-            error = errors.error_of(status, line.encode())
+        for status, line in ((1, 'error: Usage'), (2, 'error: BadRow 2'), (7, 'Memory'), (8, 'error: Undriven y')):
+            error = errors.error_of(status, line.encode(), ['synth', '--max', '17'])
             other = pickle.loads(pickle.dumps(error))
             self.assertEqual((type(other), str(other), other.status), (type(error), str(error), status))
             self.assertEqual((other.name, other.fields), (error.name, error.fields))
@@ -342,15 +347,19 @@ class Rooms(unittest.TestCase):
         self.assertEqual(within[1:], [(8, b'differs 1 0\n', b'')])
 
 
+def packer() -> ModuleType:
+    """The backend that pip calls."""
+    if str(TOP / 'python') not in sys.path:
+        sys.path.insert(0, str(TOP / 'python'))
+    return importlib.import_module('wheel_of_checkout')
+
+
 @unittest.skipUnless(engine.find_library(), 'no library is here')
 class Packing(unittest.TestCase):
     def test_wheel(self) -> None:
         """The wheel has the package and the library, and what it has can be used."""
-        sys.path.insert(0, str(TOP / 'python'))
-        import wheel_of_checkout
-
         with tempfile.TemporaryDirectory() as folder:
-            name = wheel_of_checkout.build_wheel(folder)
+            name = packer().build_wheel(folder)
             with zipfile.ZipFile(Path(folder, name)) as wheel:
                 wheel.extractall(folder)
             self.assertTrue(Path(folder, 'batsokemi', 'libbatsokemi.so').is_file())
@@ -360,6 +369,20 @@ class Packing(unittest.TestCase):
                 [sys.executable, '-c', said], capture_output=True, check=False, cwd=folder, env={**kept, 'PYTHONPATH': folder}
             )
             self.assertEqual(ran.stdout.decode(), f'{Path(folder).resolve()}/batsokemi/libbatsokemi.so minimum 1\n')
+
+
+class Developing(unittest.TestCase):
+    def test_editable(self) -> None:
+        """An editable wheel has the path of the checkout's package, and no copy of it."""
+        with tempfile.TemporaryDirectory() as folder:
+            with zipfile.ZipFile(Path(folder, packer().build_editable(folder))) as wheel:
+                names = sorted(wheel.namelist())
+                self.assertEqual([name.split('/')[-1] for name in names], ['METADATA', 'RECORD', 'WHEEL', 'batsokemi.pth'])
+                self.assertEqual(wheel.read('batsokemi.pth').decode(), f'{TOP / "python"}\n')
+
+    def test_no_source_distribution(self) -> None:
+        with self.assertRaisesRegex(packer().UnsupportedOperation, 'pip wheel'):
+            packer().build_sdist('.')
 
 
 def load_tests(loader: unittest.TestLoader, found: unittest.TestSuite, pattern: object) -> unittest.TestSuite:

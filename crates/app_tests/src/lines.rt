@@ -129,12 +129,13 @@ fn synth_is_asked_with_settings(rt: HostRuntime) {
     }
 }
 
-/// The format, the basis, the method, the cap, the rounds, the conflicts, and whether rows that nobody sees are left out.
-type Improve = (Format, u16, Method, u32, u32, u32, bool);
+/// The format, the basis, the method, the cap, the rounds, the conflicts, whether rows that nobody sees are left out, and
+/// the effort.
+type Improve = (Format, u16, Method, u32, u32, u32, bool, u32);
 
 /// A command of these settings.
 fn improve_of(settings: Improve) -> Command {
-    let (format, basis, method, cap, rounds, conflicts, observe) = settings;
+    let (format, basis, method, cap, rounds, conflicts, observe, effort) = settings;
     let settings = ImproveSettings {
         basis: Basis::new(basis),
         method,
@@ -142,6 +143,7 @@ fn improve_of(settings: Improve) -> Command {
         rounds,
         conflicts,
         observe,
+        effort,
     };
     Command::Improve { format, settings }
 }
@@ -150,15 +152,33 @@ fn improve_of(settings: Improve) -> Command {
 const IMPROVES: &[(&str, Improve)] = &[
     (
         "improve",
-        (Format::Blif, 65_535, Method::Ssv, 5, 1000, 100_000, false),
+        (
+            Format::Blif,
+            65_535,
+            Method::Ssv,
+            5,
+            1000,
+            100_000,
+            false,
+            0,
+        ),
     ),
     (
         "improve --format blif --cap 0",
-        (Format::Blif, 65_535, Method::Ssv, 0, 1000, 100_000, false),
+        (
+            Format::Blif,
+            65_535,
+            Method::Ssv,
+            0,
+            1000,
+            100_000,
+            false,
+            0,
+        ),
     ),
     (
         "improve --rounds 1 --cap 8 --basis nand --conflicts 7 --method fence",
-        (Format::Blif, 16_384, Method::Fence, 8, 1, 7, false),
+        (Format::Blif, 16_384, Method::Fence, 8, 1, 7, false, 0),
     ),
     (
         "improve --rounds 100000 --conflicts 10000000",
@@ -170,37 +190,88 @@ const IMPROVES: &[(&str, Improve)] = &[
             100_000,
             10_000_000,
             false,
+            0,
         ),
     ),
     // rows that nobody sees
     (
         "improve --observe no",
-        (Format::Blif, 65_535, Method::Ssv, 5, 1000, 100_000, false),
+        (
+            Format::Blif,
+            65_535,
+            Method::Ssv,
+            5,
+            1000,
+            100_000,
+            false,
+            0,
+        ),
     ),
     (
         "improve --observe yes",
-        (Format::Blif, 65_535, Method::Ssv, 5, 1000, 100_000, true),
+        (Format::Blif, 65_535, Method::Ssv, 5, 1000, 100_000, true, 0),
     ),
     (
         "improve --cap 5 --observe yes --rounds 1000",
-        (Format::Blif, 65_535, Method::Ssv, 5, 1000, 100_000, true),
+        (Format::Blif, 65_535, Method::Ssv, 5, 1000, 100_000, true, 0),
+    ),
+    // moves that keep the size
+    (
+        "improve --effort 1000 --cap 4",
+        (
+            Format::Blif,
+            65_535,
+            Method::Ssv,
+            4,
+            1000,
+            100_000,
+            false,
+            1000,
+        ),
     ),
     // BENCH has bases of its gates
     (
         "improve --format bench",
-        (Format::Bench, 17_346, Method::Ssv, 5, 1000, 100_000, false),
+        (
+            Format::Bench,
+            17_346,
+            Method::Ssv,
+            5,
+            1000,
+            100_000,
+            false,
+            0,
+        ),
     ),
     (
         "improve --basis bench --format bench",
-        (Format::Bench, 17_346, Method::Ssv, 5, 1000, 100_000, false),
+        (
+            Format::Bench,
+            17_346,
+            Method::Ssv,
+            5,
+            1000,
+            100_000,
+            false,
+            0,
+        ),
     ),
     (
         "improve --format bench --basis nand",
-        (Format::Bench, 16_384, Method::Ssv, 5, 1000, 100_000, false),
+        (
+            Format::Bench,
+            16_384,
+            Method::Ssv,
+            5,
+            1000,
+            100_000,
+            false,
+            0,
+        ),
     ),
     (
         "improve --format bench --basis 0110,1001",
-        (Format::Bench, 576, Method::Ssv, 5, 1000, 100_000, false),
+        (Format::Bench, 576, Method::Ssv, 5, 1000, 100_000, false, 0),
     ),
 ];
 
@@ -260,6 +331,10 @@ const NOTHING: &[&str] = &[
     "improve --observe Yes",
     "improve --observe yes --observe yes",
     "synth --observe yes",
+    "improve --effort 1001",
+    "improve --effort -1",
+    "improve --effort yes",
+    "synth --effort 1",
     "gen --blocks 3 --observe yes",
     "improve --format bench --basis all",
     "improve --format bench --basis u2",

@@ -8,3 +8,4 @@ pub use Rattle.blif_core.specs.Written
 pub mod Gates
 pub mod Spelling
 pub mod Bench
+pub mod Writable

@@ -1,7 +1,8 @@
 //! BENCH netlists (the ISCAS benchmark files) read and written. `read_bench` answers the circuit of
 //! a text exactly where the text lists a well-formed document, and else the first fault;
-//! `write_bench` appends the text of a circuit: the tables of its BLIF document, each as a gate of
-//! the same function. The definitions are those of `net_theory` and `bench_text`.
+//! `write_bench` appends the text of a circuit that BENCH can say (`specs/Writable`): the tables of its
+//! BLIF document, each as a gate of the same function. The definitions are those of `net_theory` and
+//! `bench_text`.
 //!
 //! The one theorem: the circuit that is read computes what its text's document says, under every
 //! assignment of inputs and latches, with as many gates as the document costs.

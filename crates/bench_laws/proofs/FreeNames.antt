@@ -12,7 +12,8 @@ use Rattle.net_theory.specs.Circuit.{Circuit, sources_of}
 use Rattle.net_theory.specs.Naming.{numbered, free_names, is_at, output_on, Naming, first_free, rest_free, named, names_after, enough, names_in, taken_set, all_named, gate_names, first_spare, second_spare, place_name}
 use Rattle.bench_text.specs.Items.{is_mark}
 use Rattle.bench_text.specs.SaidLaws.{IsPlainName}
-use Rattle.bench_laws.specs.Spelled.{IsFree, IsPlainState, CanWrite}
+use Rattle.bench_core.specs.Writable.{IsPlainState}
+use Rattle.bench_laws.specs.Spelled.{IsFree, IsWritable}
 
 -- ---- numbered names
 
@@ -93,26 +94,26 @@ states_free : (ls : List Latch) → All IsPlainState ls → All IsFree (map latc
 states_free [] all = All-nil IsFree
 states_free (l ∷ ls) all = All-cons IsFree l.output (map latch_output ls) (All-head IsPlainState l ls all).output.plain (states_free ls (All-tail IsPlainState l ls all))
 
-pub outputs_free : (c : Circuit) → CanWrite c → All IsFree c.outputs
-outputs_free c can = plain_free c.outputs can.outputs
+pub outputs_free : (c : Circuit) → IsWritable c → All IsFree c.outputs
+outputs_free c can = plain_free c.outputs can.fits.outputs
 
-sources_free : (c : Circuit) → CanWrite c → All IsFree (sources_of c)
-sources_free c can = All-append IsFree c.inputs (map latch_output c.latches) (plain_free c.inputs can.inputs) (states_free c.latches can.latches)
+sources_free : (c : Circuit) → IsWritable c → All IsFree (sources_of c)
+sources_free c can = All-append IsFree c.inputs (map latch_output c.latches) (plain_free c.inputs can.fits.inputs) (states_free c.latches can.fits.latches)
 
-all_free : (c : Circuit) → CanWrite c → AreFreeNames (all_named c)
+all_free : (c : Circuit) → IsWritable c → AreFreeNames (all_named c)
 unfolding names_in
 all_free c can =
     after_free (output_on c.outputs c.net.sinks) (record { names = []; free = free_names (taken_set c) 1 (enough (taken_set c) c.net) }) (c.net.sources + 1) c.net.gates
     (λ p o e. output_free c.outputs c.net.sinks p o (outputs_free c can) e)
-    (record { names = All-nil IsFree; free = numbers_free (taken_set c) (enough (taken_set c) c.net) (omega (arith, can.room, can.proper.gates)) })
+    (record { names = All-nil IsFree; free = numbers_free (taken_set c) (enough (taken_set c) c.net) (omega (arith, can.room, can.fits.proper.gates)) })
 
-pub gates_free : (c : Circuit) → CanWrite c → All IsFree (gate_names c)
+pub gates_free : (c : Circuit) → IsWritable c → All IsFree (gate_names c)
 gates_free c can = (all_free c can).names
 
-pub first_spare_free : (c : Circuit) → CanWrite c → IsFree (first_spare c)
+pub first_spare_free : (c : Circuit) → IsWritable c → IsFree (first_spare c)
 first_spare_free c can = first_is_free (all_named c).free (all_free c can).free
 
-pub second_spare_free : (c : Circuit) → CanWrite c → IsFree (second_spare c)
+pub second_spare_free : (c : Circuit) → IsWritable c → IsFree (second_spare c)
 second_spare_free c can = first_is_free (rest_free (all_named c).free) (rest_are_free (all_named c).free (all_free c can).free)
 
 at_free : (ns : List Name) (i : ℕ) → All IsFree ns → IsFree (slice_index_or ns i [])
@@ -121,7 +122,7 @@ at_free [] (suc i) all = refl
 at_free (n ∷ ns) zero all = All-head IsFree n ns all
 at_free (n ∷ ns) (suc i) all = at_free ns i (All-tail IsFree n ns all)
 
-pub place_free : (c : Circuit) (p : ℕ) → CanWrite c → IsFree (place_name c p)
+pub place_free : (c : Circuit) (p : ℕ) → IsWritable c → IsFree (place_name c p)
 unfolding place_name
 place_free c p can =
     cond_both (nat_le p c.net.sources) (slice_index_or (sources_of c) (p - 1) []) (slice_index_or (gate_names c) (p - c.net.sources - 1) []) IsFree

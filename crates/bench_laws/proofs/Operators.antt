@@ -21,9 +21,7 @@ use Rattle.net_core.specs.declared.joining.Connective.TheVariants.{And, Or, Xor}
 use Rattle.net_core.specs.Wholes.{joined_cover}
 use Rattle.bench_text.specs.SaidLaws.{IsGateTable}
 use Rattle.bench_core.specs.Bench.{is_gate_word}
-
-abbrev pub IsGateWord : Gate → Type 0
-IsGateWord g = is_gate_word g.op ≡ true
+use Rattle.bench_laws.specs.Spelled.{IsGateWord}
 
 -- ---- truth tables
 

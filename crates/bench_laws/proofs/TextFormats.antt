@@ -24,8 +24,9 @@ use Rattle.blif_core.specs.Blif as blif
 use Rattle.bench_text.specs.SaidLaws.{IsPlainName, IsPlainLatch, IsGateTable}
 use Rattle.bench_text.specs.ListingLaws.{text_fine, texts_list}
 use Rattle.bench_core.specs.Bench.{bench_format, is_gate_word}
-use Rattle.bench_laws.specs.Spelled.{IsPlainState, CanWrite}
-use Rattle.bench_laws.proofs.Operators.{IsGateWord, net_words}
+use Rattle.bench_core.specs.Writable.{IsPlainState, HasGateWord, IsBenchCircuit}
+use Rattle.bench_laws.specs.Spelled.{IsGateWord, CanWrite}
+use Rattle.bench_laws.proofs.Operators.{net_words}
 use Rattle.bench_laws.proofs.CircuitTexts.{interface_sources, text_is}
 
 -- ---- documents without sources
@@ -110,42 +111,59 @@ empty_circuit bytes c is zero_sources =
     let latches : length d.latches ≡ length c.latches = sym (length-map d.latches latch_of) ∙ ap (length {A = Latch}) is.circuit.describes.latches in
     (list_none c.net.gates (sym is.circuit.gates ∙ cost_none d empty), list_none c.net.sinks (omega (arith, is.circuit.proper.sink_count, sinks, count, outs, latches)))
 
-kept_is : (bytes : List ℕ) (c : Circuit) → IsCircuitOfText bench_format bytes c → HasRoom c → CanWrite c
-kept_is bytes c is room =
+-- an operator of the format serves whatever a gate reads
+gate_words : (gs : List Gate) → All IsGateWord gs → All HasGateWord gs
+gate_words [] all = All-nil HasGateWord
+gate_words (g ∷ gs) all = All-cons HasGateWord g gs (λ p q a b other. All-head IsGateWord g gs all) (gate_words gs (All-tail IsGateWord g gs all))
+
+text_words : (bytes : List ℕ) (c : Circuit) → IsCircuitOfText bench_format bytes c → All IsGateWord c.net.gates
+text_words bytes c is = net_words is.listed.document c.net (text_fine bytes is.listed is.said).tables is.circuit.net
+
+pub text_fits : (bytes : List ℕ) (c : Circuit) → IsCircuitOfText bench_format bytes c → IsBenchCircuit c
+text_fits bytes c is =
     let d = is.listed.document in
     let fine = text_fine bytes is.listed is.said in
     record {
       proper = is.circuit.proper;
-      room = room;
       model = sym is.circuit.model ∙ fine.model;
       inputs = subst (All IsPlainName) is.circuit.describes.inputs fine.inputs;
       outputs = subst (All IsPlainName) is.circuit.describes.outputs fine.outputs;
       clocks = sym is.circuit.describes.clocks ∙ fine.clocks;
       latches = subst (All IsPlainState) is.circuit.describes.latches (states_of d.latches fine.latches);
-      operators = net_words d c.net fine.tables is.circuit.net;
+      operators = gate_words c.net.gates (text_words bytes c is);
       source = ⊎_elim (λ some. inl some) (λ none. inr (empty_circuit bytes c is none)) (some_or_none c.net.sources);
     }
 
+kept_is : (bytes : List ℕ) (c : Circuit) → IsCircuitOfText bench_format bytes c → HasRoom c → CanWrite c
+kept_is bytes c is room = record { writable = record { fits = text_fits bytes c is; room = room }; operators = text_words bytes c is }
+
 -- ---- other nets
 
-exchanged_is : (c : Circuit) (m : Net) → CanWrite c → Answers c.net m → CanOperate bench_format c.net m → CanWrite (with_net c m)
-exchanged_is c m can answers operate = record {
-  proper = exchanged_proper c m can.proper answers;
-  room = can.room;
-  model = can.model;
-  inputs = can.inputs;
-  outputs = can.outputs;
-  clocks = can.clocks;
-  latches = can.latches;
-  operators = at_all IsGateWord m.gates (λ j h at. ⊎_elim (λ has_it. has_it) (λ old. subst (λ (op : ℕ). is_gate_word op ≡ true) old.same (all_at IsGateWord c.net.gates old.index old.gate can.operators old.at)) (operate.each j h at));
-  source = ⊎_elim (λ some. inl (omega (arith, some, answers.sources))) (λ none. inr (list_none m.gates (omega (arith, answers.fewer, ap (length {A = Gate}) none.0)), list_none m.sinks (omega (arith, answers.sink_count, ap (length {A = Sig}) none.1)))) can.source;
+other_words : (c : Circuit) (m : Net) → CanWrite c → CanOperate bench_format c.net m → All IsGateWord m.gates
+other_words c m can operate = at_all IsGateWord m.gates (λ j h at. ⊎_elim (λ has_it. has_it) (λ old. subst (λ (op : ℕ). is_gate_word op ≡ true) old.same (all_at IsGateWord c.net.gates old.index old.gate can.operators old.at)) (operate.each j h at))
+
+other_fits : (c : Circuit) (m : Net) → IsBenchCircuit c → Answers c.net m → All IsGateWord m.gates → IsBenchCircuit (with_net c m)
+other_fits c m fits answers words = record {
+  proper = exchanged_proper c m fits.proper answers;
+  model = fits.model;
+  inputs = fits.inputs;
+  outputs = fits.outputs;
+  clocks = fits.clocks;
+  latches = fits.latches;
+  operators = gate_words m.gates words;
+  source = ⊎_elim (λ some. inl (omega (arith, some, answers.sources))) (λ none. inr (list_none m.gates (omega (arith, answers.fewer, ap (length {A = Gate}) none.0)), list_none m.sinks (omega (arith, answers.sink_count, ap (length {A = Sig}) none.1)))) fits.source;
 }
+
+exchanged_is : (c : Circuit) (m : Net) → CanWrite c → Answers c.net m → CanOperate bench_format c.net m → CanWrite (with_net c m)
+exchanged_is c m can answers operate =
+    let words = other_words c m can operate in
+    record { writable = record { fits = other_fits c m can.writable.fits answers words; room = can.writable.room }; operators = words }
 
 pub bench_is_format : IsFormat blif.blif_format blif.CanWrite → IsFormat bench_format CanWrite
 bench_is_format format = record {
   lists = texts_list;
-  proper = λ c can. can.proper;
-  read_back = λ c can. text_is c format can;
+  proper = λ c can. can.writable.fits.proper;
+  read_back = λ c can. text_is c format can.writable;
   kept = kept_is;
   exchanged = exchanged_is;
 }

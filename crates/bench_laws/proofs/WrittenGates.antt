@@ -1,8 +1,8 @@
 -- The document that the writer makes of a circuit can be spelled, where the circuit can be written.
 use Rattle.std.proofs.Common.{zero, ◌≡◌, ℕ, Bool, true, false, List, [], ◌∷◌, ◌++◌, None, refl, ◌∙◌, sym, subst, drop, length, ap, suc}
-use Rattle.std.specs.Prelude.{◌==◌, ◌||◌, All}
+use Rattle.std.specs.Prelude.{◌≢◌, ◌==◌, ◌||◌, All}
 use Rattle.std.specs.List.{list_any}
-use Rattle.std.proofs.lemmas.Bool.{cond_both, eqb-true}
+use Rattle.std.proofs.lemmas.Bool.{cond_both, eqb-true, eqb-false}
 use Rattle.std.proofs.lemmas.List.Elements.{All-nil, All-cons, All-head, All-tail, All-append}
 use Rattle.chain_theory.specs.Operator.{apply}
 use Rattle.net_theory.specs.declared.data.Sig.{Sig}
@@ -22,8 +22,9 @@ use Rattle.bench_text.specs.SaidLaws.{IsPlainName, IsPlainLatch}
 use Rattle.bench_core.specs.Gates.{constant_line, unary_line, binary_key, line_by, line_of}
 use Rattle.bench_core.specs.Spelling.{key_text}
 use Rattle.bench_core.specs.Bench.{is_gate_word}
-use Rattle.bench_laws.specs.Spelled.{CanSpellBy, CanSpell, IsPlainLine, IsSpelled, IsFree, IsPlainState, CanWrite}
-use Rattle.bench_laws.proofs.Operators.{either, IsGateWord}
+use Rattle.bench_core.specs.Writable.{IsPlainState, HasGateWord}
+use Rattle.bench_laws.specs.Spelled.{CanSpellBy, CanSpell, IsPlainLine, IsSpelled, IsFree, IsWritable}
+use Rattle.bench_laws.proofs.Operators.{either}
 use Rattle.bench_laws.proofs.FreeNames.{outputs_free, gates_free, first_spare_free, second_spare_free, place_free}
 
 -- ---- tables
@@ -91,42 +92,42 @@ pair_word op e = by_words (λ k. IsPairWord k) op pair_1 pair_6 pair_7 pair_8 pa
 binary_fit : (op : ℕ) (a b o : Name) → is_gate_word op ≡ true → IsFree a → IsFree b → IsFree o → IsFit (binary_table op a b o)
 binary_fit op a b o e x y out = record { output = out; inputs = All-cons IsFree a (b ∷ []) x (one_free b y); spell = pair_word op e }
 
-place_fit : (name : ℕ → Name) (o : Name) (op p : ℕ) (s : Sig) → ((k : ℕ) → IsFree (name k)) → IsFree o → is_gate_word op ≡ true → IsFit (with_place name o op p s)
-place_fit name o op p Zero free out e = unary_fit (apply op false false) (apply op true false) (name p) o (free p) out
-place_fit name o op p One free out e = unary_fit (apply op false true) (apply op true true) (name p) o (free p) out
-place_fit name o op p (Place q) free out e =
+place_fit : (name : ℕ → Name) (o : Name) (op p : ℕ) (s : Sig) → ((k : ℕ) → IsFree (name k)) → IsFree o → ((q : ℕ) → s ≡ Place q → p ≢ q → is_gate_word op ≡ true) → IsFit (with_place name o op p s)
+place_fit name o op p Zero free out word = unary_fit (apply op false false) (apply op true false) (name p) o (free p) out
+place_fit name o op p One free out word = unary_fit (apply op false true) (apply op true true) (name p) o (free p) out
+place_fit name o op p (Place q) free out word =
     cond_both (p == q) (unary_table (apply op false false) (apply op true true) (name p) o) (binary_table op (name p) (name q) o) IsFit
     (λ f. unary_fit (apply op false false) (apply op true true) (name p) o (free p) out)
-    (λ f. binary_fit op (name p) (name q) o e (free p) (free q) out)
+    (λ f. binary_fit op (name p) (name q) o (word q refl (eqb-false p q f)) (free p) (free q) out)
 
 bit_fit : (name : ℕ → Name) (o : Name) (op : ℕ) (a : Bool) (s : Sig) → ((k : ℕ) → IsFree (name k)) → IsFree o → IsFit (with_bit name o op a s)
 bit_fit name o op a Zero free out = constant_fit (apply op a false) o out
 bit_fit name o op a One free out = constant_fit (apply op a true) o out
 bit_fit name o op a (Place q) free out = unary_fit (apply op a false) (apply op a true) (name q) o (free q) out
 
-by_fit : (name : ℕ → Name) (o : Name) (op : ℕ) (a b : Sig) → ((k : ℕ) → IsFree (name k)) → IsFree o → is_gate_word op ≡ true → IsFit (table_by name o op a b)
-by_fit name o op Zero b free out e = bit_fit name o op false b free out
-by_fit name o op One b free out e = bit_fit name o op true b free out
-by_fit name o op (Place p) b free out e = place_fit name o op p b free out e
+by_fit : (name : ℕ → Name) (o : Name) (op : ℕ) (a b : Sig) → ((k : ℕ) → IsFree (name k)) → IsFree o → ((p q : ℕ) → a ≡ Place p → b ≡ Place q → p ≢ q → is_gate_word op ≡ true) → IsFit (table_by name o op a b)
+by_fit name o op Zero b free out word = bit_fit name o op false b free out
+by_fit name o op One b free out word = bit_fit name o op true b free out
+by_fit name o op (Place p) b free out word = place_fit name o op p b free out (λ q e. word p q refl e)
 
-gate_fit : (name : ℕ → Name) (o : Name) (g : Gate) → ((k : ℕ) → IsFree (name k)) → IsFree o → is_gate_word g.op ≡ true → IsFit (gate_table name o g)
+gate_fit : (name : ℕ → Name) (o : Name) (g : Gate) → ((k : ℕ) → IsFree (name k)) → IsFree o → HasGateWord g → IsFit (gate_table name o g)
 unfolding gate_table
-gate_fit name o g free out e = by_fit name o g.op g.a g.b free out e
+gate_fit name o g free out word = by_fit name o g.op g.a g.b free out word
 
-gates_fit : (name : ℕ → Name) (gs : List Gate) (ns : List Name) → ((k : ℕ) → IsFree (name k)) → All IsFree ns → All IsGateWord gs → All IsFit (gate_tables name gs ns)
+gates_fit : (name : ℕ → Name) (gs : List Gate) (ns : List Name) → ((k : ℕ) → IsFree (name k)) → All IsFree ns → All HasGateWord gs → All IsFit (gate_tables name gs ns)
 unfolding gate_tables
 gates_fit name [] ns free outs words = All-nil IsFit
 gates_fit name (g ∷ gs) [] free outs words = All-nil IsFit
-gates_fit name (g ∷ gs) (n ∷ ns) free outs words = All-cons IsFit (gate_table name n g) (gate_tables name gs ns) (gate_fit name n g free (All-head IsFree n ns outs) (All-head IsGateWord g gs words)) (gates_fit name gs ns free (All-tail IsFree n ns outs) (All-tail IsGateWord g gs words))
+gates_fit name (g ∷ gs) (n ∷ ns) free outs words = All-cons IsFit (gate_table name n g) (gate_tables name gs ns) (gate_fit name n g free (All-head IsFree n ns outs) (All-head HasGateWord g gs words)) (gates_fit name gs ns free (All-tail IsFree n ns outs) (All-tail HasGateWord g gs words))
 
 if_fit : (b : Bool) (t : Table) → IsFit t → All IsFit (table_if b t)
 if_fit true t is = All-cons IsFit t [] is (All-nil IsFit)
 if_fit false t is = All-nil IsFit
 
-one_name_free : (c : Circuit) → CanWrite c → IsFree (one_name c)
+one_name_free : (c : Circuit) → IsWritable c → IsFree (one_name c)
 one_name_free c can = cond_both (list_any is_zero (next_states c)) (second_spare c) (first_spare c) IsFree (λ e. second_spare_free c can) (λ e. first_spare_free c can)
 
-constants_fit : (c : Circuit) → CanWrite c → All IsFit (constant_tables c)
+constants_fit : (c : Circuit) → IsWritable c → All IsFit (constant_tables c)
 unfolding constant_tables
 constants_fit c can =
     All-append IsFit (table_if (list_any is_zero (next_states c)) (constant_table false (first_spare c))) (table_if (list_any is_one (next_states c)) (constant_table true (one_name c)))
@@ -147,13 +148,13 @@ outputs_fit name done (o ∷ os) (s ∷ sinks) free all =
     (λ e. outputs_fit name done os sinks free (All-tail IsFree o os all))
     (λ e. All-cons IsFit (output_table name o s) (output_tables name (done ++ o ∷ []) os sinks) (output_fit name o s free (All-head IsFree o os all)) (outputs_fit name (done ++ o ∷ []) os sinks free (All-tail IsFree o os all)))
 
-tables_fit : (c : Circuit) → CanWrite c → All IsFit (tables_of c)
+tables_fit : (c : Circuit) → IsWritable c → All IsFit (tables_of c)
 tables_fit c can =
     All-append IsFit (gate_tables (place_name c) c.net.gates (gate_names c) ++ constant_tables c) (output_tables (place_name c) (driven_before c) c.outputs c.net.sinks)
-    (All-append IsFit (gate_tables (place_name c) c.net.gates (gate_names c)) (constant_tables c) (gates_fit (place_name c) c.net.gates (gate_names c) (λ k. place_free c k can) (gates_free c can) can.operators) (constants_fit c can))
+    (All-append IsFit (gate_tables (place_name c) c.net.gates (gate_names c)) (constant_tables c) (gates_fit (place_name c) c.net.gates (gate_names c) (λ k. place_free c k can) (gates_free c can) can.fits.operators) (constants_fit c can))
     (outputs_fit (place_name c) (driven_before c) c.outputs c.net.sinks (λ k. place_free c k can) (outputs_free c can))
 
-pub written_fit : (c : Circuit) → CanWrite c → All IsFit (written c).tables
+pub written_fit : (c : Circuit) → IsWritable c → All IsFit (written c).tables
 unfolding written
 written_fit c can = tables_fit c can
 
@@ -165,7 +166,7 @@ pub record IsQuiet (l : LatchLine) : Type 0 where
   pub control : l.latch.control ≡ None
   pub init : l.latch.init ≡ None
 
-sig_free : (c : Circuit) (s : Sig) → CanWrite c → IsFree (sig_name c s)
+sig_free : (c : Circuit) (s : Sig) → IsWritable c → IsFree (sig_name c s)
 sig_free c Zero can = first_spare_free c can
 sig_free c One can = one_name_free c can
 sig_free c (Place p) can = place_free c p can
@@ -178,9 +179,9 @@ lines_quiet name (l ∷ ls) (s ∷ sinks) free all =
     let is = All-head IsPlainState l ls all in
     All-cons IsQuiet (record { input = name s; latch = l }) (latch_lines name ls sinks) (record { input = free s; output = is.output; control = is.control; init = is.init }) (lines_quiet name ls sinks free (All-tail IsPlainState l ls all))
 
-pub written_quiet : (c : Circuit) → CanWrite c → All IsQuiet (written c).latches
+pub written_quiet : (c : Circuit) → IsWritable c → All IsQuiet (written c).latches
 unfolding written
-written_quiet c can = lines_quiet (sig_name c) c.latches (next_states c) (λ s. sig_free c s can) can.latches
+written_quiet c can = lines_quiet (sig_name c) c.latches (next_states c) (λ s. sig_free c s can) can.fits.latches
 
 -- ---- lines
 
@@ -273,20 +274,20 @@ pub written_model : (c : Circuit) → (written c).model ≡ c.model
 unfolding written
 written_model c = refl
 
-pub lines_plain : (c : Circuit) (source : Name) → CanWrite c → IsPlainName source → IsWellFormed (written c) → All (λ (t : Table). IsPlainLine (line_of source t)) (written c).tables
+pub lines_plain : (c : Circuit) (source : Name) → IsWritable c → IsPlainName source → IsWellFormed (written c) → All (λ (t : Table). IsPlainLine (line_of source t)) (written c).tables
 lines_plain c source can s well = at_all (λ (t : Table). IsPlainLine (line_of source t)) (written c).tables (λ k t e. table_plain source t s (all_at IsTable (written c).tables k t well.tables e) (all_at IsFit (written c).tables k t (written_fit c can) e))
 
-pub written_spelled : (c : Circuit) (source : Name) → CanWrite c → All (λ (t : Table). IsPlainLine (line_of source t)) (written c).tables → IsWellFormed (written c) → IsSpelled source (written c)
+pub written_spelled : (c : Circuit) (source : Name) → IsWritable c → All (λ (t : Table). IsPlainLine (line_of source t)) (written c).tables → IsWellFormed (written c) → IsSpelled source (written c)
 written_spelled c source can lines well = record {
-  model = written_model c ∙ can.model;
-  inputs = subst (All IsPlainName) (sym (written_inputs c)) can.inputs;
-  outputs = subst (All IsPlainName) (sym (written_outputs c)) can.outputs;
-  clocks = written_clocks c ∙ can.clocks;
+  model = written_model c ∙ can.fits.model;
+  inputs = subst (All IsPlainName) (sym (written_inputs c)) can.fits.inputs;
+  outputs = subst (All IsPlainName) (sym (written_outputs c)) can.fits.outputs;
+  clocks = written_clocks c ∙ can.fits.clocks;
   latches = at_all IsPlainLatch (written c).latches (λ k l e. latch_plain l (all_at IsLatchLine (written c).latches k l well.latches e) (all_at IsQuiet (written c).latches k l (written_quiet c can) e));
   tables = lines;
 }
 
-pub written_spell : (c : Circuit) → CanWrite c → All CanSpell (written c).tables
+pub written_spell : (c : Circuit) → IsWritable c → All CanSpell (written c).tables
 written_spell c can = at_all CanSpell (written c).tables (λ k t e. (all_at IsFit (written c).tables k t (written_fit c can) e).spell)
 
 -- ---- circuits without gates and sinks

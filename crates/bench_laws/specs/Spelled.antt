@@ -1,13 +1,13 @@
 -- Tables that can be written as a gate of the same function.
-use Rattle.std.specs.Prelude.{◌≡◌, ◌<◌, ◌⊎◌, true, false, List, [], ◌∷◌, All, None, option_to_list, codes}
+use Rattle.std.specs.Prelude.{◌≡◌, true, false, List, [], ◌∷◌, All, option_to_list, codes}
 use Rattle.std.specs.List.{list_any}
 use Rattle.net_theory.specs.declared.data.Gate.{Gate}
-use Rattle.net_theory.specs.Circuit.{Circuit, IsProper}
+use Rattle.net_theory.specs.Circuit.{Circuit}
 use Rattle.net_core.specs.Names.{HasRoom}
 use Rattle.net_core.specs.declared.error.NetError.{NetError}
 use Rattle.net_core.specs.declared.error.NetError.TheVariants.{Syntax, NotSupported, TooWide, LineTooLong, NameTooLong}
 use Rattle.bench_text.specs.Items.{is_mark}
-use Rattle.net_theory.specs.Document.{Name, Table, Latch, Document}
+use Rattle.net_theory.specs.Document.{Name, Table, Document}
 use Rattle.net_theory.specs.Expansion.{binary_word}
 use Rattle.bench_text.specs.declared.keywords.Keyword.TheVariants.{Gate as GateWord}
 use Rattle.bench_text.specs.Statements.{keyword_of, is_counted}
@@ -15,6 +15,7 @@ use Rattle.bench_text.specs.SaidLaws.{IsPlainName, IsPlainLatch}
 use Rattle.bench_core.specs.Gates.{GateLine, line_of}
 use Rattle.bench_core.specs.Spelling.{key_text}
 use Rattle.bench_core.specs.Bench.{is_gate_word}
+use Rattle.bench_core.specs.Writable.{IsBenchCircuit}
 
 abbrev pub CanSpellBy : Table → List Name → Type 0
 CanSpellBy t [] = Unit {0}
@@ -48,25 +49,19 @@ pub record IsSpelled (source : Name) (d : Document) : Type 0 where
 abbrev pub IsFree : Name → Type 0
 IsFree n = list_any is_mark n ≡ false
 
--- a latch without a control and an initial value
-pub record IsPlainState (l : Latch) : Type 0 where
-  pub output : IsPlainName l.output
-  pub control : l.control ≡ None
-  pub init : l.init ≡ None
-
--- A circuit that can be written: it is called `top` and has no clocks, its names have no marks in
--- them, its latches have no controls and initial values, and its gates are AND, OR, XOR and their
--- complements. It has a source, over which constants are written, or it is empty.
-pub record CanWrite (c : Circuit) : Type 0 where
-  pub proper : IsProper c
+-- A circuit that BENCH can say, whose gates can be given names.
+pub record IsWritable (c : Circuit) : Type 0 where
+  pub fits : IsBenchCircuit c
   pub room : HasRoom c
-  pub model : c.model ≡ codes "top"
-  pub inputs : All IsPlainName c.inputs
-  pub outputs : All IsPlainName c.outputs
-  pub clocks : c.clocks ≡ []
-  pub latches : All IsPlainState c.latches
-  pub operators : All (λ (g : Gate). is_gate_word g.op ≡ true) c.net.gates
-  pub source : (0 < c.net.sources) ⊎ ((c.net.gates ≡ []) × (c.net.sinks ≡ []))
+
+-- a gate with an operator of the format
+abbrev pub IsGateWord : Gate → Type 0
+IsGateWord g = is_gate_word g.op ≡ true
+
+-- One of which every gate has an operator of the format, as those of a text's circuit have.
+pub record CanWrite (c : Circuit) : Type 0 where
+  pub writable : IsWritable c
+  pub operators : All IsGateWord c.net.gates
 
 -- the faults of lines; there are no cover lines that could be mixed or too many
 abbrev pub IsLineFault : NetError → Type 0

@@ -12,9 +12,10 @@ ghost use Rattle.net_document.specs.Format.{IsCircuitOfText, IsReadBack, IsTextO
 ghost use Rattle.bench_core.specs.Spelling.{spelled, circuit_text};
 ghost use Rattle.blif_core.specs.Written.{written};
 ghost use Rattle.bench_core.specs.Gates.{as_gates, bench_written};
-ghost use Rattle.bench_laws.specs.Spelled.{CanSpell, IsSpelled, CanWrite, IsLineFault};
+ghost use Rattle.bench_laws.specs.Spelled.{CanSpell, IsSpelled, IsWritable, CanWrite, IsLineFault};
 ghost use Rattle.bench_text.specs.Statements.{listed_of};
 ghost use Rattle.bench_core.specs.Bench.{bench_format, is_gate_word};
+ghost use Rattle.bench_core.specs.Writable.{IsBenchCircuit};
 
 use blif_laws::blif_is_a_format;
 
@@ -37,17 +38,22 @@ pub fn documents_are_read_back()
     ensures { (source : Name) (d : Document) → IsSpelled source d → IsReadBack bench_format (spelled source d) (as_gates source d) }
 {}
 
-/// The text of a circuit that can be written lists a well-formed document that computes what the
+/// BENCH can say the circuit of each of its texts.
+pub fn circuits_of_texts_can_be_written()
+    ensures { (bytes : List ℕ) (c : Circuit) → IsCircuitOfText bench_format bytes c → IsBenchCircuit c }
+{}
+
+/// The text that `write_bench` writes of a circuit lists a well-formed document that computes what the
 /// circuit does, under every assignment, and costs no more than the circuit has gates.
 pub fn circuits_are_read_back()
-    ensures { (c : Circuit) → CanWrite c → IsTextOf bench_format (circuit_text c) c }
+    ensures { (c : Circuit) → IsWritable c → IsTextOf bench_format (circuit_text c) c }
 {
     blif_is_a_format();
 }
 
 /// A circuit that can be written costs in BENCH what it costs in BLIF.
 pub fn circuits_cost_the_same()
-    ensures { (c : Circuit) → CanWrite c → cost (bench_written c) ≡ cost (written c) }
+    ensures { (c : Circuit) → IsWritable c → cost (bench_written c) ≡ cost (written c) }
 {
     blif_is_a_format();
 }

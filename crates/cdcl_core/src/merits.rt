@@ -70,6 +70,8 @@ pub(crate) struct Merits {
     shapes: [u64; RING],
     /// what a part in the next conflict counts
     step: u64,
+    /// the number of hints of all learnt clauses
+    hints: u64,
     /// by level, the number of the last conflict that counted it
     counted: Vec<usize>,
     /// the number of the conflict after which clauses are deleted next
@@ -85,6 +87,7 @@ impl Merits {
             merits: Vec::new(alloc),
             shapes: [0; RING],
             step: FIRST_STEP,
+            hints: 0,
             counted: vec![in alloc; 0; vars as usize + 1]?,
             due: FIRST_DUE,
             wait: FIRST_WAIT,
@@ -95,6 +98,7 @@ impl Merits {
     pub(crate) fn count_parts(&mut self, ids: &[u32]) {
         let number = self.merits.len();
         let used = short(number);
+        self.hints = self.hints.saturating_add(ids.len() as u64);
         for id in ids {
             if *id <= self.given {
                 continue;
@@ -109,6 +113,11 @@ impl Merits {
                 };
             }
         }
+    }
+
+    /// The number of hints of all clauses that were learnt so far.
+    pub(crate) fn hints(&self) -> u64 {
+        self.hints
     }
 
     /// Makes the step greater; above the bound all activities are rescaled.

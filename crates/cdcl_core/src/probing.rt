@@ -6,14 +6,14 @@
 //!
 //! Its decisions are free: the invariants of a search hold whatever variable without a value is
 //! decided. A probe leaves the trail standing, and the next step of the search goes down first.
-ghost use Rattle.std.specs.Prelude.{◌≡◌, ℕ, ◌+◌, ◌<◌, ◌≤◌, [], length, IfOk, IfSome, IfNone};
+ghost use Rattle.std.specs.Prelude.{◌≡◌, ℕ, ◌+◌, ◌<◌, ◌≤◌, [], length, IsFalse, IfOk, IfSome, IfNone};
 ghost use Rattle.sat_theory.specs.Formula.{Formula, IsWithin};
 ghost use Rattle.cdcl_theory.specs.Falling.{AllSettled};
 ghost use Rattle.cdcl_theory.specs.Trails.{fell as fell_of};
 ghost use Rattle.clause_db.specs.Stored.{live_in, IsStored};
 ghost use Rattle.sat_solve.specs.Budgets.{most_budget};
 
-use crate::scope::{next_open, open_targets};
+use crate::scope::{allow_work, has_worked, next_open, open_targets};
 use crate::search::Search;
 use cnf_core::Lit;
 use sat_solve::{Cones, Probed};
@@ -84,6 +84,13 @@ impl Search {
         self.least.max(additions + budget)
     }
 
+    /// Whether a probe makes no further decision: the last id is `end` or greater, or it has worked enough.
+    fn has_ended(&self, end: u32) -> bool
+        ensures { IsFalse result → length self.now.clauses.clauses < end }
+    {
+        self.clauses.last() >= end || has_worked(&self.scope, self.merits.hints())
+    }
+
     /// Begins a level with a decision of a probe where the last id is below `end`, or ends the probe.
     fn decide_open(
         &mut self,
@@ -115,7 +122,7 @@ impl Search {
         else {
             return Ok(Some(Probed::Standing));
         };
-        if self.clauses.last() >= end {
+        if self.has_ended(end) {
             return Ok(Some(Probed::GivenUp));
         }
         self.starts.push(self.trail.len())?;
@@ -124,7 +131,7 @@ impl Search {
     }
 
     /// Begins a probe at level 0.
-    fn begin_probe(&mut self, targets: &[Lit], cones: &Cones) -> Result<(), AllocError>
+    fn begin_probe(&mut self, targets: &[Lit], cones: &Cones, limit: u32) -> Result<(), AllocError>
         requires searching { IsSearching self.old }
         requires visited { IsVisited self.old }
         ensures searching { IfOk result (λ _. IsSearching self.new) }
@@ -135,11 +142,12 @@ impl Search {
         self.descend();
         let alloc = *self.starts.allocator();
         open_targets(&mut self.scope, alloc, &self.trail, targets, cones)?;
+        allow_work(&mut self.scope, self.merits.hints(), limit);
         Ok(())
     }
 
-    /// Tries to make the targets true. A decision that is due after `limit` conflicts ends it; None: the formula is
-    /// refuted.
+    /// Tries to make the targets true. A decision that is due after `limit` conflicts ends it, or after as much work as
+    /// belongs to them; None: the formula is refuted.
     pub(crate) fn probe(
         &mut self,
         targets: &[Lit],
@@ -155,7 +163,7 @@ impl Search {
         ensures vars { IfOk result (λ _. self.new.trail.vars ≡ self.old.trail.vars) }
         ensures least { IfOk result (λ ended. IfSome ended (λ _. self.new.least ≡ self.old.least)) }
     {
-        self.begin_probe(targets, cones)?;
+        self.begin_probe(targets, cones, limit)?;
         let end = LAST_ID.min(self.clauses.last().saturating_add(limit));
         self.probe_to(targets, cones, end)
     }

@@ -3,6 +3,9 @@
 //! cone of a gate). Of those without a value one of greatest rank is decided first: the nearest to
 //! the targets, where ranks are levels. So a probe leaves all else to propagation.
 //!
+//! A probe works within bounds: the literals that it looks through on the trail and the hints of what
+//! it learns are counted, since few conflicts that are far from the targets may cost as much as many.
+//!
 //! Nothing is promised of it but literals without a value: which of them is decided has no bearing
 //! on what is learnt.
 ghost use Rattle.std.specs.Prelude.{◌≡◌, ◌+◌, length, IfOk, IfSome};
@@ -14,6 +17,12 @@ use sat_solve::Cones;
 use std::alloc::{AllocError, Global};
 use trail_core::Trail;
 use var_heap::VarHeap;
+
+/// How much a probe may work for each conflict of its limit.
+const WORK: u64 = 200;
+
+/// What a hint of a learnt clause counts, where a literal that is looked through on the trail counts 1.
+const HINT_WORK: u64 = 4;
 
 /// The open variables of the current probe.
 #[derive(Drop)]
@@ -28,6 +37,12 @@ pub(crate) struct Scope {
     pub(crate) scanned: usize,
     /// the variables that are still to be opened
     pub(crate) left: Vec<u32>,
+    /// the number of trail literals that the current probe has looked through
+    pub(crate) seen: u64,
+    /// the number of hints of all clauses that were learnt before it
+    pub(crate) hints: u64,
+    /// how much it may work
+    pub(crate) most: u64,
     ghost sized: { length opened.items ≡ heap.vars + 1 },
 }
 
@@ -40,6 +55,9 @@ impl Scope {
             probe: 0,
             scanned: 0,
             left: Vec::new(alloc),
+            seen: 0,
+            hints: 0,
+            most: 0,
         })
     }
 
@@ -61,6 +79,19 @@ impl Scope {
             self.open(trail, target.variable(), cones)?;
         }
         Ok(())
+    }
+
+    /// Lets the probe work as much as belongs to a limit of conflicts, after `hints` hints.
+    fn allow(&mut self, hints: u64, limit: u32) {
+        self.seen = 0;
+        self.hints = hints;
+        self.most = u64::from(limit) * WORK;
+    }
+
+    /// Whether the probe has worked as much as it may, where there are `hints` hints by now.
+    fn is_spent(&self, hints: u64) -> bool {
+        let derived = hints.saturating_sub(self.hints);
+        self.seen / HINT_WORK >= (self.most / HINT_WORK).saturating_sub(derived)
     }
 
     /// Opens a variable, and while one has a value those that it is made of.
@@ -106,6 +137,8 @@ impl Scope {
 
     /// Opens what the open variables on the trail are made of.
     fn scan(&mut self, trail: &Trail, cones: &Cones) -> Result<(), AllocError> {
+        let fresh = trail.len().saturating_sub(self.scanned);
+        self.seen = self.seen.saturating_add(fresh as u64);
         for index in self.scanned..trail.len() {
             let variable = trail.at(index).variable();
             if entry(&self.opened, variable) != self.probe {
@@ -183,6 +216,21 @@ pub(crate) fn open_targets(
     match scope {
         Some(scope) => scope.begin(trail, targets, cones),
         None => Ok(()),
+    }
+}
+
+/// Lets the probe, if one is running, work as much as belongs to a limit of conflicts, after `hints` hints.
+pub(crate) fn allow_work(scope: &mut Option<Scope>, hints: u64, limit: u32) {
+    if let Some(scope) = scope {
+        scope.allow(hints, limit);
+    }
+}
+
+/// Whether the probe, if one is running, has worked as much as it may, where there are `hints` hints by now.
+pub(crate) fn has_worked(scope: &Option<Scope>, hints: u64) -> bool {
+    match scope {
+        Some(scope) => scope.is_spent(hints),
+        None => false,
     }
 }
 

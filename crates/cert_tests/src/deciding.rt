@@ -79,8 +79,8 @@ enum Answer {
 /// The answer to a question of a memory for its basis.
 fn answer_of<S: Solver>(alloc: Global, memory: &mut Memory, heading: &Heading) -> Answer
     requires heading { IsHeading heading.now }
-    requires basis { memory.old ≡ heading.now.basis }
-    ensures { memory.new ≡ memory.old }
+    requires basis { memory.old.basis ≡ heading.now.basis }
+    ensures { memory.new.basis ≡ memory.old.basis }
 {
     match decide::<S>(alloc, memory, heading) {
         Ok(Decided::Shorter(_)) => Answer::Shorter,

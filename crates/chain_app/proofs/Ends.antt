@@ -1,18 +1,15 @@
 -- What a run's ending says to its caller.
-use Rattle.std.specs.Prelude.{◌≡◌, List, ℕ, ◌≤◌, length, Option, Some, None, Ok, Err}
+use Rattle.std.specs.Prelude.{◌≡◌, List, ℕ, Option, Some, None, Ok, Err}
 use Rattle.std.proofs.Common.{sym, ◌∙◌, ap, subst}
 use Rattle.command_line.specs.declared.command.Command.{Command}
 use Rattle.command_line.specs.declared.command.Command.TheVariants.{Agree, Recheck, RecheckDepth, Synth, LeastDepth, Improve, Equiv, Gen}
 use Rattle.command_line.specs.declared.command.WordsError.{WordsError}
 use Rattle.command_line.specs.CommandLine.{command_of, or_usage, read, AsksFor}
-use Rattle.frame_core.specs.declared.status.Status.TheVariants.{Done, Usage}
-use Rattle.frame_core.specs.Run.{Run, Outcome, IsRun}
+use Rattle.frame_core.specs.declared.status.Status.TheVariants.{Usage}
+use Rattle.frame_core.specs.Run.{Run, Outcome, IsRun, HasInput}
+use Rattle.frame_core.specs.Task.{IsAnswerable, IsAnswerStatus}
 use Rattle.chain_app.specs.Ending.{Ending, Idle, Ran, IsIdle, IsEnding}
 use Rattle.frame_core.specs.Promise.{AllSteady, CommandPromise}
-use Rattle.improve_settings.specs.declared.improve.ImproveSettings.{ImproveSettings}
-use Rattle.net_document.specs.Format.{IsNetlist}
-use Rattle.cmd_improve.specs.ImproveReport.{FormatAsked, format_of, most_of_netlist}
-use Rattle.cmd_lines.specs.Runs.{Runs}
 use Rattle.chain_app.specs.Tasks.{task_of}
 use Rattle.chain_app.specs.RunPromise.{RunPromise}
 use Rattle.chain_app.specs.KeepsPromises.{KeepsPromises}
@@ -89,6 +86,8 @@ kept r e ends = record {
   gen = gen_promised r (λ blocks deed asks. keeps r e (Gen blocks deed) ends asks) (λ blocks deed asks. ran r e (Gen blocks deed) ends asks);
 }
 
--- So a netlist has the status 0 where no call failed at all.
-pub improved : (r : Run) (format : FormatAsked) (asked : ImproveSettings) (input : List ℕ) → KeepsPromises r → Runs (Improve format asked) r input → length input ≤ most_of_netlist → IsNetlist (format_of format) input → AllSteady r → r.status ≡ Done
-improved r format asked input keeps run within netlist steady = (keeps.improve.complete format asked input run within netlist steady).stands.status_is
+-- So input without a fault has the status of an answer where no call failed at all.
+pub owed : (r : Run) (command : Command) (input : List ℕ) → KeepsPromises r → AsksFor r.words command → HasInput (task_of command).reads r.source.bytes input → IsAnswerable (task_of command) input → AllSteady r → IsAnswerStatus r.status
+owed r command input promises asks has can steady =
+    let got = (promises.every.keeps command asks).complete input has can steady in
+    subst IsAnswerStatus (sym got.stands.status_is) ((is_task command).replies got.answer)

@@ -1,16 +1,23 @@
 //! What the definitions come to, each law the contract of a function that does nothing.
-ghost use Rattle.std.specs.Prelude.{◌≡◌, ℕ, ◌≤◌, List, length};
-ghost use Rattle.command_line.specs.declared.command.Command.{Command};
-ghost use Rattle.command_line.specs.declared.command.Command.TheVariants.{Improve};
+ghost use Rattle.std.specs.Prelude.{◌≡◌, ℕ, List};
 ghost use Rattle.improve_settings.specs.declared.improve.ImproveSettings.{ImproveSettings};
-ghost use Rattle.net_document.specs.Format.{IsNetlist};
+ghost use Rattle.settings.specs.declared.synth.SynthSettings.{SynthSettings};
+ghost use Rattle.command_line.specs.declared.command.Command.{Command};
+ghost use Rattle.command_line.specs.declared.command.Command.TheVariants.{Agree, Recheck, RecheckDepth, Synth, LeastDepth, Improve, Equiv, Gen};
+ghost use Rattle.command_line.specs.declared.command.Deed.{Deed};
+ghost use Rattle.command_line.specs.CommandLine.{AsksFor};
 ghost use Rattle.frame_core.specs.declared.status.Status.TheVariants.{Done};
-ghost use Rattle.cmd_improve.specs.ImproveReport.{FormatAsked, format_of, most_of_netlist};
-ghost use Rattle.chain_app.specs.KeepsPromises.{KeepsPromises};
+ghost use Rattle.frame_core.specs.Run.{Run, HasInput};
 ghost use Rattle.frame_core.specs.Promise.{AllSteady};
-ghost use Rattle.frame_core.specs.Run.{Run};
-ghost use Rattle.cmd_lines.specs.Runs.{Runs};
-ghost use Rattle.frame_core.specs.Task.{IsTask};
+ghost use Rattle.frame_core.specs.Task.{IsAnswerable, IsAnswerStatus, IsTask};
+ghost use Rattle.cmd_lines.specs.Owing.{AsksWell, Owes};
+ghost use Rattle.cmd_agree.specs.Owed.{HasQuestion, IsAgreeStatus};
+ghost use Rattle.cmd_recheck.specs.Owed.{IsValid, IsValidDepth};
+ghost use Rattle.cmd_synth.specs.Owed.{HasTables, IsSynthStatus};
+ghost use Rattle.cmd_improve.specs.ImproveReport.{FormatAsked};
+ghost use Rattle.cmd_improve.specs.Owed.{IsImprovable};
+ghost use Rattle.cmd_equiv.specs.Owed.{CanBeCompared};
+ghost use Rattle.chain_app.specs.KeepsPromises.{KeepsPromises};
 ghost use Rattle.chain_app.specs.Tasks.{task_of};
 
 /// Every command keeps to what a task is: its bytes have answers or one refusal at most, never both, and
@@ -19,12 +26,28 @@ pub fn commands_are_tasks()
     ensures { (command : Command) → IsTask (task_of command) }
 {}
 
-/// A run that keeps its promises improves: where no call failed at all, a netlist has the status 0.
-pub fn netlists_are_improved()
-    ensures { (r : Run) (format : FormatAsked) (asked : ImproveSettings) (input : List ℕ) →
-        KeepsPromises r →
-        Runs (Improve format asked) r input →
-        length input ≤ most_of_netlist →
-        IsNetlist (format_of format) input →
-        AllSteady r → r.status ≡ Done }
+/// An answer is owed: where no call failed at all, no read and no write, and memory sufficed, a run that keeps its
+/// promises has the status of an answer, and of no error, for each input that the command can answer: `agree` for a
+/// question, `recheck` for a valid certificate of either kind, `synth` for tables, `improve` for a netlist, `equiv` for
+/// two netlists of one interface, and `gen` always.
+pub fn answers_are_owed()
+    ensures agree { (r : Run) → KeepsPromises r → Owes (AsksWell Agree HasQuestion) IsAgreeStatus r }
+    ensures recheck { (r : Run) → KeepsPromises r → Owes (AsksWell Recheck IsValid) (λ s. s ≡ Done) r }
+    ensures recheck_depth { (r : Run) → KeepsPromises r → Owes (AsksWell RecheckDepth IsValidDepth) (λ s. s ≡ Done) r }
+    ensures synth { (r : Run) (asked : SynthSettings) → KeepsPromises r →
+        Owes (AsksWell (Synth asked) HasTables) IsSynthStatus r }
+    ensures least_depth { (r : Run) (asked : SynthSettings) → KeepsPromises r →
+        Owes (AsksWell (LeastDepth asked) HasTables) IsSynthStatus r }
+    ensures improve { (r : Run) (format : FormatAsked) (asked : ImproveSettings) → KeepsPromises r →
+        Owes (AsksWell (Improve format asked) (IsImprovable format)) (λ s. s ≡ Done) r }
+    ensures equiv { (r : Run) (budget : ℕ) → KeepsPromises r →
+        Owes (AsksWell (Equiv budget) CanBeCompared) IsAnswerStatus r }
+    ensures generated { (r : Run) (blocks : ℕ) (deed : Deed) → KeepsPromises r →
+        Owes (λ x. AsksFor x.words (Gen blocks deed)) (λ s. s ≡ Done) r }
+    // So it is for every command and all input without a fault.
+    ensures each { (r : Run) (command : Command) (input : List ℕ) → KeepsPromises r →
+        AsksFor r.words command →
+        HasInput (task_of command).reads r.source.bytes input →
+        IsAnswerable (task_of command) input →
+        AllSteady r → IsAnswerStatus r.status }
 {}

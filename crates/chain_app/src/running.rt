@@ -10,7 +10,7 @@ use cmd_agree::Agree;
 use cmd_equiv::Equiv;
 use cmd_gen::Gen;
 use cmd_improve::Improve;
-use cmd_recheck::{Recheck, RecheckDepth};
+use cmd_recheck::{Levels, Recheck, Steps};
 use cmd_synth::{LeastDepth, Synth};
 use command_line::{Command, read_words};
 use frame_core::{AtOnce, ErrorLine, Status, perform, perform_stream, tell_error};
@@ -37,8 +37,8 @@ fn obey<S: Source, O: Sink, N: Sink>(
     let solver = PhantomData::<Cdcl>;
     match command {
         Command::Agree => perform(alloc, &AtOnce(Agree), source, out, note),
-        Command::Recheck => perform_stream(alloc, &Recheck, source, out, note),
-        Command::RecheckDepth => perform_stream(alloc, &RecheckDepth, source, out, note),
+        Command::Recheck => perform_stream(alloc, &Recheck(Steps), source, out, note),
+        Command::RecheckDepth => perform_stream(alloc, &Recheck(Levels), source, out, note),
         Command::Synth(settings) => perform(alloc, &Synth { settings, solver }, source, out, note),
         Command::LeastDepth(settings) => {
             let job = AtOnce(LeastDepth { settings, solver });

@@ -78,7 +78,7 @@ fn refusal_of(error: CompareError) -> Refusal
 /// Whether two netlists have the same outputs and next states, decided with the solver `S`.
 #[derive(Drop)]
 pub struct Equiv<S> {
-    /// The most learnt clauses.
+    /// The number of conflicts, each with a clause added to the log, after which the two stay undecided.
     pub budget: u32,
     /// The solver.
     pub solver: PhantomData<S>,

@@ -1,3 +1,4 @@
 pub mod GenLaws
 pub mod GenPromise
 pub mod GenReport
+pub mod Owed

@@ -1,6 +1,6 @@
 -- What `recheck --depth yes` answers to bytes.
-use Rattle.std.specs.Prelude.{◌≡◌, ℕ, ◌≤◌, List, [], ◌∷◌, ◌++◌, length, codes, Ok, Err}
-use Rattle.std.proofs.Common.{sym, ◌∙◌, ap, subst, refl, append_assoc, append-nil}
+use Rattle.std.specs.Prelude.{◌≡◌, ℕ, ◌≤◌, List, ◌∷◌, length, codes, Ok, Err}
+use Rattle.std.proofs.Common.{sym, ◌∙◌, refl}
 use Rattle.std.proofs.lemmas.Grind.{common_steps}
 use Rattle.text_core.specs.Lines.{Line, lines_of}
 use Rattle.tt_core.specs.Words.{specification}
@@ -18,15 +18,9 @@ use Rattle.depth_theory.specs.DepthSpelling.{IsDepthText, HasDepth}
 use Rattle.depth_theory.specs.DepthAgain.{judged_again}
 use Rattle.frame_core.specs.Told.{Reply, Field, Word, Refusal}
 use Rattle.frame_core.specs.Task.{Tells, Refuses}
-use Rattle.depth_file.specs.Reader.{seen, IsReader, StandsFor, IsRefused}
-use Rattle.depth_file.specs.declared.reader.DepthReader.{DepthReader}
-use Rattle.cmd_recheck.specs.declared.recheck_depth.DepthReading.{DepthReading}
-use Rattle.cmd_recheck.specs.declared.recheck_depth.DepthReading.TheVariants.{Good, Refused as RefusedAt}
-use Rattle.cmd_recheck.specs.KeepingDepth.{Keeps, IsWhole, count_of}
 use Rattle.cmd_verdicts.specs.Verdicts.{most_of_bundle}
 use Rattle.cmd_recheck.specs.RecheckReport.{named_bundle}
 use Rattle.cmd_recheck.specs.RecheckDepthReport.{named_inside, depth_reply, depth_refusal, depth_task}
-use Rattle.frame_core.specs.PerformingLaws.{answered}
 
 -- ---- error lines
 
@@ -90,35 +84,3 @@ stops bytes e refusal within other judged is =
     record { fault = e; meets = record { within = within; none = λ b text. no_bundle bytes e b fault text; fault = fault }; is = is }
 
 pub ruleset telling = (common_steps, tells, stops)
-
--- ---- what is kept of the bytes
-
-pub is_reader : (kept : DepthReading) (reader : DepthReader) → kept ≡ Good reader → IsWhole kept → IsReader (seen reader)
-is_reader kept reader same whole = subst (λ (k : DepthReading). IsWhole k) same whole
-
-pub reader_stands : (kept : DepthReading) (reader : DepthReader) (bytes : List ℕ) → kept ≡ Good reader → Keeps kept bytes → StandsFor (seen reader) bytes
-reader_stands kept reader bytes same keeps = subst (λ (k : DepthReading). Keeps k bytes) same keeps
-
-refused_still : (kept : DepthReading) (e : DepthError) (bytes : List ℕ) → kept ≡ RefusedAt e → Keeps kept bytes → IsRefused e bytes
-refused_still kept e bytes same keeps = subst (λ (k : DepthReading). Keeps k bytes) same keeps
-
--- a fault that was kept is that of the bytes
-pub fault_stands : (kept : DepthReading) (e : DepthError) (bytes : List ℕ) → kept ≡ RefusedAt e → Keeps kept bytes → Judged (Gives (λ (v : DepthVerdict). v) (Err e)) (lines_of bytes)
-fault_stands kept e bytes same keeps =
-    subst (λ (text : List ℕ). Judged (Gives (λ (v : DepthVerdict). v) (Err e)) (lines_of text)) (append-nil bytes) (refused_still kept e bytes same keeps [])
-
--- and of what goes on after them
-pub drops : (kept : DepthReading) (e : DepthError) (bytes piece : List ℕ) → kept ≡ RefusedAt e → Keeps kept bytes → Keeps (RefusedAt e) (bytes ++ piece)
-drops kept e bytes piece same keeps = λ rest.
-    subst (λ (text : List ℕ). Judged (Gives (λ (v : DepthVerdict). v) (Err e)) (lines_of text)) (sym (append_assoc bytes piece rest)) (refused_still kept e bytes same keeps (piece ++ rest))
-
--- a reader has counted what it was fed
-pub counts : (kept : DepthReading) (reader : DepthReader) → kept ≡ Good reader → count_of kept ≡ reader.pieces.fed
-counts kept reader same = ap count_of same
-
-pub ruleset keeping = (common_steps, is_reader, reader_stands, fault_stands)
-
-pub ruleset taking = (common_steps, is_reader, reader_stands, drops, counts)
-
--- What was found of bytes, sent out, answers them.
-pub ruleset answering = (common_steps, answered)

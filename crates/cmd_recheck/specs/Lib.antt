@@ -1,5 +1,5 @@
 pub mod Keeping
-pub mod KeepingDepth
+pub mod Owed
 pub mod QuestionLaws
 pub mod RecheckDepthLaws
 pub mod RecheckDepthPromise

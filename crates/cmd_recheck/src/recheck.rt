@@ -1,23 +1,19 @@
-//! The command `recheck` for certificates of the fewest steps.
-ghost use Rattle.std.specs.Prelude.{◌≡◌, ℕ, ◌+◌, ◌^◌, ◌<◌, ◌≤◌, List, ◌++◌, Err, IfOk, length};
+//! Certificates of the fewest steps, as a kind for the job of `recheck`.
+ghost use Rattle.std.specs.Prelude.{◌≡◌, ℕ, ◌≤◌, List, Err, IfOk, length, refl};
 ghost use Rattle.text_core.specs.Lines.{lines_of};
 ghost use Rattle.cert_theory.specs.Gives.{Fails};
 ghost use Rattle.cert_theory.specs.Judging.{bundle_of};
 ghost use Rattle.cert_file.specs.Reader.{seen, IsReader, StandsFor};
 ghost use Rattle.cmd_verdicts.specs.Verdicts.{most_of_bundle};
 ghost use Rattle.cmd_recheck.specs.RecheckReport.{verdict_text, recheck_reply, recheck_refusal, recheck_task};
-ghost use Rattle.cmd_recheck.specs.Keeping.{Keeps, IsWhole, count_of};
 ghost use Rattle.frame_core.specs.Views.{reply_value, refusal_value, Judges};
 
 use crate::bundles::{bundle_status, name_bundle};
+use crate::job::{Kind, Reading};
 use cert_file::{BundleError, BundleReader, Verdict};
-use frame_core::{Ended, Field, Refusal, Reply, Status, Stop, StreamJob, finish};
-use port_io::Sink;
+use frame_core::{Field, Refusal, Reply, Status, Stop};
 use std::alloc::{AllocError, Global};
 use text_core::push_number;
-
-/// The most bytes that `recheck` reads.
-pub(crate) const MOST_BYTES: usize = 268_435_456;
 
 /// A fault as a refusal.
 #[tactic(auto, unfolding(frame_core::specs::Views::shown))]
@@ -71,15 +67,6 @@ fn reply_of(alloc: Global, verdict: Verdict) -> Result<Reply, AllocError>
     })
 }
 
-/// What `recheck` keeps of a certificate.
-#[derive(Drop)]
-pub enum Reading {
-    /// What was read of it.
-    Good(BundleReader),
-    /// The fault of a line. What comes after it is read, and dropped.
-    Refused(BundleError),
-}
-
 /// Why a certificate has no verdict.
 #[tactic(auto, using(crate::proofs::Rechecking::stopping))]
 fn stop_of(error: BundleError) -> Stop
@@ -107,76 +94,48 @@ fn tell(alloc: Global, reader: BundleReader) -> Result<Reply, Stop>
     }
 }
 
-/// The reply of `recheck` to what it kept.
-#[tactic(auto, using(crate::proofs::Rechecking::telling))]
-fn tell_kept(alloc: Global, kept: Reading) -> Result<Reply, Stop>
-    requires { IsWhole kept }
-    ensures { (bytes : List ℕ) → Keeps kept bytes → length bytes ≤ most_of_bundle → Judges recheck_task bytes result }
-{
-    match kept {
-        Reading::Good(reader) => tell(alloc, reader),
-        Reading::Refused(error) => Err(stop_of(error)),
-    }
-}
-
-/// Reads the next piece of a certificate.
-#[tactic(auto, using(crate::proofs::Rechecking::taking))]
-fn read_on(reader: BundleReader, piece: &[u8]) -> Result<Reading, AllocError>
-    requires whole { IsReader (seen reader) }
-    requires room { reader.pieces.fed + length piece.now < 2 ^ 31 }
-    ensures whole { IfOk result IsWhole }
-    ensures keeps { (bytes : List ℕ) → StandsFor (seen reader) bytes →
-        IfOk result (λ next. Keeps next (bytes ++ piece.now)) }
-    ensures count { IfOk result (λ next. count_of next ≤ reader.pieces.fed + length piece.now) }
-{
-    match reader.feed(piece) {
-        Ok(reader) => Ok(Reading::Good(reader)),
-        Err(BundleError::Memory) => Err(AllocError),
-        Err(error) => Ok(Reading::Refused(error)),
-    }
-}
-
-/// The verdict of a certificate, by its lines alone.
+/// The certificates of the fewest steps.
 #[derive(Drop)]
-pub struct Recheck;
+pub struct Steps;
 
-impl StreamJob for Recheck {
+impl Kind for Steps {
+    type Reader = BundleReader;
+
+    type Fault = BundleError;
+
     ghost task = { λ _. recheck_task };
 
-    ghost ready = { λ _. Unit {0} };
+    ghost whole = { λ reader. IsReader (seen reader) };
 
-    type Kept = Reading;
+    ghost fed = { λ reader. reader.pieces.fed };
 
-    ghost holds = { λ _ kept bytes. Keeps kept bytes };
+    ghost stands = { λ reader bytes. StandsFor (seen reader) bytes };
 
-    ghost whole = { λ _ kept. IsWhole kept };
+    ghost refuses = { λ error bytes. Fails error (bundle_of (lines_of bytes)) };
 
-    ghost count = { λ _ kept. count_of kept };
+    ghost reads = { λ kind. refl };
 
-    fn reads(&self) -> Option<usize> {
-        Some(MOST_BYTES)
+    fn start(&self, alloc: Global) -> BundleReader {
+        BundleReader::new(alloc)
     }
 
-    fn begin(&self, alloc: Global) -> Reading {
-        Reading::Good(BundleReader::new(alloc))
-    }
-
-    #[tactic(auto, using(crate::proofs::Rechecking::taking))]
-    fn take(&self, _alloc: Global, kept: Reading, piece: &[u8]) -> Result<Reading, AllocError> {
-        match kept {
-            Reading::Good(reader) => read_on(reader, piece),
-            Reading::Refused(error) => Ok(Reading::Refused(error)),
+    fn read_on(
+        &self,
+        reader: BundleReader,
+        piece: &[u8],
+    ) -> Result<Reading<BundleReader, BundleError>, AllocError> {
+        match reader.feed(piece) {
+            Ok(reader) => Ok(Reading::Good(reader)),
+            Err(BundleError::Memory) => Err(AllocError),
+            Err(error) => Ok(Reading::Refused(error)),
         }
     }
 
-    #[tactic(auto, using(crate::proofs::Rechecking::answering))]
-    fn answer<O: Sink, N: Sink>(
-        &self,
-        alloc: Global,
-        kept: Reading,
-        out: &mut O,
-        note: &mut N,
-    ) -> Ended {
-        finish(tell_kept(alloc, kept), out, note)
+    fn tell(&self, alloc: Global, reader: BundleReader) -> Result<Reply, Stop> {
+        tell(alloc, reader)
+    }
+
+    fn stop(&self, error: BundleError) -> Stop {
+        stop_of(error)
     }
 }

@@ -1,21 +1,19 @@
-//! The command `recheck --depth yes`, for certificates of the fewest levels.
-ghost use Rattle.std.specs.Prelude.{◌≡◌, ℕ, ◌+◌, ◌^◌, ◌<◌, ◌≤◌, List, ◌++◌, Err, IfOk, length};
+//! Certificates of the fewest levels, as a kind for the job of `recheck`.
+ghost use Rattle.std.specs.Prelude.{◌≡◌, ℕ, ◌≤◌, List, Err, IfOk, length, refl};
 ghost use Rattle.text_core.specs.Lines.{lines_of};
 ghost use Rattle.depth_theory.specs.declared.data.DepthVerdict.{DepthVerdict};
 ghost use Rattle.depth_theory.specs.DepthGives.{Gives};
 ghost use Rattle.depth_theory.specs.DepthJudging.{Judged};
 ghost use Rattle.depth_file.specs.Reader.{seen, IsReader, StandsFor};
 ghost use Rattle.frame_core.specs.Views.{line_value, reply_value, refusal_value, Judges};
-ghost use Rattle.cmd_recheck.specs.KeepingDepth.{Keeps, IsWhole, count_of};
 ghost use Rattle.cmd_verdicts.specs.Verdicts.{most_of_bundle};
 ghost use Rattle.cmd_recheck.specs.RecheckDepthReport.{levels_text, depth_status as depth_status_of, named_inside, named_depth, depth_reply, depth_refusal, depth_task};
 
 use crate::bundles::{bundle_status, name_bundle, name_step};
-use crate::recheck::MOST_BYTES;
+use crate::job::{Kind, Reading};
 use cert_file::BundleError;
 use depth_file::{DepthError, DepthReader, DepthVerdict};
-use frame_core::{Ended, ErrorLine, Field, Refusal, Reply, Status, Stop, StreamJob, finish};
-use port_io::Sink;
+use frame_core::{ErrorLine, Field, Refusal, Reply, Status, Stop};
 use std::alloc::{AllocError, Global};
 use text_core::push_number;
 
@@ -110,15 +108,6 @@ fn reply_of(alloc: Global, verdict: DepthVerdict) -> Result<Reply, AllocError>
     })
 }
 
-/// What `recheck --depth yes` keeps of a certificate.
-#[derive(Drop)]
-pub enum DepthReading {
-    /// What was read of it.
-    Good(DepthReader),
-    /// The fault of a line. What comes after it is read, and dropped.
-    Refused(DepthError),
-}
-
 /// Why a certificate has no verdict.
 #[tactic(auto, using(crate::proofs::RecheckingDepth::telling))]
 fn stop_of(error: DepthError) -> Stop
@@ -146,81 +135,48 @@ fn tell(alloc: Global, reader: DepthReader) -> Result<Reply, Stop>
     }
 }
 
-/// The reply of `recheck --depth yes` to what it kept.
-#[tactic(auto, using(crate::proofs::RecheckingDepth::keeping))]
-fn tell_kept(alloc: Global, kept: DepthReading) -> Result<Reply, Stop>
-    requires { IsWhole kept }
-    ensures { (bytes : List ℕ) → Keeps kept bytes → length bytes ≤ most_of_bundle → Judges depth_task bytes result }
-{
-    match kept {
-        DepthReading::Good(reader) => tell(alloc, reader),
-        DepthReading::Refused(error) => Err(stop_of(error)),
-    }
-}
-
-/// Reads the next piece of a certificate.
-#[tactic(auto, using(crate::proofs::RecheckingDepth::taking))]
-fn read_on(reader: DepthReader, piece: &[u8]) -> Result<DepthReading, AllocError>
-    requires whole { IsReader (seen reader) }
-    requires room { reader.pieces.fed + length piece.now < 2 ^ 31 }
-    ensures whole { IfOk result IsWhole }
-    ensures keeps { (bytes : List ℕ) → StandsFor (seen reader) bytes →
-        IfOk result (λ next. Keeps next (bytes ++ piece.now)) }
-    ensures count { IfOk result (λ next. count_of next ≤ reader.pieces.fed + length piece.now) }
-{
-    match reader.feed(piece) {
-        Ok(reader) => Ok(DepthReading::Good(reader)),
-        Err(DepthError::Memory) => Err(AllocError),
-        Err(error) => Ok(DepthReading::Refused(error)),
-    }
-}
-
-/// The verdict of a certificate of the fewest levels.
+/// The certificates of the fewest levels.
 #[derive(Drop)]
-pub struct RecheckDepth;
+pub struct Levels;
 
-impl StreamJob for RecheckDepth {
+impl Kind for Levels {
+    type Reader = DepthReader;
+
+    type Fault = DepthError;
+
     ghost task = { λ _. depth_task };
 
-    ghost ready = { λ _. Unit {0} };
+    ghost whole = { λ reader. IsReader (seen reader) };
 
-    type Kept = DepthReading;
+    ghost fed = { λ reader. reader.pieces.fed };
 
-    ghost holds = { λ _ kept bytes. Keeps kept bytes };
+    ghost stands = { λ reader bytes. StandsFor (seen reader) bytes };
 
-    ghost whole = { λ _ kept. IsWhole kept };
+    ghost refuses = { λ error bytes. Judged (Gives (λ (v : DepthVerdict). v) (Err error)) (lines_of bytes) };
 
-    ghost count = { λ _ kept. count_of kept };
+    ghost reads = { λ kind. refl };
 
-    fn reads(&self) -> Option<usize> {
-        Some(MOST_BYTES)
+    fn start(&self, alloc: Global) -> DepthReader {
+        DepthReader::new(alloc)
     }
 
-    fn begin(&self, alloc: Global) -> DepthReading {
-        DepthReading::Good(DepthReader::new(alloc))
-    }
-
-    #[tactic(auto, using(crate::proofs::RecheckingDepth::taking))]
-    fn take(
+    fn read_on(
         &self,
-        _alloc: Global,
-        kept: DepthReading,
+        reader: DepthReader,
         piece: &[u8],
-    ) -> Result<DepthReading, AllocError> {
-        match kept {
-            DepthReading::Good(reader) => read_on(reader, piece),
-            DepthReading::Refused(error) => Ok(DepthReading::Refused(error)),
+    ) -> Result<Reading<DepthReader, DepthError>, AllocError> {
+        match reader.feed(piece) {
+            Ok(reader) => Ok(Reading::Good(reader)),
+            Err(DepthError::Memory) => Err(AllocError),
+            Err(error) => Ok(Reading::Refused(error)),
         }
     }
 
-    #[tactic(auto, using(crate::proofs::RecheckingDepth::answering))]
-    fn answer<O: Sink, N: Sink>(
-        &self,
-        alloc: Global,
-        kept: DepthReading,
-        out: &mut O,
-        note: &mut N,
-    ) -> Ended {
-        finish(tell_kept(alloc, kept), out, note)
+    fn tell(&self, alloc: Global, reader: DepthReader) -> Result<Reply, Stop> {
+        tell(alloc, reader)
+    }
+
+    fn stop(&self, error: DepthError) -> Stop {
+        stop_of(error)
     }
 }

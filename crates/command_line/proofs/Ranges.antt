@@ -21,7 +21,7 @@ use Rattle.command_line.specs.declared.table.Kind.TheVariants.{Agree, Recheck, S
 use Rattle.command_line.specs.declared.command.Deed.{Deed}
 use Rattle.command_line.specs.declared.command.Format.{Format}
 use Rattle.command_line.specs.declared.command.Format.TheVariants.{Blif, Bench}
-use Rattle.command_line.specs.Options.{Row, from_on, number_within, basis_or_none, basis_in, is_within, if_of_gates, basis_row, gates_row, format_basis_row, method_row, max_row, conflicts_row, cap_row, rounds_row, format_row, observe_row, blocks_row, run_row, least_depth_row, depth_row, kind_named, options_of}
+use Rattle.command_line.specs.Options.{Row, from_on, number_within, basis_or_none, basis_in, is_within, if_of_gates, basis_row, gates_row, format_basis_row, method_row, max_row, conflicts_row, cap_row, rounds_row, format_row, observe_row, effort_row, blocks_row, run_row, least_depth_row, depth_row, kind_named, options_of}
 use Rattle.command_line.specs.CommandLine.{word_behind, are_options, value_in, value, asked_from, asked_in, least_depth_by, synth_from, recheck_from, settings_from, settings_for, improve_with, improve_for, equiv_from, gen_from, command_with, command_in, command_of, HasGatesOf, IsAsked, IsAskable}
 
 pub some_is : {A : Type 0} (a b : A) → Some a ≡ Some b → a ≡ b
@@ -135,16 +135,17 @@ recheck_made (Some b) c e = (b, recheck_by b c e, refl)
 recheck_made None c e = absurd cc
 
 -- the settings of `improve` are the values of all its options
-pub record AreSettingsOf (basis : Option ℕ) (method : Option Method) (cap rounds conflicts : Option ℕ) (observe : Option Bool) (s : ImproveSettings) : Type 0 where
+pub record AreSettingsOf (basis : Option ℕ) (method : Option Method) (cap rounds conflicts : Option ℕ) (observe : Option Bool) (effort : Option ℕ) (s : ImproveSettings) : Type 0 where
   pub basis_is : basis ≡ Some s.basis
   pub method_is : method ≡ Some s.method
   pub cap_is : cap ≡ Some s.cap
   pub rounds_is : rounds ≡ Some s.rounds
   pub conflicts_is : conflicts ≡ Some s.conflicts
   pub observe_is : observe ≡ Some s.observe
+  pub effort_is : effort ≡ Some s.effort
 
-settings_made : (basis : Option ℕ) (method : Option Method) (cap rounds conflicts : Option ℕ) (observe : Option Bool) (s : ImproveSettings) → settings_from basis method cap rounds conflicts observe ≡ Some s → AreSettingsOf basis method cap rounds conflicts observe s
-settings_made (Some b) (Some m) (Some n) (Some r) (Some x) (Some o) s e =
+settings_made : (basis : Option ℕ) (method : Option Method) (cap rounds conflicts : Option ℕ) (observe : Option Bool) (effort : Option ℕ) (s : ImproveSettings) → settings_from basis method cap rounds conflicts observe effort ≡ Some s → AreSettingsOf basis method cap rounds conflicts observe effort s
+settings_made (Some b) (Some m) (Some n) (Some r) (Some x) (Some o) (Some f) s e =
     let same = some_is _ s e in
     record {
       basis_is = ap (λ (t : ImproveSettings). Some t.basis) same;
@@ -153,20 +154,22 @@ settings_made (Some b) (Some m) (Some n) (Some r) (Some x) (Some o) s e =
       rounds_is = ap (λ (t : ImproveSettings). Some t.rounds) same;
       conflicts_is = ap (λ (t : ImproveSettings). Some t.conflicts) same;
       observe_is = ap (λ (t : ImproveSettings). Some t.observe) same;
+      effort_is = ap (λ (t : ImproveSettings). Some t.effort) same;
     }
-settings_made (Some b) (Some m) (Some n) (Some r) (Some x) None s e = absurd cc
-settings_made (Some b) (Some m) (Some n) (Some r) None observe s e = absurd cc
-settings_made (Some b) (Some m) (Some n) None conflicts observe s e = absurd cc
-settings_made (Some b) (Some m) None rounds conflicts observe s e = absurd cc
-settings_made (Some b) None cap rounds conflicts observe s e = absurd cc
-settings_made None method cap rounds conflicts observe s e = absurd cc
+settings_made (Some b) (Some m) (Some n) (Some r) (Some x) (Some o) None s e = absurd cc
+settings_made (Some b) (Some m) (Some n) (Some r) (Some x) None effort s e = absurd cc
+settings_made (Some b) (Some m) (Some n) (Some r) None observe effort s e = absurd cc
+settings_made (Some b) (Some m) (Some n) None conflicts observe effort s e = absurd cc
+settings_made (Some b) (Some m) None rounds conflicts observe effort s e = absurd cc
+settings_made (Some b) None cap rounds conflicts observe effort s e = absurd cc
+settings_made None method cap rounds conflicts observe effort s e = absurd cc
 
-pub settings_back : (basis : Option ℕ) (method : Option Method) (cap rounds conflicts : Option ℕ) (observe : Option Bool) (s : ImproveSettings) → AreSettingsOf basis method cap rounds conflicts observe s → settings_from basis method cap rounds conflicts observe ≡ Some s
-settings_back basis method cap rounds conflicts observe s are = rw (are.basis_is, are.method_is, are.cap_is, are.rounds_is, are.conflicts_is, are.observe_is) refl
+pub settings_back : (basis : Option ℕ) (method : Option Method) (cap rounds conflicts : Option ℕ) (observe : Option Bool) (effort : Option ℕ) (s : ImproveSettings) → AreSettingsOf basis method cap rounds conflicts observe effort s → settings_from basis method cap rounds conflicts observe effort ≡ Some s
+settings_back basis method cap rounds conflicts observe effort s are = rw (are.basis_is, are.method_is, are.cap_is, are.rounds_is, are.conflicts_is, are.observe_is, are.effort_is) refl
 
 -- those of words, by a format
 abbrev pub AreSettingsIn : List (List ℕ) → Format → ImproveSettings → Type 0
-AreSettingsIn words f s = AreSettingsOf (value (format_basis_row f) words) (value method_row words) (value cap_row words) (value rounds_row words) (value conflicts_row words) (value observe_row words) s
+AreSettingsIn words f s = AreSettingsOf (value (format_basis_row f) words) (value method_row words) (value cap_row words) (value rounds_row words) (value conflicts_row words) (value observe_row words) (value effort_row words) s
 
 -- words ask `improve` for a format, with settings
 pub record IsImproveIn (words : List (List ℕ)) (c : Command) : Type 0 where
@@ -184,7 +187,7 @@ improve_made : (words : List (List ℕ)) (o : Option Format) (c : Command) → v
 improve_made words None c is e = absurd cc
 improve_made words (Some f) c is e =
     let made = with_made f (settings_for f words) c e in
-    record { f = f; s = made.0; is = made.2; format_is = is; are = settings_made _ _ _ _ _ _ made.0 made.1 }
+    record { f = f; s = made.0; is = made.2; format_is = is; are = settings_made _ _ _ _ _ _ _ made.0 made.1 }
 
 pub improve_in_made : (words : List (List ℕ)) (c : Command) → command_with Improve words ≡ Some c → IsImproveIn words c
 improve_in_made words c e = improve_made words (value format_row words) c refl e
@@ -218,6 +221,13 @@ cap_range words n e =
     (λ (word : List ℕ) (x : ℕ) at. (number_range 0 8 x word (omega arith) at).1)
     (λ (x : ℕ) at. let same = some_is 5 x at in omega (arith, same))
     (word_behind cap_row.name words) n e
+
+effort_range : (words : List (List ℕ)) (n : ℕ) → value effort_row words ≡ Some n → n ≤ 1000
+effort_range words n e =
+    in_row effort_row (λ (x : ℕ). x ≤ 1000)
+    (λ (word : List ℕ) (x : ℕ) at. (number_range 0 1000 x word (omega arith) at).1)
+    (λ (x : ℕ) at. let same = some_is 0 x at in omega (arith, same))
+    (word_behind effort_row.name words) n e
 
 rounds_range : (words : List (List ℕ)) (n : ℕ) → value rounds_row words ≡ Some n → (1 ≤ n) × (n ≤ 100000)
 rounds_range words n e =
@@ -286,7 +296,7 @@ improve_range words c e =
     let basis = format_range made.f words made.s.basis made.are.basis_is in
     let rounds = rounds_range words made.s.rounds made.are.rounds_is in
     let conflicts = conflicts_range words made.s.conflicts made.are.conflicts_is in
-    let range : improver.IsInRange made.s = record { basis_from = basis.0; cap_to = cap_range words made.s.cap made.are.cap_is; rounds_from = rounds.0; rounds_to = rounds.1; conflicts_from = conflicts.0; conflicts_to = conflicts.1 } in
+    let range : improver.IsInRange made.s = record { basis_from = basis.0; cap_to = cap_range words made.s.cap made.are.cap_is; rounds_from = rounds.0; rounds_to = rounds.1; conflicts_from = conflicts.0; conflicts_to = conflicts.1; effort_to = effort_range words made.s.effort made.are.effort_is } in
     let is : IsAsked made.f made.s = record { range = range; basis = basis.1 } in
     askable (commands.Improve made.f made.s) c made.is is
 

@@ -20,7 +20,7 @@ use Rattle.command_line.specs.declared.command.Command.TheVariants as commands
 use Rattle.command_line.specs.declared.table.Kind.{Kind}
 use Rattle.command_line.specs.declared.table.Kind.TheVariants.{Agree, Recheck, Synth, Improve, Equiv, Gen}
 use Rattle.command_line.specs.declared.command.Format.{Format}
-use Rattle.command_line.specs.Options.{Row, is_word, is_among, basis_row, format_basis_row, method_row, max_row, conflicts_row, cap_row, rounds_row, format_row, observe_row, blocks_row, run_row, least_depth_row, depth_row, kind_text, kind_named, options_of}
+use Rattle.command_line.specs.Options.{Row, is_word, is_among, basis_row, format_basis_row, method_row, max_row, conflicts_row, cap_row, rounds_row, format_row, observe_row, effort_row, blocks_row, run_row, least_depth_row, depth_row, kind_text, kind_named, options_of}
 use Rattle.command_line.specs.CommandLine.{word_behind, is_named, are_options, value_in, value, least_depth_by, synth_from, improve_with, improve_for, command_with, command_in, command_of, AsksFor}
 use Rattle.command_line.specs.Spelling.{Pair, both, flat, Gives, GivesSynth, GivesImprove, GivesGen, GivesAll, kind_of, Spells}
 use Rattle.command_line.proofs.Ranges.{some_is, passed, AreAskedIn, asked_back, IsSynth, synth_in_made, rechecks, recheck_made, AreSettingsIn, settings_back, improve_in_made, equiv_made, gen_made}
@@ -192,6 +192,7 @@ made Improve pairs c once e =
       rounds = gives rounds_row pairs m.s.rounds once m.are.rounds_is;
       conflicts = gives conflicts_row pairs m.s.conflicts once m.are.conflicts_is;
       observe = gives observe_row pairs m.s.observe once m.are.observe_is;
+      effort = gives effort_row pairs m.s.effort once m.are.effort_is;
     } in
     subst (λ (d : Command). IsMade Improve pairs d) m.is (refl, all)
 made Equiv pairs c once e =
@@ -213,12 +214,13 @@ settings_are f pairs s once all = record {
   rounds_is = value_is rounds_row pairs s.rounds once all.rounds;
   conflicts_is = value_is conflicts_row pairs s.conflicts once all.conflicts;
   observe_is = value_is observe_row pairs s.observe once all.observe;
+  effort_is = value_is effort_row pairs s.effort once all.effort;
 }
 
 improve_back : (f : Format) (pairs : List Pair) (s : ImproveSettings) → IsDistinct is_word (keys_of pairs) → GivesImprove pairs f s → command_with Improve (flat pairs) ≡ Some (commands.Improve f s)
 improve_back f pairs s once all =
     ap (improve_for (flat pairs)) (value_is format_row pairs f once all.format_is)
-    ∙ ap (improve_with f) (settings_back _ _ _ _ _ _ s (settings_are f pairs s once all))
+    ∙ ap (improve_with f) (settings_back _ _ _ _ _ _ _ s (settings_are f pairs s once all))
 
 asked_are : (pairs : List Pair) (s : SynthSettings) (flag : Bool) → IsDistinct is_word (keys_of pairs) → GivesSynth pairs s flag → AreAskedIn (flat pairs) s
 asked_are pairs s flag once all = record {
@@ -268,6 +270,7 @@ given_again (commands.Improve f s) pairs other moved all = record {
   rounds = gives_again rounds_row pairs other s.rounds moved all.rounds;
   conflicts = gives_again conflicts_row pairs other s.conflicts moved all.conflicts;
   observe = gives_again observe_row pairs other s.observe moved all.observe;
+  effort = gives_again effort_row pairs other s.effort moved all.effort;
 }
 given_again (commands.Equiv budget) pairs other moved all = gives_again conflicts_row pairs other budget moved all
 given_again (commands.Gen blocks deed) pairs other moved all = record {

@@ -18,7 +18,7 @@ use Rattle.command_line.specs.declared.table.Kind.TheVariants as kinds
 use Rattle.command_line.specs.declared.command.Deed.{Deed}
 use Rattle.command_line.specs.declared.command.Format.{Format}
 use Rattle.command_line.specs.declared.command.Format.TheVariants.{Blif, Bench}
-use Rattle.command_line.specs.Options.{Row, is_word, is_among, is_within, basis_row, format_basis_row, method_row, max_row, conflicts_row, cap_row, rounds_row, format_row, observe_row, most_blocks, blocks_row, run_row, least_depth_row, depth_row, kind_named, options_of}
+use Rattle.command_line.specs.Options.{Row, is_word, is_among, is_within, basis_row, format_basis_row, method_row, max_row, conflicts_row, cap_row, rounds_row, format_row, observe_row, effort_row, most_blocks, blocks_row, run_row, least_depth_row, depth_row, kind_named, options_of}
 
 -- the bytes of each word
 abbrev pub spelled : Vec (String Global) Global → List (List ℕ)
@@ -80,14 +80,14 @@ recheck_from None = None
 abbrev pub recheck_in : List (List ℕ) → Option Command
 recheck_in words = recheck_from (value depth_row words)
 
-abbrev pub settings_from : Option ℕ → Option Method → Option ℕ → Option ℕ → Option ℕ → Option Bool → Option ImproveSettings
-settings_from (Some basis) (Some method) (Some cap) (Some rounds) (Some conflicts) (Some observe) =
-    Some (record { basis = basis; method = method; cap = cap; rounds = rounds; conflicts = conflicts; observe = observe })
-settings_from basis method cap rounds conflicts observe = None
+abbrev pub settings_from : Option ℕ → Option Method → Option ℕ → Option ℕ → Option ℕ → Option Bool → Option ℕ → Option ImproveSettings
+settings_from (Some basis) (Some method) (Some cap) (Some rounds) (Some conflicts) (Some observe) (Some effort) =
+    Some (record { basis = basis; method = method; cap = cap; rounds = rounds; conflicts = conflicts; observe = observe; effort = effort })
+settings_from basis method cap rounds conflicts observe effort = None
 
 -- the settings of `improve` for a format
 abbrev pub settings_for : Format → List (List ℕ) → Option ImproveSettings
-settings_for format words = settings_from (value (format_basis_row format) words) (value method_row words) (value cap_row words) (value rounds_row words) (value conflicts_row words) (value observe_row words)
+settings_for format words = settings_from (value (format_basis_row format) words) (value method_row words) (value cap_row words) (value rounds_row words) (value conflicts_row words) (value observe_row words) (value effort_row words)
 
 abbrev pub improve_with : Format → Option ImproveSettings → Option Command
 improve_with format None = None

@@ -110,6 +110,10 @@ format_row = record { name = codes "--format"; read = format_in; default = Some 
 abbrev pub observe_row : Row Bool
 observe_row = flag_row (codes "--observe")
 
+-- how many rounds of moves keep the size
+abbrev pub effort_row : Row ℕ
+effort_row = number_row (codes "--effort") 0 improver.most_effort (Some improver.usual.effort)
+
 -- how many blocks are generated; the number has to be named
 abbrev pub most_blocks : ℕ
 most_blocks = 10000
@@ -155,6 +159,6 @@ abbrev pub options_of : Kind → List (List ℕ)
 options_of Agree = []
 options_of Recheck = depth_row.name ∷ []
 options_of Synth = basis_row.name ∷ method_row.name ∷ max_row.name ∷ conflicts_row.name ∷ least_depth_row.name ∷ []
-options_of Improve = basis_row.name ∷ method_row.name ∷ cap_row.name ∷ rounds_row.name ∷ conflicts_row.name ∷ format_row.name ∷ observe_row.name ∷ []
+options_of Improve = basis_row.name ∷ method_row.name ∷ cap_row.name ∷ rounds_row.name ∷ conflicts_row.name ∷ format_row.name ∷ observe_row.name ∷ effort_row.name ∷ []
 options_of Equiv = conflicts_row.name ∷ []
 options_of Gen = blocks_row.name ∷ run_row.name ∷ []

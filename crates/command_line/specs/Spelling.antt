@@ -11,7 +11,7 @@ use Rattle.command_line.specs.declared.table.Kind.{Kind}
 use Rattle.command_line.specs.declared.table.Kind.TheVariants as kinds
 use Rattle.command_line.specs.declared.command.Deed.{Deed}
 use Rattle.command_line.specs.declared.command.Format.{Format}
-use Rattle.command_line.specs.Options.{Row, is_word, is_among, basis_row, format_basis_row, method_row, max_row, conflicts_row, cap_row, rounds_row, format_row, observe_row, blocks_row, run_row, least_depth_row, depth_row, kind_text, options_of}
+use Rattle.command_line.specs.Options.{Row, is_word, is_among, basis_row, format_basis_row, method_row, max_row, conflicts_row, cap_row, rounds_row, format_row, observe_row, effort_row, blocks_row, run_row, least_depth_row, depth_row, kind_text, options_of}
 
 -- a name and the word after it
 abbrev pub Pair : Type 0
@@ -46,6 +46,7 @@ pub record GivesImprove (pairs : List Pair) (format : Format) (s : ImproveSettin
   pub rounds : Gives rounds_row pairs s.rounds
   pub conflicts : Gives conflicts_row pairs s.conflicts
   pub observe : Gives observe_row pairs s.observe
+  pub effort : Gives effort_row pairs s.effort
 
 pub record GivesGen (pairs : List Pair) (count : ℕ) (deed : Deed) : Type 0 where
   pub blocks : Gives blocks_row pairs count

@@ -8,7 +8,7 @@ ghost use Rattle.command_line.specs.CommandLine.{value};
 
 use crate::command::{Deed, Format};
 use crate::pairs::{is_word, word_behind};
-use improve_settings::{ImproveSettings, MOST_GATES_OF_WINDOW, MOST_ROUNDS};
+use improve_settings::{ImproveSettings, MOST_EFFORT, MOST_GATES_OF_WINDOW, MOST_ROUNDS};
 use op_basis::{BENCH, Basis, read_basis};
 use settings::{MOST_CONFLICTS, MOST_STEPS, Method, SynthSettings, method_named};
 use text_core::number_up_to;
@@ -39,6 +39,8 @@ const ROUNDS: &[u8] = b"--rounds";
 const FORMAT: &[u8] = b"--format";
 
 const OBSERVE: &[u8] = b"--observe";
+
+const EFFORT: &[u8] = b"--effort";
 
 const BLOCKS: &[u8] = b"--blocks";
 
@@ -98,6 +100,7 @@ pub(crate) fn takes(kind: Kind, name: &[u8]) -> bool
                 || is_word(name, CONFLICTS)
                 || is_word(name, FORMAT)
                 || is_word(name, OBSERVE)
+                || is_word(name, EFFORT)
         }
         Kind::Equiv => is_word(name, CONFLICTS),
         Kind::Gen => is_word(name, BLOCKS) || is_word(name, RUN),
@@ -237,6 +240,14 @@ pub(crate) fn given_observe(words: &[String]) -> Option<bool>
     ensures { result ≡ value spec.observe_row (map string_bytes words.now) }
 {
     flag(OBSERVE, words)
+}
+
+/// The value of `--effort`.
+pub(crate) fn given_effort(words: &[String]) -> Option<u32>
+    ensures { result ≡ value spec.effort_row (map string_bytes words.now) }
+{
+    let usual = ImproveSettings::usual().effort;
+    number(EFFORT, 0, MOST_EFFORT, Some(usual), words)
 }
 
 /// The value of `--blocks`, which has to be named.

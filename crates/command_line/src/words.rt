@@ -7,8 +7,8 @@ use crate::command::{Command, Format, WordsError};
 use crate::pairs::are_options;
 use crate::table::{
     Kind, given_basis, given_basis_for, given_blocks, given_cap, given_conflicts, given_deed,
-    given_depth, given_format, given_least_depth, given_max, given_method, given_observe,
-    given_rounds, kind_named,
+    given_depth, given_effort, given_format, given_least_depth, given_max, given_method,
+    given_observe, given_rounds, kind_named,
 };
 use improve_settings::ImproveSettings;
 use settings::{Method, SynthSettings};
@@ -75,6 +75,7 @@ fn settings_for(format: Format, words: &[String]) -> Option<ImproveSettings>
     let rounds = given_rounds(words)?;
     let conflicts = given_conflicts(words)?;
     let observe = given_observe(words)?;
+    let effort = given_effort(words)?;
     Some(ImproveSettings {
         basis,
         method,
@@ -82,6 +83,7 @@ fn settings_for(format: Format, words: &[String]) -> Option<ImproveSettings>
         rounds,
         conflicts,
         observe,
+        effort,
     })
 }
 

@@ -1,5 +1,5 @@
 -- What is known of the chains of at most as many steps as a heading says.
-use Rattle.std.specs.Prelude.{◌≡◌, ℕ, ◌+◌}
+use Rattle.std.specs.Prelude.{◌≡◌, ℕ, ◌+◌, Option, Some, None}
 use Rattle.chain_theory.specs.Chain.{Chain}
 use Rattle.chain_theory.specs.Agreement.{NoneBelow}
 use Rattle.tt_core.specs.Words.{specification}
@@ -26,6 +26,11 @@ HasNone h = Fewer h (h.max + 1)
 pub record IsShorter (h : Heading) (c : Chain) : Type 0 where
   pub size : ℕ
   pub found : IsFound h size c
+
+-- no chain is remembered that the heading asks for
+abbrev pub IsUseless : Heading → Option Chain → Type 0
+IsUseless h None = Unit {0}
+IsUseless h (Some c) = IsShorter h c → ⊥
 
 pub record IsOpenVerdict (v : Verdict) : Type 0 where
   pub low : ℕ

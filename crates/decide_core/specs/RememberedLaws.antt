@@ -1,14 +1,18 @@
 -- What a memory and a chain that is judged say of a heading.
-use Rattle.std.proofs.Common.{◌≡◌, ℕ, ◌≤◌, List, length, Option, None, refl, sym, subst}
-use Rattle.chain_theory.specs.Chain.{Chain}
+use Rattle.std.proofs.Common.{◌≡◌, ℕ, ◌≤◌, ◌<◌, true, List, ◌∷◌, ◌++◌, length, Option, Some, None, refl, sym, ap, ◌∙◌, subst, arith, inl, inr}
+use Rattle.std.specs.Prelude.{All, max, slice_index_or}
+use Rattle.std.proofs.Math.Seq.{get_or-append_seam}
+use Rattle.std.proofs.lemmas.Bool.{cases_lt, true≢false}
+use Rattle.std.proofs.lemmas.List.{length-append}
+use Rattle.chain_theory.specs.Chain.{Step, Chain}
 use Rattle.chain_theory.specs.Operator.{Basis}
 use Rattle.chain_theory.specs.Specification.{Specification}
 use Rattle.chain_theory.specs.Agreement.{IsOver, Agrees, NoneBelow}
-use Rattle.chain_theory.specs.Difference.{IsComparison}
+use Rattle.chain_theory.specs.Difference.{IsFirstDifference, IsComparison}
 use Rattle.tt_core.specs.Words.{specification}
 use Rattle.op_basis.specs.Basis.{members}
 use Rattle.chain_core.specs.Steps.{IsSmallChain}
-use Rattle.chain_core.specs.Outside.{IsJudged}
+use Rattle.chain_core.specs.Outside.{IsFirstOutside, IsJudged}
 use Rattle.cert_theory.specs.declared.data.Heading.{Heading}
 use Rattle.cert_theory.specs.Bundle.{IsHeading}
 use Rattle.spec_memory.specs.Facts.{spelled, IsFact}
@@ -16,7 +20,7 @@ use Rattle.spec_memory.specs.FactLaws.{known_fact}
 use Rattle.decide_core.specs.declared.deciding.Sized.{Sized}
 use Rattle.decide_core.specs.declared.deciding.Sized.TheVariants as sizes
 use Rattle.decide_core.specs.declared.deciding.Decided.{Decided}
-use Rattle.decide_core.specs.declared.deciding.Decided.TheVariants.{Least}
+use Rattle.decide_core.specs.declared.deciding.Decided.TheVariants.{Shorter, Least}
 use Rattle.decide_core.specs.Decided.{Fewer, HasNone, IsShorter, IsDecided, IsSized}
 use Rattle.decide_core.specs.DecidedLaws.{deciding}
 
@@ -28,6 +32,41 @@ judged_over basis c o is e = subst (λ (x : Option ℕ). IsJudged basis c x) e i
 pub compared_agrees : (c : Chain) (s : Specification) (o : Option (ℕ × ℕ)) → IsComparison c s o → o ≡ None → Agrees c s
 compared_agrees c s o is e = subst (λ (x : Option (ℕ × ℕ)). IsComparison c s x) e is
 
+judged_apart : (basis : Basis) (c : Chain) (place : ℕ) → IsFirstOutside basis c place → IsOver basis c → ⊥
+judged_apart basis c place is over =
+    let at : ℕ = length is.front in
+    let inside : at < length (is.front ++ is.step ∷ is.behind) = omega (arith, length-append is.front (is.step ∷ is.behind)) in
+    let member : basis (slice_index_or (is.front ++ is.step ∷ is.behind) at is.step).op ≡ true = (subst (λ (ss : List Step). All (λ (s : Step). basis s.op ≡ true) ss) is.steps over) at is.step inside in
+    true≢false (sym member ∙ ap (λ (s : Step). basis s.op) (get_or-append_seam is.front is.step is.behind is.step) ∙ is.outside)
+
+pub judged_outside : (basis : Basis) (c : Chain) (o : Option ℕ) (place : ℕ) → IsJudged basis c o → o ≡ Some place → IsOver basis c → ⊥
+judged_outside basis c o place is e over = let outside : IsJudged basis c (Some place) = subst (λ (x : Option ℕ). IsJudged basis c x) e is in judged_apart basis c place outside over
+
+pub compared_differs : (c : Chain) (s : Specification) (o : Option (ℕ × ℕ)) (at : ℕ × ℕ) → IsComparison c s o → o ≡ Some at → Agrees c s → ⊥
+compared_differs c s o at is e agrees =
+    let differs : IsComparison c s (Some at) = subst (λ (x : Option (ℕ × ℕ)). IsComparison c s x) e is in
+    missed_none differs
+  where
+    missed_none : IsFirstDifference c s at.0 at.1 → ⊥
+    missed_none differs = true≢false (sym (agrees.cells at.0 at.1 differs.output_from differs.output differs.row) ∙ differs.missed)
+
+-- ---- what a chain that the heading asks for has
+
+pub shorter_inputs : (h : Heading) (c : Chain) → (c.n ≡ h.spec.n → ⊥) → IsShorter h c → ⊥
+shorter_inputs h c other short = other short.found.agrees.inputs
+
+pub shorter_outputs : (h : Heading) (c : Chain) → (length c.outs ≡ length h.spec.on → ⊥) → IsShorter h c → ⊥
+shorter_outputs h c other short = other short.found.agrees.outputs
+
+pub shorter_few : (h : Heading) (c : Chain) → h.max < length c.steps → IsShorter h c → ⊥
+shorter_few h c many short = omega (arith, many, short.found.size_is, short.found.size_to)
+
+pub shorter_over : (h : Heading) (c : Chain) → (IsOver (members h.basis) c → ⊥) → IsShorter h c → ⊥
+shorter_over h c not_over short = not_over short.found.over
+
+pub shorter_agrees : (h : Heading) (c : Chain) → (Agrees c (specification h.spec) → ⊥) → IsShorter h c → ⊥
+shorter_agrees h c differs short = differs short.found.agrees
+
 pub judged_shorter : (h : Heading) (c : Chain) → IsSmallChain c → length c.steps ≤ h.max → IsOver (members h.basis) c → Agrees c (specification h.spec) → IsShorter h c
 judged_shorter h c small few over agrees = record {
   size = length c.steps;
@@ -38,6 +77,13 @@ judged_shorter h c small few over agrees = record {
 
 pub recalled : (h : Heading) (basis fewest : ℕ) (key : List ℕ) → IsHeading h → basis ≡ h.basis → key ≡ spelled h.spec → IsFact (members basis) key fewest → Fewer h fewest
 recalled h basis fewest key heading same spells fact = subst (λ (b : ℕ). NoneBelow (specification h.spec) (members b) fewest) same (fact h.spec heading.tables (sym spells))
+
+-- of two bounds the greater one
+pub fewer_both : (h : Heading) (counted known : ℕ) → Fewer h counted → Fewer h known → Fewer h (max counted known)
+fewer_both h counted known first second q low has = elim (cases_lt q counted) [
+  | inl less ↦ first q less has
+  | inr most ↦ second q (omega (arith, low, most)) has
+]
 
 pub noted : (h : Heading) (basis fewest : ℕ) (key : List ℕ) → IsHeading h → basis ≡ h.basis → key ≡ spelled h.spec → Fewer h fewest → IsFact (members basis) key fewest
 noted h basis fewest key heading same spells none =
@@ -52,10 +98,16 @@ found_low h s c low is e = let found : IsSized h (sizes.Found c low) = subst (Is
 pub found_open : (h : Heading) (s : Sized) (low : ℕ) → IsSized h s → s ≡ sizes.Open low → Fewer h low
 found_open h s low is e = subst (IsSized h) e is
 
+pub found_shorter : (h : Heading) (s : Sized) (c : Chain) (low : ℕ) → IsSized h s → s ≡ sizes.Found c low → IsShorter h c
+found_shorter h s c low is e = let found : IsSized h (sizes.Found c low) = subst (IsSized h) e is in found.0
+
 pub whole_least : (h : Heading) (d : Decided) → IsDecided h d → d ≡ Least → HasNone h
 whole_least h d is e = subst (IsDecided h) e is
+
+pub whole_shorter : (h : Heading) (d : Decided) (c : Chain) → IsDecided h d → d ≡ Shorter c → IsShorter h c
+whole_shorter h d c is e = let found : IsDecided h (Shorter c) = subst (IsDecided h) e is in found
 
 pub found_none : (h : Heading) (s : Sized) → IsSized h s → s ≡ sizes.Nothing → HasNone h
 found_none h s is e = subst (IsSized h) e is
 
-pub ruleset remembering = (deciding, judged_over, compared_agrees, judged_shorter, recalled)
+pub ruleset remembering = (deciding, judged_over, judged_outside, compared_agrees, compared_differs, judged_shorter, shorter_inputs, shorter_outputs, shorter_few, shorter_over, shorter_agrees, recalled)

@@ -1,5 +1,5 @@
 -- What the walk over steps says of a heading that asks for few.
-use Rattle.std.specs.Prelude.{IfNone}
+use Rattle.std.specs.Prelude.{IfNone, IfSome}
 use Rattle.std.proofs.Common.{◌≡◌, Option, Some, None, subst}
 use Rattle.chain_theory.specs.Chain.{Chain}
 use Rattle.tt_core.specs.Words.{specification}
@@ -21,5 +21,10 @@ step_none h o is e = let none : IsAnswer (specification h.spec) (members h.basis
 
 pub none_known : (h k : Heading) (o : Option Chain) → h ≡ k → o ≡ None → IfNone o (HasNone h) → HasNone k
 none_known h k o same e is = subst HasNone same (subst (λ (x : Option Chain). IfNone x (HasNone h)) e is)
+
+pub some_known : (h k : Heading) (o : Option Chain) (c : Chain) → h ≡ k → o ≡ Some c → IfSome o (λ (x : Chain). IsShorter h x) → IsShorter k c
+some_known h k o c same e is =
+    let found : IfSome (Some c) (λ (x : Chain). IsShorter h x) = subst (λ (p : Option Chain). IfSome p (λ (x : Chain). IsShorter h x)) e is in
+    subst (λ (g : Heading). IsShorter g c) same found
 
 pub ruleset stepping = (deciding, step_found, step_none)

@@ -27,7 +27,7 @@ pub enum Sized {
     Found { chain: Chain, low: u32 },
     /// No chain of at most as many steps as the heading says does.
     Nothing,
-    /// A search has spent its budget; none of fewer than `low` steps does.
+    /// It stays open; none of fewer than `low` steps does.
     Open { low: u32 },
 }
 

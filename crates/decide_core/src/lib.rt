@@ -4,9 +4,9 @@
 //! It stands on `bound_core` for what counting says, on `step_core` for whether at most four steps are enough, where no more
 //! are asked for, and on `size_loop` for the search of a size. The search begins at the size that counting leaves, and has few
 //! conflicts at first. A certificate is made only where a size stays open: then the whole search is made with the whole
-//! budget, and its own verdict holds. What the first search finds, also that it was left open, is remembered
-//! (`spec_memory`) for tables with their inputs in a normal order (`spec_order`), and what the whole search finds for the
-//! tables as they are asked for. What stays open is searched again.
+//! budget, and its own verdict holds; where the budget is no greater than that of the first search, it is the only one. What
+//! both searches find, also that the first was left open, is remembered (`spec_memory`) for tables with their inputs in a
+//! normal order (`spec_order`), by which a chain goes back. What stays open is searched again.
 //!
 //! ```text
 //! let heading = Heading { spec, basis, method, conflicts, max: 6 };

@@ -1,22 +1,24 @@
-//! Counting first, for at most four steps then a walk over steps, and else what is remembered and searched, with
-//! the inputs in a normal order (the P-class of the tables): so windows that differ in the order of their inputs share
-//! what was found. A chain is turned back and judged. The first search has few conflicts; where it is left open, the tables as they are asked for
-//! are searched with a certificate and the whole budget.
-ghost use Rattle.std.specs.Prelude.{◌≡◌, ◌≤◌, length, IfSome, IfOk};
+//! Counting first, for at most four steps then a walk over steps, and else what is remembered and searched, with the inputs
+//! in a normal order (the P-class of the tables): so windows that differ in the order of their inputs share what was found.
+//! A chain goes back by the inverse order. The first search has few conflicts; what it leaves open is searched for the tables
+//! as they are asked for, with a certificate and the whole budget.
+ghost use Rattle.std.specs.Prelude.{◌≡◌, ◌≤◌, IfOk};
 ghost use Rattle.tt_core.specs.Words.{specification};
+ghost use Rattle.cert_theory.specs.declared.data.Heading.{Heading as HeadingOf};
 ghost use Rattle.cert_theory.specs.Bundle.{IsHeading};
-ghost use Rattle.spec_order.specs.Order.{IsOrder, IsTurned};
-ghost use Rattle.decide_core.specs.Decided.{IsDecided, IsClosed, IsShorter};
+ghost use Rattle.spec_order.specs.Order.{IsOrder, IsPermuting, IsTurned};
+ghost use Rattle.decide_core.specs.Decided.{Fewer, HasNone, IsDecided, IsClosed, IsShorter};
+ghost use Rattle.decide_core.specs.Ordered.{IsTurnedTo};
 
-use crate::deciding::{Decided, Sized, no_steps};
+use crate::deciding::{Decided, Sized, no_steps, search_whole};
 use crate::question::Question;
-use crate::remembering::{decide_sizes, decide_whole, serves};
+use crate::remembering::{decide_sizes, with_chain, without_chain};
 use crate::stepping::decide_few;
 use bound_core::lower_bound;
 use bundle_core::Heading;
 use chain_core::Chain;
 use sat_solve::Solver;
-use spec_memory::Memory;
+use spec_memory::{Key, Memory};
 use spec_order::{inverse, normal_order, turned_chain, turned_spec};
 use std::alloc::{AllocError, Global};
 
@@ -62,54 +64,76 @@ pub(crate) fn turned_heading(
     })
 }
 
-/// The chain with its inputs turned back, where it is one that the heading asks for.
-pub(crate) fn turned_back(
-    alloc: Global,
-    heading: &Heading,
-    chain: &Chain,
-    order: &[u32],
-) -> Result<Option<Chain>, AllocError>
-    requires { length order.now ≤ 6 }
-    ensures { IfOk result (λ found. IfSome found (λ turned. IsShorter heading.now turned)) }
+/// A chain that one heading asks for, with its inputs in the order of another one.
+pub(crate) fn reordered(alloc: Global, chain: &Chain, order: &[u32]) -> Result<Chain, AllocError>
+    requires { IsOrder chain.now.n order.now }
+    ensures { IfOk result (λ turned. (h k : HeadingOf) → IsTurnedTo h k order.now → IsShorter h chain.now → IsShorter k turned) }
 {
-    if chain.n() != order.len() as u32 {
-        return Ok(None);
-    }
-    let back = inverse(alloc, order)?;
-    let turned = turned_chain(alloc, chain, &back)?;
-    if !serves(&turned, heading) {
-        return Ok(None);
-    }
-    Ok(Some(turned))
+    turned_chain(alloc, chain, order)
 }
 
-/// Decides by the inputs in their normal order what counting leaves.
+/// Searches what the first search left open with a certificate and the whole budget. What it finds is noted for the tables
+/// with their inputs in the normal order.
+#[tactic(auto, using(crate::specs::OrderedLaws::ordering))]
+fn search_open<S: Solver>(
+    alloc: Global,
+    memory: &mut Memory,
+    question: Question,
+    turned: Question,
+    order: &[u32],
+) -> Result<Decided, AllocError>
+    requires basis { memory.old.basis ≡ turned.heading.now.basis }
+    requires turned { IsTurnedTo question.heading.now turned.heading.now order.now }
+    requires least { HasNone question.heading.now → HasNone turned.heading.now }
+    ensures decided { IfOk result (λ decided. IsDecided question.entry.heading.now decided) }
+    ensures basis { memory.new.basis ≡ memory.old.basis }
+{
+    let key = Key::of(alloc, &turned.heading.spec)?;
+    match search_whole::<S>(alloc, question)? {
+        Decided::Least => {
+            memory.note(key, without_chain(turned.heading.max + 1, false))?;
+            Ok(Decided::Least)
+        }
+        Decided::Shorter(chain) => {
+            let found = with_chain(0, reordered(alloc, &chain, order)?);
+            memory.note(key, found)?;
+            Ok(Decided::Shorter(chain))
+        }
+        Decided::Open(bundle) => Ok(Decided::Open(bundle)),
+    }
+}
+
+/// Decides by the inputs in an order what counting leaves. Where the first search would have the whole budget, the search
+/// with a certificate is the only one.
 #[tactic(auto, using(crate::specs::OrderedLaws::ordering))]
 fn decide_turned<S: Solver>(
     alloc: Global,
     memory: &mut Memory,
     question: Question,
+    counted: u32,
+    order: &[u32],
 ) -> Result<Decided, AllocError>
-    requires basis { memory.old ≡ question.heading.now.basis }
+    requires basis { memory.old.basis ≡ question.heading.now.basis }
+    requires fewer { Fewer question.heading.now counted }
+    requires order { IsPermuting question.heading.now.spec.n order.now }
     ensures decided { IfOk result (λ decided. IsDecided question.entry.heading.now decided) }
-    ensures basis { memory.new ≡ memory.old }
+    ensures basis { memory.new.basis ≡ memory.old.basis }
 {
     let heading = question.heading;
-    let order = normal_order(alloc, &heading.spec)?;
-    let turned = turned_heading(alloc, question, &order)?;
-    let counted = lower_bound(&turned.spec);
-    match decide_sizes::<S>(alloc, memory, Question::new(&turned), counted)? {
+    let back = inverse(alloc, order)?;
+    let turned = turned_heading(alloc, question, order)?;
+    let asked = Question::new(&turned);
+    let searches = turned.conflicts < heading.conflicts;
+    match decide_sizes::<S>(alloc, memory, asked, counted, searches)? {
         Sized::Nothing => Ok(Decided::Least),
-        Sized::Open { low: _ } => decide_whole::<S>(alloc, memory, question),
-        Sized::Found { chain, low: _ } => match turned_back(alloc, heading, &chain, &order)? {
-            Some(chain) => Ok(Decided::Shorter(chain)),
-            None => decide_whole::<S>(alloc, memory, question),
-        },
+        Sized::Open { low: _ } => search_open::<S>(alloc, memory, question, asked, order),
+        Sized::Found { chain, low: _ } => Ok(Decided::Shorter(reordered(alloc, &chain, &back)?)),
     }
 }
 
 /// Decides whether a chain of at most `heading.max` steps agrees with the heading's tables, by counting, by a memory for
-/// the heading's basis, and for at most four steps by going over them, else by a search, from which the memory learns. A certificate comes only where a search has spent its budget.
+/// the heading's basis, and for at most four steps by going over them, else by a search, from which the memory learns. A
+/// certificate comes only where a search has spent its budget.
 #[tactic(auto, using(crate::specs::OrderedLaws::ordering))]
 pub fn decide<S: Solver>(
     alloc: Global,
@@ -117,11 +141,11 @@ pub fn decide<S: Solver>(
     heading: &Heading,
 ) -> Result<Decided, AllocError>
     requires heading { IsHeading heading.now }
-    requires basis { memory.old ≡ heading.now.basis }
+    requires basis { memory.old.basis ≡ heading.now.basis }
     ensures decided { IfOk result (λ decided. IsDecided heading.now decided) }
     // Where at most four steps are asked for, nothing stays open.
     ensures closed { heading.now.max ≤ 4 → IfOk result IsClosed }
-    ensures basis { memory.new ≡ memory.old }
+    ensures basis { memory.new.basis ≡ memory.old.basis }
 {
     if heading.spec.outputs() == 0 {
         return Ok(Decided::Shorter(no_steps(alloc, heading)));
@@ -133,5 +157,6 @@ pub fn decide<S: Solver>(
     if heading.max <= FEW_STEPS {
         return decide_few(alloc, memory, Question::new(heading));
     }
-    decide_turned::<S>(alloc, memory, Question::new(heading))
+    let order = normal_order(alloc, &heading.spec)?;
+    decide_turned::<S>(alloc, memory, Question::new(heading), counted, &order)
 }

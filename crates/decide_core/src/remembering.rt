@@ -1,13 +1,13 @@
 //! What was found is remembered, so that a specification that was decided isn't searched again. A refutation is a
 //! fact of the memory; a chain that is remembered is judged before it is used.
-ghost use Rattle.std.specs.Prelude.{◌≡◌, ◌≤◌, true, length, IfSome, IfOk};
+ghost use Rattle.std.specs.Prelude.{◌≡◌, ◌≤◌, true, false, length, IfSome, IfNone, IfOk};
 ghost use Rattle.tt_core.specs.Words.{specification};
 ghost use Rattle.op_basis.specs.Basis.{members};
 ghost use Rattle.chain_theory.specs.Agreement.{IsOver, Agrees};
-ghost use Rattle.spec_memory.specs.Facts.{spelled};
-ghost use Rattle.decide_core.specs.Decided.{Fewer, IsDecided, IsSized, IsShorter};
+ghost use Rattle.spec_memory.specs.Facts.{spelled, chain_of, found_at};
+ghost use Rattle.decide_core.specs.Decided.{Fewer, IsSized, IsShorter, IsUseless};
 
-use crate::deciding::{Decided, Sized, search_from, search_whole};
+use crate::deciding::{Sized, search_from};
 use crate::question::Question;
 use bundle_core::Heading;
 use chain_core::{Chain, first_difference, first_outside};
@@ -20,7 +20,8 @@ use tt_core::Spec;
 /// Whether a chain is over a basis.
 #[tactic(auto, using(crate::specs::RememberedLaws::remembering))]
 fn is_over(chain: &Chain, basis: Basis) -> bool
-    ensures { result ≡ true → IsOver (members basis) chain.now }
+    ensures over { result ≡ true → IsOver (members basis) chain.now }
+    ensures not_over { result ≡ false → IsOver (members basis) chain.now → ⊥ }
 {
     match first_outside(chain, basis) {
         Some(_) => false,
@@ -33,7 +34,8 @@ fn is_over(chain: &Chain, basis: Basis) -> bool
 fn agrees(chain: &Chain, spec: &Spec) -> bool
     requires inputs { chain.now.n ≡ spec.now.n }
     requires outputs { length chain.now.outs ≡ length spec.now.on }
-    ensures { result ≡ true → Agrees chain.now (specification spec.now) }
+    ensures agrees { result ≡ true → Agrees chain.now (specification spec.now) }
+    ensures differs { result ≡ false → Agrees chain.now (specification spec.now) → ⊥ }
 {
     match first_difference(chain, spec) {
         Some(_) => false,
@@ -44,8 +46,11 @@ fn agrees(chain: &Chain, spec: &Spec) -> bool
 /// Whether a chain is one that the heading asks for.
 #[tactic(auto, using(crate::specs::RememberedLaws::remembering))]
 pub fn serves(chain: &Chain, heading: &Heading) -> bool
-    ensures { result ≡ true → IsShorter heading.now chain.now }
+    ensures yes { result ≡ true → IsShorter heading.now chain.now }
+    ensures not { result ≡ false → IsShorter heading.now chain.now → ⊥ }
 {
+    // bring the invariants into the proof
+    let _inputs = heading.spec.n();
     if chain.n() != heading.spec.n() {
         return false;
     }
@@ -69,14 +74,15 @@ pub(crate) fn copied(alloc: Global, chain: &Chain) -> Result<Chain, AllocError>
     Ok(Chain::new(chain.n(), steps, outs))
 }
 
-/// A chain that is remembered and that the heading asks for.
+/// The chain that is remembered, if the heading asks for it.
 pub(crate) fn remembered(
     alloc: Global,
     memory: &Memory,
     key: &Key,
     heading: &Heading,
 ) -> Result<Option<Chain>, AllocError>
-    ensures { IfOk result (λ found. IfSome found (λ chain. IsShorter heading.now chain)) }
+    ensures some { IfOk result (λ found. IfSome found (λ chain. IsShorter heading.now chain)) }
+    ensures none { IfOk result (λ found. IfNone found (IsUseless heading.now (chain_of (found_at memory.now key.now)))) }
 {
     match memory.chain(key) {
         None => Ok(None),
@@ -87,21 +93,6 @@ pub(crate) fn remembered(
             Ok(Some(copied(alloc, chain)?))
         }
     }
-}
-
-/// A number of steps of which no fewer do, by counting or by memory.
-#[tactic(auto, using(crate::specs::RememberedLaws::remembering))]
-fn first_size(memory: &Memory, key: &Key, question: Question, counted: u32) -> u32
-    requires basis { memory.now ≡ question.heading.now.basis }
-    requires key { key.now ≡ spelled question.heading.now.spec }
-    requires fewer { Fewer question.heading.now counted }
-    ensures { Fewer question.entry.heading.now result }
-{
-    let known = memory.fewest(key);
-    if known <= counted {
-        return counted;
-    }
-    known
 }
 
 /// What is noted where no chain was found.
@@ -135,12 +126,12 @@ fn search_new<S: Solver>(
     question: Question,
     from: u32,
 ) -> Result<Sized, AllocError>
-    requires basis { memory.old ≡ question.heading.now.basis }
+    requires basis { memory.old.basis ≡ question.heading.now.basis }
     requires key { key ≡ spelled question.heading.now.spec }
     requires fewer { Fewer question.heading.now from }
     requires from { from ≤ question.heading.now.max }
     ensures sized { IfOk result (λ sized. IsSized question.entry.heading.now sized) }
-    ensures basis { memory.new ≡ memory.old }
+    ensures basis { memory.new.basis ≡ memory.old.basis }
 {
     match search_from::<S>(alloc, question, from)? {
         Sized::Open { low } => {
@@ -159,21 +150,23 @@ fn search_new<S: Solver>(
     }
 }
 
-/// Decides by memory, and searches what it doesn't know.
+/// Decides by memory, and searches what it doesn't know, if that is asked for; else it stays open.
 #[tactic(auto, using(crate::specs::RememberedLaws::remembering))]
 pub fn decide_sizes<S: Solver>(
     alloc: Global,
     memory: &mut Memory,
     question: Question,
     counted: u32,
+    searches: bool,
 ) -> Result<Sized, AllocError>
-    requires basis { memory.old ≡ question.heading.now.basis }
+    requires basis { memory.old.basis ≡ question.heading.now.basis }
     requires fewer { Fewer question.heading.now counted }
     ensures sized { IfOk result (λ sized. IsSized question.entry.heading.now sized) }
-    ensures basis { memory.new ≡ memory.old }
+    ensures basis { memory.new.basis ≡ memory.old.basis }
 {
     let key = Key::of(alloc, &question.heading.spec)?;
-    let from = first_size(memory, &key, question, counted);
+    let known = memory.fewest(&key);
+    let from = counted.max(known);
     if question.heading.max < from {
         return Ok(Sized::Nothing);
     }
@@ -182,41 +175,11 @@ pub fn decide_sizes<S: Solver>(
     }
     match remembered(alloc, memory, &key, question.heading)? {
         Some(chain) => Ok(Sized::Found { chain, low: 0 }),
-        None => search_new::<S>(alloc, memory, key, question, from),
-    }
-}
-
-/// Searches the tables as they are asked for with a certificate, unless the memory knows what comes of it, which it
-/// learns here too.
-#[tactic(auto, using(crate::specs::RememberedLaws::remembering))]
-pub fn decide_whole<S: Solver>(
-    alloc: Global,
-    memory: &mut Memory,
-    question: Question,
-) -> Result<Decided, AllocError>
-    requires basis { memory.old ≡ question.heading.now.basis }
-    ensures decided { IfOk result (λ decided. IsDecided question.entry.heading.now decided) }
-    ensures basis { memory.new ≡ memory.old }
-{
-    let heading = question.heading;
-    let key = Key::of(alloc, &heading.spec)?;
-    let known = memory.fewest(&key);
-    if heading.max < known {
-        return Ok(Decided::Least);
-    }
-    if let Some(chain) = remembered(alloc, memory, &key, heading)? {
-        return Ok(Decided::Shorter(chain));
-    }
-    match search_whole::<S>(alloc, question)? {
-        Decided::Least => {
-            memory.note(key, without_chain(heading.max + 1, false))?;
-            Ok(Decided::Least)
+        None => {
+            if !searches {
+                return Ok(Sized::Open { low: from });
+            }
+            search_new::<S>(alloc, memory, key, question, from)
         }
-        Decided::Shorter(chain) => {
-            let found = with_chain(0, copied(alloc, &chain)?);
-            memory.note(key, found)?;
-            Ok(Decided::Shorter(chain))
-        }
-        Decided::Open(bundle) => Ok(Decided::Open(bundle)),
     }
 }

@@ -1,16 +1,17 @@
 //! Few steps are gone over, with no search and nothing left open. What the walk finds is remembered as what a search finds
 //! is, with the inputs in their normal order; one or two steps are gone over faster than they are remembered.
 ghost use Rattle.std.specs.Prelude.{◌≡◌, ◌≤◌, IfSome, IfNone, IfOk};
+ghost use Rattle.spec_order.specs.Order.{IsPermuting};
 ghost use Rattle.decide_core.specs.Decided.{IsDecided, IsClosed, IsShorter, HasNone};
 
 use crate::deciding::Decided;
-use crate::ordering::{turned_back, turned_heading};
+use crate::ordering::{reordered, turned_heading};
 use crate::question::Question;
 use crate::remembering::{copied, remembered, with_chain, without_chain};
 use bundle_core::Heading;
 use chain_core::Chain;
 use spec_memory::{Key, Memory};
-use spec_order::normal_order;
+use spec_order::{inverse, normal_order};
 use std::alloc::{AllocError, Global};
 use step_core::few_steps;
 
@@ -38,11 +39,11 @@ fn known_steps(
     memory: &mut Memory,
     question: Question,
 ) -> Result<Option<Chain>, AllocError>
-    requires basis { memory.old ≡ question.heading.now.basis }
+    requires basis { memory.old.basis ≡ question.heading.now.basis }
     requires few { question.heading.now.max ≤ 4 }
     ensures some { IfOk result (λ found. IfSome found (λ chain. IsShorter question.entry.heading.now chain)) }
     ensures none { IfOk result (λ found. IfNone found (HasNone question.entry.heading.now)) }
-    ensures basis { memory.new ≡ memory.old }
+    ensures basis { memory.new.basis ≡ memory.old.basis }
 {
     let heading = question.heading;
     let key = Key::of(alloc, &heading.spec)?;
@@ -66,6 +67,29 @@ fn known_steps(
     }
 }
 
+/// Decides by going over steps, or by memory, with the inputs in an order.
+#[tactic(auto, using(crate::specs::OrderedLaws::ordering))]
+fn walked_turned(
+    alloc: Global,
+    memory: &mut Memory,
+    question: Question,
+    order: &[u32],
+) -> Result<Decided, AllocError>
+    requires basis { memory.old.basis ≡ question.heading.now.basis }
+    requires few { question.heading.now.max ≤ 4 }
+    requires order { IsPermuting question.heading.now.spec.n order.now }
+    ensures decided { IfOk result (λ decided. IsDecided question.entry.heading.now decided) }
+    ensures closed { IfOk result IsClosed }
+    ensures basis { memory.new.basis ≡ memory.old.basis }
+{
+    let back = inverse(alloc, order)?;
+    let turned = turned_heading(alloc, question, order)?;
+    match known_steps(alloc, memory, Question::new(&turned))? {
+        None => Ok(Decided::Least),
+        Some(chain) => Ok(Decided::Shorter(reordered(alloc, &chain, &back)?)),
+    }
+}
+
 /// Decides whether a chain of at most four steps agrees. Nothing stays open.
 #[tactic(auto, using(crate::specs::OrderedLaws::ordering))]
 pub(crate) fn decide_few(
@@ -73,23 +97,16 @@ pub(crate) fn decide_few(
     memory: &mut Memory,
     question: Question,
 ) -> Result<Decided, AllocError>
-    requires basis { memory.old ≡ question.heading.now.basis }
+    requires basis { memory.old.basis ≡ question.heading.now.basis }
     requires few { question.heading.now.max ≤ 4 }
     ensures decided { IfOk result (λ decided. IsDecided question.entry.heading.now decided) }
     ensures closed { IfOk result IsClosed }
-    ensures basis { memory.new ≡ memory.old }
+    ensures basis { memory.new.basis ≡ memory.old.basis }
 {
     let heading = question.heading;
     if heading.max <= FORGOTTEN_STEPS {
         return walked(alloc, heading);
     }
     let order = normal_order(alloc, &heading.spec)?;
-    let turned = turned_heading(alloc, question, &order)?;
-    match known_steps(alloc, memory, Question::new(&turned))? {
-        None => Ok(Decided::Least),
-        Some(chain) => match turned_back(alloc, heading, &chain, &order)? {
-            Some(chain) => Ok(Decided::Shorter(chain)),
-            None => walked(alloc, heading),
-        },
-    }
+    walked_turned(alloc, memory, question, &order)
 }

@@ -1,14 +1,12 @@
 //! What a probe opens behind a variable: the operands of its gate, the two signals of a sink's difference, or where the
-//! point was merged its representative alone. Among open variables those of the greatest level come first, which are
-//! nearest to what is asked.
+//! point was merged its representative alone. Of the open variables the last one is decided first: gates before their
+//! operands, and all that is open of the second net before what it was merged with in the first. So the cones of a
+//! pair are decided down to what they share, and not beyond.
 
 use crate::points::Points;
-use crate::rows::{entry, put};
+use crate::rows::put;
 use sat_solve::Cones;
 use std::alloc::{AllocError, Global};
-
-/// The level of the differences of sinks, above all gates.
-const TOP: u32 = 1 << 30;
 
 /// Rows by variable, as `sat_solve::Cones` has them.
 #[derive(Drop)]
@@ -32,9 +30,11 @@ impl ConeRows {
         Ok(rows)
     }
 
-    fn push(&mut self, first: u32, second: u32, rank: u32) -> Result<(), AllocError> {
+    /// Appends the rows of the next variable.
+    fn push(&mut self, first: u32, second: u32) -> Result<(), AllocError> {
         self.first.push(first)?;
         self.second.push(second)?;
+        let rank = self.rank.len().min(u32::MAX as usize) as u32;
         self.rank.push(rank)?;
         Ok(())
     }
@@ -42,19 +42,17 @@ impl ConeRows {
     fn push_points(&mut self, points: &Points) -> Result<(), AllocError> {
         for (variable, point) in points.points.iter().enumerate() {
             if variable <= points.sources as usize {
-                self.push(0, 0, 0)?;
-                continue;
+                self.push(0, 0)?;
+            } else {
+                self.push(point.a, point.b)?;
             }
-            let a = entry(&self.rank, point.a, 0);
-            let b = entry(&self.rank, point.b, 0);
-            self.push(point.a, point.b, a.max(b).saturating_add(1))?;
         }
         Ok(())
     }
 
     fn push_differences(&mut self, points: &Points) -> Result<(), AllocError> {
         for (one, other) in points.ones.iter().zip(points.others.iter()) {
-            self.push(one.variable, other.variable, TOP)?;
+            self.push(one.variable, other.variable)?;
         }
         Ok(())
     }

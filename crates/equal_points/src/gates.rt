@@ -130,10 +130,15 @@ pub(crate) fn shorten_gates<S: Solver>(
     Ok(Heard::Nothing)
 }
 
-/// How many conflicts a pair may take: a fifth of `limit` for two points of one net that aren't alike.
+/// How many conflicts a pair may take: a fifth of `limit` for two points of one net that aren't alike, and no more than
+/// the budget has.
 fn pair_limit(sweeping: &Sweeping, x: u32, y: u32, is_alike: bool, limit: u32) -> u32 {
     let inner = y == 0 || sweeping.points.are_of_one_net(x, y);
-    if inner && !is_alike { limit / 5 } else { limit }
+    if inner && !is_alike {
+        sweeping.most_of(limit / 5)
+    } else {
+        sweeping.most_of(limit)
+    }
 }
 
 /// Compares a gate with an earlier point. What is heard besides is whether to try another one.

@@ -9,7 +9,7 @@ use sat_solve::Solver;
 use std::alloc::{AllocError, Global};
 
 /// How many words of random assignments there are at first.
-const WORDS: u32 = 16;
+const WORDS: u32 = 64;
 
 /// What simulation has shown. All rows are by variable.
 #[derive(Drop)]

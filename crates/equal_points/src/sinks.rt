@@ -56,7 +56,8 @@ pub(crate) fn visit_sinks<S: Solver>(
         if sweeping.is_spent() {
             return Ok(Heard::Spent);
         }
-        let heard = visit_sink(solver, vars, sweeping, sink, difference, limit)?;
+        let most = sweeping.most_of(limit);
+        let heard = visit_sink(solver, vars, sweeping, sink, difference, most)?;
         if heard != Heard::Nothing {
             return Ok(heard);
         }

@@ -194,6 +194,11 @@ impl Sweeping {
         self.spent >= self.budget
     }
 
+    /// The conflicts that a question may take whose limit is `limit`: no more than what is left of the budget.
+    pub(crate) fn most_of(&self, limit: u32) -> u32 {
+        limit.min(self.budget.saturating_sub(self.spent))
+    }
+
     /// How many sinks there are.
     pub(crate) fn sinks(&self) -> usize {
         self.open.len()

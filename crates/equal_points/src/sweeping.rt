@@ -1,5 +1,5 @@
 //! A sweep: rounds over the gates and the sinks, each with ten times the conflicts for a question.
-ghost use Rattle.std.specs.Prelude.{◌≡◌, ℕ, ◌+◌, ◌<◌, ◌^◌, length, IfOk, OnOk};
+ghost use Rattle.std.specs.Prelude.{◌≡◌, ℕ, ◌+◌, ◌<◌, ◌^◌, length, OnOk};
 ghost use Rattle.sat_theory.specs.Formula.{Formula};
 ghost use Rattle.equal_points.specs.Stays.{Stays};
 

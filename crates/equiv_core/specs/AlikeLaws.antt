@@ -1,19 +1,19 @@
 -- Circuits whose miter is refuted do the same.
 use Rattle.sat_theory.specs.Log.{Refutes}
 use Rattle.sat_theory.specs.Soundness.{no_assignment}
-use Rattle.std.specs.Prelude.{◌≡◌, ℕ, Bool, List}
+use Rattle.std.specs.Prelude.{◌≡◌, ℕ, ◌-◌, Bool, List}
 use Rattle.std.proofs.Common.{subst}
 use Rattle.sat_theory.specs.Line.{Line}
-use Rattle.net_theory.specs.Net.{Net, sink_values}
+use Rattle.net_theory.specs.Net.{Net, bit_of, sink_values}
 use Rattle.net_theory.specs.Circuit.{Circuit, IsProper}
 use Rattle.net_document.specs.Alike.{AreAlike}
 use Rattle.equiv_theory.specs.Miter.{miter}
-use Rattle.equiv_theory.specs.Difference.{AreComparable, HaveSameInterface}
+use Rattle.equiv_theory.specs.Difference.{AreComparable, HaveSameInterface, IsFirstDifference, DifferAt}
 use Rattle.equiv_theory.specs.FormulaLaws.{miter_formula}
 use Rattle.equiv_theory.specs.CircuitLaws.{comparable, refuted_alike, refuted_values}
 use Rattle.equiv_core.specs.declared.answer.Equiv.{Equiv}
 use Rattle.equiv_core.specs.declared.answer.Equiv.TheVariants.{Equal, Differ, Undecided}
-use Rattle.equiv_core.specs.Comparing.{IfEqual}
+use Rattle.equiv_core.specs.Comparing.{IfEqual, IfDiffer, IsDecided}
 
 pub equal_alike : (c k : Circuit) (e : Equiv) → IsProper c → IsProper k → HaveSameInterface c k → IfEqual e (Refutes (miter c.net k.net)) → IfEqual e (λ _. AreAlike c k)
 equal_alike c k (Equal log) of_c of_k same refutes =
@@ -25,3 +25,13 @@ equal_alike c k (Undecided log) of_c of_k same refutes = tt
 pub equal_values : (first second : Net) (e : Equiv) (log : List Line) → e ≡ Equal log → AreComparable first second → IfEqual e (Refutes (miter first second)) → (given : ℕ → Bool) → sink_values first given ≡ sink_values second given
 equal_values first second e log is are refutes =
     refuted_values first second are (λ some. no_assignment (miter first second) log some.0 (miter_formula first second are) (subst (λ (x : Equiv). IfEqual x (Refutes (miter first second))) is refutes) some.1)
+
+-- a difference that is answered is one of the nets
+pub difference_shown : (first second : Net) (e : Equiv) (sink : ℕ) (bits : List Bool) → e ≡ Differ sink bits → IfDiffer e (IsFirstDifference first second) → (given : ℕ → Bool) × (i : ℕ) × DifferAt first second given i
+difference_shown first second e sink bits is found =
+    let shown : IsFirstDifference first second sink bits = subst (λ (x : Equiv). IfDiffer x (IsFirstDifference first second)) is found in
+    (bit_of bits, sink - 1, shown.first_sink.here)
+
+-- where an answer decides, none is left open
+pub none_undecided : (first second : Net) (e : Equiv) (log : List Line) → e ≡ Undecided log → IsDecided e → (given : ℕ → Bool) × (i : ℕ) × DifferAt first second given i
+none_undecided first second e log is decided = absurd (subst (λ (x : Equiv). IsDecided x) is decided)

@@ -103,16 +103,24 @@ fn swept<S: Solver>(
     }
 }
 
-/// What is left of a budget, and at least 1.
+/// What a sweep may spend of a budget: half of it, so that the search after it has the other half.
+fn share_of(budget: u32) -> u32
+    ensures { 2 * result ≤ budget }
+{
+    budget / 2
+}
+
+/// What is left of a budget after a sweep.
 fn left_of(budget: u32, spent: u32) -> u32
     requires { 1 ≤ budget }
     ensures some { 1 ≤ result }
+    ensures half { budget ≤ 2 * result }
     ensures most { result ≤ budget }
 {
-    if spent < budget { budget - spent } else { 1 }
+    budget - spent.min(share_of(budget))
 }
 
-/// What `solver`, a solver of the miter of two nets, answers of it after at most `left` further learnt clauses.
+/// What `solver`, a solver of the miter of two nets, answers of it after a sweep that has spent `spent` conflicts.
 #[tactic(auto, using(crate::specs::SinkLaws::miter_variables))]
 fn finished<S: Solver>(
     alloc: Global,
@@ -120,19 +128,19 @@ fn finished<S: Solver>(
     second: &Net,
     solver: S,
     budget: u32,
-    left: u32,
+    spent: u32,
 ) -> Result<Equiv, AllocError>
     requires comparable { AreComparable first.now second.now }
     requires small { IsSmall first.now }
     requires solver { S.IsSolverOf (miter_of first.now second.now) budget solver }
-    requires budget { budget ≤ most_budget }
-    requires left { (1 ≤ left) × (left ≤ budget) }
+    requires budget { (1 ≤ budget) × (budget ≤ most_budget) }
     ensures equal { IfOk result (λ e. IfEqual e (Refutes (miter_of first.now second.now))) }
     ensures differ { IfOk result (λ e. IfDiffer e (IsFirstDifference first.now second.now)) }
     ensures undecided { IfOk result (λ e. IfUndecided e (λ lines. IsSpent (miter_of first.now second.now) lines budget)) }
     ensures kept { IfOk result (λ e. IfUndecided e (IsKept (miter_of first.now second.now))) }
     ensures decides { 2 * 3 ^ variables first.now second.now ≤ budget → IfOk result IsDecided }
 {
+    let left = left_of(budget, spent);
     match solver.finish(alloc, left)? {
         Solved::Unsat(log) => Ok(Equiv::Equal(log)),
         Solved::Open(log) => Ok(Equiv::Undecided(log)),
@@ -164,17 +172,18 @@ pub(crate) fn compare<S: Solver>(
 {
     let _vars = cnf.vars(); // for the prover: brings in the bounds of the formula
     let mut solver = S::new(alloc, cnf, budget)?;
-    let (difference, spent) = swept(alloc, first, second, &mut solver, budget)?;
+    let share = share_of(budget);
+    let (difference, spent) = swept(alloc, first, second, &mut solver, share)?;
     if let Some(Difference { sink, at }) = difference {
         return Ok(Equiv::Differ { sink, at });
     }
-    let left = left_of(budget, spent);
-    finished(alloc, first, second, solver, budget, left)
+    finished(alloc, first, second, solver, budget, spent)
 }
 
 /// Decides with the solver `S` whether two proper circuits of one interface, each of fewer than 300,000,000 sources
 /// and sinks (combinational inputs and outputs), do the same, unless it takes more than `budget` conflicts, from 1 to
-/// 10,000,000: those of questions about pairs of signals that were given up, and of the search after them.
+/// 10,000,000: those of questions about pairs of signals that were given up, at most half of them, and of the search
+/// after them.
 ///
 /// They are equal only with a log that refutes their miter, so that anybody can check it; they differ only at an
 /// input that shows it, at the first sink that does; and it is undecided only with a log that has spent the

@@ -1,8 +1,9 @@
 //! Whether two nets do the same: the answers to their miter without its log.
-ghost use Rattle.std.specs.Prelude.{◌≡◌, ◌≤◌, ℕ, Bool, true, IfOk};
+ghost use Rattle.std.specs.Prelude.{◌≡◌, ◌≤◌, ◌*◌, ◌^◌, ℕ, Bool, true, false, IfOk};
 ghost use Rattle.sat_solve.specs.Budgets.{most_budget};
 ghost use Rattle.net_theory.specs.Net.{sink_values};
-ghost use Rattle.equiv_theory.specs.Difference.{AreComparable};
+ghost use Rattle.equiv_theory.specs.Miter.{variables};
+ghost use Rattle.equiv_theory.specs.Difference.{AreComparable, Differ as AreDifferent};
 ghost use Rattle.equiv_core.specs.Limits.{AreSmall};
 
 use crate::answer::Equiv;
@@ -12,9 +13,11 @@ use net_core::Net;
 use sat_solve::Solver;
 use std::alloc::{AllocError, Global};
 
-/// Whether the solver `S` finds two nets of as many sources and as many sinks equivalent: each sink has the same value
-/// in both under every assignment. False where they differ, and where more than `budget` learnt clauses, from 1 to
-/// 10,000,000, would be needed. Each has at most 100,000 gates, and the first fewer than 300,000,000 sources and sinks.
+/// Whether the solver `S` finds two nets of as many sources and as many sinks equivalent: true only where each sink has
+/// the same value in both under every assignment. False where they differ, and where more than `budget` conflicts in
+/// vain, from 1 to 10,000,000, would be needed: so with a budget of at least twice 3 to the number of the miter's
+/// variables only where they differ. Each has at most 100,000 gates, and the first fewer than 300,000,000 sources and
+/// sinks.
 pub fn equal_nets<S: Solver>(
     alloc: Global,
     first: &Net,
@@ -24,7 +27,8 @@ pub fn equal_nets<S: Solver>(
     requires comparable { AreComparable first.now second.now }
     requires small { AreSmall first.now second.now }
     requires budget { (1 ≤ budget) × (budget ≤ most_budget) }
-    ensures { IfOk result (λ same. same ≡ true → (given : ℕ → Bool) → sink_values first.now given ≡ sink_values second.now given) }
+    ensures same { IfOk result (λ same. same ≡ true → (given : ℕ → Bool) → sink_values first.now given ≡ sink_values second.now given) }
+    ensures decides { 2 * 3 ^ variables first.now second.now ≤ budget → IfOk result (λ same. same ≡ false → AreDifferent first.now second.now) }
 {
     let cnf = miter_nets(alloc, first, second)?;
     match compare::<S>(alloc, first, second, &cnf, budget)? {

@@ -11,6 +11,9 @@ most_gates_of_window = 8
 abbrev pub most_rounds : ℕ
 most_rounds = 100000
 
+abbrev pub most_effort : ℕ
+most_effort = 1000
+
 -- `s.basis` isn't empty, and the numbers are in their ranges
 pub record IsInRange (s : ImproveSettings) : Type 0 where
   pub basis_from : 0 < s.basis
@@ -19,7 +22,8 @@ pub record IsInRange (s : ImproveSettings) : Type 0 where
   pub rounds_to : s.rounds ≤ most_rounds
   pub conflicts_from : 1 ≤ s.conflicts
   pub conflicts_to : s.conflicts ≤ most_conflicts
+  pub effort_to : s.effort ≤ most_effort
 
 -- the defaults
 abbrev pub usual : ImproveSettings
-usual = record { basis = all_set; method = Ssv; cap = 5; rounds = 1000; conflicts = 100000; observe = false }
+usual = record { basis = all_set; method = Ssv; cap = 5; rounds = 1000; conflicts = 100000; observe = false; effort = 0 }

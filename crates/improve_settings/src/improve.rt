@@ -11,6 +11,9 @@ pub const MOST_GATES_OF_WINDOW: u32 = 8;
 /// The greatest `rounds`.
 pub const MOST_ROUNDS: u32 = 100_000;
 
+/// The greatest `effort`.
+pub const MOST_EFFORT: u32 = 1000;
+
 /// Settings of the improver, beside the netlist.
 #[derive(Clone, Copy, PartialEq, Eq)]
 pub struct ImproveSettings {
@@ -29,11 +32,13 @@ pub struct ImproveSettings {
     /// Whether observability don't-cares (ODC) are used: rows on which no output shows what a
     /// window gives.
     pub observe: bool,
+    /// How many rounds of moves that keep the size are made before windows are tried, from 0 to 1,000.
+    pub effort: u32,
 }
 
 impl ImproveSettings {
     /// The defaults: all operators, the method `ssv`, windows of at most 5 gates, 1,000 passes, a
-    /// limit of 100,000 conflicts, and no observability don't-cares.
+    /// limit of 100,000 conflicts, no observability don't-cares, and no moves that keep the size.
     pub fn usual() -> ImproveSettings
         ensures value { result ≡ usual }
         ensures range { IsInRange result }
@@ -45,6 +50,7 @@ impl ImproveSettings {
             rounds: 1000,
             conflicts: 100_000,
             observe: false,
+            effort: 0,
         }
     }
 }

@@ -13,4 +13,4 @@
 
 mod improve;
 
-pub use improve::{ImproveSettings, MOST_GATES_OF_WINDOW, MOST_ROUNDS};
+pub use improve::{ImproveSettings, MOST_EFFORT, MOST_GATES_OF_WINDOW, MOST_ROUNDS};

@@ -21,6 +21,7 @@ fn settings(cap: u32, rounds: u32, conflicts: u32, observe: bool) -> ImproveSett
         rounds: rounds.clamp(1, 1000),
         conflicts: conflicts.clamp(1, 100_000),
         observe,
+        effort: usual.effort,
     }
 }
 
@@ -37,6 +38,7 @@ fn gates_alone() -> ImproveSettings
         rounds: usual.rounds,
         conflicts: usual.conflicts,
         observe: usual.observe,
+        effort: usual.effort,
     }
 }
 

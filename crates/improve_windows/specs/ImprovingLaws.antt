@@ -20,6 +20,7 @@ use Rattle.blif_core.specs.Blif.{blif_format, CanWrite}
 use Rattle.bench_core.specs.Gates.{bench_written}
 use Rattle.bench_core.specs.Spelling as gates
 use Rattle.bench_core.specs.Bench.{bench_format}
+use Rattle.bench_core.specs.Writable.{IsBenchCircuit}
 use Rattle.bench_laws.specs.Spelled as bench
 use Rattle.improve_settings.specs.declared.improve.ImproveSettings.{ImproveSettings}
 use Rattle.net_theory.specs.Operators.{HasOperatorsWithin}
@@ -124,10 +125,14 @@ pub blif_improved : (s : ImproveSettings) (bytes text report : List ℕ) (c k : 
 blif_improved s bytes text report c k before after settled named format is better room spelled told =
     reported blif_format CanWrite s bytes text report c k before after settled named format is better (better.proper, room) spelled told
 
-pub bench_improved : (s : ImproveSettings) (bytes text report : List ℕ) (c k : Circuit) (before after : ℕ) (settled : Bool) (named : List Undecided) → IsFormat bench_format bench.CanWrite → ((x : Circuit) → bench.CanWrite x → cost (bench_written x) ≡ cost (written x)) → FitsFormat bench_format s → IsCircuitOfText bench_format bytes c → k ≡ record c { net = k.net } → IsBetter blif_format s c k before after settled named → HasRoom k → text ≡ gates.circuit_text k → report ≡ report_text (gate_names k) k.net.sources before after settled named → IsReported bench_format s bytes text report
+-- what is left of a text's circuit is one that BENCH can say
+pub bench_fits : (s : ImproveSettings) (bytes : List ℕ) (c k : Circuit) (before after : ℕ) (settled : Bool) (named : List Undecided) → IsFormat bench_format bench.CanWrite → FitsFormat bench_format s → IsCircuitOfText bench_format bytes c → k ≡ record c { net = k.net } → IsBetter blif_format s c k before after settled named → HasRoom k → IsBenchCircuit k
+bench_fits s bytes c k before after settled named format fits is same better room = (writable bench_format bench.CanWrite s bytes c k settled named format is fits same better.left room).writable.fits
+
+pub bench_improved : (s : ImproveSettings) (bytes text report : List ℕ) (c k : Circuit) (before after : ℕ) (settled : Bool) (named : List Undecided) → IsFormat bench_format bench.CanWrite → ((x : Circuit) → bench.IsWritable x → cost (bench_written x) ≡ cost (written x)) → FitsFormat bench_format s → IsCircuitOfText bench_format bytes c → k ≡ record c { net = k.net } → IsBetter blif_format s c k before after settled named → HasRoom k → text ≡ gates.circuit_text k → report ≡ report_text (gate_names k) k.net.sources before after settled named → IsReported bench_format s bytes text report
 bench_improved s bytes text report c k before after settled named format same_cost fits is same better room spelled told =
     let can = writable bench_format bench.CanWrite s bytes c k settled named format is fits same better.left room in
-    reported bench_format bench.CanWrite s bytes text report c k before after settled named format is (better_there blif_format bench_format s c k before after settled named (same_cost k can) better) can spelled told
+    reported bench_format bench.CanWrite s bytes text report c k before after settled named format is (better_there blif_format bench_format s c k before after settled named (same_cost k can.writable) better) can spelled told
 
 pub text_proper : (f : Format) (bytes : List ℕ) (c : Circuit) → IsCircuitOfText f bytes c → IsProper c
 text_proper f bytes c is = is.circuit.proper

@@ -9,6 +9,7 @@ ghost use Rattle.blif_core.specs.Spelling.{spelled, HasInit};
 ghost use Rattle.blif_core.specs.Blif.{blif_format};
 ghost use Rattle.bench_core.specs.Spelling.{circuit_text as gates_text};
 ghost use Rattle.bench_core.specs.Bench.{bench_format};
+ghost use Rattle.bench_core.specs.Writable.{IsBenchCircuit};
 ghost use Rattle.improve_settings.specs.Improve.{IsInRange};
 ghost use Rattle.improve_windows.specs.Report.{report_text};
 ghost use Rattle.improve_windows.specs.ReportLaws.{CanBeWritten};
@@ -64,9 +65,10 @@ fn text_of(alloc: Global, document: &Document) -> Result<Vec<u8>, AllocError>
     Ok(text)
 }
 
-/// The BENCH text of a circuit, by the document as which BLIF would write it.
+/// The BENCH text of a circuit that BENCH can say, by the document as which BLIF would write it.
 fn gates_of(alloc: Global, circuit: &Circuit, document: &Document) -> Result<Vec<u8>, AllocError>
-    requires { document.now ≡ written circuit.now }
+    requires fits { IsBenchCircuit circuit.now }
+    requires document { document.now ≡ written circuit.now }
     ensures { IfOk result (λ text. text.items ≡ gates_text circuit.now) }
 {
     let mut text = Vec::new(alloc);

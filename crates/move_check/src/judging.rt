@@ -35,6 +35,7 @@ fn is_fit(net: &Net, candidate: &Net, basis: Basis) -> bool
     ensures { result ≡ true → IsFit (members basis) net.now candidate.now }
 {
     candidate.sources() == net.sources()
+        && candidate.sinks().len() == net.sinks().len()
         && candidate.gates().len() <= net.gates().len()
         && are_small(net, candidate)
         && has_operators_within(net, candidate, basis)
@@ -47,7 +48,7 @@ fn is_fit(net: &Net, candidate: &Net, basis: Basis) -> bool
 pub fn judged<S: Solver>(
     alloc: Global,
     net: &Net,
-    candidate: Net,
+    candidate: &Net,
     basis: Basis,
     budget: u32,
 ) -> Result<Option<Net>, AllocError>
@@ -55,10 +56,11 @@ pub fn judged<S: Solver>(
     ensures pruned { IfOk result (λ found. IfSome found (IsPruned net.now)) }
     ensures operators { IfOk result (λ found. IfSome found (HasOperatorsWithin (members basis) net.now)) }
 {
-    if !is_fit(net, &candidate, basis) {
+    let lean = drop_dead(alloc, candidate)?;
+    if !is_fit(net, &lean, basis) {
         return Ok(None);
     }
-    let judged = with_sinks_of(alloc, net, candidate)?;
+    let judged = with_sinks_of(alloc, net, lean)?;
     // bring the type invariants into the proof
     let _gates = net.gates();
     let _sinks = judged.sinks();

@@ -9,7 +9,7 @@
 //! with operators of the basis or of the net.
 //!
 //! ```text
-//! match judged::<S>(alloc, &net, candidate, basis, 100000)? {
+//! match judged::<S>(alloc, &net, &candidate, basis, 100000)? {
 //!     Some(better) => ..,   // answers what `net` answers
 //!     None => ..,           // it isn't equivalent, or not found so within the budget, or has more gates
 //! }

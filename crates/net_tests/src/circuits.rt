@@ -2,6 +2,7 @@
 
 use crate::refusals::names;
 use bench_core::{read_bench, write_bench};
+use bench_laws::circuits_of_texts_can_be_written;
 use std::alloc::{AllocError, Global};
 
 /// Whether the circuit of `bytes` is written as `wanted`.
@@ -16,6 +17,7 @@ fn is_written(alloc: Global, bytes: &[u8], wanted: &[u8]) -> Result<bool, AllocE
             return Ok(false);
         }
     };
+    circuits_of_texts_can_be_written();
     let mut text = Vec::new(alloc);
     write_bench(&circuit, &mut text)?;
     Ok(text.as_slice() == wanted)

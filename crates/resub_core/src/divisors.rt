@@ -1,4 +1,4 @@
-//! The divisors of a target: nodes of its region that neither depend on it nor go with it, each function, up
+//! The divisors of a target: nodes of its region that neither depend on it nor are left out, each function, up
 //! to complement, once.
 
 use crate::region::Region;
@@ -79,7 +79,7 @@ impl Divisors {
         Ok(())
     }
 
-    /// Takes in fanouts of a slot that don't go with the target.
+    /// Takes in fanouts of a slot that aren't left out.
     fn take_readers(
         &mut self,
         xag: &Xag,
@@ -98,7 +98,7 @@ impl Divisors {
     }
 
     /// Finds the divisors in a region that was set up, and in the gates beside it, among the nodes below `end`.
-    /// `cone` goes with the target.
+    /// The gates of `cone` are left out: the target, and those that go with it.
     pub fn find(
         &mut self,
         xag: &Xag,

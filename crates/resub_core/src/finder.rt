@@ -15,6 +15,9 @@ use xag_core::{Context, Edit, Random, Xag, rebuild};
 /// The most rebuilt gates that trials of one search may cost.
 const MOST_WORK: usize = 40_000;
 
+/// The least cone of which gates may be read again.
+const LEAST_CONE: usize = 3;
+
 /// How a target may change: by how many new gates, and whether the graph may keep its size.
 #[derive(Clone, Copy)]
 pub struct Terms {
@@ -141,6 +144,38 @@ impl Finder {
         }
     }
 
+    /// Searches with rising numbers of new gates, over divisors without the gates that go with the target, or with them
+    /// where `inside`. Of those that are read again less is saved, which shows when the graph is rebuilt.
+    fn search_over(
+        &mut self,
+        alloc: Global,
+        xag: &Xag,
+        context: &Context,
+        target: u32,
+        inside: bool,
+        terms: Terms,
+    ) -> Result<Option<Xag>, AllocError>
+        ensures { IfOk result (λ other. IfSome other (IsNoLarger xag.now)) }
+    {
+        let apart = if inside { 1 } else { self.cone.len() };
+        let left_out = self.cone.get(..apart).unwrap_or(&[]);
+        self.divisors
+            .find(xag, context, &mut self.region, left_out, u32::MAX)?;
+        let saved = (self.cone.len() as u64).min(1000) as u32;
+        let kept = if inside { 1u32 } else { 0 };
+        let most = if terms.is_level {
+            saved
+        } else {
+            saved.saturating_sub(1 + kept)
+        };
+        for gates in kept..=terms.new_gates.min(most).min(2) {
+            if let Some(other) = self.search_with(alloc, xag, target, gates, terms)? {
+                return Ok(Some(other));
+            }
+        }
+        Ok(None)
+    }
+
     /// Searches in the region of the target, with its tail where `with_tail`.
     fn search_region(
         &mut self,
@@ -156,20 +191,11 @@ impl Finder {
         if !self.region.set_up(alloc, xag, context, target, with_tail)? {
             return Ok(None);
         }
-        self.divisors
-            .find(xag, context, &mut self.region, &self.cone, u32::MAX)?;
-        let saved = (self.cone.len() as u64).min(1000) as u32;
-        let most = if terms.is_level {
-            saved
-        } else {
-            saved.saturating_sub(1)
-        };
-        for gates in 0..=terms.new_gates.min(most).min(2) {
-            if let Some(other) = self.search_with(alloc, xag, target, gates, terms)? {
-                return Ok(Some(other));
-            }
+        let found = self.search_over(alloc, xag, context, target, false, terms)?;
+        if found.is_some() || terms.is_level || self.cone.len() < LEAST_CONE {
+            return Ok(found);
         }
-        Ok(None)
+        self.search_over(alloc, xag, context, target, true, terms)
     }
 
     /// A graph in which the target is replaced, as the terms allow.

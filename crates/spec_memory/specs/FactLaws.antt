@@ -1,17 +1,17 @@
 -- Facts of keys.
-use Rattle.std.proofs.Common.{◌≡◌, ℕ, nat_eq, arith, true, false, cond, List, [], ◌∷◌, ◌++◌, length, Some, refl, sym, ap, ◌∙◌, subst, ⊎_elim}
+use Rattle.std.proofs.Common.{◌≡◌, ℕ, nat_eq, arith, true, cond, List, [], ◌∷◌, ◌++◌, length, Some, refl, sym, ap, ◌∙◌, subst, inl, inr}
 use Rattle.std.proofs.lemmas.Grind.{common_steps}
 use Rattle.std.proofs.lemmas.Bool.{cases_Bool, cond-true, cond-false}
 use Rattle.std.proofs.lemmas.List.{length-append}
 use Rattle.std.specs.Prelude.{slice_index}
 use Rattle.std.specs.Cmp.Lexicographic.{pointwise, bytes_decides}
-use Rattle.std.specs.HashMap.{HashMap, get}
+use Rattle.std.specs.Map.{lookup}
 use Rattle.chain_theory.specs.Operator.{Basis}
 use Rattle.chain_theory.specs.Agreement.{NoneBelow}
 use Rattle.op_basis.specs.Basis.{members}
 use Rattle.tt_core.specs.Words.{Words, IsSpec, specification}
 use Rattle.spec_memory.specs.declared.memory.Found.{Found}
-use Rattle.spec_memory.specs.Facts.{spelled, IsFact, HasFacts}
+use Rattle.spec_memory.specs.Facts.{Remembered, spelled, IsFact, HasFacts}
 
 -- ---- keys
 
@@ -46,7 +46,10 @@ known_fact basis v fewest is none = λ w spec same. subst (λ (x : Words). NoneB
 pub nothing_known : (basis : Basis) (key : List ℕ) (fewest : ℕ) → fewest ≡ 0 → IsFact basis key fewest
 nothing_known basis key fewest none = λ w spec same q low has. absurd (omega (arith, low, none))
 
--- ---- the map
+-- ---- the memory
+
+abbrev pub remembered : ℕ → List (List ℕ × Found) → Remembered
+remembered basis entries = record { basis = basis; entries = entries }
 
 some_same : (x y : Found) → Some x ≡ Some y → x ≡ y
 some_same x y e = cc
@@ -54,13 +57,16 @@ some_same x y e = cc
 same_key : (a b : List ℕ) → pointwise nat_eq a b ≡ true → a ≡ b
 same_key a b e = (bytes_decides a b).0 e
 
-pub noted_facts : {S : Type 0} (basis : ℕ) (old new : HashMap (List ℕ) Found S) (key : List ℕ) (found : Found) → HasFacts basis old → IsFact (members basis) key found.fewest → ((q : List ℕ) → get (pointwise nat_eq) new q ≡ cond (pointwise nat_eq key q) (Some found) (get (pointwise nat_eq) old q)) → HasFacts basis new
-noted_facts basis old new key found facts fact updates = λ other seen at. ⊎_elim
-    (λ (same : pointwise nat_eq key other ≡ true).
-    let there : Some found ≡ Some seen = sym (cond-true (pointwise nat_eq key other) (Some found) (get (pointwise nat_eq) old other) same) ∙ sym (updates other) ∙ at in
-    subst (λ (k : List ℕ). IsFact (members basis) k seen.fewest) (same_key key other same) (subst (λ (f : Found). IsFact (members basis) key f.fewest) (some_same found seen there) fact))
-    (λ (apart : pointwise nat_eq key other ≡ false).
-    facts other seen (sym (cond-false (pointwise nat_eq key other) (Some found) (get (pointwise nat_eq) old other) apart) ∙ sym (updates other) ∙ at))
-    (cases_Bool (pointwise nat_eq key other))
+-- each key has what an update gives it
+abbrev pub Updated : List (List ℕ × Found) → List (List ℕ × Found) → List ℕ → Found → Type 0
+Updated old new key found = (q : List ℕ) → lookup (pointwise nat_eq q) new ≡ cond (pointwise nat_eq key q) (Some found) (lookup (pointwise nat_eq q) old)
+
+pub noted_facts : (basis : ℕ) (old new : List (List ℕ × Found)) (key : List ℕ) (found : Found) → HasFacts (remembered basis old) → IsFact (members basis) key found.fewest → Updated old new key found → HasFacts (remembered basis new)
+noted_facts basis old new key found facts fact updates = λ other seen at. elim (cases_Bool (pointwise nat_eq key other)) [
+  | inl same ↦
+      let there : Some found ≡ Some seen = sym (cond-true (pointwise nat_eq key other) (Some found) (lookup (pointwise nat_eq other) old) same) ∙ sym (updates other) ∙ at in
+      subst (λ (k : List ℕ). IsFact (members basis) k seen.fewest) (same_key key other same) (subst (λ (f : Found). IsFact (members basis) key f.fewest) (some_same found seen there) fact)
+  | inr apart ↦ facts other seen (sym (cond-false (pointwise nat_eq key other) (Some found) (lookup (pointwise nat_eq other) old) apart) ∙ sym (updates other) ∙ at)
+]
 
 pub ruleset remembering = (common_steps, nothing_known)

@@ -1,7 +1,8 @@
 -- What a result cache may claim about a specification.
-use Rattle.std.specs.Prelude.{◌≡◌, ℕ, nat_eq, List, ◌∷◌, ◌++◌, Some}
+use Rattle.std.specs.Prelude.{◌≡◌, ℕ, nat_eq, Bool, false, List, ◌∷◌, ◌++◌, Option, None, Some}
 use Rattle.std.specs.Cmp.Lexicographic.{pointwise}
-use Rattle.std.specs.HashMap.{HashMap, get}
+use Rattle.std.specs.Map.{lookup}
+use Rattle.chain_theory.specs.Chain.{Chain}
 use Rattle.chain_theory.specs.Operator.{Basis}
 use Rattle.chain_theory.specs.Agreement.{NoneBelow}
 use Rattle.op_basis.specs.Basis.{members}
@@ -19,6 +20,35 @@ spelled w = (w.n ∷ w.on) ++ w.care
 abbrev pub IsFact : Basis → List ℕ → ℕ → Type 0
 IsFact basis key fewest = (w : Words) → IsSpec w → spelled w ≡ key → NoneBelow (specification w) basis fewest
 
--- What is found at a key is a lower bound.
-abbrev pub HasFacts : {S : Type 0} → ℕ → HashMap (List ℕ) Found S → Type 0
-HasFacts basis map = (key : List ℕ) (found : Found) → get (pointwise nat_eq) map key ≡ Some found → IsFact (members basis) key found.fewest
+-- What a memory has: its basis, and what was noted last with each key.
+pub record Remembered : Type 0 where
+  pub basis : ℕ
+  pub entries : List (List ℕ × Found)
+
+-- what was noted with a key
+abbrev pub found_at : Remembered → List ℕ → Option Found
+found_at m key = lookup (pointwise nat_eq key) m.entries
+
+-- what is found at each key is a lower bound
+abbrev pub HasFacts : Remembered → Type 0
+HasFacts m = (key : List ℕ) (found : Found) → found_at m key ≡ Some found → IsFact (members m.basis) key found.fewest
+
+-- the lower bound that was noted, and 0 where nothing was
+abbrev pub fewest_of : Option Found → ℕ
+fewest_of None = 0
+fewest_of (Some found) = found.fewest
+
+-- the chain that was noted, if one was
+abbrev pub chain_of : Option Found → Option Chain
+chain_of None = None
+chain_of (Some found) = found.chain
+
+-- whether a search that was left open was noted
+abbrev pub open_of : Option Found → Bool
+open_of None = false
+open_of (Some found) = found.open
+
+-- The new memory has what was found at the key, and at each other key what the old one has.
+pub record IsNoted (old new : Remembered) (key : List ℕ) (found : Found) : Type 0 where
+  pub here : found_at new key ≡ Some found
+  pub others : (other : List ℕ) → (other ≡ key → ⊥) → found_at new other ≡ found_at old other

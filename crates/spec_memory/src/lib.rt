@@ -1,8 +1,8 @@
 //! A cache of results by specification, over a basis: a lower bound of the steps of a chain that agrees, and a chain.
 //!
-//! The words of `tt_core`'s specifications are the keys. What a memory claims is true whatever its
-//! user asks: the `fewest` of a key is a lower bound, below which no chain over the memory's basis
-//! agrees. About its chains it claims nothing; whoever takes one has to judge it.
+//! The words of `tt_core`'s specifications are the keys. What was noted with a key is found at it until something else is
+//! noted there. The `fewest` of a key is a lower bound, below which no chain over the memory's basis agrees. About its
+//! chains it claims nothing else; whoever takes one has to judge it.
 //!
 //! ```text
 //! let key = Key::of(alloc, &spec)?;

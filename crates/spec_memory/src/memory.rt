@@ -1,7 +1,8 @@
 //! The cache: a map from the keys to what was found.
-ghost use Rattle.std.specs.Prelude.{◌≡◌};
+ghost use Rattle.std.specs.Prelude.{◌≡◌, ℕ, List, None, OnOk, OnErr};
+ghost use Rattle.std.specs.Option.{option_copied};
 ghost use Rattle.op_basis.specs.Basis.{members};
-ghost use Rattle.spec_memory.specs.Facts.{IsFact};
+ghost use Rattle.spec_memory.specs.Facts.{IsFact, IsNoted, found_at, fewest_of, chain_of, open_of};
 
 use crate::key::Key;
 use chain_core::Chain;
@@ -19,8 +20,7 @@ pub struct Found {
     pub open: bool,
 }
 
-/// What was found for specifications over a basis. Contracts see the basis alone: the entries
-/// aren't part of the value, but each answer is proved.
+/// What was found for specifications over a basis. Contracts see the basis and what was noted with each key.
 #[derive(Drop)]
 pub struct Memory {
     basis: Basis,
@@ -28,21 +28,21 @@ pub struct Memory {
 }
 
 impl Model for Memory {
-    ghost use Rattle.std.specs.Prelude.{ℕ};
-    ghost use Rattle.spec_memory.specs.Facts.{HasFacts};
+    ghost use Rattle.spec_memory.specs.Facts.{Remembered, HasFacts};
 
-    ghost Value = { ℕ };
+    ghost Value = { Remembered };
 
-    ghost view = { λ m. m.basis };
+    ghost view = { λ m. record { basis = m.basis; entries = m.found.entries } };
 
-    ghost invariant = { λ m. HasFacts m.basis m.found };
+    ghost invariant = { λ m. HasFacts (record { basis = m.basis; entries = m.found.entries }) };
 }
 
 impl Memory {
     /// An empty memory for a basis.
     #[tactic(auto, using(crate::specs::FactLaws::remembering))]
     pub fn new(alloc: Global, basis: Basis) -> Memory
-        ensures { result ≡ basis }
+        ensures basis { result.basis ≡ basis }
+        ensures empty { (key : List ℕ) → found_at result key ≡ None }
     {
         Memory {
             basis,
@@ -50,10 +50,12 @@ impl Memory {
         }
     }
 
-    /// A lower bound: no chain of fewer steps over the basis agrees with the specification of `key`.
+    /// A lower bound: no chain of fewer steps over the basis agrees with the specification of `key`. It is the one that was
+    /// noted with the key, or 0.
     #[tactic(auto, using(crate::specs::FactLaws::remembering))]
     pub fn fewest(&self, key: &Key) -> u32
-        ensures { IsFact (members self.now) key.now result }
+        ensures fact { IsFact (members self.now.basis) key.now result }
+        ensures noted { result ≡ fewest_of (found_at self.now key.now) }
     {
         match self.found.get(key) {
             Some(found) => found.fewest,
@@ -61,28 +63,36 @@ impl Memory {
         }
     }
 
-    /// A chain that was noted with the key, if there is one.
-    pub fn chain(&self, key: &Key) -> Option<&Chain> {
+    /// The chain that was noted with the key, if one was.
+    #[tactic(auto, using(crate::specs::FactLaws::remembering))]
+    pub fn chain(&self, key: &Key) -> Option<&Chain>
+        ensures { option_copied result ≡ chain_of (found_at self.now key.now) }
+    {
         match self.found.get(key) {
             Some(found) => found.chain.as_ref(),
             None => None,
         }
     }
 
-    /// Whether a search that was noted with the key was left open. This says nothing about chains.
-    pub fn is_open(&self, key: &Key) -> bool {
+    /// Whether a search that was left open was noted with the key. This says nothing about chains.
+    #[tactic(auto, using(crate::specs::FactLaws::remembering))]
+    pub fn is_open(&self, key: &Key) -> bool
+        ensures { result ≡ open_of (found_at self.now key.now) }
+    {
         match self.found.get(key) {
             Some(found) => found.open,
             None => false,
         }
     }
 
-    /// Notes what was found for the specification of a key: no chain of fewer than `found.fewest`
-    /// steps agrees.
+    /// Notes what was found for the specification of a key, in place of what was noted before: no chain of fewer than
+    /// `found.fewest` steps agrees.
     #[tactic(auto, using(crate::specs::FactLaws::remembering))]
     pub fn note(&mut self, key: Key, found: Found) -> Result<(), AllocError>
-        requires { IsFact (members self.old) key found.fewest }
-        ensures { self.new ≡ self.old }
+        requires { IsFact (members self.old.basis) key found.fewest }
+        ensures basis { self.new.basis ≡ self.old.basis }
+        ensures noted { OnOk result (IsNoted self.old self.new key found) }
+        ensures err { OnErr result (self.new ≡ self.old) }
     {
         self.found.insert(key, found)?;
         Ok(())

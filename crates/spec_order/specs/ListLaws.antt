@@ -1,19 +1,13 @@
 -- Orders as lists that grow, and chains by their lists.
-use Rattle.std.proofs.Common.{◌≡◌, ℕ, List, [], ◌∷◌, length, map, refl, sym, ap, ◌∙◌, subst}
-use Rattle.std.specs.Prelude.{All}
+use Rattle.std.proofs.Common.{◌≡◌, ℕ, List, [], ◌∷◌, map, refl, sym, ap, ◌∙◌, subst}
 use Rattle.std.proofs.lemmas.Grind.{common_steps}
 use Rattle.chain_theory.specs.Chain.{Step, Chain}
 use Rattle.chain_theory.specs.declared.data.Out.{Out}
 use Rattle.chain_laws.specs.Moved.{moved}
 use Rattle.chain_core.specs.declared.step.Step as steps
 use Rattle.chain_core.specs.Steps.{step_of, steps_of, IsSmallChain}
-use Rattle.spec_order.specs.Order.{IsInput, IsOrder}
+use Rattle.spec_order.specs.Order.{IsOrder}
 use Rattle.spec_order.specs.OrderLaws.{placed, placed_input, placed_step, turned_steps, turned_out, turned_chain, small_stands}
-
-pub is_order : (n : ℕ) (order : List ℕ) → length order ≡ n → All (IsInput n) order → IsOrder n order
-is_order n order size inputs = record { size = size; inputs = inputs }
-
-pub ruleset ordering = (common_steps, is_order)
 
 -- ---- steps as the program holds them
 

@@ -16,6 +16,16 @@ pub record IsOrder (n : ℕ) (order : List ℕ) : Type 0 where
 abbrev pub number : List ℕ → ℕ → ℕ
 number order j = slice_index order (j - 1)
 
+-- No two inputs get one number: the order is a permutation of the inputs.
+pub record IsPermuting (n : ℕ) (order : List ℕ) : Type 0 where
+  pub numbers : IsOrder n order
+  pub different : (i j : ℕ) → 1 ≤ i → i < j → j ≤ n → number order i ≡ number order j → ⊥
+
+-- An order gives each new number of another one the input back that has it.
+-- Example: 2 ∷ 3 ∷ 1 ∷ [] goes back by 3 ∷ 1 ∷ 2 ∷ [].
+pub record GoesBack (n : ℕ) (order back : List ℕ) : Type 0 where
+  pub each : (j : ℕ) → 1 ≤ j → j ≤ n → number back (number order j) ≡ j
+
 -- the row that gives input j the bit that row t gives the input of its new number
 abbrev pub turned_row : ℕ → List ℕ → ℕ → ℕ
 turned_row n order t = row_of n (λ j. input n t (number order j))

@@ -11,7 +11,7 @@ use Rattle.chain_theory.specs.Rows.{row_digit, row_low}
 use Rattle.chain_theory.specs.Specification.{Specification, input}
 use Rattle.chain_theory.specs.Chain.{Step, Chain, IsStepAt, AreSteps, NamesPlace, IsChain}
 use Rattle.chain_theory.specs.Value.{values_on, out_value}
-use Rattle.chain_theory.specs.Agreement.{is_met, output_value, HasChain, NoneBelow}
+use Rattle.chain_theory.specs.Agreement.{is_met, output_value, IsOver, Agrees, HasChain, NoneBelow}
 use Rattle.chain_theory.specs.declared.data.Out.{Out}
 use Rattle.chain_theory.specs.declared.data.Out.TheVariants.{Zero, One, Place}
 use Rattle.chain_laws.specs.Follow.{input_value, step_is, values_are}
@@ -128,27 +128,35 @@ value_turned order c is chain h t from low =
     ∙ out_same c.n order last new old (λ p p_from p_low. sym (turned_values c.n order c.steps is chain.steps t p p_from (omega arith))) o (out_named last h (length c.outs) c.outs refl from low chain.outs)
     ∙ sym (out_value_is c (turned_row c.n order t) o)
 
+pub over_turned : (order : List ℕ) (c : Chain) (basis : Basis) → IsOver basis c → IsOver basis (turned_chain order c)
+over_turned order c basis over = All-map (λ (s : Step). basis s.op ≡ true) (moved (placed c.n order)) c.steps over
+
+pub size_turned : (order : List ℕ) (c : Chain) → length (turned_steps c.n order c.steps) ≡ length c.steps
+size_turned order c = length-map c.steps (moved (placed c.n order))
+
+pub agrees_turned : (s r : Specification) (order : List ℕ) (c : Chain) → IsOrder c.n order → IsTurned s r order → IsChain c → Agrees c s → Agrees (turned_chain order c) r
+agrees_turned s r order c is turned chain agrees = record {
+  inputs = agrees.inputs ∙ sym turned.inputs;
+  outputs = length-map c.outs (turned_out c.n order) ∙ agrees.outputs ∙ sym turned.outputs;
+  cells = λ h t from low row.
+      let inside : h ≤ s.outputs = omega (arith, low, turned.outputs) in
+      let below : t < 2 ^ s.inputs = subst (λ (n : ℕ). t < 2 ^ n) turned.inputs row in
+      let there : turned_row c.n order t < 2 ^ s.inputs = subst (λ (n : ℕ). turned_row c.n order t < 2 ^ n) agrees.inputs (row_low (λ j. input c.n t (number order j)) c.n) in
+      ap (λ (b : Bool). is_met (r.cell h t) b) (value_turned order c is chain h t from (omega (arith, inside, agrees.outputs)))
+      ∙ ap (λ k. is_met k (output_value c h (turned_row c.n order t))) (turned.cell h t from inside below ∙ sym (ap (λ (n : ℕ). s.cell h (turned_row n order t)) agrees.inputs))
+      ∙ agrees.cells h (turned_row c.n order t) from inside there;
+}
+
 pub chain_turned : (s r : Specification) (order : List ℕ) (basis : Basis) (q : ℕ) → IsOrder s.inputs order → IsTurned s r order → HasChain s basis q → HasChain r basis q
 chain_turned s r order basis q is_order turned has =
     let c : Chain = has.chain in
-    let same : c.n ≡ s.inputs = has.agrees.inputs in
-    let is : IsOrder c.n order = subst (λ (n : ℕ). IsOrder n order) (sym same) is_order in
+    let is : IsOrder c.n order = subst (λ (n : ℕ). IsOrder n order) (sym has.agrees.inputs) is_order in
     record {
       chain = turned_chain order c;
       is_chain = chain_stands order c is has.is_chain;
-      size = length-map c.steps (moved (placed c.n order)) ∙ has.size;
-      is_over = All-map (λ (s : Step). basis s.op ≡ true) (moved (placed c.n order)) c.steps has.is_over;
-      agrees = record {
-        inputs = same ∙ sym turned.inputs;
-        outputs = length-map c.outs (turned_out c.n order) ∙ has.agrees.outputs ∙ sym turned.outputs;
-        cells = λ h t from low row.
-            let inside : h ≤ s.outputs = omega (arith, low, turned.outputs) in
-            let below : t < 2 ^ s.inputs = subst (λ (n : ℕ). t < 2 ^ n) turned.inputs row in
-            let there : turned_row c.n order t < 2 ^ s.inputs = subst (λ (n : ℕ). turned_row c.n order t < 2 ^ n) same (row_low (λ j. input c.n t (number order j)) c.n) in
-            ap (λ (b : Bool). is_met (r.cell h t) b) (value_turned order c is has.is_chain h t from (omega (arith, inside, has.agrees.outputs)))
-            ∙ ap (λ k. is_met k (output_value c h (turned_row c.n order t))) (turned.cell h t from inside below ∙ sym (ap (λ (n : ℕ). s.cell h (turned_row n order t)) same))
-            ∙ has.agrees.cells h (turned_row c.n order t) from inside there;
-      };
+      size = size_turned order c ∙ has.size;
+      is_over = over_turned order c basis has.is_over;
+      agrees = agrees_turned s r order c is turned has.is_chain has.agrees;
     }
 
 pub none_turned : (s r : Specification) (order : List ℕ) (basis : Basis) (k : ℕ) → IsOrder s.inputs order → IsTurned s r order → NoneBelow r basis k → NoneBelow s basis k

@@ -2,8 +2,8 @@
 //! become one: a canonical form under input permutation (of P-classes), as far as counts of minterms tell inputs apart.
 //!
 //! It stands on `tt_core` for specifications and on `chain_laws` for chains whose places are renamed. The one law: a
-//! specification has a chain of `q` steps over a basis where it has one of `q` with its inputs in any order. Which
-//! order is the normal one is no part of any promise.
+//! specification has a chain of `q` steps over a basis where it has one of `q` with its inputs in any order. The normal
+//! order is a permutation, and its inverse goes back; which permutation it is is no part of any promise.
 //!
 //! ```text
 //! let order = normal_order(alloc, &spec)?;

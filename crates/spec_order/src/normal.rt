@@ -1,7 +1,9 @@
 //! The normal order of inputs: by counts of rows, their signatures, that don't depend on the numbers of the inputs. It decides how often two
 //! specifications become one, and nothing else.
 ghost use Rattle.std.specs.Prelude.{◌≡◌, ◌<◌, ◌≤◌, length, IfOk};
-ghost use Rattle.spec_order.specs.Order.{IsInput, IsOrder};
+ghost use Rattle.spec_order.specs.Order.{IsInput, IsOrder, IsPermuting, GoesBack};
+ghost use Rattle.spec_order.specs.Ranks.{comes_before as comes_before_of, rank as rank_of};
+ghost use Rattle.spec_order.specs.Permuting.{IsPlaceOf};
 
 use op_basis::input_word;
 use std::alloc::{AllocError, Global};
@@ -71,49 +73,63 @@ fn weights(alloc: Global, spec: &Spec) -> Result<Vec<u64>, AllocError>
     Ok(weights)
 }
 
-/// How many weights come before that at `index`: smaller ones, and equal ones at smaller indices.
-fn rank(weights: &[u64], index: usize) -> u32
-    requires { index < length weights.now }
+/// Whether the weight at `other` comes before that at `index`: it is smaller, or it is equal and stands before.
+#[tactic(auto, unfolding(crate::specs::Ranks::comes_before))]
+fn comes_before(weights: &[u64], index: u32, other: u32) -> bool
+    requires index { index < length weights.now }
+    requires other { other < length weights.now }
+    ensures { result ≡ comes_before_of weights.now index other }
+{
+    let own = weights[index as usize];
+    let weight = weights[other as usize];
+    weight < own || (weight == own && other < index)
+}
+
+/// How many weights come before that at `index`.
+#[tactic(auto, using(crate::specs::Ranks::ranking))]
+fn rank(weights: &[u64], index: u32) -> u32
+    requires few { length weights.now ≤ 6 }
+    requires index { index < length weights.now }
+    ensures rank { result ≡ rank_of weights.now index }
+    ensures low { result < length weights.now }
 {
     let mut rank = 0u32;
-    for other in 0..weights.len() {
-        let less = weights[other] < weights[index];
-        let equal = weights[other] == weights[index] && other < index;
-        if less || equal {
-            rank = rank.saturating_add(1);
-        }
+    for other in 0..weights.len() as u32 {
+        rank += u32::from(comes_before(weights, index, other));
     }
     rank
 }
 
-/// The new number of an input of `n`.
-fn new_number(weights: &[u64], before: u32, n: u32) -> u32
-    requires inputs { length weights.now ≡ n }
-    requires input { before < n }
-    ensures { IsInput n result }
+/// The numbers that stand for weights: each weight's rank, counted from 1.
+#[tactic(auto, using(crate::specs::Permuting::permuting))]
+fn ranked(alloc: Global, weights: &[u64]) -> Result<Vec<u32>, AllocError>
+    requires { length weights.now ≤ 6 }
+    ensures { IfOk result (λ order. IsPermuting (length weights.now) order.items) }
 {
-    rank(weights, before as usize).min(n - 1) + 1
-}
-
-/// The normal order: each input by its new number.
-#[tactic(auto, using(crate::specs::ListLaws::ordering))]
-pub fn normal_order(alloc: Global, spec: &Spec) -> Result<Vec<u32>, AllocError>
-    ensures { IfOk result (λ order. IsOrder spec.now.n order.items) }
-{
-    let n = spec.n();
-    let weights = weights(alloc, spec)?;
     let mut order = Vec::with_capacity(alloc, MOST_INPUTS as usize)?;
-    for before in 0..n {
-        order.push(new_number(&weights, before, n))?;
+    for before in 0..weights.len() as u32 {
+        order.push(rank(weights, before) + 1)?;
     }
     Ok(order)
 }
 
+/// The normal order: each input by its new number.
+pub fn normal_order(alloc: Global, spec: &Spec) -> Result<Vec<u32>, AllocError>
+    ensures { IfOk result (λ order. IsPermuting spec.now.n order.items) }
+{
+    // brings the specification's invariant into the proof
+    let _inputs = spec.n();
+    let weights = weights(alloc, spec)?;
+    Ok(ranked(alloc, &weights)?)
+}
+
 /// Where a number stands in an order, counted from 1; the number itself where it stands nowhere.
+#[tactic(auto, using(crate::specs::Permuting::permuting))]
 fn place_of(order: &[u32], number: u32) -> u32
     requires few { length order.now ≤ 6 }
     requires number { IsInput (length order.now) number }
-    ensures { IsInput (length order.now) result }
+    ensures input { IsInput (length order.now) result }
+    ensures place { IsPlaceOf order.now number result }
 {
     for before in 0..order.len() as u32 {
         if order[before as usize] == number {
@@ -124,10 +140,11 @@ fn place_of(order: &[u32], number: u32) -> u32
 }
 
 /// The order that goes back.
-#[tactic(auto, using(crate::specs::ListLaws::ordering))]
+#[tactic(auto, using(crate::specs::Permuting::permuting))]
 pub fn inverse(alloc: Global, order: &[u32]) -> Result<Vec<u32>, AllocError>
     requires { length order.now ≤ 6 }
-    ensures { IfOk result (λ back. IsOrder (length order.now) back.items) }
+    ensures order { IfOk result (λ back. IsOrder (length order.now) back.items) }
+    ensures back { IfOk result (λ back. IsPermuting (length order.now) order.now → GoesBack (length order.now) order.now back.items) }
 {
     let n = order.len() as u32;
     let mut back = Vec::with_capacity(alloc, MOST_INPUTS as usize)?;

@@ -7,8 +7,20 @@ use Rattle.net_theory.specs.Dead.{dropped}
 use Rattle.improve_settings.specs.declared.improve.ImproveSettings.{ImproveSettings}
 use Rattle.sweep_core.specs.Settled.{IsSettled}
 use Rattle.sweep_core.specs.Undecided.{Undecided, visits, IsUndecided}
+use Rattle.sweep_core.specs.Outcomes.{Leads}
 use Rattle.sweep_core.specs.Visits.{IsRising}
 use Rattle.net_theory.specs.Operators.{HasOperatorsWithin}
+
+-- m is left of n by a sweep of n, or of a net that n leads to. Settled, no window up to the cap has a shorter chain for
+-- what the settings ask of it, but for those that are named, each once and in the order of visits, and each of these is
+-- undecided by a certificate. Else as many gates have gone as there were rounds, and none is named.
+pub record Sweeps (s : ImproveSettings) (n m : Net) (settled : Bool) (undecided : List Undecided) : Type 0 where
+  pub leads : Leads (members s.basis) n m
+  pub settled_is : settled ≡ true → IsSettled s m (visits undecided)
+  pub undecided_are : All (IsUndecided m s) undecided
+  pub rising : IsRising (visits undecided)
+  pub stopped : settled ≡ false → length m.gates + s.rounds ≤ length n.gates
+  pub none_named : settled ≡ false → undecided ≡ []
 
 -- m is left of n by the settings. It answers what n answers, with no more gates, and some sink reads each of its
 -- gates; each operator is of the basis or of n. Settled, no window up to the cap has a shorter chain for what the

@@ -1,14 +1,29 @@
-//! A net improved: dead gates go, and then the sweep tries its windows.
-ghost use Rattle.std.specs.Prelude.{IfOk};
+//! A net improved: dead gates go, moves over the whole net make it smaller, and then the sweep tries its windows.
+ghost use Rattle.std.specs.Prelude.{◌≤◌, IfOk, IfSome};
+ghost use Rattle.op_basis.specs.Basis.{members};
+ghost use Rattle.net_theory.specs.Answers.{IsPruned};
 ghost use Rattle.improve_settings.specs.Improve.{IsInRange};
-ghost use Rattle.window_trial.specs.Improvement.{Leaves};
+ghost use Rattle.sweep_core.specs.Outcomes.{Leads};
+ghost use Rattle.window_trial.specs.Improvement.{Sweeps, Leaves};
 
 use crate::trying::WindowTrial;
 use improve_settings::ImproveSettings;
 use net_core::{Net, drop_dead};
+use restructure::restructured;
 use sat_solve::Solver;
 use std::alloc::{AllocError, Global};
 use sweep_core::{Swept, Undecided, sweep};
+
+/// A net of fewer gates is left to windows, where no rounds of moves are asked for.
+const LEAST_MOVED: usize = 9;
+
+/// And so is one of more, since moves over it take minutes.
+const MOST_MOVED: usize = 3000;
+
+/// How often moves follow windows at most, and up to how many gates.
+const MOST_TURNS: u32 = 8;
+
+const MANY_GATES: usize = 10_000;
 
 /// What is left of a net.
 #[derive(Drop)]
@@ -20,8 +35,100 @@ pub struct ImprovedNet {
     pub undecided: Vec<Undecided>,
 }
 
-/// Drops the dead gates of a net, and then puts shorter chains in the place of windows, until no window up to
-/// the cap has one, or `settings.rounds` rounds have changed something.
+/// Puts shorter chains in the place of windows of a net, until no window up to the cap has one, or `settings.rounds`
+/// rounds have changed something.
+#[tactic(auto, using(crate::specs::ImprovementLaws::improving))]
+fn swept<S: Solver>(
+    alloc: Global,
+    net: Net,
+    settings: &ImproveSettings,
+) -> Result<ImprovedNet, AllocError>
+    requires range { IsInRange settings.now }
+    requires cap { 1 ≤ settings.now.cap }
+    ensures { IfOk result (λ left. Sweeps settings.now net left.net left.settled left.undecided.items) }
+{
+    let mut trial = WindowTrial::<S>::new(alloc, net, *settings)?;
+    let Swept { settled, undecided } = sweep(alloc, &mut trial)?;
+    Ok(ImprovedNet {
+        net: trial.into_net(),
+        settled,
+        undecided,
+    })
+}
+
+/// Whether a net is restructured: where rounds of moves are asked for, and else from a few gates on, of which windows
+/// see all, up to some thousands.
+fn is_moved(net: &Net, effort: u32) -> bool {
+    let gates = net.gates().len();
+    effort > 0 || (LEAST_MOVED <= gates && gates <= MOST_MOVED)
+}
+
+/// How often moves follow windows.
+fn turns_of(net: &Net) -> u32 {
+    if net.gates().len() > MANY_GATES {
+        0
+    } else {
+        MOST_TURNS
+    }
+}
+
+/// A smaller net by moves over the whole net, if they find one.
+#[tactic(auto, using(crate::specs::ImprovementLaws::improving))]
+fn moved<S: Solver>(
+    alloc: Global,
+    net: &Net,
+    settings: &ImproveSettings,
+    effort: u32,
+) -> Result<Option<Net>, AllocError>
+    ensures { IfOk result (λ found. IfSome found (Leads (members settings.now.basis) net.now)) }
+{
+    if !is_moved(net, settings.effort) {
+        return Ok(None);
+    }
+    match restructured::<S>(alloc, net, settings.basis, effort)? {
+        Some(smaller) => Ok(Some(smaller)),
+        None => Ok(None),
+    }
+}
+
+/// The net after moves over the whole net, or as it is.
+#[tactic(auto, using(crate::specs::ImprovementLaws::improving))]
+fn begun<S: Solver>(alloc: Global, net: Net, settings: &ImproveSettings) -> Result<Net, AllocError>
+    ensures { IfOk result (Leads (members settings.now.basis) net) }
+{
+    match moved::<S>(alloc, &net, settings, settings.effort)? {
+        Some(smaller) => Ok(smaller),
+        None => Ok(net),
+    }
+}
+
+/// Moves over the whole net, and then windows, by turns: as long as the moves find a smaller net after the windows, and a
+/// few times at most, once where the net is large.
+#[tactic(auto, using(crate::specs::ImprovementLaws::improving))]
+fn improved<S: Solver>(
+    alloc: Global,
+    net: Net,
+    settings: &ImproveSettings,
+) -> Result<ImprovedNet, AllocError>
+    requires range { IsInRange settings.now }
+    requires cap { 1 ≤ settings.now.cap }
+    requires itself { IsPruned net net }
+    ensures { IfOk result (λ left. Sweeps settings.now net left.net left.settled left.undecided.items) }
+{
+    let best = begun::<S>(alloc, net, settings)?;
+    let mut left = swept::<S>(alloc, best, settings)?;
+    let turns = turns_of(&left.net);
+    for _turn in 0..turns {
+        match moved::<S>(alloc, &left.net, settings, 0)? {
+            None => break,
+            Some(smaller) => left = swept::<S>(alloc, smaller, settings)?,
+        }
+    }
+    Ok(left)
+}
+
+/// Drops the dead gates of a net, makes it smaller by moves over the whole net, and then puts shorter chains in the place
+/// of windows, until no window up to the cap has one, or `settings.rounds` rounds have changed something.
 #[tactic(auto, using(crate::specs::ImprovementLaws::improving))]
 pub fn improve_net<S: Solver>(
     alloc: Global,
@@ -41,11 +148,6 @@ pub fn improve_net<S: Solver>(
             undecided: Vec::new(alloc),
         });
     }
-    let mut trial = WindowTrial::<S>::new(alloc, tidy, settings)?;
-    let Swept { settled, undecided } = sweep(alloc, &mut trial)?;
-    Ok(ImprovedNet {
-        net: trial.into_net(),
-        settled,
-        undecided,
-    })
+    let left = improved::<S>(alloc, tidy, &settings)?;
+    Ok(left)
 }

@@ -36,9 +36,9 @@ impl<S> Model for WindowTrial<S> {
 
     ghost Value = { Trying };
 
-    ghost view = { λ t. record { settings = t.settings; net = t.net; readers = t.readers; basis = t.memory } };
+    ghost view = { λ t. record { settings = t.settings; net = t.net; readers = t.readers; basis = t.memory.basis } };
 
-    ghost invariant = { λ t. IsTrying (record { settings = t.settings; net = t.net; readers = t.readers; basis = t.memory }) };
+    ghost invariant = { λ t. IsTrying (record { settings = t.settings; net = t.net; readers = t.readers; basis = t.memory.basis }) };
 }
 
 /// Whether a window of a net has a shorter chain, by a heading that asks for what the settings ask of it.
@@ -54,9 +54,9 @@ fn decide_window<S: Solver>(
     requires readers { AreReaders net.now readers.now }
     requires belongs { Belongs net.now window.now }
     requires range { IsInRange settings }
-    requires basis { memory.old ≡ settings.basis }
+    requires basis { memory.old.basis ≡ settings.basis }
     ensures decided { IfOk result (λ decided. IsDecidedFor settings net.now window.now decided) }
-    ensures basis { memory.new ≡ memory.old }
+    ensures basis { memory.new.basis ≡ memory.old.basis }
 {
     let max = window.gates().len() as u32 - 1;
     let spec = asked_spec(alloc, net, readers, window, settings.observe)?;
@@ -95,9 +95,9 @@ fn try_window<S: Solver>(
     requires readers { AreReaders net.now readers.now }
     requires belongs { Belongs net.now window.now }
     requires range { IsInRange settings }
-    requires basis { memory.old ≡ settings.basis }
+    requires basis { memory.old.basis ≡ settings.basis }
     ensures outcome { (visit : VisitValue) → IsWindow net.now visit.root visit.partner visit.count window.now → IsListed net.now settings.cap visit → IfOk result (λ outcome. IsOutcome settings net.now visit outcome) }
-    ensures basis { memory.new ≡ memory.old }
+    ensures basis { memory.new.basis ≡ memory.old.basis }
 {
     // brings the type invariant into the proof
     let _gates = net.gates();
@@ -125,9 +125,9 @@ fn try_visit<S: Solver>(
     requires gate { IsGate net.now visit.root }
     requires from { 1 ≤ visit.count }
     requires to { visit.count ≤ settings.cap }
-    requires basis { memory.old ≡ settings.basis }
+    requires basis { memory.old.basis ≡ settings.basis }
     ensures outcome { IfOk result (λ outcome. IsOutcome settings net.now visit outcome) }
-    ensures basis { memory.new ≡ memory.old }
+    ensures basis { memory.new.basis ≡ memory.old.basis }
 {
     // brings the type invariant into the proof
     let _gates = net.gates();

@@ -3,9 +3,9 @@
 //! the constant 0, the sources come next and then the gates.
 //!
 //! What stands on this crate searches for smaller graphs and promises nothing of their values: each
-//! graph that it finds is judged afterwards by an equivalence check. What is proved here is that every
-//! graph is one (operands stand below their gate), that calls end, and that a graph which is rebuilt has
-//! the sources and the number of sinks that it had.
+//! graph that it finds is judged afterwards by an equivalence check (`move_check`). What is proved here is
+//! that every graph is one (operands stand below their gate), that calls end, and that a graph which is
+//! rebuilt has the sources and the number of sinks that it had.
 //!
 //! ```text
 //! let xag = from_net(alloc, &net)?;
@@ -28,8 +28,9 @@ mod xag;
 pub use builder::Builder;
 pub use context::Context;
 pub use edit::{Edit, NONE};
+pub use net_builder::NetBuilder;
 pub use net_in::from_net;
-pub use net_out::into_net;
+pub use net_out::{into_net, operator};
 pub use random::Random;
 pub use rows::{at, bit_at, put, raise};
 pub use walk::rebuild;

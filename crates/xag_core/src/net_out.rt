@@ -31,8 +31,8 @@ fn is_turned(turned: &[bool], literal: u32) -> bool {
     bit_at(turned, literal >> 1) != (literal & 1 == 1)
 }
 
-/// The operator of a gate, by which operands it reads complemented and whether it is made complemented.
-fn operator(gate: XagGate, first: bool, second: bool, all: bool) -> Op {
+/// The operator of a gate, by which operands it reads complemented and whether it is made complemented (`all`).
+pub fn operator(gate: XagGate, first: bool, second: bool, all: bool) -> Op {
     if gate.is_xor {
         let is_odd = (first != second) != all;
         return Op::with_values(is_odd, !is_odd, !is_odd, is_odd);

@@ -1,22 +1,54 @@
 -- Counting holds of the turned tables too, and what they have none of the others have none of.
-use Rattle.std.specs.Prelude.{ℕ, List}
-use Rattle.std.proofs.Common.{sym, subst}
-use Rattle.op_basis.specs.Basis.{members}
+use Rattle.std.proofs.Common.{ℕ, List, sym, subst}
 use Rattle.cert_theory.specs.declared.data.Heading.{Heading}
 use Rattle.spec_order.specs.Order.{IsOrder}
-use Rattle.decide_core.specs.Decided.{Fewer, IsSized}
-use Rattle.decide_core.specs.RememberedLaws.{found_none}
-use Rattle.decide_core.specs.OrderedLaws.{least_turned}
+use Rattle.decide_core.specs.Decided.{Fewer, HasNone, IsSized}
+use Rattle.decide_core.specs.Ordered.{IsTurnedTo}
+use Rattle.decide_core.specs.RememberedLaws.{found_none, found_shorter}
+use Rattle.decide_core.specs.OrderedLaws.{turned_to, turned_from, fewer_turned, least_turned, chain_ordered}
 use Rattle.decide_core.proofs.ordering.decide_turned.Goals as goal
 
 pub decide_sizes-requires-clause-fewer : goal.decide_sizes-requires-clause-fewer
 decide_sizes-requires-clause-fewer g c =
-    subst (λ (h : Heading). Fewer h c.lower_bound-counted.result) (sym c.new.ensures)
-    (λ q low has. c.lower_bound-counted.ensures.none_below (members c.in_ok-turned.turned.basis) q low has)
+    subst (λ (h : Heading). Fewer h c.args.counted) (sym c.new-asked.ensures)
+    (fewer_turned c.in_ok-turned.turned c.args.question.heading.now c.in_ok-back.back.items c.args.counted
+    (turned_from c.args.question.heading.now c.in_ok-turned.turned c.args.order.now c.in_ok-back.back.items c.requires.order c.in_ok-back.ensures.order c.in_ok-back.ensures.back c.in_ok-turned.ensures.turned c.in_ok-turned.ensures.basis c.in_ok-turned.ensures.max)
+    c.requires.fewer)
 
 pub returns-in-Nothing-clause-decided : goal.returns-in-Nothing-clause-decided
 returns-in-Nothing-clause-decided g c =
-    least_turned c.args.question.heading.now c.in_ok-turned.turned c.deref.result.now (subst (λ (order : List ℕ). IsOrder c.args.question.heading.now.spec.n order) (sym c.deref.ensures.value) c.in_ok-order.ensures) c.in_ok-turned.ensures.turned c.in_ok-turned.ensures.basis c.in_ok-turned.ensures.max
+    least_turned c.args.question.heading.now c.in_ok-turned.turned c.args.order.now
+    (turned_to c.args.question.heading.now c.in_ok-turned.turned c.args.order.now c.requires.order c.in_ok-turned.ensures.turned c.in_ok-turned.ensures.basis c.in_ok-turned.ensures.max)
     (found_none c.in_ok-turned.turned c.in_ok-decide_sizes.field-0
-    (subst (λ (h : Heading). IsSized h c.in_ok-decide_sizes.field-0) c.new.ensures c.in_ok-decide_sizes.ensures.sized)
+    (subst (λ (h : Heading). IsSized h c.in_ok-decide_sizes.field-0) c.new-asked.ensures c.in_ok-decide_sizes.ensures.sized)
     c.in-Nothing.is)
+
+pub search_open-requires-clause-turned : goal.search_open-requires-clause-turned
+search_open-requires-clause-turned g c =
+    subst (λ (h : Heading). IsTurnedTo c.args.question.heading.now h c.args.order.now) (sym c.new-asked.ensures)
+    (turned_to c.args.question.heading.now c.in_ok-turned.turned c.args.order.now c.requires.order c.in_ok-turned.ensures.turned c.in_ok-turned.ensures.basis c.in_ok-turned.ensures.max)
+
+pub search_open-requires-clause-least : goal.search_open-requires-clause-least
+search_open-requires-clause-least g c = λ none.
+    subst HasNone (sym c.new-asked.ensures)
+    (least_turned c.in_ok-turned.turned c.args.question.heading.now c.in_ok-back.back.items
+    (turned_from c.args.question.heading.now c.in_ok-turned.turned c.args.order.now c.in_ok-back.back.items c.requires.order c.in_ok-back.ensures.order c.in_ok-back.ensures.back c.in_ok-turned.ensures.turned c.in_ok-turned.ensures.basis c.in_ok-turned.ensures.max)
+    none)
+
+pub reordered-requires : goal.reordered-requires
+reordered-requires g c =
+    subst (λ (order : List ℕ). IsOrder c.in-Found.chain.n order) (sym c.deref.ensures.value)
+    (chain_ordered c.in_ok-turned.turned c.args.question.heading.now c.in_ok-back.back.items c.in-Found.chain
+    (turned_from c.args.question.heading.now c.in_ok-turned.turned c.args.order.now c.in_ok-back.back.items c.requires.order c.in_ok-back.ensures.order c.in_ok-back.ensures.back c.in_ok-turned.ensures.turned c.in_ok-turned.ensures.basis c.in_ok-turned.ensures.max)
+    (found_shorter c.in_ok-turned.turned c.in_ok-decide_sizes.field-0 c.in-Found.chain c.in-Found.low
+    (subst (λ (h : Heading). IsSized h c.in_ok-decide_sizes.field-0) c.new-asked.ensures c.in_ok-decide_sizes.ensures.sized)
+    c.in-Found.is))
+
+pub returns-clause-decided : goal.returns-clause-decided
+returns-clause-decided g c =
+    c.in_ok-reordered-in-Found.ensures c.in_ok-turned.turned c.args.question.heading.now
+    (subst (λ (order : List ℕ). IsTurnedTo c.in_ok-turned.turned c.args.question.heading.now order) (sym c.deref.ensures.value)
+    (turned_from c.args.question.heading.now c.in_ok-turned.turned c.args.order.now c.in_ok-back.back.items c.requires.order c.in_ok-back.ensures.order c.in_ok-back.ensures.back c.in_ok-turned.ensures.turned c.in_ok-turned.ensures.basis c.in_ok-turned.ensures.max))
+    (found_shorter c.in_ok-turned.turned c.in_ok-decide_sizes.field-0 c.in-Found.chain c.in-Found.low
+    (subst (λ (h : Heading). IsSized h c.in_ok-decide_sizes.field-0) c.new-asked.ensures c.in_ok-decide_sizes.ensures.sized)
+    c.in-Found.is)

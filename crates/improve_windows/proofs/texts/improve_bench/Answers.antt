@@ -1,5 +1,5 @@
 use Rattle.bench_core.specs.Bench.{bench_format}
-use Rattle.improve_windows.specs.ImprovingLaws.{err_complete, bench_improved}
+use Rattle.improve_windows.specs.ImprovingLaws.{err_complete, bench_fits, bench_improved}
 use Rattle.improve_windows.proofs.texts.improve_bench.Goals as goal
 
 pub returns-in_err-circuit-clause-complete : goal.returns-in_err-circuit-clause-complete
@@ -10,3 +10,7 @@ returns-clause-improved g c =
     bench_improved c.args.settings c.args.bytes.now _ _ c.in_ok-circuit.circuit c.in_ok-improved.field-0.improved.circuit _ _ _ _ c.bench_is_a_format.ensures c.circuits_cost_the_same.ensures c.requires.basis c.in_ok-circuit.ensures.circuit c.in_ok-improved.ensures.circuit c.in_ok-improved.ensures.better c.in_ok-improved.ensures.room
     c.in_ok-text.ensures
     c.in_ok-report.ensures
+
+pub gates_of-requires-clause-fits : goal.gates_of-requires-clause-fits
+gates_of-requires-clause-fits g c =
+    bench_fits c.args.settings c.args.bytes.now c.in_ok-circuit.circuit c.in_ok-improved.field-0.improved.circuit _ _ _ _ c.bench_is_a_format.ensures c.requires.basis c.in_ok-circuit.ensures.circuit c.in_ok-improved.ensures.circuit c.in_ok-improved.ensures.better c.in_ok-improved.ensures.room

@@ -8,10 +8,10 @@ equal_nets-requires-clause-comparable g c = comparable_nets c.args.net.now c.in_
 
 pub returns-clause-pruned : goal.returns-clause-pruned
 returns-clause-pruned g c =
-    let fit : IsFit (members c.args.basis) c.args.net.now c.args.candidate = c.is_fit.ensures c.if-not-is_fit.false in
-    judged_is (members c.args.basis) c.args.net.now c.args.candidate c.in_ok-judged.judged c.in_ok-drop_dead.field-0 fit c.sinks-sinks.ensures.net c.in_ok-judged.ensures.gates c.in_ok-judged.ensures.sinks (c.in_ok-same.ensures c.if-not-same.false) c.in_ok-drop_dead.ensures.pruned
+    let fit : IsFit (members c.args.basis) c.args.net.now c.in_ok-lean.lean = c.is_fit.ensures c.if-not-is_fit.false in
+    judged_is (members c.args.basis) c.args.net.now c.in_ok-lean.lean c.in_ok-judged.judged c.in_ok-drop_dead.field-0 fit c.sinks-sinks.ensures.net c.in_ok-judged.ensures.gates c.in_ok-judged.ensures.sinks (c.in_ok-same.ensures.same c.if-not-same.false) c.in_ok-drop_dead.ensures.pruned
 
 pub returns-clause-operators : goal.returns-clause-operators
 returns-clause-operators g c =
-    let fit : IsFit (members c.args.basis) c.args.net.now c.args.candidate = c.is_fit.ensures c.if-not-is_fit.false in
-    judged_operators (members c.args.basis) c.args.net.now c.args.candidate c.in_ok-judged.judged c.in_ok-drop_dead.field-0 c.sinks-sinks.ensures.net fit.operators c.in_ok-judged.ensures.gates c.in_ok-drop_dead.ensures.exact
+    let fit : IsFit (members c.args.basis) c.args.net.now c.in_ok-lean.lean = c.is_fit.ensures c.if-not-is_fit.false in
+    judged_operators (members c.args.basis) c.args.net.now c.in_ok-lean.lean c.in_ok-judged.judged c.in_ok-drop_dead.field-0 c.sinks-sinks.ensures.net fit.operators c.in_ok-judged.ensures.gates c.in_ok-drop_dead.ensures.exact

@@ -2,10 +2,10 @@ use Rattle.cdcl_core.proofs.UnderWay.{searching_scoped, visited_scoped, restarte
 use Rattle.cdcl_core.proofs.search.Search.begin_probe.Goals as goal
 
 pub returns-clause-searching : goal.returns-clause-searching
-returns-clause-searching c = searching_scoped c.descend.new.self c.open_targets.new.scope c.descend.ensures.searching
+returns-clause-searching c = searching_scoped c.descend.new.self c.allow_work.new.scope c.descend.ensures.searching
 
 pub returns-clause-visited : goal.returns-clause-visited
-returns-clause-visited c = visited_scoped c.descend.new.self c.open_targets.new.scope c.descend.ensures.visited
+returns-clause-visited c = visited_scoped c.descend.new.self c.allow_work.new.scope c.descend.ensures.visited
 
 pub returns-clause-restarted : goal.returns-clause-restarted
-returns-clause-restarted c = restarted_scoped c.args.self.now c.descend.new.self c.open_targets.new.scope c.descend.ensures.restarted
+returns-clause-restarted c = restarted_scoped c.args.self.now c.descend.new.self c.allow_work.new.scope c.descend.ensures.restarted

@@ -1,9 +1,9 @@
-use Rattle.std.proofs.Common.{ℕ, sym, subst}
-use Rattle.op_basis.specs.Basis.{members}
-use Rattle.spec_memory.specs.Facts.{IsFact}
+-- What is found is a lower bound.
+use Rattle.std.proofs.Common.{sym, ap, ◌∙◌, subst}
+use Rattle.spec_memory.specs.Facts.{Remembered, HasFacts, found_at}
 use Rattle.spec_memory.proofs.memory.Memory.fewest.Goals as goal
 
-pub returns-in-Some : goal.returns-in-Some
-returns-in-Some c =
-    subst (λ (b : ℕ). IsFact (members b) c.args.key.now c.in-Some.found.now.fewest) c.self.view_is
-    (c.self.invariant c.args.key.now c.in-Some.found.now (sym c.in-Some.ensures.value))
+pub returns-in-Some-clause-fact : goal.returns-in-Some-clause-fact
+returns-in-Some-clause-fact c =
+    (subst (λ (m : Remembered). HasFacts m) c.self.view_is c.self.invariant) c.args.key.now c.in-Some.found.now
+    (ap (λ (m : Remembered). found_at m c.args.key.now) (sym c.self.view_is) ∙ sym c.in-Some.ensures.value)

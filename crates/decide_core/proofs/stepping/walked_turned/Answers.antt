@@ -1,0 +1,27 @@
+-- What the turned tables have none of the others have none of, and a chain is turned back.
+use Rattle.std.proofs.Common.{ℕ, List, sym, subst}
+use Rattle.spec_order.specs.Order.{IsOrder}
+use Rattle.decide_core.specs.Ordered.{IsTurnedTo}
+use Rattle.decide_core.specs.OrderedLaws.{turned_to, turned_from, least_turned, chain_ordered}
+use Rattle.decide_core.specs.StepLaws.{none_known, some_known}
+use Rattle.decide_core.proofs.stepping.walked_turned.Goals as goal
+
+pub returns-in-None-clause-decided : goal.returns-in-None-clause-decided
+returns-in-None-clause-decided c =
+    least_turned c.args.question.heading.now c.in_ok-turned.turned c.args.order.now
+    (turned_to c.args.question.heading.now c.in_ok-turned.turned c.args.order.now c.requires.order c.in_ok-turned.ensures.turned c.in_ok-turned.ensures.basis c.in_ok-turned.ensures.max)
+    (none_known _ c.in_ok-turned.turned c.in_ok-known_steps.field-0 c.new.ensures c.in-None.is c.in_ok-known_steps.ensures.none)
+
+pub reordered-requires : goal.reordered-requires
+reordered-requires c =
+    subst (λ (order : List ℕ). IsOrder c.in-Some.chain.n order) (sym c.deref.ensures.value)
+    (chain_ordered c.in_ok-turned.turned c.args.question.heading.now c.in_ok-back.back.items c.in-Some.chain
+    (turned_from c.args.question.heading.now c.in_ok-turned.turned c.args.order.now c.in_ok-back.back.items c.requires.order c.in_ok-back.ensures.order c.in_ok-back.ensures.back c.in_ok-turned.ensures.turned c.in_ok-turned.ensures.basis c.in_ok-turned.ensures.max)
+    (some_known _ c.in_ok-turned.turned c.in_ok-known_steps.field-0 c.in-Some.chain c.new.ensures c.in-Some.is c.in_ok-known_steps.ensures.some))
+
+pub returns-clause-decided : goal.returns-clause-decided
+returns-clause-decided c =
+    c.in_ok-reordered-in-Some.ensures c.in_ok-turned.turned c.args.question.heading.now
+    (subst (λ (order : List ℕ). IsTurnedTo c.in_ok-turned.turned c.args.question.heading.now order) (sym c.deref.ensures.value)
+    (turned_from c.args.question.heading.now c.in_ok-turned.turned c.args.order.now c.in_ok-back.back.items c.requires.order c.in_ok-back.ensures.order c.in_ok-back.ensures.back c.in_ok-turned.ensures.turned c.in_ok-turned.ensures.basis c.in_ok-turned.ensures.max))
+    (some_known _ c.in_ok-turned.turned c.in_ok-known_steps.field-0 c.in-Some.chain c.new.ensures c.in-Some.is c.in_ok-known_steps.ensures.some)

@@ -1,0 +1,53 @@
+//! Candidates for a net's place, judged by the miter of both.
+
+use blif_core::{Circuit, read_blif};
+use cdcl_core::Cdcl;
+use move_check::judged;
+use op_basis::Basis;
+use std::alloc::Global;
+
+/// The circuit of a short text.
+fn circuit(alloc: Global, text: &[u8]) -> Option<Circuit> {
+    if text.len() > 1000 {
+        return None;
+    }
+    match read_blif(alloc, text) {
+        Ok(circuit) => Some(circuit),
+        Err(_) => None,
+    }
+}
+
+/// How many gates are left of a candidate that may stand in a net's place; none where it may not, or a text is no
+/// netlist.
+fn left(alloc: Global, net: &[u8], candidate: &[u8], basis: u16) -> Option<usize> {
+    let net = circuit(alloc, net)?;
+    let candidate = circuit(alloc, candidate)?;
+    match judged::<Cdcl>(alloc, &net.net, &candidate.net, Basis::new(basis), 1000) {
+        Ok(Some(better)) => Some(better.gates().len()),
+        _ => None,
+    }
+}
+
+/// XOR by three gates.
+const LONG: &[u8] =
+    b".inputs a b\n.outputs y\n.names a b p\n10 1\n.names a b q\n01 1\n.names p q y\n1- 1\n-1 1\n.end\n";
+
+/// XOR by one gate, beside one that nothing reads.
+const SHORT: &[u8] =
+    b".inputs a b\n.outputs y\n.names a b y\n10 1\n01 1\n.names a b p\n11 1\n.end\n";
+
+/// OR.
+const OTHER: &[u8] = b".inputs a b\n.outputs y\n.names a b y\n1- 1\n-1 1\n.end\n";
+
+#[test]
+fn candidates_are_judged(rt: HostRuntime) {
+    let alloc = rt.alloc();
+    let smaller = left(alloc, LONG, SHORT, 64);
+    assert!(rt; smaller == Some(1));
+    let beyond_the_basis = left(alloc, LONG, SHORT, 16_384);
+    assert!(rt; beyond_the_basis == None);
+    let not_equivalent = left(alloc, LONG, OTHER, 128);
+    assert!(rt; not_equivalent == None);
+    let larger = left(alloc, SHORT, LONG, 65_535);
+    assert!(rt; larger == None);
+}

@@ -1,0 +1,153 @@
+//! A graph as a net of some operators alone. Which gates are made complemented (their polarity) is chosen so that most
+//! gates have one of the operators: with AND, OR and their complements both operands of a gate are read alike, which is
+//! a relation between the polarities of two nodes. Where it can't be had an operand goes through a NOT gate.
+
+use crate::parities::Parities;
+use net_core::{Net, Op, Sig};
+use op_basis::Basis;
+use std::alloc::{AllocError, Global};
+use xag_core::{NetBuilder, Xag, XagGate, at, bit_at, operator, put};
+
+/// The net as it grows. By nodes: whether each is made complemented, its place, and the place of its complement, 0 where
+/// there is none.
+#[derive(Drop)]
+struct Making {
+    net: NetBuilder,
+    allowed: Basis,
+    turned: Vec<bool>,
+    places: Vec<u32>,
+    opposites: Vec<u32>,
+}
+
+/// Which nodes are made complemented.
+fn turned_nodes(alloc: Global, xag: &Xag) -> Result<Vec<bool>, AllocError> {
+    let mut parities = Parities::new(alloc, xag.nodes())?;
+    for source in 1..=xag.sources() {
+        parities.unite(0, source.wrapping_mul(2));
+    }
+    for sink in xag.sinks() {
+        parities.unite(0, *sink);
+    }
+    for gate in xag.gates() {
+        if !gate.is_xor {
+            parities.unite(gate.first, gate.second);
+        }
+    }
+    let mut turned = Vec::with_capacity(alloc, xag.nodes() as usize)?;
+    for node in 0..xag.nodes() {
+        turned.push(parities.first(node.wrapping_mul(2)) & 1 == 1)?;
+    }
+    Ok(turned)
+}
+
+/// An operator that complements, over an operand that is read twice.
+fn negation(allowed: Basis) -> Op {
+    for word in [12, 10, 14, 8] {
+        if allowed.contains(Op::new(word)) {
+            return Op::new(word);
+        }
+    }
+    Op::new(12)
+}
+
+impl Making {
+    /// Whether a literal is the complement of what stands at its node's place.
+    fn is_turned(&self, literal: u32) -> bool {
+        bit_at(&self.turned, literal >> 1) != (literal & 1 == 1)
+    }
+
+    /// The place of a node, or of its complement.
+    fn place_of(&mut self, node: u32, is_opposite: bool) -> Result<u32, AllocError> {
+        let place = at(&self.places, node);
+        if !is_opposite {
+            return Ok(place);
+        }
+        let known = at(&self.opposites, node);
+        if known != 0 {
+            return Ok(known);
+        }
+        let opposite = self.net.append(negation(self.allowed), place, place)?;
+        put(&mut self.opposites, node, opposite);
+        Ok(opposite)
+    }
+
+    /// Which operands of a gate go through a NOT gate, so that its operator is allowed; none where that doesn't help.
+    fn opposed(&self, gate: XagGate, all: bool) -> (bool, bool) {
+        let first = self.is_turned(gate.first);
+        let second = self.is_turned(gate.second);
+        for (a, b) in [(false, false), (false, true), (true, false), (true, true)] {
+            let op = operator(gate, first != a, second != b, all);
+            if self.allowed.contains(op) {
+                return (a, b);
+            }
+        }
+        (false, false)
+    }
+
+    /// Appends the gate of a node.
+    fn append(&mut self, node: u32, gate: XagGate) -> Result<(), AllocError> {
+        let all = bit_at(&self.turned, node);
+        let (a, b) = self.opposed(gate, all);
+        let first = self.place_of(gate.first >> 1, a)?;
+        let second = self.place_of(gate.second >> 1, b)?;
+        let op = operator(
+            gate,
+            self.is_turned(gate.first) != a,
+            self.is_turned(gate.second) != b,
+            all,
+        );
+        let place = self.net.append(op, first, second)?;
+        put(&mut self.places, node, place);
+        Ok(())
+    }
+
+    /// The signal of a sink.
+    fn sink(&mut self, literal: u32) -> Result<Sig, AllocError> {
+        if literal >> 1 == 0 {
+            return Ok(if literal == 0 { Sig::Zero } else { Sig::One });
+        }
+        let is_opposite = self.is_turned(literal);
+        Ok(Sig::Place(self.place_of(literal >> 1, is_opposite)?))
+    }
+}
+
+/// A net without gates, for a graph.
+fn begun(alloc: Global, xag: &Xag, allowed: Basis) -> Result<Making, AllocError> {
+    let turned = turned_nodes(alloc, xag)?;
+    let mut places = Vec::with_capacity(alloc, xag.nodes() as usize)?;
+    for node in 0..xag.nodes() {
+        places.push(node)?;
+    }
+    let opposites = vec![in alloc; 0u32; xag.nodes() as usize]?;
+    let net = NetBuilder::new(alloc, xag.sources())?;
+    Ok(Making {
+        net,
+        allowed,
+        turned,
+        places,
+        opposites,
+    })
+}
+
+/// The net of a graph, gate by gate, and NOT gates before those that need them. Its operators are of a set where
+/// polarities can bring that about.
+pub(crate) fn net_within(alloc: Global, xag: &Xag, allowed: Basis) -> Result<Net, AllocError> {
+    let mut making = begun(alloc, xag, allowed)?;
+    let mut node = xag.sources().wrapping_add(1);
+    for gate in xag.gates() {
+        making.append(node, *gate)?;
+        node = node.wrapping_add(1);
+    }
+    let mut signals = Vec::with_capacity(alloc, xag.sinks().len())?;
+    for sink in xag.sinks() {
+        signals.push(making.sink(*sink)?)?;
+    }
+    let Making {
+        net,
+        allowed: _,
+        turned: _,
+        places: _,
+        opposites: _,
+    } = making;
+    net.finish(alloc, &signals)
+}

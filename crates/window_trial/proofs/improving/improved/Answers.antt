@@ -1,0 +1,11 @@
+use Rattle.window_trial.specs.ImprovementLaws.{sweeps_on, sweeps_again}
+use Rattle.window_trial.proofs.improving.improved.Goals as goal
+
+pub loop-turn-init : goal.loop-turn-init
+loop-turn-init g c = sweeps_on c.args.settings.now c.args.net c.in_ok-best.best c.in_ok-left.left.net c.in_ok-left.left.settled c.in_ok-left.left.undecided.items c.requires.itself c.in_ok-best.ensures c.in_ok-left.ensures
+
+pub loop-turn-preserved : goal.loop-turn-preserved
+loop-turn-preserved g c =
+    sweeps_again c.args.settings.now c.args.net c.loop-turn.left.net c.in-Some.smaller c.in_ok-left-in-Some.left.net
+    c.loop-turn.left.settled c.in_ok-left-in-Some.left.settled c.loop-turn.left.undecided.items c.in_ok-left-in-Some.left.undecided.items
+    c.requires.itself c.loop-turn.invariant (rw c.in-Some.is at c.in_ok-moved.ensures) c.in_ok-left-in-Some.ensures
