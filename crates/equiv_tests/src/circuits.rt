@@ -269,7 +269,7 @@ const COMPARED: &[(&[u8], &[u8], u32, Wanted)] = &[
     (
         b".inputs a b c d\n.outputs y\n.names a b p\n10 1\n01 1\n.names c d q\n10 1\n01 1\n.names p q y\n10 1\n01 1\n.end\n",
         b".inputs a b c d\n.outputs y\n.names a b p\n10 1\n01 1\n.names p c q\n10 1\n01 1\n.names q d y\n10 1\n01 1\n.end\n",
-        1,
+        10,
         Wanted::Equal,
     ),
     // XOR of six in two orders without equal points, on a budget that is spent
@@ -284,7 +284,7 @@ const COMPARED: &[(&[u8], &[u8], u32, Wanted)] = &[
         b".inputs a b c\n.outputs y\n.names a b p\n11 1\n.names p c y\n01 1\n10 1\n.end\n",
         b".inputs a b c\n.outputs y\n.names a b p\n0- 1\n-0 1\n.names a r\n0 1\n.names a r q\n11 1\n\
             .names p c s\n00 1\n11 1\n.names s q y\n1- 1\n-1 1\n.end\n",
-        1,
+        10,
         Wanted::Equal,
     ),
     // a last sink that differs under one assignment of 8192
