@@ -1,10 +1,15 @@
--- The logs of parts, one part after the other.
-use Rattle.std.proofs.Common.{◌≡◌, ℕ, List, [], ◌∷◌, ◌++◌, map, refl, ap, ◌∙◌}
+-- The logs of parts, one part after the other, and chains found without a formula.
+use Rattle.std.proofs.Common.{◌≡◌, ℕ, ◌≤◌, List, [], ◌∷◌, ◌++◌, length, map, refl, ap, ◌∙◌}
+use Rattle.std.proofs.lemmas.Grind.{common_steps}
 use Rattle.std.proofs.lemmas.List.{map-append}
 use Rattle.std.proofs.lemmas.List.Elements.{All-nil, All-push}
+use Rattle.chain_theory.specs.Chain.{Chain}
+use Rattle.tt_core.specs.Words.{specification}
+use Rattle.op_basis.specs.Basis.{members}
+use Rattle.step_core.specs.Short.{IsShort}
 use Rattle.enc_theory.specs.declared.part.Part.{Part}
 use Rattle.cert_theory.specs.declared.data.Heading.{Heading}
-use Rattle.cert_theory.specs.Bundle.{PartLog, IsPartLog, part_of}
+use Rattle.cert_theory.specs.Bundle.{PartLog, IsPartLog, part_of, IsFound}
 use Rattle.size_loop.specs.Thrift.{IsThriftyLog}
 use Rattle.size_loop.specs.Outcomes.{AreLogged}
 
@@ -25,3 +30,9 @@ logged_more h size parts logs part p are same is thrifty = record {
   ends = All-push (IsPartLog h size) logs p are.ends is;
   thrifty = All-push (IsThriftyLog h size) logs p are.thrifty thrifty;
 }
+
+-- a chain of few steps that agrees, where it has as many as the size says
+pub found_short : (h : Heading) (size : ℕ) (c : Chain) → IsShort (specification h.spec) (members h.basis) size c → length c.steps ≡ size → size ≤ h.max → IsFound h size c
+found_short h size c short count room = record { chain = short.small.chain; size_is = count; size_to = room; over = short.over; agrees = short.agrees }
+
+pub ruleset walking = (common_steps, found_short)

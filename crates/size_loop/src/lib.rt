@@ -13,7 +13,7 @@
 //! ```
 //!
 //! - `trying`: a part, by its formula and the solver.
-//! - `sizes`: a size, part by part.
+//! - `sizes`: a size, by going over steps where they are few, and part by part.
 //! - `advancing`: the search as a value that goes on a size at a time.
 //! - `searching`: the whole search.
 #![tactic(auto)]

@@ -1,7 +1,8 @@
 //! A size, part by part in their order. The first part with a chain ends it; where none has one, there is a log
-//! for each part, in the same order.
-ghost use Rattle.std.specs.Prelude.{◌≤◌, IfOk};
-ghost use Rattle.cert_theory.specs.Bundle.{IsHeading};
+//! for each part, in the same order. A chain of a few steps over few inputs is found by going over steps
+//! (`step_core`), in less time than the formula of its size takes to be written.
+ghost use Rattle.std.specs.Prelude.{◌≤◌, IfOk, IfSome};
+ghost use Rattle.cert_theory.specs.Bundle.{IsHeading, IsFound};
 ghost use Rattle.cert_theory.specs.Coding.{coding_of};
 ghost use Rattle.size_loop.specs.Outcomes.{IsSized};
 ghost use Rattle.size_loop.specs.Coded.{IsCodedBy};
@@ -16,6 +17,12 @@ use enc_ssv::{Plain, Ssv};
 use sat_solve::Solver;
 use settings::Method;
 use std::alloc::{AllocError, Global};
+use step_core::few_steps;
+
+/// The most inputs of tables whose chains are looked for by going over steps.
+const WALKED_INPUTS: u32 = 4;
+/// The most steps that are gone over.
+const WALKED_STEPS: u32 = 3;
 
 /// What a size comes to.
 #[derive(Drop)]
@@ -26,7 +33,24 @@ pub enum SizeOutcome {
     Logged(Section),
 }
 
-/// Searches the parts of `size` in their order with the solver `S`, by the encoding of the heading's method.
+/// A chain of `size` steps, where steps are few and going over them comes to one of that size.
+#[tactic(auto, using(crate::specs::OutcomeLaws::walking))]
+fn walked_chain(alloc: Global, heading: &Heading, size: u32) -> Result<Option<Chain>, AllocError>
+    requires heading { IsHeading heading.now }
+    requires size { size ≤ heading.now.max }
+    ensures { IfOk result (λ found. IfSome found (IsFound heading.now size)) }
+{
+    if heading.spec.n() > WALKED_INPUTS || size > WALKED_STEPS {
+        return Ok(None);
+    }
+    match few_steps(alloc, &heading.spec, heading.basis, size)? {
+        Some(chain) if chain.steps().len() == size as usize => Ok(Some(chain)),
+        _ => Ok(None),
+    }
+}
+
+/// Searches `size`: by going over steps where they are few, then its parts in their order with the solver `S`, by the
+/// encoding of the heading's method.
 #[tactic(auto, unfolding(cert_theory::specs::Coding::coding_of))]
 pub fn search_size<S: Solver>(
     alloc: Global,
@@ -37,6 +61,9 @@ pub fn search_size<S: Solver>(
     requires size { size ≤ heading.now.max }
     ensures { IfOk result (λ outcome. IsSized heading.now size outcome) }
 {
+    if let Some(chain) = walked_chain(alloc, heading, size)? {
+        return Ok(SizeOutcome::Found(chain));
+    }
     match heading.method {
         Method::Plain => search_parts::<S, _>(alloc, &Plain, heading, size),
         Method::Ssv => search_parts::<S, _>(alloc, &Ssv, heading, size),
