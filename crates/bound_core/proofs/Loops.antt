@@ -6,10 +6,9 @@ use Rattle.std.proofs.Math.Pow.{pow_mono}
 use Rattle.std.proofs.Math.Nat.{two-pow-succ}
 use Rattle.chain_theory.specs.Levels as levels
 use Rattle.tt_core.specs.RowLaws.{row_below}
-use Rattle.tt_core.specs.Words.{Words, specification, cell_of}
+use Rattle.tt_core.specs.Words.{Words, specification}
 use Rattle.tt_core.specs.Live.{is_live}
-use Rattle.bound_core.specs.Used.{are_opposite}
-use Rattle.bound_core.specs.Counts.{some_below, count_below, uses, live_uses, is_in_use, parts_on, differ, live_like, is_new}
+use Rattle.bound_core.specs.Counts.{some_below, count_below, uses, live_uses, is_in_use, differ, live_like, is_new}
 use Rattle.bound_core.specs.CountLaws.{passes_some}
 
 -- no number below 0 passes
@@ -64,10 +63,6 @@ unfolding is_in_use live_uses
 in_use_at w before output used live low =
     let both : live_uses (specification w) (before + 1) output ≡ true = rw (used, live) refl in
     sym (passes_some (live_uses (specification w) (before + 1)) (length w.on) output low both)
-
-pub differ_at : (w : Words) (g h t : ℕ) → are_opposite (cell_of w g t) (cell_of w h t) ≡ true → t < 2 ^ w.n → true ≡ differ (specification w) g h
-unfolding differ parts_on
-differ_at w g h t e low = sym (passes_some (parts_on (specification w) g h) (2 ^ w.n) t low e)
 
 pub new_fails : (w : Words) (before earlier : ℕ) → differ (specification w) (earlier + 1) (before + 1) ≡ false → is_live (specification w) (earlier + 1) ≡ true → earlier < before → false ≡ is_new (specification w) before
 unfolding is_new live_like

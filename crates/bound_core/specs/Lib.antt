@@ -5,4 +5,5 @@ pub mod Needed
 pub mod Different
 pub mod CountLaws
 pub mod WordLaws
+pub mod ValueLaws
 pub mod TestLaws

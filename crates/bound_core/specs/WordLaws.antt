@@ -72,7 +72,7 @@ low_is (suc (suc (suc (suc (suc (suc k)))))) low = absurd (omega arith)
 abbrev pub turning_rows : ℕ → ℕ → ℕ → ℕ
 turning_rows on care k = bit_and (bit_and (bit_and care (care / 2 ^ 2 ^ k)) (bit_xor on (on / 2 ^ 2 ^ k))) (low_rows k)
 
-opposite_bits : (care care' on on' : Bool) → ((care && care') && differ on on') ≡ are_opposite (if care then (if on then One else Zero) else Free) (if care' then (if on' then One else Zero) else Free)
+pub opposite_bits : (care care' on on' : Bool) → ((care && care') && differ on on') ≡ are_opposite (if care then (if on then One else Zero) else Free) (if care' then (if on' then One else Zero) else Free)
 opposite_bits false care' on on' = refl
 opposite_bits true false true on' = refl
 opposite_bits true false false on' = refl
@@ -100,11 +100,11 @@ turning_at w h j t few some low inside =
 turning_past : (on care k t : ℕ) → digit care t ≡ false → digit (turning_rows on care k) t ≡ false
 turning_past on care k t e = turning_digit on care k t ∙ rw e refl
 
-not_zero : (word t : ℕ) → digit word t ≡ true → not (word == 0) ≡ true
+pub not_zero : (word t : ℕ) → digit word t ≡ true → not (word == 0) ≡ true
 not_zero zero t e = absurd (true_false (sym e ∙ ap (λ (x : ℕ). x == 1) (bit_at-zero t)))
 not_zero (suc word) t e = grind (arith, common_steps, nat_tests)
 
-is_zero : (word : ℕ) → ((t : ℕ) → digit word t ≡ false) → not (word == 0) ≡ false
+pub is_zero : (word : ℕ) → ((t : ℕ) → digit word t ≡ false) → not (word == 0) ≡ false
 is_zero word none =
     let all : word ≡ 0 = same_from_bits word 0 (λ t. no_digit (bit_at word t) (bit_at-lt word t) (none t) ∙ sym (bit_at-zero t)) in
     ap (λ (x : ℕ). not (x == 0)) all

@@ -1,60 +1,16 @@
-//! The counts, by loops over inputs, outputs and rows; each function computes its definition.
-//! Whether an output uses an input is decided for all rows at once, by its words and the same words
-//! shifted.
-ghost use Rattle.std.specs.Prelude.{◌≡◌, ℕ, ◌+◌, ◌^◌, ◌<◌, ◌≤◌, length};
+//! The counts, by loops over inputs and outputs; each function computes its definition. What they ask of single outputs is
+//! decided for all rows at once (`words`).
+ghost use Rattle.std.specs.Prelude.{◌≡◌, ℕ, ◌+◌, ◌<◌, ◌≤◌, length};
 ghost use Rattle.chain_theory.specs.Operator.{Basis};
 ghost use Rattle.chain_theory.specs.Levels.{greatest};
 ghost use Rattle.chain_theory.specs.Agreement.{HasChain};
-ghost use Rattle.tt_core.specs.Live.{is_live as is_live_of};
 ghost use Rattle.tt_core.specs.Words.{specification};
-ghost use Rattle.bound_core.specs.Used.{are_opposite as are_opposite_of};
-ghost use Rattle.bound_core.specs.WordLaws.{low_rows as low_rows_of, turning_rows as turning_rows_of};
 ghost use Rattle.bound_core.specs.Counts.{count_below};
-ghost use Rattle.bound_core.specs.Counts.{uses as uses_of, inputs_of, is_in_use as is_in_use_of};
-ghost use Rattle.bound_core.specs.Counts.{live_next, differ as differ_of, is_new as is_new_of, single, fewest};
+ghost use Rattle.bound_core.specs.Counts.{inputs_of, is_in_use as is_in_use_of};
+ghost use Rattle.bound_core.specs.Counts.{live_next, is_new as is_new_of, single, fewest};
 
-use op_basis::input_word;
-use tt_core::{Cell, Spec, row, trivial};
-
-/// Whether one cell is 0 and the other 1.
-fn are_opposite(a: Cell, b: Cell) -> bool
-    ensures { result ≡ are_opposite_of a b }
-{
-    match (a, b) {
-        (Cell::Zero, Cell::One) | (Cell::One, Cell::Zero) => true,
-        _ => false,
-    }
-}
-
-/// The rows whose digit of 2^k is 0.
-fn low_rows(k: u32) -> u64
-    requires { k < 6 }
-    ensures { result ≡ low_rows_of k }
-{
-    !input_word(k)
-}
-
-/// The rows t whose digit of 2^k is 0, where rows t and t + 2^k are specified and have different
-/// values.
-#[tactic(auto, using(crate::proofs::Loops::shifting))]
-fn turning_rows(on: u64, care: u64, k: u32) -> u64
-    requires { k < 6 }
-    ensures { result ≡ turning_rows_of on care k }
-{
-    let step = 1u32 << k;
-    care & (care >> step) & (on ^ (on >> step)) & low_rows(k)
-}
-
-/// Whether output `h` uses input `j`.
-fn uses(spec: &Spec, h: u32, j: u32) -> bool
-    requires output { (1 ≤ h) × (h ≤ length spec.now.on) }
-    requires input { (1 ≤ j) × (j ≤ spec.now.n) }
-    ensures { result ≡ uses_of (specification spec.now) h j }
-{
-    let k = spec.n() - j;
-    let output = (h - 1) as usize;
-    turning_rows(spec.on()[output], spec.care()[output], k) != 0
-}
+use crate::words::{differ, is_live, uses};
+use tt_core::Spec;
 
 /// How many inputs output `h` uses.
 #[tactic(auto, using(crate::proofs::Loops::counting), unfolding(crate::specs::Counts::uses_next))]
@@ -68,18 +24,6 @@ fn inputs_of_output(spec: &Spec, h: u32) -> u32
         count += u32::from(uses(spec, h, before + 1));
     }
     count
-}
-
-/// Whether output `h` is live.
-#[tactic(auto, unfolding(tt_core::specs::Live::is_live))]
-fn is_live(spec: &Spec, h: u32) -> bool
-    requires { (1 ≤ h) × (h ≤ length spec.now.on) }
-    ensures { result ≡ is_live_of (specification spec.now) h }
-{
-    match trivial(spec, h) {
-        None => true,
-        Some(_) => false,
-    }
 }
 
 /// How many outputs are live.
@@ -121,21 +65,6 @@ fn inputs_in_use(spec: &Spec) -> u32
         count += u32::from(is_in_use(spec, before));
     }
     count
-}
-
-/// Whether outputs `g` and `h` differ.
-#[tactic(auto, using(crate::proofs::Loops::passing), unfolding(crate::specs::Counts::differ, crate::specs::Counts::parts_on))]
-fn differ(spec: &Spec, g: u32, h: u32) -> bool
-    requires first { (1 ≤ g) × (g ≤ length spec.now.on) }
-    requires second { (1 ≤ h) × (h ≤ length spec.now.on) }
-    ensures { result ≡ differ_of (specification spec.now) g h }
-{
-    for t in 0..1u32 << spec.n() {
-        if are_opposite(row(spec, g, t), row(spec, h, t)) {
-            return true;
-        }
-    }
-    false
 }
 
 /// Whether output `before` + 1 is live and differs from each live output before it.

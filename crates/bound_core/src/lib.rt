@@ -18,5 +18,7 @@
 
 mod bound;
 pub mod laws;
+mod words;
 
 pub use bound::lower_bound;
+pub use words::uses;

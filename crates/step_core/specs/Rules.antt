@@ -1,4 +1,4 @@
--- What a basis allows a walk to leave out.
+-- What a basis allows a walk to leave out, and what the walk ends at.
 use Rattle.std.specs.Prelude.{◌≡◌, ℕ, Bool}
 use Rattle.op_basis.specs.Basis.{members}
 use Rattle.op_basis.specs.Closed.{swap_closed, polarity_closed, const_closed}
@@ -8,3 +8,8 @@ pub record AreRules (basis : ℕ) (rises normal constants : Bool) : Type 0 where
   pub rising : rises ≡ swap_closed (members basis)
   pub having : normal ≡ polarity_closed (members basis)
   pub leaving : constants ≡ const_closed (members basis)
+
+-- the operators of a walk, and whether it ends at the first steps that serve
+pub record Ruled : Type 0 where
+  pub basis : ℕ
+  pub whole : Bool

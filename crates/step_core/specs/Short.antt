@@ -6,7 +6,14 @@ use Rattle.chain_theory.specs.Specification.{Specification}
 use Rattle.chain_theory.specs.Agreement.{IsOver, Agrees, NoneBelow}
 use Rattle.chain_core.specs.Steps.{IsSmallChain}
 
--- a chain over the basis that agrees, of at most as many steps as the number says, where none of fewer steps does
+-- a chain over the basis that agrees, of at most as many steps as the number says
+pub record IsFitting (s : Specification) (basis : Basis) (most : ℕ) (c : Chain) : Type 0 where
+  pub small : IsSmallChain c
+  pub few : length c.steps ≤ most
+  pub over : IsOver basis c
+  pub agrees : Agrees c s
+
+-- such a chain, where none of fewer steps than it has is one
 -- Example: NOT of one input over NAND alone is the step j = 1, k = 1, op = 14 with the out Place 2.
 pub record IsShort (s : Specification) (basis : Basis) (most : ℕ) (c : Chain) : Type 0 where
   pub small : IsSmallChain c

@@ -17,8 +17,8 @@ use Rattle.bound_core.specs.Counts.{some_below}
 use Rattle.bound_core.specs.CountLaws.{some_passes}
 use Rattle.chain_core.specs.Steps.{steps_of, IsSmallChain}
 use Rattle.chain_core.specs.declared.step.Step as held
-use Rattle.step_core.specs.Short.{IsShort}
-use Rattle.step_core.specs.Steps.{IsServing, misses, meets_at, is_met, is_missing, all_met}
+use Rattle.step_core.specs.Short.{IsShort, IsFitting}
+use Rattle.step_core.specs.Steps.{IsServing, AreOver, misses, meets_at, is_met, is_missing, all_met}
 use Rattle.step_core.specs.Trails.{Trailed, IsTrail}
 use Rattle.step_core.specs.Outs.{AreMet, AreOuts}
 use Rattle.step_core.specs.Walks.{NoneFrom}
@@ -81,11 +81,11 @@ made_small w steps outs spec trail count are = record {
   outs = omega (arith, count, spec.outputs);
 }
 
-made_short : (w : Words) (basis : Basis) (steps : List Step) (outs : List Out) → IsSpec w → IsTrail (record { n = w.n; steps = steps }) → IsServing (live_words w) basis steps → length outs ≡ length w.on → AreOuts w steps outs → NoneBelow (specification w) basis (length steps) → IsShort (specification w) basis (length steps) (record { n = w.n; steps = steps; outs = outs })
-made_short w basis steps outs spec trail serving count are least = record {
+made_fitting : (w : Words) (basis : Basis) (steps : List Step) (outs : List Out) → IsSpec w → IsTrail (record { n = w.n; steps = steps }) → AreOver basis steps → length outs ≡ length w.on → AreOuts w steps outs → IsFitting (specification w) basis (length steps) (record { n = w.n; steps = steps; outs = outs })
+made_fitting w basis steps outs spec trail over count are = record {
   small = made_small w steps outs spec trail count are;
   few = omega arith;
-  over = serving.over;
+  over = over;
   agrees = record {
     inputs = refl;
     outputs = count;
@@ -93,7 +93,6 @@ made_short w basis steps outs spec trail serving count are least = record {
         ap (is_met_by (cell_of w h t)) (out_value_is (record { n = w.n; steps = steps; outs = outs }) t (slice_index_or outs (h - 1) kinds.Zero))
         ∙ (are.each h from (omega (arith, to, count))).met t low;
   };
-  least = least;
 }
 
 -- the chain as the program makes it
@@ -109,9 +108,12 @@ trail_is w t inputs is = record { inputs = subst (λ (n : ℕ). n ≤ 6) inputs 
 pub small_made : (w : Words) (t : Trailed) (n : ℕ) (steps : List held.Step) (outs : List Out) → IsSpec w → IsTrail t → n ≡ t.n → t.n ≡ w.n → steps_of steps ≡ t.steps → length outs ≡ length w.on → AreOuts w t.steps outs → IsSmallChain (chain_with n steps outs)
 small_made w t n steps outs spec trail seen inputs are count each = subst IsSmallChain (chain_is w t n steps outs seen inputs are) (made_small w t.steps outs spec (trail_is w t inputs trail) count each)
 
-pub short_made : (w : Words) (basis : Basis) (t : Trailed) (n : ℕ) (steps : List held.Step) (outs : List Out) (c : Chain) → IsSpec w → IsTrail t → n ≡ t.n → t.n ≡ w.n → steps_of steps ≡ t.steps → IsServing (live_words w) basis t.steps → length outs ≡ length w.on → AreOuts w t.steps outs → NoneBelow (specification w) basis (length t.steps) → c ≡ chain_with n steps outs → IsShort (specification w) basis (length t.steps) c
-short_made w basis t n steps outs c spec trail seen inputs are serving count each least e =
-    subst (IsShort (specification w) basis (length t.steps)) (chain_is w t n steps outs seen inputs are ∙ sym e) (made_short w basis t.steps outs spec (trail_is w t inputs trail) serving count each least)
+pub fitting_made : (w : Words) (basis : Basis) (t : Trailed) (n : ℕ) (steps : List held.Step) (outs : List Out) (c : Chain) → IsSpec w → IsTrail t → n ≡ t.n → t.n ≡ w.n → steps_of steps ≡ t.steps → AreOver basis t.steps → length outs ≡ length w.on → AreOuts w t.steps outs → c ≡ chain_with n steps outs → IsFitting (specification w) basis (length t.steps) c
+fitting_made w basis t n steps outs c spec trail seen inputs are over count each e =
+    subst (IsFitting (specification w) basis (length t.steps)) (chain_is w t n steps outs seen inputs are ∙ sym e) (made_fitting w basis t.steps outs spec (trail_is w t inputs trail) over count each)
+
+pub fitting_most : (w : Words) (basis : Basis) (size most : ℕ) (c : Chain) → IsFitting (specification w) basis size c → size ≤ most → IsFitting (specification w) basis most c
+fitting_most w basis size most c fits low = record { small = fits.small; few = omega (arith, fits.few, low); over = fits.over; agrees = fits.agrees }
 
 -- ---- sizes in turn
 
@@ -130,7 +132,13 @@ clear_more w live basis size is spec clear none = subst (λ (x : Words). IsClear
 pub clear_whole : (w live : Words) (basis : Basis) (size count : ℕ) → live ≡ live_words w → IsClear live basis size → count ≡ size → NoneBelow (specification w) basis count
 clear_whole w live basis size count is clear same = subst (NoneBelow (specification w) basis) (sym same) (none_live w basis size (subst (λ (x : Words). IsClear x basis size) is clear).none)
 
-pub short_most : (w : Words) (basis : Basis) (size most : ℕ) (c : Chain) → IsShort (specification w) basis size c → size ≤ most → IsShort (specification w) basis most c
-short_most w basis size most c short low = record { small = short.small; few = omega (arith, short.few, low); over = short.over; agrees = short.agrees; least = short.least }
+pub fitting_least : (w : Words) (basis : Basis) (size most : ℕ) (c : Chain) → IsFitting (specification w) basis size c → NoneBelow (specification w) basis size → size ≤ most → IsShort (specification w) basis most c
+fitting_least w basis size most c fits none low = record {
+  small = fits.small;
+  few = omega (arith, fits.few, low);
+  over = fits.over;
+  agrees = fits.agrees;
+  least = λ q below has. none q (omega (arith, below, fits.few)) has;
+}
 
-pub ruleset answering = (common_steps, are_met, small_made, short_made, clear_none, clear_more)
+pub ruleset answering = (common_steps, are_met, small_made, clear_none, clear_more)

@@ -1,10 +1,8 @@
 -- That each place which waits is read by a later step, so that few steps can't be all that are left where many wait.
-use Rattle.std.proofs.Common.{◌≡◌, ℕ, zero, suc, ◌+◌, ◌-◌, ◌*◌, ◌%◌, ◌^◌, ◌≤◌, ◌<◌, ◌⊎◌, true, false, Bool, cond, ◌&&◌, ◌||◌, not, ◌==◌, List, [], ◌∷◌, ◌++◌, length, refl, sym, ap, ◌∙◌, arith, inl, inr}
+use Rattle.std.proofs.Common.{◌≡◌, ℕ, zero, suc, ◌+◌, ◌-◌, ◌*◌, ◌≤◌, ◌<◌, ◌⊎◌, true, false, Bool, cond, ◌&&◌, ◌||◌, not, ◌==◌, List, [], ◌∷◌, ◌++◌, length, refl, sym, ap, ◌∙◌, arith, inl, inr}
 use Rattle.std.specs.Prelude.{slice_get, Some, nat_lt}
 use Rattle.std.proofs.lemmas.Bool.{cases_Bool, cases_eq, cases_lt, and_parts, or_cases, or_left, or_right, not-true, not-false, both_ways, cond-true, cond-false, lt-ltb, le-ltb, eq-eqb, eqb-true}
 use Rattle.std.proofs.lemmas.Grind.{common_steps}
-use Rattle.std.proofs.Math.Pow.{pow_mono}
-use Rattle.std.proofs.Math.Nat.{two-pow-succ}
 use Rattle.chain_theory.specs.Operator.{Basis, digit}
 use Rattle.chain_theory.specs.Specification.{input}
 use Rattle.chain_theory.specs.Chain.{Step, AreSteps}
@@ -295,17 +293,6 @@ some_reads steps p i here low = passes_some (reads_at steps p) (length steps) i 
 pub some_asks : (w : Words) (p i : ℕ) → asks_for w p i ≡ true → i < length w.on → is_asked w p ≡ true
 unfolding is_asked
 some_asks w p i here low = passes_some (asks_for w p) (length w.on) i low here
-
--- ---- words shifted
-
--- a shift by fewer than six places is a power below 64
-pub power_small : (k : ℕ) → k < 6 → 1 * 2 ^ k % 4294967296 ≡ 2 ^ k
-power_small k few = let wide : 2 ^ k ≤ 2 ^ 6 = pow_mono {i = k} {j = 6} (omega arith) in omega (arith, wide)
-
-pub power_low : (k : ℕ) → k < 6 → 1 * 2 ^ k % 4294967296 < 64
-power_low k few = let wide : 2 ^ suc k ≤ 2 ^ 6 = pow_mono {i = suc k} {j = 6} few in omega (arith, wide, two-pow-succ k, power_small k few)
-
-pub ruleset shifting = (common_steps, power_small, power_low)
 
 pub step_reads : (steps : List Step) (s : Step) (p i : ℕ) (read : Bool) → s ≡ step_at steps i → read ≡ (s.j == p || s.k == p) → read ≡ reads_at steps p i
 unfolding reads_at

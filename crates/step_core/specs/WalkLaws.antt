@@ -9,7 +9,7 @@ use Rattle.chain_theory.specs.Operator.{Basis}
 use Rattle.chain_theory.specs.Chain.{Step, IsStepAt, AreSteps}
 use Rattle.chain_laws.specs.Keys.{larger}
 use Rattle.tt_core.specs.Words.{Words}
-use Rattle.step_core.specs.Steps.{AreOver, all_met}
+use Rattle.step_core.specs.Steps.{AreOver, IsServing, all_met}
 use Rattle.step_core.specs.Trails.{Trailed, IsTrail}
 use Rattle.step_core.specs.Walks.{IsTarget, NoneFrom, NoneWith, HasLarger, HasPair, HasOperands, IsThe, IsWalking, IsWalked}
 
@@ -46,48 +46,48 @@ same_trail a b n steps = ap₂ {C = Trailed} (λ (m : ℕ) (ss : List Step). rec
 -- ---- outcomes
 
 -- steps that serve, where a walk that began at the same trail has found them
-pub found_on : (w : Words) (basis : Basis) (left : ℕ) (old mid new : Trailed) (None More : Type 0) (found : Bool) → mid ≡ old → IsWalked w basis left mid new None found → found ≡ true → IsWalked w basis left old new More true
-found_on w basis left old mid new None More found same is yes_ = record {
+pub found_on : (w : Words) (basis : Basis) (whole : Bool) (left : ℕ) (old mid new : Trailed) (None More : Type 0) (found : Bool) → mid ≡ old → IsWalked w basis whole left mid new None found → found ≡ true → IsWalked w basis whole left old new More true
+found_on w basis whole left old mid new None More found same is yes_ = record {
   inputs = is.inputs ∙ ap (λ (t : Trailed). t.n) same;
   serving = λ e. is.serving yes_;
   size = λ e. is.size yes_ ∙ ap (λ (t : Trailed). length t.steps + left) same;
   same = λ e. absurd cc;
-  none = λ e. absurd cc;
+  none = λ e sure. absurd cc;
 }
 
 -- or where it began a step later
-pub found_later : (w : Words) (basis : Basis) (left : ℕ) (old mid new : Trailed) (s : Step) (None More : Type 0) (found : Bool) → 1 ≤ left → mid.n ≡ old.n → mid.steps ≡ old.steps ++ s ∷ [] → IsWalked w basis (left - 1) mid new None found → found ≡ true → IsWalked w basis left old new More true
-found_later w basis left old mid new s None More found some inputs steps is yes_ = record {
+pub found_later : (w : Words) (basis : Basis) (whole : Bool) (left : ℕ) (old mid new : Trailed) (s : Step) (None More : Type 0) (found : Bool) → 1 ≤ left → mid.n ≡ old.n → mid.steps ≡ old.steps ++ s ∷ [] → IsWalked w basis whole (left - 1) mid new None found → found ≡ true → IsWalked w basis whole left old new More true
+found_later w basis whole left old mid new s None More found some inputs steps is yes_ = record {
   inputs = is.inputs ∙ inputs;
   serving = λ e. is.serving yes_;
   size = λ e. omega (arith, some, is.size yes_, ap (λ (ss : List Step). length ss) steps, length_push old.steps s);
   same = λ e. absurd cc;
-  none = λ e. absurd cc;
+  none = λ e sure. absurd cc;
 }
 
 -- nothing was found
-pub none_there : (w : Words) (basis : Basis) (left : ℕ) (old new : Trailed) (None : Type 0) → new ≡ old → None → IsWalked w basis left old new None false
-none_there w basis left old new None same none = record {
+pub none_there : (w : Words) (basis : Basis) (whole : Bool) (left : ℕ) (old new : Trailed) (None : Type 0) → new ≡ old → (whole ≡ true → None) → IsWalked w basis whole left old new None false
+none_there w basis whole left old new None same none = record {
   inputs = ap (λ (t : Trailed). t.n) same;
   serving = λ e. absurd cc;
   size = λ e. absurd cc;
   same = λ e. same;
-  none = λ e. none;
+  none = λ e sure. none sure;
 }
 
 -- ---- no step more
 
-pub whole_walk : (w : Words) (basis : Basis) (left : ℕ) (t : Trailed) (found : Bool) → IsTrail t → IsWalking w basis t left → left ≡ 0 → found ≡ all_met w t.steps → IsWalked w basis left t t (NoneFrom w basis t.steps left) found
-whole_walk w basis left t found trail walking none is = record {
-  inputs = refl;
-  serving = λ e. record { are = subst (λ (n : ℕ). AreSteps n t.steps) walking.inputs trail.are; over = walking.over; met = sym is ∙ e };
-  size = λ e. omega (arith, none);
-  same = λ e. refl;
-  none = λ e. record { none = λ rest count target. without rest (omega (arith, count, none)) target e };
+pub whole_walk : (w : Words) (basis : Basis) (whole : Bool) (left : ℕ) (t new : Trailed) (found : Bool) → IsTrail t → IsWalking w basis t left → left ≡ 0 → new ≡ t → (found ≡ true → all_met w t.steps ≡ true) → (whole ≡ true → found ≡ false → all_met w t.steps ≡ false) → IsWalked w basis whole left t new (NoneFrom w basis t.steps left) found
+whole_walk w basis whole left t new found trail walking none same serve fails = record {
+  inputs = ap (λ (x : Trailed). x.n) same;
+  serving = λ e. subst (λ (x : Trailed). IsServing w basis x.steps) (sym same) (record { are = subst (λ (n : ℕ). AreSteps n t.steps) walking.inputs trail.are; over = walking.over; met = serve e });
+  size = λ e. omega (arith, none, ap (λ (x : Trailed). length x.steps) same);
+  same = λ e. same;
+  none = λ e sure. record { none = λ rest count target. without rest (omega (arith, count, none)) target (fails sure e) };
 }
   where
-    without : (rest : List Step) → length rest ≡ 0 → IsTarget w basis (t.steps ++ rest) → found ≡ false → ⊥
-    without [] count target e = both_ways (all_met w t.steps) (sym is ∙ e) (subst (λ (ss : List Step). all_met w ss ≡ true) (append_nil t.steps) target.serving.met)
+    without : (rest : List Step) → length rest ≡ 0 → IsTarget w basis (t.steps ++ rest) → all_met w t.steps ≡ false → ⊥
+    without [] count target e = both_ways (all_met w t.steps) e (subst (λ (ss : List Step). all_met w ss ≡ true) (append_nil t.steps) target.serving.met)
     without (s ∷ rest) count target e = omega (arith, count)
 
 -- ---- one step more
@@ -164,14 +164,14 @@ pub record AllUnder (w : Words) (basis : Basis) (front : List Step) (left : ℕ)
 pub record AllOperators (w : Words) (basis : Basis) (front : List Step) (left j k bound : ℕ) : Type 0 where
   pub each : (op : ℕ) → op < bound → basis op ≡ true → NoneWith w basis front left (IsThe (record { j = j; k = k; op = op }))
 
--- the trail is as it was at first, and something was left out
-pub record IsLeft (w : Words) (basis : Basis) (left : ℕ) (first now : Trailed) (None : Type 0) : Type 0 where
+-- the trail is as it was at first, and something was left out, where the walk passes over nothing that serves
+pub record IsLeft (w : Words) (basis : Basis) (whole : Bool) (left : ℕ) (first now : Trailed) (None : Type 0) : Type 0 where
   pub walking : IsWalking w basis now left
   pub same : now ≡ first
-  pub none : None
+  pub none : whole ≡ true → None
 
-pub under_none : (w : Words) (basis : Basis) (left : ℕ) (t : Trailed) (Has : ℕ → Step → Type 0) → IsWalking w basis t left → IsLeft w basis left t t (AllUnder w basis t.steps left Has 0)
-under_none w basis left t Has walking = record { walking = walking; same = refl; none = record { each = λ m from to. omega (arith, from, to) } }
+pub under_none : (w : Words) (basis : Basis) (whole : Bool) (left : ℕ) (t : Trailed) (Has : ℕ → Step → Type 0) → IsWalking w basis t left → IsLeft w basis whole left t t (AllUnder w basis t.steps left Has 0)
+under_none w basis whole left t Has walking = record { walking = walking; same = refl; none = λ sure. record { each = λ m from to. omega (arith, from, to) } }
 
 under_more : (w : Words) (basis : Basis) (left k : ℕ) (front : List Step) (Has : ℕ → Step → Type 0) → AllUnder w basis front left Has k → NoneWith w basis front left (Has (k + 1)) → AllUnder w basis front left Has (k + 1)
 under_more w basis left k front Has all one = record {
@@ -181,21 +181,21 @@ under_more w basis left k front Has all one = record {
   ];
 }
 
-left_more : (w : Words) (basis : Basis) (left : ℕ) (first mid new : Trailed) (All One More : Type 0) → IsLeft w basis left first mid All → new ≡ mid → One → (All → One → More) → IsLeft w basis left first new More
-left_more w basis left first mid new All One More is same one both = record {
+left_more : (w : Words) (basis : Basis) (whole : Bool) (left : ℕ) (first mid new : Trailed) (All One More : Type 0) → IsLeft w basis whole left first mid All → new ≡ mid → (whole ≡ true → One) → (All → One → More) → IsLeft w basis whole left first new More
+left_more w basis whole left first mid new All One More is same one both = record {
   walking = walking_same w basis mid new left same is.walking;
   same = same ∙ is.same;
-  none = both is.none one;
+  none = λ sure. both (is.none sure) (one sure);
 }
 
-pub under_next : (w : Words) (basis : Basis) (left k : ℕ) (first mid new : Trailed) (Has : ℕ → Step → Type 0) (found : Bool) → IsLeft w basis left first mid (AllUnder w basis first.steps left Has k) → IsWalked w basis left mid new (NoneWith w basis mid.steps left (Has (k + 1))) found → found ≡ false → IsLeft w basis left first new (AllUnder w basis first.steps left Has (k + 1))
-under_next w basis left k first mid new Has found is walked e =
-    left_more w basis left first mid new (AllUnder w basis first.steps left Has k) (NoneWith w basis first.steps left (Has (k + 1))) (AllUnder w basis first.steps left Has (k + 1)) is (walked.same e)
-    (subst (λ (t : Trailed). NoneWith w basis t.steps left (Has (k + 1))) is.same (walked.none e))
+pub under_next : (w : Words) (basis : Basis) (whole : Bool) (left k : ℕ) (first mid new : Trailed) (Has : ℕ → Step → Type 0) (found : Bool) → IsLeft w basis whole left first mid (AllUnder w basis first.steps left Has k) → IsWalked w basis whole left mid new (NoneWith w basis mid.steps left (Has (k + 1))) found → found ≡ false → IsLeft w basis whole left first new (AllUnder w basis first.steps left Has (k + 1))
+under_next w basis whole left k first mid new Has found is walked e =
+    left_more w basis whole left first mid new (AllUnder w basis first.steps left Has k) (NoneWith w basis first.steps left (Has (k + 1))) (AllUnder w basis first.steps left Has (k + 1)) is (walked.same e)
+    (λ sure. subst (λ (t : Trailed). NoneWith w basis t.steps left (Has (k + 1))) is.same (walked.none e sure))
     (under_more w basis left k first.steps Has)
 
-pub operators_none : (w : Words) (basis : Basis) (left j k : ℕ) (t : Trailed) → IsWalking w basis t left → IsLeft w basis left t t (AllOperators w basis t.steps left j k 0)
-operators_none w basis left j k t walking = record { walking = walking; same = refl; none = record { each = λ op low member. omega (arith, low) } }
+pub operators_none : (w : Words) (basis : Basis) (whole : Bool) (left j k : ℕ) (t : Trailed) → IsWalking w basis t left → IsLeft w basis whole left t t (AllOperators w basis t.steps left j k 0)
+operators_none w basis whole left j k t walking = record { walking = walking; same = refl; none = λ sure. record { each = λ op low member. omega (arith, low) } }
 
 operators_more : (w : Words) (basis : Basis) (left j k bound : ℕ) (front : List Step) → AllOperators w basis front left j k bound → (basis bound ≡ true → NoneWith w basis front left (IsThe (record { j = j; k = k; op = bound }))) → AllOperators w basis front left j k (bound + 1)
 operators_more w basis left j k bound front all one = record {
@@ -207,31 +207,31 @@ operators_more w basis left j k bound front all one = record {
   ];
 }
 
-pub operators_next : (w : Words) (basis : Basis) (left j k bound : ℕ) (first mid new : Trailed) (found : Bool) → IsLeft w basis left first mid (AllOperators w basis first.steps left j k bound) → IsWalked w basis left mid new (NoneWith w basis mid.steps left (IsThe (record { j = j; k = k; op = bound }))) found → found ≡ false → IsLeft w basis left first new (AllOperators w basis first.steps left j k (bound + 1))
-operators_next w basis left j k bound first mid new found is walked e =
-    left_more w basis left first mid new (AllOperators w basis first.steps left j k bound) (NoneWith w basis first.steps left (IsThe (record { j = j; k = k; op = bound }))) (AllOperators w basis first.steps left j k (bound + 1)) is (walked.same e)
-    (subst (λ (t : Trailed). NoneWith w basis t.steps left (IsThe (record { j = j; k = k; op = bound }))) is.same (walked.none e))
+pub operators_next : (w : Words) (basis : Basis) (whole : Bool) (left j k bound : ℕ) (first mid new : Trailed) (found : Bool) → IsLeft w basis whole left first mid (AllOperators w basis first.steps left j k bound) → IsWalked w basis whole left mid new (NoneWith w basis mid.steps left (IsThe (record { j = j; k = k; op = bound }))) found → found ≡ false → IsLeft w basis whole left first new (AllOperators w basis first.steps left j k (bound + 1))
+operators_next w basis whole left j k bound first mid new found is walked e =
+    left_more w basis whole left first mid new (AllOperators w basis first.steps left j k bound) (NoneWith w basis first.steps left (IsThe (record { j = j; k = k; op = bound }))) (AllOperators w basis first.steps left j k (bound + 1)) is (walked.same e)
+    (λ sure. subst (λ (t : Trailed). NoneWith w basis t.steps left (IsThe (record { j = j; k = k; op = bound }))) is.same (walked.none e sure))
     (λ all one. operators_more w basis left j k bound first.steps all (λ member. one))
 
-pub operators_skip : (w : Words) (basis : Basis) (left j k bound : ℕ) (first mid : Trailed) (member : Bool) → IsLeft w basis left first mid (AllOperators w basis first.steps left j k bound) → member ≡ basis bound → member ≡ false → IsLeft w basis left first mid (AllOperators w basis first.steps left j k (bound + 1))
-operators_skip w basis left j k bound first mid member is said e =
-    left_more w basis left first mid mid (AllOperators w basis first.steps left j k bound) (basis bound ≡ true → NoneWith w basis first.steps left (IsThe (record { j = j; k = k; op = bound }))) (AllOperators w basis first.steps left j k (bound + 1)) is refl
-    (λ holds. absurd (both_ways (basis bound) (sym said ∙ e) holds))
+pub operators_skip : (w : Words) (basis : Basis) (whole : Bool) (left j k bound : ℕ) (first mid : Trailed) (member : Bool) → IsLeft w basis whole left first mid (AllOperators w basis first.steps left j k bound) → member ≡ basis bound → member ≡ false → IsLeft w basis whole left first mid (AllOperators w basis first.steps left j k (bound + 1))
+operators_skip w basis whole left j k bound first mid member is said e =
+    left_more w basis whole left first mid mid (AllOperators w basis first.steps left j k bound) (basis bound ≡ true → NoneWith w basis first.steps left (IsThe (record { j = j; k = k; op = bound }))) (AllOperators w basis first.steps left j k (bound + 1)) is refl
+    (λ sure holds. absurd (both_ways (basis bound) (sym said ∙ e) holds))
     (operators_more w basis left j k bound first.steps)
 
-pub operators_plain : (w : Words) (basis : Basis) (left j k bound : ℕ) (first mid : Trailed) → IsLeft w basis left first mid (AllOperators w basis first.steps left j k bound) → NoneWith w basis first.steps left (IsThe (record { j = j; k = k; op = bound })) → IsLeft w basis left first mid (AllOperators w basis first.steps left j k (bound + 1))
-operators_plain w basis left j k bound first mid is none =
-    left_more w basis left first mid mid (AllOperators w basis first.steps left j k bound) (NoneWith w basis first.steps left (IsThe (record { j = j; k = k; op = bound }))) (AllOperators w basis first.steps left j k (bound + 1)) is refl none
+pub operators_plain : (w : Words) (basis : Basis) (whole : Bool) (left j k bound : ℕ) (first mid : Trailed) → IsLeft w basis whole left first mid (AllOperators w basis first.steps left j k bound) → NoneWith w basis first.steps left (IsThe (record { j = j; k = k; op = bound })) → IsLeft w basis whole left first mid (AllOperators w basis first.steps left j k (bound + 1))
+operators_plain w basis whole left j k bound first mid is none =
+    left_more w basis whole left first mid mid (AllOperators w basis first.steps left j k bound) (NoneWith w basis first.steps left (IsThe (record { j = j; k = k; op = bound }))) (AllOperators w basis first.steps left j k (bound + 1)) is refl (λ sure. none)
     (λ all one. operators_more w basis left j k bound first.steps all (λ member. one))
 
 -- a step after another keeps the trail
-pub popped : (w : Words) (basis : Basis) (left : ℕ) (old mid back new : Trailed) (s : Step) (found : Bool) → 1 ≤ left → mid.n ≡ old.n → mid.steps ≡ old.steps ++ s ∷ [] → IsWalked w basis (left - 1) mid back (NoneFrom w basis mid.steps (left - 1)) found → found ≡ false → new.n ≡ back.n → new.steps ≡ take (length back.steps - 1) back.steps → IsWalked w basis left old new (NoneWith w basis old.steps left (IsThe s)) false
-popped w basis left old mid back new s found some inputs steps walked e kept taken =
+pub popped : (w : Words) (basis : Basis) (whole : Bool) (left : ℕ) (old mid back new : Trailed) (s : Step) (found : Bool) → 1 ≤ left → mid.n ≡ old.n → mid.steps ≡ old.steps ++ s ∷ [] → IsWalked w basis whole (left - 1) mid back (NoneFrom w basis mid.steps (left - 1)) found → found ≡ false → new.n ≡ back.n → new.steps ≡ take (length back.steps - 1) back.steps → IsWalked w basis whole left old new (NoneWith w basis old.steps left (IsThe s)) false
+popped w basis whole left old mid back new s found some inputs steps walked e kept taken =
     let back_is : back.steps ≡ old.steps ++ s ∷ [] = ap (λ (t : Trailed). t.steps) (walked.same e) ∙ steps in
     let cut : length back.steps - 1 ≡ length old.steps = omega (arith, ap (λ (ss : List Step). length ss) back_is, length_push old.steps s) in
     let steps_are : new.steps ≡ old.steps = taken ∙ ap (λ (k : ℕ). take k back.steps) cut ∙ ap (take (length old.steps)) back_is ∙ take_at old.steps (s ∷ []) (length old.steps) refl in
-    none_there w basis left old new (NoneWith w basis old.steps left (IsThe s))
+    none_there w basis whole left old new (NoneWith w basis old.steps left (IsThe s))
     (same_trail new old (kept ∙ ap (λ (t : Trailed). t.n) (walked.same e) ∙ inputs) steps_are)
-    (by_step w basis old mid s left some steps (walked.none e))
+    (λ sure. by_step w basis old mid s left some steps (walked.none e sure))
 
 pub ruleset walking = (common_steps, under_none, under_next, operators_none, operators_next, operators_skip)

@@ -51,10 +51,11 @@ pub record IsWalking (w : Words) (basis : Basis) (t : Trailed) (left : ℕ) : Ty
   pub room : length t.steps + left ≤ 6
   pub over : AreOver basis t.steps
 
--- A walk has found steps that serve, or put the trail back as it was; then `None` holds of it.
-pub record IsWalked (w : Words) (basis : Basis) (left : ℕ) (old new : Trailed) (None : Type 0) (found : Bool) : Type 0 where
+-- A walk has found steps that serve, or put the trail back as it was; then `None` holds of it, where the walk passes over
+-- nothing that serves.
+pub record IsWalked (w : Words) (basis : Basis) (whole : Bool) (left : ℕ) (old new : Trailed) (None : Type 0) (found : Bool) : Type 0 where
   pub inputs : new.n ≡ old.n
   pub serving : found ≡ true → IsServing w basis new.steps
   pub size : found ≡ true → length new.steps ≡ length old.steps + left
   pub same : found ≡ false → new ≡ old
-  pub none : found ≡ false → None
+  pub none : found ≡ false → whole ≡ true → None

@@ -136,7 +136,7 @@ pub(crate) fn may_come(
     requires inputs { trail.now.n ≡ spec.now.n }
     requires due { due ≡ due_of spec.now trail.now.steps }
     requires at { IsStepAt (trail.now.n + 1 + length trail.now.steps) (record { j = j; k = k; op = op }) }
-    ensures { result ≡ false → NoneWith spec.now (members rules.now) trail.now.steps left (IsThe (record { j = j; k = k; op = op })) }
+    ensures { result ≡ false → NoneWith spec.now (members rules.now.basis) trail.now.steps left (IsThe (record { j = j; k = k; op = op })) }
 {
     // brings the specification's invariant into the proof
     let _inputs = spec.n();
@@ -196,7 +196,7 @@ fn is_constant(op: Op) -> bool
 /// constants can be left out.
 #[tactic(auto, using(crate::specs::ReducedLaws::coming))]
 pub(crate) fn is_plain(rules: &Rules, j: u32, k: u32, op: Op) -> bool
-    ensures { result ≡ false → (w : Words) (front : List StepOf) (left : ℕ) → NoneWith w (members rules.now) front left (IsThe (record { j = j; k = k; op = op })) }
+    ensures { result ≡ false → (w : Words) (front : List StepOf) (left : ℕ) → NoneWith w (members rules.now.basis) front left (IsThe (record { j = j; k = k; op = op })) }
 {
     if j == k {
         return !rules.constants() || (op.apply(false, false) && !op.apply(true, true));

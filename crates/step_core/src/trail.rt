@@ -12,10 +12,12 @@ use op_basis::{input_word, on_words};
 use std::alloc::{AllocError, Global};
 use std::marker::Model;
 
-/// At most six steps over at most six inputs. Contracts see the number of inputs and the steps.
+/// At most six steps over at most six inputs, and how many steps that serve are still to be passed over. Contracts see the
+/// number of inputs and the steps.
 #[derive(Drop)]
 pub struct Trail {
     n: u32,
+    passed: u32,
     words: Vec<u64>,
     steps: Vec<Step>,
 }
@@ -33,8 +35,8 @@ impl Model for Trail {
 
 #[tactic(auto, using(crate::specs::TrailLaws::trailing))]
 impl Trail {
-    /// The trail without steps over `n` inputs.
-    pub fn new(alloc: Global, n: u32) -> Result<Trail, AllocError>
+    /// The trail without steps over `n` inputs, of which `passed` that serve are to be passed over.
+    pub fn new(alloc: Global, n: u32, passed: u32) -> Result<Trail, AllocError>
         requires { n ≤ 6 }
         ensures inputs { IfOk result (λ trail. trail.n ≡ n) }
         ensures empty { IfOk result (λ trail. trail.steps ≡ []) }
@@ -44,7 +46,12 @@ impl Trail {
             words.push(input_word(n - (before + 1)))?;
         }
         let steps = Vec::new(alloc);
-        Ok(Trail { n, words, steps })
+        Ok(Trail {
+            n,
+            passed,
+            words,
+            steps,
+        })
     }
 
     /// The number of inputs.
@@ -98,6 +105,17 @@ impl Trail {
         Ok(())
     }
 
+    /// Whether no more steps that serve are to be passed over. Else there is one less to come.
+    pub fn is_reached(&mut self) -> bool
+        ensures { self.new ≡ self.old }
+    {
+        if self.passed == 0 {
+            return true;
+        }
+        self.passed -= 1;
+        false
+    }
+
     /// Takes the last step off.
     pub fn pop(&mut self)
         requires { 0 < length self.old.steps }
@@ -114,6 +132,7 @@ impl Trail {
     {
         let Trail {
             n: _,
+            passed: _,
             words: _,
             steps,
         } = self;

@@ -3,13 +3,12 @@
 //! than two for each step after it isn't tried.
 ghost use Rattle.std.specs.Prelude.{◌≡◌, ◌+◌, ◌<◌, ◌≤◌, false, length};
 ghost use Rattle.chain_theory.specs.Operator.{Basis as Operators};
-ghost use Rattle.bound_core.specs.WordLaws.{low_rows as low_rows_of, turning_rows as turning_rows_of};
 ghost use Rattle.step_core.specs.Walks.{NoneWith, HasPair};
 ghost use Rattle.step_core.specs.Waits.{reads_at as reads_at_of, is_read as is_read_of, asks_for as asks_for_of, is_asked as is_asked_of, is_needed as is_needed_of, waits as waits_of, waiting as waiting_of};
 
 use crate::cuts::meets_some;
 use crate::trail::Trail;
-use op_basis::input_word;
+use bound_core::uses;
 use tt_core::Spec;
 
 /// Whether the step of an index reads a place.
@@ -35,33 +34,17 @@ fn is_read(trail: &Trail, place: u32) -> bool
     false
 }
 
-/// The rows whose digit of 2^k is 0.
-fn low_rows(k: u32) -> u64
-    requires { k < 6 }
-    ensures { result ≡ low_rows_of k }
-{
-    !input_word(k)
-}
-
-/// The rows t whose digit of 2^k is 0, where rows t and t + 2^k are specified and have different values.
-#[tactic(auto, using(crate::specs::WaitLaws::shifting))]
-fn turning_rows(on: u64, care: u64, k: u32) -> u64
-    requires { k < 6 }
-    ensures { result ≡ turning_rows_of on care k }
-{
-    let step = 1u32 << k;
-    care & (care >> step) & (on ^ (on >> step)) & low_rows(k)
-}
-
 /// Whether an output uses the input of a place.
+#[tactic(auto, unfolding(crate::specs::Waits::asks_for))]
 fn asks_for(spec: &Spec, place: u32, output: u32) -> bool
     requires output { output < length spec.now.on }
     requires place_from { 1 ≤ place }
     requires place { place ≤ spec.now.n }
     ensures { result ≡ asks_for_of spec.now place output }
 {
-    let k = spec.n() - place;
-    turning_rows(spec.on()[output as usize], spec.care()[output as usize], k) != 0
+    // brings the specification's invariant into the proof
+    let _inputs = spec.n();
+    uses(spec, output + 1, place)
 }
 
 /// Whether some output uses the input of a place.

@@ -1,9 +1,10 @@
 //! The walk: each step that may come next is placed, and from there the walk goes on, until as many steps as are asked for
-//! are placed.
-ghost use Rattle.std.specs.Prelude.{◌≡◌, ◌+◌, ◌≤◌, true, length, IfOk};
+//! are placed. It ends at the first steps that serve, or passes over so many before.
+ghost use Rattle.std.specs.Prelude.{◌≡◌, ◌+◌, ◌≤◌, true, false, length, IfOk};
 ghost use Rattle.op_basis.specs.Basis.{members};
 ghost use Rattle.chain_theory.specs.Chain.{IsStepAt};
 ghost use Rattle.chain_core.specs.Steps.{step_of};
+ghost use Rattle.step_core.specs.Steps.{all_met as all_met_of};
 ghost use Rattle.step_core.specs.Cuts.{due as due_of};
 ghost use Rattle.step_core.specs.Waits.{waiting as waiting_of};
 ghost use Rattle.step_core.specs.Walks.{IsWalking, IsWalked, NoneFrom, NoneWith, HasLarger, HasPair, HasOperands, IsThe};
@@ -18,6 +19,22 @@ use op_basis::Op;
 use std::alloc::AllocError;
 use tt_core::Spec;
 
+/// Whether the walk ends with the steps that are placed: they serve, and aren't among those that it passes over.
+fn ends(spec: &Spec, rules: &Rules, trail: &mut Trail) -> bool
+    requires { trail.old.n ≡ spec.now.n }
+    ensures serve { result ≡ true → all_met_of spec.now trail.old.steps ≡ true }
+    ensures none { rules.now.whole ≡ true → result ≡ false → all_met_of spec.now trail.old.steps ≡ false }
+    ensures same { trail.new ≡ trail.old }
+{
+    if !all_met(spec, trail) {
+        return false;
+    }
+    if rules.whole() {
+        return true;
+    }
+    trail.is_reached()
+}
+
 /// Goes over all ways to place `left` more steps. Where one serves, the trail has it.
 #[cycle(walking)]
 #[tactic(auto, using(crate::specs::WalkLaws::walking))]
@@ -27,14 +44,14 @@ pub(crate) fn walk(
     trail: &mut Trail,
     left: u32,
 ) -> Result<bool, AllocError>
-    requires walking { IsWalking spec.now (members rules.now) trail.old left }
-    ensures { IfOk result (IsWalked spec.now (members rules.now) left trail.old trail.new (NoneFrom spec.now (members rules.now) trail.old.steps left)) }
+    requires walking { IsWalking spec.now (members rules.now.basis) trail.old left }
+    ensures { IfOk result (IsWalked spec.now (members rules.now.basis) rules.now.whole left trail.old trail.new (NoneFrom spec.now (members rules.now.basis) trail.old.steps left)) }
 {
     // brings the specification's invariant into the proof
     let _inputs = spec.n();
     let places = trail.n() + trail.len();
     if left == 0 {
-        return Ok(all_met(spec, trail));
+        return Ok(ends(spec, rules, trail));
     }
     let due = due(spec, trail);
     if due > left {
@@ -65,12 +82,12 @@ fn walk_larger(
     waiting: u32,
     high: u32,
 ) -> Result<bool, AllocError>
-    requires walking { IsWalking spec.now (members rules.now) trail.old left }
+    requires walking { IsWalking spec.now (members rules.now.basis) trail.old left }
     requires some { 1 ≤ left }
     requires due { due ≡ due_of spec.now trail.old.steps }
     requires waiting { waiting ≡ waiting_of spec.now trail.old.steps }
     requires high { high ≤ trail.old.n + length trail.old.steps }
-    ensures { IfOk result (IsWalked spec.now (members rules.now) left trail.old trail.new (NoneWith spec.now (members rules.now) trail.old.steps left (HasLarger high))) }
+    ensures { IfOk result (IsWalked spec.now (members rules.now.basis) rules.now.whole left trail.old trail.new (NoneWith spec.now (members rules.now.basis) trail.old.steps left (HasLarger high))) }
 {
     for before in 0..high {
         if walk_pair(spec, rules, trail, left, due, waiting, before + 1, high)? {
@@ -93,14 +110,14 @@ fn walk_pair(
     low: u32,
     high: u32,
 ) -> Result<bool, AllocError>
-    requires walking { IsWalking spec.now (members rules.now) trail.old left }
+    requires walking { IsWalking spec.now (members rules.now.basis) trail.old left }
     requires some { 1 ≤ left }
     requires due { due ≡ due_of spec.now trail.old.steps }
     requires waiting { waiting ≡ waiting_of spec.now trail.old.steps }
     requires low_from { 1 ≤ low }
     requires low { low ≤ high }
     requires high { high ≤ trail.old.n + length trail.old.steps }
-    ensures { IfOk result (IsWalked spec.now (members rules.now) left trail.old trail.new (NoneWith spec.now (members rules.now) trail.old.steps left (HasPair low high))) }
+    ensures { IfOk result (IsWalked spec.now (members rules.now.basis) rules.now.whole left trail.old trail.new (NoneWith spec.now (members rules.now.basis) trail.old.steps left (HasPair low high))) }
 {
     if !may_follow(trail, low, high) {
         return Ok(false);
@@ -117,10 +134,8 @@ fn walk_pair(
     if rules.rises() {
         return Ok(false);
     }
-    if walk_operators(spec, rules, trail, left, due, high, low)? {
-        return Ok(true);
-    }
-    Ok(false)
+    let found = walk_operators(spec, rules, trail, left, due, high, low)?;
+    Ok(found)
 }
 
 /// The ways whose next step has these operands in this order.
@@ -135,14 +150,14 @@ fn walk_operators(
     j: u32,
     k: u32,
 ) -> Result<bool, AllocError>
-    requires walking { IsWalking spec.now (members rules.now) trail.old left }
+    requires walking { IsWalking spec.now (members rules.now.basis) trail.old left }
     requires some { 1 ≤ left }
     requires due { due ≡ due_of spec.now trail.old.steps }
     requires j_from { 1 ≤ j }
     requires j { j ≤ trail.old.n + length trail.old.steps }
     requires k_from { 1 ≤ k }
     requires k { k ≤ trail.old.n + length trail.old.steps }
-    ensures { IfOk result (IsWalked spec.now (members rules.now) left trail.old trail.new (NoneWith spec.now (members rules.now) trail.old.steps left (HasOperands j k))) }
+    ensures { IfOk result (IsWalked spec.now (members rules.now.basis) rules.now.whole left trail.old trail.new (NoneWith spec.now (members rules.now.basis) trail.old.steps left (HasOperands j k))) }
 {
     for word in 0..16u8 {
         let op = Op::new(word);
@@ -170,12 +185,12 @@ fn walk_step(
     due: u32,
     step: Step,
 ) -> Result<bool, AllocError>
-    requires walking { IsWalking spec.now (members rules.now) trail.old left }
+    requires walking { IsWalking spec.now (members rules.now.basis) trail.old left }
     requires some { 1 ≤ left }
     requires due { due ≡ due_of spec.now trail.old.steps }
-    requires member { members rules.now step.op ≡ true }
+    requires member { members rules.now.basis step.op ≡ true }
     requires at { IsStepAt (trail.old.n + 1 + length trail.old.steps) (step_of step) }
-    ensures { IfOk result (IsWalked spec.now (members rules.now) left trail.old trail.new (NoneWith spec.now (members rules.now) trail.old.steps left (IsThe (step_of step)))) }
+    ensures { IfOk result (IsWalked spec.now (members rules.now.basis) rules.now.whole left trail.old trail.new (NoneWith spec.now (members rules.now.basis) trail.old.steps left (IsThe (step_of step)))) }
 {
     if !may_come(spec, rules, trail, left, due, step.j, step.k, step.op) {
         return Ok(false);

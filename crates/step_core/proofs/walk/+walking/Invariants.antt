@@ -20,10 +20,10 @@ abbrev pub decreases-walk_step : goal.decreases-walk_step
 decreases-walk_step l = 5 * l.left - 4
 
 abbrev pub invariant-walk-loop-before : goal.invariant-walk-loop-before
-invariant-walk-loop-before l = IsLeft l.spec (members l.rules) l.left l.initial.trail l.trail (AllUnder l.spec (members l.rules) l.initial.trail.steps l.left HasLarger l.before)
+invariant-walk-loop-before l = IsLeft l.spec (members l.rules.basis) l.rules.whole l.left l.initial.trail l.trail (AllUnder l.spec (members l.rules.basis) l.initial.trail.steps l.left HasLarger l.before)
 
 abbrev pub invariant-walk_larger-loop-before : goal.invariant-walk_larger-loop-before
-invariant-walk_larger-loop-before l = IsLeft l.spec (members l.rules) l.left l.initial.trail l.trail (AllUnder l.spec (members l.rules) l.initial.trail.steps l.left (λ m. HasPair m l.high) l.before)
+invariant-walk_larger-loop-before l = IsLeft l.spec (members l.rules.basis) l.rules.whole l.left l.initial.trail l.trail (AllUnder l.spec (members l.rules.basis) l.initial.trail.steps l.left (λ m. HasPair m l.high) l.before)
 
 abbrev pub invariant-walk_operators-loop-word : goal.invariant-walk_operators-loop-word
-invariant-walk_operators-loop-word l = IsLeft l.spec (members l.rules) l.left l.initial.trail l.trail (AllOperators l.spec (members l.rules) l.initial.trail.steps l.left l.j l.k l.word)
+invariant-walk_operators-loop-word l = IsLeft l.spec (members l.rules.basis) l.rules.whole l.left l.initial.trail l.trail (AllOperators l.spec (members l.rules.basis) l.initial.trail.steps l.left l.j l.k l.word)

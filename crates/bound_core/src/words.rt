@@ -1,0 +1,86 @@
+//! What is asked of one output or two, decided for all rows at once by words of 64 rows: which inputs an output uses, by its
+//! words and the same words shifted; whether a constant or an input has all its values; and whether two outputs differ.
+ghost use Rattle.std.specs.Prelude.{◌≡◌, ℕ, ◌^◌, ◌<◌, ◌≤◌, length};
+ghost use Rattle.chain_theory.specs.Operator.{digit};
+ghost use Rattle.chain_theory.specs.declared.data.Out.{Out};
+ghost use Rattle.tt_core.specs.Live.{is_live as is_live_of, trivial_value, fits};
+ghost use Rattle.tt_core.specs.Words.{specification};
+ghost use Rattle.bound_core.specs.Counts.{uses as uses_of, differ as differ_of};
+ghost use Rattle.bound_core.specs.WordLaws.{low_rows as low_rows_of, turning_rows as turning_rows_of};
+
+use op_basis::{input_word, spread};
+use tt_core::Spec;
+
+/// The rows whose digit of 2^k is 0.
+fn low_rows(k: u32) -> u64
+    requires { k < 6 }
+    ensures { result ≡ low_rows_of k }
+{
+    !input_word(k)
+}
+
+/// The rows t whose digit of 2^k is 0, where rows t and t + 2^k are specified and have different
+/// values.
+#[tactic(auto, using(crate::proofs::Loops::shifting))]
+fn turning_rows(on: u64, care: u64, k: u32) -> u64
+    requires { k < 6 }
+    ensures { result ≡ turning_rows_of on care k }
+{
+    let step = 1u32 << k;
+    care & (care >> step) & (on ^ (on >> step)) & low_rows(k)
+}
+
+/// Whether output `h` uses input `j`: on two rows that differ in that input alone, its cells are 0 and 1.
+pub fn uses(spec: &Spec, h: u32, j: u32) -> bool
+    requires output { (1 ≤ h) × (h ≤ length spec.now.on) }
+    requires input { (1 ≤ j) × (j ≤ spec.now.n) }
+    ensures { result ≡ uses_of (specification spec.now) h j }
+{
+    let k = spec.n() - j;
+    let output = (h - 1) as usize;
+    turning_rows(spec.on()[output], spec.care()[output], k) != 0
+}
+
+/// Whether outputs `g` and `h` differ.
+pub(crate) fn differ(spec: &Spec, g: u32, h: u32) -> bool
+    requires first { (1 ≤ g) × (g ≤ length spec.now.on) }
+    requires second { (1 ≤ h) × (h ≤ length spec.now.on) }
+    ensures { result ≡ differ_of (specification spec.now) g h }
+{
+    // brings the specification's invariant into the proof
+    let _inputs = spec.n();
+    let one = (g - 1) as usize;
+    let other = (h - 1) as usize;
+    spec.care()[one] & spec.care()[other] & (spec.on()[one] ^ spec.on()[other]) != 0
+}
+
+/// Whether a word has all specified values of output `h`.
+fn has_values(spec: &Spec, h: u32, word: u64) -> bool
+    requires { (1 ≤ h) × (h ≤ length spec.now.on) }
+    ensures { (out : Out) → ((t : ℕ) → t < 2 ^ spec.now.n → digit word t ≡ trivial_value spec.now.n t out) → result ≡ fits (specification spec.now) h out }
+{
+    // brings the specification's invariant into the proof
+    let _inputs = spec.n();
+    let output = (h - 1) as usize;
+    (word ^ spec.on()[output]) & spec.care()[output] == 0
+}
+
+/// Whether output `h` is live: neither a constant nor an input has all its specified values.
+pub(crate) fn is_live(spec: &Spec, h: u32) -> bool
+    requires { (1 ≤ h) × (h ≤ length spec.now.on) }
+    ensures { result ≡ is_live_of (specification spec.now) h }
+{
+    let n = spec.n();
+    if has_values(spec, h, spread(false)) {
+        return false;
+    }
+    if has_values(spec, h, spread(true)) {
+        return false;
+    }
+    for before in 0..n {
+        if has_values(spec, h, input_word(n - (before + 1))) {
+            return false;
+        }
+    }
+    true
+}
