@@ -16,7 +16,8 @@ equivalence checking. Every function of the program is formally verified.
   gen       a number -> a BLIF netlist of that many blocks
 
   help COMMAND        options of a command with ranges and defaults, and an example
-  help TOPIC          a format: errors, tables, chains, bases, logs, certificates, levels, blif, bench, pairs
+  help TOPIC          a format: errors, tables, chains, bases, logs, certificates, levels, blif, bench, pairs;
+                      or windows, what one is, its surround and its tail
   --version           the version, and which program runs
   --where             the path of the program
   --build             proves and builds the program from the sources of this checkout
@@ -81,8 +82,11 @@ about_topic() {
         blif) title='Netlists: BLIF' ;;
         bench) title='Netlists: BENCH' ;;
         pairs) title='Netlists compared' ;;
+        windows) title='What windows add' ;;
     esac
-    awk -v title="## $title" '/^## / { inside = $0 == title } inside' "$here/docs/FORMATS.md"
+    awk -v title="$title" '
+        /^##+ / && (!level || length($1) <= level) { level = substr($0, length($1) + 2) == title ? length($1) : 0 }
+        level' "$here/docs/FORMATS.md"
 }
 
 about_bases() {

@@ -3,7 +3,7 @@
 # checks words by the table `options`; the program checks them again.
 
 COMMANDS='synth recheck agree improve equiv gen'
-TOPICS='errors tables chains bases logs certificates levels blif bench pairs'
+TOPICS='errors tables chains bases logs certificates levels blif bench pairs windows'
 WORDS="$COMMANDS help"
 
 # What was read: the command, the options that the program takes, files, and the launcher's own options.
