@@ -145,7 +145,7 @@ read words = or_usage (command_of words)
 abbrev pub AsksFor : List (List ℕ) → Command → Type 0
 AsksFor words command = command_of words ≡ Some command
 
--- a budget of conflicts
+-- a budget of learnt clauses
 abbrev pub IsBudget : ℕ → Type 0
 IsBudget conflicts = (1 ≤ conflicts) × (conflicts ≤ most_conflicts)
 

@@ -37,7 +37,7 @@ pub enum Command {
         format: Format,
         settings: ImproveSettings,
     },
-    /// Decide whether two netlists are equivalent, within a budget of conflicts; those of probes that answered are free.
+    /// Decide whether two netlists are equivalent, within a budget of learnt clauses.
     Equiv(u32),
     /// Generate a netlist of `blocks` blocks, 1 to 10,000, and write it or improve it.
     Gen {
