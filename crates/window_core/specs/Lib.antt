@@ -14,6 +14,7 @@ pub mod WalkingLaws
 pub mod SurroundingLaws
 pub mod ConeLaws
 pub mod NotingLaws
+pub mod AfterLaws
 pub mod EndsLaws
 pub mod BoundingLaws
 pub mod SeenLaws

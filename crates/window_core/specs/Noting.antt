@@ -5,8 +5,8 @@ use Rattle.net_theory.specs.declared.data.Sig.TheVariants as sigs
 use Rattle.net_theory.specs.declared.data.Gate.{Gate}
 use Rattle.net_theory.specs.Net.{Net, end_of}
 use Rattle.net_theory.specs.Reach.{is_place}
-use Rattle.window_core.specs.Readers.{IsEarlier, IsEarlierOf}
-use Rattle.window_core.specs.declared.readers.Earlier.{Earlier}
+use Rattle.window_core.specs.Readers.{IsEarlier, IsEarlierOf, IsLater, IsLaterOf}
+use Rattle.window_core.specs.declared.readers.Nearest.{Nearest}
 
 -- a signal that is a place is below an end
 abbrev pub IsBefore : ℕ → Sig → Type 0
@@ -40,7 +40,20 @@ pub record HasNoted (n : Net) (count : ℕ) (last : List ℕ) : Type 0 where
   pub each : (p : ℕ) → p < end_of n → IsEarlier n (n.sources + 1 + count) p (slice_index_or last p 0)
 
 -- and the list has their earlier readers
-pub record AreNoted (n : Net) (count : ℕ) (last : List ℕ) (list : List Earlier) : Type 0 where
+pub record AreNoted (n : Net) (count : ℕ) (last : List ℕ) (list : List Nearest) : Type 0 where
   pub noted : HasNoted n count last
   pub size : length list ≡ count
-  pub each : (i : ℕ) (g : Gate) (e : Earlier) → slice_get n.gates i ≡ Some g → slice_get list i ≡ Some e → IsEarlierOf n (n.sources + 1 + i) g e
+  pub each : (i : ℕ) (g : Gate) (e : Nearest) → slice_get n.gates i ≡ Some g → slice_get list i ≡ Some e → IsEarlierOf n (n.sources + 1 + i) g e
+
+-- The table has the first readers of each place among the gates from an index on.
+pub record HasFirst (n : Net) (from : ℕ) (first : List ℕ) : Type 0 where
+  pub size : length first ≡ end_of n
+  pub each : (p : ℕ) → p < end_of n → IsLater n (n.sources + 1 + from) p (slice_index_or first p 0)
+
+-- and the list has their later readers; so many gates were taken, from the last one on, and so many are left
+pub record AreAfter (n : Net) (taken : ℕ) (first : List ℕ) (list : List Nearest) : Type 0 where
+  pub left : ℕ
+  pub all : left + taken ≡ length n.gates
+  pub noted : HasFirst n left first
+  pub size : length list ≡ taken
+  pub each : (i j : ℕ) (g : Gate) (e : Nearest) → i + j + 1 ≡ length n.gates → slice_get n.gates i ≡ Some g → slice_get list j ≡ Some e → IsLaterOf n (n.sources + 1 + i) g e

@@ -11,7 +11,7 @@ use Rattle.net_theory.specs.Net.{Net, IsNet, IsSigBelow, end_of}
 use Rattle.net_theory.specs.Reach.{is_place, ReadsPlace}
 use Rattle.window_theory.specs.Paths.{IsGate, Reads}
 use Rattle.window_theory.specs.SurroundLaws.{gate_one}
-use Rattle.window_core.specs.declared.readers.Earlier.{Earlier}
+use Rattle.window_core.specs.declared.readers.Nearest.{Nearest}
 use Rattle.window_core.specs.Readers.{named_by, named_by_gate, named_by_sinks, sum_gates, uses_of, place_of, IsEarlier, IsEarlierOf}
 use Rattle.window_core.specs.Noting.{IsBefore, AreBefore, AreGrown, IsCounting, IsNoted, HasNoted, AreNoted}
 
@@ -96,7 +96,7 @@ before_rest end gs g rest parts all =
 reads_test : (p : ℕ) (g : Gate) → ReadsPlace g p → (is_place p g.a ≡ true) ⊎ (is_place p g.b ≡ true)
 reads_test p g reads = ⊎_elim (λ a. inl (ap (is_place p) a ∙ eq-eqb p p refl)) (λ b. inr (ap (is_place p) b ∙ eq-eqb p p refl)) reads
 
-place_is : (p : ℕ) (s : Sig) → is_place p s ≡ true → s ≡ sigs.Place p
+pub place_is : (p : ℕ) (s : Sig) → is_place p s ≡ true → s ≡ sigs.Place p
 place_is p sigs.Zero e = absurd cc
 place_is p sigs.One e = absurd cc
 place_is p (sigs.Place q) e = ap sigs.Place (eqb-true q p e)
@@ -155,7 +155,7 @@ noted_more n i g place last mid next at place_is first second was =
     }
 
 -- a net has the place 0
-end_some : (n : Net) → 0 < end_of n
+pub end_some : (n : Net) → 0 < end_of n
 end_some n = omega arith
 
 -- a place that a signal names, or 0 for a constant, is one of the table's
@@ -170,10 +170,10 @@ at_last [] x (suc j) y e = absurd cc
 at_last (z ∷ xs) x zero y e = inl e
 at_last (z ∷ xs) x (suc j) y e = ⊎_elim (λ there. inl there) (λ r. inr (omega (arith, r.0), r.1)) (at_last xs x j y e)
 
-some_same : {A : Type 0} (x y : A) → Some x ≡ Some y → x ≡ y
+pub some_same : {A : Type 0} (x y : A) → Some x ≡ Some y → x ≡ y
 some_same x y e = cc
 
-pub list_more : (n : Net) (i : ℕ) (g : Gate) (place : ℕ) (last mid next : List ℕ) (list new : List Earlier) (e : Earlier) → slice_get n.gates i ≡ Some g → place ≡ n.sources + 1 + i → IsBefore (length last) g.a → IsBefore (length last) g.b
+pub list_more : (n : Net) (i : ℕ) (g : Gate) (place : ℕ) (last mid next : List ℕ) (list new : List Nearest) (e : Nearest) → slice_get n.gates i ≡ Some g → place ≡ n.sources + 1 + i → IsBefore (length last) g.a → IsBefore (length last) g.b
     → e.first ≡ slice_index_or last (place_of g.a) 0 → e.second ≡ slice_index_or last (place_of g.b) 0 → IsNoted g.a place last mid → IsNoted g.b place mid next → new ≡ list ++ e ∷ [] → AreNoted n i last list → AreNoted n (i + 1) next new
 list_more n i g place last mid next list new e at place_is low_a low_b first second noted_a noted_b is was =
     let some : 0 < length last = subst (λ (end : ℕ). 0 < end) (sym was.noted.size) (end_some n) in
@@ -183,7 +183,7 @@ list_more n i g place last mid next list new e at place_is low_a low_b first sec
     } in
     record {
       noted = noted_more n i g place last mid next at place_is noted_a noted_b was.noted;
-      size = ap (length {A = Earlier}) is ∙ length-append list (e ∷ []) ∙ ap (λ (k : ℕ). k + 1) was.size;
+      size = ap (length {A = Nearest}) is ∙ length-append list (e ∷ []) ∙ ap (λ (k : ℕ). k + 1) was.size;
       each = λ j x y at_x at_y.
           ⊎_elim
           (λ there. was.each j x y at_x there)
@@ -191,7 +191,7 @@ list_more n i g place last mid next list new e at place_is low_a low_b first sec
           let same : j ≡ i = r.0 ∙ was.size in
           let gate : g ≡ x = some_same g x (sym at ∙ ap (slice_get n.gates) (sym same) ∙ at_x) in
           subst (λ (k : ℕ). IsEarlierOf n (n.sources + 1 + k) x y) (sym same) (subst (IsEarlierOf n (n.sources + 1 + i) x) r.1 (subst (λ (z : Gate). IsEarlierOf n (n.sources + 1 + i) z e) gate own)))
-          (at_last list e j y (ap (λ (xs : List Earlier). slice_get xs j) (sym is) ∙ at_y));
+          (at_last list e j y (ap (λ (xs : List Nearest). slice_get xs j) (sym is) ∙ at_y));
     }
 
 low_end : (p place end : ℕ) → p < place → place ≤ end → p < end
@@ -214,7 +214,7 @@ gates_before n end net is =
 
 -- ---- the table of uses
 
-take_front : {A : Type 0} (xs ys : List A) (n : ℕ) → length xs ≡ n → take n (xs ++ ys) ≡ xs
+pub take_front : {A : Type 0} (xs ys : List A) (n : ℕ) → length xs ≡ n → take n (xs ++ ys) ≡ xs
 take_front [] ys zero e = refl
 take_front [] ys (suc n) e = absurd (omega (arith, e))
 take_front (x ∷ xs) ys zero e = absurd (omega (arith, e))
@@ -242,7 +242,7 @@ grown_both n old mid new first second =
           ∙ ap (λ (k : ℕ). min (slice_index_or old p 0 + (k + named_by_sinks p n.sinks)) 255) (sum_anywhere (named_by_gate p) 0 (n.sources + 1) n.gates);
     }
 
-pub list_code : (n : Net) (gates : List Gate) (i : ℕ) (g : Gate) (place sources : ℕ) (last mid next : List ℕ) (list new : List Earlier) (e : Earlier) → IsNet n → gates ≡ n.gates → i < length gates → g ≡ slice_index_or gates i g → sources ≡ n.sources → place ≡ sources + 1 + i
+pub list_code : (n : Net) (gates : List Gate) (i : ℕ) (g : Gate) (place sources : ℕ) (last mid next : List ℕ) (list new : List Nearest) (e : Nearest) → IsNet n → gates ≡ n.gates → i < length gates → g ≡ slice_index_or gates i g → sources ≡ n.sources → place ≡ sources + 1 + i
     → e.first ≡ slice_index_or last (place_of g.a) 0 → e.second ≡ slice_index_or last (place_of g.b) 0 → IsNoted g.a place last mid → IsNoted g.b place mid next → new ≡ list ++ e ∷ [] → AreNoted n i last list → AreNoted n (i + 1) next new
 list_code n gates i g place sources last mid next list new e net same low is sources_is place_is first second noted_a noted_b grown was =
     let at : slice_get n.gates i ≡ Some g = ap (λ (xs : List Gate). slice_get xs i) (sym same) ∙ slice_get-get_or gates i g low ∙ ap Some (sym is) in
@@ -262,6 +262,6 @@ some_places n last size = subst (λ (end : ℕ). 0 < end) (sym size) (end_some n
 same_number : (i count : ℕ) → count ≤ i → i ≤ count → i ≡ count
 same_number i count high low = omega arith
 
-pub noted_all : (n : Net) (gates : List Gate) (i : ℕ) (last : List ℕ) (list : List Earlier) → gates ≡ n.gates → length gates ≤ i → i ≤ length gates → AreNoted n i last list → AreNoted n (length n.gates) last list
+pub noted_all : (n : Net) (gates : List Gate) (i : ℕ) (last : List ℕ) (list : List Nearest) → gates ≡ n.gates → length gates ≤ i → i ≤ length gates → AreNoted n i last list → AreNoted n (length n.gates) last list
 noted_all n gates i last list same high low was =
     subst (λ (k : ℕ). AreNoted n k last list) (same_number i (length gates) high low ∙ ap (length {A = Gate}) same) was

@@ -1,4 +1,4 @@
--- The index of a net: how often each place is named, and who named it last below a gate.
+-- The index of a net: how often each place is named, and who named it last below a gate, and first above it.
 use Rattle.std.specs.Prelude.{◌≡◌, ℕ, ◌+◌, ◌≤◌, ◌<◌, min, if◌then◌else◌, List, [], ◌∷◌, length, slice_get, slice_index_or, Some, ◌⊎◌}
 use Rattle.net_theory.specs.declared.data.Sig.{Sig}
 use Rattle.net_theory.specs.declared.data.Sig.TheVariants as sigs
@@ -6,7 +6,7 @@ use Rattle.net_theory.specs.declared.data.Gate.{Gate}
 use Rattle.net_theory.specs.Net.{Net, end_of}
 use Rattle.net_theory.specs.Reach.{is_place}
 use Rattle.window_theory.specs.Paths.{Reads}
-use Rattle.window_core.specs.declared.readers.Earlier.{Earlier}
+use Rattle.window_core.specs.declared.readers.Nearest.{Nearest}
 
 -- ---- how often
 
@@ -44,29 +44,48 @@ pub record IsEarlier (n : Net) (q p r : ℕ) : Type 0 where
   pub most : (x : ℕ) → Reads n x p → x < q → x ≤ r
 
 -- for both operands of the gate at q
-pub record IsEarlierOf (n : Net) (q : ℕ) (g : Gate) (e : Earlier) : Type 0 where
+pub record IsEarlierOf (n : Net) (q : ℕ) (g : Gate) (e : Nearest) : Type 0 where
   pub first : IsEarlier n q (place_of g.a) e.first
   pub second : IsEarlier n q (place_of g.b) e.second
 
 -- for each of the gates
-pub record AreEarlier (n : Net) (list : List Earlier) : Type 0 where
+pub record AreEarlier (n : Net) (list : List Nearest) : Type 0 where
   pub size : length list ≡ length n.gates
-  pub each : (i : ℕ) (g : Gate) (e : Earlier) → slice_get n.gates i ≡ Some g → slice_get list i ≡ Some e → IsEarlierOf n (n.sources + 1 + i) g e
+  pub each : (i : ℕ) (g : Gate) (e : Nearest) → slice_get n.gates i ≡ Some g → slice_get list i ≡ Some e → IsEarlierOf n (n.sources + 1 + i) g e
+
+-- ---- who is next
+
+-- the least gate at q or above it that reads p, or 0 where there is none
+pub record IsLater (n : Net) (q p r : ℕ) : Type 0 where
+  pub found : (r ≡ 0) ⊎ (Reads n r p × (q ≤ r))
+  pub most : (x : ℕ) → Reads n x p → q ≤ x → (1 ≤ r) × (r ≤ x)
+
+-- above the gate at q, for both of its operands
+pub record IsLaterOf (n : Net) (q : ℕ) (g : Gate) (e : Nearest) : Type 0 where
+  pub first : IsLater n (q + 1) (place_of g.a) e.first
+  pub second : IsLater n (q + 1) (place_of g.b) e.second
+
+-- for each of the gates, of which the last one stands first
+pub record AreLater (n : Net) (list : List Nearest) : Type 0 where
+  pub size : length list ≡ length n.gates
+  pub each : (i j : ℕ) (g : Gate) (e : Nearest) → i + j + 1 ≡ length n.gates → slice_get n.gates i ≡ Some g → slice_get list j ≡ Some e → IsLaterOf n (n.sources + 1 + i) g e
 
 -- ---- the index
 
 pub record Readers : Type 0 where
   pub uses : List ℕ
-  pub earlier : List Earlier
-  pub last : List ℕ
+  pub earlier : List Nearest
+  pub later : List Nearest
+  pub first : List ℕ
 
 -- Each place has the number of its uses, where 255 stands for all numbers from 255 on, and each gate the greatest
--- gates below it that read what it reads; and each place has the last gate that reads it.
+-- gates below it and the least above it that read what it reads; and each place has the first gate that reads it.
 -- Example: of XOR of two sources at place 3, which is the one sink, the uses of the places 1, 2 and 3 are 1, and
 -- there are no earlier readers.
 pub record AreReaders (n : Net) (r : Readers) : Type 0 where
   pub size : length r.uses ≡ end_of n
   pub uses : (p : ℕ) → p < end_of n → slice_index_or r.uses p 0 ≡ min (uses_of n p) 255
   pub earlier : AreEarlier n r.earlier
-  pub last_size : length r.last ≡ end_of n
-  pub last : (p : ℕ) → p < end_of n → IsEarlier n (end_of n) p (slice_index_or r.last p 0)
+  pub later : AreLater n r.later
+  pub first_size : length r.first ≡ end_of n
+  pub first : (p : ℕ) → p < end_of n → IsLater n (n.sources + 1) p (slice_index_or r.first p 0)

@@ -12,7 +12,7 @@ use Rattle.window_theory.specs.PlaceLaws.{among_cases, among_first, among_later}
 use Rattle.window_theory.specs.Paths.{IsGate, Reads}
 use Rattle.window_theory.specs.Partner.{SharesBelow, ArePartners}
 use Rattle.window_theory.specs.WindowLaws.{reads_low, gate_high}
-use Rattle.window_core.specs.declared.readers.Earlier.{Earlier}
+use Rattle.window_core.specs.declared.readers.Nearest.{Nearest}
 use Rattle.window_core.specs.Gates.{IsGateOf}
 use Rattle.window_core.specs.Readers.{place_of, IsEarlier, IsEarlierOf, AreEarlier}
 use Rattle.window_core.specs.Walking.{IsWalk}
@@ -79,7 +79,7 @@ onward_stays n bound place reader found was low within other =
 
 -- ---- the walk
 
-pub walk_start : (n : Net) (root : ℕ) (g : Gate) (e : Earlier) (partners : List ℕ) → IsGateOf n root g → IsEarlierOf n root g e → partners ≡ [] → IsWalk n root e.first e.second partners
+pub walk_start : (n : Net) (root : ℕ) (g : Gate) (e : Nearest) (partners : List ℕ) → IsGateOf n root g → IsEarlierOf n root g e → partners ≡ [] → IsWalk n root e.first e.second partners
 unfolding IsFalling
 walk_start n root g e partners is of none =
     subst (IsWalk n root e.first e.second) (sym none) (record {
@@ -192,15 +192,15 @@ walk_full n root a b count partners w size full =
 
 -- ---- looking up
 
-pub earlier_code : (n : Net) (list : List Earlier) (place index : ℕ) (e : Earlier) → AreEarlier n list → index ≡ place - n.sources - 1 → index < length list → slice_get list index ≡ Some e → (g : Gate) → IsGateOf n place g → IsEarlierOf n place g e
+pub earlier_code : (n : Net) (list : List Nearest) (place index : ℕ) (e : Nearest) → AreEarlier n list → index ≡ place - n.sources - 1 → index < length list → slice_get list index ≡ Some e → (g : Gate) → IsGateOf n place g → IsEarlierOf n place g e
 earlier_code n list place index e are is low at g of =
     let same : of.index ≡ index = omega (arith, of.place, is) in
     subst (λ (p : ℕ). IsEarlierOf n p g e) (ap (λ (k : ℕ). n.sources + 1 + k) (sym same) ∙ of.place)
     (are.each index g e (ap (slice_get n.gates) (sym same) ∙ of.at) at)
 
-pub earlier_at : (n : Net) (list items : List Earlier) (place sources : ℕ) (e : Earlier) → AreEarlier n list → items ≡ list → sources ≡ n.sources → IsGate n place → e ≡ slice_index_or items (place - sources - 1) e → (g : Gate) → IsGateOf n place g → IsEarlierOf n place g e
+pub earlier_at : (n : Net) (list items : List Nearest) (place sources : ℕ) (e : Nearest) → AreEarlier n list → items ≡ list → sources ≡ n.sources → IsGate n place → e ≡ slice_index_or items (place - sources - 1) e → (g : Gate) → IsGateOf n place g → IsEarlierOf n place g e
 earlier_at n list items place sources e are same sources_is gate is =
     let high = gate_high n place gate in
-    let low : place - sources - 1 < length items = omega (arith, high.0, high.1, sources_is, are.size, ap (length {A = Earlier}) same) in
-    earlier_code n list place (place - sources - 1) e are (omega (arith, sources_is)) (omega (arith, low, ap (length {A = Earlier}) same))
-    (ap (λ (xs : List Earlier). slice_get xs (place - sources - 1)) (sym same) ∙ slice_get-get_or items (place - sources - 1) e low ∙ ap Some (sym is))
+    let low : place - sources - 1 < length items = omega (arith, high.0, high.1, sources_is, are.size, ap (length {A = Nearest}) same) in
+    earlier_code n list place (place - sources - 1) e are (omega (arith, sources_is)) (omega (arith, low, ap (length {A = Nearest}) same))
+    (ap (λ (xs : List Nearest). slice_get xs (place - sources - 1)) (sym same) ∙ slice_get-get_or items (place - sources - 1) e low ∙ ap Some (sym is))

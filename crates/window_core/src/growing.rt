@@ -2,7 +2,7 @@
 //! that is taken. A candidate that isn't taken stands below the gate that was taken last, so that none has to be looked
 //! for among those that are taken.
 
-ghost use Rattle.std.specs.Prelude.{◌≡◌, ℕ, ◌+◌, true, [], length, IfSome, IfNone, IfOk};
+ghost use Rattle.std.specs.Prelude.{◌≡◌, ℕ, true, [], length, IfSome, IfNone, IfOk};
 ghost use Rattle.net_theory.specs.Net.{IsNet};
 ghost use Rattle.window_theory.specs.Paths.{IsGate};
 ghost use Rattle.window_theory.specs.Window.{IsCandidate, IsGreatestCandidate, AreTaken, IsWindow};

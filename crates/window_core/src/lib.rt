@@ -1,8 +1,8 @@
 //! Windows of a net: small parts that a shorter chain may take the place of, after Kulikov, Pechenev and Slezkin. What a
 //! window is, and what it has to compute, is said in the definitions of `window_theory`.
 //!
-//! It rests on an index of the net that is made once (`Readers`): how often each place is named, and which gate below a
-//! gate named it last. With it the time for a window and its partners grows with their size and not with the net's, and
+//! It rests on an index of the net that is made once (`Readers`): how often each place is named, which gate below a gate
+//! named it last, and which one above it does next. With it the time for a window and its partners grows with their size and not with the net's, and
 //! that for a specification with the size of the window and its surround. `partners` and `window` make the index
 //! themselves.
 //!
@@ -15,7 +15,7 @@
 //! |---|---|
 //! | net; place; source, sink | logic network of two-input nodes; node index; combinational input (primary input or latch output), combinational output |
 //! | reads, is read; names, uses | fanin, fanout; reference, reference count |
-//! | `Readers`: earlier, last | fanout lists, linked from the last fanout of a node to the one before |
+//! | `Readers`: earlier; first, later | fanout lists, linked from a fanout of a node to the one before; and from the first to the next |
 //! | window; root; inputs, outputs | window or subcircuit; pivot; leaves (a cut), roots |
 //! | candidate, taken | greedy growth, by the fanin of greatest index |
 //! | partner | sibling: a node that shares a fanin |
@@ -51,7 +51,7 @@ pub use bounding::{window, window_by};
 pub use ends::all_inputs;
 pub use growing::gate_at;
 pub use net_core::{Gate, Net, Sig};
-pub use readers::{Readers, earlier_of, last_reader, place_of, readers_of};
+pub use readers::{Readers, first_reader, later_of, place_of, readers_of};
 pub use rising::{has, put};
 pub use seen::all_outputs;
 pub use shape::{MOST_GATES, Window};

@@ -1,32 +1,34 @@
-//! The index of a net, made in two passes over its gates: the reference count of each place, and linked fanout lists,
-//! in which each gate has the next lower fanout of its fanins. It serves all windows of the net.
+//! The index of a net, made in three passes over its gates: the reference count of each place, and linked fanout lists,
+//! in which each gate has the next lower fanout of its fanins, and the next higher one. It serves all windows of the net.
 
 ghost use Rattle.std.specs.Prelude.{◌≡◌, ℕ, ◌+◌, ◌<◌, min, List, [], length, slice_index_or, All, IfOk, OnOk};
 ghost use Rattle.net_theory.specs.declared.data.Gate.{Gate as GateValue};
 ghost use Rattle.net_theory.specs.Net.{end_of};
 ghost use Rattle.window_theory.specs.Paths.{IsGate};
 ghost use Rattle.window_core.specs.Gates.{IsGateOf};
-ghost use Rattle.window_core.specs.Readers.{named_by, named_by_gate, named_by_sinks, sum_gates, uses_of, place_of as place_named, AreReaders, AreEarlier, IsEarlier, IsEarlierOf};
-ghost use Rattle.window_core.specs.Noting.{IsBefore, AreBefore, AreGrown, IsNoted, HasNoted};
+ghost use Rattle.window_core.specs.Readers.{named_by, named_by_gate, named_by_sinks, sum_gates, uses_of, place_of as place_named, AreReaders, AreEarlier, IsEarlier, IsEarlierOf, AreLater, IsLater, IsLaterOf};
+ghost use Rattle.window_core.specs.Noting.{IsBefore, AreBefore, AreGrown, IsNoted, HasNoted, HasFirst};
 
 use net_core::{Gate, Net, Sig};
 use std::alloc::{AllocError, Global};
 use std::marker::Model;
 
-/// The greatest gates below a gate that read its first and its second operand; 0 where there is none.
+/// The gates next to a gate that read its first and its second operand, the greatest below it or the least above it; 0 where
+/// there is none.
 #[derive(Clone, Copy)]
-pub struct Earlier {
+pub struct Nearest {
     pub first: u32,
     pub second: u32,
 }
 
-/// The index of a net: how many operands and sinks name each place, 255 for 255 or more, the earlier readers of what
-/// each gate reads, and the last reader of each place.
+/// The index of a net: how many operands and sinks name each place, 255 for 255 or more, the earlier and the later readers of
+/// what each gate reads, the later ones from the last gate on, and the first reader of each place.
 #[derive(Drop)]
 pub struct Readers {
     uses: Vec<u8>,
-    earlier: Vec<Earlier>,
-    last: Vec<u32>,
+    earlier: Vec<Nearest>,
+    later: Vec<Nearest>,
+    first: Vec<u32>,
 }
 
 impl Model for Readers {
@@ -34,7 +36,7 @@ impl Model for Readers {
 
     ghost Value = { readers.Readers };
 
-    ghost view = { λ r. record { uses = r.uses.items; earlier = r.earlier.items; last = r.last.items } };
+    ghost view = { λ r. record { uses = r.uses.items; earlier = r.earlier.items; later = r.later.items; first = r.first.items } };
 }
 
 /// Counts a use of what a signal names.
@@ -94,7 +96,7 @@ fn note(last: &mut [u32], sig: Sig, place: u32)
 
 /// The last readers so far of a gate's operands; then the gate is noted as their last reader. Both are looked up before
 /// it is noted, since a gate may read one place twice.
-fn note_gate(last: &mut [u32], place: u32, gate: &Gate) -> Earlier
+fn note_gate(last: &mut [u32], place: u32, gate: &Gate) -> Nearest
     requires some { 0 < length last.old }
     requires first { IsBefore (length last.old) gate.now.a }
     requires second { IsBefore (length last.old) gate.now.b }
@@ -106,21 +108,37 @@ fn note_gate(last: &mut [u32], place: u32, gate: &Gate) -> Earlier
     let second = last[place_of(gate.b) as usize];
     note(last, gate.a, place);
     note(last, gate.b, place);
-    Earlier { first, second }
+    Nearest { first, second }
 }
 
 /// The earlier readers of what the gates read, by a table of last readers that has none yet.
-fn note_gates(last: &mut [u32], earlier: &mut Vec<Earlier>, net: &Net) -> Result<(), AllocError>
+fn note_gates(last: &mut [u32], earlier: &mut Vec<Nearest>, net: &Net) -> Result<(), AllocError>
     requires noted { HasNoted net.now 0 last.old }
     requires none { earlier.old.items ≡ [] }
-    ensures earlier { OnOk result (AreEarlier net.now earlier.new.items) }
-    ensures last { OnOk result (HasNoted net.now (length net.now.gates) last.new) }
+    ensures { OnOk result (AreEarlier net.now earlier.new.items) }
 {
     let gates = net.gates();
     let first = net.sources() + 1;
     for i in 0..gates.len() {
         let pair = note_gate(last, first + i as u32, &gates[i]);
         earlier.push(pair)?;
+    }
+    Ok(())
+}
+
+/// The later readers of what the gates read, from the last gate on, by a table of first readers that has none yet.
+fn note_later(first: &mut [u32], later: &mut Vec<Nearest>, net: &Net) -> Result<(), AllocError>
+    requires noted { HasFirst net.now (length net.now.gates) first.old }
+    requires none { later.old.items ≡ [] }
+    ensures later { OnOk result (AreLater net.now later.new.items) }
+    ensures first { OnOk result (HasFirst net.now 0 first.new) }
+{
+    let gates = net.gates();
+    let start = net.sources() + 1;
+    for taken in 0..gates.len() {
+        let i = gates.len() - (taken + 1);
+        let pair = note_gate(first, start + i as u32, &gates[i]);
+        later.push(pair)?;
     }
     Ok(())
 }
@@ -153,15 +171,19 @@ pub fn readers_of(alloc: Global, net: &Net) -> Result<Readers, AllocError>
     let mut last = vec![in alloc; 0u32; net.sources() as usize + 1 + gates]?;
     let mut earlier = Vec::with_capacity(alloc, gates)?;
     note_gates(&mut last, &mut earlier, net)?;
+    let mut first = vec![in alloc; 0u32; net.sources() as usize + 1 + gates]?;
+    let mut later = Vec::with_capacity(alloc, gates)?;
+    note_later(&mut first, &mut later, net)?;
     Ok(Readers {
         uses,
         earlier,
-        last,
+        later,
+        first,
     })
 }
 
 /// The earlier readers of what a gate reads.
-pub fn earlier_of(net: &Net, readers: &Readers, place: u32) -> Earlier
+pub fn earlier_of(net: &Net, readers: &Readers, place: u32) -> Nearest
     requires index { AreReaders net.now readers.now }
     requires gate { IsGate net.now place }
     ensures { (g : GateValue) → IsGateOf net.now place g → IsEarlierOf net.now place g result }
@@ -178,11 +200,21 @@ pub fn uses_at(readers: &Readers, net: &Net, place: u32) -> u8
     readers.uses[place as usize]
 }
 
-/// The last gate that reads a place, 0 if there is none.
-pub fn last_reader(readers: &Readers, net: &Net, place: u32) -> u32
+/// The later readers of what a gate reads.
+pub fn later_of(net: &Net, readers: &Readers, place: u32) -> Nearest
+    requires index { AreReaders net.now readers.now }
+    requires gate { IsGate net.now place }
+    ensures { (g : GateValue) → IsGateOf net.now place g → IsLaterOf net.now place g result }
+{
+    let gates = net.gates();
+    readers.later[net.sources() as usize + gates.len() - place as usize]
+}
+
+/// The first gate that reads a place, 0 if there is none.
+pub fn first_reader(readers: &Readers, net: &Net, place: u32) -> u32
     requires index { AreReaders net.now readers.now }
     requires place { place < end_of net.now }
-    ensures { IsEarlier net.now (end_of net.now) place result }
+    ensures { IsLater net.now (net.now.sources + 1) place result }
 {
-    readers.last[place as usize]
+    readers.first[place as usize]
 }

@@ -1,7 +1,7 @@
 //! Which gates of a window are outputs: those with references from outside, more in all than by the gates inside. The
 //! index has the number of all references, so that no pass over the net is needed.
 
-ghost use Rattle.std.specs.Prelude.{◌≡◌, ℕ, ◌≤◌, ◌<◌, true, length, IfOk};
+ghost use Rattle.std.specs.Prelude.{◌≡◌, ℕ, ◌≤◌, true, length, IfOk};
 ghost use Rattle.window_theory.specs.Places.{among, IsRising, AreJust};
 ghost use Rattle.window_theory.specs.Paths.{IsGate};
 ghost use Rattle.window_theory.specs.Window.{IsOutput};

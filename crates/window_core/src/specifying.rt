@@ -2,7 +2,7 @@
 //! show in their surround; the other rows are its satisfiability don't-cares. Its values come from its gates by
 //! themselves, on all rows of its inputs at once.
 
-ghost use Rattle.std.specs.Prelude.{◌≡◌, ℕ, ◌+◌, ◌≤◌, ◌<◌, ◌^◌, true, [], length, map, slice_get, Some, All, IfOk};
+ghost use Rattle.std.specs.Prelude.{◌≡◌, ℕ, ◌≤◌, ◌<◌, ◌^◌, true, [], length, map, slice_get, Some, All, IfOk};
 ghost use Rattle.chain_theory.specs.Operator.{digit};
 ghost use Rattle.net_theory.specs.declared.data.Sig.TheVariants as sigs;
 ghost use Rattle.net_theory.specs.Net.{end_of};

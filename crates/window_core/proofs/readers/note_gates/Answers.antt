@@ -20,12 +20,8 @@ pub note_gate-pair-requires-clause-second : goal.note_gate-pair-requires-clause-
 note_gate-pair-requires-clause-second c =
     (operands_before c.args.net.now c.gates-gates.result.now c.loop-i.i c.index-gates-i.result c.loop-i.last c.gates-gates.ensures.net c.gates-gates.ensures.gates c.loop-i-test.true c.index-gates-i.is c.loop-i.invariant.noted.size).1
 
-pub returns-clause-earlier : goal.returns-clause-earlier
-returns-clause-earlier c =
+pub returns : goal.returns
+returns c =
     let all : AreNoted c.args.net.now (length c.args.net.now.gates) c.loop-i.last c.loop-i.earlier.items =
     noted_all c.args.net.now c.gates-gates.result.now c.loop-i.i c.loop-i.last c.loop-i.earlier.items c.gates-gates.ensures.gates c.loop-i-test.false c.loop-i.auto.i-end c.loop-i.invariant in
     record { size = all.size; each = all.each }
-
-pub returns-clause-last : goal.returns-clause-last
-returns-clause-last c =
-    (noted_all c.args.net.now c.gates-gates.result.now c.loop-i.i c.loop-i.last c.loop-i.earlier.items c.gates-gates.ensures.gates c.loop-i-test.false c.loop-i.auto.i-end c.loop-i.invariant).noted
