@@ -39,6 +39,7 @@ impl ConeRows {
         Ok(())
     }
 
+    /// Appends the rows of the points: sources have no cones.
     fn push_points(&mut self, points: &Points) -> Result<(), AllocError> {
         for (variable, point) in points.points.iter().enumerate() {
             if variable <= points.sources as usize {
@@ -50,6 +51,7 @@ impl ConeRows {
         Ok(())
     }
 
+    /// Appends the rows of the sinks' differences.
     fn push_differences(&mut self, points: &Points) -> Result<(), AllocError> {
         for (one, other) in points.ones.iter().zip(points.others.iter()) {
             self.push(one.variable, other.variable)?;

@@ -3,8 +3,9 @@
 ghost use Rattle.std.specs.Prelude.{◌≡◌, ◌<◌, ◌^◌, OnOk};
 ghost use Rattle.equal_points.specs.Stays.{Stays};
 
+use crate::pairs::compare;
 use crate::points::{Edge, Point};
-use crate::probing::{ask_equal, ask_two};
+use crate::probing::ask_two;
 use crate::state::Sweeping;
 use sat_solve::{Probed, Solver};
 use std::alloc::AllocError;
@@ -130,50 +131,6 @@ pub(crate) fn shorten_gates<S: Solver>(
     Ok(Heard::Nothing)
 }
 
-/// How many conflicts a pair may take: a fifth of `limit` for two points of one net that aren't alike, and no more than
-/// the budget has.
-fn pair_limit(sweeping: &Sweeping, x: u32, y: u32, is_alike: bool, limit: u32) -> u32 {
-    let inner = y == 0 || sweeping.points.are_of_one_net(x, y);
-    if inner && !is_alike {
-        sweeping.most_of(limit / 5)
-    } else {
-        sweeping.most_of(limit)
-    }
-}
-
-/// Compares a gate with an earlier point. What is heard besides is whether to try another one.
-fn compare<S: Solver>(
-    solver: &mut S,
-    vars: u32,
-    sweeping: &mut Sweeping,
-    x: u32,
-    y: u32,
-    limit: u32,
-) -> Result<(Heard, bool), AllocError>
-    requires vars { S.vars_of solver.old ≡ vars }
-    requires small { vars < 2 ^ 31 }
-    ensures { OnOk result (Stays S.IsSolverOf S.vars_of solver.old solver.new) }
-{
-    let other = sweeping.as_other(x, y);
-    match ask_equal(solver, vars, sweeping.cones.rows(), x, other, limit)? {
-        Probed::Refuted => Ok((Heard::Refuted, false)),
-        Probed::Clashed => {
-            sweeping.merge(x, other);
-            Ok((Heard::Nothing, false))
-        }
-        Probed::GivenUp => {
-            sweeping.spend(limit);
-            Ok((Heard::Nothing, false))
-        }
-        Probed::Standing => {
-            if sweeping.learn(solver) {
-                return Ok((Heard::Difference, false));
-            }
-            Ok((Heard::Nothing, !sweeping.may_be_equal(x, y)))
-        }
-    }
-}
-
 /// Compares a gate with its candidates in turn, the gate that it is alike with before those of its class.
 fn settle<S: Solver>(
     solver: &mut S,
@@ -196,8 +153,7 @@ fn settle<S: Solver>(
         let Some(y) = candidate else {
             return Ok(Heard::Nothing);
         };
-        let most = pair_limit(sweeping, x, y, is_alike, limit);
-        let (heard, again) = compare(solver, vars, sweeping, x, y, most)?;
+        let (heard, again) = compare(solver, vars, sweeping, x, y, is_alike, limit)?;
         if !again {
             return Ok(heard);
         }
@@ -227,7 +183,7 @@ fn visit<S: Solver>(
     Ok(heard)
 }
 
-/// Visits all gates in order.
+/// Visits all gates in order, as long as there is patience.
 pub(crate) fn visit_gates<S: Solver>(
     solver: &mut S,
     vars: u32,
@@ -241,6 +197,9 @@ pub(crate) fn visit_gates<S: Solver>(
     for x in sweeping.points.first_gate()..sweeping.points.end() {
         if sweeping.is_spent() {
             return Ok(Heard::Spent);
+        }
+        if sweeping.patience.is_out() {
+            return Ok(Heard::Nothing);
         }
         let heard = visit(solver, vars, sweeping, x, limit)?;
         if heard != Heard::Nothing {

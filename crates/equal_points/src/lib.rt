@@ -9,7 +9,7 @@
 //!
 //! ```text
 //! let mut solver = S::new(alloc, &cnf, budget)?;       // of the miter of the two nets
-//! match sweep(alloc, &first, &second, &mut solver, budget)? {
+//! match sweep(alloc, &first, &second, &mut solver, budget / 2)? {
 //!     Swept::Differ(sources) => ..,                    // a sink may differ here: simulate it
 //!     Swept::Swept { spent } => ..,                    // solver.finish(alloc, what is left of the budget)
 //! }
@@ -19,12 +19,15 @@
 //! - `src/patterns.rt`: simulation; `src/classes.rt`: points that may be equal; `src/forms.rt`: points whose gates are
 //!   alike over what was merged.
 //! - `src/probing.rt`: questions to the solver. `src/gates.rt`, `src/sinks.rt`, `src/sweeping.rt`: the order of them.
+//!   `src/pairs.rt`: the question whether two points are equal; `src/patience.rt`: how long it is asked.
 #![tactic(auto)]
 
 mod classes;
 mod cones;
 mod forms;
 mod gates;
+mod pairs;
+mod patience;
 mod patterns;
 mod points;
 mod probing;

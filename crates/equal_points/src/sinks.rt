@@ -29,6 +29,7 @@ fn visit_sink<S: Solver>(
             if sweeping.learn(solver) {
                 return Ok(Heard::Difference);
             }
+            // To ask again would find the same: it is left to the search after the sweep.
             sweeping.close(sink);
         }
     }

@@ -3,6 +3,7 @@
 use crate::classes::Classes;
 use crate::cones::ConeRows;
 use crate::forms::Forms;
+use crate::patience::Patience;
 use crate::patterns::Patterns;
 use crate::points::{Edge, Points};
 use crate::rows::{entry, put};
@@ -16,13 +17,15 @@ pub(crate) struct Sweeping {
     pub points: Points,
     pub patterns: Patterns,
     pub cones: ConeRows,
+    pub patience: Patience,
     classes: Classes,
     forms: Forms,
     /// The representative of each point: itself, where it wasn't merged.
     same: Vec<Edge>,
     /// Whether a point is in the cone of an open sink.
     needed: Vec<bool>,
-    /// Whether it isn't known of a sink that the nets agree in it.
+    /// Whether a sink is still asked: neither is it known that the nets agree in it, nor was it left to the search after
+    /// the sweep.
     open: Vec<bool>,
     spent: u32,
     budget: u32,
@@ -59,6 +62,7 @@ impl Sweeping {
             points,
             patterns,
             cones,
+            patience: Patience::new(),
             classes,
             forms: Forms::new(alloc),
             same,
@@ -69,9 +73,10 @@ impl Sweeping {
         })
     }
 
-    /// Begins a round: the points in the cones of open sinks are needed, no form is known, and of the points only the
-    /// constant and the sources are listed.
+    /// Begins a round: the points in the cones of open sinks are needed, no form is known, of the points only the
+    /// constant and the sources are listed, and there is all patience.
     pub(crate) fn begin_round(&mut self) {
+        self.patience = Patience::new();
         self.needed.fill(false);
         self.need_sinks();
         self.need_cones();
@@ -182,6 +187,11 @@ impl Sweeping {
     /// Counts the conflicts of a question that was given up.
     pub(crate) fn spend(&mut self, conflicts: u32) {
         self.spent = self.spent.saturating_add(conflicts);
+    }
+
+    /// Whether a pair is two gates of one net, or a gate and the constant.
+    pub(crate) fn is_inner(&self, x: u32, y: u32) -> bool {
+        y == 0 || self.points.are_of_one_net(x, y)
     }
 
     /// The conflicts that count.
