@@ -1,9 +1,9 @@
 -- The readers of a place, and the least follower of some gates, while they are looked for. 0 stands for none.
-use Rattle.std.specs.Prelude.{◌≡◌, ℕ, ◌+◌, ◌≤◌, true, false, List, ◌++◌, length, ◌⊎◌}
-use Rattle.net_theory.specs.Net.{Net}
+use Rattle.std.specs.Prelude.{◌≡◌, ℕ, zero, suc, ◌+◌, ◌-◌, ◌≤◌, ◌<◌, true, false, List, ◌++◌, length, ◌⊎◌}
+use Rattle.net_theory.specs.Net.{Net, end_of}
 use Rattle.window_theory.specs.Places.{among, IsRising, AreJust}
 use Rattle.window_theory.specs.Paths.{IsGate, Reads}
-use Rattle.window_core.specs.Readers.{IsEarlier}
+use Rattle.window_core.specs.Readers.{IsLater}
 use Rattle.observe_theory.specs.Tail.{IsFollower, AreFollowing, AreTail}
 
 -- the least gate outside some gates that reads a place, or 0 where there is none
@@ -11,13 +11,16 @@ pub record IsLeastReader (n : Net) (gates : List ℕ) (place r : ℕ) : Type 0 w
   pub found : (r ≡ 0) ⊎ (Reads n r place × (among gates r ≡ false))
   pub most : (x : ℕ) → Reads n x place → among gates x ≡ false → (1 ≤ r) × (r ≤ x)
 
--- So far the readers from a bound on were looked at, and `next` is the last one below it.
-pub record IsWalking (n : Net) (gates : List ℕ) (place next least : ℕ) : Type 0 where
+-- So far the readers below a bound were looked at, all of them among the gates, and `next` is the first one at it or above.
+pub record IsWalking (n : Net) (gates : List ℕ) (place next : ℕ) : Type 0 where
   pub bound : ℕ
-  pub earlier : IsEarlier n bound place next
-  pub found : (least ≡ 0) ⊎ (Reads n least place × (among gates least ≡ false))
-  pub from : (least ≡ 0) ⊎ (bound ≤ least)
-  pub most : (x : ℕ) → Reads n x place → among gates x ≡ false → bound ≤ x → (1 ≤ least) × (least ≤ x)
+  pub later : IsLater n bound place next
+  pub inside : (x : ℕ) → Reads n x place → x < bound → among gates x ≡ true
+
+-- how far it is from a place to the end of a net; from 0, which is none, it is no way
+unfoldable pub way_from : Net → ℕ → ℕ
+way_from n zero = 0
+way_from n (suc p) = end_of n - suc p
 
 -- the lesser of two numbers of which each may be none
 pub record IsLesser (a b r : ℕ) : Type 0 where

@@ -1,87 +1,68 @@
 -- How readers and followers are found.
-use Rattle.std.specs.Prelude.{◌≡◌, ℕ, ◌≤◌, ◌<◌, true, false, List, [], ◌∷◌, length, ◌⊎◌, refl}
+use Rattle.std.specs.Prelude.{◌≡◌, ℕ, zero, suc, ◌+◌, ◌-◌, ◌≤◌, ◌<◌, true, false, List, [], ◌∷◌, length, ◌⊎◌, refl}
 use Rattle.std.proofs.Common.{arith, sym, ◌∙◌, ap, subst, inl, inr, ⊎_elim}
-use Rattle.std.proofs.lemmas.Bool.{cases_Bool, cases_lt}
-use Rattle.net_theory.specs.declared.data.Sig.TheVariants as sigs
-use Rattle.net_theory.specs.declared.data.Sig.{Sig}
+use Rattle.std.proofs.lemmas.Bool.{cases_lt, both_ways}
 use Rattle.net_theory.specs.Net.{Net, end_of}
 use Rattle.window_theory.specs.Places.{among}
 use Rattle.window_theory.specs.PlaceLaws.{among_cases, among_first, among_later}
 use Rattle.window_theory.specs.Paths.{Reads}
 use Rattle.window_theory.specs.WindowLaws.{gate_high}
-use Rattle.window_core.specs.Readers.{place_of, IsEarlier}
+use Rattle.window_core.specs.Readers.{IsLater}
 use Rattle.observe_theory.specs.Tail.{IsFollower}
-use Rattle.observe_core.specs.Following.{IsLeastReader, IsWalking, IsLesser, IsNextFollower, IsSought}
-
--- ---- the reader below
-
-named : (s : Sig) (p : ℕ) → s ≡ sigs.Place p → place_of s ≡ p
-named s p e = ap place_of e
+use Rattle.observe_core.specs.Following.{IsLeastReader, IsWalking, way_from, IsLesser, IsNextFollower, IsSought}
 
 -- ---- the least reader
 
-pub walk_start : (n : Net) (gates : List ℕ) (place next : ℕ) → IsEarlier n (end_of n) place next → IsWalking n gates place next 0
+pub walk_start : (n : Net) (gates : List ℕ) (place next : ℕ) → IsLater n (n.sources + 1) place next → IsWalking n gates place next
 walk_start n gates place next first =
     record {
-      bound = end_of n;
-      earlier = first;
-      found = inl refl;
-      from = inl refl;
-      most = λ x reads out above. absurd (omega (arith, above, (gate_high n x reads.reader).1));
+      bound = n.sources + 1;
+      later = first;
+      inside = λ x reads below. absurd (omega (arith, below, (gate_high n x reads.reader).0));
     }
 
 -- the next reader is a gate that reads the place
-pub walk_reads : (n : Net) (gates : List ℕ) (place next least : ℕ) → (next ≡ 0 → ⊥) → IsWalking n gates place next least → Reads n next place
-walk_reads n gates place next least some walk = ⊎_elim (λ none. absurd (some none)) (λ r. r.0) walk.earlier.found
+pub walk_reads : (n : Net) (gates : List ℕ) (place next : ℕ) → (next ≡ 0 → ⊥) → IsWalking n gates place next → Reads n next place
+walk_reads n gates place next some walk = ⊎_elim (λ none. absurd (some none)) (λ r. r.0) walk.later.found
 
-pub walk_more : (n : Net) (gates : List ℕ) (place next least before new : ℕ) → (next ≡ 0 → ⊥) → (among gates next ≡ true → new ≡ least) → (among gates next ≡ false → new ≡ next) → IsEarlier n next place before → IsWalking n gates place next least → IsWalking n gates place before new
-walk_more n gates place next least before new some inside outside earlier walk =
-    let here : Reads n next place × (next < walk.bound) = ⊎_elim (λ none. absurd (some none)) (λ r. r) walk.earlier.found in
-    ⊎_elim
-    (λ on.
-    let same : new ≡ least = inside on in
-    subst (IsWalking n gates place before) (sym same)
-    (record {
-      bound = next;
-      earlier = earlier;
-      found = walk.found;
-      from = ⊎_elim (λ none. inl none) (λ above. inr (omega (arith, above, here.1))) walk.from;
-      most = λ x reads out above. ⊎_elim
-          (λ (low : x < walk.bound).
-          let most : x ≤ next = walk.earlier.most x reads low in
-          let own : x ≡ next = omega (arith, most, above) in
-          absurd (let e : true ≡ false = sym on ∙ ap (among gates) (sym own) ∙ out in cc))
-          (λ (high : walk.bound ≤ x). walk.most x reads out high)
-          (cases_lt x walk.bound);
-    }))
-    (λ off.
-    let same : new ≡ next = outside off in
-    let positive : 1 ≤ next = omega (arith, (gate_high n next here.0.reader).0) in
-    subst (IsWalking n gates place before) (sym same)
-    (record {
-      bound = next;
-      earlier = earlier;
-      found = inr (here.0, off);
-      from = inr (omega arith);
-      most = λ x reads out above. (positive, above);
-    }))
-    (cases_Bool (among gates next))
-
-pub walk_end : (n : Net) (gates : List ℕ) (place next least : ℕ) → next ≡ 0 → IsWalking n gates place next least → IsLeastReader n gates place least
-walk_end n gates place next least none walk =
+pub walk_more : (n : Net) (gates : List ℕ) (place next after : ℕ) → (next ≡ 0 → ⊥) → among gates next ≡ true → IsLater n (next + 1) place after → IsWalking n gates place next → IsWalking n gates place after
+walk_more n gates place next after some on later walk =
     record {
-      found = walk.found;
-      most = λ x reads out. ⊎_elim
-          (λ (low : x < walk.bound).
-          let most : x ≤ next = walk.earlier.most x reads low in
-          absurd (omega (arith, most, none, (gate_high n x reads.reader).0)))
-          (λ (high : walk.bound ≤ x). walk.most x reads out high)
+      bound = next + 1;
+      later = later;
+      inside = λ x reads below. ⊎_elim
+          (λ (low : x < walk.bound). walk.inside x reads low)
+          (λ (high : walk.bound ≤ x).
+          let least : next ≤ x = (walk.later.most x reads high).1 in
+          let own : next ≡ x = omega (arith, least, below) in
+          ap (among gates) (sym own) ∙ on)
           (cases_lt x walk.bound);
     }
 
--- the walk goes down
-pub walk_falls : (n : Net) (place next before : ℕ) → (next ≡ 0 → ⊥) → IsEarlier n next place before → before < next
-walk_falls n place next before some is = ⊎_elim (λ none. omega (arith, none, some)) (λ r. r.1) is.found
+pub walk_end : (n : Net) (gates : List ℕ) (place next : ℕ) → (next ≡ 0) ⊎ (among gates next ≡ false) → IsWalking n gates place next → IsLeastReader n gates place next
+walk_end n gates place next ends walk =
+    record {
+      found = ⊎_elim (λ none. inl none) (λ out. ⊎_elim (λ none. inl none) (λ r. inr (r.0, out)) walk.later.found) ends;
+      most = λ x reads out. ⊎_elim
+          (λ (low : x < walk.bound). absurd (both_ways (among gates x) out (walk.inside x reads low)))
+          (λ (high : walk.bound ≤ x). walk.later.most x reads high)
+          (cases_lt x walk.bound);
+    }
+
+-- the walk comes nearer to the end
+pub walk_rises : (n : Net) (gates : List ℕ) (place next after : ℕ) → (next ≡ 0 → ⊥) → IsLater n (next + 1) place after → IsWalking n gates place next → way_from n after < way_from n next
+unfolding way_from
+walk_rises n gates place zero after some later walk = absurd (some refl)
+walk_rises n gates place (suc next) after some later walk =
+    let own = gate_high n (suc next) (walk_reads n gates place (suc next) some walk).reader in
+    by after later own.1
+  where
+    by : (x : ℕ) → IsLater n (suc next + 1) place x → suc next < n.sources + 1 + length n.gates → way_from n x < end_of n - suc next
+    by zero is low = omega (arith, low)
+    by (suc x) is low = ⊎_elim
+        (λ (none : suc x ≡ 0). absurd (omega (arith, none)))
+        (λ r. let high = gate_high n (suc x) r.0.reader in omega (arith, low, r.1, high.1))
+        is.found
 
 -- ---- the least follower
 

@@ -1,37 +1,35 @@
 //! Followers: fanouts of a set of gates that aren't in the set. The index of the net lists the readers of a place
-//! from the last to the first, so that a follower is found without a pass over the net. 0 stands for none.
+//! from the first to the last, so that the least one is found after as many others as the set has. 0 stands for none.
 
-ghost use Rattle.std.specs.Prelude.{◌≡◌, ℕ, ◌<◌, true, false};
+ghost use Rattle.std.specs.Prelude.{◌≡◌, ℕ, ◌+◌, ◌<◌, true, false, ◌⊎◌};
 ghost use Rattle.net_theory.specs.Net.{end_of};
 ghost use Rattle.window_theory.specs.Places.{among};
 ghost use Rattle.window_theory.specs.Paths.{Reads};
-ghost use Rattle.window_core.specs.Readers.{AreReaders, IsEarlier};
+ghost use Rattle.window_core.specs.Readers.{AreReaders, IsLater};
 ghost use Rattle.observe_core.specs.Following.{IsLeastReader, IsLesser, IsNextFollower};
 
-use window_core::{Net, Readers, earlier_of, gate_at, has, last_reader, place_of};
+use window_core::{Net, Readers, first_reader, gate_at, has, later_of, place_of};
 
-/// The next lower fanout of `place`, below its fanout `gate`; 0 where there is none.
-fn reader_before(net: &Net, readers: &Readers, gate: u32, place: u32) -> u32
+/// The next higher fanout of `place`, above its fanout `gate`; 0 where there is none.
+fn reader_after(net: &Net, readers: &Readers, gate: u32, place: u32) -> u32
     requires index { AreReaders net.now readers.now }
     requires reads { Reads net.now gate place }
-    ensures { IsEarlier net.now gate place result }
+    ensures { IsLater net.now (gate + 1) place result }
 {
-    let earlier = earlier_of(net, readers, gate);
+    let later = later_of(net, readers, gate);
     if place_of(gate_at(net, gate).a) == place {
-        return earlier.first;
+        return later.first;
     }
-    earlier.second
+    later.second
 }
 
-/// `first`, if it isn't one of `gates`, and else `second`.
-fn if_outside(gates: &[u32], first: u32, second: u32) -> u32
-    ensures inside { among gates.now first ≡ true → result ≡ second }
-    ensures outside { among gates.now first ≡ false → result ≡ first }
+/// Whether a place that may be none is one of `gates`.
+fn is_inside(gates: &[u32], place: u32) -> bool
+    ensures some { result ≡ true → place ≡ 0 → ⊥ }
+    ensures inside { result ≡ true → among gates.now place ≡ true }
+    ensures outside { result ≡ false → (place ≡ 0) ⊎ (among gates.now place ≡ false) }
 {
-    if has(gates, first) {
-        return second;
-    }
-    first
+    place != 0 && has(gates, place)
 }
 
 /// The least fanout of `place` outside `gates`; 0 where there is none.
@@ -40,13 +38,11 @@ fn least_reader(net: &Net, readers: &Readers, gates: &[u32], place: u32) -> u32
     requires place { place < end_of net.now }
     ensures { IsLeastReader net.now gates.now place result }
 {
-    let mut next = last_reader(readers, net, place);
-    let mut least = 0;
-    while next != 0 {
-        least = if_outside(gates, next, least);
-        next = reader_before(net, readers, next, place);
+    let mut next = first_reader(readers, net, place);
+    while is_inside(gates, next) {
+        next = reader_after(net, readers, next, place);
     }
-    least
+    next
 }
 
 /// The lesser of two places, of which 0 stands for none.
