@@ -1,38 +1,71 @@
 //! Batches, for large graphs: the replacements of a whole pass are made at once, so that the graph is rebuilt
-//! once a pass. Each replacement is exact, and reads nodes below its target alone: whichever are made, every
-//! edge leads down, so that there is no cycle. How many gates they save together is counted as they are noted,
-//! but only roughly, so that the graph that comes out is taken only where it is smaller.
+//! once a pass. Each replacement reads nodes below its target alone: whichever are made, every edge leads down, so that
+//! there is no cycle; and those that a batch notes don't meet (`marks`). How many gates they save together is counted as
+//! they are noted, but only roughly, so that the graph that comes out is taken only where it isn't larger.
 ghost use Rattle.std.specs.Prelude.{IfOk, IfSome};
 ghost use Rattle.resub_core.specs.Smaller.{IsNoLarger};
 
-use crate::finder::Finder;
+use crate::finder::{Finder, Terms, is_taken};
+use crate::marks::Marks;
 use std::alloc::{AllocError, Global};
 use xag_core::{Context, Edit, Xag, rebuild};
 
-/// The most batches.
-const MOST_BATCHES: u32 = 20;
+/// The most batches that make a graph smaller.
+const MOST_BATCHES: u32 = 12;
 
-/// The most gates of a graph that is rebuilt for each replacement from the start, which finds some more.
-const FEW_GATES: usize = 3000;
+/// How many batches keep its size: each tries so large a part of the gates, at random.
+const LEVEL_BATCHES: u32 = 4;
 
-/// The graph after a pass over all gates, whose replacements, each by nodes below its target, are made at once;
-/// None where it isn't smaller.
-fn batch(
+/// The most gates of a graph that is rebuilt for each replacement that makes it smaller.
+const FEW_GATES: usize = 10_000;
+
+/// The most gates of a graph that is rebuilt for each replacement that may keep its size.
+const FEW_LEVEL_GATES: usize = 3000;
+
+/// A batch ends the pass where it saves less than one gate of so many.
+const LEAST_PART: usize = 4000;
+
+/// What a batch has noted: who reads what, the change of the graph, and what it rests on.
+#[derive(Drop)]
+pub struct Batch {
+    pub context: Context,
+    pub edit: Edit,
+    pub marks: Marks,
+}
+
+/// Whether a graph has so many gates that its replacements are made in batches.
+pub fn is_large(xag: &Xag, terms: Terms) -> bool {
+    let few = if terms.is_level {
+        FEW_LEVEL_GATES
+    } else {
+        FEW_GATES
+    };
+    xag.gates().len() > few
+}
+
+/// The graph after a pass over all gates, or over some at random where it may keep its size; None where it isn't
+/// what the terms allow.
+fn after_batch(
     alloc: Global,
     xag: &Xag,
     finder: &mut Finder,
-    new_gates: u32,
+    terms: Terms,
 ) -> Result<Option<Xag>, AllocError>
     ensures { IfOk result (λ other. IfSome other (IsNoLarger xag.now)) }
 {
-    let mut context = Context::new(alloc, xag)?;
-    let mut edit = Edit::new(alloc, xag);
+    let mut batch = Batch {
+        context: Context::new(alloc, xag)?,
+        edit: Edit::new(alloc, xag),
+        marks: Marks::new(alloc, xag.nodes())?,
+    };
     for target in 0..xag.nodes() {
-        finder.note(alloc, xag, &mut context, &mut edit, target, new_gates)?;
+        if !terms.is_level || finder.is_chosen(LEVEL_BATCHES) {
+            finder.note(alloc, xag, &mut batch, target, terms)?;
+        }
     }
-    match rebuild(alloc, xag, &edit)? {
+    match rebuild(alloc, xag, &batch.edit)? {
         Some(other) => {
-            if other.gates().len() < xag.gates().len() {
+            if is_taken(xag.gates().len(), other.gates().len(), terms) {
                 Ok(Some(other))
             } else {
                 Ok(None)
@@ -43,23 +76,46 @@ fn batch(
 }
 
 /// A large graph after batches, as long as they make it smaller.
-#[tactic(auto, using(crate::proofs::Replacing::replacing))]
+#[tactic(auto, using(crate::specs::SmallerLaws::replacing))]
 pub fn batched(
     alloc: Global,
     xag: &Xag,
     finder: &mut Finder,
-    new_gates: u32,
+    terms: Terms,
 ) -> Result<Xag, AllocError>
     ensures { IfOk result (IsNoLarger xag.now) }
 {
     let mut best = xag.copied(alloc)?;
     for _pass in 0..MOST_BATCHES {
-        if best.gates().len() <= FEW_GATES {
+        if !is_large(&best, terms) {
             break;
         }
-        match batch(alloc, &best, finder, new_gates)? {
+        let size = best.gates().len();
+        match after_batch(alloc, &best, finder, terms)? {
             Some(other) => best = other,
             None => break,
+        }
+        if size.saturating_sub(best.gates().len()) <= size / LEAST_PART {
+            break;
+        }
+    }
+    Ok(best)
+}
+
+/// A graph after batches that may keep its size.
+#[tactic(auto, using(crate::specs::SmallerLaws::replacing))]
+pub fn level_batched(
+    alloc: Global,
+    xag: &Xag,
+    finder: &mut Finder,
+    terms: Terms,
+) -> Result<Xag, AllocError>
+    ensures { IfOk result (IsNoLarger xag.now) }
+{
+    let mut best = xag.copied(alloc)?;
+    for _pass in 0..LEVEL_BATCHES {
+        if let Some(other) = after_batch(alloc, &best, finder, terms)? {
+            best = other;
         }
     }
     Ok(best)

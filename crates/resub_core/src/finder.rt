@@ -4,13 +4,14 @@ ghost use Rattle.std.specs.Prelude.{◌≡◌, ◌≤◌, true, IfOk, IfSome};
 ghost use Rattle.xag_core.specs.Xag.{Xag, HasEnds};
 ghost use Rattle.resub_core.specs.Smaller.{IsNoLarger};
 
+use crate::batches::Batch;
 use crate::divisors::Divisors;
-use crate::recipe::{Recipe, add_to, note_readers};
+use crate::recipe::{Recipe, add_to, note_readers, read_nodes};
 use crate::region::Region;
 use crate::searching::Search;
 use crate::wanted::Wanted;
 use std::alloc::{AllocError, Global};
-use xag_core::{Context, Edit, Random, Xag, rebuild};
+use xag_core::{Context, Edit, Random, Xag, XagGate, bit_at, put, rebuild};
 
 /// The most rebuilt gates that trials of one search may cost.
 const MOST_WORK: usize = 40_000;
@@ -32,6 +33,7 @@ pub struct Finder {
     divisors: Divisors,
     search: Search,
     cone: Vec<u32>,
+    kept: Vec<bool>,
     random: Random,
 }
 
@@ -45,7 +47,7 @@ fn exchange(recipes: &mut [Recipe], index: usize, random: &mut Random) {
 }
 
 /// Whether a graph of `new` gates may stand for one of `old` gates.
-fn is_taken(old: usize, new: usize, terms: Terms) -> bool
+pub fn is_taken(old: usize, new: usize, terms: Terms) -> bool
     ensures { result ≡ true → new ≤ old }
 {
     new < old || (terms.is_level && new == old)
@@ -67,6 +69,12 @@ fn smaller(best: Option<Xag>, other: Xag) -> Option<Xag>
     }
 }
 
+/// Marks the operands of a gate, or takes their marks away.
+fn mark_operands(marks: &mut [bool], gate: XagGate, is_marked: bool) {
+    put(marks, gate.first >> 1, is_marked);
+    put(marks, gate.second >> 1, is_marked);
+}
+
 impl Finder {
     /// For graphs of at most `nodes` nodes.
     pub fn new(alloc: Global, nodes: u32, seed: u64) -> Result<Finder, AllocError> {
@@ -75,6 +83,7 @@ impl Finder {
             divisors: Divisors::new(alloc),
             search: Search::new(alloc)?,
             cone: Vec::new(alloc),
+            kept: vec![in alloc; false; nodes as usize]?,
             random: Random::new(seed),
         })
     }
@@ -87,6 +96,58 @@ impl Finder {
             .wrapping_add(self.random.below(gates))
     }
 
+    /// How many gates of the cone go where a recipe stands for the target: not those that it reads, nor what these are
+    /// computed from. In a cone what reads a gate stands before it.
+    fn gone(&mut self, xag: &Xag, recipe: Recipe) -> usize {
+        let read = read_nodes(&self.divisors, recipe);
+        for node in read {
+            put(&mut self.kept, node, true);
+        }
+        let mut gone = 0usize;
+        for member in &self.cone {
+            if bit_at(&self.kept, *member) {
+                mark_operands(&mut self.kept, xag.gate(*member), true);
+            } else {
+                gone = gone.saturating_add(1);
+            }
+        }
+        gone
+    }
+
+    /// Takes the marks of kept gates away.
+    fn forget(&mut self, xag: &Xag, recipe: Recipe) {
+        let read = read_nodes(&self.divisors, recipe);
+        for node in read {
+            put(&mut self.kept, node, false);
+        }
+        for member in &self.cone {
+            mark_operands(&mut self.kept, xag.gate(*member), false);
+        }
+    }
+
+    /// Whether a recipe is worth a trial: it has fewer gates than go for it, or, where the graph may keep its size, as many.
+    fn is_worth(&mut self, xag: &Xag, recipe: Recipe, terms: Terms) -> bool {
+        let gone = self.gone(xag, recipe);
+        self.forget(xag, recipe);
+        let steps = recipe.steps as usize;
+        steps < gone || (terms.is_level && steps == gone)
+    }
+
+    /// The graph with a recipe in the target's place.
+    fn with_recipe(
+        &self,
+        alloc: Global,
+        xag: &Xag,
+        target: u32,
+        recipe: Recipe,
+    ) -> Result<Option<Xag>, AllocError>
+        ensures { IfOk result (λ other. IfSome other (HasEnds xag.now)) }
+    {
+        let mut edit = Edit::new(alloc, xag);
+        add_to(&mut edit, &self.divisors, target, recipe)?;
+        rebuild(alloc, xag, &edit)
+    }
+
     /// Tries what was found, in a random order: the smallest graph of some trials.
     fn try_found(
         &mut self,
@@ -94,18 +155,25 @@ impl Finder {
         xag: &Xag,
         target: u32,
         trials: usize,
+        terms: Terms,
     ) -> Result<Option<Xag>, AllocError>
         ensures { IfOk result (λ other. IfSome other (HasEnds xag.now)) }
     {
         let mut best: Option<Xag> = None;
-        for index in 0..trials.min(self.search.found.len()) {
+        let mut left = trials;
+        for index in 0..self.search.found.len() {
             exchange(&mut self.search.found, index, &mut self.random);
-            let Some(recipe) = self.search.found.get(index) else {
+            let Some(recipe) = self.search.found.get(index).copied() else {
                 break;
             };
-            let mut edit = Edit::new(alloc, xag);
-            add_to(&mut edit, &self.divisors, target, *recipe)?;
-            if let Some(other) = rebuild(alloc, xag, &edit)? {
+            if left == 0 {
+                break;
+            }
+            if !self.is_worth(xag, recipe, terms) {
+                continue;
+            }
+            left = left.saturating_sub(1);
+            if let Some(other) = self.with_recipe(alloc, xag, target, recipe)? {
                 best = smaller(best, other);
             }
         }
@@ -132,7 +200,7 @@ impl Finder {
         } else {
             (MOST_WORK / (size + 1)).clamp(1, 12)
         };
-        match self.try_found(alloc, xag, target, trials)? {
+        match self.try_found(alloc, xag, target, trials, terms)? {
             Some(other) => {
                 if is_taken(size, other.gates().len(), terms) {
                     Ok(Some(other))
@@ -219,46 +287,87 @@ impl Finder {
         Ok(None)
     }
 
-    /// Notes the first recipe with exactly `gates` new gates, if there is one, in the edit. True where there is.
+    /// Whether one thing of `of` is chosen, at random.
+    pub fn is_chosen(&mut self, of: u32) -> bool {
+        self.random.below(of) == 0
+    }
+
+    /// Notes a recipe with exactly `gates` new gates, if there is one: the first, or one at random where the graph may keep
+    /// its size. True where there is.
     fn note_with(
         &mut self,
         alloc: Global,
         xag: &Xag,
-        context: &mut Context,
-        edit: &mut Edit,
+        batch: &mut Batch,
         target: u32,
         gates: u32,
+        terms: Terms,
     ) -> Result<bool, AllocError> {
         let wanted = Wanted::of(alloc, self.region.target_row(), self.region.care())?;
         self.search.find(alloc, &self.divisors, &wanted, gates)?;
+        if terms.is_level {
+            exchange(&mut self.search.found, 0, &mut self.random);
+        }
         let Some(recipe) = self.search.found.first() else {
             return Ok(false);
         };
-        add_to(edit, &self.divisors, target, *recipe)?;
-        note_readers(context, xag, &self.divisors, &self.cone, target, *recipe);
+        add_to(&mut batch.edit, &self.divisors, target, *recipe)?;
+        note_readers(batch, xag, &self.divisors, &self.cone, target, *recipe);
         Ok(true)
     }
 
-    /// Notes a replacement of the target by nodes below it in the edit, if it has one that saves gates.
+    /// Notes a replacement of the target by nodes below it, by its region with its tail where `with_tail`. True where
+    /// there is one.
+    fn note_region(
+        &mut self,
+        alloc: Global,
+        xag: &Xag,
+        batch: &mut Batch,
+        target: u32,
+        with_tail: bool,
+        terms: Terms,
+    ) -> Result<bool, AllocError> {
+        if !self
+            .region
+            .set_up(alloc, xag, &batch.context, target, with_tail)?
+        {
+            return Ok(false);
+        }
+        self.divisors
+            .find(xag, &batch.context, &mut self.region, &self.cone, target)?;
+        if !batch.marks.allow(&self.region, target, with_tail) {
+            return Ok(false);
+        }
+        let saved = (self.cone.len() as u64).min(1000) as u32;
+        let most = if terms.is_level {
+            saved
+        } else {
+            saved.saturating_sub(1)
+        };
+        for gates in 0..=terms.new_gates.min(most).min(2) {
+            if self.note_with(alloc, xag, batch, target, gates, terms)? {
+                batch.marks.note_region(&self.region, target, with_tail);
+                return Ok(true);
+            }
+        }
+        Ok(false)
+    }
+
+    /// Notes a replacement of the target by nodes below it, if it has one that the terms allow.
     pub fn note(
         &mut self,
         alloc: Global,
         xag: &Xag,
-        context: &mut Context,
-        edit: &mut Edit,
+        batch: &mut Batch,
         target: u32,
-        new_gates: u32,
+        terms: Terms,
     ) -> Result<(), AllocError> {
-        if !xag.is_gate(target) || context.references(target) == 0 {
+        if !xag.is_gate(target) || batch.context.references(target) == 0 {
             return Ok(());
         }
-        context.cone_of(xag, target, &mut self.cone)?;
-        self.region.set_up(alloc, xag, context, target, false)?;
-        self.divisors
-            .find(xag, context, &mut self.region, &self.cone, target)?;
-        let saved = (self.cone.len() as u64).min(1000) as u32;
-        for gates in 0..=new_gates.min(saved.saturating_sub(1)).min(2) {
-            if self.note_with(alloc, xag, context, edit, target, gates)? {
+        batch.context.cone_of(xag, target, &mut self.cone)?;
+        for with_tail in [false, true] {
+            if self.note_region(alloc, xag, batch, target, with_tail, terms)? {
                 break;
             }
         }

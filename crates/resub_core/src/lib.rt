@@ -17,6 +17,7 @@ mod batches;
 mod divisors;
 mod finder;
 mod growing;
+mod marks;
 mod matching;
 mod passes;
 mod recipe;

@@ -2,7 +2,7 @@
 ghost use Rattle.std.specs.Prelude.{IfOk, OnOk};
 ghost use Rattle.resub_core.specs.Smaller.{IsNoLarger};
 
-use crate::batches::batched;
+use crate::batches::{batched, is_large, level_batched};
 use crate::finder::{Finder, Terms};
 use std::alloc::{AllocError, Global};
 use xag_core::{Context, Xag};
@@ -28,7 +28,7 @@ fn target_after(target: u32, old: &Xag, new: &Xag) -> u32 {
 }
 
 /// Tries one target. True where the graph changed.
-#[tactic(auto, using(crate::proofs::Replacing::replacing))]
+#[tactic(auto, using(crate::specs::SmallerLaws::replacing))]
 fn try_target(
     alloc: Global,
     pass: &mut Pass,
@@ -49,21 +49,24 @@ fn try_target(
 
 /// The graph after resubstitution with at most `new_gates` new gates for a target, 0, 1 or 2. Each
 /// replacement leaves fewer gates. It goes on until no gate of the graph has one, or for some twenty passes. A
-/// large graph is first taken through batches.
-#[tactic(auto, using(crate::proofs::Replacing::replacing))]
+/// large graph is taken through batches, and goes on so only where that leaves few gates.
+#[tactic(auto, using(crate::specs::SmallerLaws::replacing))]
 pub fn resub(alloc: Global, xag: &Xag, new_gates: u32) -> Result<Xag, AllocError>
     ensures { IfOk result (IsNoLarger xag.now) }
 {
     let mut finder = Finder::new(alloc, xag.nodes(), 1)?;
-    let begun = batched(alloc, xag, &mut finder, new_gates)?;
+    let terms = Terms {
+        new_gates,
+        is_level: false,
+    };
+    let begun = batched(alloc, xag, &mut finder, terms)?;
+    if is_large(&begun, terms) {
+        return Ok(begun);
+    }
     let mut pass = Pass {
         context: Context::new(alloc, &begun)?,
         target: first_gate(&begun),
         xag: begun,
-    };
-    let terms = Terms {
-        new_gates,
-        is_level: false,
     };
     let mut is_settled = true;
     for _attempt in 0..20 * u64::from(xag.nodes()) {
@@ -86,19 +89,22 @@ pub fn resub(alloc: Global, xag: &Xag, new_gates: u32) -> Result<Xag, AllocError
 
 /// The graph after resubstitution with at most two new gates at as many gates at random as it has, each
 /// replacement with no more gates.
-#[tactic(auto, using(crate::proofs::Replacing::replacing))]
+#[tactic(auto, using(crate::specs::SmallerLaws::replacing))]
 pub fn resub_level(alloc: Global, xag: &Xag, seed: u64) -> Result<Xag, AllocError>
     ensures { IfOk result (IsNoLarger xag.now) }
 {
-    let mut pass = Pass {
-        xag: xag.copied(alloc)?,
-        context: Context::new(alloc, xag)?,
-        target: first_gate(xag),
-    };
     let mut finder = Finder::new(alloc, xag.nodes(), seed)?;
     let terms = Terms {
         new_gates: 2,
         is_level: true,
+    };
+    if is_large(xag, terms) {
+        return level_batched(alloc, xag, &mut finder, terms);
+    }
+    let mut pass = Pass {
+        xag: xag.copied(alloc)?,
+        context: Context::new(alloc, xag)?,
+        target: first_gate(xag),
     };
     for _attempt in 0..xag.gates().len() {
         pass.target = finder.gate_of(&pass.xag);

@@ -1,8 +1,9 @@
 //! What a search finds: a literal over divisors and at most two new gates.
 
+use crate::batches::Batch;
 use crate::divisors::Divisors;
 use std::alloc::AllocError;
-use xag_core::{Context, Edit, Xag, XagGate};
+use xag_core::{Edit, Xag, XagGate};
 
 /// The code of the first new gate's literal. Below it a code is 2 * divisor, or 2 * divisor + 1 for the complement.
 pub const INNER: u32 = 2048;
@@ -108,27 +109,40 @@ pub fn add_to(
     edit.redirect(target, literal_of(divisors, made, recipe.root))
 }
 
+/// The nodes that a recipe reads, with the constant for none.
+pub fn read_nodes(divisors: &Divisors, recipe: Recipe) -> [u32; 5] {
+    let (inner, outer) = (recipe.inner, recipe.outer);
+    [
+        node_of(divisors, inner.first),
+        node_of(divisors, inner.second),
+        node_of(divisors, outer.first),
+        node_of(divisors, outer.second),
+        node_of(divisors, recipe.root),
+    ]
+}
+
+/// The node of a code, and the constant for a new gate.
+fn node_of(divisors: &Divisors, code: u32) -> u32 {
+    if code < INNER {
+        divisors.node((code >> 1) as usize)
+    } else {
+        0
+    }
+}
+
 /// Notes who reads what where a recipe stands for the target, whose cone goes.
 pub fn note_readers(
-    context: &mut Context,
+    batch: &mut Batch,
     xag: &Xag,
     divisors: &Divisors,
     cone: &[u32],
     target: u32,
     recipe: Recipe,
 ) {
-    context.give_up(xag, cone);
-    let (inner, outer) = (recipe.inner, recipe.outer);
-    for code in [
-        inner.first,
-        inner.second,
-        outer.first,
-        outer.second,
-        recipe.root,
-    ] {
-        if code < INNER {
-            context.hold(divisors.node((code >> 1) as usize));
-        }
+    batch.context.give_up(xag, cone);
+    for node in read_nodes(divisors, recipe) {
+        batch.context.hold(node);
+        batch.marks.note_read(node);
     }
-    context.pin(target);
+    batch.context.pin(target);
 }

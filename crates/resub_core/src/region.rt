@@ -14,7 +14,8 @@ const MOST_SLOTS: usize = 320;
 const MOST_WORDS: usize = 64;
 
 /// The nodes of a region in slots, the constant in slot 0. `slots` has 1 + the slot of a node, 0 for one that
-/// has none. The target and its tail, which depend on it, stand in the slots from `target` up to `beside`.
+/// has none. The gates above the leaves stand from the slot `inner` on; of these the target and its tail, which depend on
+/// it, in the slots from `target` up to `beside`.
 #[derive(Drop)]
 pub struct Region {
     slots: Vec<u32>,
@@ -22,6 +23,7 @@ pub struct Region {
     values: Vec<u64>,
     care: Vec<u64>,
     words: usize,
+    inner: usize,
     target: usize,
     beside: usize,
 }
@@ -35,6 +37,7 @@ impl Region {
             values: vec![in alloc; 0u64; MOST_SLOTS * MOST_WORDS]?,
             care: vec![in alloc; 0u64; MOST_WORDS]?,
             words: 1,
+            inner: 0,
             target: 0,
             beside: 0,
         })
@@ -56,6 +59,11 @@ impl Region {
     /// How many slots there are.
     pub fn len(&self) -> usize {
         self.nodes.len()
+    }
+
+    /// The slot of the first gate above the leaves.
+    pub fn first_inner(&self) -> usize {
+        self.inner
     }
 
     /// Whether the slot is that of a node that depends on the target, or the target's.
@@ -226,6 +234,7 @@ impl Region {
         for leaf in leaves {
             self.enter(*leaf)?;
         }
+        self.inner = self.nodes.len();
         for gate in inner.iter().rev() {
             self.enter(*gate)?;
         }

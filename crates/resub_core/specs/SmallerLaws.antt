@@ -1,6 +1,5 @@
--- One replacement after another.
-use Rattle.std.proofs.Common.{◌≡◌, ◌∙◌, Option, Some, None, refl, subst, sym, arith}
-use Rattle.std.specs.Prelude.{IfSome}
+-- One change that leaves no more gates after another.
+use Rattle.std.proofs.Common.{◌≡◌, ◌∙◌, ◌≤◌, length, refl, subst, sym, arith}
 use Rattle.xag_core.specs.Xag.{Xag, HasEnds}
 use Rattle.resub_core.specs.Smaller.{IsNoLarger}
 
@@ -17,5 +16,9 @@ no_larger-more x y z xy yz =
       ends = record { sources = yz.ends.sources ∙ xy.ends.sources; sinks = yz.ends.sinks ∙ xy.ends.sinks };
       size = omega (arith, xy.size, yz.size);
     }
+
+-- the two facts one by one
+pub no_larger-by : (x y : Xag) → HasEnds x y → length y.gates ≤ length x.gates → IsNoLarger x y
+no_larger-by x y ends size = record { ends = ends; size = size }
 
 pub ruleset replacing = (no_larger-itself, no_larger-copy, no_larger-more)
