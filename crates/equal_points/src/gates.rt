@@ -183,7 +183,7 @@ fn visit<S: Solver>(
     Ok(heard)
 }
 
-/// Visits all gates in order, as long as there is patience.
+/// Visits all gates in order.
 pub(crate) fn visit_gates<S: Solver>(
     solver: &mut S,
     vars: u32,
@@ -197,9 +197,6 @@ pub(crate) fn visit_gates<S: Solver>(
     for x in sweeping.points.first_gate()..sweeping.points.end() {
         if sweeping.is_spent() {
             return Ok(Heard::Spent);
-        }
-        if sweeping.patience.is_out() {
-            return Ok(Heard::Nothing);
         }
         let heard = visit(solver, vars, sweeping, x, limit)?;
         if heard != Heard::Nothing {

@@ -62,10 +62,10 @@ pub(crate) fn compare<S: Solver>(
     if is_inner && !is_alike && !sweeping.patience.has_inner() {
         return Ok((Heard::Nothing, false));
     }
-    let most = if is_inner && !is_alike {
-        limit / 5
-    } else {
-        limit
+    let most = match (is_inner, is_alike) {
+        (true, true) => limit,
+        (true, false) => limit / 5,
+        (false, _) => sweeping.patience.limit(limit),
     };
     let most = sweeping.most_of(most);
     let asked = ask(solver, vars, sweeping, x, y, most)?;
