@@ -1,5 +1,5 @@
 //! One round, a pass over the net: gates that are alike become one, and then every window is tried in its order.
-ghost use Rattle.std.specs.Prelude.{◌+◌, ◌≤◌, ◌<◌, None, Some, IfOk, OnOk};
+ghost use Rattle.std.specs.Prelude.{◌+◌, ◌≤◌, IfOk, OnOk};
 ghost use Rattle.sweep_core.specs.Visits.{IsNoVisit, IsThis, IsOfCounts, IsOfPartners, IsOfRoot, IsOfRoots, IsNextPartner};
 ghost use Rattle.net_theory.specs.Net.{end_of};
 ghost use Rattle.sweep_core.specs.Swept.{stage, IsSwept};
@@ -11,7 +11,8 @@ use crate::visit::Visit;
 use std::alloc::{AllocError, Global};
 use std::marker::Model;
 
-/// A round so far: whether it has changed the net, and, if not, the visits that it has left undecided.
+/// A round so far: whether it has changed the net, and, if not, the visits that it has left undecided. Once it has changed it
+/// nothing more is named, since certificates of such a round would be thrown away at its end.
 #[derive(Drop)]
 pub struct Round {
     pub changed: bool,
@@ -45,7 +46,12 @@ fn make_visit<T: Trial>(
     }
     match trial.attempt(alloc, visit)? {
         Tried::Passed => {}
-        Tried::Open(search) => round.named.push(Undecided { visit, search })?,
+        Tried::Open(search) => {
+            if round.changed {
+                return Ok(());
+            }
+            round.named.push(Undecided { visit, search })?;
+        }
         Tried::Smaller => {
             round.changed = true;
             round.named.clear();
