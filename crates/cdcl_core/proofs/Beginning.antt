@@ -18,4 +18,5 @@ layered_begun live t starts trail empty none = rw none (record {
   rising = λ i j d less (low : j < 0). absurd (omega (arith, low));
   closed = λ k d (low : k < 0). absurd (omega (arith, low));
   reasons = λ p within. absurd (let long : length t.lits ≡ 0 = ap length empty in omega (arith, within, long));
+  decisions = λ p d start. absurd (let low : start.0 < 0 = start.1 in omega (arith, low));
 })

@@ -1,9 +1,9 @@
 -- How the decision levels of a trail last: through propagation, a decision, and a backjump.
-use Rattle.std.proofs.Common.{◌≡◌, ℕ, ◌+◌, ◌-◌, ◌<◌, ◌≤◌, ◌⊎◌, ℤ, pos, List, [], ◌∷◌, ◌++◌, length, slice_index_or, Contains, AllPairs, Option, Some, subst, sym, ap, ◌∙◌, arith, inl, inr}
+use Rattle.std.proofs.Common.{◌≡◌, ℕ, ◌+◌, ◌-◌, ◌<◌, ◌≤◌, ◌⊎◌, ℤ, pos, List, [], ◌∷◌, ◌++◌, length, slice_index_or, Contains, All, AllPairs, Option, Some, subst, sym, ap, ◌∙◌, arith, inl, inr}
 use Rattle.std.proofs.Math.Logic.{⊎_elim}
 use Rattle.std.proofs.lemmas.Bool.{cases_lt, cases_eq}
-use Rattle.std.proofs.lemmas.List.{length_push}
-use Rattle.std.proofs.lemmas.List.Elements.{All-push, Contains-append_left, Contains-push, Contains-get_or}
+use Rattle.std.proofs.lemmas.List.{length_push, get_or_append_left, get_or_push}
+use Rattle.std.proofs.lemmas.List.Elements.{All-push, All-contains, Contains-append_left, Contains-push, Contains-push_cases, Contains-get_or}
 use Rattle.std.proofs.lemmas.List.Quantifiers.{all_pairs_push}
 use Rattle.sat_theory.specs.Formula.{variable, opposite}
 use Rattle.sat_theory.specs.State.{with_clause}
@@ -16,7 +16,11 @@ use Rattle.clause_db.specs.Stored.{Stored, live_in, added}
 use Rattle.clause_db.specs.StoredLaws.{live_in-add, added_old, added_new}
 use Rattle.conflict_core.specs.Learning.{IsLearnt, asserting, HaveReasons}
 use Rattle.cdcl_core.specs.Levels.{IsDropped, IsLastStart}
-use Rattle.cdcl_core.proofs.Growing.{same_pushed, reason_pushed, reason_last}
+use Rattle.cdcl_core.proofs.Growing.{same_pushed, reason_other, reason_new, reason_pushed, reason_last}
+
+-- a level begins at a literal of the trail
+start_inside : (live : ℕ → Option (List ℤ)) (t : Trailed) (starts : List ℕ) (p : ℕ) → IsLayered live t starts → Contains starts p → p < length t.lits
+start_inside live t starts p layered start = All-contains (λ s. s < length t.lits) starts p layered.inside start
 
 -- Propagation keeps the levels.
 pub layered_grown : (live : ℕ → Option (List ℤ)) (t new : Trailed) (starts : List ℕ) → IsLayered live t starts → IsGrown live t new → IsTrail new → IsLayered live new starts
@@ -29,6 +33,7 @@ layered_grown live t new starts layered grown trail = record {
       (λ (early : p < length t.lits). ⊎_elim (λ (start : Contains starts p). inl start) (λ (reason : HasReason live t p). inr (kept p early reason)) (layered.reasons p early))
       (λ (late : length t.lits ≤ p). inr (grown.new_reasons p late within))
       (cases_lt p (length t.lits));
+  decisions = λ p d start. (let early : p < length t.lits = start_inside live t starts p layered start in ap (reason_of new) (grown.lits p d early) ∙ grown.old_reasons p d early ∙ layered.decisions p d start);
 }
   where
     kept : (p : ℕ) → p < length t.lits → HasReason live t p → HasReason live new p
@@ -39,22 +44,29 @@ layered_grown live t new starts layered grown trail = record {
     }
 
 -- A decision begins a level, where all clauses are settled.
-pub layered_decided : (live : ℕ → Option (List ℤ)) (t : Trailed) (starts more : List ℕ) (l : ℤ) (r : ℕ) → IsLayered live t starts → AllSettled live (fell t) → IsOver t.vars l → IsFree t l → more ≡ starts ++ length t.lits ∷ [] → IsLayered live (pushed t l r) more
-layered_decided live t starts more l r layered settled over free is = rw is (record {
-  whole = trail_push t l r layered.whole over.0 over.1 free.0 free.1;
+pub layered_decided : (live : ℕ → Option (List ℤ)) (t : Trailed) (starts more : List ℕ) (l : ℤ) → IsLayered live t starts → AllSettled live (fell t) → IsOver t.vars l → IsFree t l → more ≡ starts ++ length t.lits ∷ [] → IsLayered live (pushed t l 0) more
+layered_decided live t starts more l layered settled over free is = rw is (record {
+  whole = trail_push t l 0 layered.whole over.0 over.1 free.0 free.1;
   inside = All-push (λ s. s < length (t.lits ++ l ∷ [])) starts (length t.lits) (λ k d low. (let h : slice_index_or starts k d < length t.lits = layered.inside k d low in rw length_push (omega arith))) (rw length_push (omega arith));
   rising = all_pairs_push (λ a b. a < b) starts (length t.lits) layered.rising layered.inside;
-  closed = All-push (λ s. IsClosed live (fell (pushed t l r)) s) starts (length t.lits)
-      (λ k d low. closed_kept live (length t.lits) (slice_index_or starts k d) (fell t) (fell (pushed t l r)) same (let h : slice_index_or starts k d < length t.lits = layered.inside k d low in omega arith) (layered.closed k d low))
-      (closed_kept live (length t.lits) (length t.lits) (fell t) (fell (pushed t l r)) same (omega arith) (settled_closed live (fell t) (length t.lits) layered.whole.places.within settled));
+  closed = All-push (λ s. IsClosed live (fell (pushed t l 0)) s) starts (length t.lits)
+      (λ k d low. closed_kept live (length t.lits) (slice_index_or starts k d) (fell t) (fell (pushed t l 0)) same (let h : slice_index_or starts k d < length t.lits = layered.inside k d low in omega arith) (layered.closed k d low))
+      (closed_kept live (length t.lits) (length t.lits) (fell t) (fell (pushed t l 0)) same (omega arith) (settled_closed live (fell t) (length t.lits) layered.whole.places.within settled));
   reasons = λ p within. ⊎_elim
-      (λ (early : p < length t.lits). ⊎_elim (λ (start : Contains starts p). inl (Contains-append_left starts (length t.lits ∷ []) p start)) (λ (reason : HasReason live t p). inr (reason_pushed live t l r p layered.whole over.1 free early reason)) (layered.reasons p early))
+      (λ (early : p < length t.lits). ⊎_elim (λ (start : Contains starts p). inl (Contains-append_left starts (length t.lits ∷ []) p start)) (λ (reason : HasReason live t p). inr (reason_pushed live t l 0 p layered.whole over.1 free early reason)) (layered.reasons p early))
       (λ (late : length t.lits ≤ p). inl (subst (λ (q : ℕ). Contains (starts ++ length t.lits ∷ []) q) (let long : length (t.lits ++ l ∷ []) ≡ length t.lits + 1 = length_push t.lits l in omega arith) (Contains-push starts (length t.lits))))
       (cases_lt p (length t.lits));
+  decisions = λ p d start. ⊎_elim (λ (old : Contains starts p). reason_still p d old) (λ (new : length t.lits ≡ p). reason_here p d new) (Contains-push_cases starts (length t.lits) p start);
 })
   where
-    same : SameFallen (length t.lits) (fell t) (fell (pushed t l r))
-    same = same_pushed t l r layered.whole over.1 free.1
+    reason_still : (p : ℕ) (d : ℤ) → Contains starts p → reason_of (pushed t l 0) (slice_index_or (t.lits ++ l ∷ []) p d) ≡ 0
+    reason_still p d old = (let early : p < length t.lits = start_inside live t starts p layered old in ap (reason_of (pushed t l 0)) (get_or_append_left t.lits (l ∷ []) d p early) ∙ reason_other t p 0 d l layered.whole early free ∙ layered.decisions p d old)
+
+    reason_here : (p : ℕ) (d : ℤ) → length t.lits ≡ p → reason_of (pushed t l 0) (slice_index_or (t.lits ++ l ∷ []) p d) ≡ 0
+    reason_here p d new = ap (reason_of (pushed t l 0)) (get_or_push t.lits l d p new) ∙ reason_new t 0 l layered.whole over.1
+
+    same : SameFallen (length t.lits) (fell t) (fell (pushed t l 0))
+    same = same_pushed t l 0 layered.whole over.1 free.1
 
 -- what fell after a place isn't false any more when the trail was cut back to it
 pub back_gone : (n : ℕ) (t new : Trailed) (l : ℤ) → IsTrail new → IsBack n t new → n < fell t l → fell new l ≡ 0
@@ -139,6 +151,7 @@ layered_jumped live more t back starts fewer start end place id lits hints is_mo
       rising = λ i j d less within. subst (λ (x : ℕ). x < slice_index_or fewer j d) (sym (dropped.front i d (omega arith))) (subst (λ (y : ℕ). slice_index_or starts i d < y) (sym (dropped.front j d within)) (layered.rising i j d less (let f : length fewer < length starts = dropped.fewer in omega arith)));
       closed = λ k d less. closed_now (slice_index_or fewer k d) (dropped.low k d less) (subst (IsClosed live (fell t)) (sym (dropped.front k d less)) (layered.closed k d (let f : length fewer < length starts = dropped.fewer in omega arith)));
       reasons = λ p within. ⊎_elim (λ (early : p < length back.lits). reasons_early p early) (λ (late : length back.lits ≤ p). inr (subst (HasReason more (pushed back u id)) (let long : length (back.lits ++ u ∷ []) ≡ length back.lits + 1 = length_push back.lits u in omega arith) reason_u)) (cases_lt p (length back.lits));
+      decisions = λ p d start. decisions_still p d start;
     }
   where
     u : ℤ
@@ -213,6 +226,26 @@ layered_jumped live more t back starts fewer start end place id lits hints is_mo
         (λ (start_p : Contains starts p). inl (still p early start_p))
         (λ (reason : HasReason live t p). inr (reason_pushed more back u id p trail_back small free early (reason_still p early reason)))
         (layered.reasons p (in_old p early))
+
+    -- the levels that are left begin where they did
+    decisions_still : (p : ℕ) (d : ℤ) → Contains fewer p → reason_of (pushed back u id) (slice_index_or (back.lits ++ u ∷ []) p d) ≡ 0
+    decisions_still p d (k, within, at) =
+        let before : slice_index_or fewer k p < place = dropped.low k p within in
+        let under : place ≤ end = dropped.high in
+        let early : p < length back.lits = omega (arith, before, under, at, short) in
+        let in_starts : k < length starts = (let f : length fewer < length starts = dropped.fewer in omega (arith, f, within)) in
+        let was : Contains starts p = (k, in_starts, sym (dropped.front k p within) ∙ at) in
+        let same_lit : slice_index_or back.lits p d ≡ slice_index_or t.lits p d = is_back.lits p d (omega (arith, early, short)) in
+        let same_reason : reason_of back (slice_index_or t.lits p d) ≡ reason_of t (slice_index_or t.lits p d) = ap (λ (rs : List ℕ). slice_index_or rs (variable (slice_index_or t.lits p d)) 0) is_back.reasons in
+        ap (reason_of (pushed back u id)) (get_or_append_left back.lits (u ∷ []) d p early) ∙ reason_other back p id d u trail_back early free ∙ ap (reason_of back) same_lit ∙ same_reason ∙ layered.decisions p d was
+
+-- all literals of a learnt clause have fallen
+pub learnt_fallen : (live : ℕ → Option (List ℤ)) (t : Trailed) (start place : ℕ) (lits : List ℤ) (hints : List ℕ) → IsLearnt live t start lits place hints → All (λ l. 0 < fell t l) lits
+learnt_fallen live t start place lits hints learnt k d low =
+    ⊎_elim
+    (λ (same : slice_index_or lits k d ≡ asserting lits). (let after : start < fell t (asserting lits) = learnt.after in let e : fell t (slice_index_or lits k d) ≡ fell t (asserting lits) = ap (fell t) same in omega arith))
+    (λ (fallen : IsFallen (fell t) place (slice_index_or lits k d)). fallen.0)
+    (learnt.others k d low)
 
 -- the asserting literal is one of the variables
 pub learnt_over : (live : ℕ → Option (List ℤ)) (t : Trailed) (start place : ℕ) (lits : List ℤ) (hints : List ℕ) → IsLearnt live t start lits place hints → IsOver t.vars (asserting lits)

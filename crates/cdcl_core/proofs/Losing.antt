@@ -47,6 +47,7 @@ layered_lost s b id layered some gone free = record {
       (λ (start : Contains s.starts.items p). inl start)
       (λ (reason : HasReason (live_in s.clauses) s.trail p). inr (still p within reason))
       (layered.reasons p within);
+  decisions = layered.decisions;
 }
   where
     still : (p : ℕ) → p < length s.trail.lits → HasReason (live_in s.clauses) s.trail p → HasReason (live_in b) s.trail p

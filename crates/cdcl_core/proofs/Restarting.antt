@@ -29,6 +29,7 @@ layered_bottom live t back starts none first layered begins is trail is_back = r
   rising = λ i j d less (low : j < 0). absurd (omega (arith, low));
   closed = λ k d (low : k < 0). absurd (omega (arith, low));
   reasons = λ p within. inr (reason_of_low p (omega (arith, within, is_back.short)));
+  decisions = λ p d start. absurd (let low : start.0 < 0 = start.1 in omega (arith, low));
 })
   where
     still : (p : ℕ) → p < first → HasReason live t p → HasReason live back p

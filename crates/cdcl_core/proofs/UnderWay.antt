@@ -1,5 +1,5 @@
 -- Which variables are open doesn't matter, and what a probe leaves.
-use Rattle.std.proofs.Common.{◌≡◌, ◌∙◌, ◌+◌, ◌<◌, ◌≤◌, ℕ, length, Option, ap, arith}
+use Rattle.std.proofs.Common.{◌≡◌, ◌≤◌, length, Option, ap, arith}
 use Rattle.sat_theory.specs.Formula.{Formula}
 use Rattle.clause_db.specs.Stored.{Stored}
 use Rattle.cdcl_core.specs.declared.search.Search.{Search}

@@ -9,9 +9,10 @@
 //!
 //! Backtracking puts the variables that lose their values back into the heap, and only decisions
 //! take any out. So where the heap is empty, all variables have values.
-ghost use Rattle.std.specs.Prelude.{◌≡◌, ℕ, ℤ, ◌+◌, ◌<◌, ◌≤◌, IfOk, IfSome, IfNone};
+ghost use Rattle.std.specs.Prelude.{◌≡◌, ℕ, ℤ, ◌+◌, ◌<◌, ◌≤◌, All, IfOk, IfSome, IfNone};
 ghost use Rattle.sat_theory.specs.Formula.{variable as variable_of, IsWithin};
-ghost use Rattle.cdcl_theory.specs.Trails.{Trailed, IsTrail, IsBack, pushed};
+ghost use Rattle.cdcl_theory.specs.Trails.{Trailed, IsTrail, IsExplained, IsBack, pushed, fell as fell_of};
+ghost use Rattle.clause_db.specs.Stored.{live_in};
 ghost use Rattle.trail_core.specs.Values.{IsOver, IsFree, HaveValues};
 ghost use Rattle.var_heap.specs.Held.{score_of};
 
@@ -24,8 +25,18 @@ use var_heap::VarHeap;
 /// What the first conflict adds to the scores of its variables.
 const FIRST_STEP: u64 = 1 << 40;
 
-/// The step above which all scores are halved, and the step with them (rescaling).
+/// The step above which all scores are divided, and the step with them (rescaling).
 const GREATEST_STEP: u64 = 1 << 56;
+
+/// The power of 2 that divides where the variables are few: little is lost by rounding.
+const SMALL_SCALE: u32 = 1;
+
+/// That where they are many. A rescaling goes over all of them, and short probes touch few: so it
+/// comes once in some hundreds of conflicts.
+const GREAT_SCALE: u32 = 32;
+
+/// The variables are many from this number on.
+const MANY_VARS: usize = 1 << 13;
 
 /// Each conflict makes the step greater by this part of it (the decay of older bumps).
 const STEP_PART: u64 = 16;
@@ -113,14 +124,16 @@ impl Choice {
     /// Bumps the variables in the reasons of fallen literals by a part of the step.
     pub(crate) fn bump_reasons(&mut self, trail: &Trail, clauses: &ClauseDb, lits: &[Lit])
         requires vars { clauses.now.vars ≡ trail.now.vars }
+        requires explained { IsExplained (live_in clauses.now) trail.now }
         requires within { IsWithin trail.now.vars lits.now }
+        requires fallen { All (λ l. 0 < fell_of trail.now l) lits.now }
         requires choosing { IsChoosing trail.now self.old }
         ensures { (t : Trailed) → IsChoosing t self.old → IsChoosing t self.new }
     {
         let part = self.step / REASON_PART;
         for lit in lits {
             let id = trail.reason(lit.opposite());
-            if !clauses.live(id) {
+            if id == 0 {
                 continue;
             }
             self.add(clauses.arranged(id), part);
@@ -135,7 +148,12 @@ impl Choice {
         if self.step <= GREATEST_STEP {
             return;
         }
-        self.step /= 2;
-        self.heap.halve();
+        let power = if self.signs.len() > MANY_VARS {
+            GREAT_SCALE
+        } else {
+            SMALL_SCALE
+        };
+        self.step >>= power;
+        self.heap.divide(power);
     }
 }

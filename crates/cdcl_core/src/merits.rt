@@ -55,8 +55,15 @@ struct Merit {
     activity: u64,
     /// the number of the last conflict that it had a part in
     used: u32,
-    /// the number of levels of its literals when it was learnt (LBD)
+    /// the number of levels of its literals when it was learnt (LBD), counted up to one more than few
     levels: u32,
+}
+
+/// A candidate for deletion.
+#[derive(Clone, Copy)]
+struct Idle {
+    activity: u64,
+    id: u32,
 }
 
 /// What is known of the learnt clauses, in the order of their ids.
@@ -137,13 +144,16 @@ impl Merits {
     }
 
     /// The number of levels of a learnt clause (LBD): those of its fallen literals, and one for the
-    /// level of the conflict.
+    /// level of the conflict. Where they are many it stops counting.
     fn levels(&mut self, trail: &Trail, starts: &[usize], lits: &[Lit]) -> u32
         requires { IsWithin trail.now.vars lits.now }
     {
         let number = self.merits.len() + 1;
         let mut levels = 1u32;
         for lit in lits {
+            if levels > FEW_LEVELS {
+                return levels;
+            }
             let place = trail.fell(*lit) as usize;
             let level = starts.partition_point(|start| *start < place);
             if place > 0 && level < self.counted.len() && self.counted[level] != number {
@@ -215,45 +225,60 @@ impl Merits {
         true
     }
 
-    /// Whether the clause at an index is idle: a candidate for deletion.
-    fn is_idle(&self, clauses: &ClauseDb, index: usize) -> bool {
+    /// The merits of the clause at an index, where it is idle: a candidate for deletion.
+    fn idle_at(&self, clauses: &ClauseDb, index: usize) -> Option<Merit> {
         if index >= self.merits.len() {
-            return false;
+            return None;
         }
         let merit = self.merits[index];
+        if merit.levels <= FEW_LEVELS || merit.used as usize + RECENT >= self.merits.len() {
+            return None;
+        }
         let id = self.id(index);
-        merit.levels > FEW_LEVELS
-            && merit.used as usize + RECENT < self.merits.len()
-            && clauses.live(id)
-            && clauses.lits(id).len() > 2
+        if !clauses.live(id) || clauses.lits(id).len() <= 2 {
+            return None;
+        }
+        Some(merit)
     }
 
-    /// The activities of the idle clauses.
-    fn activities(&self, alloc: Global, clauses: &ClauseDb) -> Result<Vec<u64>, AllocError> {
-        let mut activities = Vec::new(alloc);
+    /// The idle clauses, in the order of ids.
+    fn candidates(&self, alloc: Global, clauses: &ClauseDb) -> Result<Vec<Idle>, AllocError> {
+        let mut candidates = Vec::new(alloc);
         for index in 0..self.merits.len() {
-            if self.is_idle(clauses, index) {
-                activities.push(self.merits[index].activity)?;
+            if let Some(merit) = self.idle_at(clauses, index) {
+                candidates.push(Idle {
+                    activity: merit.activity,
+                    id: self.id(index),
+                })?;
             }
         }
-        Ok(activities)
+        Ok(candidates)
     }
 
     /// The ids of the less active half of the idle clauses.
     pub(crate) fn idle(&self, alloc: Global, clauses: &ClauseDb) -> Result<Vec<u32>, AllocError> {
         let mut ids = Vec::new(alloc);
-        let mut activities = self.activities(alloc, clauses)?;
-        activities.sort_unstable();
-        let Some(bound) = activities.get(activities.len() / 2) else {
+        let candidates = self.candidates(alloc, clauses)?;
+        let Some(bound) = middle(alloc, &candidates)? else {
             return Ok(ids);
         };
-        for index in 0..self.merits.len() {
-            if self.is_idle(clauses, index) && self.merits[index].activity < *bound {
-                ids.push(self.id(index))?;
+        for candidate in &candidates {
+            if candidate.activity < bound {
+                ids.push(candidate.id)?;
             }
         }
         Ok(ids)
     }
+}
+
+/// The activity that half of the idle clauses don't reach.
+fn middle(alloc: Global, candidates: &[Idle]) -> Result<Option<u64>, AllocError> {
+    let mut activities = Vec::with_capacity(alloc, candidates.len())?;
+    for candidate in candidates {
+        activities.push(candidate.activity)?;
+    }
+    activities.sort_unstable();
+    Ok(activities.get(activities.len() / 2).copied())
 }
 
 /// A number in 32 bits, saturating.

@@ -147,14 +147,9 @@ impl Search {
         ensures jumped { OnOk result (HasJumped self.old self.new) }
     {
         let alloc = *self.starts.allocator();
-        let learnt = self.analysis.learn(
-            alloc,
-            &self.trail,
-            &self.clauses,
-            conflict,
-            &self.starts,
-            start,
-        )?;
+        let learnt = self
+            .analysis
+            .learn(alloc, &self.trail, &self.clauses, conflict, start)?;
         self.merits.count_parts(&learnt.hints);
         self.choice.bump(self.analysis.touched());
         self.choice

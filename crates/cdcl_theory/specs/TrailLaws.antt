@@ -1,17 +1,17 @@
 -- How the trail grows and goes back.
-use Rattle.std.specs.Prelude.{◌≡◌, ℕ, zero, suc, ◌+◌, ◌-◌, ◌*◌, ◌<◌, ◌≤◌, ◌==◌, ℤ, true, false, List, [], ◌∷◌, ◌++◌, length, count_by, slice_index_or, slice_set, replicate, refl}
-use Rattle.std.proofs.Common.{sym, ap, ◌∙◌, subst, arith, cond}
+use Rattle.std.specs.Prelude.{◌≡◌, ℕ, zero, suc, ◌+◌, ◌-◌, ◌*◌, ◌<◌, ◌≤◌, ◌==◌, ◌⊎◌, ℤ, true, false, List, [], ◌∷◌, ◌++◌, length, count_by, slice_index_or, slice_set, replicate, Contains, All, Option, Some, IsSome, refl}
+use Rattle.std.proofs.Common.{sym, ap, ◌∙◌, subst, arith, cond, inl, inr}
 use Rattle.std.proofs.Math.Logic.{⊎_elim}
 use Rattle.std.proofs.lemmas.Bool.{cases_lt, eq-eqb, ne_eqb}
 use Rattle.std.proofs.lemmas.List.{get_or_append_left, get_or_push, length_push, length-set, length-replicate}
-use Rattle.std.proofs.lemmas.List.Elements.{All-push}
+use Rattle.std.proofs.lemmas.List.Elements.{All-push, All-contains}
 use Rattle.std.proofs.lemmas.List.Sums.{sum_by-set, sum_by-cons}
 use Rattle.sat_theory.specs.Formula.{variable, opposite}
 use Rattle.cdcl_theory.specs.Codes.{code_of, place_in, with_place}
 use Rattle.cdcl_theory.specs.CodeLaws.{code_of-room, opposite-opposite, opposite-differs, variable-opposite, cases_literal, with_place-same, with_place-other, place_in-set, place_in-none}
-use Rattle.cdcl_theory.specs.Falling.{SameFallen}
+use Rattle.cdcl_theory.specs.Falling.{IsFallen, Implies, SameFallen}
 use Rattle.cdcl_theory.specs.FallingLaws.{same_trans, same_less}
-use Rattle.cdcl_theory.specs.Trails.{Trailed, fell, ArePlaces, IsTrail, pushed, IsBack}
+use Rattle.cdcl_theory.specs.Trails.{Trailed, fell, reason_of, ArePlaces, IsTrail, HasReason, IsExplained, IsLayered, pushed, IsBack}
 
 -- the opposite of the literal at index p has the place p + 1
 pub place_at : (lits : List ℤ) (places : ℤ → ℕ) (p : ℕ) (d l : ℤ) → ArePlaces lits places → p < length lits → slice_index_or lits p d ≡ l → places (opposite l) ≡ p + 1
@@ -266,3 +266,48 @@ trail_none vars few = record {
     all_zeros : (n : ℕ) → 0 + count_by (λ x. x == 0) (replicate {A = ℕ} n 0) ≡ length (replicate {A = ℕ} n 0)
     all_zeros zero = refl
     all_zeros (suc n) = let ih : 0 + count_by (λ x. x == 0) (replicate {A = ℕ} n 0) ≡ length (replicate {A = ℕ} n 0) = all_zeros n in let one : count_by (λ x. x == 0) (replicate {A = ℕ} (suc n) 0) ≡ 1 + count_by (λ x. x == 0) (replicate {A = ℕ} n 0) = sum_by-cons (λ (x : ℕ). cond {A = ℕ} (x == 0) 1 0) 0 (replicate {A = ℕ} n 0) in omega arith
+
+-- What is in levels is explained.
+pub layered_explained : (live : ℕ → Option (List ℤ)) (t : Trailed) (starts : List ℕ) → IsLayered live t starts → IsExplained live t
+layered_explained live t starts layered = record {
+  whole = layered.whole;
+  reasons = λ p d within. ⊎_elim (λ (start : Contains starts p). inl (layered.decisions p d start)) (λ (reason : HasReason live t p). inr reason) (layered.reasons p within);
+}
+
+-- A literal that has fallen, other than the opposite of a decision, is false by the reason of its opposite.
+pub reason_fallen : (live : ℕ → Option (List ℤ)) (t : Trailed) (l : ℤ) → IsExplained live t → 0 < fell t l → (reason_of t (opposite l) ≡ 0 → ⊥) → HasReason live t (fell t l - 1)
+reason_fallen live t l explained down some =
+    ⊎_elim
+    (λ (none : reason_of t (slice_index_or t.lits (fell t l - 1) l) ≡ 0). absurd (some (sym (ap (reason_of t) at) ∙ none)))
+    (λ (reason : HasReason live t (fell t l - 1)). reason)
+    (explained.reasons (fell t l - 1) l (let high : fell t l ≤ length t.lits = explained.whole.places.within l in omega arith))
+  where
+    at : slice_index_or t.lits (fell t l - 1) l ≡ opposite l
+    at = explained.whole.places.found l l down
+
+pub implied_fallen : (live : ℕ → Option (List ℤ)) (t : Trailed) (l : ℤ) → IsExplained live t → 0 < fell t l → (reason_of t (opposite l) ≡ 0 → ⊥) → Implies live (fell t) (fell t l - 1) (opposite l) (reason_of t (opposite l))
+implied_fallen live t l explained down some = subst (λ (m : ℤ). Implies live (fell t) (fell t l - 1) m (reason_of t m)) (explained.whole.places.found l l down) ((reason_fallen live t l explained down some).implied l)
+
+-- Its clause is live,
+pub live_fallen : (live : ℕ → Option (List ℤ)) (t : Trailed) (l : ℤ) → IsExplained live t → 0 < fell t l → (reason_of t (opposite l) ≡ 0 → ⊥) → IsSome (live (reason_of t (opposite l)))
+live_fallen live t l explained down some = some_of (live (reason_of t (opposite l))) (implied_fallen live t l explained down some).clause (implied_fallen live t l explained down some).is_live
+  where
+    some_of : (o : Option (List ℤ)) (clause : List ℤ) → o ≡ Some clause → IsSome o
+    some_of o clause is = rw is refl
+
+-- and all others of it have fallen.
+pub others_fallen : (live : ℕ → Option (List ℤ)) (t : Trailed) (l m : ℤ) (clause : List ℤ) → IsExplained live t → 0 < fell t l → (reason_of t (opposite l) ≡ 0 → ⊥) → live (reason_of t (opposite l)) ≡ Some clause → Contains clause m → (m ≡ opposite l → ⊥) → 0 < fell t m
+others_fallen live t l m clause explained down some is there apart =
+    ⊎_elim
+    (λ (same : m ≡ opposite l). absurd (apart same))
+    (λ (fallen : IsFallen (fell t) (fell t l - 1) m). fallen.0)
+    (All-contains (λ x. (x ≡ opposite l) ⊎ IsFallen (fell t) (fell t l - 1) x) clause m all there)
+  where
+    implied : Implies live (fell t) (fell t l - 1) (opposite l) (reason_of t (opposite l))
+    implied = implied_fallen live t l explained down some
+
+    same_clause : implied.clause ≡ clause
+    same_clause = let here : live (reason_of t (opposite l)) ≡ Some implied.clause = implied.is_live in cc
+
+    all : All (λ x. (x ≡ opposite l) ⊎ IsFallen (fell t) (fell t l - 1) x) clause
+    all = subst (λ (c : List ℤ). All (λ x. (x ≡ opposite l) ⊎ IsFallen (fell t) (fell t l - 1) x) c) same_clause implied.others

@@ -69,11 +69,18 @@ pub record IsBack (n : ℕ) (old new : Trailed) : Type 0 where
   pub lits : (p : ℕ) (d : ℤ) → p < n → slice_index_or new.lits p d ≡ slice_index_or old.lits p d
   pub same : SameFallen n (fell old) (fell new)
 
--- The decision levels of a trail begin at its decisions, whose indices are the starts. Each state
--- before a decision is closed, and each literal that is no decision has a reason.
+-- Each literal of the trail follows by its reason, or is a decision, whose reason is 0.
+pub record IsExplained (live : ℕ → Option (List ℤ)) (t : Trailed) : Type 0 where
+  pub whole : IsTrail t
+  pub reasons : (p : ℕ) (d : ℤ) → p < length t.lits → (reason_of t (slice_index_or t.lits p d) ≡ 0) ⊎ HasReason live t p
+
+-- The decision levels of a trail begin at its decisions, whose indices are the starts, and which
+-- have the reason 0. Each state before a decision is closed, and each literal that is no decision
+-- has a reason.
 pub record IsLayered (live : ℕ → Option (List ℤ)) (t : Trailed) (starts : List ℕ) : Type 0 where
   pub whole : IsTrail t
   pub inside : All (λ s. s < length t.lits) starts
   pub rising : AllPairs (λ a b. a < b) starts
   pub closed : All (λ s. IsClosed live (fell t) s) starts
   pub reasons : (p : ℕ) → p < length t.lits → Contains starts p ⊎ HasReason live t p
+  pub decisions : (p : ℕ) (d : ℤ) → Contains starts p → reason_of t (slice_index_or t.lits p d) ≡ 0

@@ -4,4 +4,4 @@ pub mod Walks
 pub mod Shortening
 pub mod Conflicts
 pub mod Raising
-pub mod Starts
+pub mod Explaining

@@ -7,7 +7,7 @@ ghost use Rattle.std.specs.Prelude.{◌≡◌, ℕ, ◌+◌, ◌<◌, ◌≤◌,
 ghost use Rattle.sat_theory.specs.Formula.{IsWithin};
 ghost use Rattle.sat_theory.specs.Holding.{among, HintsHold};
 ghost use Rattle.cdcl_theory.specs.Falling.{IsClosed, IsFalsified};
-ghost use Rattle.cdcl_theory.specs.Trails.{IsLayered, fell as fell_of};
+ghost use Rattle.cdcl_theory.specs.Trails.{IsExplained, fell as fell_of};
 ghost use Rattle.clause_db.specs.Stored.{live_in};
 ghost use Rattle.conflict_core.specs.Walking.{HasRoom, HasFallenAt, OnlyBelow};
 ghost use Rattle.conflict_core.specs.Learning.{IsReady, IsWalkOf, HaveReasons, IsRaised, IsLearnt};
@@ -55,11 +55,10 @@ impl Analysis {
         &mut self,
         trail: &Trail,
         clauses: &ClauseDb,
-        starts: &[usize],
         start: usize,
     ) -> Result<(), AllocError>
         requires vars { clauses.now.vars ≡ trail.now.vars }
-        requires layered { IsLayered (live_in clauses.now) trail.now starts.now }
+        requires explained { IsExplained (live_in clauses.now) trail.now }
         requires room { length self.old.redundancy.verdicts.items ≡ trail.now.vars + 1 }
         requires walk { IsWalkOf (live_in clauses.now) trail.now self.old.walk }
         ensures walk { OnOk result (IsWalkOf (live_in clauses.now) trail.now self.new.walk) }
@@ -69,7 +68,7 @@ impl Analysis {
     {
         self.redundancy.find(trail, clauses, &self.walk.marks, &self.walk.touched, start)?;
         while let Some(lit) = self.redundancy.pop() {
-            self.walk.resolve_away(trail, clauses, starts, start, lit)?;
+            self.walk.resolve_away(trail, clauses, start, lit)?;
         }
         Ok(())
     }
@@ -90,7 +89,6 @@ impl Analysis {
         trail: &Trail,
         clauses: &ClauseDb,
         conflict: u32,
-        starts: &[usize],
         start: usize,
     ) -> Result<Learnt, AllocError>
         requires ready { IsReady trail.now.vars self.old }
@@ -98,7 +96,7 @@ impl Analysis {
         requires level { start < length trail.now.lits }
         requires closed { IsClosed (live_in clauses.now) (fell_of trail.now) start }
         requires reasons { HaveReasons (live_in clauses.now) trail.now (start + 1) }
-        requires layered { IsLayered (live_in clauses.now) trail.now starts.now }
+        requires explained { IsExplained (live_in clauses.now) trail.now }
         requires conflict { IsFalsified (live_in clauses.now) (fell_of trail.now) conflict }
         ensures learnt { IfOk result (λ l. IsLearnt (live_in clauses.now) trail.now start l.lits.items l.back l.hints.items) }
         ensures ready { OnOk result (IsReady trail.now.vars self.new) }
@@ -108,7 +106,7 @@ impl Analysis {
         self.walk.begin(trail, clauses, conflict)?;
         let top = self.walk.reduce(trail, clauses, start)?;
         let walked = self.walk.touched.len();
-        self.minimise(trail, clauses, starts, start)?;
+        self.minimise(trail, clauses, start)?;
         self.walk.shorten(clauses, trail.at(top).opposite())?;
         let first = self.walk.take_others(trail, top, &mut self.lower)?;
         self.walk.touched.truncate(walked);
@@ -128,7 +126,6 @@ impl Analysis {
         trail: &Trail,
         clauses: &ClauseDb,
         conflict: u32,
-        starts: &[usize],
         start: usize,
     ) -> Result<Learnt, AllocError>
         requires ready { IsReady trail.now.vars self.old }
@@ -136,12 +133,12 @@ impl Analysis {
         requires level { start < length trail.now.lits }
         requires closed { IsClosed (live_in clauses.now) (fell_of trail.now) start }
         requires reasons { HaveReasons (live_in clauses.now) trail.now (start + 1) }
-        requires layered { IsLayered (live_in clauses.now) trail.now starts.now }
+        requires explained { IsExplained (live_in clauses.now) trail.now }
         requires conflict { IsFalsified (live_in clauses.now) (fell_of trail.now) conflict }
         ensures learnt { IfOk result (λ l. IsLearnt (live_in clauses.now) trail.now start l.lits.items l.back l.hints.items) }
         ensures ready { IsReady trail.now.vars self.new }
     {
-        let learnt = self.walk_back(alloc, trail, clauses, conflict, starts, start);
+        let learnt = self.walk_back(alloc, trail, clauses, conflict, start);
         if learnt.is_err() {
             self.clear();
         }

@@ -12,11 +12,12 @@
 //! have the literal of the level: where the opposite of the other literal is in the learnt clause,
 //! that opposite goes (as in Audemard and Simon's Glucose for short clauses). All this takes time
 //! linear in the literals of the level, in those of the reasons read, and in the length of one list
-//! of blocking literals, besides a binary search among the levels for each literal that goes. The
-//! marks are cleared in time linear in their number.
+//! of blocking literals. The marks are cleared in time linear in their number. What a literal has for
+//! a reason is told by the id that it was pushed with: a decision has 0, any other a live clause
+//! (`IsExplained`), so it isn't looked up.
 //!
 //! ```text
-//! let learnt = analysis.learn(alloc, &trail, &clauses, conflict, &starts, start)?;
+//! let learnt = analysis.learn(alloc, &trail, &clauses, conflict, start)?;
 //! // learnt.lits has the literal of the level first, learnt.back says where the others fell
 //! let hints = analysis.refute(alloc, &trail, &clauses, conflict)?; // of the empty clause
 //! ```

@@ -1,8 +1,11 @@
 //! Which literals of a clause follow from its others (are redundant), as a guess: the recursion
 //! promises only to stay in bounds. Each literal that it names is then resolved away by a step of
 //! the walk, which is right whatever was guessed.
-ghost use Rattle.std.specs.Prelude.{◌≡◌, ◌+◌, ◌<◌, ◌≤◌, length, All, IfOk, IfSome};
+ghost use Rattle.std.specs.Prelude.{◌≡◌, ℤ, ◌+◌, ◌<◌, ◌≤◌, true, length, All, IfOk, IfSome};
 ghost use Rattle.sat_theory.specs.Formula.{variable as variable_of, IsWithin};
+ghost use Rattle.cdcl_theory.specs.Codes.{marked_in};
+ghost use Rattle.cdcl_theory.specs.Trails.{IsExplained, fell as fell_of};
+ghost use Rattle.clause_db.specs.Stored.{live_in};
 ghost use Rattle.conflict_core.specs.Walking.{HasRoom};
 
 use crate::marks::Marks;
@@ -79,14 +82,16 @@ impl Redundancy {
         depth: u32,
     ) -> Result<bool, AllocError>
         requires vars { clauses.now.vars ≡ trail.now.vars }
+        requires explained { IsExplained (live_in clauses.now) trail.now }
         requires marks { HasRoom trail.now.vars marks.now }
         requires over { variable_of lit ≤ trail.now.vars }
+        requires fallen { 0 < fell_of trail.now lit }
         requires room { length self.old.verdicts.items ≡ trail.now.vars + 1 }
         ensures { length self.new.verdicts.items ≡ length self.old.verdicts.items }
     {
         let implied = lit.opposite();
         let id = trail.reason(implied);
-        if depth == 0 || !clauses.live(id) {
+        if depth == 0 || id == 0 {
             self.note(lit, Verdict::Stands)?;
             return Ok(false);
         }
@@ -119,7 +124,9 @@ impl Redundancy {
         start: usize,
     ) -> Result<(), AllocError>
         requires vars { clauses.now.vars ≡ trail.now.vars }
+        requires explained { IsExplained (live_in clauses.now) trail.now }
         requires marks { HasRoom trail.now.vars marks.now }
+        requires fallen { (l : ℤ) → marked_in marks.now l ≡ true → 0 < fell_of trail.now l }
         requires within { IsWithin trail.now.vars lits.now }
         requires room { length self.old.verdicts.items ≡ trail.now.vars + 1 }
         ensures { length self.new.verdicts.items ≡ length self.old.verdicts.items }

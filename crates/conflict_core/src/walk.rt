@@ -4,10 +4,10 @@
 //! step breaks that, wherever it is made; the order of the steps, which literals are tried and when
 //! the walk ends are the subject of other facts. The literals that were touched are listed too, so
 //! that the marks are cleared in time linear in the walk.
-ghost use Rattle.std.specs.Prelude.{◌≡◌, ℤ, ◌+◌, ◌<◌, ◌≤◌, ◌∷◌, [], false, length, slice_index_or, Contains, AllPairs, IsSome, IfOk, OnOk, IfSome, IfNone};
+ghost use Rattle.std.specs.Prelude.{◌≡◌, ℤ, ◌+◌, ◌<◌, ◌≤◌, ◌∷◌, [], length, slice_index_or, IsSome, IfOk, OnOk, IfSome, IfNone};
 ghost use Rattle.sat_theory.specs.Formula.{variable as variable_of, opposite as opposite_of, IsClause, IsWithin};
 ghost use Rattle.cdcl_theory.specs.Falling.{IsFalsified};
-ghost use Rattle.cdcl_theory.specs.Trails.{Trailed, IsTrail, IsLayered, HasReason, fell as fell_of};
+ghost use Rattle.cdcl_theory.specs.Trails.{Trailed, IsTrail, IsExplained, HasReason, fell as fell_of};
 ghost use Rattle.clause_db.specs.Stored.{live_in};
 ghost use Rattle.trail_core.specs.Values.{IsOver};
 ghost use Rattle.conflict_core.specs.Walking.{AreMarked, IsMarkedBy, IsListed, IsMarkedClause, NoneMarked, IsLastMarked, IsReplaced, StayBelow, OnlyBelow, AreFewer, HasRoom, IsClear, AreOthers};
@@ -220,12 +220,11 @@ impl Walk {
         &mut self,
         trail: &Trail,
         clauses: &ClauseDb,
-        starts: &[usize],
         start: usize,
         lit: Lit,
     ) -> Result<(), AllocError>
         requires vars { clauses.now.vars ≡ trail.now.vars }
-        requires layered { IsLayered (live_in clauses.now) trail.now starts.now }
+        requires explained { IsExplained (live_in clauses.now) trail.now }
         requires over { variable_of lit ≤ trail.now.vars }
         requires walk { IsWalkOf (live_in clauses.now) trail.now self.old }
         ensures walk { OnOk result (IsWalkOf (live_in clauses.now) trail.now self.new) }
@@ -236,7 +235,7 @@ impl Walk {
             return Ok(());
         }
         let place = trail.fell(lit) as usize - 1;
-        if place >= start || is_start(starts, place) {
+        if place >= start || trail.reason(lit.opposite()) == 0 {
             return Ok(());
         }
         self.resolve(trail, clauses, place)
@@ -298,12 +297,4 @@ impl Walk {
         self.marks.take(&self.touched, others)?;
         Ok(first)
     }
-}
-
-/// Whether a level begins at an index.
-fn is_start(starts: &[usize], place: usize) -> bool
-    requires { AllPairs (λ a b. a < b) starts.now }
-    ensures { result ≡ false → Contains starts.now place → ⊥ }
-{
-    starts.binary_search(&place).is_ok()
 }

@@ -22,7 +22,7 @@ fn greatest_first(alloc: Global) -> Result<bool, AllocError> {
     let mut heap = VarHeap::new(alloc, 3)?;
     heap.bump(2, 5);
     heap.bump(3, 7);
-    heap.halve();
+    heap.divide(1);
     let well = pops(&mut heap, &[3, 2, 1]);
     drop(heap);
     Ok(well)
@@ -34,7 +34,7 @@ fn back_again(alloc: Global) -> Result<bool, AllocError> {
     heap.bump(1, 18446744073709551615);
     heap.bump(2, 18446744073709551614);
     heap.bump(2, 5);
-    heap.halve();
+    heap.divide(1);
     heap.bump(2, 1);
     let first = heap.pop().unwrap_or(0);
     let gone = !heap.contains(2);

@@ -3,6 +3,8 @@ use Rattle.std.specs.Prelude.{◌≡◌, ℕ, zero, suc, ◌+◌, ◌<◌, ◌�
 use Rattle.std.proofs.Common.{sym, ap, ◌∙◌, subst, arith}
 use Rattle.std.proofs.lemmas.Bool.{lt-ltb, ltb-true}
 use Rattle.std.proofs.lemmas.Grind.{common_steps}
+use Rattle.std.proofs.Math.Nat.{zero-div, mul_comm, mul-div-le, le_trans}
+use Rattle.std.proofs.lemmas.Nat.{le-div}
 use Rattle.std.proofs.lemmas.List.{length-set, length-map}
 use Rattle.var_heap.specs.declared.row.Row.{Row}
 use Rattle.var_heap.specs.Entries.{entry, marks_of}
@@ -82,22 +84,26 @@ risen_elsewhere vars scores r v y heap low none =
       ordered = rw (entry-set scores v y (omega (arith, room, low))) (ordered_elsewhere (at r) (place r) (entry scores) r.len (length r.places.items) v y heap.row.arranged heap.ordered none);
     }
 
--- scores that are halved
-entry_halved : (xs : List ℕ) (v : ℕ) → entry (map (λ s. s / 2) xs) v ≡ entry xs v / 2
+-- a smaller number is no greater after a division
+divided_order : (by a b : ℕ) → 0 < by → a ≤ b → a / by ≤ b / by
+divided_order by a b some low = le-div (a / by) b by some (subst (λ (v : ℕ). v ≤ b) (mul_comm by (a / by)) (le_trans (mul-div-le a by) low))
+
+-- scores that are divided
+entry_divided : (by : ℕ) (xs : List ℕ) (v : ℕ) → entry (map (λ s. s / by) xs) v ≡ entry xs v / by
 unfolding entry
-entry_halved [] v = refl
-entry_halved (x ∷ xs) zero = refl
-entry_halved (x ∷ xs) (suc v) = entry_halved xs v
+entry_divided by [] v = sym (zero-div by)
+entry_divided by (x ∷ xs) zero = refl
+entry_divided by (x ∷ xs) (suc v) = entry_divided by xs v
 
-entries_halved : (xs : List ℕ) → entry (map (λ s. s / 2) xs) ≡ (λ v. entry xs v / 2)
-entries_halved xs = λ i v. entry_halved xs v i
+entries_divided : (by : ℕ) (xs : List ℕ) → entry (map (λ s. s / by) xs) ≡ (λ v. entry xs v / by)
+entries_divided by xs = λ i v. entry_divided by xs v i
 
-pub heap_halved : (vars : ℕ) (scores now : List ℕ) (r : Row) → now ≡ map (λ s. s / 2) scores → IsHeap vars scores r → IsHeap vars now r
-heap_halved vars scores now r is heap = record {
+pub heap_divided : (by vars : ℕ) (scores now : List ℕ) (r : Row) → 0 < by → now ≡ map (λ s. s / by) scores → IsHeap vars scores r → IsHeap vars now r
+heap_divided by vars scores now r some is heap = record {
   row = heap.row;
   scores_room = ap length is ∙ (rw length-map heap.scores_room);
   places_room = heap.places_room;
-  ordered = rw (is, entries_halved scores) (ordered_alike (at r) (entry scores) r.len (λ (s : ℕ). s / 2) (λ a b low. omega arith) heap.ordered);
+  ordered = rw (is, entries_divided by scores) (ordered_alike (at r) (entry scores) r.len (λ (s : ℕ). s / by) (λ a b low. divided_order by a b some low) heap.ordered);
 }
 
 -- the heap of all variables

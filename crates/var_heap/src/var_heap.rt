@@ -1,6 +1,6 @@
 //! Variables with scores, some of them held. That the first of the row has a greatest score follows
 //! from the heap order, level by level.
-ghost use Rattle.std.specs.Prelude.{◌≡◌, ℕ, ◌+◌, ◌-◌, ◌/◌, ◌^◌, ◌↔◌, true, false, map, min, slice_set, IsTrue, IfOk, IfSome, IfNone};
+ghost use Rattle.std.specs.Prelude.{◌≡◌, ℕ, ◌+◌, ◌-◌, ◌/◌, ◌<◌, ◌^◌, ◌↔◌, true, false, map, min, slice_set, IsTrue, IfOk, IfSome, IfNone};
 ghost use Rattle.var_heap.specs.Held.{IsHeld, IsVariable, IsWhole, IsGreatest, IsFull, score_of};
 
 use crate::row::Row;
@@ -86,12 +86,13 @@ impl VarHeap {
         }
     }
 
-    /// Halves every score, rounded down.
-    pub fn halve(&mut self)
-        ensures halved { self.new ≡ record self.old { scores = map (λ s. s / 2) self.old.scores } }
+    /// Divides every score by 2 to a power, rounded down.
+    pub fn divide(&mut self, power: u32)
+        requires { power < 64 }
+        ensures divided { self.new ≡ record self.old { scores = map (λ s. s / 2 ^ power) self.old.scores } }
         ensures whole { IsWhole self.new }
     {
-        halve_all(&mut self.scores);
+        divide_all(&mut self.scores, power);
     }
 
     /// Whether a variable is held.
@@ -104,10 +105,11 @@ impl VarHeap {
     }
 }
 
-fn halve_all(scores: &mut Vec<u64>)
-    ensures { scores.new.items ≡ map (λ s. s / 2) scores.old.items }
+fn divide_all(scores: &mut Vec<u64>, power: u32)
+    requires { power < 64 }
+    ensures { scores.new.items ≡ map (λ s. s / 2 ^ power) scores.old.items }
 {
     for index in 0..scores.len() {
-        scores[index] /= 2;
+        scores[index] >>= power;
     }
 }

@@ -1,5 +1,4 @@
-use Rattle.std.proofs.Common.{◌≡◌, ◌*◌, ◌^◌, ◌≤◌, ℕ, [], max, Contains, subst, sym}
-use Rattle.sat_theory.specs.Formula.{Formula}
+use Rattle.std.proofs.Common.{◌*◌, ◌^◌, ◌≤◌, ℕ, [], max, Contains, subst, sym}
 use Rattle.sat_theory.specs.Log.{IsSpent}
 use Rattle.sat_solve.specs.Answering.{IfOpen}
 use Rattle.std.specs.Prelude.{IfOk}

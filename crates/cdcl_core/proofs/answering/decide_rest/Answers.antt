@@ -1,8 +1,4 @@
-use Rattle.std.proofs.Common.{◌≡◌, ◌∙◌, ◌+◌, ◌*◌, ◌^◌, ◌<◌, ◌≤◌, ℕ, [], length, max, Contains, ap, arith}
-use Rattle.sat_theory.specs.Formula.{Formula}
-use Rattle.clause_db.specs.Stored.{Stored}
-use Rattle.cdcl_core.specs.declared.search.Search.{Search}
-use Rattle.cdcl_core.specs.Searching.{IsLogged}
+use Rattle.std.proofs.Common.{◌≤◌, max, arith}
 use Rattle.cdcl_core.specs.Solving.{IsUnderWay}
 use Rattle.cdcl_core.proofs.Restarting.{logged_restarted}
 use Rattle.cdcl_core.proofs.UnderWay.{under_way_restarted}

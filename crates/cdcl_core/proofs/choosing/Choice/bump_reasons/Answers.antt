@@ -1,7 +1,18 @@
-use Rattle.std.proofs.Common.{◌∙◌, ℕ, sym, subst}
-use Rattle.sat_theory.specs.Formula.{IsWithin}
+use Rattle.std.proofs.Common.{◌≡◌, ◌<◌, ◌∙◌, ℕ, ℤ, IsSome, ap, sym, subst}
+use Rattle.sat_theory.specs.Formula.{opposite, IsWithin}
+use Rattle.cdcl_theory.specs.Trails.{fell, reason_of}
+use Rattle.cdcl_theory.specs.TrailLaws.{live_fallen}
+use Rattle.clause_db.specs.Stored.{live_in}
 use Rattle.cdcl_core.specs.Choosing.{IsChoosing}
 use Rattle.cdcl_core.proofs.choosing.Choice.bump_reasons.Goals as goal
+
+pub arranged-requires : goal.arranged-requires
+arranged-requires c =
+    let t = c.args.trail.now in
+    let l : ℤ = c.lit-item.result in
+    let down : 0 < fell t l = subst (λ (x : ℤ). 0 < fell t x) (sym c.lit-item.is) (c.requires.fallen c.loop-lit.lit-index l c.loop-lit-test.true) in
+    let at : c.reason-id.result ≡ reason_of t (opposite l) = c.reason-id.ensures.value ∙ ap (reason_of t) c.opposite.ensures.value in
+    record { live = subst (λ (k : ℕ). IsSome (live_in c.args.clauses.now k)) (sym at) (live_fallen (live_in c.args.clauses.now) t l c.requires.explained down (λ e. c.if-id-eq0.false (at ∙ e))) }
 
 pub add-requires : goal.add-requires
 add-requires c =

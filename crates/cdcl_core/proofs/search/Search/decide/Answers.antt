@@ -15,7 +15,7 @@ returns-clause-searching c =
     record {
       stored = c.requires.searching.stored;
       vars = c.requires.searching.vars ∙ sym (ap (λ (t : Trailed). t.vars) is);
-      layered = rw is (layered_decided (live_in c.args.self.now.clauses) old c.args.self.now.starts.items c.push.new.self.items c.in-Some.lit 0 c.requires.searching.layered c.requires.settled c.in-Some.ensures.over c.in-Some.ensures.free starts);
+      layered = rw is (layered_decided (live_in c.args.self.now.clauses) old c.args.self.now.starts.items c.push.new.self.items c.in-Some.lit c.requires.searching.layered c.requires.settled c.in-Some.ensures.over c.in-Some.ensures.free starts);
       ready = rw is c.requires.searching.ready;
       choosing = rw is (c.in-Some.ensures.choosing 0);
     }

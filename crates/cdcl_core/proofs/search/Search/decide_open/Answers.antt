@@ -20,7 +20,7 @@ returns-clause-searching c =
     record {
       stored = c.requires.searching.stored;
       vars = c.requires.searching.vars ∙ sym (ap (λ (t : Trailed). t.vars) is);
-      layered = rw is (layered_decided (live_in s.clauses) old s.starts.items c.push.new.self.items c.in-Some.lit 0 c.requires.searching.layered c.requires.settled over free starts);
+      layered = rw is (layered_decided (live_in s.clauses) old s.starts.items c.push.new.self.items c.in-Some.lit c.requires.searching.layered c.requires.settled over free starts);
       ready = rw is c.requires.searching.ready;
       choosing = rw is (choosing_pushed old c.in-Some.lit 0 s.choice c.requires.searching.layered.whole over.1 free c.requires.searching.choosing);
     }

@@ -1,15 +1,17 @@
-use Rattle.std.proofs.Common.{◌≡◌, ◌∙◌, ◌++◌, ◌∷◌, [], ◌<◌, ◌≤◌, ◌+◌, ℕ, ℤ, pos, List, length, slice_index_or, sym, ap, subst, arith}
+use Rattle.std.proofs.Common.{◌≡◌, ◌∙◌, ◌++◌, ◌∷◌, [], ◌<◌, ◌≤◌, ◌+◌, ◌-◌, ℕ, ℤ, pos, List, length, take, drop, All, slice_index_or, sym, ap, subst, arith}
 use Rattle.std.proofs.lemmas.List.{get_or_read, length_push}
+use Rattle.std.proofs.lemmas.List.Elements.{All-take, All-drop}
 use Rattle.sat_theory.specs.Formula.{IsWithin}
 use Rattle.sat_theory.specs.Line as theory
 use Rattle.cdcl_theory.specs.FallingLaws.{unit_is_new}
 use Rattle.cdcl_theory.specs.Trails.{Trailed, fell, pushed, IsLayered}
+use Rattle.cdcl_theory.specs.TrailLaws.{layered_explained}
 use Rattle.clause_db.specs.Stored.{Stored, live_in, added}
 use Rattle.cdcl_core.specs.Guarding.{IsGuarded}
 use Rattle.cdcl_core.proofs.Jumps.{guarded_jumped}
 use Rattle.trail_core.specs.Values.{IsOver, IsFree}
 use Rattle.conflict_core.specs.Learning.{IsReady, asserting}
-use Rattle.cdcl_core.proofs.Layers.{closed_last, reasons_last, dropped_low, jumped_free, jumped_layers, learnt_over}
+use Rattle.cdcl_core.proofs.Layers.{closed_last, reasons_last, dropped_low, jumped_free, jumped_layers, learnt_fallen, learnt_over}
 use Rattle.cdcl_core.proofs.Logging.{log_added, new_added}
 use Rattle.cdcl_core.specs.Choosing.{IsChoosing}
 use Rattle.cdcl_core.proofs.Choices.{choosing_pushed}
@@ -20,6 +22,19 @@ learn-requires-clause-closed c = closed_last (live_in c.args.self.now.clauses) c
 
 pub learn-requires-clause-reasons : goal.learn-requires-clause-reasons
 learn-requires-clause-reasons c = reasons_last (live_in c.args.self.now.clauses) c.args.self.now.trail c.args.self.now.starts.items c.args.start c.requires.searching.layered c.requires.level
+
+pub learn-requires-clause-explained : goal.learn-requires-clause-explained
+learn-requires-clause-explained c = layered_explained (live_in c.args.self.now.clauses) c.args.self.now.trail c.args.self.now.starts.items c.requires.searching.layered
+
+pub bump_reasons-requires-clause-explained : goal.bump_reasons-requires-clause-explained
+bump_reasons-requires-clause-explained c = layered_explained (live_in c.args.self.now.clauses) c.args.self.now.trail c.args.self.now.starts.items c.requires.searching.layered
+
+pub bump_reasons-requires-clause-fallen : goal.bump_reasons-requires-clause-fallen
+bump_reasons-requires-clause-fallen c =
+    let s = c.args.self.now in
+    let l = c.in_ok-learnt.learnt in
+    let fallen : All (λ m. 0 < fell s.trail m) l.lits.items = learnt_fallen (live_in s.clauses) s.trail c.args.start l.back l.lits.items l.hints.items c.in_ok-learnt.ensures.learnt in
+    subst (λ (xs : List ℤ). All (λ m. 0 < fell s.trail m) (take (length xs - 1) (drop 1 xs))) (sym c.deref-2.ensures.value) (All-take (λ m. 0 < fell s.trail m) (length l.lits.items - 1) (drop 1 l.lits.items) (All-drop (λ m. 0 < fell s.trail m) 1 l.lits.items fallen))
 
 pub push-requires-clause-free : goal.push-requires-clause-free
 push-requires-clause-free c =
@@ -33,7 +48,7 @@ pub returns-clause-searching : goal.returns-clause-searching
 returns-clause-searching c =
     let s = c.args.self.now in
     let l = c.in_ok-learnt.learnt in
-    let clauses_are : c.add.new.self ≡ added s.clauses l.lits.items = c.in_ok-id.ensures.ok ∙ ap (λ (xs : List ℤ). added s.clauses xs) c.deref-4.ensures.value in
+    let clauses_are : c.add.new.self ≡ added s.clauses l.lits.items = c.in_ok-id.ensures.ok ∙ ap (λ (xs : List ℤ). added s.clauses xs) c.deref-3.ensures.value in
     let u : c.index-lit.result.now ≡ asserting l.lits.items = get_or_read l.lits.items 0 c.index-lit.result.now c.in_ok-learnt.ensures.learnt.some c.index-lit.ensures (pos 0) in
     let trail_is : c.push.new.self ≡ pushed c.back_to.new.self c.index-lit.result.now c.in_ok-id.id = c.in_ok-push.ensures.ok in
     let vars : c.back_to.new.self.vars ≡ s.trail.vars = c.back_to.ensures.back.vars in
@@ -58,10 +73,10 @@ pub returns-clause-logged : goal.returns-clause-logged
 returns-clause-logged c = λ f logged.
     let s = c.args.self.now in
     let l = c.in_ok-learnt.learnt in
-    let clauses_are : c.add.new.self ≡ added s.clauses l.lits.items = c.in_ok-id.ensures.ok ∙ ap (λ (xs : List ℤ). added s.clauses xs) c.deref-4.ensures.value in
+    let clauses_are : c.add.new.self ≡ added s.clauses l.lits.items = c.in_ok-id.ensures.ok ∙ ap (λ (xs : List ℤ). added s.clauses xs) c.deref-3.ensures.value in
     let lines_are = c.in_ok-add.ensures.ok
-    ∙ ap (λ (xs : List ℤ). s.lines ++ theory.Add c.in_ok-id.id xs c.deref-6.result.now ∷ []) c.deref-5.ensures.value
-    ∙ ap (λ (xs : List ℕ). s.lines ++ theory.Add c.in_ok-id.id l.lits.items xs ∷ []) c.deref-6.ensures.value in
+    ∙ ap (λ (xs : List ℤ). s.lines ++ theory.Add c.in_ok-id.id xs c.deref-5.result.now ∷ []) c.deref-4.ensures.value
+    ∙ ap (λ (xs : List ℕ). s.lines ++ theory.Add c.in_ok-id.id l.lits.items xs ∷ []) c.deref-5.ensures.value in
     let within : IsWithin s.clauses.vars l.lits.items = subst (λ (n : ℕ). IsWithin n l.lits.items) (sym c.requires.searching.vars) c.in_ok-learnt.ensures.learnt.variables in
     let few : s.trail.vars < 1000000000 = c.requires.searching.layered.whole.few in
     let small : s.clauses.vars < 1000000000 = omega (arith, few, c.requires.searching.vars) in
@@ -82,7 +97,7 @@ returns-clause-visited c =
     let end : ℕ = c.drop_levels-end.result in
     let back : Trailed = c.back_to.new.self in
     let u : c.index-lit.result.now ≡ asserting l.lits.items = get_or_read l.lits.items 0 c.index-lit.result.now c.in_ok-learnt.ensures.learnt.some c.index-lit.ensures (pos 0) in
-    let clauses_are : c.add.new.self ≡ added s.clauses l.lits.items = c.in_ok-id.ensures.ok ∙ ap (λ (xs : List ℤ). added s.clauses xs) c.deref-4.ensures.value in
+    let clauses_are : c.add.new.self ≡ added s.clauses l.lits.items = c.in_ok-id.ensures.ok ∙ ap (λ (xs : List ℤ). added s.clauses xs) c.deref-3.ensures.value in
     let trail_is : c.push.new.self ≡ pushed back c.index-lit.result.now c.in_ok-id.id = c.in_ok-push.ensures.ok in
     let low = dropped_low s.starts.items fewer c.args.start l.back end c.requires.searching.layered.rising c.requires.level.last c.drop_levels-end.ensures in
     let free : IsFree back c.index-lit.result.now = rw u (jumped_free (live_in s.clauses) s.trail back c.args.start end l.back l.lits.items l.hints.items c.requires.searching.layered.whole c.back_to.ensures.whole c.in_ok-learnt.ensures.learnt low c.back_to.ensures.back) in

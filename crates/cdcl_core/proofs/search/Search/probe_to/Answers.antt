@@ -1,12 +1,11 @@
-use Rattle.std.proofs.Common.{◌≡◌, ◌∙◌, ◌+◌, ◌<◌, ◌≤◌, length, sym, ap, subst, arith}
-use Rattle.sat_theory.specs.Formula.{Formula}
+use Rattle.std.proofs.Common.{◌≡◌, ◌∙◌, ◌+◌, ◌<◌, ◌≤◌, length, ap, arith}
 use Rattle.clause_db.specs.Stored.{live_in}
 use Rattle.cdcl_core.specs.declared.search.Search.{Search}
-use Rattle.cdcl_core.specs.Searching.{HasDecided, HasSettled, IsLogged}
+use Rattle.cdcl_core.specs.Searching.{HasDecided, HasSettled}
 use Rattle.cdcl_core.specs.Solving.{IsUnderWay}
 use Rattle.cdcl_core.proofs.Counting.{trail_short}
 use Rattle.cdcl_core.proofs.Settling.{measure_falls, logged_decided, starts_short, settled_few}
-use Rattle.cdcl_core.proofs.UnderWay.{under_way_settled, under_way_scoped, logged_scoped}
+use Rattle.cdcl_core.proofs.UnderWay.{under_way_settled}
 use Rattle.cdcl_core.proofs.search.Search.probe_to.Goals as goal
 
 pub loop-conflict-smaller : goal.loop-conflict-smaller

@@ -1,4 +1,4 @@
-use Rattle.std.proofs.Common.{◌≡◌, ◌+◌, ◌*◌, ◌-◌, ◌<◌, ◌≤◌, length}
+use Rattle.std.proofs.Common.{◌≡◌, ◌+◌, ◌*◌, ◌-◌, length}
 use Rattle.sat_theory.specs.Formula.{Formula}
 use Rattle.cdcl_core.specs.Searching.{IsLogged}
 use Rattle.cdcl_core.specs.Solving.{IsUnderWay}

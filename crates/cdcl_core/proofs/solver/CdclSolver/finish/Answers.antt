@@ -1,4 +1,4 @@
-use Rattle.std.proofs.Common.{◌≡◌, sym, subst}
+use Rattle.std.proofs.Common.{sym, subst}
 use Rattle.cdcl_core.specs.Solving.{Solving, IsStagedOf}
 use Rattle.cdcl_core.proofs.solver.CdclSolver.finish.Goals as goal
 
