@@ -52,9 +52,9 @@ pub fn write_gates(
 /// whose names neither a source nor a gate has. A constant is a gate over the first source.
 ///
 /// The circuit is called `top` and has no clocks, its names have none of the marks `(`, `)`, `,`, `=` in them, its
-/// latches have no controls and initial values, and a gate that reads two different places is AND, OR, XOR or the
-/// complement of one. So the text says all of it, and is read back as a circuit that does the same
-/// (`circuits_are_read_back` of `bench_laws`).
+/// latches have no controls and initial values, a gate that reads two different places is AND, OR, XOR or the
+/// complement of one, and it has a source, or neither gates nor sinks. So the text says all of it, and is read back as
+/// a circuit that does the same (`circuits_are_read_back` of `bench_laws`).
 pub fn write_bench(circuit: &Circuit, out: &mut Vec<u8>) -> Result<(), AllocError>
     requires { IsBenchCircuit circuit.now }
     ensures ok { OnOk result (out.new.items ≡ out.old.items ++ circuit_text circuit.now) }
