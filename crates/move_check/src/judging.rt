@@ -42,7 +42,7 @@ fn is_fit(net: &Net, candidate: &Net, basis: Basis) -> bool
 }
 
 /// The candidate without its dead gates, where it may take the net's place: it is found to be equivalent with at most
-/// `budget` learnt clauses, from 1 to 10,000,000, it has no more gates, and operators of the basis or of the net. None
+/// `budget` conflicts, from 1 to 10,000,000, it has no more gates, and operators of the basis or of the net. None
 /// where it may not.
 #[tactic(auto, using(crate::specs::JudgingLaws::judging))]
 pub fn judged<S: Solver>(
