@@ -1,8 +1,8 @@
 //! Truth tables with the chains and the numbers of steps that they need.
-use chain_core::{Chain, write_chain};
+use chain_core::{Chain, first_difference, write_chain};
 use op_basis::read_basis;
 use std::alloc::Global;
-use step_core::few_steps;
+use step_core::{few_steps, nth_chain};
 use tt_core::read_tables;
 
 /// Whether a chain is written as `text`.
@@ -128,4 +128,35 @@ fn fewest_steps_are_found(rt: HostRuntime) {
     for &(basis, tables, most, wanted) in FEWEST {
         assert!(rt; needs(rt.alloc(), basis, tables, most, wanted));
     }
+}
+
+/// Whether there is a chain of at most `most` steps after `number` others, and it agrees with the tables.
+fn has_after(alloc: Global, basis: &[u8], tables: &[u8], most: u32, number: u32) -> bool {
+    if tables.len() > 100_000 || most > 6 {
+        return false;
+    }
+    let Ok(basis) = read_basis(basis) else {
+        return false;
+    };
+    let Ok(tables) = read_tables(alloc, tables) else {
+        return false;
+    };
+    match nth_chain(alloc, &tables.spec, basis, most, number) {
+        Ok(Some(chain)) => {
+            chain.steps().len() as u32 <= most
+                && chain.n() == tables.spec.n()
+                && chain.outs().len() as u32 == tables.spec.outputs()
+                && first_difference(&chain, &tables.spec).is_none()
+        }
+        _ => false,
+    }
+}
+
+#[test]
+fn chains_come_one_after_the_other(rt: HostRuntime) {
+    // a multiplexer
+    for number in 0..3u32 {
+        assert!(rt; has_after(rt.alloc(), b"all", b"inputs 3\n01010011\n", 3, number));
+    }
+    assert!(rt; !has_after(rt.alloc(), b"all", b"inputs 3\n01010011\n", 3, 1_000_000));
 }
