@@ -1,4 +1,6 @@
-//! Moves over a graph: those that make it smaller, and rounds of those that may keep its size.
+//! Moves over a graph: those that make it smaller, and rounds of those that may keep its size. None makes it larger.
+ghost use Rattle.std.specs.Prelude.{IfOk};
+ghost use Rattle.resub_core.specs.Smaller.{IsNoLarger};
 
 use resub_core::{resub, resub_level};
 use share_core::share;
@@ -9,7 +11,10 @@ use xag_core::Xag;
 const NEW_GATES: u32 = 2;
 
 /// The graph after sharing and resubstitution, as long as these leave fewer gates.
-fn reduced(alloc: Global, xag: &Xag) -> Result<Xag, AllocError> {
+#[tactic(auto, using(resub_core::specs::SmallerLaws::replacing))]
+fn reduced(alloc: Global, xag: &Xag) -> Result<Xag, AllocError>
+    ensures { IfOk result (IsNoLarger xag.now) }
+{
     let mut best = share(alloc, xag, None)?;
     for new_gates in 0..=NEW_GATES {
         best = resub(alloc, &best, new_gates)?;
@@ -19,17 +24,39 @@ fn reduced(alloc: Global, xag: &Xag) -> Result<Xag, AllocError> {
 
 /// The graph after a round of moves that may keep its size: resubstitution of gates at random, sharing with random ties,
 /// and then what makes it smaller.
-fn round(alloc: Global, xag: &Xag, seed: u64) -> Result<Xag, AllocError> {
+#[tactic(auto, using(resub_core::specs::SmallerLaws::replacing))]
+fn round(alloc: Global, xag: &Xag, seed: u64) -> Result<Xag, AllocError>
+    ensures { IfOk result (IsNoLarger xag.now) }
+{
     let moved = resub_level(alloc, xag, seed)?;
     let shared = share(alloc, &moved, Some(seed))?;
-    resub(alloc, &shared, NEW_GATES)
+    let left = resub(alloc, &shared, NEW_GATES)?;
+    Ok(left)
 }
 
-/// The graph after sharing and resubstitution, and then `effort` rounds.
-pub(crate) fn improved(alloc: Global, xag: &Xag, effort: u32) -> Result<Xag, AllocError> {
-    let mut best = reduced(alloc, xag)?;
-    for number in 1..=u64::from(effort) {
+/// The graph after so many rounds.
+#[tactic(auto, using(resub_core::specs::SmallerLaws::replacing))]
+fn after_rounds(alloc: Global, xag: &Xag, rounds: u32) -> Result<Xag, AllocError>
+    ensures { IfOk result (IsNoLarger xag.now) }
+{
+    let mut best = xag.copied(alloc)?;
+    for number in 1..=u64::from(rounds) {
         best = round(alloc, &best, number)?;
     }
     Ok(best)
+}
+
+/// The graph after sharing and resubstitution, and then so many rounds, unless these leave as many gates: the order of
+/// gates is kept then.
+#[tactic(auto, using(resub_core::specs::SmallerLaws::replacing))]
+pub(crate) fn improved(alloc: Global, xag: &Xag, rounds: u32) -> Result<Xag, AllocError>
+    ensures { IfOk result (IsNoLarger xag.now) }
+{
+    let begun = reduced(alloc, xag)?;
+    let best = after_rounds(alloc, &begun, rounds)?;
+    if best.gates().len() < begun.gates().len() {
+        Ok(best)
+    } else {
+        Ok(begun)
+    }
 }

@@ -16,51 +16,42 @@ use xag_core::{from_net, into_net};
 /// The most learnt clauses of a comparison.
 const MOST_CLAUSES: u32 = 100_000;
 
-/// The operators of a set, and those of a net.
-fn operators_of(net: &Net, basis: Basis) -> Basis {
-    let mut bits = basis.get();
+/// The operators of a net, as a set, with those of `bits`.
+fn operators_of(net: &Net, bits: u16) -> u16 {
+    let mut found = bits;
     for gate in net.gates() {
-        bits |= 1u16.wrapping_shl(u32::from(gate.op.get()));
+        found |= 1u16.wrapping_shl(u32::from(gate.op.get()));
     }
-    Basis::new(bits)
-}
-
-/// Whether each gate has one of the operators.
-fn has_operators(net: &Net, allowed: Basis) -> bool {
-    for gate in net.gates() {
-        if !allowed.contains(gate.op) {
-            return false;
-        }
-    }
-    true
+    found
 }
 
 /// The net after moves over its graph, before it is judged: with as many gates as the graph has and a NOT for each sink
-/// that needs one, or else with operators of the basis or of the net.
-fn candidate(alloc: Global, net: &Net, basis: Basis, effort: u32) -> Result<Net, AllocError> {
+/// that needs one, if its operators are of the basis or of the net; else with more NOT gates, so that they are where
+/// polarities can bring that about.
+fn candidate(alloc: Global, net: &Net, basis: Basis, rounds: u32) -> Result<Net, AllocError> {
     let xag = from_net(alloc, net)?;
-    let best = improved(alloc, &xag, effort)?;
-    let allowed = operators_of(net, basis);
+    let best = improved(alloc, &xag, rounds)?;
+    let allowed = operators_of(net, basis.get());
     let direct = into_net(alloc, &best)?;
-    if has_operators(&direct, allowed) {
+    if operators_of(&direct, allowed) == allowed {
         return Ok(direct);
     }
-    net_within(alloc, &best, allowed)
+    net_within(alloc, &best, Basis::new(allowed))
 }
 
-/// A smaller net that can stand in the net's place, by sharing, by resubstitution, and by `effort` rounds of moves that
+/// A smaller net that can stand in the net's place, by sharing, by resubstitution, and by `rounds` rounds of moves that
 /// keep the size. None where the moves don't find one, or where it isn't found to be equivalent.
 pub fn restructured<S: Solver>(
     alloc: Global,
     net: &Net,
     basis: Basis,
-    effort: u32,
+    rounds: u32,
 ) -> Result<Option<Net>, AllocError>
     ensures pruned { IfOk result (λ found. IfSome found (IsPruned net.now)) }
     ensures operators { IfOk result (λ found. IfSome found (HasOperatorsWithin (members basis) net.now)) }
     ensures fewer { IfOk result (λ found. IfSome found (λ m. length m.gates < length net.now.gates)) }
 {
-    let candidate = candidate(alloc, net, basis, effort)?;
+    let candidate = candidate(alloc, net, basis, rounds)?;
     if candidate.gates().len() >= net.gates().len() {
         return Ok(None);
     }

@@ -14,13 +14,19 @@ use sat_solve::Solver;
 use std::alloc::{AllocError, Global};
 use sweep_core::{Swept, Undecided, sweep};
 
-/// A net of fewer gates is left to windows, where no rounds of moves are asked for.
-const LEAST_MOVED: usize = 9;
+/// A net of fewer gates is left to windows, where no rounds of moves are asked for: a window or two show all of it.
+const LEAST_MOVED: usize = 6;
 
-/// And so is one of more, since moves over it take minutes.
-const MOST_MOVED: usize = 3000;
+/// And so is one of more, since it can't be compared with what moves leave of it.
+const MOST_MOVED: usize = 100_000;
 
-/// How often moves follow windows at most, and up to how many gates.
+/// How many rounds of moves that keep the size a small net goes through, also where none are asked for, and up to how many
+/// gates it is small.
+const FEW_ROUNDS: u32 = 3;
+
+const FEW_GATES: usize = 1000;
+
+/// How often moves follow windows at most, and up to how many gates they follow them at all.
 const MOST_TURNS: u32 = 8;
 
 const MANY_GATES: usize = 10_000;
@@ -56,11 +62,20 @@ fn swept<S: Solver>(
     })
 }
 
-/// Whether a net is restructured: where rounds of moves are asked for, and else from a few gates on, of which windows
-/// see all, up to some thousands.
+/// Whether a net is restructured: where rounds of moves are asked for, and else from a few gates on, up to so many as can
+/// be compared.
 fn is_moved(net: &Net, effort: u32) -> bool {
     let gates = net.gates().len();
     effort > 0 || (LEAST_MOVED <= gates && gates <= MOST_MOVED)
+}
+
+/// How many rounds of moves that keep the size a net goes through.
+fn rounds_of(net: &Net, effort: u32) -> u32 {
+    if net.gates().len() > FEW_GATES {
+        effort
+    } else {
+        effort.max(FEW_ROUNDS)
+    }
 }
 
 /// How often moves follow windows.
@@ -78,14 +93,14 @@ fn moved<S: Solver>(
     alloc: Global,
     net: &Net,
     settings: &ImproveSettings,
-    effort: u32,
+    rounds: u32,
 ) -> Result<Option<Net>, AllocError>
     ensures { IfOk result (λ found. IfSome found (Leads (members settings.now.basis) net.now)) }
 {
     if !is_moved(net, settings.effort) {
         return Ok(None);
     }
-    match restructured::<S>(alloc, net, settings.basis, effort)? {
+    match restructured::<S>(alloc, net, settings.basis, rounds)? {
         Some(smaller) => Ok(Some(smaller)),
         None => Ok(None),
     }
@@ -96,7 +111,8 @@ fn moved<S: Solver>(
 fn begun<S: Solver>(alloc: Global, net: Net, settings: &ImproveSettings) -> Result<Net, AllocError>
     ensures { IfOk result (Leads (members settings.now.basis) net) }
 {
-    match moved::<S>(alloc, &net, settings, settings.effort)? {
+    let rounds = rounds_of(&net, settings.effort);
+    match moved::<S>(alloc, &net, settings, rounds)? {
         Some(smaller) => Ok(smaller),
         None => Ok(net),
     }

@@ -6,9 +6,9 @@
 //! a window's place, on `merge_core` for gates that are alike, on any `Solver` of `sat_solve`, and it is a `Trial` of
 //! `sweep_core`. The net and its index are kept together; the index is made anew when the net changes.
 //!
-//! The one theorem is that of `improve_net`, which drops dead gates and then sweeps: what is left answers what the
-//! net answers, and once it is settled no window up to the cap has a shorter chain for what the settings ask of it, but
-//! for those that are named.
+//! The one theorem is that of `improve_net`, which drops dead gates, makes the net smaller by moves over all of it
+//! (`restructure`) and then sweeps: what is left answers what the net answers, and once it is settled no window up to the
+//! cap has a shorter chain for what the settings ask of it, but for those that are named.
 //!
 //! ```text
 //! let left = improve_net::<S>(alloc, &net, ImproveSettings::usual())?;
