@@ -1,4 +1,4 @@
--- The transitive fanin (TFI) of a window's inputs is outside the window.
+-- The transitive fanin (TFI) of a window's inputs is outside the window, and its gates are convex.
 use Rattle.std.specs.Prelude.{◌≡◌, ℕ, suc, ◌+◌, Bool, true, false, List, [], ◌∷◌, slice_get, Some, ◌⊎◌, refl}
 use Rattle.std.proofs.Common.{arith, sym, ◌∙◌, ap, subst, inl, inr, ⊎_elim, add-zero}
 use Rattle.std.proofs.lemmas.Bool.{cond_both, cases_eq, cases_Bool, both_ways}
@@ -9,8 +9,8 @@ use Rattle.net_theory.specs.declared.data.Gate.{Gate}
 use Rattle.net_theory.specs.Net.{Net}
 use Rattle.net_theory.specs.Reach.{ReadsPlace, with_mark, marked}
 use Rattle.window_theory.specs.Places.{among}
-use Rattle.window_theory.specs.Paths.{Reads, LeadsUp, at_once, by_way_of}
-use Rattle.window_theory.specs.Window.{Window, IsInput, Belongs}
+use Rattle.window_theory.specs.Paths.{Reads, LeadsUp, at_once, by_way_of, IsConvex}
+use Rattle.window_theory.specs.Window.{Window, IsApart, Belongs}
 use Rattle.window_theory.specs.Splice.{is_early}
 
 -- ---- paths
@@ -53,16 +53,30 @@ marked_leads n roots place (g ∷ gs) p reads e =
 
 -- ---- windows
 
--- By convexity no gate of a window is early, which means in the transitive fanin of its inputs.
+-- No gate of a window is early, which means in the transitive fanin of its inputs.
 pub early_outside : (n : Net) (w : Window) (p : ℕ) → Belongs n w → is_early n w p ≡ true → among w.gates p ≡ false
 early_outside n w p is early =
     let r = marked_leads n (among w.inputs) (n.sources + 1) n.gates p (λ i x g at reads. record { reader = record { index = i; gate = g; at = at; place = refl }; reads = reads }) early in
-    let input : IsInput n w.gates r.0 = is.inputs.only r.0 r.1 in
+    let apart : IsApart n w.gates r.0 = is.apart r.0 r.1 in
     ⊎_elim
-    (λ inside. absurd (both_ways (among w.gates r.0) input.outside
-    (⊎_elim
-    (λ (same : p ≡ r.0). subst (λ (q : ℕ). among w.gates q ≡ true) same inside)
-    (λ up. is.convex p r.0 input.read.reader inside input.read.inside up (at_once r.0 input.read.reader input.read.reads))
-    r.2)))
+    (λ inside. absurd (⊎_elim
+    (λ (same : p ≡ r.0). both_ways (among w.gates r.0) apart.outside (subst (λ (q : ℕ). among w.gates q ≡ true) same inside))
+    (λ up. apart.above p inside up)
+    r.2))
     (λ off. off)
     (cases_Bool (among w.gates p))
+
+-- A path that leaves a window's gates would come back to them by an input.
+comes_back : (n : Net) (w : Window) (p q r : ℕ) → Belongs n w → among w.gates p ≡ true → LeadsUp n p q → among w.gates q ≡ false → LeadsUp n q r → among w.gates r ≡ true → ⊥
+comes_back n w p _ _ is inside up off (at_once q r reads) on =
+    (is.apart q (is.read q (record { outside = off; read = record { reader = r; inside = on; reads = reads } }))).above p inside up
+comes_back n w p _ _ is inside up off (by_way_of q m r before reads) on =
+    ⊎_elim
+    (λ within. comes_back n w p q m is inside up off before within)
+    (λ out. (is.apart m (is.read m (record { outside = out; read = record { reader = r; inside = on; reads = reads } }))).above p inside (leads_on n p q m up before))
+    (cases_Bool (among w.gates m))
+
+-- So the gates of a window are a convex set.
+pub window_convex : (n : Net) (w : Window) → Belongs n w → IsConvex n (among w.gates)
+window_convex n w is p q r inside_p inside_r up_q up_r =
+    ⊎_elim (λ on. on) (λ off. absurd (comes_back n w p q r is inside_p up_q off up_r inside_r)) (cases_Bool (among w.gates q))
