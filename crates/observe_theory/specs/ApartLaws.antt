@@ -7,16 +7,16 @@ use Rattle.net_theory.specs.Net.{Net, IsNet, end_of, value}
 use Rattle.net_theory.specs.ValueLaws.{value-source}
 use Rattle.window_theory.specs.Places.{among}
 use Rattle.window_theory.specs.Paths.{IsGate, Reads, at_once, by_way_of}
-use Rattle.window_theory.specs.Window.{Window, Belongs}
+use Rattle.window_theory.specs.Window.{Window, IsApart, Belongs}
 use Rattle.window_theory.specs.WindowLaws.{reads_low, gate_high, gate_at}
 use Rattle.window_theory.specs.Surround.{Opens, LeadsTo, stays, goes_on}
 use Rattle.window_theory.specs.Care.{values_with}
 use Rattle.window_theory.specs.FixedLaws.{with_source, with_fixed, with_gate, gate_same}
 use Rattle.window_theory.specs.SpliceLaws.{value_gate}
-use Rattle.observe_theory.specs.Tail.{Tail, IsTail, IsApart}
+use Rattle.observe_theory.specs.Tail.{Tail, IsTail}
 use Rattle.observe_theory.specs.Unseen.{AreObserving}
 use Rattle.observe_theory.specs.JoinedLaws.{is_off}
-use Rattle.observe_theory.specs.TailLaws.{side_apart, input_apart}
+use Rattle.observe_theory.specs.TailLaws.{side_apart}
 
 pub apart_read : (n : Net) (gates : List ℕ) (p q : ℕ) → IsApart n gates p → Reads n p q → IsApart n gates q
 apart_read n gates p q is reads =
@@ -57,9 +57,9 @@ pub observing_free : (n : Net) (w : Window) (t : Tail) (leaves : List ℕ) → I
 observing_free n w t leaves net is tail are =
     leaves_free n w.gates are.first leaves net
     (record {
-      apart = λ p on. ⊎_elim (λ a. input_apart n w p is a) (λ b. side_apart n w t p net tail b) (are.just.only p on);
+      apart = λ p on. ⊎_elim (λ a. is.apart p a) (λ b. side_apart n w t p net tail b) (are.just.only p on);
       within = λ p on. ⊎_elim
-          (λ a. let input = is.inputs.only p a in read_within n input.read.reader p net input.read.reads)
+          (λ a. (is.within p a).1)
           (λ b. let side = tail.sides.only p b in read_within n side.read.reader p net side.read.reads)
           (are.just.only p on);
     })

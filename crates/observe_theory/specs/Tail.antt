@@ -2,7 +2,7 @@
 use Rattle.std.specs.Prelude.{◌≡◌, ℕ, ◌≤◌, ◌<◌, Bool, true, false, List, [], ◌∷◌, ◌++◌, length}
 use Rattle.net_theory.specs.Net.{Net}
 use Rattle.window_theory.specs.Places.{among, AreJust}
-use Rattle.window_theory.specs.Paths.{Reads, LeadsUp}
+use Rattle.window_theory.specs.Paths.{Reads}
 use Rattle.window_theory.specs.Window.{Window, IsReadBy, IsOutput}
 
 -- ---- the gates of a tail
@@ -70,10 +70,3 @@ pub record IsTail (n : Net) (w : Window) (t : Tail) : Type 0 where
   pub watchers : AreJust (IsWatcher n w.gates t.gates) t.watchers
   pub bare : t.bare ≡ true → IsBare n w.gates t.gates
   pub hidden : t.bare ≡ false → IsBare n w.gates t.gates → ⊥
-
--- ---- outside the transitive fanout
-
--- a place outside the gates and outside their transitive fanout
-pub record IsApart (n : Net) (gates : List ℕ) (p : ℕ) : Type 0 where
-  pub outside : among gates p ≡ false
-  pub above : (g : ℕ) → among gates g ≡ true → LeadsUp n g p → ⊥

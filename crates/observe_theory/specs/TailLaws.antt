@@ -6,9 +6,9 @@ use Rattle.net_theory.specs.Net.{Net, IsNet}
 use Rattle.window_theory.specs.Places.{among}
 use Rattle.window_theory.specs.PlaceLaws.{among_cases, among_first, among_later}
 use Rattle.window_theory.specs.Paths.{Reads, LeadsUp, at_once, by_way_of}
-use Rattle.window_theory.specs.Window.{Window, IsInput, Belongs}
+use Rattle.window_theory.specs.Window.{Window, IsApart}
 use Rattle.window_theory.specs.WindowLaws.{reads_low}
-use Rattle.observe_theory.specs.Tail.{IsFollower, AreFollowing, IsSide, Tail, IsTail, IsApart}
+use Rattle.observe_theory.specs.Tail.{IsFollower, AreFollowing, IsSide, Tail, IsTail}
 use Rattle.observe_theory.specs.JoinedLaws.{in_front, in_back, in_parts, is_off, out_back}
 
 -- ---- tails ascend
@@ -66,13 +66,4 @@ side_apart n w t p net is on =
           let x = crossing n (taken ++ w.gates) g p net (in_back taken w.gates g inside) up off in
           let high : side.read.reader < x.0 = follower_high n w.gates taken x.0 side.read.reader net is.gates.following x.2 (is.gates.just.only side.read.reader side.read.inside) in
           absurd (omega (arith, high, x.1, (reads_low n side.read.reader p net side.read.reads).1));
-    }
-
--- Nor is an input of a window that belongs to its net.
-pub input_apart : (n : Net) (w : Window) (p : ℕ) → Belongs n w → among w.inputs p ≡ true → IsApart n w.gates p
-input_apart n w p is on =
-    let input : IsInput n w.gates p = is.inputs.only p on in
-    record {
-      outside = input.outside;
-      above = λ g inside up. both_ways (among w.gates p) input.outside (is.convex g p input.read.reader inside input.read.inside up (at_once p input.read.reader input.read.reads));
     }

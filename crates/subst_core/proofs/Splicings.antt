@@ -8,8 +8,8 @@ use Rattle.net_theory.specs.MovingLaws.{count_kept, marked_few}
 use Rattle.net_core.specs.Marks.{set_of, places_of, kept}
 use Rattle.chain_theory.specs.Chain.{Chain}
 use Rattle.window_theory.specs.Places.{among}
-use Rattle.window_theory.specs.Window.{Window, IsInput, Belongs}
-use Rattle.window_theory.specs.WindowLaws.{reads_low, gate_high}
+use Rattle.window_theory.specs.Window.{Window, Belongs}
+use Rattle.window_theory.specs.WindowLaws.{gate_high}
 use Rattle.window_theory.specs.Splice.{Fits, is_early, is_late, early_kept, late_start, all_kept, spliced}
 use Rattle.window_theory.specs.ReplacementLaws.{spliced_is}
 use Rattle.subst_core.specs.Lists.{AreBelow}
@@ -18,13 +18,8 @@ use Rattle.subst_core.proofs.Placings.{kept_same, count_same}
 
 -- ---- the places of a window
 
-pub inputs_below : (n : Net) (w : Window) → IsNet n → Belongs n w → AreBelow (end_of n) w.inputs
-inputs_below n w net is =
-    list_below (end_of n) w.inputs (λ p on.
-    let input : IsInput n w.gates p = is.inputs.only p on in
-    let low = reads_low n input.read.reader p net input.read.reads in
-    let high = gate_high n input.read.reader input.read.reads.reader in
-    omega (arith, low.1, high.1))
+pub inputs_below : (n : Net) (w : Window) → Belongs n w → AreBelow (end_of n) w.inputs
+inputs_below n w is = list_below (end_of n) w.inputs (λ p on. (is.within p on).1)
 
 pub gates_below : (n : Net) (w : Window) → Belongs n w → AreBelow (end_of n) w.gates
 gates_below n w is = list_below (end_of n) w.gates (λ p on. (gate_high n p (is.gates p on)).1)

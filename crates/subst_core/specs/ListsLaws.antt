@@ -5,10 +5,9 @@ use Rattle.chain_theory.specs.Specification.{Specification}
 use Rattle.chain_theory.specs.Chain.{Chain}
 use Rattle.chain_theory.specs.Value.{values_after}
 use Rattle.chain_theory.specs.declared.data.Cell.TheVariants.{Free}
-use Rattle.net_theory.specs.Net.{Net, sig_value, value, sink_values}
+use Rattle.net_theory.specs.Net.{Net, end_of, sig_value, value, sink_values}
 use Rattle.window_theory.specs.Places.{among, IsRising, AreJust}
-use Rattle.window_theory.specs.Paths.{IsConvex}
-use Rattle.window_theory.specs.Window.{Window, IsInput, IsOutput, Belongs}
+use Rattle.window_theory.specs.Window.{Window, IsInput, IsOutput, IsApart, Belongs}
 use Rattle.window_theory.specs.Care.{values_with, HasRow, IsCareRow, cell_of, IsSpecificationOf}
 use Rattle.window_theory.specs.Splice.{Fits, out_bit, with_bits, step_gate, passing, IsSpliced}
 use Rattle.subst_core.specs.Lists.{HaveSameLists}
@@ -17,13 +16,24 @@ use Rattle.subst_core.specs.Substitution.{HasRoom, Meets, KeepsSinks, IsSubstitu
 pub same_turned : (w v : Window) → HaveSameLists w v → HaveSameLists v w
 same_turned w v same = record { gates = sym same.gates; inputs = sym same.inputs; outputs = sym same.outputs }
 
+-- what a window's inputs are, by its gates
+record HasInputs (n : Net) (gates inputs : List ℕ) : Type 0 where
+  rising : IsRising inputs
+  read : (p : ℕ) → IsInput n gates p → among inputs p ≡ true
+  apart : (p : ℕ) → among inputs p ≡ true → IsApart n gates p
+  within : (p : ℕ) → among inputs p ≡ true → (1 ≤ p) × (p < end_of n)
+
 pub same_belongs : (n : Net) (w v : Window) → HaveSameLists w v → Belongs n w → Belongs n v
 same_belongs n w v same is =
+    let own : HasInputs n w.gates w.inputs = record { rising = is.inputs_rising; read = is.read; apart = is.apart; within = is.within } in
+    let inputs : HasInputs n v.gates v.inputs = subst (λ (gs : List ℕ). HasInputs n gs v.inputs) same.gates (subst (HasInputs n w.gates) same.inputs own) in
     record {
       rising = subst IsRising same.gates is.rising;
       gates = λ p on. is.gates p (subst (λ (gs : List ℕ). among gs p ≡ true) (sym same.gates) on);
-      convex = subst (λ (gs : List ℕ). IsConvex n (among gs)) same.gates is.convex;
-      inputs = subst (λ (gs : List ℕ). AreJust (IsInput n gs) v.inputs) same.gates (subst (AreJust (IsInput n w.gates)) same.inputs is.inputs);
+      inputs_rising = inputs.rising;
+      read = inputs.read;
+      apart = inputs.apart;
+      within = inputs.within;
       outputs = subst (λ (gs : List ℕ). AreJust (IsOutput n gs) v.outputs) same.gates (subst (AreJust (IsOutput n w.gates)) same.outputs is.outputs);
     }
 

@@ -1,7 +1,7 @@
 //! A chain takes a window's place in a net. What the net becomes is said in `window_theory`
 //! (`spliced` and `IsSpliced`): first what the window's inputs are computed from, then the chain's steps,
 //! and then all else that stands outside the window. No gate of the window is among what its inputs are
-//! computed from, since the window is convex; so that order reads nothing before it stands.
+//! computed from, since these don't depend on the window; so that order reads nothing before it stands.
 //!
 //! - `splice` puts any chain with as many inputs and outs as the window there. The sinks get the values that
 //!   the net gives when the window's outputs take those of the chain's outs.

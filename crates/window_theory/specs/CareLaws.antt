@@ -11,8 +11,7 @@ use Rattle.net_theory.specs.declared.data.Gate.{Gate}
 use Rattle.net_theory.specs.Net.{Net, IsNet, sig_value, gate_value, value}
 use Rattle.net_theory.specs.ValueLaws.{values_after-gate}
 use Rattle.window_theory.specs.Places.{among}
-use Rattle.window_theory.specs.Window.{Window, IsInput, Belongs}
-use Rattle.window_theory.specs.WindowLaws.{reads_low, gate_high}
+use Rattle.window_theory.specs.Window.{Window, Belongs}
 use Rattle.window_theory.specs.SurroundLaws.{AreBelow, has_leaves}
 use Rattle.window_theory.specs.Care.{fixed_after, values_with, HasRow, IsCareRow}
 use Rattle.window_theory.specs.Rows.{has_row}
@@ -51,14 +50,7 @@ care_real n places given t net below row =
       bits = λ i low. values_real n (among leaves.0) given (slice_index_or places i 0) net ∙ row i low;
     }
 
--- the inputs of a window are places of the net
-inputs_below : (n : Net) (w : Window) → IsNet n → Belongs n w → AreBelow (n.sources + 1 + length n.gates) w.inputs
-inputs_below n w net belongs p e =
-    let is : IsInput n w.gates p = belongs.inputs.only p e in
-    let low = reads_low n is.read.reader p net is.read.reads in
-    omega (arith, low.1, (gate_high n is.read.reader is.read.reads.reader).1)
-
 pub window_real : (n : Net) (w : Window) (given : ℕ → Bool) → IsNet n → Belongs n w → (t : ℕ) × (t < 2 ^ length w.inputs) × HasRow (value n given) w.inputs t × IsCareRow n w.inputs t
 window_real n w given net belongs =
     let row = has_row (value n given) w.inputs in
-    (row.0, row.1, row.2, care_real n w.inputs given row.0 net (inputs_below n w net belongs) row.2)
+    (row.0, row.1, row.2, care_real n w.inputs given row.0 net (λ p on. (belongs.within p on).1) row.2)

@@ -1,4 +1,4 @@
--- The transitive fanin (TFI) of a window's inputs is outside the window.
+-- The transitive fanin (TFI) of a window's inputs is outside the window, and its gates are convex.
 use Rattle.std.specs.Prelude.{◌≡◌, ℕ, suc, ◌+◌, Bool, true, false, List, [], ◌∷◌, slice_get, Some, ◌⊎◌, refl}
 use Rattle.std.proofs.Common.{arith, sym, ◌∙◌, ap, subst, inl, inr, ⊎_elim, add-zero}
 use Rattle.std.proofs.lemmas.Bool.{cond_both, cases_eq, cases_Bool, both_ways}
@@ -6,11 +6,12 @@ use Rattle.chain_theory.specs.ValueLaws.{extended-other}
 use Rattle.net_theory.specs.declared.data.Sig.{Sig}
 use Rattle.net_theory.specs.declared.data.Sig.TheVariants.{Zero, One, Place}
 use Rattle.net_theory.specs.declared.data.Gate.{Gate}
-use Rattle.net_theory.specs.Net.{Net}
-use Rattle.net_theory.specs.Reach.{ReadsPlace, with_mark, marked}
+use Rattle.net_theory.specs.Net.{Net, IsNet}
+use Rattle.net_theory.specs.Reach.{ReadsPlace, with_mark, marked, reach}
+use Rattle.net_theory.specs.ReachLaws.{reach_closed}
 use Rattle.window_theory.specs.Places.{among}
-use Rattle.window_theory.specs.Paths.{Reads, LeadsUp, at_once, by_way_of}
-use Rattle.window_theory.specs.Window.{Window, IsInput, Belongs}
+use Rattle.window_theory.specs.Paths.{Reads, LeadsUp, at_once, by_way_of, IsConvex}
+use Rattle.window_theory.specs.Window.{Window, IsApart, Belongs}
 use Rattle.window_theory.specs.Splice.{is_early}
 
 -- ---- paths
@@ -51,18 +52,59 @@ marked_leads n roots place (g ∷ gs) p reads e =
     (λ off m. was p m)
     e
 
+reach_leads : (n : Net) (roots : ℕ → Bool) (p : ℕ) → reach n roots p ≡ true → LeadsToRoot n roots p
+reach_leads n roots p e =
+    marked_leads n roots (n.sources + 1) n.gates p (λ i x g at reads. record { reader = record { index = i; gate = g; at = at; place = refl }; reads = reads }) e
+
+read_reached : (n : Net) (roots : ℕ → Bool) (p g : ℕ) → IsNet n → Reads n g p → reach n roots g ≡ true → reach n roots p ≡ true
+read_reached n roots p g net r e =
+    (reach_closed n roots net).gates r.reader.index p r.reader.gate r.reader.at r.reads (subst (λ (x : ℕ). reach n roots x ≡ true) (sym r.reader.place) e)
+
+leads_reach : (n : Net) (roots : ℕ → Bool) (p g : ℕ) → IsNet n → LeadsUp n p g → reach n roots g ≡ true → reach n roots p ≡ true
+leads_reach n roots _ _ net (at_once p g reads) e = read_reached n roots p g net reads e
+leads_reach n roots _ _ net (by_way_of p q g before reads) e = leads_reach n roots p q net before (read_reached n roots q g net reads e)
+
+-- ---- places that don't depend on gates
+
+-- Their transitive fanin is outside the gates,
+pub apart_outside : (n : Net) (gates places : List ℕ) (p : ℕ) → ((q : ℕ) → among places q ≡ true → IsApart n gates q) → reach n (among places) p ≡ true → among gates p ≡ false
+apart_outside n gates places p apart early =
+    let r = reach_leads n (among places) p early in
+    let own : IsApart n gates r.0 = apart r.0 r.1 in
+    ⊎_elim
+    (λ inside. absurd (⊎_elim
+    (λ (same : p ≡ r.0). both_ways (among gates r.0) own.outside (subst (λ (q : ℕ). among gates q ≡ true) same inside))
+    (λ up. own.above p inside up)
+    r.2))
+    (λ off. off)
+    (cases_Bool (among gates p))
+
+-- and that tells them.
+pub outside_apart : (n : Net) (gates places : List ℕ) (p : ℕ) → IsNet n → ((g : ℕ) → among gates g ≡ true → reach n (among places) g ≡ false) → among places p ≡ true → IsApart n gates p
+outside_apart n gates places p net off on =
+    let there : reach n (among places) p ≡ true = (reach_closed n (among places) net).starts p on in
+    record {
+      outside = ⊎_elim (λ inside. absurd (both_ways (reach n (among places) p) (off p inside) there)) (λ out. out) (cases_Bool (among gates p));
+      above = λ g inside up. both_ways (reach n (among places) g) (off g inside) (leads_reach n (among places) g p net up there);
+    }
+
 -- ---- windows
 
--- By convexity no gate of a window is early, which means in the transitive fanin of its inputs.
+-- No gate of a window is early, which means in the transitive fanin of its inputs.
 pub early_outside : (n : Net) (w : Window) (p : ℕ) → Belongs n w → is_early n w p ≡ true → among w.gates p ≡ false
-early_outside n w p is early =
-    let r = marked_leads n (among w.inputs) (n.sources + 1) n.gates p (λ i x g at reads. record { reader = record { index = i; gate = g; at = at; place = refl }; reads = reads }) early in
-    let input : IsInput n w.gates r.0 = is.inputs.only r.0 r.1 in
+early_outside n w p is early = apart_outside n w.gates w.inputs p is.apart early
+
+-- A path that leaves a window's gates would come back to them by an input.
+comes_back : (n : Net) (w : Window) (p q r : ℕ) → Belongs n w → among w.gates p ≡ true → LeadsUp n p q → among w.gates q ≡ false → LeadsUp n q r → among w.gates r ≡ true → ⊥
+comes_back n w p _ _ is inside up off (at_once q r reads) on =
+    (is.apart q (is.read q (record { outside = off; read = record { reader = r; inside = on; reads = reads } }))).above p inside up
+comes_back n w p _ _ is inside up off (by_way_of q m r before reads) on =
     ⊎_elim
-    (λ inside. absurd (both_ways (among w.gates r.0) input.outside
-    (⊎_elim
-    (λ (same : p ≡ r.0). subst (λ (q : ℕ). among w.gates q ≡ true) same inside)
-    (λ up. is.convex p r.0 input.read.reader inside input.read.inside up (at_once r.0 input.read.reader input.read.reads))
-    r.2)))
-    (λ off. off)
-    (cases_Bool (among w.gates p))
+    (λ within. comes_back n w p q m is inside up off before within)
+    (λ out. (is.apart m (is.read m (record { outside = out; read = record { reader = r; inside = on; reads = reads } }))).above p inside (leads_on n p q m up before))
+    (cases_Bool (among w.gates m))
+
+-- So the gates of a window are a convex set.
+pub window_convex : (n : Net) (w : Window) → Belongs n w → IsConvex n (among w.gates)
+window_convex n w is p q r inside_p inside_r up_q up_r =
+    ⊎_elim (λ on. on) (λ off. absurd (comes_back n w p q r is inside_p up_q off up_r inside_r)) (cases_Bool (among w.gates q))

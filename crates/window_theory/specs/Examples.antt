@@ -35,6 +35,10 @@ and_chain = record { n = 2; steps = record { j = 1; k = 2; op = 1 } ∷ []; outs
 abbrev pub and_net : Net
 and_net = record { sources = 2; gates = gate_of 1 (Place 1) (Place 2) ∷ []; sinks = Place 3 ∷ [] }
 
+-- the first gate by itself, with the second, which reads it, as an input
+abbrev pub input_above : Window
+input_above = window_of 3 (3 ∷ []) (1 ∷ 2 ∷ 4 ∷ []) (3 ∷ [])
+
 pub nand_not_is_and : spliced nand_not both_gates and_chain ≡ and_net
 unfolding spliced kept_after marked with_sigs
 nand_not_is_and = refl
@@ -88,6 +92,18 @@ one_and = record { sources = 2; gates = gate_of 1 (Place 1) (Place 2) ∷ []; si
 pub two_are_one : spliced two_ands both_ands one_for_two ≡ one_and
 unfolding spliced kept_after marked with_sigs
 two_are_one = refl
+
+-- the second by itself, with the first as a further input
+abbrev pub wide_second : Window
+wide_second = window_of 4 (4 ∷ []) (1 ∷ 2 ∷ 3 ∷ []) (4 ∷ [])
+
+-- the chain that has this input for its output
+abbrev pub third_input : Chain
+third_input = record { n = 3; steps = []; outs = outs.Place 3 ∷ [] }
+
+pub second_is_first : spliced two_ands wide_second third_input ≡ one_and
+unfolding spliced kept_after marked with_sigs
+second_is_first = refl
 
 reads_first : (h index : ℕ) → slice_get two_ands.gates index ≡ Some (gate_of 1 (Place 1) (Place 2)) → 3 + index ≡ h → Reads two_ands h 1
 reads_first h index at place = record { reader = record { index = index; gate = gate_of 1 (Place 1) (Place 2); at = at; place = place }; reads = inl refl }

@@ -104,7 +104,7 @@ part_values n fixed given inside bits p net part e = part_below n fixed given in
 -- a gate of a window isn't one of its inputs
 pub inside_free : (n : Net) (w : Window) (p : ℕ) → Belongs n w → among w.gates p ≡ true → among w.inputs p ≡ false
 inside_free n w p is inside =
-    ⊎_elim (λ on. absurd (both_ways (among w.gates p) (is.inputs.only p on).outside inside)) (λ off. off) (cases_Bool (among w.inputs p))
+    ⊎_elim (λ on. absurd (both_ways (among w.gates p) (is.apart p on).outside inside)) (λ off. off) (cases_Bool (among w.inputs p))
 
 -- Bits that agree on a window's inputs give its gates the same values.
 window_below : (n : Net) (w : Window) (f g : ℕ → Bool) (bound p : ℕ) → IsNet n → Belongs n w → ((q : ℕ) → among w.inputs q ≡ true → f q ≡ g q) → p < bound → among w.gates p ≡ true → values_with n (among w.inputs) f p ≡ values_with n (among w.inputs) g p
@@ -119,7 +119,7 @@ window_below n w f g (suc bound) p net is same low inside =
     ⊎_elim
     (λ within. window_below n w f g bound q net is same (omega (arith, low, (reads_low n p q net r).1)) within)
     (λ out.
-    let input : among w.inputs q ≡ true = is.inputs.all q (record { outside = out; read = record { reader = p; inside = inside; reads = r } }) in
+    let input : among w.inputs q ≡ true = is.read q (record { outside = out; read = record { reader = p; inside = inside; reads = r } }) in
     with_fixed n (among w.inputs) f q input ∙ same q input ∙ sym (with_fixed n (among w.inputs) g q input))
     (cases_Bool (among w.gates q)))
     ∙ sym (with_gate n (among w.inputs) g p gate net free)

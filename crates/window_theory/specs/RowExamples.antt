@@ -58,13 +58,13 @@ none_among q e = let x : false ≡ true = e in absurd cc
 pub two_cases : (a b q : ℕ) → among (a ∷ b ∷ []) q ≡ true → (q ≡ a) ⊎ (q ≡ b)
 two_cases a b q e = ⊎_elim (λ one. inl one) (λ rest. ⊎_elim (λ two. inr two) (λ none. absurd (none_among q none)) (among_cases b q [] rest)) (among_cases a q (b ∷ []) e)
 
-three_cases : (a b c q : ℕ) → among (a ∷ b ∷ c ∷ []) q ≡ true → (q ≡ a) ⊎ ((q ≡ b) ⊎ (q ≡ c))
+pub three_cases : (a b c q : ℕ) → among (a ∷ b ∷ c ∷ []) q ≡ true → (q ≡ a) ⊎ ((q ≡ b) ⊎ (q ≡ c))
 three_cases a b c q e = ⊎_elim (λ one. inl one) (λ rest. inr (two_cases b c q rest)) (among_cases a q (b ∷ c ∷ []) e)
 
 pub low_two : (q : ℕ) → 1 ≤ q → q < 3 → among (1 ∷ 2 ∷ []) q ≡ true
 low_two q some low = ⊎_elim (λ (one : q ≡ 1). subst (λ (x : ℕ). among (1 ∷ 2 ∷ []) x ≡ true) (sym one) refl) (λ other. let two : 2 ≡ q = omega (arith, other, some, low) in subst (λ (x : ℕ). among (1 ∷ 2 ∷ []) x ≡ true) two refl) (cases_eq q 1)
 
-low_three : (q : ℕ) → 1 ≤ q → q < 4 → among (1 ∷ 2 ∷ 3 ∷ []) q ≡ true
+pub low_three : (q : ℕ) → 1 ≤ q → q < 4 → among (1 ∷ 2 ∷ 3 ∷ []) q ≡ true
 low_three q some low = ⊎_elim
     (λ (three : q ≡ 3). subst (λ (x : ℕ). among (1 ∷ 2 ∷ 3 ∷ []) x ≡ true) (sym three) refl)
     (λ other. ⊎_elim (λ (one : q ≡ 1). subst (λ (x : ℕ). among (1 ∷ 2 ∷ 3 ∷ []) x ≡ true) (sym one) refl) (λ more. let two : 2 ≡ q = omega (arith, other, more, some, low) in subst (λ (x : ℕ). among (1 ∷ 2 ∷ 3 ∷ []) x ≡ true) two refl) (cases_eq q 1))
@@ -76,7 +76,7 @@ rising_two =
     let last : IsRising (2 ∷ []) = (λ q e. absurd (none_among q e), tt) in
     (λ q e. ⊎_elim (λ (two : q ≡ 2). omega arith) (λ none. absurd (none_among q none)) (among_cases 2 q [] e), last)
 
-rising_three : IsRising (1 ∷ 2 ∷ 3 ∷ [])
+pub rising_three : IsRising (1 ∷ 2 ∷ 3 ∷ [])
 unfolding IsRising
 rising_three =
     let last : IsRising (3 ∷ []) = (λ q e. absurd (none_among q e), tt) in

@@ -19,7 +19,7 @@ use Rattle.net_theory.specs.Moving.{moved, nothing_kept}
 use Rattle.net_theory.specs.MovingLaws.{IsMarked, Moves, AreMovable, IsSourcePlace, moves_start, moved_below, moved_value, net_movable, keep_all}
 use Rattle.window_theory.specs.Places.{among}
 use Rattle.window_theory.specs.Paths.{IsGate, Reads}
-use Rattle.window_theory.specs.Window.{Window, IsInput, Belongs}
+use Rattle.window_theory.specs.Window.{Window, Belongs}
 use Rattle.window_theory.specs.WindowLaws.{reads_low, gate_high, gate_at}
 use Rattle.window_theory.specs.FixedLaws.{with_source, with_fixed, with_gate, gate_same}
 use Rattle.window_theory.specs.Splice.{Fits, input_place, chain_bits, out_bit, spliced_bits, spliced_value, is_early, is_late, step_gate, out_sig, early_kept, chain_kept, late_start, all_kept, spliced}
@@ -47,10 +47,8 @@ placed n marks p some low on =
 
 input_early : (n : Net) (w : Window) (p : ℕ) → IsNet n → Belongs n w → among w.inputs p ≡ true → IsEarly n w p
 input_early n w p net is on =
-    let input : IsInput n w.gates p = is.inputs.only p on in
-    let low = reads_low n input.read.reader p net input.read.reads in
-    let high = gate_high n input.read.reader input.read.reads.reader in
-    placed n (is_early n w) p low.0 (omega (arith, low.1, high.1)) ((reach_closed n (among w.inputs) net).starts p on)
+    let there = is.within p on in
+    placed n (is_early n w) p there.0 there.1 ((reach_closed n (among w.inputs) net).starts p on)
 
 -- ---- the chain
 

@@ -18,9 +18,8 @@ use Rattle.net_theory.specs.NameLaws.{all_at}
 use Rattle.net_theory.specs.ValueLaws.{value-source}
 use Rattle.window_theory.specs.Places.{among}
 use Rattle.window_theory.specs.Paths.{IsGate}
-use Rattle.window_theory.specs.Window.{Window, IsInput, Belongs}
-use Rattle.window_theory.specs.WindowLaws.{reads_low, gate_high, gate_at}
-use Rattle.window_theory.specs.SurroundLaws.{AreBelow}
+use Rattle.window_theory.specs.Window.{Window, Belongs}
+use Rattle.window_theory.specs.WindowLaws.{reads_low, gate_at}
 use Rattle.window_theory.specs.Care.{HasRow, IsCareRow, cell_of, output_place, IsSpecificationOf}
 use Rattle.window_theory.specs.CareLaws.{values_real, care_real}
 use Rattle.window_theory.specs.FixedLaws.{with_source, with_fixed, with_gate, gate_same}
@@ -65,20 +64,13 @@ met_cell true bit e = e
 met_cell false true e = absurd cc
 met_cell false false e = refl
 
-inputs_below : (n : Net) (w : Window) → IsNet n → Belongs n w → AreBelow (end_of n) w.inputs
-inputs_below n w net is p on =
-    let read : IsInput n w.gates p = is.inputs.only p on in
-    let low = reads_low n read.read.reader p net read.read.reads in
-    let high = gate_high n read.read.reader read.read.reads.reader in
-    omega (arith, low.1, high.1)
-
 -- Under every assignment a chain that implements the specification gives an output its own value.
 output_real : (n : Net) (w : Window) (c : Chain) (s : Specification) (given : ℕ → Bool) (p i : ℕ) (x : Out) → IsNet n → Belongs n w → Fits w c → IsSpecificationOf n w s → Agrees c s → slice_get w.outputs i ≡ Some p → slice_get c.outs i ≡ Some x → out_bit (chain_bits n w c given) x ≡ value n given p
 output_real n w c s given p i x net is fits spec agrees place at =
     let row = has_row (value n given) w.inputs in
     let low : i < length w.outputs = slice_get_within w.outputs i p place in
     let high : i + 1 ≤ length w.outputs = omega (arith, low) in
-    let care : IsCareRow n w.inputs row.0 = care_real n w.inputs given row.0 net (inputs_below n w net is) row.2 in
+    let care : IsCareRow n w.inputs row.0 = care_real n w.inputs given row.0 net (λ p on. (is.within p on).1) row.2 in
     let index : (i + 1) - 1 ≡ i = omega arith in
     let own_place : output_place w (i + 1) ≡ p = ap (λ (k : ℕ). slice_index_or w.outputs k 0) index ∙ get_or_from_slice_get w.outputs i p 0 place in
     let cell : s.cell (i + 1) row.0 ≡ cell_of (value n given p) =

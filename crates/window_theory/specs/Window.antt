@@ -1,10 +1,10 @@
 -- Windows: a root (seed), a partner (sibling) or none, and a count determine the gates of a window
 -- (after Kulikov, Pechenev and Slezkin).
-use Rattle.std.specs.Prelude.{◌≡◌, ℕ, ◌≤◌, true, false, List, [], ◌∷◌, length, Option, Some, None, ◌⊎◌}
-use Rattle.net_theory.specs.Net.{Net}
+use Rattle.std.specs.Prelude.{◌≡◌, ℕ, ◌≤◌, ◌<◌, true, false, List, [], ◌∷◌, length, Option, Some, None, ◌⊎◌}
+use Rattle.net_theory.specs.Net.{Net, end_of}
 use Rattle.net_theory.specs.Reach.{is_sink}
 use Rattle.window_theory.specs.Places.{among, IsRising, AreJust}
-use Rattle.window_theory.specs.Paths.{IsGate, Reads, IsConvex}
+use Rattle.window_theory.specs.Paths.{IsGate, Reads, LeadsUp}
 use Rattle.window_theory.specs.Partner.{IsPartner}
 
 -- a window, a small subcircuit, by places: its gates, its inputs and its outputs
@@ -62,13 +62,27 @@ pub record IsOutput (n : Net) (gates : List ℕ) (p : ℕ) : Type 0 where
   pub inside : among gates p ≡ true
   pub seen : IsReadOutside n gates p ⊎ (is_sink n p ≡ true)
 
--- A window belongs to a net where its gates are a convex set of gates of the net, and its inputs
--- and outputs are exactly those of this set.
+-- a place outside the gates and outside their transitive fanout (TFO)
+pub record IsApart (n : Net) (gates : List ℕ) (p : ℕ) : Type 0 where
+  pub outside : among gates p ≡ false
+  pub above : (g : ℕ) → among gates g ≡ true → LeadsUp n g p → ⊥
+
+-- A window belongs to a net where its inputs are places of the net that don't depend on its gates,
+-- among them each place outside that a gate inside reads, and its outputs are exactly those of its
+-- gates. So its gates are a convex set, and a convex set of gates with exactly its inputs and
+-- outputs belongs (laws say both). A window is wide where it has inputs that no gate inside reads:
+-- further divisors, of which a chain in its place may compute the outputs (resubstitution).
+-- Example: where the gates at 3 and 4 are both AND of the places 1 and 2, and both are sinks, the
+-- gate 4 with the inputs 1, 2 and the output 4 belongs, and so it does with the further input 3: a
+-- chain without steps that has this input for its output can take its place. Where gate 4 is NOT of
+-- gate 3, the gate 3 with the inputs 1, 2, 4 doesn't belong.
 pub record Belongs (n : Net) (w : Window) : Type 0 where
   pub rising : IsRising w.gates
   pub gates : (p : ℕ) → among w.gates p ≡ true → IsGate n p
-  pub convex : IsConvex n (among w.gates)
-  pub inputs : AreJust (IsInput n w.gates) w.inputs
+  pub inputs_rising : IsRising w.inputs
+  pub read : (p : ℕ) → IsInput n w.gates p → among w.inputs p ≡ true
+  pub apart : (p : ℕ) → among w.inputs p ≡ true → IsApart n w.gates p
+  pub within : (p : ℕ) → among w.inputs p ≡ true → (1 ≤ p) × (p < end_of n)
   pub outputs : AreJust (IsOutput n w.gates) w.outputs
 
 -- ---- the window of a root

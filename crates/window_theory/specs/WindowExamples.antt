@@ -1,17 +1,19 @@
--- A worked example of a window with a partner: two gates side by side, both AND of the two sources and both sinks.
+-- Worked examples: two gates side by side, both AND of the two sources and both sinks, as a window with a partner and
+-- as a wide window; and an input that a window may not have.
 use Rattle.std.specs.Prelude.{◌≡◌, ℕ, zero, suc, ◌≤◌, ◌<◌, true, false, [], ◌∷◌, slice_get, Some, refl}
 use Rattle.std.proofs.Common.{arith, sym, ◌∙◌, ap, subst, inl, inr, ⊎_elim, ◌≢◌}
+use Rattle.std.proofs.lemmas.Bool.{cases_Bool}
 use Rattle.net_theory.specs.declared.data.Sig.TheVariants.{Place}
 use Rattle.net_theory.specs.declared.data.Gate.{Gate}
 use Rattle.net_theory.specs.Reach.{ReadsPlace, is_sink}
 use Rattle.net_theory.specs.Expansion.{gate_of}
 use Rattle.window_theory.specs.Places.{among, IsRising, AreJust}
 use Rattle.window_theory.specs.PlaceLaws.{among_cases}
-use Rattle.window_theory.specs.Paths.{IsGate, Reads}
-use Rattle.window_theory.specs.Window.{Window, IsGreatestCandidate, AreTaken, IsInput, IsOutput, IsWindow}
+use Rattle.window_theory.specs.Paths.{IsGate, Reads, LeadsUp, at_once, by_way_of}
+use Rattle.window_theory.specs.Window.{Window, IsGreatestCandidate, AreTaken, IsInput, IsOutput, Belongs, IsWindow}
 use Rattle.window_theory.specs.WindowLaws.{gate_high}
-use Rattle.window_theory.specs.Examples.{two_ands}
-use Rattle.window_theory.specs.RowExamples.{none_among, two_cases, low_two, rising_two}
+use Rattle.window_theory.specs.Examples.{two_ands, wide_second, nand_not, input_above}
+use Rattle.window_theory.specs.RowExamples.{none_among, two_cases, three_cases, low_two, low_three, rising_two, rising_three}
 
 -- the window of the second gate with the first for its partner
 abbrev pub side_by_side : Window
@@ -120,3 +122,55 @@ side_by_side_is =
       few_inputs = omega arith;
       few_outputs = omega arith;
     }
+
+-- ---- a wide window
+
+just_four : (p : ℕ) → among (4 ∷ []) p ≡ true → p ≡ 4
+just_four p e = ⊎_elim (λ four. four) (λ none. absurd (none_among p none)) (among_cases 4 p [] e)
+
+rising_four : IsRising (4 ∷ [])
+unfolding IsRising
+rising_four = (λ q e. absurd (none_among q e), tt)
+
+four_is_output : AreJust (IsOutput two_ands (4 ∷ [])) (4 ∷ [])
+unfolding is_sink
+four_is_output =
+    record {
+      rising = rising_four;
+      only = λ p e. subst (IsOutput two_ands (4 ∷ [])) (sym (just_four p e)) (record { inside = refl; seen = inr refl });
+      all = λ p is. is.inside;
+    }
+
+-- paths begin at the sources
+from_sources : (p g : ℕ) → LeadsUp two_ands p g → p < 3
+from_sources _ _ (at_once p g reads) = (reads_sources g p reads).1
+from_sources _ _ (by_way_of p q g before reads) = from_sources p q before
+
+one_to_three : (p : ℕ) → among (1 ∷ 2 ∷ 3 ∷ []) p ≡ true → (1 ≤ p) × (p < 4)
+one_to_three p e = ⊎_elim
+    (λ (one : p ≡ 1). (omega arith, omega arith))
+    (λ rest. ⊎_elim (λ (two : p ≡ 2). (omega arith, omega arith)) (λ (three : p ≡ 3). (omega arith, omega arith)) rest)
+    (three_cases 1 2 3 p e)
+
+four_outside : (p : ℕ) → p < 4 → among (4 ∷ []) p ≡ false
+four_outside p low = ⊎_elim (λ on. absurd (omega (arith, low, just_four p on))) (λ off. off) (cases_Bool (among (4 ∷ []) p))
+
+-- The second gate with the first for a further input.
+pub wide_belongs : Belongs two_ands wide_second
+wide_belongs =
+    record {
+      rising = rising_four;
+      gates = λ p e. subst (IsGate two_ands) (sym (just_four p e)) second;
+      inputs_rising = rising_three;
+      read = λ p is. let low = reads_sources is.read.reader p is.read.reads in low_three p low.0 (omega (arith, low.1));
+      apart = λ p e. record {
+        outside = four_outside p (one_to_three p e).1;
+        above = λ g inside up. let low : g < 3 = from_sources g p up in absurd (omega (arith, low, just_four g inside));
+      };
+      within = λ p e. let there = one_to_three p e in (there.0, omega (arith, there.1));
+      outputs = four_is_output;
+    }
+
+-- A gate that reads a window's gate is none of the window's inputs.
+pub above_is_refused : Belongs nand_not input_above → ⊥
+above_is_refused is = (is.apart 4 refl).above 3 refl (at_once 3 4 (record { reader = record { index = 1; gate = gate_of 14 (Place 3) (Place 3); at = refl; place = refl }; reads = inl refl }))

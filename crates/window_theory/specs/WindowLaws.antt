@@ -1,14 +1,15 @@
--- The gates of a window are above all its inputs, so that a window is convex.
+-- The gates that a root takes are above all their inputs, so that they are convex, and that the
+-- window of a root belongs to the net.
 use Rattle.std.specs.Prelude.{◌≡◌, ℕ, zero, suc, ◌+◌, ◌-◌, ◌≤◌, ◌<◌, true, false, nat_eq, List, [], ◌∷◌, length, Option, Some, slice_get, ◌⊎◌, refl}
 use Rattle.std.proofs.Common.{arith, sym, ◌∙◌, ap, subst, inl, inr, ⊎_elim, ◌≢◌}
 use Rattle.std.proofs.lemmas.Bool.{eq-eqb, or_left, or_parts, both_ways, cases_Bool, cases_lt}
 use Rattle.std.proofs.lemmas.Option.{slice_get_within}
-use Rattle.net_theory.specs.Net.{Net, IsNet}
+use Rattle.net_theory.specs.Net.{Net, IsNet, end_of}
 use Rattle.net_theory.specs.MovingLaws.{reads_below}
 use Rattle.window_theory.specs.Places.{among, IsRising, AreJust}
 use Rattle.window_theory.specs.PlaceLaws.{among_cases, just_same}
 use Rattle.window_theory.specs.Paths.{IsGate, Reads, LeadsUp, at_once, by_way_of, IsConvex}
-use Rattle.window_theory.specs.Window.{Window, IsReadBy, IsCandidate, IsGreatestCandidate, AreTaken, IsInput, IsOutput, Takes, Belongs, IsWindow}
+use Rattle.window_theory.specs.Window.{Window, IsReadBy, IsCandidate, IsGreatestCandidate, AreTaken, IsInput, IsOutput, IsApart, Takes, Belongs, IsWindow}
 
 -- ---- fanins
 
@@ -142,15 +143,39 @@ taken_convex n root partner count gates net takes p q r inside_p inside_r up_q u
 pub window_low : (n : Net) (root : ℕ) (partner : Option ℕ) (count : ℕ) (w : Window) (p q : ℕ) → IsNet n → IsWindow n root partner count w → IsInput n w.gates p → among w.gates q ≡ true → p < q
 window_low n root partner count w p q net is input inside = input_low n root partner count w.gates p q net is.takes input inside
 
+-- A fanin of a gate is a place of the net.
+pub read_there : (n : Net) (g p : ℕ) → IsNet n → Reads n g p → (1 ≤ p) × (p < end_of n)
+read_there n g p net r =
+    let low = reads_low n g p net r in
+    (low.0, omega (arith, low.1, (gate_high n g r.reader).1))
+
+-- An input of a convex set of gates doesn't depend on them.
+pub input_apart : (n : Net) (gates : List ℕ) (p : ℕ) → IsConvex n (among gates) → IsInput n gates p → IsApart n gates p
+input_apart n gates p convex is =
+    record {
+      outside = is.outside;
+      above = λ g inside up. both_ways (among gates p) is.outside (convex g p is.read.reader inside is.read.inside up (at_once p is.read.reader is.read.reads));
+    }
+
+-- So a convex set of gates, with exactly its inputs and outputs, belongs to the net.
+pub convex_belongs : (n : Net) (w : Window) → IsNet n → IsRising w.gates → ((p : ℕ) → among w.gates p ≡ true → IsGate n p) → IsConvex n (among w.gates) → AreJust (IsInput n w.gates) w.inputs → AreJust (IsOutput n w.gates) w.outputs → Belongs n w
+convex_belongs n w net rising gates convex inputs outputs =
+    record {
+      rising = rising;
+      gates = gates;
+      inputs_rising = inputs.rising;
+      read = inputs.all;
+      apart = λ p on. input_apart n w.gates p convex (inputs.only p on);
+      within = λ p on. let read = (inputs.only p on).read in read_there n read.reader p net read.reads;
+      outputs = outputs;
+    }
+
 pub window_belongs : (n : Net) (root : ℕ) (partner : Option ℕ) (count : ℕ) (w : Window) → IsNet n → IsWindow n root partner count w → Belongs n w
 window_belongs n root partner count w net is =
-    record {
-      rising = is.takes.gates_are.rising;
-      gates = λ p inside. taken_gate n root partner is.takes.taken p is.takes.are (is.takes.gates_are.only p inside);
-      convex = taken_convex n root partner count w.gates net is.takes;
-      inputs = is.inputs;
-      outputs = is.outputs;
-    }
+    convex_belongs n w net is.takes.gates_are.rising
+    (λ p inside. taken_gate n root partner is.takes.taken p is.takes.are (is.takes.gates_are.only p inside))
+    (taken_convex n root partner count w.gates net is.takes)
+    is.inputs is.outputs
 
 -- ---- uniqueness
 

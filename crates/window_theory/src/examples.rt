@@ -3,13 +3,14 @@
 //! the gates of each).
 ghost use Rattle.std.specs.Prelude.{◌≡◌, Some, [], ◌∷◌};
 ghost use Rattle.window_theory.specs.Partner.{ArePartners};
-ghost use Rattle.window_theory.specs.Window.{IsWindow};
+ghost use Rattle.window_theory.specs.Window.{Belongs, IsWindow};
 ghost use Rattle.window_theory.specs.Surround.{LeadsTo};
 ghost use Rattle.window_theory.specs.Care.{IsCareRow};
 ghost use Rattle.window_theory.specs.Splice.{spliced};
 ghost use Rattle.window_theory.specs.Examples.{nand_not, both_gates, and_chain, and_net};
 ghost use Rattle.window_theory.specs.Examples.{three_gates, first_gate, input_chain, one_chain, with_input, with_one};
 ghost use Rattle.window_theory.specs.Examples.{two_ands, both_ands, one_for_two, one_and};
+ghost use Rattle.window_theory.specs.Examples.{wide_second, third_input, input_above};
 ghost use Rattle.window_theory.specs.RowExamples.{and_or};
 ghost use Rattle.window_theory.specs.WindowExamples.{side_by_side};
 
@@ -31,6 +32,14 @@ pub fn partners_side_by_side()
 /// The window of the second gate with its partner, the first, and the count 2 has both gates.
 pub fn window_of_partners()
     ensures { IsWindow two_ands 4 (Some 3) 2 side_by_side }
+{}
+
+/// A gate that has another beside it as a further input is a wide window: for it can be substituted
+/// the chain that has this input for its output. A gate that reads it may not be one of its inputs.
+pub fn wide_windows()
+    ensures belongs { Belongs two_ands wide_second }
+    ensures chain { spliced two_ands wide_second third_input ≡ one_and }
+    ensures above { Belongs nand_not input_above → ⊥ }
 {}
 
 /// Of AND and OR of two sources the leaves are the sources, and row 10 isn't a care row: no bits of

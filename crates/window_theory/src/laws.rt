@@ -6,8 +6,8 @@ ghost use Rattle.chain_theory.specs.Agreement.{Agrees, HasChain};
 ghost use Rattle.chain_theory.specs.Chain.{Chain, IsChain};
 ghost use Rattle.net_theory.specs.Net.{Net, IsNet, end_of, gate_value, value, sink_values};
 ghost use Rattle.net_theory.specs.Answers.{Answers};
-ghost use Rattle.window_theory.specs.Places.{among, AreJust};
-ghost use Rattle.window_theory.specs.Paths.{IsGate};
+ghost use Rattle.window_theory.specs.Places.{among, IsRising, AreJust};
+ghost use Rattle.window_theory.specs.Paths.{IsGate, IsConvex};
 ghost use Rattle.window_theory.specs.Partner.{ArePartners};
 ghost use Rattle.window_theory.specs.Window.{Window, IsCandidate, AreTaken, Takes, IsInput, IsOutput, HasPartner, Belongs, IsWindow};
 ghost use Rattle.window_theory.specs.Surround.{LeadsTo};
@@ -16,14 +16,18 @@ ghost use Rattle.window_theory.specs.Care.{values_with, IsGiven, IsPart, HasRow,
 ghost use Rattle.window_theory.specs.CarePartLaws.{AreInside};
 ghost use Rattle.window_theory.specs.Splice.{Fits, IsSpliced};
 
-/// The inputs of a window are below all its gates, so that its gates are convex and the window
-/// belongs to the net. A root, a partner or none, and a count have at most one window, and a gate
-/// has one list of partners.
+/// A convex set of gates, with exactly its inputs and outputs, belongs to the net, and the gates of
+/// whatever belongs are convex. The inputs of the window of a root are below all its gates, so that
+/// it belongs. A root, a partner or none, and a count have at most one window, and a gate has one
+/// list of partners.
 pub fn windows_belong()
     ensures low { (n : Net) (root : ℕ) (partner : Option ℕ) (count : ℕ) (w : Window) (p q : ℕ) → IsNet n →
         IsWindow n root partner count w → IsInput n w.gates p → among w.gates q ≡ true → p < q }
     ensures belong { (n : Net) (root : ℕ) (partner : Option ℕ) (count : ℕ) (w : Window) → IsNet n →
         IsWindow n root partner count w → Belongs n w }
+    ensures exact { (n : Net) (w : Window) → IsNet n → IsRising w.gates → ((p : ℕ) → among w.gates p ≡ true → IsGate n p) →
+        IsConvex n (among w.gates) → AreJust (IsInput n w.gates) w.inputs → AreJust (IsOutput n w.gates) w.outputs → Belongs n w }
+    ensures convex { (n : Net) (w : Window) → Belongs n w → IsConvex n (among w.gates) }
     ensures one { (n : Net) (root : ℕ) (partner : Option ℕ) (count : ℕ) (w v : Window) → IsWindow n root partner count w →
         IsWindow n root partner count v → w ≡ v }
     ensures partners { (n : Net) (g : ℕ) (a b : List ℕ) → ArePartners n g a → ArePartners n g b → a ≡ b }

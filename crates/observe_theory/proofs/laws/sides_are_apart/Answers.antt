@@ -1,4 +1,4 @@
-use Rattle.observe_theory.specs.TailLaws.{follower_high, side_apart, input_apart}
+use Rattle.observe_theory.specs.TailLaws.{follower_high, side_apart}
 use Rattle.observe_theory.specs.ApartLaws.{observing_free, apart_value}
 use Rattle.observe_theory.proofs.laws.sides_are_apart.Goals as goal
 
@@ -9,7 +9,7 @@ pub returns-clause-sides : goal.returns-clause-sides
 returns-clause-sides c = side_apart
 
 pub returns-clause-inputs : goal.returns-clause-inputs
-returns-clause-inputs c = input_apart
+returns-clause-inputs c = λ n w p is on. is.apart p on
 
 pub returns-clause-leaves : goal.returns-clause-leaves
 returns-clause-leaves c = λ n w t leaves p net is tail are on. (observing_free n w t leaves net is tail are).apart p on

@@ -9,12 +9,12 @@ use Rattle.subst_core.proofs.Splicings.{inputs_below, gates_below, outputs_below
 use Rattle.subst_core.proofs.splicing.keep_all.Goals as goal
 
 pub keep_early-requires-clause-inputs : goal.keep_early-requires-clause-inputs
-keep_early-requires-clause-inputs c = inputs_below c.args.net.now (window_of c.args.window.now) c.sources-sources.ensures.net c.requires.belongs
+keep_early-requires-clause-inputs c = inputs_below c.args.net.now (window_of c.args.window.now) c.requires.belongs
 
 pub put_chain-requires-clause-inputs : goal.put_chain-requires-clause-inputs
 put_chain-requires-clause-inputs c =
     let size : end_of c.args.net.now ≡ length c.keep_early.new.places = sym (c.keep_early.auto.places ∙ c.requires.place_count) in
-    subst (λ (b : ℕ). AreBelow b c.args.window.now.inputs.now) size (inputs_below c.args.net.now (window_of c.args.window.now) c.sources-sources.ensures.net c.requires.belongs)
+    subst (λ (b : ℕ). AreBelow b c.args.window.now.inputs.now) size (inputs_below c.args.net.now (window_of c.args.window.now) c.requires.belongs)
 
 pub put_chain-requires-clause-outputs : goal.put_chain-requires-clause-outputs
 put_chain-requires-clause-outputs c =
