@@ -32,15 +32,6 @@ pub count_more : (test : ℕ → Bool) (k : ℕ) → count_below test (k + 1) �
 unfolding count_below
 count_more test k = rw add-one refl
 
-pub count_few : (test : ℕ → Bool) (k : ℕ) → count_below test k ≤ k
-unfolding count_below
-count_few test zero = omega arith
-count_few test (suc k) = omega (arith, count_few test k, bit_few (test k))
-  where
-    bit_few : (b : Bool) → (if b then 1 else 0) ≤ 1
-    bit_few true = omega arith
-    bit_few false = omega arith
-
 pub ruleset counting = (common_steps, count_none, count_more)
 
 -- what passes is split between two tests

@@ -6,14 +6,14 @@ use Rattle.chain_theory.specs.Specification.{Specification}
 use Rattle.chain_theory.specs.Agreement.{IsOver, Agrees, NoneBelow}
 use Rattle.chain_core.specs.Steps.{IsSmallChain}
 
--- a chain over the basis that agrees, of at most as many steps as the number says
+-- a chain over the basis that agrees, of at most `most` steps
 pub record IsFitting (s : Specification) (basis : Basis) (most : ℕ) (c : Chain) : Type 0 where
   pub small : IsSmallChain c
   pub few : length c.steps ≤ most
   pub over : IsOver basis c
   pub agrees : Agrees c s
 
--- such a chain, where none of fewer steps than it has is one
+-- a chain over the basis that agrees, of at most `most` steps, where none of fewer steps than it has agrees
 -- Example: NOT of one input over NAND alone is the step j = 1, k = 1, op = 14 with the out Place 2.
 pub record IsShort (s : Specification) (basis : Basis) (most : ℕ) (c : Chain) : Type 0 where
   pub small : IsSmallChain c
@@ -22,7 +22,7 @@ pub record IsShort (s : Specification) (basis : Basis) (most : ℕ) (c : Chain) 
   pub agrees : Agrees c s
   pub least : NoneBelow s basis (length c.steps)
 
--- such a chain, or that there is none, of all chains over the basis
+-- a chain that `IsShort` holds of, or that no chain over the basis of at most `most` steps agrees
 abbrev pub IsAnswer : Specification → Basis → ℕ → Option Chain → Type 0
 IsAnswer s basis most (Some c) = IsShort s basis most c
 IsAnswer s basis most None = NoneBelow s basis (most + 1)

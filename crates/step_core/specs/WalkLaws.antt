@@ -1,10 +1,8 @@
 -- What a walk has left out, and what it finds.
-use Rattle.std.proofs.Common.{◌≡◌, ℕ, ◌+◌, ◌-◌, ◌≤◌, ◌<◌, true, false, Bool, List, [], ◌∷◌, ◌++◌, length, refl, sym, ap, ap₂, ◌∙◌, subst, arith, inl, inr, All}
-use Rattle.std.specs.Prelude.{min, slice_get, slice_index_or, Some, take}
+use Rattle.std.proofs.Common.{◌≡◌, ℕ, ◌+◌, ◌≤◌, ◌<◌, true, false, Bool, List, [], ◌∷◌, ◌++◌, length, refl, sym, ap, ◌∙◌, subst, arith, inl, inr, All}
+use Rattle.std.specs.Prelude.{min, slice_get, slice_index_or, Some}
 use Rattle.std.proofs.lemmas.Grind.{common_steps}
 use Rattle.std.proofs.lemmas.Bool.{cases_lt, both_ways}
-use Rattle.std.proofs.lemmas.List.{length_push, take_at}
-use Rattle.std.proofs.lemmas.List.Elements.{All-push}
 use Rattle.chain_theory.specs.Operator.{Basis}
 use Rattle.chain_theory.specs.Chain.{Step, IsStepAt, AreSteps}
 use Rattle.chain_laws.specs.Keys.{larger}
@@ -38,11 +36,6 @@ middle_low (y ∷ xs) x ys = omega (arith, middle_low xs x ys)
 member_among : (front rest : List Step) (s : Step) (basis : Basis) → AreOver basis (front ++ s ∷ rest) → basis s.op ≡ true
 member_among front rest s basis over = ap (λ (x : Step). basis x.op) (sym (index_middle front s rest s)) ∙ over (length front) s (middle_low front s rest)
 
--- ---- trails
-
-pub same_trail : (a b : Trailed) → a.n ≡ b.n → a.steps ≡ b.steps → a ≡ b
-same_trail a b n steps = ap₂ {C = Trailed} (λ (m : ℕ) (ss : List Step). record { n = m; steps = ss }) n steps
-
 -- ---- outcomes
 
 -- steps that serve, where a walk that began at the same trail has found them
@@ -51,16 +44,6 @@ found_on w basis whole left old mid new None More found same is yes_ = record {
   inputs = is.inputs ∙ ap (λ (t : Trailed). t.n) same;
   serving = λ e. is.serving yes_;
   size = λ e. is.size yes_ ∙ ap (λ (t : Trailed). length t.steps + left) same;
-  same = λ e. absurd cc;
-  none = λ e sure. absurd cc;
-}
-
--- or where it began a step later
-pub found_later : (w : Words) (basis : Basis) (whole : Bool) (left : ℕ) (old mid new : Trailed) (s : Step) (None More : Type 0) (found : Bool) → 1 ≤ left → mid.n ≡ old.n → mid.steps ≡ old.steps ++ s ∷ [] → IsWalked w basis whole (left - 1) mid new None found → found ≡ true → IsWalked w basis whole left old new More true
-found_later w basis whole left old mid new s None More found some inputs steps is yes_ = record {
-  inputs = is.inputs ∙ inputs;
-  serving = λ e. is.serving yes_;
-  size = λ e. omega (arith, some, is.size yes_, ap (λ (ss : List Step). length ss) steps, length_push old.steps s);
   same = λ e. absurd cc;
   none = λ e sure. absurd cc;
 }
@@ -133,23 +116,7 @@ by_operator w basis t left j k each = record {
       (each s.op at.op_below (member_among t.steps rest s basis target.serving.over)).none s rest (this_step s j k s.op is.0 is.1 refl) count target;
 }
 
--- and from there
-pub by_step : (w : Words) (basis : Basis) (old mid : Trailed) (s : Step) (left : ℕ) → 1 ≤ left → mid.steps ≡ old.steps ++ s ∷ [] → NoneFrom w basis mid.steps (left - 1) → NoneWith w basis old.steps left (IsThe s)
-by_step w basis old mid s left some steps none = record {
-  none = λ this rest is count target.
-      let later : NoneFrom w basis (old.steps ++ s ∷ []) (left - 1) = subst (λ (ss : List Step). NoneFrom w basis ss (left - 1)) steps none in
-      let moved : old.steps ++ this ∷ rest ≡ (old.steps ++ s ∷ []) ++ rest = ap (λ (x : Step). old.steps ++ x ∷ rest) is ∙ sym (append_one old.steps s rest) in
-      later.none rest (omega (arith, count)) (subst (IsTarget w basis) moved target);
-}
-
 -- ---- walking on
-
-pub walking_on : (w : Words) (basis : Basis) (old mid : Trailed) (s : Step) (left : ℕ) → IsWalking w basis old left → 1 ≤ left → basis s.op ≡ true → mid.n ≡ old.n → mid.steps ≡ old.steps ++ s ∷ [] → IsWalking w basis mid (left - 1)
-walking_on w basis old mid s left is some member inputs steps = record {
-  inputs = inputs ∙ is.inputs;
-  room = omega (arith, some, is.room, ap (λ (ss : List Step). length ss) steps, length_push old.steps s);
-  over = subst (AreOver basis) (sym steps) (All-push (λ (x : Step). basis x.op ≡ true) old.steps s is.over member);
-}
 
 pub walking_same : (w : Words) (basis : Basis) (old mid : Trailed) (left : ℕ) → mid ≡ old → IsWalking w basis old left → IsWalking w basis mid left
 walking_same w basis old mid left same is = subst (λ (t : Trailed). IsWalking w basis t left) (sym same) is
@@ -218,20 +185,5 @@ operators_skip w basis whole left j k bound first mid member is said e =
     left_more w basis whole left first mid mid (AllOperators w basis first.steps left j k bound) (basis bound ≡ true → NoneWith w basis first.steps left (IsThe (record { j = j; k = k; op = bound }))) (AllOperators w basis first.steps left j k (bound + 1)) is refl
     (λ sure holds. absurd (both_ways (basis bound) (sym said ∙ e) holds))
     (operators_more w basis left j k bound first.steps)
-
-pub operators_plain : (w : Words) (basis : Basis) (whole : Bool) (left j k bound : ℕ) (first mid : Trailed) → IsLeft w basis whole left first mid (AllOperators w basis first.steps left j k bound) → NoneWith w basis first.steps left (IsThe (record { j = j; k = k; op = bound })) → IsLeft w basis whole left first mid (AllOperators w basis first.steps left j k (bound + 1))
-operators_plain w basis whole left j k bound first mid is none =
-    left_more w basis whole left first mid mid (AllOperators w basis first.steps left j k bound) (NoneWith w basis first.steps left (IsThe (record { j = j; k = k; op = bound }))) (AllOperators w basis first.steps left j k (bound + 1)) is refl (λ sure. none)
-    (λ all one. operators_more w basis left j k bound first.steps all (λ member. one))
-
--- a step after another keeps the trail
-pub popped : (w : Words) (basis : Basis) (whole : Bool) (left : ℕ) (old mid back new : Trailed) (s : Step) (found : Bool) → 1 ≤ left → mid.n ≡ old.n → mid.steps ≡ old.steps ++ s ∷ [] → IsWalked w basis whole (left - 1) mid back (NoneFrom w basis mid.steps (left - 1)) found → found ≡ false → new.n ≡ back.n → new.steps ≡ take (length back.steps - 1) back.steps → IsWalked w basis whole left old new (NoneWith w basis old.steps left (IsThe s)) false
-popped w basis whole left old mid back new s found some inputs steps walked e kept taken =
-    let back_is : back.steps ≡ old.steps ++ s ∷ [] = ap (λ (t : Trailed). t.steps) (walked.same e) ∙ steps in
-    let cut : length back.steps - 1 ≡ length old.steps = omega (arith, ap (λ (ss : List Step). length ss) back_is, length_push old.steps s) in
-    let steps_are : new.steps ≡ old.steps = taken ∙ ap (λ (k : ℕ). take k back.steps) cut ∙ ap (take (length old.steps)) back_is ∙ take_at old.steps (s ∷ []) (length old.steps) refl in
-    none_there w basis whole left old new (NoneWith w basis old.steps left (IsThe s))
-    (same_trail new old (kept ∙ ap (λ (t : Trailed). t.n) (walked.same e) ∙ inputs) steps_are)
-    (λ sure. by_step w basis old mid s left some steps (walked.none e sure))
 
 pub ruleset walking = (common_steps, under_none, under_next, operators_none, operators_next, operators_skip)

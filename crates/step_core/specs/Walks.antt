@@ -21,11 +21,11 @@ pub record IsTarget (w : Words) (basis : Basis) (steps : List Step) : Type 0 whe
   pub agrees : Agrees (chain_on w steps outs) (specification w)
   pub reduced : IsReduced basis (specification w) (chain_on w steps outs)
 
--- none begin with the given steps and have as many more as the number says
+-- none begin with the steps of `front` and have `left` more
 pub record NoneFrom (w : Words) (basis : Basis) (front : List Step) (left : ℕ) : Type 0 where
   pub none : (rest : List Step) → length rest ≡ left → IsTarget w basis (front ++ rest) → ⊥
 
--- nor where the next step has a property
+-- nor where the next step has the property `P`
 pub record NoneWith (w : Words) (basis : Basis) (front : List Step) (left : ℕ) (P : Step → Type 0) : Type 0 where
   pub none : (s : Step) (rest : List Step) → P s → suc (length rest) ≡ left → IsTarget w basis (front ++ s ∷ rest) → ⊥
 
@@ -45,7 +45,7 @@ HasOperands j k s = (s.j ≡ j) × (s.k ≡ k)
 abbrev pub IsThe : Step → Step → Type 0
 IsThe this s = s ≡ this
 
--- a walk may place as many more steps as the number says
+-- a walk may place `left` more steps
 pub record IsWalking (w : Words) (basis : Basis) (t : Trailed) (left : ℕ) : Type 0 where
   pub inputs : t.n ≡ w.n
   pub room : length t.steps + left ≤ 6

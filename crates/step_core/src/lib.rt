@@ -15,8 +15,9 @@
 //! - An operator needs both operands, and one operand twice is negated.
 //! - A step that is no output is 0 on row 0, where the basis has complements.
 //!
-//! The same walk, made to pass over so many steps that serve, gives one chain after the other (`nth_chain`): for moves that put
-//! a chain of equal size in a window's place. Which one comes isn't promised, only that it agrees and has few steps.
+//! The same walk, made to pass over a number of ways that serve before it ends at one, gives one chain after the other
+//! (`nth_chain`): for moves that put a chain of equal size in a window's place. Which one comes isn't promised, only that it
+//! agrees and has few steps.
 //!
 //! ```text
 //! few_steps(alloc, &spec, basis, 4)? // Some(chain) of at most four steps, the fewest, or None: no chain over the basis has so few

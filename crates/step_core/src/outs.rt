@@ -1,5 +1,5 @@
 //! The outs of a chain: each output is its trivial out where it has one, and else a step that has its values.
-ghost use Rattle.std.specs.Prelude.{◌≡◌, ◌+◌, ◌-◌, ◌≤◌, ◌<◌, true, false, length, IfSome, IfNone, IfOk};
+ghost use Rattle.std.specs.Prelude.{◌≡◌, ◌-◌, ◌≤◌, ◌<◌, true, false, length, IfSome, IfNone, IfOk};
 ghost use Rattle.tt_core.specs.Words.{specification};
 ghost use Rattle.tt_core.specs.Live.{is_live};
 ghost use Rattle.step_core.specs.Steps.{is_met as is_met_of};

@@ -1,5 +1,5 @@
 //! The walk: each step that may come next is placed, and from there the walk goes on, until as many steps as are asked for
-//! are placed. It ends at the first steps that serve, or passes over so many before.
+//! are placed. It ends at the first steps that serve, or after as many others that serve as the trail is to pass over.
 ghost use Rattle.std.specs.Prelude.{◌≡◌, ◌+◌, ◌≤◌, true, false, length, IfOk};
 ghost use Rattle.op_basis.specs.Basis.{members};
 ghost use Rattle.chain_theory.specs.Chain.{IsStepAt};
