@@ -5,3 +5,4 @@ pub mod Behind
 pub mod Taken
 pub mod Shown
 pub mod Spelled
+mod Digits

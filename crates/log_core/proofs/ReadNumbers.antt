@@ -72,3 +72,19 @@ written-read n rest low =
   where
     parts : (a b : List ℕ) (e : ℕ) (rest : List ℕ) → (a ++ b ++ e ∷ []) ++ rest ≡ a ++ (b ++ e ∷ rest)
     parts a b e rest = simp append_assoc
+
+-- numbers of one digit, and of two
+pub written-one : (n : ℕ) → n < 128 → written n ≡ n ∷ []
+unfolding written
+written-one n low =
+    let high : n / 16384 ≡ 0 = omega arith in
+    let middle : n / 128 ≡ 0 = omega arith in
+    let whole : n % 128 ≡ n = omega arith in
+    rw (far-none (n / 16384) high, leading-none (n / 128) middle, whole) refl
+
+pub written-two : (n : ℕ) → 128 ≤ n → n < 16384 → written n ≡ (n / 128 + 128) ∷ n % 128 ∷ []
+unfolding written
+written-two n low top =
+    let high : n / 16384 ≡ 0 = omega arith in
+    let whole : n / 128 % 128 ≡ n / 128 = omega arith in
+    rw (far-none (n / 16384) high, leading-some (n / 128) (λ none. absurd (omega (arith, none))), whole) refl

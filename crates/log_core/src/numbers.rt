@@ -36,9 +36,9 @@ fn push_far(bytes: &mut Vec<u8>, number: u64) -> Result<(), AllocError>
     Ok(())
 }
 
-/// Appends a number.
+/// Appends a number of any size.
 #[tactic(auto, using(crate::proofs::Behind::behind), unfolding(crate::specs::Numbers::written))]
-pub(crate) fn push_number(bytes: &mut Vec<u8>, number: u64) -> Result<(), AllocError>
+fn push_long(bytes: &mut Vec<u8>, number: u64) -> Result<(), AllocError>
     ensures ok { OnOk result (bytes.new.items ≡ bytes.old.items ++ written number) }
     ensures begins { BeginsAs bytes.old.items bytes.new.items }
 {
@@ -46,6 +46,34 @@ pub(crate) fn push_number(bytes: &mut Vec<u8>, number: u64) -> Result<(), AllocE
     push_leading(bytes, number / 128)?;
     bytes.push((number % 128) as u8)?;
     Ok(())
+}
+
+/// Appends a number of two digits, as most are.
+#[tactic(auto, using(crate::proofs::Behind::numbers))]
+fn push_two(bytes: &mut Vec<u8>, number: u64) -> Result<(), AllocError>
+    requires low { 128 ≤ number }
+    requires high { number < 16384 }
+    ensures ok { OnOk result (bytes.new.items ≡ bytes.old.items ++ written number) }
+    ensures begins { BeginsAs bytes.old.items bytes.new.items }
+{
+    bytes.extend_from_slice(&[(number / 128) as u8 + 128, (number % 128) as u8])?;
+    Ok(())
+}
+
+/// Appends a number. The first two tests are those of nearly all numbers.
+#[tactic(auto, using(crate::proofs::Behind::numbers))]
+pub(crate) fn push_number(bytes: &mut Vec<u8>, number: u64) -> Result<(), AllocError>
+    ensures ok { OnOk result (bytes.new.items ≡ bytes.old.items ++ written number) }
+    ensures begins { BeginsAs bytes.old.items bytes.new.items }
+{
+    if number < 128 {
+        bytes.push(number as u8)?;
+        return Ok(());
+    }
+    if number < 16_384 {
+        return push_two(bytes, number);
+    }
+    push_long(bytes, number)
 }
 
 /// A number with one digit more, read from a byte from 128 on. Before its last digit no number

@@ -10,23 +10,12 @@ ghost use Rattle.log_core.specs.Rows.{BeginsAs, IsCut, size_of, line_in, lines_i
 
 use crate::Log;
 use crate::head::Head;
+use crate::items::push_id;
 use crate::numbers::next_number;
 use crate::steps::stepped;
 use crate::unpacking::literal_at;
 use cnf_core::Lit;
 use std::alloc::AllocError;
-use text_core::push_number;
-
-/// Appends an id, followed by a blank.
-#[tactic(auto, using(crate::proofs::Behind::behind))]
-fn push_id(out: &mut Vec<u8>, id: u32) -> Result<(), AllocError>
-    ensures ok { OnOk result (out.new.items ≡ out.old.items ++ id_item id) }
-    ensures begins { BeginsAs out.old.items out.new.items }
-{
-    push_number(out, id)?;
-    out.push(b' ')?;
-    Ok(())
-}
 
 /// Appends a literal, followed by a blank.
 #[tactic(auto, using(crate::proofs::Behind::behind))]

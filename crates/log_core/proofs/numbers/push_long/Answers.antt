@@ -1,7 +1,7 @@
 use Rattle.std.proofs.Common.{append_assoc}
 use Rattle.log_core.specs.Numbers.{written}
 use Rattle.log_core.proofs.ReadRows.{begins-is}
-use Rattle.log_core.proofs.numbers.push_number.Goals as goal
+use Rattle.log_core.proofs.numbers.push_long.Goals as goal
 
 pub returns-clause-ok : goal.returns-clause-ok
 unfolding written
