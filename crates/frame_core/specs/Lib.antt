@@ -1,6 +1,7 @@
 pub mod CallLaws
 pub mod KeepingLaws
 pub mod Outside
+pub mod Performed
 pub mod Performing
 pub mod PerformingLaws
 pub mod PiecesLaws

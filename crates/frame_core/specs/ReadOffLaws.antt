@@ -1,10 +1,14 @@
 -- A command's own promise is read off what every command promises.
-use Rattle.std.specs.Prelude.{◌≡◌, ℕ, List, Option, None}
-use Rattle.std.proofs.Common.{subst}
+use Rattle.std.specs.Prelude.{◌≡◌, ℕ, ◌⊎◌, List, Option, None}
+use Rattle.std.proofs.Common.{sym, ◌∙◌, subst}
 use Rattle.std.proofs.Math.Logic.{⊎_elim}
-use Rattle.frame_core.specs.Task.{Task, IsAnswerable}
+use Rattle.frame_core.specs.declared.status.Status.{Status}
+use Rattle.frame_core.specs.declared.status.Status.TheVariants.{Done, Limit, Undecided, Refused}
+use Rattle.frame_core.specs.Told.{Reply}
+use Rattle.frame_core.specs.Task.{Task, IsBeyond, IsAnswerable}
 use Rattle.frame_core.specs.Run.{Run, HasInput, ReportsFront}
-use Rattle.frame_core.specs.Promise.{OutputHeld, Replies, ReportCut, CommandPromise}
+use Rattle.frame_core.specs.Promise.{OutputHeld, Stands, Replies, Faults, ReportCut, OfInput, IsTooLong, CommandPromise}
+use Rattle.frame_core.specs.KeepingLaws.{of_input}
 
 -- a command without a report has none that could be cut
 pub no_report : {A : Type 0} (task : Task) (r : Run) (input : List ℕ) → ((answer : task.Answer) → (task.reply answer).report ≡ None) → ReportCut task r input → A
@@ -17,3 +21,56 @@ gets task r input none promise told may held =
     (λ (got : Replies task r input). got)
     (λ (cut : ReportCut task r input). no_report task r input none cut)
     (promise.answered input told may held)
+
+-- The status 0 comes with an answer.
+pub done_replies : (task : Task) (r : Run) (input : List ℕ) → CommandPromise task r → HasInput task.reads r.source.bytes input → r.status ≡ Done → Replies task r input
+done_replies task r input promise told is = of_input task r (Replies task r) input (promise.done_only is) told
+
+-- So where an open answer counts.
+pub answer_replies : (task : Task) (r : Run) (input : List ℕ) → CommandPromise task r → HasInput task.reads r.source.bytes input → (r.status ≡ Done) ⊎ (r.status ≡ Undecided) → Replies task r input
+answer_replies task r input promise told is =
+    ⊎_elim
+    (λ (done : r.status ≡ Done). done_replies task r input promise told done)
+    (λ (left : r.status ≡ Undecided). of_input task r (Replies task r) input (promise.undecided_only left) told)
+    is
+
+-- No run has the status `Refused` where neither an answer has it nor a fault.
+pub refused_never : (task : Task) (r : Run) → ((answer : task.Answer) → (task.reply answer).status ≡ Refused → ⊥) → ((fault : task.Fault) → (task.refusal fault).status ≡ Refused → ⊥) → CommandPromise task r → r.status ≡ Refused → ⊥
+refused_never task r no_answer no_fault promise is =
+    let of = promise.refused_only is in
+    ⊎_elim
+    (λ (got : Replies task r of.bytes). no_answer got.answer (sym got.stands.status_is ∙ is))
+    (λ (none : Faults task r of.bytes). no_fault none.fault (sym none.told.status_is ∙ is))
+    of.holds
+
+-- Where no fault has the status of a limit, that status says that the input is too long.
+pub limit_beyond : (task : Task) (r : Run) (input : List ℕ) → ((fault : task.Fault) → (task.refusal fault).status ≡ Limit → ⊥) → CommandPromise task r → HasInput task.reads r.source.bytes input → r.status ≡ Limit → IsBeyond task.reads input
+limit_beyond task r input never promise told is =
+    ⊎_elim
+    (λ (none : OfInput task r (Faults task r)). absurd (never none.holds.fault (sym none.holds.told.status_is ∙ is)))
+    (λ (long : IsTooLong task r). long.beyond input told)
+    (promise.limit_only is)
+
+-- ---- commands all of whose answers have the status 0
+
+not_done : {A : Type 0} (r : Run) (reply : Reply) (s : Status) → reply.status ≡ Done → Stands r reply → r.status ≡ s → (Done ≡ s → ⊥) → A
+not_done r reply s done stands is other = absurd (other (sym done ∙ sym stands.status_is ∙ is))
+
+-- `Refused` comes with a fault,
+pub refused_faults : (task : Task) (r : Run) → ((answer : task.Answer) → (task.reply answer).status ≡ Done) → CommandPromise task r → r.status ≡ Refused → OfInput task r (Faults task r)
+refused_faults task r done promise is =
+    let of = promise.refused_only is in
+    record {
+      bytes = of.bytes;
+      are = of.are;
+      holds = ⊎_elim
+          (λ (got : Replies task r of.bytes). not_done r (task.reply got.answer) Refused (done got.answer) got.stands is (λ e. cc))
+          (λ (none : Faults task r of.bytes). none)
+          of.holds;
+    }
+
+-- and `Undecided` never.
+pub never_undecided : (task : Task) (r : Run) → ((answer : task.Answer) → (task.reply answer).status ≡ Done) → CommandPromise task r → r.status ≡ Undecided → ⊥
+never_undecided task r done promise is =
+    let got = promise.undecided_only is in
+    not_done r (task.reply got.holds.answer) Undecided (done got.holds.answer) got.holds.stands is (λ e. cc)

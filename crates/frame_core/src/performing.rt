@@ -1,9 +1,9 @@
 //! Commands, and what performing one comes to.
-ghost use Rattle.std.specs.Prelude.{◌≡◌, ℕ, List};
-ghost use Rattle.frame_core.specs.Task.{Task, IsWithin, IsTask};
-ghost use Rattle.frame_core.specs.Run.{Outcome, IsRun, run_of, before_after};
-ghost use Rattle.frame_core.specs.Promise.{CommandPromise};
+ghost use Rattle.std.specs.Prelude.{◌≡◌};
+ghost use Rattle.frame_core.specs.Task.{Task, IsWithin};
+ghost use Rattle.frame_core.specs.Run.{before_after};
 ghost use Rattle.frame_core.specs.Performing.{Answers, Performs};
+ghost use Rattle.frame_core.specs.Performed.{IsPerformed};
 
 use crate::replies::Ended;
 use crate::reporting::tell;
@@ -67,8 +67,8 @@ fn attempt<J: StreamJob, S: Source, O: Sink, N: Sink>(
     job.answer(alloc, kept, out, note)
 }
 
-/// Does what a command asks that takes its input in pieces, and reports how that ended. It promises what
-/// `perform` does.
+/// Does what a command asks that takes its input in pieces, and reports how that ended: it is a run with an outcome,
+/// whatever words asked for it, and keeps what every command promises.
 pub fn perform_stream<J: StreamJob, S: Source, O: Sink, N: Sink>(
     alloc: Global,
     job: &J,
@@ -77,20 +77,11 @@ pub fn perform_stream<J: StreamJob, S: Source, O: Sink, N: Sink>(
     note: &mut N,
 ) -> Status
     requires { J.ready job.now }
-    // It is a run with an outcome, whatever words asked for it,
-    ensures run { (words : List (List ℕ)) → (outcome : Outcome) × IsRun (J.task job.now)
-        (run_of words
+    ensures { IsPerformed (J.task job.now)
         (before_after S.left S.faults source.old source.new)
         (before_after O.written O.faults out.old out.new)
         (before_after N.written N.faults note.old note.new)
-        result) outcome }
-    // and keeps what every command promises.
-    ensures promise { (words : List (List ℕ)) → IsTask (J.task job.now) → CommandPromise (J.task job.now)
-        (run_of words
-        (before_after S.left S.faults source.old source.new)
-        (before_after O.written O.faults out.old out.new)
-        (before_after N.written N.faults note.old note.new)
-        result) }
+        result }
 {
     let ended = attempt(alloc, job, source, out, note);
     tell(note, &ended);
@@ -98,7 +89,8 @@ pub fn perform_stream<J: StreamJob, S: Source, O: Sink, N: Sink>(
 }
 
 /// Does what a command asks, and reports how that ended: reads `source` where the command reads, writes its
-/// answer on `out`, and on `note` its report, and one error line where there is no answer.
+/// answer on `out`, and on `note` its report, and one error line where there is no answer. It is a run with an outcome,
+/// whatever words asked for it, and keeps what every command promises.
 pub fn perform<J: Job, S: Source, O: Sink, N: Sink>(
     alloc: Global,
     job: &J,
@@ -107,20 +99,11 @@ pub fn perform<J: Job, S: Source, O: Sink, N: Sink>(
     note: &mut N,
 ) -> Status
     requires { J.ready job.now }
-    // It is a run with an outcome, whatever words asked for it,
-    ensures run { (words : List (List ℕ)) → (outcome : Outcome) × IsRun (J.task job.now)
-        (run_of words
+    ensures { IsPerformed (J.task job.now)
         (before_after S.left S.faults source.old source.new)
         (before_after O.written O.faults out.old out.new)
         (before_after N.written N.faults note.old note.new)
-        result) outcome }
-    // and keeps what every command promises.
-    ensures promise { (words : List (List ℕ)) → IsTask (J.task job.now) → CommandPromise (J.task job.now)
-        (run_of words
-        (before_after S.left S.faults source.old source.new)
-        (before_after O.written O.faults out.old out.new)
-        (before_after N.written N.faults note.old note.new)
-        result) }
+        result }
 {
     perform_stream(alloc, &Collecting(job), source, out, note)
 }
