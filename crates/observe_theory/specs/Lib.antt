@@ -6,6 +6,5 @@ pub mod JoinedLaws
 pub mod TailLaws
 pub mod ApartLaws
 pub mod UnseenLaws
-pub mod RowLaws
 pub mod ObservedLaws
 pub mod OneLaws

@@ -24,7 +24,7 @@ use Rattle.window_theory.specs.FixedLaws.{with_same}
 use Rattle.window_theory.specs.Splice.{Fits, chain_bits, out_bit, spliced_bits, spliced_value}
 use Rattle.window_theory.specs.PairLaws.{bits_other, IsSet, is_set}
 use Rattle.window_theory.specs.SpliceLaws.{source_outside}
-use Rattle.observe_theory.specs.RowLaws.{out_row, met_cell}
+use Rattle.window_theory.specs.SubstitutionLaws.{out_row, met_cell}
 use Rattle.observe_theory.specs.Tail.{Tail}
 use Rattle.observe_theory.specs.Unseen.{IsUnseen}
 use Rattle.observe_theory.specs.Observed.{IsObservedOf}
