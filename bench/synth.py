@@ -112,4 +112,5 @@ def main():
             print(f'| {name} | {method} {measured(program, method, tables.split(), seconds)}', flush=True)
 
 
-main()
+if __name__ == '__main__':
+    main()

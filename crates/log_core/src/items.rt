@@ -1,5 +1,5 @@
-//! Ids as items of a text, each followed by a blank. Most have few digits: all their characters are
-//! appended at once.
+//! Ids as items of a text, each followed by a blank. Most have few digits, which are appended one by
+//! one, with no row of characters in between.
 ghost use Rattle.std.specs.Prelude.{◌≡◌, ◌+◌, ◌%◌, ◌<◌, ◌≤◌, ◌++◌, OnOk};
 ghost use Rattle.lrat_text.specs.Spelling.{id_item};
 ghost use Rattle.log_core.specs.Rows.{BeginsAs};
@@ -21,11 +21,11 @@ fn push_two(out: &mut Vec<u8>, id: u32) -> Result<(), AllocError>
     ensures ok { OnOk result (out.new.items ≡ out.old.items ++ id_item id) }
     ensures begins { BeginsAs out.old.items out.new.items }
 {
-    if id < 10 {
-        out.extend_from_slice(&[digit(id), b' '])?;
-        return Ok(());
+    if id >= 10 {
+        out.push(digit(id / 10))?;
     }
-    out.extend_from_slice(&[digit(id / 10), digit(id), b' '])?;
+    out.push(digit(id))?;
+    out.push(b' ')?;
     Ok(())
 }
 
@@ -37,12 +37,13 @@ fn push_four(out: &mut Vec<u8>, id: u32) -> Result<(), AllocError>
     ensures ok { OnOk result (out.new.items ≡ out.old.items ++ id_item id) }
     ensures begins { BeginsAs out.old.items out.new.items }
 {
-    let (ten, unit) = (digit(id / 10), digit(id));
-    if id < 1000 {
-        out.extend_from_slice(&[digit(id / 100), ten, unit, b' '])?;
-        return Ok(());
+    if id >= 1000 {
+        out.push(digit(id / 1000))?;
     }
-    out.extend_from_slice(&[digit(id / 1000), digit(id / 100), ten, unit, b' '])?;
+    out.push(digit(id / 100))?;
+    out.push(digit(id / 10))?;
+    out.push(digit(id))?;
+    out.push(b' ')?;
     Ok(())
 }
 
@@ -54,14 +55,12 @@ fn push_five(out: &mut Vec<u8>, id: u32) -> Result<(), AllocError>
     ensures ok { OnOk result (out.new.items ≡ out.old.items ++ id_item id) }
     ensures begins { BeginsAs out.old.items out.new.items }
 {
-    out.extend_from_slice(&[
-        digit(id / 10_000),
-        digit(id / 1000),
-        digit(id / 100),
-        digit(id / 10),
-        digit(id),
-        b' ',
-    ])?;
+    out.push(digit(id / 10_000))?;
+    out.push(digit(id / 1000))?;
+    out.push(digit(id / 100))?;
+    out.push(digit(id / 10))?;
+    out.push(digit(id))?;
+    out.push(b' ')?;
     Ok(())
 }
 

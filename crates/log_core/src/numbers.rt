@@ -56,7 +56,8 @@ fn push_two(bytes: &mut Vec<u8>, number: u64) -> Result<(), AllocError>
     ensures ok { OnOk result (bytes.new.items ≡ bytes.old.items ++ written number) }
     ensures begins { BeginsAs bytes.old.items bytes.new.items }
 {
-    bytes.extend_from_slice(&[(number / 128) as u8 + 128, (number % 128) as u8])?;
+    bytes.push((number / 128) as u8 + 128)?;
+    bytes.push((number % 128) as u8)?;
     Ok(())
 }
 
