@@ -30,14 +30,15 @@ pub enum Command {
     RecheckDepth,
     /// Find a chain with the fewest steps, and write the certificate.
     Synth(SynthSettings),
-    /// Find a chain with the fewest steps, and of the chains of so few steps one with the fewest levels, by fences.
+    /// Find a chain with the fewest steps, and of all that have as few one with the fewest levels, by fences.
     LeastDepth(SynthSettings),
     /// Write a netlist of a format again that does the same with no more gates, by its windows.
     Improve {
         format: Format,
         settings: ImproveSettings,
     },
-    /// Decide whether two netlists are equivalent, within a budget of learnt clauses.
+    /// Decide whether two netlists are equivalent, within a budget of conflicts: those of pairs and
+    /// sinks that are given up count, and the clauses that the last search learns.
     Equiv(u32),
     /// Generate a netlist of `blocks` blocks, 1 to 10,000, and write it or improve it.
     Gen {
