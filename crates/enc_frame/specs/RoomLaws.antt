@@ -1,5 +1,5 @@
 -- Variables of a formula are within it.
-use Rattle.std.proofs.Common.{◌≡◌, ℕ, ◌+◌, ◌≤◌, ◌<◌, Bool, List, [], ◌∷◌, ◌++◌, All, length, get_or, subst, sym, arith}
+use Rattle.std.proofs.Common.{◌≡◌, ℕ, ◌≤◌, ◌<◌, Bool, List, [], ◌∷◌, ◌++◌, All, length, get_or, subst, sym, arith}
 use Rattle.clause_core.specs.declared.raw.Raw.{Raw}
 use Rattle.clause_core.specs.declared.raw.Raw.TheVariants.{Var}
 use Rattle.clause_core.specs.Clauses.{IsWithin}

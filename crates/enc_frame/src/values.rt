@@ -1,7 +1,9 @@
 //! The clauses that give each step its operator's value of its pair.
-ghost use Rattle.std.specs.Prelude.{◌≡◌, ◌+◌, ◌^◌, ◌<◌, ◌++◌, All, OnOk};
+ghost use Rattle.std.specs.Prelude.{◌≡◌, ◌+◌, ◌^◌, ◌<◌, ◌≤◌, ◌++◌, true, false, All, IsTrue, OnOk};
+ghost use Rattle.clause_core.specs.declared.raw.Raw.TheVariants.{Fixed};
 ghost use Rattle.enc_theory.specs.Families.{value_clause, value_bit, value_row, value_slot, value_step, values};
-ghost use Rattle.enc_frame.specs.Room.{HasRoom, IsPlace, IsSlot, HasSlots};
+ghost use Rattle.enc_theory.specs.Numbering.{x_is as x_is_of};
+ghost use Rattle.enc_frame.specs.Room.{IsSmall, HasRoom, IsPlace, IsSlot, HasSlots};
 
 use crate::layout::StepSlots;
 use crate::vars::{f_var, rows, x_is};
@@ -15,6 +17,20 @@ struct At {
     step: u32,
     slot: Slot,
     row: u32,
+}
+
+/// Whether it is certain that place `j` has the bit on row `t`, as it may be of an input: then a
+/// clause that lists it is a tautology.
+fn is_certain(z: Sizes, j: u32, t: u32, bit: bool) -> bool
+    requires small { IsSmall z }
+    requires place { (1 ≤ j) × (j < z.n + 1 + z.r) }
+    requires row { t < 2 ^ z.n }
+    ensures { IsTrue result → x_is_of z j t bit ≡ Fixed true }
+{
+    match x_is(z, j, t, bit) {
+        Raw::Fixed(certain) => certain,
+        Raw::Var(_, _) => false,
+    }
 }
 
 /// One clause, for bits a, b, c of the step and of its two operands.
@@ -46,8 +62,55 @@ fn push_value_clause(
     )
 }
 
+/// The clause, unless the second operand is an input with the other bit, which makes it a tautology.
+#[tactic(auto, using(crate::proofs::Skipped::skipping))]
+fn push_value_quarter(
+    alloc: Global,
+    list: &mut ClauseList,
+    z: Sizes,
+    at: At,
+    a: bool,
+    b: bool,
+    c: bool,
+) -> Result<(), AllocError>
+    requires room { HasRoom z list.old.vars }
+    requires place { IsPlace z at.step }
+    requires slot { IsSlot list.old.vars at.step at.slot }
+    requires row { at.row < 2 ^ z.n }
+    ensures { OnOk result (list.new ≡ record list.old { clauses = list.old.clauses ++ value_clause z at.step at.slot at.row a b c }) }
+{
+    if is_certain(z, at.slot.k, at.row, !c) {
+        return Ok(());
+    }
+    push_value_clause(alloc, list, z, at, a, b, c)
+}
+
+/// The two clauses of a bit of the step and one of its first operand. Where that is an input with
+/// the other bit, both are tautologies, and none is listed.
+#[tactic(auto, using(crate::proofs::Skipped::skipping))]
+fn push_value_half(
+    alloc: Global,
+    list: &mut ClauseList,
+    z: Sizes,
+    at: At,
+    a: bool,
+    b: bool,
+) -> Result<(), AllocError>
+    requires room { HasRoom z list.old.vars }
+    requires place { IsPlace z at.step }
+    requires slot { IsSlot list.old.vars at.step at.slot }
+    requires row { at.row < 2 ^ z.n }
+    ensures { OnOk result (list.new ≡ record list.old { clauses = list.old.clauses ++ (value_clause z at.step at.slot at.row a b false ++ value_clause z at.step at.slot at.row a b true) }) }
+{
+    if is_certain(z, at.slot.j, at.row, !b) {
+        return Ok(());
+    }
+    push_value_quarter(alloc, list, z, at, a, b, false)?;
+    push_value_quarter(alloc, list, z, at, a, b, true)
+}
+
 /// The four clauses of a bit of the step.
-#[tactic(auto, unfolding(enc_theory::specs::Families::value_bit))]
+#[tactic(auto, using(crate::proofs::Skipped::skipping), unfolding(enc_theory::specs::Families::value_bit))]
 fn push_value_bit(
     alloc: Global,
     list: &mut ClauseList,
@@ -61,10 +124,8 @@ fn push_value_bit(
     requires row { at.row < 2 ^ z.n }
     ensures { OnOk result (list.new ≡ record list.old { clauses = list.old.clauses ++ value_bit z at.step at.slot at.row a }) }
 {
-    push_value_clause(alloc, list, z, at, a, false, false)?;
-    push_value_clause(alloc, list, z, at, a, false, true)?;
-    push_value_clause(alloc, list, z, at, a, true, false)?;
-    push_value_clause(alloc, list, z, at, a, true, true)
+    push_value_half(alloc, list, z, at, a, false)?;
+    push_value_half(alloc, list, z, at, a, true)
 }
 
 /// The eight clauses of a row.
