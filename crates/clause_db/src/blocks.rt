@@ -5,12 +5,13 @@
 //! and the ids are right. An exchange of literals in one list leaves the ids, the lengths and all
 //! other lists unchanged. A list that is emptied leaves a gap until `pack` moves the lists after it
 //! down; that goes list by list, and the invariant holds after each.
-ghost use Rattle.std.specs.Prelude.{◌≡◌, [], ◌∷◌, ◌++◌, ◌<◌, ◌+◌, ◌-◌, ◌^◌, length, take, slice_index_or, slice_set, OnOk, OnErr};
+ghost use Rattle.std.specs.Prelude.{◌≡◌, [], ◌∷◌, ◌++◌, ◌<◌, ◌+◌, ◌-◌, ◌^◌, length, take, slice_index_or, slice_set, IfOk, OnOk, OnErr};
 ghost use Rattle.std.specs.List.{swap};
 ghost use Rattle.sat_theory.specs.Formula.{variable as variable_of};
 ghost use Rattle.clause_db.specs.Arranging.{block_at};
 ghost use Rattle.clause_db.specs.BlockRanges.{id_in, end_before, IsStart, KeepsIds, AreIds};
 
+use crate::room::Room;
 use cnf_core::Lit;
 use std::alloc::{AllocError, Global};
 use std::marker::Model;
@@ -34,13 +35,15 @@ impl Model for Blocks {
 }
 
 impl Blocks {
-    pub(crate) fn none(alloc: Global) -> Blocks
-        ensures { result ≡ record { lists = []; starts = [] } }
+    pub(crate) fn none(alloc: Global, room: &Room) -> Result<Blocks, AllocError>
+        ensures { IfOk result (λ blocks. blocks ≡ record { lists = []; starts = [] }) }
     {
-        Blocks {
-            row: Vec::new(alloc),
-            starts: Vec::new(alloc),
-        }
+        let places = room
+            .literals()
+            .saturating_add(room.clauses().saturating_mul(2));
+        let row = Vec::with_capacity(alloc, places)?;
+        let starts = Vec::with_capacity(alloc, room.clauses())?;
+        Ok(Blocks { row, starts })
     }
 
     /// Appends a list. A row of more than 2,147,483,647 places is an error too; each list takes two

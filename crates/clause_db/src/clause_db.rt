@@ -15,6 +15,7 @@ ghost use Rattle.clause_db.specs.Blocking.{IsOf, AreBeside};
 ghost use Rattle.clause_db.specs.Deleting.{IsDeleted};
 
 use crate::lists::Watch;
+use crate::room::Room;
 use crate::store::Store;
 use crate::watches::Watches;
 use cnf_core::{Cnf, Lit};
@@ -56,20 +57,21 @@ impl ClauseDb {
         ensures watches { IfOk result (λ c. (id : ℕ) (clause : List ℤ) → live_in c id ≡ Some clause → pair_at c.watches id ≡ pair_of clause) }
         ensures whole { IfOk result (λ c. IsStored c) }
     {
-        let mut clauses = ClauseDb::none(alloc, cnf.vars())?;
+        let room = Room::of(alloc, cnf)?;
+        let mut clauses = ClauseDb::none(alloc, cnf.vars(), &room)?;
         for clause in cnf.clauses() {
             clauses.add(clause.lits())?;
         }
         Ok(clauses)
     }
 
-    fn none(alloc: Global, vars: u32) -> Result<ClauseDb, AllocError>
+    fn none(alloc: Global, vars: u32, room: &Room) -> Result<ClauseDb, AllocError>
         requires { vars < 1000000000 }
         ensures { IfOk result (λ c. c ≡ none_stored vars) }
     {
         Ok(ClauseDb {
-            store: Store::none(alloc, vars),
-            watches: Watches::none(alloc, vars)?,
+            store: Store::none(alloc, vars, room)?,
+            watches: Watches::none(alloc, vars, room)?,
         })
     }
 

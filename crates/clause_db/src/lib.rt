@@ -25,6 +25,7 @@
 mod blocks;
 mod clause_db;
 mod lists;
+mod room;
 mod store;
 mod watches;
 mod windows;

@@ -2,7 +2,7 @@
 //! position where its literals begin. Both are in one struct, so no two lists have to be equally
 //! long, and a visit reads no table of starts. While clauses are moved, entries have ids in place
 //! of the starts.
-ghost use Rattle.std.specs.Prelude.{◌≡◌, ◌-◌, ◌<◌, ◌∷◌, [], ◌++◌, length, take, map, slice_index_or, slice_set, All, OnOk, OnErr};
+ghost use Rattle.std.specs.Prelude.{◌≡◌, ◌-◌, ◌<◌, ◌∷◌, [], ◌++◌, length, take, map, slice_index_or, slice_set, All, IfOk, OnOk, OnErr};
 ghost use Rattle.std.specs.List.{swap_remove};
 ghost use Rattle.clause_db.specs.Lists.{no_watch, blocked_by, named, placed, IsDirect, IsNamed};
 
@@ -36,12 +36,12 @@ impl Model for WatchList {
 
 #[tactic(auto, using(crate::proofs::Listed::entries))]
 impl WatchList {
-    pub(crate) fn none(alloc: Global) -> WatchList
-        ensures { result ≡ [] }
+    /// No entry, with room for so many.
+    pub(crate) fn none(alloc: Global, room: usize) -> Result<WatchList, AllocError>
+        ensures { IfOk result (λ list. list ≡ []) }
     {
-        WatchList {
-            entries: Vec::new(alloc),
-        }
+        let entries = Vec::with_capacity(alloc, room)?;
+        Ok(WatchList { entries })
     }
 
     pub(crate) fn entries(&self) -> &[Watch]

@@ -8,6 +8,7 @@ ghost use Rattle.sat_theory.specs.Formula.{IsClause, IsWithin};
 ghost use Rattle.clause_db.specs.Stored.{live_at};
 ghost use Rattle.clause_db.specs.Windows.{entry_of, entries_of, AreFrom, AreInside};
 
+use crate::room::Room;
 use crate::windows::Window;
 use cnf_core::Lit;
 use std::alloc::{AllocError, Global};
@@ -103,14 +104,12 @@ impl Model for Store {
 }
 
 impl Store {
-    pub(crate) fn none(alloc: Global, vars: u32) -> Store
-        ensures { result ≡ record { vars = vars; clauses = [] } }
+    pub(crate) fn none(alloc: Global, vars: u32, room: &Room) -> Result<Store, AllocError>
+        ensures { IfOk result (λ store. store ≡ record { vars = vars; clauses = [] }) }
     {
-        Store {
-            vars,
-            row: Vec::new(alloc),
-            windows: Vec::new(alloc),
-        }
+        let row = Vec::with_capacity(alloc, room.literals())?;
+        let windows = Vec::with_capacity(alloc, room.clauses())?;
+        Ok(Store { vars, row, windows })
     }
 
     /// Adds a clause, and answers its id. A row of more than 4,294,967,295 literals counts as

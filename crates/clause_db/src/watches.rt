@@ -15,6 +15,7 @@ ghost use Rattle.clause_db.specs.Lists.{blockers_of, named, placed, AreDirect, A
 
 use crate::blocks::Blocks;
 use crate::lists::{Watch, WatchList};
+use crate::room::Room;
 use cnf_core::Lit;
 use std::alloc::{AllocError, Global};
 use std::marker::Model;
@@ -50,16 +51,16 @@ impl Model for Watches {
 #[tactic(auto, using(crate::proofs::Listed::listing))]
 impl Watches {
     /// No clauses, and an empty list for each literal of the variables 1 to `vars`.
-    pub(crate) fn none(alloc: Global, vars: u32) -> Result<Watches, AllocError>
+    pub(crate) fn none(alloc: Global, vars: u32, room: &Room) -> Result<Watches, AllocError>
         requires { vars < 1000000000 }
         ensures { IfOk result (λ w. w ≡ record { blocks = []; lists = replicate (2 * vars + 2) []; rows = replicate (2 * vars + 2) [] }) }
     {
         let mut lists = Vec::with_capacity(alloc, 2 * vars as usize + 2)?;
-        for _code in 0..2 * vars as usize + 2 {
-            lists.push(WatchList::none(alloc))?;
+        for code in 0..2 * vars as usize + 2 {
+            lists.push(WatchList::none(alloc, room.watching(code))?)?;
         }
         Ok(Watches {
-            blocks: Blocks::none(alloc),
+            blocks: Blocks::none(alloc, room)?,
             lists,
         })
     }
