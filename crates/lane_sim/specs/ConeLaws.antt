@@ -14,7 +14,7 @@ use Rattle.lane_sim.specs.LaneLaws.{at_front, at_next}
 use Rattle.lane_sim.specs.PatternLaws.{at_behind}
 
 -- a place that is none of the gates' keeps its bit
-gates_keep : (bits : ℕ → Bool) (xs : List (ℕ × Gate)) (p : ℕ) → ((k q : ℕ) → slice_get (map place_of xs) k ≡ Some q → p ≢ q) → gates_after bits xs p ≡ bits p
+pub gates_keep : (bits : ℕ → Bool) (xs : List (ℕ × Gate)) (p : ℕ) → ((k q : ℕ) → slice_get (map place_of xs) k ≡ Some q → p ≢ q) → gates_after bits xs p ≡ bits p
 unfolding gates_after
 gates_keep bits [] p other = refl
 gates_keep bits (x ∷ xs) p other =

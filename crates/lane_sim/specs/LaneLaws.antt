@@ -18,7 +18,7 @@ use Rattle.lane_sim.specs.declared.rows.Operand.TheVariants as operands
 use Rattle.op_basis.specs.WordOperator.{masks_of, combined}
 use Rattle.lane_sim.specs.Combining.{operand_word, EndsBefore}
 use Rattle.lane_sim.specs.Cone.{Cone, IsCone, IsGateOver, AreApart, place_of, places, leaf_bits, gates_after, value_in}
-use Rattle.lane_sim.specs.Rows.{IsWritten, IsRow, IsPut, AreLanes, IsOperandOf, IsGatePut, AreLeaves, AreGatesOf}
+use Rattle.lane_sim.specs.Rows.{IsWritten, IsRow, IsPut, AreLanes, IsOperandOf, IsCombinedPut, IsGatePut, AreLeaves, AreGatesOf}
 use Rattle.lane_sim.specs.RowLaws.{row_put}
 use Rattle.op_basis.specs.WordOperatorLaws.{combined_bit, digit_spread}
 use Rattle.lane_sim.specs.Words.{Words, AreWords, width_of}
@@ -65,21 +65,22 @@ not_among (x ∷ xs) p new =
 
 -- ---- one row more
 
-pub one_more : (ps : List ℕ) (p : ℕ) (bits bits' : ℕ → ℕ → Bool) (width : ℕ) (old new : List ℕ) → AreLanes ps bits width (64 * width) old → IsPut (λ row. bits' row p) width old new → ((row k q : ℕ) → slice_get ps k ≡ Some q → bits' row q ≡ bits row q)
-    → AreLanes (ps ++ p ∷ []) bits' width (64 * width) new
-one_more ps p bits bits' width old new are put same =
+pub one_more : (ps : List ℕ) (p : ℕ) (bits bits' : ℕ → ℕ → Bool) (width rows : ℕ) (old new : List ℕ) → rows ≤ 64 * width → AreLanes ps bits width rows old → length new ≡ length old + width
+    → ((j b : ℕ) → j < width → b < 64 → 64 * j + b < rows → digit (get_or new (length old + j) 0) b ≡ bits' (64 * j + b) p) → ((k : ℕ) → k < length old → get_or new k 0 ≡ get_or old k 0) → ((row k q : ℕ) → slice_get ps k ≡ Some q → bits' row q ≡ bits row q)
+    → AreLanes (ps ++ p ∷ []) bits' width rows new
+one_more ps p bits bits' width rows old new wide are size here before same =
     let count : length (ps ++ p ∷ []) ≡ length ps + 1 = length-append ps (p ∷ []) in
     record {
-      size = put.size ∙ ap (λ (n : ℕ). n + width) are.size ∙ sym (more (length ps) width) ∙ ap (λ (n : ℕ). n * width) (sym count);
+      size = size ∙ ap (λ (n : ℕ). n + width) are.size ∙ sym (more (length ps) width) ∙ ap (λ (n : ℕ). n * width) (sym count);
       values = λ k q j b at low within.
-          let low_j : j < width = omega (arith, within) in
+          let low_j : j < width = omega (arith, within, wide) in
           ⊎_elim
           (λ (l : (k < length ps) × (slice_get ps k ≡ Some q)).
           let room : k * width + j < length old = subst (λ (n : ℕ). k * width + j < n) (sym are.size) (inside k j (length ps) width l.0 low_j) in
-          ap (λ (w : ℕ). digit w b) (put.before (k * width + j) room) ∙ are.values k q j b l.1 low within ∙ sym (same (64 * j + b) k q l.1))
+          ap (λ (w : ℕ). digit w b) (before (k * width + j) room) ∙ are.values k q j b l.1 low within ∙ sym (same (64 * j + b) k q l.1))
           (λ (r : (k ≡ length ps) × (q ≡ p)).
           let place : k * width + j ≡ length old + j = ap (λ (n : ℕ). n * width + j) r.0 ∙ ap (λ (n : ℕ). n + j) (sym are.size) in
-          ap (λ (i : ℕ). digit (get_or new i 0) b) place ∙ put.here j b low_j low ∙ ap (bits' (64 * j + b)) (sym r.1))
+          ap (λ (i : ℕ). digit (get_or new i 0) b) place ∙ here j b low_j low within ∙ ap (bits' (64 * j + b)) (sym r.1))
           (at_last ps p q k at);
     }
   where
@@ -111,7 +112,7 @@ leaves_none c width keys lanes no_keys no_lanes = record {
     nothing_times : (w : ℕ) → 0 * w ≡ length {A = ℕ} []
     nothing_times w = omega arith
 
-front_apart : (xs ys : List ℕ) → AreApart (xs ++ ys) → AreApart xs
+pub front_apart : (xs ys : List ℕ) → AreApart (xs ++ ys) → AreApart xs
 front_apart xs ys apart i j p a b = apart i j p (at_front xs ys i p a) (at_front xs ys j p b)
 
 pub leaf_new : (c : Cone) (width : ℕ) (keys lanes : List ℕ) (p : ℕ) (rest : List ℕ) → IsCone c → AreLeaves c width keys lanes (p ∷ rest) → (k q : ℕ) → slice_get keys k ≡ Some q → q ≢ p
@@ -124,8 +125,9 @@ leaves_more c width keys lanes p rest new_lanes cone are put =
     λ row. ap (λ (qs : List ℕ). leaf_bits qs row p) (sym are.parts) ∙ leaf_next keys p rest row (leaf_new c width keys lanes p rest cone are) in
     record {
       parts = append_assoc keys (p ∷ []) rest ∙ are.parts;
-      lanes = one_more keys p (leaf_bits c.leaves) (leaf_bits c.leaves) width lanes new_lanes are.lanes
-          (record { size = put.size; here = λ j b low_j low. put.here j b low_j low ∙ sym (right (64 * j + b)); before = put.before })
+      lanes = one_more keys p (leaf_bits c.leaves) (leaf_bits c.leaves) width (64 * width) lanes new_lanes (omega arith) are.lanes put.size
+          (λ j b low_j low within. put.here j b low_j low ∙ sym (right (64 * j + b)))
+          put.before
           (λ row k q at. refl);
     }
 
@@ -168,23 +170,33 @@ resized_word old more end count operands.Zero j ends e low = refl
 resized_word old more end count operands.One j ends e low = refl
 resized_word old more end count (operands.Row s) j ends e low = get_or_append_left old more 0 (s + j) (omega (arith, ends, e))
 
-pub gate_put : (ps : List ℕ) (g : Gate) (width : ℕ) (old more new : List ℕ) (a b : Operand) → length old ≡ length ps * width → length more ≡ width → IsOperandOf ps width g.a a → IsOperandOf ps width g.b b → IsWritten (masks_of g.op) a b (length old) width (old ++ more) new → IsGatePut ps g width old new
-gate_put ps g width old more new a b size long first second is =
-    let ends_a : EndsBefore (length old) width a = operand_ends ps width (length old) g.a a first (omega (arith, size)) in
-    let ends_b : EndsBefore (length old) width b = operand_ends ps width (length old) g.b b second (omega (arith, size)) in
+-- the words that are written where there was room for them
+combined_put : (op width : ℕ) (old more new : List ℕ) (a b : Operand) → length more ≡ width → EndsBefore (length old) width a → EndsBefore (length old) width b → IsWritten (masks_of op) a b (length old) width (old ++ more) new → IsCombinedPut op a b width old new
+combined_put op width old more new a b long ends_a ends_b is =
     record {
       size = is.size ∙ length-append old more ∙ ap (λ (n : ℕ). length old + n) long;
-      here = λ bits are j i low_j low.
-          let within : 64 * j + i < 64 * width = omega arith in
-          ap (λ (w : ℕ). digit w i) (is.here j low_j)
-          ∙ gate_bit g.op (operand_word (old ++ more) a j) (operand_word (old ++ more) b j) i g (bits (64 * j + i)) low refl
-          (ap (λ (w : ℕ). digit w i) (resized_word old more (length old) width a j ends_a refl low_j) ∙ operand_bit ps bits width (64 * width) old g.a a j i are first low within)
-          (ap (λ (w : ℕ). digit w i) (resized_word old more (length old) width b j ends_b refl low_j) ∙ operand_bit ps bits width (64 * width) old g.b b j i are second low within);
+      here = λ j low_j.
+          is.here j low_j
+          ∙ ap (λ (w : ℕ). combined (masks_of op) w (operand_word (old ++ more) b j)) (resized_word old more (length old) width a j ends_a refl low_j)
+          ∙ ap (combined (masks_of op) (operand_word old a j)) (resized_word old more (length old) width b j ends_b refl low_j);
       before = λ k low. is.before k low ∙ get_or_append_left old more 0 k low;
     }
 
+-- what the rows of a gate's operands combine to is the gate's row
+pub gate_put : (ps : List ℕ) (g : Gate) (width : ℕ) (old new : List ℕ) (a b : Operand) → IsOperandOf ps width g.a a → IsOperandOf ps width g.b b → IsCombinedPut g.op a b width old new → IsGatePut ps g width old new
+gate_put ps g width old new a b first second is =
+    record {
+      size = is.size;
+      here = λ bits rows are j i low_j low within.
+          ap (λ (w : ℕ). digit w i) (is.here j low_j)
+          ∙ gate_bit g.op (operand_word old a j) (operand_word old b j) i g (bits (64 * j + i)) low refl
+          (operand_bit ps bits width rows old g.a a j i are first low within)
+          (operand_bit ps bits width rows old g.b b j i are second low within);
+      before = is.before;
+    }
+
 -- the gates begin where the leaves end
-pub gates_none : (c : Cone) (width : ℕ) (keys lanes : List ℕ) → AreLeaves c width keys lanes [] → AreGatesOf c width keys lanes c.gates
+pub gates_none : (c : Cone) (width : ℕ) (keys lanes : List ℕ) → AreLeaves c width keys lanes [] → AreGatesOf c width (64 * width) keys lanes c.gates
 unfolding gates_after
 gates_none c width keys lanes are =
     let all : keys ≡ c.leaves = sym (append-nil keys) ∙ are.parts in
@@ -194,27 +206,30 @@ map_parts : (xs ys : List (ℕ × Gate)) → map place_of (xs ++ ys) ≡ map pla
 map_parts [] ys = refl
 map_parts (x ∷ xs) ys = ap (λ (ps : List ℕ). x.0 ∷ ps) (map_parts xs ys)
 
-pub gate_new : (c : Cone) (width : ℕ) (keys lanes : List ℕ) (x : ℕ × Gate) (rest : List (ℕ × Gate)) → IsCone c → AreGatesOf c width keys lanes (x ∷ rest) → (k q : ℕ) → slice_get keys k ≡ Some q → q ≢ x.0
-gate_new c width keys lanes x rest cone are =
-    let all : places c ≡ keys ++ (x.0 ∷ map place_of rest) =
+-- the places of a cone, where a gate is next
+pub places_next : (c : Cone) (width rows : ℕ) (keys lanes : List ℕ) (x : ℕ × Gate) (rest : List (ℕ × Gate)) → AreGatesOf c width rows keys lanes (x ∷ rest) → places c ≡ keys ++ (x.0 ∷ map place_of rest)
+places_next c width rows keys lanes x rest are =
     ap (λ (gs : List (ℕ × Gate)). c.leaves ++ map place_of gs) (sym are.parts)
     ∙ ap (λ (ps : List ℕ). c.leaves ++ ps) (map_parts are.done (x ∷ rest))
     ∙ sym (append_assoc c.leaves (map place_of are.done) (x.0 ∷ map place_of rest))
-    ∙ ap (λ (ps : List ℕ). ps ++ (x.0 ∷ map place_of rest)) (sym are.keys) in
-    is_new keys x.0 (map place_of rest) (subst AreApart all cone.apart)
+    ∙ ap (λ (ps : List ℕ). ps ++ (x.0 ∷ map place_of rest)) (sym are.keys)
+
+pub gate_new : (c : Cone) (width rows : ℕ) (keys lanes : List ℕ) (x : ℕ × Gate) (rest : List (ℕ × Gate)) → IsCone c → AreGatesOf c width rows keys lanes (x ∷ rest) → (k q : ℕ) → slice_get keys k ≡ Some q → q ≢ x.0
+gate_new c width rows keys lanes x rest cone are =
+    is_new keys x.0 (map place_of rest) (subst AreApart (places_next c width rows keys lanes x rest are) cone.apart)
 
 take_parts : {A : Type 0} (xs ys : List A) → take (length xs) (xs ++ ys) ≡ xs
 take_parts [] ys = refl
 take_parts (x ∷ xs) ys = ap (λ (zs : List _). x ∷ zs) (take_parts xs ys)
 
-pub gate_over : (c : Cone) (width : ℕ) (keys lanes : List ℕ) (x : ℕ × Gate) (rest : List (ℕ × Gate)) → IsCone c → AreGatesOf c width keys lanes (x ∷ rest) → IsGateOver keys x.1
-gate_over c width keys lanes x rest cone are =
+pub gate_over : (c : Cone) (width rows : ℕ) (keys lanes : List ℕ) (x : ℕ × Gate) (rest : List (ℕ × Gate)) → IsCone c → AreGatesOf c width rows keys lanes (x ∷ rest) → IsGateOver keys x.1
+gate_over c width rows keys lanes x rest cone are =
     let at : slice_get c.gates (length are.done) ≡ Some x = ap (λ (gs : List (ℕ × Gate)). slice_get gs (length are.done)) (sym are.parts) ∙ at_next are.done x rest in
     let front : take (length are.done) c.gates ≡ are.done = ap (take (length are.done)) (sym are.parts) ∙ take_parts are.done (x ∷ rest) in
     subst (λ (ps : List ℕ). IsGateOver ps x.1) (ap (λ (gs : List (ℕ × Gate)). c.leaves ++ map place_of gs) front ∙ sym are.keys) (cone.gates (length are.done) x at)
 
-pub gates_more : (c : Cone) (width : ℕ) (keys lanes : List ℕ) (x : ℕ × Gate) (rest : List (ℕ × Gate)) (new_lanes : List ℕ) → IsCone c → AreGatesOf c width keys lanes (x ∷ rest) → IsGatePut keys x.1 width lanes new_lanes → AreGatesOf c width (keys ++ x.0 ∷ []) new_lanes rest
-gates_more c width keys lanes x rest new_lanes cone are put =
+pub gates_more : (c : Cone) (width rows : ℕ) (keys lanes : List ℕ) (x : ℕ × Gate) (rest : List (ℕ × Gate)) (new_lanes : List ℕ) → rows ≤ 64 * width → IsCone c → AreGatesOf c width rows keys lanes (x ∷ rest) → IsGatePut keys x.1 width lanes new_lanes → AreGatesOf c width rows (keys ++ x.0 ∷ []) new_lanes rest
+gates_more c width rows keys lanes x rest new_lanes wide cone are put =
     let bits : ℕ → ℕ → Bool = λ row. gates_after (leaf_bits c.leaves row) are.done in
     let bits' : ℕ → ℕ → Bool = λ row. gates_after (leaf_bits c.leaves row) (are.done ++ x ∷ []) in
     let push : (row : ℕ) → bits' row ≡ extended (bits row) x.0 (gate_value (bits row) x.1) = λ row. gates_push (leaf_bits c.leaves row) are.done x in
@@ -222,19 +237,16 @@ gates_more c width keys lanes x rest new_lanes cone are put =
       done = are.done ++ x ∷ [];
       parts = append_assoc are.done (x ∷ []) rest ∙ are.parts;
       keys = ap (λ (ks : List ℕ). ks ++ x.0 ∷ []) are.keys ∙ append_assoc c.leaves (map place_of are.done) (x.0 ∷ []) ∙ ap (λ (ps : List ℕ). c.leaves ++ ps) (sym (map_parts are.done (x ∷ [])));
-      lanes = one_more keys x.0 bits bits' width lanes new_lanes are.lanes
-          (record {
-            size = put.size;
-            here = λ j b low_j low.
-                put.here bits are.lanes j b low_j low
-                ∙ sym (ap (λ (f : ℕ → Bool). f x.0) (push (64 * j + b)) ∙ cond-true (x.0 == x.0) _ _ (eq-eqb x.0 x.0 refl));
-            before = put.before;
-          })
-          (λ row k q at. ap (λ (f : ℕ → Bool). f q) (push row) ∙ cond-false (q == x.0) _ _ (ne_eqb q x.0 (gate_new c width keys lanes x rest cone are k q at)));
+      lanes = one_more keys x.0 bits bits' width rows lanes new_lanes wide are.lanes put.size
+          (λ j b low_j low within.
+          put.here bits rows are.lanes j b low_j low within
+          ∙ sym (ap (λ (f : ℕ → Bool). f x.0) (push (64 * j + b)) ∙ cond-true (x.0 == x.0) _ _ (eq-eqb x.0 x.0 refl)))
+          put.before
+          (λ row k q at. ap (λ (f : ℕ → Bool). f q) (push row) ∙ cond-false (q == x.0) _ _ (ne_eqb q x.0 (gate_new c width rows keys lanes x rest cone are k q at)));
     }
 
-pub all_words : (c : Cone) (width : ℕ) (keys lanes : List ℕ) (w : Words) → AreGatesOf c width keys lanes [] → w.lanes ≡ lanes → w.rows ≡ 2 ^ length c.leaves → width ≡ width_of w.rows → AreWords c w
-all_words c width keys lanes w are lanes_are rows_are width_is =
+pub all_words : (c : Cone) (width rows : ℕ) (keys lanes : List ℕ) (w : Words) → AreGatesOf c width rows keys lanes [] → w.lanes ≡ lanes → w.rows ≡ 2 ^ length c.leaves → width ≡ width_of w.rows → w.rows ≤ rows → AreWords c w
+all_words c width rows keys lanes w are lanes_are rows_are width_is enough =
     let done : are.done ≡ c.gates = sym (append-nil are.done) ∙ are.parts in
     let keys_are : keys ≡ places c = are.keys ∙ ap (λ (gs : List (ℕ × Gate)). c.leaves ++ map place_of gs) done in
     record {
@@ -243,7 +255,7 @@ all_words c width keys lanes w are lanes_are rows_are width_is =
       values = λ k p j b at low within.
           ap (λ (ls : List ℕ). digit (get_or ls (k * width_of w.rows + j) 0) b) lanes_are
           ∙ ap (λ (n : ℕ). digit (get_or lanes (k * n + j) 0) b) (sym width_is)
-          ∙ are.lanes.values k p j b (subst (λ (ks : List ℕ). slice_get ks k ≡ Some p) (sym keys_are) at) low (omega (arith, within, width_is))
+          ∙ are.lanes.values k p j b (subst (λ (ks : List ℕ). slice_get ks k ≡ Some p) (sym keys_are) at) low (omega (arith, within, enough))
           ∙ ap (λ (gs : List (ℕ × Gate)). gates_after (leaf_bits c.leaves (64 * j + b)) gs p) done;
     }
 
@@ -264,17 +276,17 @@ filled old slice start width total at whole is =
 viewed : (xs ys : List ℕ) (n : ℕ) → n ≡ length xs → take n (xs ++ ys) ≡ xs
 viewed xs ys n e = take_at xs ys n (sym e)
 
-pub gate_code : (ps : List ℕ) (g : Gate) (old slice new behind : List ℕ) (start width total : ℕ) (m : Masks) (a b : Operand) → start ≡ length old → length old ≡ length ps * width → total ≡ start + width → slice ≡ take (start + width) old ++ replicate (start + width - start) 0
-    → m ≡ masks_of g.op → IsOperandOf ps width g.a a → IsOperandOf ps width g.b b → IsWritten m a b start width slice new → IsGatePut ps g width old (take total (new ++ behind))
-gate_code ps g old slice new behind start width total m a b at size whole is masks first second written =
+pub row_code : (op : ℕ) (old slice new behind : List ℕ) (start width total : ℕ) (m : Masks) (a b : Operand) → start ≡ length old → total ≡ start + width → slice ≡ take (start + width) old ++ replicate (start + width - start) 0
+    → m ≡ masks_of op → EndsBefore (length old) width a → EndsBefore (length old) width b → IsWritten m a b start width slice new → IsCombinedPut op a b width old (take total (new ++ behind))
+row_code op old slice new behind start width total m a b at whole is masks first second written =
     let full : slice ≡ old ++ replicate width 0 = filled old slice start width total at whole is in
     let long : length (replicate {A = ℕ} width 0) ≡ width = length-replicate {A = ℕ} width 0 in
-    let moved : IsWritten (masks_of g.op) a b (length old) width (old ++ replicate width 0) new =
+    let moved : IsWritten (masks_of op) a b (length old) width (old ++ replicate width 0) new =
     subst (λ (x : Masks). IsWritten x a b (length old) width (old ++ replicate width 0) new) masks
     (subst (λ (k : ℕ). IsWritten m a b k width (old ++ replicate width 0) new) at
     (subst (λ (xs : List ℕ). IsWritten m a b start width xs new) full written)) in
     let count : total ≡ length new = omega (arith, whole, at, moved.size, length-append old (replicate width 0), long) in
-    subst (λ (xs : List ℕ). IsGatePut ps g width old xs) (sym (viewed new behind total count)) (gate_put ps g width old (replicate width 0) new a b size long first second moved)
+    subst (λ (xs : List ℕ). IsCombinedPut op a b width old xs) (sym (viewed new behind total count)) (combined_put op width old (replicate width 0) new a b long first second moved)
 
 pub leaf_code : (right : ℕ → Bool) (old slice new behind : List ℕ) (start width total : ℕ) → start ≡ length old → total ≡ start + width → slice ≡ take (start + width) old ++ replicate (start + width - start) 0
     → IsRow right start width slice new → IsPut right width old (take total (new ++ behind))

@@ -1,3 +1,5 @@
+pub mod Above
+pub mod AboveLaws
 pub mod Checking
 pub mod CheckingLaws
 pub mod Chosen

@@ -8,7 +8,7 @@ use Rattle.net_theory.specs.Net.{gate_value}
 use Rattle.op_basis.specs.declared.words.Masks.{Masks}
 use Rattle.lane_sim.specs.declared.rows.Operand.{Operand}
 use Rattle.lane_sim.specs.declared.rows.Operand.TheVariants as operands
-use Rattle.op_basis.specs.WordOperator.{combined}
+use Rattle.op_basis.specs.WordOperator.{masks_of, combined}
 use Rattle.lane_sim.specs.Combining.{operand_word}
 use Rattle.lane_sim.specs.Cone.{Cone, place_of, leaf_bits, gates_after}
 
@@ -41,10 +41,16 @@ IsOperandOf ps width sigs.Zero o = o ≡ operands.Zero
 IsOperandOf ps width sigs.One o = o ≡ operands.One
 IsOperandOf ps width (sigs.Place p) o = (k : ℕ) × (slice_get ps k ≡ Some p) × (o ≡ operands.Row (k * width))
 
+-- The row that operands combine to was appended.
+pub record IsCombinedPut (op : ℕ) (a b : Operand) (width : ℕ) (old new : List ℕ) : Type 0 where
+  pub size : length new ≡ length old + width
+  pub here : (j : ℕ) → j < width → slice_index_or new (length old + j) 0 ≡ combined (masks_of op) (operand_word old a j) (operand_word old b j)
+  pub before : (k : ℕ) → k < length old → slice_index_or new k 0 ≡ slice_index_or old k 0
+
 -- The row of a gate was appended to the rows of the places `ps`, whatever their bits are.
 pub record IsGatePut (ps : List ℕ) (g : Gate) (width : ℕ) (old new : List ℕ) : Type 0 where
   pub size : length new ≡ length old + width
-  pub here : (bits : ℕ → ℕ → Bool) → AreLanes ps bits width (64 * width) old → (j b : ℕ) → j < width → b < 64 → digit (slice_index_or new (length old + j) 0) b ≡ gate_value (bits (64 * j + b)) g
+  pub here : (bits : ℕ → ℕ → Bool) (rows : ℕ) → AreLanes ps bits width rows old → (j b : ℕ) → j < width → b < 64 → 64 * j + b < rows → digit (slice_index_or new (length old + j) 0) b ≡ gate_value (bits (64 * j + b)) g
   pub before : (k : ℕ) → k < length old → slice_index_or new k 0 ≡ slice_index_or old k 0
 
 -- The first leaves have their rows, and the leaves `left` remain.
@@ -52,9 +58,9 @@ pub record AreLeaves (c : Cone) (width : ℕ) (ks ls left : List ℕ) : Type 0 w
   pub parts : ks ++ left ≡ c.leaves
   pub lanes : AreLanes ks (leaf_bits c.leaves) width (64 * width) ls
 
--- The leaves and the gates that are done have their rows, and the gates `left` remain.
-pub record AreGatesOf (c : Cone) (width : ℕ) (ks ls : List ℕ) (left : List (ℕ × Gate)) : Type 0 where
+-- The leaves and the gates that are done have their rows, under the first `rows` assignments, and the gates `left` remain.
+pub record AreGatesOf (c : Cone) (width rows : ℕ) (ks ls : List ℕ) (left : List (ℕ × Gate)) : Type 0 where
   pub done : List (ℕ × Gate)
   pub parts : done ++ left ≡ c.gates
   pub keys : ks ≡ c.leaves ++ map place_of done
-  pub lanes : AreLanes ks (λ row. gates_after (leaf_bits c.leaves row) done) width (64 * width) ls
+  pub lanes : AreLanes ks (λ row. gates_after (leaf_bits c.leaves row) done) width rows ls

@@ -7,6 +7,7 @@
 //! further signal the bit 1, or those that words name.
 #![tactic(auto)]
 
+mod above;
 mod checking;
 mod choosing;
 mod combining;
@@ -18,6 +19,7 @@ mod showing;
 mod simulation;
 mod words;
 
+pub use above::{Index, copy_words, index_of, simulate_above};
 pub use choosing::{MOST_SIGNALS, patterns, patterns_on, patterns_where};
 pub use cone::{Cone, MOST_LEAVES};
 pub use net_theory::{Gate, Sig};

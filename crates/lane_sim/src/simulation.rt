@@ -1,9 +1,11 @@
 //! The words of a cone's signals: a row for each leaf, and then a row for each gate from the rows of its
 //! operands, which stand before it.
 
-ghost use Rattle.std.specs.Prelude.{◌≡◌, ◌+◌, ◌*◌, ◌≤◌, ◌<◌, ◌^◌, [], length, IfOk, OnOk, vec_len};
+ghost use Rattle.std.specs.Prelude.{◌≡◌, ℕ, ◌+◌, ◌*◌, ◌≤◌, ◌<◌, ◌^◌, List, [], ◌++◌, length, IfOk, OnOk, vec_len};
+ghost use Rattle.lane_sim.specs.declared.rows.Operand.TheVariants as operands;
+ghost use Rattle.lane_sim.specs.Combining.{EndsBefore};
 ghost use Rattle.lane_sim.specs.Cone.{IsSigAmong, IsGateOver};
-ghost use Rattle.lane_sim.specs.Rows.{IsOperandOf, IsGatePut, AreLeaves, AreGatesOf};
+ghost use Rattle.lane_sim.specs.Rows.{IsOperandOf, IsCombinedPut, IsGatePut, AreLeaves, AreGatesOf};
 ghost use Rattle.lane_sim.specs.Words.{AreWords, width_of};
 
 use crate::cone::Cone;
@@ -12,27 +14,50 @@ use crate::rows::{Operand, write_gate};
 use crate::words::{Words, width_of};
 use indexmap::IndexSet;
 use net_theory::{Gate, Sig};
-use op_basis::masks_for;
+use op_basis::{Op, masks_for};
 use std::alloc::{AllocError, Global};
 
 /// For how many signals there is room from the beginning; few cones have more.
 const ROOM: usize = 32;
 
-/// The row of a signal, by the places whose rows there are.
-#[tactic(auto, using(crate::specs::PlaceLaws::found_at))]
-fn operand(places: &IndexSet<u32>, width: usize, sig: Sig) -> Operand
-    requires known { IsSigAmong places.now.keys sig }
-    requires room { length places.now.keys * width < 2 ^ 64 }
-    ensures { IsOperandOf places.now.keys width sig result }
+/// The row that stands behind `k` others.
+fn row_behind(k: usize, width: usize) -> Operand
+    ensures { k * width < 2 ^ 64 → result ≡ operands.Row (k * width) }
+{
+    Operand::Row(k.saturating_mul(width))
+}
+
+/// The row of a signal, by the places whose rows there are. The index may have further places.
+pub(crate) fn operand(places: &IndexSet<u32>, width: usize, sig: Sig) -> Operand
+    ensures { (ps more : List ℕ) → places.now.keys ≡ ps ++ more → length ps * width < 2 ^ 64 → IsSigAmong ps sig → IsOperandOf ps width sig result }
 {
     match sig {
         Sig::Zero => Operand::Zero,
         Sig::One => Operand::One,
         Sig::Place(place) => match places.get_index_of(&place) {
-            Some(k) => Operand::Row(k * width),
+            Some(k) => row_behind(k, width),
             None => Operand::Zero,
         },
     }
+}
+
+/// Appends the row that operands combine to.
+pub(crate) fn push_row(
+    lanes: &mut Vec<u64>,
+    width: usize,
+    op: Op,
+    a: Operand,
+    b: Operand,
+) -> Result<(), AllocError>
+    requires width { width ≤ 64 }
+    requires first { EndsBefore (length lanes.old.items) width a }
+    requires second { EndsBefore (length lanes.old.items) width b }
+    ensures { OnOk result (IsCombinedPut op a b width lanes.old.items lanes.new.items) }
+{
+    let start = lanes.len();
+    lanes.resize(start + width, 0)?;
+    write_gate(lanes, masks_for(op), a, b, start, width);
+    Ok(())
 }
 
 /// Appends the row of a gate.
@@ -47,11 +72,9 @@ fn push_gate(
     requires known { IsGateOver places.now.keys gate }
     ensures { OnOk result (IsGatePut places.now.keys gate width lanes.old.items lanes.new.items) }
 {
-    let start = lanes.len();
     let a = operand(places, width, gate.a);
     let b = operand(places, width, gate.b);
-    lanes.resize(start + width, 0)?;
-    write_gate(lanes, masks_for(gate.op), a, b, start, width);
+    push_row(lanes, width, gate.op, a, b)?;
     Ok(())
 }
 
@@ -64,7 +87,7 @@ fn simulate_gates(
 ) -> Result<(), AllocError>
     requires width { width ≤ 64 }
     requires leaves { AreLeaves cone.now width places.old.keys lanes.old.items [] }
-    ensures { OnOk result (AreGatesOf cone.now width places.new.keys lanes.new.items []) }
+    ensures { OnOk result (AreGatesOf cone.now width (64 * width) places.new.keys lanes.new.items []) }
 {
     let mut left = cone.gates();
     while let Some((first, rest)) = left.split_first() {

@@ -1,0 +1,130 @@
+//! Gates above a cone whose words there are. The cone's rows stay, and those of the gates come behind them, so that other
+//! gates can be simulated above the same cone again and again: a transitive fanout, say, under each number in the place of
+//! what it reads.
+
+ghost use Rattle.std.specs.Prelude.{◌≡◌, ◌*◌, ◌≤◌, ◌^◌, [], ◌++◌, length, map, IfOk, OnOk};
+ghost use Rattle.lane_sim.specs.Above.{with_gates, HasWords, AreDone};
+ghost use Rattle.lane_sim.specs.Cone.{IsCone, AreApart, place_of, places as places_in};
+ghost use Rattle.lane_sim.specs.Words.{AreWords};
+
+use crate::cone::Cone;
+use crate::simulation::{operand, push_row};
+use crate::words::{Words, width_of};
+use indexmap::IndexSet;
+use net_theory::Gate;
+use std::alloc::{AllocError, Global};
+use std::marker::Model;
+
+/// For how many places there is room from the beginning.
+const ROOM: usize = 32;
+
+/// The places of a cone and of gates above it, in order, by which the rows of their words are found.
+#[derive(Drop)]
+pub struct Index {
+    places: IndexSet<u32>,
+}
+
+impl Model for Index {
+    ghost use Rattle.std.specs.Prelude.{ℕ, List};
+
+    ghost Value = { List ℕ };
+
+    ghost view = { λ i. i.places.keys };
+}
+
+/// Notes places that are new.
+fn note(places: &mut IndexSet<u32>, more: &[u32]) -> Result<(), AllocError>
+    requires { AreApart (places.old.keys ++ more.now) }
+    ensures { OnOk result (places.new.keys ≡ places.old.keys ++ more.now) }
+{
+    let mut left = more;
+    while let Some((place, rest)) = left.split_first() {
+        places.insert(*place)?;
+        left = rest;
+    }
+    Ok(())
+}
+
+/// Notes the places of gates, which are new.
+fn note_gates(places: &mut IndexSet<u32>, gates: &[(u32, Gate)]) -> Result<(), AllocError>
+    requires { AreApart (places.old.keys ++ map place_of gates.now) }
+    ensures { OnOk result (places.new.keys ≡ places.old.keys ++ map place_of gates.now) }
+{
+    let mut left = gates;
+    while let Some((first, rest)) = left.split_first() {
+        places.insert(first.0)?;
+        left = rest;
+    }
+    Ok(())
+}
+
+/// The index of a cone's places and of those of gates above it.
+pub fn index_of(alloc: Global, cone: &Cone, above: &[u32]) -> Result<Index, AllocError>
+    requires { AreApart (places_in cone.now ++ above.now) }
+    ensures { IfOk result (λ index. index ≡ places_in cone.now ++ above.now) }
+{
+    let mut places = IndexSet::with_capacity(alloc, ROOM)?;
+    note(&mut places, cone.leaves())?;
+    note_gates(&mut places, cone.gates())?;
+    note(&mut places, above)?;
+    Ok(Index { places })
+}
+
+/// The words again, with room for `more` further ones.
+pub fn copy_words(alloc: Global, words: &Words, more: usize) -> Result<Words, AllocError>
+    ensures { IfOk result (λ copy. copy ≡ words.now) }
+{
+    let mut lanes = Vec::with_capacity(alloc, words.lanes.len().saturating_add(more))?;
+    lanes.extend_from_slice(&words.lanes)?;
+    Ok(Words {
+        lanes,
+        rows: words.rows,
+    })
+}
+
+/// Appends the rows of gates to those below them.
+fn simulate_rest(
+    lanes: &mut Vec<u64>,
+    places: &IndexSet<u32>,
+    width: usize,
+    cone: &Cone,
+    above: &[(u32, Gate)],
+) -> Result<(), AllocError>
+    requires width { width ≤ 64 }
+    requires rows { 2 ^ length cone.now.leaves ≤ 64 * width }
+    requires cone { IsCone (with_gates cone.now above.now) }
+    requires places { places.now.keys ≡ places_in (with_gates cone.now above.now) }
+    requires base { AreDone (with_gates cone.now above.now) width lanes.old.items above.now }
+    ensures { OnOk result (AreDone (with_gates cone.now above.now) width lanes.new.items []) }
+{
+    let mut left = above;
+    while let Some((first, rest)) = left.split_first() {
+        let a = operand(places, width, first.1.a);
+        let b = operand(places, width, first.1.b);
+        push_row(lanes, width, first.1.op, a, b)?;
+        left = rest;
+    }
+    Ok(())
+}
+
+/// Simulates gates above a cone whose words there are: the cone's rows stay, and the rows of `above` come in the place of
+/// all that stood behind them. The places of the index are those of the cone and then those of `above`.
+pub fn simulate_above(
+    words: &mut Words,
+    index: &Index,
+    cone: &Cone,
+    above: &[(u32, Gate)],
+) -> Result<(), AllocError>
+    requires cone { IsCone (with_gates cone.now above.now) }
+    requires index { index.now ≡ places_in (with_gates cone.now above.now) }
+    requires words { HasWords cone.now words.old }
+    ensures words { OnOk result (AreWords (with_gates cone.now above.now) words.new) }
+    ensures below { OnOk result (HasWords cone.now words.new) }
+{
+    let _gates = cone.gates(); // says that the cone is one
+    let width = width_of(words.rows);
+    let start = (cone.leaves().len() + cone.gates().len()) * width;
+    words.lanes.truncate(start);
+    simulate_rest(&mut words.lanes, &index.places, width, cone, above)?;
+    Ok(())
+}
