@@ -6,7 +6,7 @@
 //!
 //! Its decisions are free: the invariants of a search hold whatever variable without a value is
 //! decided. A probe leaves the trail standing, and the next step of the search goes down first.
-ghost use Rattle.std.specs.Prelude.{◌≡◌, ℕ, ◌+◌, ◌<◌, ◌≤◌, [], length, IsFalse, IfOk, IfSome, IfNone};
+ghost use Rattle.std.specs.Prelude.{◌≡◌, ◌+◌, ◌<◌, ◌≤◌, [], length, IsFalse, IfOk, IfSome, IfNone};
 ghost use Rattle.sat_theory.specs.Formula.{Formula, IsWithin};
 ghost use Rattle.cdcl_theory.specs.Falling.{AllSettled};
 ghost use Rattle.cdcl_theory.specs.Trails.{fell as fell_of};

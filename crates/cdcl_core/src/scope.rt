@@ -1,7 +1,7 @@
 //! The open variables of a probe: those that it decides, after its targets. A target is open, and
 //! where an open variable has a value, the variables that it is made of are opened too (the lazy
-//! cone of a gate). Of those without a value one of greatest rank is decided first: the nearest to
-//! the targets, where ranks are levels. So a probe leaves all else to propagation.
+//! cone of a gate). Of those without a value one of greatest rank is decided first: the last gate of
+//! them, where each ranks above those that it is made of. So a probe leaves all else to propagation.
 //!
 //! A probe works within bounds: the literals that it looks through on the trail and the hints of what
 //! it learns are counted, since few conflicts that are far from the targets may cost as much as many.

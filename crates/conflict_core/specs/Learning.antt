@@ -3,8 +3,8 @@ use Rattle.std.specs.Prelude.{◌≡◌, ◌≢◌, ℕ, ◌+◌, ◌<◌, ◌�
 use Rattle.std.specs.List.{swap}
 use Rattle.sat_theory.specs.Formula.{IsClause, IsWithin}
 use Rattle.sat_theory.specs.Holding.{among, HintsHold}
-use Rattle.cdcl_theory.specs.Falling.{IsFallen, IsUnitUnder}
-use Rattle.cdcl_theory.specs.Trails.{Trailed, fell, HasReason}
+use Rattle.cdcl_theory.specs.Falling.{IsFallen, IsClosed, IsFalsified, IsUnitUnder}
+use Rattle.cdcl_theory.specs.Trails.{Trailed, fell, HasReason, IsExplained}
 use Rattle.conflict_core.specs.declared.analysis.Analysis.{Analysis}
 use Rattle.conflict_core.specs.declared.walk.Walk.{Walk}
 use Rattle.conflict_core.specs.Walking.{IsClear, IsWalk}
@@ -22,6 +22,15 @@ pub record IsReady (vars : ℕ) (a : Analysis) : Type 0 where
 -- each literal from a trail index on has its reason
 abbrev pub HaveReasons : (ℕ → Option (List ℤ)) → Trailed → ℕ → Type 0
 HaveReasons live t from = (p : ℕ) → from ≤ p → p < length t.lits → HasReason live t p
+
+-- a clause that is falsified in the level that begins at trail index `start`, with all that a walk
+-- back over this level reads
+pub record IsConflict (live : ℕ → Option (List ℤ)) (t : Trailed) (start conflict : ℕ) : Type 0 where
+  pub level : start < length t.lits
+  pub closed : IsClosed live (fell t) start
+  pub reasons : HaveReasons live t (start + 1)
+  pub explained : IsExplained live t
+  pub falsified : IsFalsified live (fell t) conflict
 
 -- the asserting literal of a learnt clause, which fell last
 abbrev pub asserting : List ℤ → ℤ

@@ -10,7 +10,7 @@ ghost use Rattle.cdcl_theory.specs.Falling.{IsClosed, IsFalsified};
 ghost use Rattle.cdcl_theory.specs.Trails.{IsExplained, fell as fell_of};
 ghost use Rattle.clause_db.specs.Stored.{live_in};
 ghost use Rattle.conflict_core.specs.Walking.{HasRoom, HasFallenAt, OnlyBelow};
-ghost use Rattle.conflict_core.specs.Learning.{IsReady, IsWalkOf, HaveReasons, IsRaised, IsLearnt};
+ghost use Rattle.conflict_core.specs.Learning.{IsReady, IsWalkOf, HaveReasons, IsConflict, IsRaised, IsLearnt};
 
 use crate::Learnt;
 use crate::redundancy::Redundancy;
@@ -93,11 +93,7 @@ impl Analysis {
     ) -> Result<Learnt, AllocError>
         requires ready { IsReady trail.now.vars self.old }
         requires vars { clauses.now.vars ≡ trail.now.vars }
-        requires level { start < length trail.now.lits }
-        requires closed { IsClosed (live_in clauses.now) (fell_of trail.now) start }
-        requires reasons { HaveReasons (live_in clauses.now) trail.now (start + 1) }
-        requires explained { IsExplained (live_in clauses.now) trail.now }
-        requires conflict { IsFalsified (live_in clauses.now) (fell_of trail.now) conflict }
+        requires conflict { IsConflict (live_in clauses.now) trail.now start conflict }
         ensures learnt { IfOk result (λ l. IsLearnt (live_in clauses.now) trail.now start l.lits.items l.back l.hints.items) }
         ensures ready { OnOk result (IsReady trail.now.vars self.new) }
         ensures marks { length self.new.walk.marks ≡ length self.old.walk.marks }

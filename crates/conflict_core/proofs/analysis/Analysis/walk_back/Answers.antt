@@ -9,7 +9,7 @@ use Rattle.conflict_core.proofs.Raising.{raised_all, raised_fallen, raised_other
 use Rattle.conflict_core.proofs.analysis.Analysis.walk_back.Goals as goal
 
 pub reduce-requires-clause-some : goal.reduce-requires-clause-some
-reduce-requires-clause-some c = conflict_in_level (live_in c.args.clauses.now) c.args.trail.now c.args.start c.args.conflict c.begin.new.self.marks c.requires.explained.whole c.requires.level c.requires.closed c.requires.conflict c.in_ok-begin.ensures.marked
+reduce-requires-clause-some c = conflict_in_level (live_in c.args.clauses.now) c.args.trail.now c.args.start c.args.conflict c.begin.new.self.marks c.requires.conflict.explained.whole c.requires.conflict.level c.requires.conflict.closed c.requires.conflict.falsified c.in_ok-begin.ensures.marked
 
 pub returns-clause-learnt : goal.returns-clause-learnt
 returns-clause-learnt c =
@@ -19,7 +19,7 @@ returns-clause-learnt c =
     let reduced = c.reduce.new.self in
     let minimised = c.minimise.new.self.walk in
     let walk = c.shorten.new.self in
-    let walked = c.in_ok-shorten.ensures.walk t c.requires.explained.whole c.in_ok-minimise.ensures.walk in
+    let walked = c.in_ok-shorten.ensures.walk t c.requires.conflict.explained.whole c.in_ok-minimise.ensures.walk in
     let back = c.last_fallen-back.result in
     let old = c.take_others.new.others.items in
     let lower = c.raise.new.lits.items in
@@ -28,10 +28,10 @@ returns-clause-learnt c =
     let there = subst (λ (xs : List ℤ). 0 < back → HasFallenAt places xs back) c.deref.ensures.value c.last_fallen-back.ensures.there in
     let raised = raised_others places t.vars back walk.marks first old lower c.raise.ensures c.in_ok-first.ensures.others in
     let alone = alone_less t c.args.start reduced.marks minimised.marks first
-    (alone_left (live_in c.args.clauses.now) t c.args.start c.in_ok-top.top first reduced.marks reduced.touched.items reduced.hints.items c.requires.explained.whole at c.in_ok-top.ensures.walk c.in_ok-top.ensures.last c.in_ok-top.ensures.alone)
+    (alone_left (live_in c.args.clauses.now) t c.args.start c.in_ok-top.top first reduced.marks reduced.touched.items reduced.hints.items c.requires.conflict.explained.whole at c.in_ok-top.ensures.walk c.in_ok-top.ensures.last c.in_ok-top.ensures.alone)
     c.in_ok-minimise.ensures.below in
     walk_learnt (live_in c.args.clauses.now) t c.args.start c.in_ok-top.top back first walk.marks walk.touched.items lower c.in_ok-lits.lits.items walk.hints.items c.in_ok-hints.hints.items
-    c.requires.explained.whole c.in_ok-top.ensures.last.after c.in_ok-top.ensures.last.before at c.in_ok-first.ensures.over walked (λ m is. alone m (c.in_ok-shorten.ensures.fewer m is)) raised
+    c.requires.conflict.explained.whole c.in_ok-top.ensures.last.after c.in_ok-top.ensures.last.before at c.in_ok-first.ensures.over walked (λ m is. alone m (c.in_ok-shorten.ensures.fewer m is)) raised
     (raised_all places back old lower (λ m. places m ≤ back) c.raise.ensures low)
     (λ some. raised_fallen places back old lower c.raise.ensures (there some))
     (λ d some. raised_head places back old lower d c.raise.ensures (λ k e within. (walked.resolvent.below (slice_index_or lower k e) (raised.inside k e within).0).0) low there some)
@@ -41,7 +41,7 @@ returns-clause-learnt c =
 pub returns-clause-ready : goal.returns-clause-ready
 returns-clause-ready c =
     let t = c.args.trail.now in
-    let over = (c.in_ok-shorten.ensures.walk t c.requires.explained.whole c.in_ok-minimise.ensures.walk).listed.over in
+    let over = (c.in_ok-shorten.ensures.walk t c.requires.conflict.explained.whole c.in_ok-minimise.ensures.walk).listed.over in
     let within : IsWithin t.vars c.shorten.new.self.touched.items = λ k d low. (over k d low).1 in
     let left : IsWithin t.vars c.take_others.new.self.touched.items = subst (λ h. IsWithin t.vars h.items) (sym c.take_others.ensures.touched) within in
     record {
