@@ -13,6 +13,9 @@ use enc_theory::Part;
 use log_core::write_log;
 use std::alloc::AllocError;
 
+/// The room that a section's text has at first; most of those of a few steps fit in.
+const SHORT: usize = 1000;
+
 /// Appends the title of a part: the sizes of the levels of a fence, and nothing for the whole.
 #[tactic(auto, unfolding(cert_theory::specs::Spelling::title_lines))]
 fn push_title(text: &mut Vec<u8>, part: &Part) -> Result<(), AllocError>
@@ -85,7 +88,7 @@ pub fn write_section(section: &Section, out: &mut Vec<u8>) -> Result<(), AllocEr
     ensures ok { OnOk result (out.new.items ≡ out.old.items ++ spelling.text_of (spelling.section_lines section.now)) }
     ensures err { OnErr result (out.new.items ≡ out.old.items) }
 {
-    let mut text = Vec::new(*out.allocator());
+    let mut text = Vec::with_capacity(*out.allocator(), SHORT)?;
     push_section(&mut text, section)?;
     out.extend_from_slice(&text)
 }

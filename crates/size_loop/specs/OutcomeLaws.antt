@@ -1,17 +1,17 @@
 -- The logs of parts, one part after the other, and chains found without a formula.
-use Rattle.std.proofs.Common.{◌≡◌, ℕ, ◌≤◌, List, [], ◌∷◌, ◌++◌, length, map, refl, ap, ◌∙◌}
+use Rattle.std.proofs.Common.{◌≡◌, ℕ, ◌≤◌, List, [], ◌∷◌, ◌++◌, length, map, Option, Some, None, refl, ap, ◌∙◌, subst, arith}
 use Rattle.std.proofs.lemmas.Grind.{common_steps}
 use Rattle.std.proofs.lemmas.List.{map-append}
 use Rattle.std.proofs.lemmas.List.Elements.{All-nil, All-push}
 use Rattle.chain_theory.specs.Chain.{Chain}
 use Rattle.tt_core.specs.Words.{specification}
 use Rattle.op_basis.specs.Basis.{members}
-use Rattle.step_core.specs.Short.{IsShort}
+use Rattle.step_core.specs.Short.{IsShort, IsAnswer}
 use Rattle.enc_theory.specs.declared.part.Part.{Part}
 use Rattle.cert_theory.specs.declared.data.Heading.{Heading}
-use Rattle.cert_theory.specs.Bundle.{PartLog, IsPartLog, part_of, IsFound}
+use Rattle.cert_theory.specs.Bundle.{PartLog, IsPartLog, part_of, IsFound, IsEnding, found as found_at}
 use Rattle.size_loop.specs.Thrift.{IsThriftyLog}
-use Rattle.size_loop.specs.Outcomes.{AreLogged}
+use Rattle.size_loop.specs.Outcomes.{AreLogged, IsWalked, HasSize}
 
 -- without parts there are no logs
 pub logged_none : (h : Heading) (size : ℕ) → AreLogged h size [] []
@@ -35,4 +35,14 @@ logged_more h size parts logs part p are same is thrifty = record {
 pub found_short : (h : Heading) (size : ℕ) (c : Chain) → IsShort (specification h.spec) (members h.basis) size c → length c.steps ≡ size → size ≤ h.max → IsFound h size c
 found_short h size c short count room = record { chain = short.small.chain; size_is = count; size_to = room; over = short.over; agrees = short.agrees }
 
-pub ruleset walking = (common_steps, found_short)
+-- whatever going over few steps comes to is kept
+pub walked_few : (h : Heading) (most : ℕ) (found : Option Chain) → IsAnswer (specification h.spec) (members h.basis) most found → most ≤ h.max → IsWalked h found
+walked_few h most None answer room = tt
+walked_few h most (Some c) short room = record { chain = short.small.chain; size_is = refl; size_to = omega (arith, short.few, room); over = short.over; agrees = short.agrees }
+
+-- and ends the search where its size comes
+pub walked_ending : (h : Heading) (next : ℕ) (low : Option ℕ) (found : Option Chain) → IsWalked h found → HasSize next found → IsEnding h next low found (found_at next low)
+walked_ending h next low None is has = absurd has
+walked_ending h next low (Some c) is has = (subst (λ (n : ℕ). IsFound h n c) has is, refl)
+
+pub ruleset walking = (common_steps, found_short, walked_few, walked_ending)

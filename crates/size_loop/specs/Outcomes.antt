@@ -1,5 +1,6 @@
 -- What a part and a size come to.
-use Rattle.std.specs.Prelude.{◌≡◌, ℕ, List, map, All}
+use Rattle.std.specs.Prelude.{◌≡◌, ℕ, List, length, map, All, Option, Some, None}
+use Rattle.chain_theory.specs.Chain.{Chain}
 use Rattle.enc_theory.specs.declared.part.Part.{Part}
 use Rattle.enc_theory.specs.Parts.{FitsPart}
 use Rattle.cert_theory.specs.declared.data.Heading.{Heading}
@@ -25,3 +26,13 @@ pub record AreLogged (h : Heading) (size : ℕ) (parts : List Part) (logs : List
 abbrev pub IsSized : Heading → ℕ → SizeOutcome → Type 0
 IsSized h size (sizes.Found c) = IsFound h size c
 IsSized h size (sizes.Logged s) = IsSection h size s × IsThriftySection h s
+
+-- the chain that going over few steps came to, if any: it agrees, and its size is one of those that are searched
+abbrev pub IsWalked : Heading → Option Chain → Type 0
+IsWalked h None = Unit {0}
+IsWalked h (Some c) = IsFound h (length c.steps) c
+
+-- there is a chain, and it has so many steps
+abbrev pub HasSize : ℕ → Option Chain → Type 0
+HasSize size None = ⊥
+HasSize size (Some c) = length c.steps ≡ size

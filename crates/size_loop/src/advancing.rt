@@ -1,13 +1,15 @@
 //! A search as a value that goes on a size at a time. The contract of a step is enough to build a certificate of
-//! all steps (`specs/SearchedLaws.antt`), whether the caller keeps the sections or writes and drops them.
-ghost use Rattle.std.specs.Prelude.{◌≡◌, ◌≤◌, None, IfOk};
+//! all steps (`specs/SearchedLaws.antt`), whether the caller keeps the sections or writes and drops them. Before the
+//! first size it goes over chains of few steps once, and keeps the least one for when its size comes.
+ghost use Rattle.std.specs.Prelude.{◌≡◌, ◌≤◌, None, IsTrue, IfOk};
 ghost use Rattle.settings.specs.Synth.{IsInRange};
-ghost use Rattle.cert_theory.specs.Bundle.{IsSection, IsEnding};
+ghost use Rattle.cert_theory.specs.Bundle.{IsHeading, IsSection, IsEnding};
 ghost use Rattle.size_loop.specs.Advancing.{IfSection, IfEnded, behind, open_with};
 ghost use Rattle.size_loop.specs.Thrift.{IsThriftySection};
 ghost use Rattle.size_loop.specs.State.{IsState};
+ghost use Rattle.size_loop.specs.Outcomes.{IsWalked, HasSize};
 
-use crate::sizes::{SizeOutcome, search_size};
+use crate::sizes::{SizeOutcome, search_formulas, walked};
 use bundle_core::{Heading, Section, Verdict};
 use chain_core::Chain;
 use op_basis::Basis;
@@ -23,16 +25,19 @@ pub struct Search {
     heading: Heading,
     next: u32,
     low: Option<u32>,
+    // the chain that going over few steps came to, from the first size on
+    walked: Option<Chain>,
 }
 
 impl Model for Search {
     ghost use Rattle.size_loop.specs.State.{State, IsState};
+    ghost use Rattle.size_loop.specs.Outcomes.{IsWalked};
 
     ghost Value = { State };
 
     ghost view = { λ s. record { heading = s.heading; next = s.next; low = s.low } };
 
-    ghost invariant = { λ s. IsState (record { heading = s.heading; next = s.next; low = s.low }) };
+    ghost invariant = { λ s. IsState (record { heading = s.heading; next = s.next; low = s.low }) × IsWalked s.heading s.walked };
 }
 
 /// What the next size comes to.
@@ -50,6 +55,7 @@ pub enum Advance {
     },
 }
 
+#[tactic(auto, using(crate::specs::OutcomeLaws::walking))]
 impl Search {
     /// A search for a chain over the basis that implements the tables, from size 0 on. `max` is the greatest
     /// size, and `budget` is how many clauses at least the solver learns before it leaves a formula open. The
@@ -74,6 +80,7 @@ impl Search {
             },
             next: 0,
             low: None,
+            walked: None,
         }
     }
 
@@ -85,14 +92,26 @@ impl Search {
         ensures rest { IfOk result (λ step. IfSection step (λ rest section. rest ≡ behind self section)) }
         ensures ending { IfOk result (λ step. IfEnded step (λ chain verdict. IsEnding self.heading self.next self.low chain verdict)) }
     {
-        let Search { heading, next, low } = self;
+        let Search {
+            heading,
+            next,
+            low,
+            walked,
+        } = self;
         if next > heading.max {
             return Ok(Advance::Ended {
                 chain: None,
                 verdict: Verdict::not_found(heading.max, low),
             });
         }
-        match search_size::<S>(alloc, &heading, next)? {
+        let walked = walked_from(alloc, &heading, next, walked)?;
+        if has_size(&walked, next) {
+            return Ok(Advance::Ended {
+                chain: walked,
+                verdict: Verdict::found(next, low),
+            });
+        }
+        match search_formulas::<S>(alloc, &heading, next)? {
             SizeOutcome::Found(chain) => Ok(Advance::Ended {
                 chain: Some(chain),
                 verdict: Verdict::found(next, low),
@@ -102,10 +121,38 @@ impl Search {
                     heading,
                     next: next + 1,
                     low: first_open(low, &section),
+                    walked,
                 };
                 Ok(Advance::Section { rest, section })
             }
         }
+    }
+}
+
+/// The chain of few steps: before the first size steps are gone over, and afterwards it is there.
+fn walked_from(
+    alloc: Global,
+    heading: &Heading,
+    next: u32,
+    before: Option<Chain>,
+) -> Result<Option<Chain>, AllocError>
+    requires heading { IsHeading heading.now }
+    requires before { IsWalked heading.now before }
+    ensures { IfOk result (λ found. IsWalked heading.now found) }
+{
+    if next > 0 {
+        return Ok(before);
+    }
+    walked(alloc, heading)
+}
+
+/// Whether there is a chain, and it has so many steps.
+fn has_size(chain: &Option<Chain>, size: u32) -> bool
+    ensures { IsTrue result → HasSize size chain.now }
+{
+    match chain {
+        Some(chain) => chain.steps().len() == size as usize,
+        None => false,
     }
 }
 

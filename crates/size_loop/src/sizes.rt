@@ -4,7 +4,7 @@
 ghost use Rattle.std.specs.Prelude.{◌≤◌, IfOk, IfSome};
 ghost use Rattle.cert_theory.specs.Bundle.{IsHeading, IsFound};
 ghost use Rattle.cert_theory.specs.Coding.{coding_of};
-ghost use Rattle.size_loop.specs.Outcomes.{IsSized};
+ghost use Rattle.size_loop.specs.Outcomes.{IsSized, IsWalked};
 ghost use Rattle.size_loop.specs.Coded.{IsCodedBy};
 
 use crate::trying::{PartOutcome, try_part};
@@ -33,6 +33,23 @@ pub enum SizeOutcome {
     Logged(Section),
 }
 
+/// A chain of the fewest steps, where these are few and going over them comes to it.
+#[tactic(auto, using(crate::specs::OutcomeLaws::walking))]
+pub(crate) fn walked(alloc: Global, heading: &Heading) -> Result<Option<Chain>, AllocError>
+    requires { IsHeading heading.now }
+    ensures { IfOk result (λ found. IsWalked heading.now found) }
+{
+    if heading.spec.n() > WALKED_INPUTS {
+        return Ok(None);
+    }
+    few_steps(
+        alloc,
+        &heading.spec,
+        heading.basis,
+        WALKED_STEPS.min(heading.max),
+    )
+}
+
 /// A chain of `size` steps, where steps are few and going over them comes to one of that size.
 #[tactic(auto, using(crate::specs::OutcomeLaws::walking))]
 fn walked_chain(alloc: Global, heading: &Heading, size: u32) -> Result<Option<Chain>, AllocError>
@@ -51,7 +68,6 @@ fn walked_chain(alloc: Global, heading: &Heading, size: u32) -> Result<Option<Ch
 
 /// Searches `size`: by going over steps where they are few, then its parts in their order with the solver `S`, by the
 /// encoding of the heading's method.
-#[tactic(auto, unfolding(cert_theory::specs::Coding::coding_of))]
 pub fn search_size<S: Solver>(
     alloc: Global,
     heading: &Heading,
@@ -64,6 +80,20 @@ pub fn search_size<S: Solver>(
     if let Some(chain) = walked_chain(alloc, heading, size)? {
         return Ok(SizeOutcome::Found(chain));
     }
+    search_formulas::<S>(alloc, heading, size)
+}
+
+/// Searches the parts of `size` in their order with the solver `S`, by the encoding of the heading's method.
+#[tactic(auto, unfolding(cert_theory::specs::Coding::coding_of))]
+pub(crate) fn search_formulas<S: Solver>(
+    alloc: Global,
+    heading: &Heading,
+    size: u32,
+) -> Result<SizeOutcome, AllocError>
+    requires heading { IsHeading heading.now }
+    requires size { size ≤ heading.now.max }
+    ensures { IfOk result (λ outcome. IsSized heading.now size outcome) }
+{
     match heading.method {
         Method::Plain => search_parts::<S, _>(alloc, &Plain, heading, size),
         Method::Ssv => search_parts::<S, _>(alloc, &Ssv, heading, size),
