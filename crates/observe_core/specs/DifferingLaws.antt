@@ -8,6 +8,7 @@ use Rattle.std.proofs.lemmas.Nat.{one_shl}
 use Rattle.chain_theory.specs.Operator.{digit}
 use Rattle.net_theory.specs.declared.data.Gate.{Gate}
 use Rattle.net_theory.specs.Net.{Net, IsNet}
+use Rattle.lane_sim.specs.Above.{with_gates}
 use Rattle.lane_sim.specs.Combining.{differ}
 use Rattle.lane_sim.specs.Cone.{Cone, IsCone, places, value_in}
 use Rattle.lane_sim.specs.ConeLaws.{cone_leaf}
@@ -22,8 +23,8 @@ use Rattle.window_theory.specs.Rows.{has_row}
 use Rattle.window_core.specs.Surrounding.{gate_places}
 use Rattle.window_core.specs.ConeLaws.{among_get, get_among, rising_apart}
 use Rattle.window_core.specs.SurroundingLaws.{among_left}
-use Rattle.observe_core.specs.Putting.{IsAbove, IsPutCone}
-use Rattle.observe_core.specs.PuttingLaws.{put_values, all_places}
+use Rattle.observe_core.specs.Putting.{ArePutGates, IsAbove, IsPutCone}
+use Rattle.observe_core.specs.PuttingLaws.{put_values, put_is_cone, all_places}
 use Rattle.observe_core.specs.Differing.{bit_in, IsAdded, RowsDiffer, AreAdded, put_bits, IsTold, ArePutWords, AreTold, AreTelling}
 
 -- ---- bits
@@ -145,6 +146,15 @@ some_bits leaves outputs row bits rising_l few_l rising_o few_o beside =
         } in
         let place : length ps - 1 - i ≡ length ps - (i + 1) = omega arith in
         cone_leaf (bare ps) r i (slice_index_or ps i 0) cone (slice_get-get_or ps i 0 low) ∙ ap (digit r) place
+
+-- Words of a surround with gates that were put above it.
+pub put_words : (n : Net) (outputs : List ℕ) (bits : ℕ) (s : Cone) (tail : List ℕ) (put : List (ℕ × Gate)) (w : Words) → IsNet n → IsCone s → IsAbove n outputs s tail → ArePutGates n outputs bits tail put → AreWords (with_gates s put) w → ArePutWords n outputs bits s tail w
+put_words n outputs bits s tail put w net cone above gates are =
+    record {
+      cone = with_gates s put;
+      is = record { leaves = refl; put = put; gates = refl; put_are = gates; cone = put_is_cone n outputs bits s tail put net cone above gates };
+      are = are;
+    }
 
 -- Adding a number that was put.
 pub told_more : (n : Net) (outputs : List ℕ) (bits : ℕ) (s c : Cone) (tail watchers : List ℕ) (none w : Words) (start : ℕ) (old new : List ℕ) → IsNet n → IsAbove n outputs s tail → length outputs ≤ 12 → ArePutWords n outputs 0 s tail none → IsPutCone n outputs bits s tail c → AreWords c w → start ≡ length (places s) → length old ≡ width_of (2 ^ length s.leaves) → ((p : ℕ) → among watchers p ≡ true → among tail p ≡ true)

@@ -1,15 +1,17 @@
 //! The assignments of a surround's leaves under which forcing the window's outputs changes a watcher, an output of the TFO
-//! window (observability): the tail is simulated with each number in place of the outputs, and the watchers' words are
-//! compared with those for the number 0.
+//! window (observability): the surround is simulated once, and the tail above it with each number in place of the outputs,
+//! and the watchers' words are compared with those for the number 0.
 
-ghost use Rattle.std.specs.Prelude.{◌≡◌, ℕ, ◌+◌, ◌*◌, ◌≤◌, ◌<◌, ◌^◌, true, length, slice_index_or, slice_set, bit_or, bit_xor, IfOk, OnOk};
-ghost use Rattle.lane_sim.specs.Words.{width_of};
+ghost use Rattle.std.specs.Prelude.{◌≡◌, ℕ, ◌+◌, ◌*◌, ◌≤◌, ◌<◌, ◌^◌, ◌++◌, true, length, slice_index_or, slice_set, bit_or, bit_xor, IfOk, OnOk};
+ghost use Rattle.lane_sim.specs.Above.{HasWords};
+ghost use Rattle.lane_sim.specs.Cone.{places};
+ghost use Rattle.lane_sim.specs.Words.{AreWords, width_of};
 ghost use Rattle.window_theory.specs.Places.{among};
 ghost use Rattle.observe_core.specs.Differing.{IsAdded, AreAdded, ArePutWords, AreTold, AreTelling};
 ghost use Rattle.observe_core.specs.Putting.{IsAbove};
 
-use crate::putting::put_cone;
-use lane_sim::{Cone, Words, cone_words, lanes_of};
+use crate::putting::put_gates;
+use lane_sim::{Cone, Index, Words, copy_words, index_of, lanes_of, simulate_above};
 use std::alloc::{AllocError, Global};
 use window_core::{Net, has};
 
@@ -59,7 +61,8 @@ fn add_watchers(
     }
 }
 
-/// The words of the cone of a tail with the outputs forced to `bits`.
+/// The words of the cone of a tail with the outputs forced to `bits`, in the place of those with other bits: the rows of
+/// the surround stay.
 fn put_words(
     alloc: Global,
     net: &Net,
@@ -67,13 +70,21 @@ fn put_words(
     bits: u32,
     surround: &Cone,
     tail: &[u32],
-) -> Result<Words, AllocError>
+    index: &Index,
+    words: &mut Words,
+) -> Result<(), AllocError>
     requires few { length outputs.now ≤ 8 }
     requires above { IsAbove net.now outputs.now surround.now tail.now }
-    ensures { IfOk result (λ words. ArePutWords net.now outputs.now bits surround.now tail.now words) }
+    requires index { index.now ≡ places surround.now ++ tail.now }
+    requires words { HasWords surround.now words.old }
+    ensures put { OnOk result (ArePutWords net.now outputs.now bits surround.now tail.now words.new) }
+    ensures below { OnOk result (HasWords surround.now words.new) }
 {
-    let cone = put_cone(alloc, net, outputs, bits, surround, tail)?;
-    cone_words(alloc, &cone)
+    let _sources = net.sources(); // brings the type invariant into the proof
+    let _leaves = surround.leaves(); // says that the surround is a cone
+    let gates = put_gates(alloc, net, outputs, bits, tail)?;
+    simulate_above(words, index, surround, &gates)?;
+    Ok(())
 }
 
 /// ORs in the assignments that distinguish the output value `bits` from 0.
@@ -85,25 +96,30 @@ fn add_bits(
     surround: &Cone,
     tail: &[u32],
     watchers: &[u32],
+    index: &Index,
     zero: &Words,
+    words: &mut Words,
     differ: &mut [u64],
 ) -> Result<(), AllocError>
     requires few { length outputs.now ≤ 8 }
     requires above { IsAbove net.now outputs.now surround.now tail.now }
+    requires index { index.now ≡ places surround.now ++ tail.now }
     requires zero { ArePutWords net.now outputs.now 0 surround.now tail.now zero.now }
+    requires words { HasWords surround.now words.old }
     requires size { length differ.old ≡ width_of (2 ^ length surround.now.leaves) }
     requires watchers { (p : ℕ) → among watchers.now p ≡ true → among tail.now p ≡ true }
     requires told { AreTold net.now outputs.now surround.now watchers.now bits differ.old }
     ensures told { OnOk result (AreTold net.now outputs.now surround.now watchers.now (bits + 1) differ.new) }
     ensures size { length differ.new ≡ length differ.old }
+    ensures words { OnOk result (HasWords surround.now words.new) }
 {
     let _sources = net.sources(); // brings the type invariant into the proof
-    let words = put_words(alloc, net, outputs, bits, surround, tail)?;
+    put_words(alloc, net, outputs, bits, surround, tail, index, words)?;
     let start = surround.leaves().len() + surround.gates().len();
     add_watchers(
         differ,
         lanes_of(zero),
-        lanes_of(&words),
+        lanes_of(words),
         start,
         tail,
         watchers,
@@ -119,12 +135,16 @@ fn add_all_bits(
     surround: &Cone,
     tail: &[u32],
     watchers: &[u32],
+    index: &Index,
     zero: &Words,
+    words: &mut Words,
     differ: &mut [u64],
 ) -> Result<(), AllocError>
     requires few { length outputs.now ≤ 8 }
     requires above { IsAbove net.now outputs.now surround.now tail.now }
+    requires index { index.now ≡ places surround.now ++ tail.now }
     requires zero { ArePutWords net.now outputs.now 0 surround.now tail.now zero.now }
+    requires words { HasWords surround.now words.old }
     requires size { length differ.old ≡ width_of (2 ^ length surround.now.leaves) }
     requires watchers { (p : ℕ) → among watchers.now p ≡ true → among tail.now p ≡ true }
     requires told { AreTold net.now outputs.now surround.now watchers.now 1 differ.old }
@@ -133,29 +153,58 @@ fn add_all_bits(
 {
     for bits in 1..(1u32 << outputs.len()) {
         add_bits(
-            alloc, net, outputs, bits, surround, tail, watchers, zero, differ,
+            alloc, net, outputs, bits, surround, tail, watchers, index, zero, words, differ,
         )?;
     }
     Ok(())
 }
 
+/// The words of the cone of a tail with the outputs forced to 0, from those of its surround.
+fn zero_words(
+    alloc: Global,
+    net: &Net,
+    outputs: &[u32],
+    surround: &Cone,
+    words: &Words,
+    tail: &[u32],
+    index: &Index,
+) -> Result<Words, AllocError>
+    requires few { length outputs.now ≤ 8 }
+    requires above { IsAbove net.now outputs.now surround.now tail.now }
+    requires index { index.now ≡ places surround.now ++ tail.now }
+    requires words { AreWords surround.now words.now }
+    ensures put { IfOk result (λ zero. ArePutWords net.now outputs.now 0 surround.now tail.now zero) }
+    ensures below { IfOk result (λ zero. HasWords surround.now zero) }
+{
+    let more = lanes_of(words).len();
+    let mut zero = copy_words(alloc, words, more)?;
+    put_words(alloc, net, outputs, 0, surround, tail, index, &mut zero)?;
+    Ok(zero)
+}
+
 /// The assignments of the surround's leaves that distinguish some value of the outputs from another, as the bits of words.
+/// The surround's words are handed in: it isn't simulated again.
 pub(crate) fn telling(
     alloc: Global,
     net: &Net,
     outputs: &[u32],
     surround: &Cone,
+    words: &Words,
     tail: &[u32],
     watchers: &[u32],
 ) -> Result<Vec<u64>, AllocError>
     requires few { length outputs.now ≤ 8 }
     requires above { IsAbove net.now outputs.now surround.now tail.now }
+    requires words { AreWords surround.now words.now }
     requires watchers { (p : ℕ) → among watchers.now p ≡ true → among tail.now p ≡ true }
     ensures size { IfOk result (λ differ. length differ.items ≡ width_of (2 ^ length surround.now.leaves)) }
     ensures telling { IfOk result (λ differ. AreTelling net.now surround.now.leaves outputs.now watchers.now differ.items) }
 {
     let _sources = net.sources(); // brings the type invariant into the proof
-    let zero = put_words(alloc, net, outputs, 0, surround, tail)?;
+    let _leaves = surround.leaves(); // says that the surround is a cone
+    let index = index_of(alloc, surround, tail)?;
+    let zero = zero_words(alloc, net, outputs, surround, words, tail, &index)?;
+    let mut other = copy_words(alloc, &zero, 0)?;
     let rows = 1usize << surround.leaves().len();
     let mut differ = vec![in alloc; 0u64; (rows + 63) / 64]?;
     add_all_bits(
@@ -165,7 +214,9 @@ pub(crate) fn telling(
         surround,
         tail,
         watchers,
+        &index,
         &zero,
+        &mut other,
         &mut differ,
     )?;
     Ok(differ)

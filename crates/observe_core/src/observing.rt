@@ -61,6 +61,7 @@ fn rows_told(
         net,
         window.outputs(),
         cone,
+        &words,
         &tail.gates,
         &tail.watchers,
     )?;

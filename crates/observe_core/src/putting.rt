@@ -1,4 +1,4 @@
-//! The tail of a window above its surround, with bits in the place of the window's outputs.
+//! The gates of a window's tail with bits in the place of the window's outputs.
 
 ghost use Rattle.std.specs.Prelude.{◌≡◌, ℕ, ◌≤◌, true, [], length, if◌then◌else◌, IfOk, OnOk};
 ghost use Rattle.net_theory.specs.declared.data.Sig.TheVariants as sigs;
@@ -6,9 +6,8 @@ ghost use Rattle.net_theory.specs.declared.data.Gate.{Gate as GateValue};
 ghost use Rattle.window_theory.specs.Places.{among};
 ghost use Rattle.window_theory.specs.Paths.{IsGate};
 ghost use Rattle.window_core.specs.Gates.{IsGateOf};
-ghost use Rattle.observe_core.specs.Putting.{put_place as put_place_of, put_sig as put_sig_of, put_gate as put_gate_of, HasPut, IsAbove, IsPutCone};
+ghost use Rattle.observe_core.specs.Putting.{put_place as put_place_of, put_sig as put_sig_of, put_gate as put_gate_of, HasPut, ArePutGates};
 
-use lane_sim::{Cone, MOST_LEAVES};
 use std::alloc::{AllocError, Global};
 use window_core::{Gate, Net, Sig, gate_at};
 
@@ -60,27 +59,7 @@ fn put_gate(net: &Net, outputs: &[u32], bits: u32, place: u32) -> Gate
     }
 }
 
-/// The gates of a cone again.
-fn same_gates(alloc: Global, cone: &Cone) -> Result<Vec<(u32, Gate)>, AllocError>
-    ensures { IfOk result (λ gates. gates.items ≡ cone.now.gates) }
-{
-    let mut gates = Vec::with_capacity(alloc, cone.gates().len() + 16)?;
-    let mut left = cone.gates();
-    while let Some((first, rest)) = left.split_first() {
-        gates.push((
-            first.0,
-            Gate {
-                op: first.1.op,
-                a: first.1.a,
-                b: first.1.b,
-            },
-        ))?;
-        left = rest;
-    }
-    Ok(gates)
-}
-
-/// The gates of the tail after those of its surround.
+/// Appends the gates of the tail.
 fn put_tail(
     net: &Net,
     outputs: &[u32],
@@ -100,23 +79,19 @@ fn put_tail(
     Ok(())
 }
 
-/// The cone of the tail above its surround.
-pub(crate) fn put_cone(
+/// The gates of the tail, with bits in the place of the outputs.
+pub(crate) fn put_gates(
     alloc: Global,
     net: &Net,
     outputs: &[u32],
     bits: u32,
-    surround: &Cone,
     tail: &[u32],
-) -> Result<Cone, AllocError>
+) -> Result<Vec<(u32, Gate)>, AllocError>
     requires few { length outputs.now ≤ 8 }
-    requires tail { IsAbove net.now outputs.now surround.now tail.now }
-    ensures { IfOk result (λ cone. IsPutCone net.now outputs.now bits surround.now tail.now cone) }
+    requires tail { (p : ℕ) → among tail.now p ≡ true → IsGate net.now p }
+    ensures { IfOk result (λ gates. ArePutGates net.now outputs.now bits tail.now gates.items) }
 {
-    let _sources = net.sources(); // says that the net is one
-    let mut leaves = Vec::with_capacity(alloc, MOST_LEAVES)?;
-    leaves.extend_from_slice(surround.leaves())?;
-    let mut gates = same_gates(alloc, surround)?;
+    let mut gates = Vec::with_capacity(alloc, tail.len())?;
     put_tail(net, outputs, bits, tail, &mut gates)?;
-    Ok(Cone::new(leaves, gates))
+    Ok(gates)
 }

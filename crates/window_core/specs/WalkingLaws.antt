@@ -96,36 +96,24 @@ walk_start n root g e partners is of none =
     })
 
 -- who reads an operand of the root below the bound shares it
-shares_a : (n : Net) (root a b next : ℕ) (partners : List ℕ) (w : IsWalk n root a b partners) → IsNet n → a ≡ next → next ≢ 0 → SharesBelow n root next × (next < w.bound)
-shares_a n root a b next partners w net same some =
+shares : (n : Net) (root a b next found : ℕ) (partners : List ℕ) (w : IsWalk n root a b partners) (s : Sig) → IsNet n → ((p : ℕ) → s ≡ sigs.Place p → (w.gate.a ≡ sigs.Place p) ⊎ (w.gate.b ≡ sigs.Place p)) → IsEarlier n w.bound (place_of s) found → found ≡ next → next ≢ 0 → SharesBelow n root next × (next < w.bound)
+shares n root a b next found partners w s net operand is same some =
     ⊎_elim
-    (λ (none : a ≡ 0). absurd (some (omega (arith, none, same))))
+    (λ (none : found ≡ 0). absurd (some (omega (arith, none, same))))
     (λ r.
-    let p : ℕ = place_of w.gate.a in
+    let p : ℕ = place_of s in
     let reads : Reads n next p = subst (λ (y : ℕ). Reads n y p) same r.0 in
     let low = reads_low n next p net reads in
     let below : next < w.bound = omega (arith, same, r.1) in
-    (record { below = omega (arith, below, w.to); shared = p; first = of_reads n root p w.gate w.is (inl (names w.gate.a p refl low.0)); second = reads }, below))
-    w.first.found
-
-shares_b : (n : Net) (root a b next : ℕ) (partners : List ℕ) (w : IsWalk n root a b partners) → IsNet n → b ≡ next → next ≢ 0 → SharesBelow n root next × (next < w.bound)
-shares_b n root a b next partners w net same some =
-    ⊎_elim
-    (λ (none : b ≡ 0). absurd (some (omega (arith, none, same))))
-    (λ r.
-    let p : ℕ = place_of w.gate.b in
-    let reads : Reads n next p = subst (λ (y : ℕ). Reads n y p) same r.0 in
-    let low = reads_low n next p net reads in
-    let below : next < w.bound = omega (arith, same, r.1) in
-    (record { below = omega (arith, below, w.to); shared = p; first = of_reads n root p w.gate w.is (inr (names w.gate.b p refl low.0)); second = reads }, below))
-    w.second.found
+    (record { below = omega (arith, below, w.to); shared = p; first = of_reads n root p w.gate w.is (operand p (names s p refl low.0)); second = reads }, below))
+    is.found
 
 -- the greater of the two readers
 pub walk_next : (n : Net) (root a b next : ℕ) (partners : List ℕ) (w : IsWalk n root a b partners) → IsNet n → next ≡ max a b → next ≢ 0 → SharesBelow n root next × (next < w.bound)
 walk_next n root a b next partners w net is some =
     ⊎_elim
-    (λ (low : a < b). shares_b n root a b next partners w net (omega (arith, low, is)) some)
-    (λ (high : b ≤ a). shares_a n root a b next partners w net (omega (arith, high, is)) some)
+    (λ (low : a < b). shares n root a b next b partners w w.gate.b net (λ p e. inr e) w.second (omega (arith, low, is)) some)
+    (λ (high : b ≤ a). shares n root a b next a partners w w.gate.a net (λ p e. inl e) w.first (omega (arith, high, is)) some)
     (cases_lt a b)
 
 -- a gate that shares a place with the root and stands below the bound is none above the two readers

@@ -13,11 +13,11 @@ add_watchers-requires-clause-one c =
 
 pub add_watchers-requires-clause-two : goal.add_watchers-requires-clause-two
 add_watchers-requires-clause-two c =
-    put_room c.args.net.now c.args.outputs.now c.args.bits c.args.surround.now c.in_ok-words.ensures.cone c.args.tail.now c.in_ok-words.words (length c.args.differ.now) (length c.leaves.result.now) (length c.gates.result.now) c.lanes_of-2.result.now
-    c.in_ok-words.ensures.is c.in_ok-words.ensures.are c.requires.size (ap (length {A = ℕ}) c.leaves.ensures.value) (ap (length {A = ℕ × Gate}) c.gates.ensures.value) c.lanes_of-2.ensures.value
+    put_room c.args.net.now c.args.outputs.now c.args.bits c.args.surround.now c.in_ok-put_words.ensures.put.cone c.args.tail.now c.put_words.new.words (length c.args.differ.now) (length c.leaves.result.now) (length c.gates.result.now) c.lanes_of-2.result.now
+    c.in_ok-put_words.ensures.put.is c.in_ok-put_words.ensures.put.are c.requires.size (ap (length {A = ℕ}) c.leaves.ensures.value) (ap (length {A = ℕ × Gate}) c.gates.ensures.value) c.lanes_of-2.ensures.value
 
 pub returns-clause-told : goal.returns-clause-told
 returns-clause-told c =
-    told_code c.args.net.now c.args.outputs.now c.args.bits c.args.surround.now c.in_ok-words.ensures.cone c.args.tail.now c.args.watchers.now c.args.zero.now c.in_ok-words.words c.lanes_of.result.now c.lanes_of-2.result.now (length c.leaves.result.now) (length c.gates.result.now) c.args.differ.now c.add_watchers.new.differ
-    c.sources-sources.ensures.net c.requires.above c.requires.few c.requires.zero c.in_ok-words.ensures.is c.in_ok-words.ensures.are c.lanes_of.ensures.value c.lanes_of-2.ensures.value (ap (length {A = ℕ}) c.leaves.ensures.value) (ap (length {A = ℕ × Gate}) c.gates.ensures.value) c.requires.size c.requires.watchers
+    told_code c.args.net.now c.args.outputs.now c.args.bits c.args.surround.now c.in_ok-put_words.ensures.put.cone c.args.tail.now c.args.watchers.now c.args.zero.now c.put_words.new.words c.lanes_of.result.now c.lanes_of-2.result.now (length c.leaves.result.now) (length c.gates.result.now) c.args.differ.now c.add_watchers.new.differ
+    c.sources-sources.ensures.net c.requires.above c.requires.few c.requires.zero c.in_ok-put_words.ensures.put.is c.in_ok-put_words.ensures.put.are c.lanes_of.ensures.value c.lanes_of-2.ensures.value (ap (length {A = ℕ}) c.leaves.ensures.value) (ap (length {A = ℕ × Gate}) c.gates.ensures.value) c.requires.size c.requires.watchers
     c.add_watchers.ensures c.requires.told

@@ -1,11 +1,21 @@
-use Rattle.std.proofs.lemmas.Result.{IfOk-weaker}
-use Rattle.lane_sim.specs.Words.{Words, AreWords}
-use Rattle.observe_core.specs.Differing.{ArePutWords}
+use Rattle.std.proofs.Common.{◌∙◌, sym, subst}
+use Rattle.observe_core.specs.Putting.{ArePutGates}
+use Rattle.observe_core.specs.PuttingLaws.{put_is_cone, all_places}
+use Rattle.observe_core.specs.DifferingLaws.{put_words}
 use Rattle.observe_core.proofs.differing.put_words.Goals as goal
 
-pub returns : goal.returns
-returns c =
-    IfOk-weaker c.cone_words.result (λ (words : Words). AreWords c.in_ok-cone.cone words)
-    (λ (words : Words). ArePutWords c.args.net.now c.args.outputs.now c.args.bits c.args.surround.now c.args.tail.now words)
-    (λ words are. record { cone = c.in_ok-cone.cone; is = c.in_ok-cone.ensures; are = are })
-    c.cone_words.ensures
+pub simulate_above-requires-clause-cone : goal.simulate_above-requires-clause-cone
+simulate_above-requires-clause-cone c =
+    put_is_cone c.args.net.now c.args.outputs.now c.args.bits c.args.surround.now c.args.tail.now c.deref.result.now c.sources-sources.ensures.net c.leaves-leaves.ensures.whole c.requires.above
+    (subst (ArePutGates c.args.net.now c.args.outputs.now c.args.bits c.args.tail.now) (sym c.deref.ensures.value) c.in_ok-gates.ensures)
+
+pub simulate_above-requires-clause-index : goal.simulate_above-requires-clause-index
+simulate_above-requires-clause-index c =
+    let are : ArePutGates c.args.net.now c.args.outputs.now c.args.bits c.args.tail.now c.deref.result.now = subst (ArePutGates c.args.net.now c.args.outputs.now c.args.bits c.args.tail.now) (sym c.deref.ensures.value) c.in_ok-gates.ensures in
+    c.requires.index ∙ sym (all_places c.args.surround.now c.deref.result.now c.args.tail.now are.places)
+
+pub returns-clause-put : goal.returns-clause-put
+returns-clause-put c =
+    put_words c.args.net.now c.args.outputs.now c.args.bits c.args.surround.now c.args.tail.now c.deref.result.now c.simulate_above.new.words c.sources-sources.ensures.net c.leaves-leaves.ensures.whole c.requires.above
+    (subst (ArePutGates c.args.net.now c.args.outputs.now c.args.bits c.args.tail.now) (sym c.deref.ensures.value) c.in_ok-gates.ensures)
+    c.in_ok-simulate_above.ensures.words
