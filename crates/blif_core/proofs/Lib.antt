@@ -1,4 +1,3 @@
-pub mod Refused
 pub mod Sources
 pub mod Constants
 pub mod JoinedRows

@@ -10,3 +10,4 @@ pub mod Written
 pub mod Spelling
 pub mod Blif
 pub mod WrittenLaws
+pub mod RefusedLaws

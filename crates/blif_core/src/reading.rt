@@ -18,7 +18,7 @@ use std::alloc::Global;
 /// and a combinational loop. A text that lists a well-formed document is refused for lack of memory
 /// alone. The circuit has the document's names and computes what the document says. The time is
 /// linear in the text, but for combinational loops.
-#[tactic(auto, using(crate::proofs::Refused::refusals))]
+#[tactic(auto, using(crate::specs::RefusedLaws::refusals))]
 pub fn read_blif(alloc: Global, bytes: &[u8]) -> Result<Circuit, NetError>
     requires { length bytes.now < 2 ^ 31 }
     ensures circuit { IfOk result (IsCircuitOfText blif_format bytes.now) }

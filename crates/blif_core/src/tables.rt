@@ -1,6 +1,6 @@
 //! Gates and constants as tables.
 
-ghost use Rattle.std.specs.Prelude.{◌≡◌, ◌++◌, [], OnOk, IfOk};
+ghost use Rattle.std.specs.Prelude.{◌≡◌, ◌++◌, OnOk, IfOk};
 ghost use Rattle.net_theory.specs.Naming.{gate_names, place_name as place_name_of};
 ghost use Rattle.blif_core.specs.Written as written;
 ghost use Rattle.blif_core.specs.Written.{row_if, binary_cubes as binary_cubes_of};

@@ -12,22 +12,22 @@ ghost use Rattle.enc_theory.specs.FenceVectors.{fence_vectors, outline_of, expec
 ghost use Rattle.enc_theory.specs.Select.{select_formula};
 ghost use Rattle.enc_theory.specs.SelectVectors.{select_vectors};
 
-/// The plain encoding.
+/// The formulas of the plain encoding have the numbers of variables, clauses and literals and the checksum of another program's.
 pub fn plain_is_that_of_another_program()
     ensures { map (outline_by plain_formula) plain_vectors ≡ map expected plain_vectors }
 {}
 
-/// The encoding by pairs with cuts.
+/// The same for the formulas with a variable for each pair of operands (SSV), with cuts.
 pub fn ssv_is_that_of_another_program()
     ensures { map (outline_by ssv_formula) ssv_vectors ≡ map expected ssv_vectors }
 {}
 
-/// The encoding by fences.
+/// The same for the formulas by fences.
 pub fn fence_is_that_of_another_program()
     ensures { map outline_of fence_vectors ≡ map expected_of fence_vectors }
 {}
 
-/// The encoding by single operands.
+/// The same for the formulas with a variable for each operand (MSV).
 pub fn select_is_that_of_another_program()
     ensures { map (outline_by select_formula) select_vectors ≡ map expected select_vectors }
 {}

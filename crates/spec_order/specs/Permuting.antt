@@ -59,9 +59,6 @@ pub record IsBackOf (order : List ℕ) (i x : ℕ) : Type 0 where
   pub input : IsInput (length order) x
   pub place : IsPlaceOf order (i + 1) x
 
-pub place_of_all : (order : List ℕ) (x place : ℕ) → ((j : ℕ) → 1 ≤ j → j ≤ length order → number order j ≡ x → ⊥) → IsPlaceOf order x place
-place_of_all order x place none j from to here = absurd (none j from to here)
-
 pub back_orders : (order back : List ℕ) (count : ℕ) → AreEach (IsBackOf order) back count → count ≡ length order → IsOrder (length order) back
 back_orders order back count some same = let are : AreEach (IsBackOf order) back (length order) = subst (AreEach (IsBackOf order) back) same some in record {
   size = are.size;

@@ -1,5 +1,5 @@
 //! A chain with its inputs in another order.
-ghost use Rattle.std.specs.Prelude.{◌≡◌, ◌<◌, map, IfOk};
+ghost use Rattle.std.specs.Prelude.{◌≡◌, map, IfOk};
 ghost use Rattle.chain_core.specs.Steps.{steps_of};
 ghost use Rattle.spec_order.specs.Order.{IsOrder};
 ghost use Rattle.spec_order.specs.ListLaws.{turned_step as turned_step_of};
