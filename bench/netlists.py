@@ -1,5 +1,5 @@
 #!/usr/bin/env python3
-"""netlists.py PROGRAM [--windows [GATES..]]: makes large netlists, improves each by PROGRAM, and prints a table.
+"""netlists.py PROGRAM [--windows [GATES..] | --chains [GATES..]]: makes large netlists, improves each by PROGRAM, and prints a table.
 
 Without windows (`--cap 0`): the gates before and after, the bytes, the user time, megabytes of text a second, and the peak
 of memory. The netlists are a ladder of 100,000 gates of which each reads the one before it, the same with its tables
@@ -7,7 +7,10 @@ in reverse order, and a wide random netlist of which about half is read by the o
 
 With windows, at the default cap: random logic of 5,000 gates, and adders, multipliers and multiplexers side by side of so many
 gates (10,000 and 100,000). Beside the report, time and memory stands how the windows of the netlist that is left are
-answered in the last round, counted by the independent program `count_windows.py`."""
+answered in the last round, counted by the independent program `count_windows.py`.
+
+With chains: AND of all inputs as a chain of so many gates (1,000, 2,000, 4,000 and 8,000), of which none can go, so that the
+time is that of searches in vain, and the time for each gate shows how it grows."""
 import random
 import subprocess
 import sys
@@ -125,6 +128,13 @@ class Logic:
         return '.model logic\n' + lists + ''.join(self.tables) + '.end\n'
 
 
+def chain(gates):
+    """AND of all inputs, one after the other."""
+    tables = [table(f'n{i}', f'x{i}', f'n{i + 1}', ('11',)) for i in range(gates)]
+    inputs = 'n0 ' + ' '.join(f'x{i}' for i in range(gates))
+    return f'.model chain\n.inputs {inputs}\n.outputs n{gates}\n' + ''.join(tables) + '.end\n'
+
+
 def run(program, text, *options):
     """The lines of the report, what is written, the user seconds, and the peak of memory in megabytes."""
     words = ['/usr/bin/env', 'python3', '-c', WATCH, program, *options]
@@ -165,10 +175,21 @@ def without_windows(program):
         print(f'| {name} | {report[0]} | {len(text):,} | {seconds:.2f} s | {len(text) / seconds / 1e6:.1f} | {peak} MB |', flush=True)
 
 
+def with_chains(program, gates):
+    """A row for each chain of AND gates."""
+    print('| Gates | Report | Time | for each gate | Peak memory |')
+    print('|---|---|---|---|---|')
+    for count in gates or (1000, 2000, 4000, 8000):
+        report, _, seconds, peak = run(program, chain(count))
+        print(f'| {count:,} | {report[0]}, {report[-1]} | {seconds:.1f} s | {seconds / count * 1e3:.2f} ms | {peak} MB |', flush=True)
+
+
 def main():
     program, options = sys.argv[1], sys.argv[2:]
     if options[:1] == ['--windows']:
         with_windows(program, [int(word) for word in options[1:]])
+    elif options[:1] == ['--chains']:
+        with_chains(program, [int(word) for word in options[1:]])
     else:
         without_windows(program)
 
