@@ -1,5 +1,5 @@
 -- `recheck --depth yes` is a task, and a run of it keeps what it promises.
-use Rattle.std.specs.Prelude.{◌≡◌, ℕ, ◌<◌, ◌≤◌, ◌⊎◌, List, length, Some, Err}
+use Rattle.std.specs.Prelude.{◌≡◌, ℕ, ◌≤◌, ◌⊎◌, List, length, Some, Err}
 use Rattle.std.proofs.Common.{arith, sym, ◌∙◌, ap, subst, refl, inl, inr}
 use Rattle.std.proofs.Math.Logic.{⊎_elim}
 use Rattle.text_core.specs.Lines.{lines_of}
@@ -13,21 +13,21 @@ use Rattle.depth_theory.specs.DepthJudging.{Answer}
 use Rattle.depth_theory.specs.DepthSpelling.{IsDepthText}
 use Rattle.command_line.specs.declared.command.Command.TheVariants.{RecheckDepth}
 use Rattle.command_line.specs.CommandLine.{AsksFor}
-use Rattle.frame_core.specs.declared.status.Status.{Status}
 use Rattle.frame_core.specs.declared.status.Status.TheVariants as statuses
 use Rattle.frame_core.specs.Told.{memory_refusal}
 use Rattle.frame_core.specs.Task.{IsRefusalStatus, IsTask}
 use Rattle.frame_core.specs.Run.{Run}
-use Rattle.frame_core.specs.Promise.{OutputHeld, Stands, Replies, Faults, OfInput, IsTooLong, CommandPromise}
+use Rattle.frame_core.specs.Promise.{OutputHeld, Stands, Replies, Faults, CommandPromise}
 use Rattle.frame_core.specs.TaskLaws.{at_once_task}
 use Rattle.frame_core.specs.KeepingLaws.{of_input}
-use Rattle.frame_core.specs.ReadOffLaws.{gets}
+use Rattle.frame_core.specs.ReadOffLaws.{gets, done_replies, limit_beyond, refused_faults, never_undecided}
 use Rattle.depth_file.specs.SpentLaws.{log_is_spent}
 use Rattle.cmd_verdicts.specs.Verdicts.{most_of_bundle, GivesLevels}
 use Rattle.cmd_recheck.specs.RecheckReport.{bundle_status}
 use Rattle.cmd_recheck.specs.RecheckDepthReport.{depth_status, named_depth, depth_reply, depth_refusal, HasDepthFault, depth_task}
 use Rattle.cmd_recheck.specs.RecheckDepthPromise.{TellsLevels, RecheckDepthPromise}
 use Rattle.depth_file.specs.AnswerLaws.{one_answer}
+use Rattle.cmd_recheck.specs.RecheckLaws.{status_kind, no_limit}
 use Rattle.cmd_recheck.specs.QuestionLaws.{depth_asks, levels_answer}
 
 one_fault : (answer : Answer) (d e : DepthError) → answer ≡ Err d → answer ≡ Err e → d ≡ e
@@ -38,18 +38,17 @@ one_fault answer d e is other = cc
 IsStatus : DepthError → Type 0
 IsStatus e = IsRefusalStatus (depth_status e) ⊎ (depth_refusal e ≡ memory_refusal)
 
+of_memory : depth_refusal (depths.Bundle bundles.Memory) ≡ memory_refusal
+unfolding named_depth
+of_memory = refl
+
 inside_status : (e : BundleError) → IsStatus (depths.Bundle e)
-unfolding IsStatus named_depth
-inside_status (bundles.Syntax line) = inl (inl refl)
-inside_status (bundles.SizeOutOfOrder line) = inl (inr (inr refl))
-inside_status (bundles.StepRefused line e) = inl (inr (inr refl))
-inside_status (bundles.NotRefuted line) = inl (inr (inr refl))
-inside_status (bundles.ChainDiffers output row) = inl (inr (inr refl))
-inside_status (bundles.OperatorNotInBasis place) = inl (inr (inr refl))
-inside_status (bundles.OpenTooShort line) = inl (inr (inr refl))
-inside_status (bundles.NotNew line) = inl (inr (inr refl))
-inside_status (bundles.WrongVerdict line) = inl (inr (inr refl))
-inside_status bundles.Memory = inr refl
+unfolding IsStatus
+inside_status e =
+    ⊎_elim
+    (λ (is : IsRefusalStatus (bundle_status e)). inl is)
+    (λ (is : e ≡ bundles.Memory). inr (ap (λ (x : BundleError). depth_refusal (depths.Bundle x)) is ∙ of_memory))
+    (status_kind e)
 
 fault_status : (e : DepthError) → IsStatus e
 unfolding IsStatus named_depth
@@ -90,9 +89,6 @@ accepted r input b promise told within is held =
     let gives : GivesLevels input got.answer = got.has in
     subst (λ (v : DepthVerdict). Stands r (depth_reply v)) (sym (gives.only b is)) got.stands
 
-accepted_only : (r : Run) (input : List ℕ) → CommandPromise depth_task r → r.source.bytes ≡ Some input → r.status ≡ statuses.Done → Replies depth_task r input
-accepted_only r input promise told is = of_input depth_task r (Replies depth_task r) input (promise.done_only is) told
-
 -- What has a verdict spells its question, which the verdict answers.
 tells_levels : (r : Run) (input : List ℕ) (verdict : DepthVerdict) → GivesLevels input verdict → Stands r (depth_reply verdict) → TellsLevels r input
 tells_levels r input verdict gives stands =
@@ -110,66 +106,31 @@ tells_levels r input verdict gives stands =
 
 answers : (r : Run) (input : List ℕ) → CommandPromise depth_task r → r.source.bytes ≡ Some input → r.status ≡ statuses.Done → TellsLevels r input
 answers r input promise told is =
-    let got : Replies depth_task r input = accepted_only r input promise told is in
+    let got : Replies depth_task r input = done_replies depth_task r input promise told is in
     tells_levels r input got.answer got.has got.stands
 
 -- no fault has the status of a limit
-no_limit_inside : (e : BundleError) → bundle_status e ≡ statuses.Limit → ⊥
-no_limit_inside (bundles.Syntax line) is = cc
-no_limit_inside (bundles.SizeOutOfOrder line) is = cc
-no_limit_inside (bundles.StepRefused line e) is = cc
-no_limit_inside (bundles.NotRefuted line) is = cc
-no_limit_inside (bundles.ChainDiffers output row) is = cc
-no_limit_inside (bundles.OperatorNotInBasis place) is = cc
-no_limit_inside (bundles.OpenTooShort line) is = cc
-no_limit_inside (bundles.NotNew line) is = cc
-no_limit_inside (bundles.WrongVerdict line) is = cc
-no_limit_inside bundles.Memory is = cc
-
-no_limit : (e : DepthError) → depth_status e ≡ statuses.Limit → ⊥
-no_limit (depths.Bundle e) is = no_limit_inside e is
-no_limit depths.NotLeastForm is = cc
-no_limit (depths.Syntax line) is = cc
-no_limit (depths.WrongDepth line) is = cc
-no_limit (depths.StepRefused line e) is = cc
-no_limit (depths.NotNew line) is = cc
-no_limit (depths.NotRefuted line) is = cc
-no_limit (depths.OpenTooShort line) is = cc
-no_limit (depths.WrongLevels line) is = cc
-no_limit depths.Memory is = cc
-
-limit_only : (r : Run) (input : List ℕ) → CommandPromise depth_task r → r.source.bytes ≡ Some input → r.status ≡ statuses.Limit → most_of_bundle < length input
-limit_only r input promise told is =
-    ⊎_elim
-    (λ (none : OfInput depth_task r (Faults depth_task r)). absurd (no_limit none.holds.fault (sym none.holds.told.status_is ∙ is)))
-    (λ (long : IsTooLong depth_task r). long.beyond input told)
-    (promise.limit_only is)
-
--- a verdict has the status 0
-not_done : {A : Type 0} (r : Run) (s : Status) (verdict : DepthVerdict) → Stands r (depth_reply verdict) → r.status ≡ s → (statuses.Done ≡ s → ⊥) → A
-not_done r s verdict stands is other = absurd (other (sym stands.status_is ∙ is))
-
-refused_only : (r : Run) (input : List ℕ) → CommandPromise depth_task r → r.source.bytes ≡ Some input → r.status ≡ statuses.Refused → Faults depth_task r input
-refused_only r input promise told is =
-    ⊎_elim
-    (λ (got : Replies depth_task r input). not_done r statuses.Refused got.answer got.stands is (λ e. cc))
-    (λ (none : Faults depth_task r input). none)
-    (of_input depth_task r (λ bytes. Replies depth_task r bytes ⊎ Faults depth_task r bytes) input (promise.refused_only is) told)
-
-decided : (r : Run) → CommandPromise depth_task r → r.status ≡ statuses.Undecided → ⊥
-decided r promise is =
-    let got = promise.undecided_only is in
-    not_done r statuses.Undecided got.holds.answer got.holds.stands is (λ e. cc)
+no_depth_limit : (e : DepthError) → depth_status e ≡ statuses.Limit → ⊥
+no_depth_limit (depths.Bundle e) is = no_limit e is
+no_depth_limit depths.NotLeastForm is = cc
+no_depth_limit (depths.Syntax line) is = cc
+no_depth_limit (depths.WrongDepth line) is = cc
+no_depth_limit (depths.StepRefused line e) is = cc
+no_depth_limit (depths.NotNew line) is = cc
+no_depth_limit (depths.NotRefuted line) is = cc
+no_depth_limit (depths.OpenTooShort line) is = cc
+no_depth_limit (depths.WrongLevels line) is = cc
+no_depth_limit depths.Memory is = cc
 
 -- All that `recheck --depth yes` promises besides.
 pub depth_promised : (r : Run) → (AsksFor r.words RecheckDepth → CommandPromise depth_task r) → RecheckDepthPromise r
 depth_promised r keeps = record {
   complete = λ input b run within is held. complete r input b (keeps run.asks) run.told within is held;
   accepted = λ input b run within is held. accepted r input b (keeps run.asks) run.told within is held;
-  accepted_only = λ input run is. accepted_only r input (keeps run.asks) run.told is;
+  accepted_only = λ input run is. done_replies depth_task r input (keeps run.asks) run.told is;
   answers = λ input run is. answers r input (keeps run.asks) run.told is;
   refused = λ input error run fault held. (keeps run.asks).refused input error run.told fault held;
-  refused_only = λ input run is. refused_only r input (keeps run.asks) run.told is;
-  limit_only = λ input run is. limit_only r input (keeps run.asks) run.told is;
-  decided = λ asks is. decided r (keeps asks) is;
+  refused_only = λ input run is. of_input depth_task r (Faults depth_task r) input (refused_faults depth_task r (λ verdict. refl) (keeps run.asks) is) run.told;
+  limit_only = λ input run is. limit_beyond depth_task r input no_depth_limit (keeps run.asks) run.told is;
+  decided = λ asks is. never_undecided depth_task r (λ verdict. refl) (keeps asks) is;
 }

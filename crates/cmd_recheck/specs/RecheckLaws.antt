@@ -1,5 +1,5 @@
 -- `recheck` is a task, and a run of it keeps what it promises.
-use Rattle.std.specs.Prelude.{◌≡◌, ℕ, ◌<◌, ◌≤◌, ◌⊎◌, List, length, Some, Result, Ok, Err}
+use Rattle.std.specs.Prelude.{◌≡◌, ℕ, ◌≤◌, ◌⊎◌, List, length, Some, Result, Ok, Err}
 use Rattle.std.proofs.Common.{arith, sym, ◌∙◌, ap, subst, refl, inl, inr}
 use Rattle.std.proofs.Math.Logic.{⊎_elim}
 use Rattle.text_core.specs.Lines.{lines_of}
@@ -12,40 +12,43 @@ use Rattle.cert_theory.specs.Judging.{bundle_of}
 use Rattle.cert_laws.specs.QuestionLaws.{bundle_asks, verdict_answers}
 use Rattle.command_line.specs.declared.command.Command.TheVariants.{Recheck}
 use Rattle.command_line.specs.CommandLine.{AsksFor}
-use Rattle.frame_core.specs.declared.status.Status.{Status}
 use Rattle.frame_core.specs.declared.status.Status.TheVariants as statuses
 use Rattle.cmd_verdicts.specs.Verdicts.{most_of_bundle, GivesVerdict}
 use Rattle.cmd_recheck.specs.RecheckReport.{bundle_status, named_bundle, recheck_reply, recheck_refusal, HasBundleFault, recheck_task}
 use Rattle.frame_core.specs.Told.{memory_refusal}
 use Rattle.frame_core.specs.Task.{IsRefusalStatus, IsTask}
 use Rattle.frame_core.specs.Run.{Run}
-use Rattle.frame_core.specs.Promise.{OutputHeld, Stands, Replies, Faults, OfInput, IsTooLong, CommandPromise}
+use Rattle.frame_core.specs.Promise.{OutputHeld, Stands, Replies, Faults, CommandPromise}
 use Rattle.cmd_recheck.specs.RecheckPromise.{TellsVerdict, RecheckPromise}
 use Rattle.frame_core.specs.TaskLaws.{at_once_task}
 use Rattle.frame_core.specs.KeepingLaws.{of_input}
-use Rattle.frame_core.specs.ReadOffLaws.{gets}
+use Rattle.frame_core.specs.ReadOffLaws.{gets, done_replies, limit_beyond, refused_faults, never_undecided}
 
 -- ---- `recheck` is a command
 
-IsStatus : BundleError → Type 0
-IsStatus e = IsRefusalStatus (bundle_status e) ⊎ (recheck_refusal e ≡ memory_refusal)
+-- what isn't want of memory has the status of a refusal
+pub status_kind : (e : BundleError) → IsRefusalStatus (bundle_status e) ⊎ (e ≡ bundles.Memory)
+status_kind (bundles.Syntax line) = inl (inl refl)
+status_kind (bundles.SizeOutOfOrder line) = inl (inr (inr refl))
+status_kind (bundles.StepRefused line e) = inl (inr (inr refl))
+status_kind (bundles.NotRefuted line) = inl (inr (inr refl))
+status_kind (bundles.ChainDiffers output row) = inl (inr (inr refl))
+status_kind (bundles.OperatorNotInBasis place) = inl (inr (inr refl))
+status_kind (bundles.OpenTooShort line) = inl (inr (inr refl))
+status_kind (bundles.NotNew line) = inl (inr (inr refl))
+status_kind (bundles.WrongVerdict line) = inl (inr (inr refl))
+status_kind bundles.Memory = inr refl
 
-fault_status : (e : BundleError) → IsStatus e
-unfolding IsStatus named_bundle
-fault_status (bundles.Syntax line) = inl (inl refl)
-fault_status (bundles.SizeOutOfOrder line) = inl (inr (inr refl))
-fault_status (bundles.StepRefused line e) = inl (inr (inr refl))
-fault_status (bundles.NotRefuted line) = inl (inr (inr refl))
-fault_status (bundles.ChainDiffers output row) = inl (inr (inr refl))
-fault_status (bundles.OperatorNotInBasis place) = inl (inr (inr refl))
-fault_status (bundles.OpenTooShort line) = inl (inr (inr refl))
-fault_status (bundles.NotNew line) = inl (inr (inr refl))
-fault_status (bundles.WrongVerdict line) = inl (inr (inr refl))
-fault_status bundles.Memory = inr refl
+of_memory : recheck_refusal bundles.Memory ≡ memory_refusal
+unfolding named_bundle
+of_memory = refl
 
-statuses_of : (e : BundleError) → IsRefusalStatus (bundle_status e) ⊎ (recheck_refusal e ≡ memory_refusal)
-unfolding IsStatus
-statuses_of e = fault_status e
+fault_status : (e : BundleError) → IsRefusalStatus (bundle_status e) ⊎ (recheck_refusal e ≡ memory_refusal)
+fault_status e =
+    ⊎_elim
+    (λ (is : IsRefusalStatus (bundle_status e)). inl is)
+    (λ (is : e ≡ bundles.Memory). inr (ap recheck_refusal is ∙ of_memory))
+    (status_kind e)
 
 not_both : {A : Type 0} (read : Result Verdict BundleError) (v : Verdict) (e : BundleError) → read ≡ Ok v → read ≡ Err e → A
 not_both read v e is other = absurd cc
@@ -57,7 +60,7 @@ pub recheck_is_task : IsTask recheck_task
 recheck_is_task =
     at_once_task most_of_bundle Verdict GivesVerdict recheck_reply BundleError HasBundleFault recheck_refusal
     (λ verdict. inl refl)
-    (λ bytes fault meets. statuses_of fault)
+    (λ bytes fault meets. fault_status fault)
     (λ bytes verdict error gives fault. not_both (bundle_of (lines_of bytes)) verdict error gives.read fault.fault)
     (λ bytes a b x y. ap recheck_refusal (one_error (bundle_of (lines_of bytes)) a b x.fault y.fault))
     (λ bytes verdict gives. gives.within)
@@ -75,9 +78,6 @@ accepted r input b promise told within is held =
     let gives : GivesVerdict input got.answer = got.has in
     subst (λ (v : Verdict). Stands r (recheck_reply v)) (sym (gives.is_verdict.only b is)) got.stands
 
-accepted_only : (r : Run) (input : List ℕ) → CommandPromise recheck_task r → r.source.bytes ≡ Some input → r.status ≡ statuses.Done → Replies recheck_task r input
-accepted_only r input promise told is = of_input recheck_task r (Replies recheck_task r) input (promise.done_only is) told
-
 -- What has a verdict spells its question, which the verdict answers.
 tells_verdict : (r : Run) (input : List ℕ) (verdict : Verdict) → GivesVerdict input verdict → Stands r (recheck_reply verdict) → TellsVerdict r input
 tells_verdict r input verdict gives stands =
@@ -92,11 +92,11 @@ tells_verdict r input verdict gives stands =
 
 answers : (r : Run) (input : List ℕ) → CommandPromise recheck_task r → r.source.bytes ≡ Some input → r.status ≡ statuses.Done → TellsVerdict r input
 answers r input promise told is =
-    let got : Replies recheck_task r input = accepted_only r input promise told is in
+    let got : Replies recheck_task r input = done_replies recheck_task r input promise told is in
     tells_verdict r input got.answer got.has got.stands
 
 -- no fault has the status of a limit
-no_limit : (e : BundleError) → bundle_status e ≡ statuses.Limit → ⊥
+pub no_limit : (e : BundleError) → bundle_status e ≡ statuses.Limit → ⊥
 no_limit (bundles.Syntax line) is = cc
 no_limit (bundles.SizeOutOfOrder line) is = cc
 no_limit (bundles.StepRefused line e) is = cc
@@ -108,38 +108,15 @@ no_limit (bundles.NotNew line) is = cc
 no_limit (bundles.WrongVerdict line) is = cc
 no_limit bundles.Memory is = cc
 
-limit_only : (r : Run) (input : List ℕ) → CommandPromise recheck_task r → r.source.bytes ≡ Some input → r.status ≡ statuses.Limit → most_of_bundle < length input
-limit_only r input promise told is =
-    ⊎_elim
-    (λ (none : OfInput recheck_task r (Faults recheck_task r)). absurd (no_limit none.holds.fault (sym none.holds.told.status_is ∙ is)))
-    (λ (long : IsTooLong recheck_task r). long.beyond input told)
-    (promise.limit_only is)
-
--- a verdict has the status 0
-not_done : {A : Type 0} (r : Run) (s : Status) (verdict : Verdict) → Stands r (recheck_reply verdict) → r.status ≡ s → (statuses.Done ≡ s → ⊥) → A
-not_done r s verdict stands is other = absurd (other (sym stands.status_is ∙ is))
-
-refused_only : (r : Run) (input : List ℕ) → CommandPromise recheck_task r → r.source.bytes ≡ Some input → r.status ≡ statuses.Refused → Faults recheck_task r input
-refused_only r input promise told is =
-    ⊎_elim
-    (λ (got : Replies recheck_task r input). not_done r statuses.Refused got.answer got.stands is (λ e. cc))
-    (λ (none : Faults recheck_task r input). none)
-    (of_input recheck_task r (λ bytes. Replies recheck_task r bytes ⊎ Faults recheck_task r bytes) input (promise.refused_only is) told)
-
-decided : (r : Run) → CommandPromise recheck_task r → r.status ≡ statuses.Undecided → ⊥
-decided r promise is =
-    let got = promise.undecided_only is in
-    not_done r statuses.Undecided got.holds.answer got.holds.stands is (λ e. cc)
-
 -- All that `recheck` promises besides.
 pub recheck_promised : (r : Run) → (AsksFor r.words Recheck → CommandPromise recheck_task r) → RecheckPromise r
 recheck_promised r keeps = record {
   complete = λ input b run within is held. complete r input b (keeps run.asks) run.told within is held;
   accepted = λ input b run within is held. accepted r input b (keeps run.asks) run.told within is held;
-  accepted_only = λ input run is. accepted_only r input (keeps run.asks) run.told is;
+  accepted_only = λ input run is. done_replies recheck_task r input (keeps run.asks) run.told is;
   answers = λ input run is. answers r input (keeps run.asks) run.told is;
   refused = λ input error run fault held. (keeps run.asks).refused input error run.told fault held;
-  refused_only = λ input run is. refused_only r input (keeps run.asks) run.told is;
-  limit_only = λ input run is. limit_only r input (keeps run.asks) run.told is;
-  decided = λ asks is. decided r (keeps asks) is;
+  refused_only = λ input run is. of_input recheck_task r (Faults recheck_task r) input (refused_faults recheck_task r (λ verdict. refl) (keeps run.asks) is) run.told;
+  limit_only = λ input run is. limit_beyond recheck_task r input no_limit (keeps run.asks) run.told is;
+  decided = λ asks is. never_undecided recheck_task r (λ verdict. refl) (keeps asks) is;
 }
