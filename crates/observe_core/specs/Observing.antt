@@ -1,5 +1,5 @@
 -- Rows as the digits of masks.
-use Rattle.std.specs.Prelude.{◌≡◌, ℕ, ◌≤◌, ◌<◌, ◌^◌, List, true, false, ◌&&◌, length, slice_index}
+use Rattle.std.specs.Prelude.{◌≡◌, ℕ, ◌≤◌, ◌<◌, ◌^◌, List, true, false, ◌&&◌, length, slice_index, ◌⊎◌}
 use Rattle.chain_theory.specs.Chain.{Chain, IsChain}
 use Rattle.chain_theory.specs.Agreement.{Agrees}
 use Rattle.chain_theory.specs.Operator.{digit}
@@ -7,13 +7,25 @@ use Rattle.chain_theory.specs.Specification.{Specification}
 use Rattle.net_theory.specs.Net.{Net}
 use Rattle.tt_core.specs.Words.{Words}
 use Rattle.lane_sim.specs.Cone.{Cone}
-use Rattle.window_theory.specs.Places.{among, AreJust}
+use Rattle.window_theory.specs.Places.{among, IsRising, AreJust}
 use Rattle.window_theory.specs.Surround.{LeadsTo}
 use Rattle.window_core.specs.Surrounding.{gate_places, AreAbove, AreCovered, IsBehind}
 use Rattle.window_theory.specs.Window.{Window}
 use Rattle.observe_theory.specs.Tail.{Tail}
 use Rattle.observe_theory.specs.Unseen.{IsFirst, IsUnseen}
 use Rattle.observe_theory.specs.Observed.{IsObservedOf}
+
+-- a place of one of two lists
+abbrev pub IsEither : List ℕ → List ℕ → ℕ → Type 0
+IsEither one other p = (among one p ≡ true) ⊎ (among other p ≡ true)
+
+-- Of two lists the places were put into one, as far as those of the second aren't left.
+pub record ArePutTogether (one other left both : List ℕ) : Type 0 where
+  pub within : (p : ℕ) → among left p ≡ true → among other p ≡ true
+  pub rising : IsRising both
+  pub only : (p : ℕ) → among both p ≡ true → IsEither one other p
+  pub first : (p : ℕ) → among one p ≡ true → among both p ≡ true
+  pub second : (p : ℕ) → among other p ≡ true → IsEither both left p
 
 -- The observing surround as a cone of the net.
 pub record IsObservingCone (n : Net) (w : Window) (t : Tail) (c : Cone) : Type 0 where

@@ -10,29 +10,31 @@ use Rattle.net_theory.specs.declared.data.Sig.TheVariants as sigs
 use Rattle.net_theory.specs.Net.{Net, IsNet, end_of, sig_value}
 use Rattle.lane_sim.specs.Cone.{Cone, IsCone, places, value_in}
 use Rattle.lane_sim.specs.Words.{ArePatternsOf, pattern, pattern_under, width_of}
-use Rattle.window_theory.specs.Places.{among, AreJust}
-use Rattle.window_theory.specs.PlaceLaws.{among_cases, just_same}
+use Rattle.window_theory.specs.Places.{among, IsRising, AreJust}
+use Rattle.window_theory.specs.PlaceLaws.{among_cases, among_first, among_later, just_same}
 use Rattle.window_theory.specs.Paths.{IsGate, LeadsUp, at_once, by_way_of}
-use Rattle.window_theory.specs.Window.{Window, IsInput, Belongs}
+use Rattle.window_theory.specs.Window.{Window, IsApart, Belongs}
 use Rattle.window_theory.specs.Surround.{LeadsTo}
 use Rattle.window_theory.specs.SurroundLaws.{leaves_one}
 use Rattle.window_theory.specs.Care.{values_with, HasRow}
 use Rattle.window_theory.specs.FixedLaws.{part_values}
 use Rattle.window_theory.specs.PairLaws.{among_at}
 use Rattle.window_theory.specs.Rows.{has_row}
+use Rattle.window_core.specs.Rising.{put}
+use Rattle.window_core.specs.RisingLaws.{put_rising, put_own, put_only, put_kept}
 use Rattle.window_core.specs.Surrounding.{gate_places, AreAbove, AreCovered, IsBehind}
 use Rattle.window_core.specs.ConeLaws.{among_get, cone_part}
 use Rattle.window_core.specs.MaskingLaws.{get_is, pattern_row, row_pattern, leaf_value}
 use Rattle.std.proofs.lemmas.Option.{slice_get_within}
-use Rattle.observe_theory.specs.Tail.{AreFollowing, AreTail, IsSide, Tail, IsTail, IsApart}
-use Rattle.observe_theory.specs.TailLaws.{side_apart, input_apart}
+use Rattle.observe_theory.specs.Tail.{AreFollowing, AreTail, Tail, IsTail}
+use Rattle.observe_theory.specs.TailLaws.{side_apart}
 use Rattle.observe_theory.specs.ApartLaws.{AreFree, apart_read, leaves_free, read_within, not_output}
 use Rattle.observe_theory.specs.Unseen.{IsFirst, IsUnseen}
-use Rattle.observe_theory.specs.JoinedLaws.{in_front, in_back, in_parts, is_off, out_back}
+use Rattle.observe_theory.specs.JoinedLaws.{in_front, in_back, in_parts, is_off}
 use Rattle.observe_core.specs.TakingLaws.{tail_outside}
 use Rattle.observe_core.specs.Putting.{IsAbove}
 use Rattle.observe_core.specs.Differing.{bit_in, IsTold, AreTelling}
-use Rattle.observe_core.specs.Observing.{IsObservingCone, IsSeenMask}
+use Rattle.observe_core.specs.Observing.{IsEither, ArePutTogether, IsObservingCone, IsSeenMask}
 
 -- ---- the tail depends on the window
 
@@ -69,43 +71,63 @@ apart_tail n gates tail p are apart on = let up = taken_up n gates are.taken p a
 
 -- ---- the first leaves
 
-pub first_is : (n : Net) (w : Window) (t : Tail) (first : List ℕ) → Belongs n w → IsTail n w t → AreJust (IsInput n (t.gates ++ w.gates)) first → AreJust (IsFirst w t) first
-first_is n w t first is tail just =
+pub together_start : (one other both : List ℕ) → IsRising one → both ≡ one → ArePutTogether one other other both
+together_start one other both rising same =
+    subst (ArePutTogether one other other) (sym same) (record {
+      within = λ p e. e;
+      rising = rising;
+      only = λ p e. inl e;
+      first = λ p e. e;
+      second = λ p e. inr e;
+    })
+
+pub together_more : (one other left : List ℕ) (x : ℕ) (rest both next : List ℕ) → left ≡ x ∷ rest → next ≡ put x both → ArePutTogether one other left both → ArePutTogether one other rest next
+together_more one other left x rest both next parts new was =
+    let at : (p : ℕ) → among (x ∷ rest) p ≡ true → among left p ≡ true = λ p e. ap (λ (xs : List ℕ). among xs p) parts ∙ e in
+    subst (ArePutTogether one other rest) (sym new) (record {
+      within = λ p e. was.within p (at p (among_later x p rest e));
+      rising = put_rising x both was.rising;
+      only = λ p e. ⊎_elim
+          (λ (same : p ≡ x). inr (subst (λ (q : ℕ). among other q ≡ true) (sym same) (was.within x (at x (among_first x rest)))))
+          (λ old. was.only p old)
+          (put_only x p both e);
+      first = λ p e. put_kept x p both (was.first p e);
+      second = λ p e. ⊎_elim
+          (λ old. inl (put_kept x p both old))
+          (λ here. ⊎_elim
+          (λ (same : p ≡ x). inl (subst (λ (q : ℕ). among (put x both) q ≡ true) (sym same) (put_own x both)))
+          (λ later. inr later)
+          (among_cases x p rest (ap (λ (xs : List ℕ). among xs p) (sym parts) ∙ here)))
+          (was.second p e);
+    })
+
+pub together_end : (one other left both : List ℕ) → length left ≡ 0 → ArePutTogether one other left both → AreJust (IsEither one other) both
+together_end one other left both none are =
     record {
-      rising = just.rising;
-      only = λ p e.
-          let input = just.only p e in
-          ⊎_elim
-          (λ a. inr (tail.sides.all p (record { outside = input.outside; read = record { reader = input.read.reader; inside = a; reads = input.read.reads } })))
-          (λ b. inl (is.inputs.all p (record { outside = out_back t.gates w.gates p input.outside; read = record { reader = input.read.reader; inside = b; reads = input.read.reads } })))
-          (in_parts t.gates w.gates input.read.reader input.read.inside);
-      all = λ p from. just.all p (⊎_elim
-          (λ a.
-          let input : IsInput n w.gates p = is.inputs.only p a in
-          record {
-            outside = is_off (t.gates ++ w.gates) p (λ on. ⊎_elim
-                (λ x. apart_tail n w.gates t.gates p tail.gates (input_apart n w p is a) x)
-                (λ y. both_ways (among w.gates p) input.outside y)
-                (in_parts t.gates w.gates p on));
-            read = record { reader = input.read.reader; inside = in_back t.gates w.gates input.read.reader input.read.inside; reads = input.read.reads };
-          })
-          (λ b.
-          let side : IsSide n w.gates t.gates p = tail.sides.only p b in
-          record { outside = side.outside; read = record { reader = side.read.reader; inside = in_front t.gates w.gates side.read.reader side.read.inside; reads = side.read.reads } })
-          from);
+      rising = are.rising;
+      only = are.only;
+      all = λ p from. ⊎_elim
+          (λ a. are.first p a)
+          (λ b. ⊎_elim (λ there. there) (λ here. absurd (none_left left p none here)) (are.second p b))
+          from;
     }
+  where
+    none_left : (xs : List ℕ) (p : ℕ) → length xs ≡ 0 → among xs p ≡ true → ⊥
+    none_left [] p e on = let x : false ≡ true = on in absurd cc
+    none_left (x ∷ xs) p e on = absurd (omega arith)
 
--- all of them are gates' places
-pub joined_gates : (n : Net) (w : Window) (t : Tail) (p : ℕ) → Belongs n w → IsTail n w t → among (t.gates ++ w.gates) p ≡ true → IsGate n p
-joined_gates n w t p is tail on = ⊎_elim (λ a. tail_gate n w.gates t.gates p tail.gates a) (λ b. is.gates p b) (in_parts t.gates w.gates p on)
-
-pub first_within : (n : Net) (w : Window) (t : Tail) (first : List ℕ) (p : ℕ) → IsNet n → AreJust (IsInput n (t.gates ++ w.gates)) first → among first p ≡ true → p < end_of n
-first_within n w t first p net just on = let input = just.only p on in read_within n input.read.reader p net input.read.reads
+-- all of them are places of the net
+pub first_within : (n : Net) (w : Window) (t : Tail) (p : ℕ) → IsNet n → Belongs n w → IsTail n w t → IsFirst w t p → p < end_of n
+first_within n w t p net is tail from =
+    ⊎_elim
+    (λ a. (is.within p a).1)
+    (λ b. let side = tail.sides.only p b in read_within n side.read.reader p net side.read.reads)
+    from
 
 -- ---- the tail above the observing surround
 
 first_apart : (n : Net) (w : Window) (t : Tail) (p : ℕ) → IsNet n → Belongs n w → IsTail n w t → IsFirst w t p → IsApart n w.gates p
-first_apart n w t p net is tail from = ⊎_elim (λ a. input_apart n w p is a) (λ b. side_apart n w t p net tail b) from
+first_apart n w t p net is tail from = ⊎_elim (λ a. is.apart p a) (λ b. side_apart n w t p net tail b) from
 
 up_apart : (n : Net) (gates : List ℕ) (p f : ℕ) → LeadsUp n p f → IsApart n gates f → IsApart n gates p
 up_apart n gates _ _ (at_once p f reads) apart = apart_read n gates f p apart reads
@@ -116,7 +138,7 @@ surround_apart n w t c p net is tail cone on =
     ⊎_elim
     (λ leaf.
     let free : AreFree n w.gates c.leaves = leaves_free n w.gates cone.first c.leaves net
-    (record { apart = λ q e. first_apart n w t q net is tail (cone.just.only q e); within = λ q e. first_low q (cone.just.only q e) })
+    (record { apart = λ q e. first_apart n w t q net is tail (cone.just.only q e); within = λ q e. first_within n w t q net is tail (cone.just.only q e) })
     cone.leads in
     free.apart p leaf)
     (λ inside.
@@ -124,12 +146,6 @@ surround_apart n w t c p net is tail cone on =
     let apart : IsApart n w.gates behind.place = first_apart n w t behind.place net is tail (cone.just.only behind.place behind.inside) in
     ⊎_elim (λ same. subst (IsApart n w.gates) (sym same) apart) (λ up. up_apart n w.gates p behind.place up apart) behind.why)
     (in_parts c.leaves (gate_places c.gates) p on)
-  where
-    first_low : (q : ℕ) → IsFirst w t q → q < end_of n
-    first_low q from = ⊎_elim
-        (λ a. let input = is.inputs.only q a in read_within n input.read.reader q net input.read.reads)
-        (λ b. let side = tail.sides.only q b in read_within n side.read.reader q net side.read.reads)
-        from
 
 pub tail_above : (n : Net) (w : Window) (t : Tail) (c : Cone) → IsNet n → Belongs n w → IsTail n w t → IsObservingCone n w t c → IsAbove n w.outputs c t.gates
 tail_above n w t c net is tail cone =
@@ -235,9 +251,9 @@ all_seen n w t few none =
 pub bare_seen : (n : Net) (w : Window) (t : Tail) (row : ℕ) → t.bare ≡ true → IsUnseen n w t row → ⊥
 bare_seen n w t row bare unseen = both_ways t.bare unseen.hidden bare
 
-pub many_seen : (n : Net) (w : Window) (t : Tail) (first : List ℕ) (row : ℕ) → Belongs n w → IsTail n w t → AreJust (IsInput n (t.gates ++ w.gates)) first → 12 < length first → IsUnseen n w t row → ⊥
-many_seen n w t first row is tail just many unseen =
-    let same : unseen.observing.first ≡ first = just_same (IsFirst w t) unseen.observing.first first unseen.observing.just (first_is n w t first is tail just) in
+pub many_seen : (n : Net) (w : Window) (t : Tail) (first : List ℕ) (row : ℕ) → AreJust (IsFirst w t) first → 12 < length first → IsUnseen n w t row → ⊥
+many_seen n w t first row just many unseen =
+    let same : unseen.observing.first ≡ first = just_same (IsFirst w t) unseen.observing.first first unseen.observing.just just in
     omega (arith, ap (length {A = ℕ}) same, unseen.observing.few, many)
 
 -- the observing surround by the code's own list of first leaves

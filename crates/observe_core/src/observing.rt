@@ -2,33 +2,31 @@
 //! assignment of the observing surround's leaves that gives the row, some watcher distinguishes two values of the window's
 //! outputs.
 
-ghost use Rattle.std.specs.Prelude.{◌≡◌, ℕ, ◌≤◌, ◌<◌, ◌++◌, true, false, length, IfOk};
-ghost use Rattle.window_theory.specs.Places.{among, AreJust};
-ghost use Rattle.window_theory.specs.Paths.{IsGate};
-ghost use Rattle.window_theory.specs.Window.{IsInput, Belongs};
+ghost use Rattle.std.specs.Prelude.{◌≡◌, ◌≤◌, ◌<◌, true, false, length, IfOk};
+ghost use Rattle.window_theory.specs.Places.{IsRising, AreJust};
+ghost use Rattle.window_theory.specs.Window.{Belongs};
 ghost use Rattle.observe_theory.specs.Tail.{IsTail};
-ghost use Rattle.observe_core.specs.Observing.{IsObservingCone, IsSeenMask};
+ghost use Rattle.observe_core.specs.Observing.{IsEither, IsObservingCone, IsSeenMask};
 
 use crate::differing::telling;
-use crate::shape::{MOST_OF_TAIL, Tail};
+use crate::shape::Tail;
 use lane_sim::{Cone, MOST_LEAVES, cone_words, patterns_on};
 use std::alloc::{AllocError, Global};
-use window_core::{MOST_GATES, Net, Window, all_inputs, signals_of, surround};
+use window_core::{Net, Window, put, signals_of, surround};
 
-/// What the gates of a window and of its tail read from outside.
-fn first_leaves(
-    alloc: Global,
-    net: &Net,
-    gates: &[u32],
-    tail: &[u32],
-) -> Result<Vec<u32>, AllocError>
-    requires { (p : ℕ) → among (tail.now ++ gates.now) p ≡ true → IsGate net.now p }
-    ensures { IfOk result (λ first. AreJust (IsInput net.now (tail.now ++ gates.now)) first.items) }
+/// The inputs of a window and of its tail, in one rising list.
+fn first_leaves(alloc: Global, inputs: &[u32], sides: &[u32]) -> Result<Vec<u32>, AllocError>
+    requires { IsRising inputs.now }
+    ensures { IfOk result (λ first. AreJust (IsEither inputs.now sides.now) first.items) }
 {
-    let mut all = Vec::with_capacity(alloc, MOST_OF_TAIL + MOST_GATES)?;
-    all.extend_from_slice(tail)?;
-    all.extend_from_slice(gates)?;
-    all_inputs(alloc, net, &all)
+    let mut first = Vec::with_capacity(alloc, 2 * MOST_LEAVES)?;
+    first.extend_from_slice(inputs)?;
+    let mut left = sides;
+    while let Some((place, rest)) = left.split_first() {
+        put(&mut first, *place)?;
+        left = rest;
+    }
+    Ok(first)
 }
 
 /// Whether places are more than a surround may begin with.
@@ -85,7 +83,7 @@ pub(crate) fn seen_rows(
     if tail.bare {
         return Ok(u64::MAX);
     }
-    let first = first_leaves(alloc, net, window.gates(), &tail.gates)?;
+    let first = first_leaves(alloc, window.inputs(), &tail.sides)?;
     if are_too_many(&first) {
         return Ok(u64::MAX);
     }

@@ -1,14 +1,14 @@
 -- Marks that are written one by one, and turned.
 use Rattle.std.proofs.Common.{◌≡◌, ℕ, zero, suc, ◌+◌, ◌<◌, Bool, true, false, not, ◌&&◌, ◌||◌, List, [], ◌∷◌, ◌++◌, length, set, get_or, replicate, refl, ◌∙◌, ap, sym, subst, arith, ⊎_elim, ltb, if◌then◌else◌}
-use Rattle.std.specs.Prelude.{slice_get, Some}
-use Rattle.std.proofs.lemmas.Bool.{cases_eq, cases_lt, lt-ltb, le-ltb, cond-true, cond-false, eq-eqb, ne_eqb}
+use Rattle.std.specs.Prelude.{slice_get, slice_index_or, Some}
+use Rattle.std.proofs.lemmas.Bool.{cases_eq, cases_lt, both_ways, lt-ltb, le-ltb, cond-true, cond-false, eq-eqb, ne_eqb}
 use Rattle.std.proofs.lemmas.List.{get_or-set_same, get_or-set_other}
 use Rattle.net_theory.specs.NameLaws.{all_at, at_all}
 use Rattle.net_theory.specs.ValueLaws.{at_front, at_end}
 use Rattle.net_core.specs.Marks.{set_of, no_marks}
 use Rattle.window_theory.specs.Places.{among}
-use Rattle.window_theory.specs.PlaceLaws.{among_first, among_later}
-use Rattle.subst_core.specs.Lists.{AreBelow}
+use Rattle.window_theory.specs.PlaceLaws.{among_cases, among_first, among_later}
+use Rattle.subst_core.specs.Lists.{AreBelow, AreUnmarked}
 use Rattle.subst_core.specs.Placing.{with_places}
 
 -- ---- places that are marked
@@ -114,3 +114,19 @@ among_at (q ∷ places) (suc i) p at = among_later q p places (among_at places i
 
 pub list_below : (bound : ℕ) (places : List ℕ) → ((p : ℕ) → among places p ≡ true → p < bound) → AreBelow bound places
 list_below bound places each = at_all (λ (q : ℕ). q < bound) places (λ i p at. each p (among_at places i p at))
+
+-- ---- places that aren't marked
+
+-- once the first isn't marked those that are left decide
+pub unmarked_next : (marks : List Bool) (places left rest : List ℕ) (q : ℕ) → left ≡ q ∷ rest → slice_index_or marks q false ≡ false → (AreUnmarked (set_of marks) left → AreUnmarked (set_of marks) places) → AreUnmarked (set_of marks) rest → AreUnmarked (set_of marks) places
+unfolding set_of
+unmarked_next marks places left rest q parts off was others =
+    was (λ p e. ⊎_elim (λ (same : p ≡ q). ap (λ (k : ℕ). slice_index_or marks k false) same ∙ off) (λ later. others p later) (among_cases q p rest (ap (λ (xs : List ℕ). among xs p) (sym parts) ∙ e)))
+
+pub marked_first : (marks : List Bool) (places left rest : List ℕ) (q : ℕ) → left ≡ q ∷ rest → slice_index_or marks q false ≡ true → ((p : ℕ) → among left p ≡ true → among places p ≡ true) → AreUnmarked (set_of marks) places → ⊥
+unfolding set_of
+marked_first marks places left rest q parts on within none =
+    both_ways (slice_index_or marks q false) (none q (within q (ap (λ (xs : List ℕ). among xs q) parts ∙ among_first q rest))) on
+
+pub rest_within : (places left rest : List ℕ) (q : ℕ) → left ≡ q ∷ rest → ((p : ℕ) → among left p ≡ true → among places p ≡ true) → (p : ℕ) → among rest p ≡ true → among places p ≡ true
+rest_within places left rest q parts within p e = within p (ap (λ (xs : List ℕ). among xs p) parts ∙ among_later q p rest e)

@@ -1,5 +1,6 @@
 -- A window by its lists.
-use Rattle.std.specs.Prelude.{◌≡◌, ℕ, ◌<◌, List, All, None}
+use Rattle.std.specs.Prelude.{◌≡◌, ℕ, ◌<◌, Bool, true, false, List, All, None}
+use Rattle.window_theory.specs.Places.{among}
 use Rattle.window_theory.specs.Window.{Window}
 use Rattle.subst_core.specs.declared.lists.WindowLists.{WindowLists}
 
@@ -16,3 +17,7 @@ pub record HaveSameLists (w v : Window) : Type 0 where
 -- each of the places is below a bound
 abbrev pub AreBelow : ℕ → List ℕ → Type 0
 AreBelow bound places = All (λ (p : ℕ). p < bound) places
+
+-- none of the places is marked
+abbrev pub AreUnmarked : (ℕ → Bool) → List ℕ → Type 0
+AreUnmarked marks places = (p : ℕ) → among places p ≡ true → marks p ≡ false

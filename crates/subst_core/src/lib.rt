@@ -9,6 +9,9 @@
 //!   sinks keep their values; `replace_keeping` drops the gates that are dead then, too.
 //! - `substitute` does so with a chain that agrees with what the window has to compute.
 //!
+//! `are_apart` tells whether places may be inputs of a window, also such as its gates don't read: then the chain may
+//! compute the outputs from them too.
+//!
 //! The window comes as its three lists of places. A window that has the same lists, with whatever root, does as
 //! well (`laws::roots_do_not_matter`).
 //!
@@ -28,6 +31,7 @@ mod substitution;
 
 pub use chain_core::Chain;
 pub use lists::WindowLists;
+pub use marks::are_apart;
 pub use net_core::Net;
 pub use replacing::replace_keeping;
 pub use splicing::splice;

@@ -1,14 +1,17 @@
-//! Marks on the places of a net: what a window's inputs are computed from, and all else outside the window.
+//! Marks on the places of a net: what a window's inputs are computed from, and all else outside the window. They also
+//! tell which places may be inputs of a window.
 
-ghost use Rattle.std.specs.Prelude.{◌≡◌, ℕ, ◌<◌, ◌&&◌, not, length};
+ghost use Rattle.std.specs.Prelude.{◌≡◌, ℕ, ◌<◌, ◌&&◌, not, true, length, IfOk};
 ghost use Rattle.net_theory.specs.Net.{end_of};
 ghost use Rattle.net_theory.specs.Reach.{reach};
 ghost use Rattle.net_core.specs.Marks.{set_of, no_marks};
 ghost use Rattle.window_theory.specs.Places.{among};
-ghost use Rattle.subst_core.specs.Lists.{AreBelow};
+ghost use Rattle.window_theory.specs.Window.{IsApart};
+ghost use Rattle.subst_core.specs.Lists.{AreBelow, AreUnmarked};
 ghost use Rattle.subst_core.specs.Placing.{with_places};
 
 use net_core::{Net, mark_reached};
+use std::alloc::{AllocError, Global};
 
 /// Marks places.
 fn mark_places(marks: &mut [bool], places: &[u32])
@@ -50,4 +53,52 @@ pub(crate) fn mark_others(marks: &mut [bool], places: &[u32])
 {
     mark_places(marks, places);
     turn(marks);
+}
+
+/// Whether none of the places is marked.
+fn are_unmarked(marks: &[bool], places: &[u32]) -> bool
+    requires { AreBelow (length marks.now) places.now }
+    ensures yes { result ≡ true → AreUnmarked (set_of marks.now) places.now }
+    ensures no { AreUnmarked (set_of marks.now) places.now → result ≡ true }
+{
+    let mut left = places;
+    while let Some((place, rest)) = left.split_first() {
+        if marks[*place as usize] {
+            return false;
+        }
+        left = rest;
+    }
+    true
+}
+
+/// Whether places don't depend on gates, by marks of which none is set.
+fn are_apart_by(marks: &mut [bool], net: &Net, gates: &[u32], places: &[u32]) -> bool
+    requires none { set_of marks.old ≡ no_marks }
+    requires count { length marks.old ≡ end_of net.now }
+    requires gates { AreBelow (end_of net.now) gates.now }
+    requires places { AreBelow (end_of net.now) places.now }
+    ensures yes { result ≡ true → (p : ℕ) → among places.now p ≡ true → IsApart net.now gates.now p }
+    ensures no { ((p : ℕ) → among places.now p ≡ true → IsApart net.now gates.now p) → result ≡ true }
+{
+    let _gates = net.gates(); // brings the net's invariant into the proof
+    mark_early(marks, net, places);
+    are_unmarked(marks, gates)
+}
+
+/// Whether places don't depend on gates: none is one of these, or in their transitive fanout. Just such places may be
+/// the inputs of a window of these gates.
+pub fn are_apart(
+    alloc: Global,
+    net: &Net,
+    gates: &[u32],
+    places: &[u32],
+) -> Result<bool, AllocError>
+    requires gates { AreBelow (end_of net.now) gates.now }
+    requires places { AreBelow (end_of net.now) places.now }
+    ensures yes { IfOk result (λ answer. answer ≡ true → (p : ℕ) → among places.now p ≡ true → IsApart net.now gates.now p) }
+    ensures no { IfOk result (λ answer. ((p : ℕ) → among places.now p ≡ true → IsApart net.now gates.now p) → answer ≡ true) }
+{
+    let count = net.sources() as usize + 1 + net.gates().len();
+    let mut marks = vec![in alloc; false; count]?;
+    Ok(are_apart_by(&mut marks, net, gates, places))
 }

@@ -13,7 +13,7 @@ use Rattle.chain_theory.specs.declared.data.Cell.TheVariants.{Zero, One, Free}
 use Rattle.net_theory.specs.declared.data.Sig.{Sig}
 use Rattle.net_theory.specs.declared.data.Sig.TheVariants as sigs
 use Rattle.net_theory.specs.declared.data.Gate.{Gate}
-use Rattle.net_theory.specs.Net.{Net, IsNet, sig_value, end_of}
+use Rattle.net_theory.specs.Net.{Net, IsNet, sig_value}
 use Rattle.tt_core.specs.Words as tables
 use Rattle.tt_core.specs.Words.{IsSpec, specification}
 use Rattle.lane_sim.specs.Cone.{Cone, IsCone, IsSigAmong, places, value_in}
@@ -29,7 +29,6 @@ use Rattle.window_theory.specs.Rows.{has_row}
 use Rattle.window_theory.specs.Care.{HasRow, IsSpecificationOf, values_with, cell_of}
 use Rattle.window_theory.specs.CarePartLaws.{row_shown, row_found}
 use Rattle.window_theory.specs.FixedLaws.{part_values}
-use Rattle.window_theory.specs.WindowLaws.{reads_low, gate_high}
 use Rattle.window_core.specs.Gates.{IsGateOf}
 use Rattle.window_core.specs.Surrounding.{gate_places, AreAbove, AreCovered}
 use Rattle.window_core.specs.Masking.{IsCareMask, ArePlaced, HasValues, AreMasked}
@@ -181,15 +180,15 @@ inner_above n w inputs gates is same few are =
     let inside : (p : ℕ) → among (gate_places gates) p ≡ true → among w.gates p ≡ true = λ p e. ap (λ (xs : List ℕ). among xs p) (sym own) ∙ e in
     subst (λ (xs : List ℕ). AreAbove n xs gates) (sym same) (record {
       few = omega (arith, few);
-      leaves_rising = is.inputs.rising;
+      leaves_rising = is.inputs_rising;
       gates_rising = subst IsRising (sym own) is.rising;
-      apart = λ p e f. both_ways (among w.gates p) (is.inputs.only p e).outside (inside p f);
+      apart = λ p e f. both_ways (among w.gates p) (is.apart p e).outside (inside p f);
       own = are.own;
       reads = λ i q x at reads.
           let reader : among w.gates x.0 ≡ true = inside x.0 (placed gates i x at) in
           ⊎_elim
           (λ within. inr (ap (λ (xs : List ℕ). among xs q) own ∙ within))
-          (λ out. inl (is.inputs.all q (record { outside = out; read = record { reader = x.0; inside = reader; reads = of_reads n x.0 q x.1 (are.own i x at) reads } })))
+          (λ out. inl (is.read q (record { outside = out; read = record { reader = x.0; inside = reader; reads = of_reads n x.0 q x.1 (are.own i x at) reads } })))
           (cases_Bool (among w.gates q));
     })
   where
@@ -355,10 +354,3 @@ specification_is n w c mask s net is leaves own above care_mask inputs are =
     and_on : (b : Bool) → (b && true) ≡ b
     and_on true = refl
     and_on false = refl
-
--- the inputs of a window are places of the net
-pub inputs_within : (n : Net) (w : Window) (p : ℕ) → IsNet n → Belongs n w → among w.inputs p ≡ true → p < end_of n
-inputs_within n w p net is e =
-    let read = (is.inputs.only p e).read in
-    let high = gate_high n read.reader read.reads.reader in
-    omega (arith, (reads_low n read.reader p net read.reads).1, high.1)

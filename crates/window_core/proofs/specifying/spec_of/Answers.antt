@@ -4,12 +4,12 @@ use Rattle.tt_core.specs.Words.{Words, specification}
 use Rattle.window_theory.specs.Places.{among}
 use Rattle.window_theory.specs.Care.{IsSpecificationOf}
 use Rattle.window_core.specs.Masking.{IsCareMask, AreMasked}
-use Rattle.window_core.specs.MaskingLaws.{specification_is, inputs_within}
+use Rattle.window_core.specs.MaskingLaws.{specification_is}
 use Rattle.window_core.proofs.specifying.spec_of.Goals as goal
 
 pub care_rows-requires-clause-within : goal.care_rows-requires-clause-within
 care_rows-requires-clause-within c = λ p e.
-    inputs_within c.args.net.now c.args.window.now p c.sources-sources.ensures.net c.requires (ap (λ (xs : List ℕ). among xs p) (sym c.inputs.ensures.value) ∙ e)
+    (c.requires.within p (ap (λ (xs : List ℕ). among xs p) (sym c.inputs.ensures.value) ∙ e)).1
 
 pub returns : goal.returns
 returns c =
