@@ -18,7 +18,7 @@ use std::alloc::Global;
 /// that lists a well-formed document is refused for lack of memory alone. The circuit has the
 /// document's names and computes what the document says; its model's name is `top`. The time is
 /// linear in the text, but for combinational loops.
-#[tactic(auto, using(crate::proofs::Refused::refusals))]
+#[tactic(auto, using(blif_core::specs::RefusedLaws::refusals))]
 pub fn read_bench(alloc: Global, bytes: &[u8]) -> Result<Circuit, NetError>
     requires { length bytes.now < 2 ^ 31 }
     ensures circuit { IfOk result (IsCircuitOfText bench_format bytes.now) }

@@ -49,30 +49,6 @@ pair_cover op = record { width = 2; cubes = binary_cubes op; on = true; parity =
 abbrev IsPairWord : ℕ → Type 0
 IsPairWord op = is_gate_word (binary_word (pair_cover op)) ≡ true
 
-pair_1 : IsPairWord 1
-unfolding is_gate_word binary_cubes cover_value matches
-pair_1 = refl
-
-pair_6 : IsPairWord 6
-unfolding is_gate_word binary_cubes cover_value matches
-pair_6 = refl
-
-pair_7 : IsPairWord 7
-unfolding is_gate_word binary_cubes cover_value matches
-pair_7 = refl
-
-pair_8 : IsPairWord 8
-unfolding is_gate_word binary_cubes cover_value matches
-pair_8 = refl
-
-pair_9 : IsPairWord 9
-unfolding is_gate_word binary_cubes cover_value matches
-pair_9 = refl
-
-pair_14 : IsPairWord 14
-unfolding is_gate_word binary_cubes cover_value matches
-pair_14 = refl
-
 by_words : (Q : ℕ → Type 0) (op : ℕ) → Q 1 → Q 6 → Q 7 → Q 8 → Q 9 → Q 14 → is_gate_word op ≡ true → Q op
 unfolding is_gate_word
 by_words Q op q1 q6 q7 q8 q9 q14 e =
@@ -87,7 +63,8 @@ by_words Q op q1 q6 q7 q8 q9 q14 e =
     (λ f. subst Q (sym (eqb-true op 14 f)) q14)
 
 pair_word : (op : ℕ) → is_gate_word op ≡ true → IsPairWord op
-pair_word op e = by_words (λ k. IsPairWord k) op pair_1 pair_6 pair_7 pair_8 pair_9 pair_14 e
+unfolding is_gate_word binary_cubes cover_value matches
+pair_word op e = by_words (λ k. IsPairWord k) op refl refl refl refl refl refl e
 
 binary_fit : (op : ℕ) (a b o : Name) → is_gate_word op ≡ true → IsFree a → IsFree b → IsFree o → IsFit (binary_table op a b o)
 binary_fit op a b o e x y out = record { output = out; inputs = All-cons IsFree a (b ∷ []) x (one_free b y); spell = pair_word op e }
@@ -207,35 +184,18 @@ pub record IsReadKey (word : ℕ) : Type 0 where
   pub key : keyword_of (key_text (binary_key word)) ≡ GateWord (binary_key word)
   pub counted : (a b : Name) → is_counted (binary_key word) (a ∷ b ∷ []) ≡ true
 
-key_1 : IsReadKey 1
-unfolding binary_key keyword_of gate_key_of is_key
-key_1 = record { key = refl; counted = λ a b. refl }
-
-key_6 : IsReadKey 6
-unfolding binary_key keyword_of gate_key_of is_key
-key_6 = record { key = refl; counted = λ a b. refl }
-
-key_7 : IsReadKey 7
-unfolding binary_key keyword_of gate_key_of is_key
-key_7 = record { key = refl; counted = λ a b. refl }
-
-key_8 : IsReadKey 8
-unfolding binary_key keyword_of gate_key_of is_key
-key_8 = record { key = refl; counted = λ a b. refl }
-
-key_9 : IsReadKey 9
-unfolding binary_key keyword_of gate_key_of is_key
-key_9 = record { key = refl; counted = λ a b. refl }
-
-key_14 : IsReadKey 14
-unfolding binary_key keyword_of gate_key_of is_key
-key_14 = record { key = refl; counted = λ a b. refl }
+key_read : (word : ℕ) → is_gate_word word ≡ true → IsReadKey word
+unfolding is_gate_word binary_key keyword_of gate_key_of is_key
+key_read word can = record {
+  key = by_words (λ k. keyword_of (key_text (binary_key k)) ≡ GateWord (binary_key k)) word refl refl refl refl refl refl can;
+  counted = λ a b. by_words (λ k. is_counted (binary_key k) (a ∷ b ∷ []) ≡ true) word refl refl refl refl refl refl can;
+}
 
 line_plain : (source : Name) (t : Table) (ns : List Name) → IsPlainName source → IsPlainName t.output → All IsPlainName ns → CanSpellBy t ns → IsPlainLine (line_by source t ns)
 line_plain source t [] s out all can = constant_plain t.output source (cover_value t.cover []) out s
 line_plain source t (a ∷ []) s out all can = unary_plain t.output a (cover_value t.cover (false ∷ [])) (cover_value t.cover (true ∷ [])) out (All-head IsPlainName a [] all)
 line_plain source t (a ∷ b ∷ []) s out all can =
-    let key = by_words IsReadKey (binary_word t.cover) key_1 key_6 key_7 key_8 key_9 key_14 can in
+    let key = key_read (binary_word t.cover) can in
     record {
       output = out;
       first = All-head IsPlainName a (b ∷ []) all;
