@@ -46,27 +46,7 @@ fn besides(lits: &[Lit], lit: Lit) -> Lit
     lits[usize::from(lits[0] == lit)]
 }
 
-/// The first literal that isn't false, with its index.
-fn standing_in(trail: &Trail, lits: &[Lit]) -> Option<Standing>
-    requires within { IsWithin trail.now.vars lits.now }
-    ensures place { IfSome result (λ p. p.place < length lits.now) }
-    ensures lit { IfSome result (λ p. (d : ℤ) → slice_index_or lits.now p.place d ≡ p.lit) }
-    ensures up { IfSome result (λ p. fell_of trail.now p.lit ≡ 0) }
-    ensures none { IfNone result (AreDown trail.now lits.now 0 (length lits.now)) }
-{
-    let mut place = 0;
-    while place < lits.len() {
-        let lit = lits[place];
-        if trail.fell(lit) == 0 {
-            return Some(Standing { place, lit });
-        }
-        place += 1;
-    }
-    None
-}
-
-/// The first literal from index `low` on that isn't false, with its index. A loop over indices from
-/// 0 on is compiled with one counter, and one from `low` on with two.
+/// The first literal from index `low` on that isn't false, with its index.
 fn first_standing(trail: &Trail, lits: &[Lit], low: usize) -> Option<Standing>
     requires within { IsWithin trail.now.vars lits.now }
     requires inside { low ≤ length lits.now }
@@ -75,14 +55,13 @@ fn first_standing(trail: &Trail, lits: &[Lit], low: usize) -> Option<Standing>
     ensures up { IfSome result (λ p. fell_of trail.now p.lit ≡ 0) }
     ensures none { IfNone result (AreDown trail.now lits.now low (length lits.now)) }
 {
-    let (_front, rest) = lits.split_at(low);
-    let Some(found) = standing_in(trail, rest) else {
-        return None;
-    };
-    Some(Standing {
-        place: low + found.place,
-        lit: found.lit,
-    })
+    for place in low..lits.len() {
+        let lit = lits[place];
+        if trail.fell(lit) == 0 {
+            return Some(Standing { place, lit });
+        }
+    }
+    None
 }
 
 /// Visits the clause at an index in the watch list of a falsified literal.
@@ -120,34 +99,18 @@ fn visit(
     Ok(Fate::Kept)
 }
 
-/// The first index at which the blocking literal isn't true.
-fn open_in(trail: &Trail, watches: &[Watch]) -> Option<usize>
-    requires within { All (λ w. variable_of w.blocker ≤ trail.now.vars) watches.now }
-    ensures some { IfSome result (λ k. (k < length watches.now) × AreTrue trail.now watches.now 0 k) }
-    ensures none { IfNone result (AreTrue trail.now watches.now 0 (length watches.now)) }
-{
-    let mut index = 0;
-    while index < watches.len() {
-        if trail.fell(watches[index].blocker.opposite()) == 0 {
-            return Some(index);
-        }
-        index += 1;
-    }
-    None
-}
-
 /// The first index from `from` on at which the blocking literal isn't true.
 fn first_open(trail: &Trail, watches: &[Watch], from: usize) -> Option<usize>
     requires within { All (λ w. variable_of w.blocker ≤ trail.now.vars) watches.now }
-    requires inside { from ≤ length watches.now }
     ensures some { IfSome result (λ k. (from ≤ k) × (k < length watches.now) × AreTrue trail.now watches.now from k) }
     ensures none { IfNone result (AreTrue trail.now watches.now from (length watches.now)) }
 {
-    let (_front, rest) = watches.split_at(from);
-    let Some(index) = open_in(trail, rest) else {
-        return None;
-    };
-    Some(from + index)
+    for index in from..watches.len() {
+        if trail.fell(watches[index].blocker.opposite()) == 0 {
+            return Some(index);
+        }
+    }
+    None
 }
 
 /// Visits all clauses that watch a falsified literal, except those whose blocking literal is true.
