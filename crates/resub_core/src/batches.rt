@@ -13,7 +13,7 @@ use xag_core::{Context, Edit, Xag, rebuild};
 /// The most batches that make a graph smaller.
 const MOST_BATCHES: u32 = 12;
 
-/// How many batches keep its size: each tries so large a part of the gates, at random.
+/// How many batches may keep its size. Each tries one gate in as many, at random.
 const LEVEL_BATCHES: u32 = 4;
 
 /// The most gates of a graph that is rebuilt for each replacement that makes it smaller.
@@ -22,7 +22,7 @@ const FEW_GATES: usize = 10_000;
 /// The most gates of a graph that is rebuilt for each replacement that may keep its size.
 const FEW_LEVEL_GATES: usize = 3000;
 
-/// A batch ends the pass where it saves less than one gate of so many.
+/// A batch that makes a graph smaller ends the pass where it saves at most one gate in this number.
 const LEAST_PART: usize = 4000;
 
 /// What a batch has noted: who reads what, the change of the graph, and what it rests on.
@@ -75,7 +75,8 @@ fn after_batch(
     }
 }
 
-/// A large graph after batches, as long as they make it smaller.
+/// A graph after batches, as long as it is large and each makes it smaller by enough; or after a few that may keep its
+/// size.
 #[tactic(auto, using(crate::specs::SmallerLaws::replacing))]
 pub fn batched(
     alloc: Global,
@@ -86,36 +87,22 @@ pub fn batched(
     ensures { IfOk result (IsNoLarger xag.now) }
 {
     let mut best = xag.copied(alloc)?;
-    for _pass in 0..MOST_BATCHES {
+    let most = if terms.is_level {
+        LEVEL_BATCHES
+    } else {
+        MOST_BATCHES
+    };
+    for _pass in 0..most {
         if !is_large(&best, terms) {
             break;
         }
         let size = best.gates().len();
-        match after_batch(alloc, &best, finder, terms)? {
-            Some(other) => best = other,
-            None => break,
-        }
-        if size.saturating_sub(best.gates().len()) <= size / LEAST_PART {
-            break;
-        }
-    }
-    Ok(best)
-}
-
-/// A graph after batches that may keep its size.
-#[tactic(auto, using(crate::specs::SmallerLaws::replacing))]
-pub fn level_batched(
-    alloc: Global,
-    xag: &Xag,
-    finder: &mut Finder,
-    terms: Terms,
-) -> Result<Xag, AllocError>
-    ensures { IfOk result (IsNoLarger xag.now) }
-{
-    let mut best = xag.copied(alloc)?;
-    for _pass in 0..LEVEL_BATCHES {
         if let Some(other) = after_batch(alloc, &best, finder, terms)? {
             best = other;
+        }
+        let saved = size.saturating_sub(best.gates().len());
+        if !terms.is_level && saved <= size / LEAST_PART {
+            break;
         }
     }
     Ok(best)

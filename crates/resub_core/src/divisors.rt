@@ -85,12 +85,11 @@ impl Divisors {
         xag: &Xag,
         context: &Context,
         region: &mut Region,
-        cone: &[u32],
         slot: usize,
         end: u32,
     ) -> Result<(), AllocError> {
         for reader in context.readers(region.node(slot)).iter().take(MOST_READERS) {
-            if *reader < end && region.slot(*reader).is_none() && !cone.contains(reader) {
+            if *reader < end && region.slot(*reader).is_none() && !region.is_left_out(*reader) {
                 region.take_in(xag, *reader)?;
             }
         }
@@ -107,6 +106,7 @@ impl Divisors {
         cone: &[u32],
         end: u32,
     ) -> Result<(), AllocError> {
+        region.leave_out(cone, true);
         for slot in 1..MOST_DIVISORS {
             if region.depends(slot) {
                 continue;
@@ -114,20 +114,16 @@ impl Divisors {
             if slot >= region.len() || region.len() > MOST_DIVISORS {
                 break;
             }
-            self.take_readers(xag, context, region, cone, slot, end)?;
+            self.take_readers(xag, context, region, slot, end)?;
         }
-        self.list(xag, context, region, cone)
+        self.list(xag, context, region)?;
+        region.leave_out(cone, false);
+        Ok(())
     }
 
     /// Lists the divisors of a region, the last slots first, since they are nearest to the target. A gate that
     /// nothing reads is none.
-    fn list(
-        &mut self,
-        xag: &Xag,
-        context: &Context,
-        region: &Region,
-        cone: &[u32],
-    ) -> Result<(), AllocError> {
+    fn list(&mut self, xag: &Xag, context: &Context, region: &Region) -> Result<(), AllocError> {
         self.nodes.clear();
         self.hashes.clear();
         self.table.clear();
@@ -139,7 +135,7 @@ impl Divisors {
             }
             let node = region.node(slot);
             let is_dead = xag.is_gate(node) && context.references(node) == 0;
-            if !is_dead && !region.depends(slot) && !cone.contains(&node) {
+            if !is_dead && !region.depends(slot) && !region.is_left_out(node) {
                 self.add(node, region.row(slot))?;
             }
         }

@@ -2,7 +2,7 @@
 ghost use Rattle.std.specs.Prelude.{IfOk, OnOk};
 ghost use Rattle.resub_core.specs.Smaller.{IsNoLarger};
 
-use crate::batches::{batched, is_large, level_batched};
+use crate::batches::{batched, is_large};
 use crate::finder::{Finder, Terms};
 use std::alloc::{AllocError, Global};
 use xag_core::{Context, Xag};
@@ -99,7 +99,7 @@ pub fn resub_level(alloc: Global, xag: &Xag, seed: u64) -> Result<Xag, AllocErro
         is_level: true,
     };
     if is_large(xag, terms) {
-        return level_batched(alloc, xag, &mut finder, terms);
+        return batched(alloc, xag, &mut finder, terms);
     }
     let mut pass = Pass {
         xag: xag.copied(alloc)?,

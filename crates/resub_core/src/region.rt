@@ -5,7 +5,7 @@ use crate::growing::grow;
 use crate::tail::{first_leaves, shown, tail_of};
 use crate::words::{complement_mask, put_word, row_mask, variable_word, word_at, word_count};
 use std::alloc::{AllocError, Global};
-use xag_core::{Context, Xag, at, put};
+use xag_core::{Context, Xag, at, bit_at, put};
 
 /// The most nodes of a region.
 const MOST_SLOTS: usize = 320;
@@ -14,11 +14,12 @@ const MOST_SLOTS: usize = 320;
 const MOST_WORDS: usize = 64;
 
 /// The nodes of a region in slots, the constant in slot 0. `slots` has 1 + the slot of a node, 0 for one that
-/// has none. The gates above the leaves stand from the slot `inner` on; of these the target and its tail, which depend on
-/// it, in the slots from `target` up to `beside`.
+/// has none; `left_out` marks nodes that are no divisors. The gates above the leaves stand from the slot `inner`
+/// on; of these the target and its tail, which depend on it, in the slots from `target` up to `beside`.
 #[derive(Drop)]
 pub struct Region {
     slots: Vec<u32>,
+    left_out: Vec<bool>,
     nodes: Vec<u32>,
     values: Vec<u64>,
     care: Vec<u64>,
@@ -33,6 +34,7 @@ impl Region {
     pub fn new(alloc: Global, nodes: u32) -> Result<Region, AllocError> {
         Ok(Region {
             slots: vec![in alloc; 0u32; nodes as usize]?,
+            left_out: vec![in alloc; false; nodes as usize]?,
             nodes: Vec::with_capacity(alloc, MOST_SLOTS)?,
             values: vec![in alloc; 0u64; MOST_SLOTS * MOST_WORDS]?,
             care: vec![in alloc; 0u64; MOST_WORDS]?,
@@ -75,6 +77,18 @@ impl Region {
     pub fn slot(&self, node: u32) -> Option<usize> {
         let entry = at(&self.slots, node) as usize;
         if entry == 0 { None } else { Some(entry - 1) }
+    }
+
+    /// Marks nodes as no divisors, or takes their marks away.
+    pub fn leave_out(&mut self, nodes: &[u32], is_marked: bool) {
+        for node in nodes {
+            put(&mut self.left_out, *node, is_marked);
+        }
+    }
+
+    /// Whether a node is marked as no divisor.
+    pub fn is_left_out(&self, node: u32) -> bool {
+        bit_at(&self.left_out, node)
     }
 
     /// The words of a slot.

@@ -3,7 +3,9 @@
 use crate::divisors::Divisors;
 use crate::matching::Matching;
 use crate::recipe::{INNER, Recipe, Step};
-use crate::wanted::{Wanted, covers, decides_some, excludes};
+use crate::wanted::{
+    Wanted, covers, covers_from, decides_some, excludes_from, first_kept, first_word,
+};
 use std::alloc::{AllocError, Global};
 use xag_core::XagGate;
 
@@ -57,10 +59,11 @@ impl Search {
     /// Lists the literals that are 1 in all rows of `on`.
     fn list_covering(&mut self, divisors: &Divisors, on: &[u64]) -> Result<(), AllocError> {
         self.covering.clear();
+        let start = first_word(on);
         for index in 1..divisors.len() {
             let row = divisors.row(index);
             for turned in 0..2u32 {
-                if covers(on, row, turned) {
+                if covers_from(start, on, row, turned) {
                     self.covering.push(code_of(index, turned))?;
                 }
             }
@@ -68,7 +71,8 @@ impl Search {
         Ok(())
     }
 
-    /// Adds the literals that give AND together with the listed literal at `place`.
+    /// Adds the literals that give AND together with the listed literal at `place`. The first word with a row that it
+    /// leaves rules most of them out.
     fn join_with(
         &mut self,
         divisors: &Divisors,
@@ -80,8 +84,10 @@ impl Search {
             return Ok(());
         };
         let row = divisors.row(divisor_of(first));
+        let start = first_kept(off, row, first);
         for second in self.covering.iter().skip(place + 1) {
-            if excludes(off, row, first, divisors.row(divisor_of(*second)), *second) {
+            let other = divisors.row(divisor_of(*second));
+            if excludes_from(start, off, row, first, other, *second) {
                 let gate = XagGate {
                     first,
                     second: *second,

@@ -56,10 +56,25 @@ impl Wanted {
     }
 }
 
+/// The first word that has a row, their number where none has.
+pub fn first_word(rows: &[u64]) -> usize {
+    for word in 0..rows.len() {
+        if word_at(rows, word) != 0 {
+            return word;
+        }
+    }
+    rows.len()
+}
+
 /// Whether a literal is 1 in all rows of `on`.
 pub fn covers(on: &[u64], row: &[u64], literal: u32) -> bool {
+    covers_from(0, on, row, literal)
+}
+
+/// Whether a literal is 1 in all rows of `on`, which has none before the word `start`.
+pub fn covers_from(start: usize, on: &[u64], row: &[u64], literal: u32) -> bool {
     let turn = complement_mask(literal);
-    for word in 0..on.len() {
+    for word in start..on.len() {
         if word_at(on, word) & !(word_at(row, word) ^ turn) != 0 {
             return false;
         }
@@ -78,10 +93,28 @@ pub fn decides_some(off: &[u64], row: &[u64], literal: u32) -> bool {
     false
 }
 
-/// Whether AND of two literals is 0 in all rows of `off`.
-pub fn excludes(off: &[u64], first: &[u64], a: u32, second: &[u64], b: u32) -> bool {
-    let (turn_first, turn_second) = (complement_mask(a), complement_mask(b));
+/// The first word in which a literal is 1 in some row of `off`, the number of words where there is none.
+pub fn first_kept(off: &[u64], row: &[u64], literal: u32) -> usize {
+    let turn = complement_mask(literal);
     for word in 0..off.len() {
+        if word_at(off, word) & (word_at(row, word) ^ turn) != 0 {
+            return word;
+        }
+    }
+    off.len()
+}
+
+/// Whether AND of two literals is 0 in all rows of `off`, where the first one is 0 in those before the word `start`.
+pub fn excludes_from(
+    start: usize,
+    off: &[u64],
+    first: &[u64],
+    a: u32,
+    second: &[u64],
+    b: u32,
+) -> bool {
+    let (turn_first, turn_second) = (complement_mask(a), complement_mask(b));
+    for word in start..off.len() {
         let both = (word_at(first, word) ^ turn_first) & (word_at(second, word) ^ turn_second);
         if both & word_at(off, word) != 0 {
             return false;
