@@ -1,7 +1,6 @@
 -- `synth --least-depth yes` is a task, and a run of it keeps what it promises.
 use Rattle.std.specs.Prelude.{◌≡◌, ℕ, ◌⊎◌, List, length, Option, Some, None, Err}
 use Rattle.std.proofs.Common.{arith, sym, ◌∙◌, ap, subst, refl, inl, inr}
-use Rattle.std.proofs.Math.Logic.{⊎_elim}
 use Rattle.text_core.specs.Lines.{lines_of}
 use Rattle.tt_core.specs.Words.{Words, specification}
 use Rattle.tt_core.specs.declared.error.SpecError.{SpecError}
@@ -28,10 +27,9 @@ use Rattle.command_line.specs.declared.command.Command.TheVariants.{LeastDepth}
 use Rattle.frame_core.specs.declared.status.Status.TheVariants.{Done, Undecided, Refused}
 use Rattle.frame_core.specs.Task.{IsAnswerStatus, IsTask}
 use Rattle.frame_core.specs.Run.{Run}
-use Rattle.frame_core.specs.Promise.{OutputHeld, Stands, Replies, Faults, CommandPromise}
+use Rattle.frame_core.specs.Promise.{OutputHeld, Stands, Replies, CommandPromise}
 use Rattle.frame_core.specs.TaskLaws.{at_once_task}
-use Rattle.frame_core.specs.KeepingLaws.{of_input}
-use Rattle.frame_core.specs.ReadOffLaws.{gets}
+use Rattle.frame_core.specs.ReadOffLaws.{gets, answer_replies, refused_never}
 use Rattle.cmd_lines.specs.TableLines.{most_of_tables}
 use Rattle.cmd_synth.specs.SynthReport.{verdict_status, synth_refusal, AreTables, HasTablesFault}
 use Rattle.cmd_synth.specs.LeastDepthReport.{found_status, Certified, least_depth_reply, IsCertified, least_depth_task}
@@ -98,11 +96,7 @@ complete r asked input w promise told are held =
     gets (least_depth_task asked) r input (λ c. refl) promise told (record { within = λ long. omega arith; sound = λ error fault. no_fault w (lines_of input) error are.are are.spelled fault.fault }) held
 
 answer_only : (r : Run) (asked : SynthSettings) (input : List ℕ) → CommandPromise (least_depth_task asked) r → r.source.bytes ≡ Some input → (r.status ≡ Done) ⊎ (r.status ≡ Undecided) → Replies (least_depth_task asked) r input
-answer_only r asked input promise told is =
-    ⊎_elim
-    (λ (done : r.status ≡ Done). of_input (least_depth_task asked) r (Replies (least_depth_task asked) r) input (promise.done_only done) told)
-    (λ (left : r.status ≡ Undecided). of_input (least_depth_task asked) r (Replies (least_depth_task asked) r) input (promise.undecided_only left) told)
-    is
+answer_only r asked input promise told is = answer_replies (least_depth_task asked) r input promise told is
 
 not_refused_found : (f : Found) → found_status f ≡ Refused → ⊥
 not_refused_found (Least (Levels d)) is = cc
@@ -110,12 +104,7 @@ not_refused_found (Least (Bounded low d)) is = cc
 not_refused_found (Other v) is = not_refused_by v is
 
 never_refused : (r : Run) (asked : SynthSettings) → CommandPromise (least_depth_task asked) r → r.status ≡ Refused → ⊥
-never_refused r asked promise is =
-    let of = promise.refused_only is in
-    ⊎_elim
-    (λ (got : Replies (least_depth_task asked) r of.bytes). not_refused_found got.answer.found (sym got.stands.status_is ∙ is))
-    (λ (none : Faults (least_depth_task asked) r of.bytes). not_refused none.fault (sym none.told.status_is ∙ is))
-    of.holds
+never_refused r asked promise is = refused_never (least_depth_task asked) r (λ c. not_refused_found c.found) not_refused promise is
 
 -- ---- what its statuses tell
 

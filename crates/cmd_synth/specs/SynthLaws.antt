@@ -22,11 +22,11 @@ use Rattle.port_io.specs.Bytes.{Appends}
 use Rattle.frame_core.specs.Task.{IsAnswerStatus, IsRefusalStatus, IsTask, IsAnswerFront, IsBegunFront, MayStand}
 use Rattle.command_line.specs.declared.command.Command.TheVariants.{Synth}
 use Rattle.frame_core.specs.Run.{Run}
-use Rattle.frame_core.specs.Promise.{OutputHeld, TellsError, Replies, Faults, OfInput, ReplyCut, ReportCut, ReplyStarved, CommandPromise}
+use Rattle.frame_core.specs.Promise.{OutputHeld, TellsError, Replies, OfInput, ReplyCut, ReportCut, ReplyStarved, CommandPromise}
 use Rattle.cmd_synth.specs.SynthPromise.{LeavesFront, SynthPromise}
 use Rattle.frame_core.specs.TaskLaws.{in_pieces_task}
 use Rattle.frame_core.specs.KeepingLaws.{of_input}
-use Rattle.frame_core.specs.ReadOffLaws.{gets, no_report}
+use Rattle.frame_core.specs.ReadOffLaws.{gets, no_report, answer_replies, refused_never}
 use Rattle.cmd_lines.specs.TableLineLaws.{not_refused}
 
 -- ---- `synth` is a command
@@ -91,11 +91,7 @@ complete r asked input w promise told tables held =
     gets (synth_task asked) r input (λ c. refl) promise told (record { within = λ long. omega arith; sound = λ error fault. no_fault w (lines_of input) error tables.are tables.spelled fault.fault }) held
 
 answer_only : (r : Run) (asked : SynthSettings) (input : List ℕ) → CommandPromise (synth_task asked) r → r.source.bytes ≡ Some input → (r.status ≡ Done) ⊎ (r.status ≡ Undecided) → Replies (synth_task asked) r input
-answer_only r asked input promise told is =
-    ⊎_elim
-    (λ (done : r.status ≡ Done). of_input (synth_task asked) r (Replies (synth_task asked) r) input (promise.done_only done) told)
-    (λ (left : r.status ≡ Undecided). of_input (synth_task asked) r (Replies (synth_task asked) r) input (promise.undecided_only left) told)
-    is
+answer_only r asked input promise told is = answer_replies (synth_task asked) r input promise told is
 
 pub not_refused_by : (v : Verdict) → verdict_status v ≡ Refused → ⊥
 not_refused_by (verdicts.Minimum r) is = cc
@@ -104,12 +100,7 @@ not_refused_by (verdicts.Bounded low r) is = cc
 not_refused_by (verdicts.Open low) is = cc
 
 never_refused : (r : Run) (asked : SynthSettings) → CommandPromise (synth_task asked) r → r.status ≡ Refused → ⊥
-never_refused r asked promise is =
-    let of = promise.refused_only is in
-    ⊎_elim
-    (λ (got : Replies (synth_task asked) r of.bytes). not_refused_by got.answer.verdict (sym got.stands.status_is ∙ is))
-    (λ (none : Faults (synth_task asked) r of.bytes). not_refused none.fault (sym none.told.status_is ∙ is))
-    of.holds
+never_refused r asked promise is = refused_never (synth_task asked) r (λ c. not_refused_by c.verdict) not_refused promise is
 
 -- what may stand on the output where a certificate was cut
 front_left : (r : Run) (asked : SynthSettings) (input front : List ℕ) → MayStand (synth_task asked) input front → Appends r.out.bytes r.out'.bytes front → LeavesFront r asked input
