@@ -1,8 +1,8 @@
 #!/usr/bin/env python3
 """orders.py PROGRAM [--orders N] [--steps R ..]: decides the formulas of sums.py, those of R steps alone where they are named,
 each with its variables in N orders (8), by `PROGRAM solve`, the built program `benchmarks`, and by minisat with and
-without its preprocessing, and prints the sums over the refuted and over the satisfied ones: conflicts, and user seconds of
-one run each. One order tells little: the sums over all of them do.
+without its preprocessing. It prints the sums over the refuted and over the satisfied ones: conflicts (of satisfied ones
+`solve` tells none), and user seconds of one run each. One order tells little: the sums over all of them do.
 
 orders.py --classes PROGRAM [EVERY]: each EVERY-th (1) of the 222 classes of functions of four inputs by `PROGRAM synth`, the
 released program, each certificate rechecked; by minisat the `ssv` formulas of all sizes up to the fewest; and by ABC's
@@ -61,7 +61,7 @@ def main_orders(program, orders, steps):
                         sums[name, "conflicts"] += conflicts_of(done.text)
                         sums[name, "seconds"] += done.seconds
             for name in ["solve"] + [" ".join(it) for it in SOLVERS]:
-                cells = [in_words(sums[name, "conflicts"]), f"{sums[name, 'seconds']:.1f} s"]
+                cells = [in_words(sums[name, "conflicts"] or None), f"{sums[name, 'seconds']:.1f} s"]
                 print(row([f"{len(formulas)} {answer}, {orders} orders", name, *cells]), flush=True)
 
 
