@@ -32,13 +32,14 @@ pub struct ImproveSettings {
     /// Whether observability don't-cares (ODC) are used: rows on which no output shows what a
     /// window gives.
     pub observe: bool,
-    /// How many rounds of moves that keep the size are made before windows are tried, from 0 to 1,000.
+    /// How many rounds of moves that may keep the size a netlist goes through before its windows are tried, from 0 to
+    /// 1,000. One of at most 1,000 gates goes through three at least, unless it has fewer than 6 and none are asked for.
     pub effort: u32,
 }
 
 impl ImproveSettings {
     /// The defaults: all operators, the method `ssv`, windows of at most 5 gates, 1,000 passes, a
-    /// limit of 100,000 conflicts, no observability don't-cares, and no moves that keep the size.
+    /// limit of 100,000 conflicts, no observability don't-cares, and an effort of 0.
     pub fn usual() -> ImproveSettings
         ensures value { result ≡ usual }
         ensures range { IsInRange result }
