@@ -11,7 +11,7 @@ use net_core::Net;
 use op_basis::Basis;
 use sat_solve::Solver;
 use std::alloc::{AllocError, Global};
-use xag_core::{from_net, into_net};
+use xag_core::{Xag, from_net, into_net};
 
 /// The most learnt clauses of a comparison.
 const MOST_CLAUSES: u32 = 100_000;
@@ -25,12 +25,23 @@ fn operators_of(net: &Net, bits: u16) -> u16 {
     found
 }
 
+/// The graph after moves: the smaller one of two, of which the first has its gates in depth-first order, and the second in
+/// the order of the net. A region takes the greatest gate first, so that the order decides which gates it has.
+fn best_graph(alloc: Global, net: &Net, rounds: u32) -> Result<Xag, AllocError> {
+    let walked = improved(alloc, &from_net(alloc, net, false)?, rounds)?;
+    let given = improved(alloc, &from_net(alloc, net, true)?, rounds)?;
+    if given.gates().len() < walked.gates().len() {
+        Ok(given)
+    } else {
+        Ok(walked)
+    }
+}
+
 /// The net after moves over its graph, before it is judged: with as many gates as the graph has and a NOT for each sink
 /// that needs one, if its operators are of the basis or of the net; else with more NOT gates, so that they are where
 /// polarities can bring that about.
 fn candidate(alloc: Global, net: &Net, basis: Basis, rounds: u32) -> Result<Net, AllocError> {
-    let xag = from_net(alloc, net)?;
-    let best = improved(alloc, &xag, rounds)?;
+    let best = best_graph(alloc, net, rounds)?;
     let allowed = operators_of(net, basis.get());
     let direct = into_net(alloc, &best)?;
     if operators_of(&direct, allowed) == allowed {
